@@ -1,0 +1,13 @@
+-- What `put` has written so far is a beginning of the text, and no write has failed.
+use Rattle.std.proofs.Common.{◌≡◌, ◌-◌, ◌≤◌, length, take}
+use Rattle.std.specs.Io.KnownBytes.{Appends}
+use Rattle.qap_io.proofs.writing.put.Given as goal
+
+abbrev pub invariant-loop-written : goal.invariant-loop-written
+invariant-loop-written g l =
+    (l.written ≤ length l.text)
+    × Appends (g.W.Write.contents l.initial.writer.inner) (g.W.Write.contents l.writer.inner) (take l.written l.text)
+    × (l.writer.failures ≡ l.initial.writer.failures)
+
+abbrev pub decreases-loop-written : goal.decreases-loop-written
+decreases-loop-written g l = length l.text - l.written

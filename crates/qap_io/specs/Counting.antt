@@ -1,0 +1,31 @@
+-- A reader or a writer whose failed calls are counted.
+use Rattle.std.specs.Prelude.{◌≡◌, ℕ, ◌+◌, ◌-◌, ◌^◌, ◌<◌, ◌==◌, ◌&&◌, nat_lt, min, Bool, true, false, List, length}
+use Rattle.std.specs.declared.result.Result.{Result}
+use Rattle.std.specs.declared.result.Result.TheVariants.{Ok, Err}
+
+-- a reader or a writer, and how many of its calls have failed
+pub record CountedDevice (T : Type 0) : Type 0 where
+  pub inner : T
+  pub failures : ℕ
+
+-- `u64::MAX`, where the count stays
+abbrev pub last_count : ℕ
+last_count = 2 ^ 64 - 1
+
+-- the count after one more call, which has failed or not
+abbrev pub count_after : Bool → ℕ → ℕ
+count_after true n = min (n + 1) last_count
+count_after false n = n
+
+-- one call was counted between the two states: one more where it failed, and else none
+abbrev pub CountsCall : {T : Type 0} → Bool → CountedDevice T → CountedDevice T → Type 0
+CountsCall failed old new = new.failures ≡ count_after failed old.failures
+
+-- a write failed: by an error, or since it took no bytes of a text that is not empty
+abbrev pub is_failed_write : {E : Type 0} → Result ℕ E → List ℕ → Bool
+is_failed_write (Ok taken) text = (taken == 0) && nat_lt 0 (length text)
+is_failed_write (Err e) text = true
+
+-- a call failed between the two states: the count rose, or stands at its end
+abbrev pub FailedBetween : {T : Type 0} → CountedDevice T → CountedDevice T → Type 0
+FailedBetween old new = new.failures < last_count → old.failures < new.failures

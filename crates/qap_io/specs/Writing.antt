@@ -1,0 +1,33 @@
+-- What a write that may stop in mid-text does to the bytes that a writer holds.
+use Rattle.std.specs.Prelude.{ℕ, ◌+◌, ◌≡◌, List, ◌++◌, length, take, drop}
+use Rattle.std.specs.declared.option.Option.{Option}
+use Rattle.std.specs.Io.KnownBytes.{Appends, Keeps}
+use Rattle.std.proofs.Common.{sym, ap, subst, ◌∙◌, append_assoc, take-append-drop}
+use Rattle.std.proofs.Math.Seq.{take-append_seam, take-append-add, take-length}
+use Rattle.std.proofs.KnownBytes.{Appends-nil, Appends-kept, Appends-trans}
+
+-- known bytes grow by a beginning of the text
+abbrev pub AppendsBeginning : Option (List ℕ) → Option (List ℕ) → List ℕ → Type 0
+AppendsBeginning old new text = (count : ℕ) × Appends old new (take count text)
+
+-- nothing is a beginning of each text
+pub AppendsBeginning-kept : (old new : Option (List ℕ)) (text : List ℕ) → Keeps old new → AppendsBeginning old new text
+AppendsBeginning-kept old new text kept = (0, Appends-kept old old new (take 0 text) (Appends-nil old) kept)
+
+-- the whole text is a beginning of it
+pub AppendsBeginning-whole : (old new : Option (List ℕ)) (text : List ℕ) → Appends old new text → AppendsBeginning old new text
+AppendsBeginning-whole old new text whole = (length text, subst (Appends old new) (sym (take-length text)) whole)
+
+-- a beginning of a text is one of each longer text
+pub AppendsBeginning-longer : (old new : Option (List ℕ)) (text more : List ℕ) → AppendsBeginning old new text → AppendsBeginning old new (text ++ more)
+AppendsBeginning-longer old new text more beginning =
+    let front = take beginning.0 text in
+    let rest = drop beginning.0 text ++ more in
+    let split : text ++ more ≡ front ++ rest = sym (ap (λ l. l ++ more) (take-append-drop beginning.0 text)) ∙ append_assoc front (drop beginning.0 text) more in
+    (length front, subst (Appends old new) (sym (ap (take (length front)) split ∙ take-append_seam front rest)) beginning.1)
+
+-- a text, and after it a beginning of the next one
+pub AppendsBeginning-after : (old middle new : Option (List ℕ)) (text next : List ℕ) → Appends old middle text → AppendsBeginning middle new next
+    → AppendsBeginning old new (text ++ next)
+AppendsBeginning-after old middle new text next whole beginning =
+    (length text + beginning.0, subst (Appends old new) (sym (take-append-add text next beginning.0)) (Appends-trans old middle new text (take beginning.0 next) whole beginning.1))
