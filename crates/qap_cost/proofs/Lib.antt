@@ -1,0 +1,5 @@
+pub mod Bijections
+pub mod Matrices
+pub mod Objectives
+pub mod Seen
+pub mod Sums

@@ -1,0 +1,19 @@
+-- Permutations as lists: the number at place i is where i is sent.
+use Rattle.std.specs.Prelude.{◌≡◌, ℕ, ◌<◌, ◌≤◌, List, length, slice_index}
+
+-- a bijection of 0, .., n - 1 to itself, where n is the list's length: each number is below n, and no two are equal
+pub record IsBijection (p : List ℕ) : Type 0 where
+  pub within : (i : ℕ) → i < length p → slice_index p i < length p
+  pub distinct : (i j : ℕ) → i < length p → j < length p → slice_index p i ≡ slice_index p j → i ≡ j
+
+-- q sends each number back to where p takes it from
+pub record IsInverse (p q : List ℕ) : Type 0 where
+  pub same_length : length q ≡ length p
+  pub there : (i : ℕ) → i < length p → slice_index q (slice_index p i) ≡ i
+  pub back : (k : ℕ) → k < length p → slice_index p (slice_index q k) ≡ k
+
+-- the permutations of the problem: of 1 to 256 numbers
+pub record IsPerm (p : List ℕ) : Type 0 where
+  pub bijection : IsBijection p
+  pub positive : 0 < length p
+  pub small : length p ≤ 256

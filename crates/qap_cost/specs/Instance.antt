@@ -1,0 +1,23 @@
+-- Instances of the quadratic assignment problem (Koopmans and Beckmann 1957), of the sizes and entries that are taken.
+use Rattle.std.specs.Prelude.{◌≡◌, ℕ, ◌+◌, ◌*◌, ◌<◌, ◌≤◌, List, length, ℤ, pos, slice_index_or, unsigned_abs}
+
+-- two size by size matrices, each listed by rows
+pub record Problem : Type 0 where
+  pub size : ℕ
+  pub a : List ℤ
+  pub b : List ℤ
+
+-- row i, column j of an n by n matrix that is listed by rows
+abbrev pub entry : ℕ → List ℤ → ℕ → ℕ → ℤ
+entry n xs i j = slice_index_or xs (i * n + j) (pos 0)
+
+abbrev pub InRange : ℤ → Type 0
+InRange x = unsigned_abs x ≤ 1000000000
+
+pub record IsInstance (I : Problem) : Type 0 where
+  pub positive : 0 < I.size
+  pub small : I.size ≤ 256
+  pub a_count : length I.a ≡ I.size * I.size
+  pub b_count : length I.b ≡ I.size * I.size
+  pub a_range : (k : ℕ) → k < I.size * I.size → InRange (slice_index_or I.a k (pos 0))
+  pub b_range : (k : ℕ) → k < I.size * I.size → InRange (slice_index_or I.b k (pos 0))

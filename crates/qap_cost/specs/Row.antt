@@ -1,0 +1,15 @@
+-- A row of a matrix, and the products that it gives.
+use Rattle.std.specs.Prelude.{◌≡◌, ℕ, ◌<◌, List, length, ℤ, pos, ◌*ℤ◌, slice_index, slice_index_or}
+use Rattle.qap_cost.specs.Instance.{entry, InRange}
+
+-- the list is row i of an n by n matrix that is listed by rows
+pub record IsRow (n : ℕ) (matrix : List ℤ) (i : ℕ) (row : List ℤ) : Type 0 where
+  pub count : length row ≡ n
+  pub entries : (j : ℕ) → j < n → slice_index_or row j (pos 0) ≡ entry n matrix i j
+
+-- the number at j in one row times the number at p(j) in the other
+abbrev pub product_at : List ℤ → List ℤ → List ℕ → ℕ → ℤ
+product_at xs ys p j = slice_index_or xs j (pos 0) *ℤ slice_index_or ys (slice_index p j) (pos 0)
+
+pub record AllInRange (xs : List ℤ) : Type 0 where
+  pub each : (j : ℕ) → j < length xs → InRange (slice_index_or xs j (pos 0))

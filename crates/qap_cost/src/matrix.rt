@@ -1,0 +1,69 @@
+//! A square matrix, whose rows are assigned to its columns.
+
+ghost use Rattle.std.specs.Prelude.{◌≡◌, ◌<◌, ◌≤◌, ◌≤ℤ◌, List, ℕ, ℤ, MatchOption};
+ghost use Rattle.qap_cost.specs.Row.{IsRow};
+ghost use Rattle.qap_cost.specs.Matrix.{Square, IsMatrix, Assigns, DualsFit, assignment_cost, dual_value, entry_of};
+
+use crate::MAX_SIZE;
+use std::marker::Model;
+
+/// A square matrix of whole numbers, of size 0 to 256.
+#[derive(Drop)]
+pub struct Matrix {
+    size: usize,
+    entries: Vec<i128>,
+}
+
+impl Model for Matrix {
+    ghost Value = { Square };
+
+    ghost view = { λ s. record { size = s.size; entries = s.entries.items } };
+
+    ghost invariant = { λ s. IsMatrix (record { size = s.size; entries = s.entries.items }) };
+}
+
+impl Matrix {
+    /// The matrix of size `m` with these entries, listed by rows; `None` where `m` is above 256 or the entries
+    /// aren't `m * m`. No memory is taken.
+    pub fn new(m: usize, entries: Vec<i128>) -> Option<Matrix>
+        ensures { MatchOption result
+            (IsMatrix (record { size = m; entries = entries.items }) → ⊥)
+            (λ M. (M ≡ record { size = m; entries = entries.items }) × IsMatrix (record { size = m; entries = entries.items })) }
+    {
+        if m > MAX_SIZE || entries.len() != m * m {
+            return None;
+        }
+        Some(Matrix { size: m, entries })
+    }
+
+    /// The number of rows, and of columns: from 0 to 256.
+    pub fn size(&self) -> usize
+        ensures value { result ≡ self.now.size }
+        ensures matrix { IsMatrix self.now }
+    {
+        self.size
+    }
+
+    /// Row `i`, column `k`.
+    pub fn at(&self, i: usize, k: usize) -> i128
+        requires row { i < self.now.size }
+        requires column { k < self.now.size }
+        ensures { result ≡ entry_of self.now i k }
+    {
+        self.entries[i * self.size + k]
+    }
+
+    /// Row `i`.
+    pub fn row(&self, i: usize) -> &[i128]
+        requires { i < self.now.size }
+        ensures { IsRow self.now.size self.now.entries i result.now }
+    {
+        let start = i * self.size;
+        &self.entries[start..start + self.size]
+    }
+}
+
+/// Where `(u, v)` fits a matrix, no assignment costs less than the sum of `u` and `v`.
+pub fn weak_duality_law()
+    ensures { (M : Square) (u v : List ℤ) (p : List ℕ) → DualsFit M u v → Assigns M p → dual_value u v ≤ℤ assignment_cost M p }
+{}
