@@ -1,0 +1,6 @@
+pub mod Digits
+pub mod InstanceReadings
+pub mod Locations
+pub mod OneReading
+pub mod SolutionReadings
+pub mod Spellings

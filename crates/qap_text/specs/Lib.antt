@@ -1,0 +1,7 @@
+pub mod Held
+pub mod InstanceText
+pub mod Number
+pub mod SolutionText
+pub mod Spelling
+pub mod Whole
+pub mod Word

@@ -1,0 +1,77 @@
+-- Texts of solutions, as the library QAPLIB (Burkard, Karisch and Rendl 1997) writes them, and their faults.
+use Rattle.std.specs.Prelude.{◌≡◌, ◌≢◌, ℕ, ◌+◌, ◌^◌, ◌<◌, ◌≤◌, ◌⊎◌, List, [], ◌∷◌, length, map, ℤ, pos, ◌≤ℤ◌, ◌<ℤ◌, unsigned_abs, slice_index}
+use Rattle.qap_cost.specs.Bijection.{IsPerm}
+use Rattle.qap_text.specs.Word.{HasNoWord}
+use Rattle.qap_text.specs.Spelling.{IsNumberAt, IsNoNumberAt, Spells}
+use Rattle.qap_text.specs.declared.error.TextError.{TextError}
+use Rattle.qap_text.specs.declared.error.TextError.TheVariants.{Empty, NotANumber, SizeDiffers, ValueRange, NotPermutation, CountDiffers}
+
+-- locations as texts count them, from 1 on
+abbrev pub from_one : List ℕ → List ℤ
+from_one p = map (λ k. pos (k + 1)) p
+
+-- the text spells the size, the objective value, and each facility's location; what follows means nothing
+pub record IsSolutionText (text : List ℕ) (n : ℕ) (value : ℤ) (p : List ℕ) : Type 0 where
+  pub permutation : IsPerm p
+  pub same_size : length p ≡ n
+  pub in_range : unsigned_abs value ≤ 10 ^ 24
+  pub stop : ℕ
+  pub spelled : Spells text 0 (pos n ∷ value ∷ from_one p) stop
+
+-- different locations below n
+pub record AreLocations (n : ℕ) (p : List ℕ) : Type 0 where
+  pub within : (i : ℕ) → i < length p → slice_index p i < n
+  pub distinct : (i j : ℕ) → i < length p → j < length p → slice_index p i ≡ slice_index p j → i ≡ j
+
+-- the first word is not the size n
+abbrev pub IsOtherSizeFault : List ℕ → ℕ → TextError → Type 0
+IsOtherSizeFault text n Empty = HasNoWord text 0
+IsOtherSizeFault text n (NotANumber place) = IsNoNumberAt text 0 place
+IsOtherSizeFault text n (SizeDiffers place) = (stop : ℕ) × (z : ℤ) × IsNumberAt text 0 place stop z × (z ≢ pos n)
+IsOtherSizeFault text n _ = ⊥
+
+-- the next word from a place on is no objective value
+abbrev pub IsValueFault : List ℕ → ℕ → TextError → Type 0
+IsValueFault text from CountDiffers = HasNoWord text from
+IsValueFault text from (NotANumber place) = IsNoNumberAt text from place
+IsValueFault text from (ValueRange place) = (stop : ℕ) × (z : ℤ) × IsNumberAt text from place stop z × (10 ^ 24 < unsigned_abs z)
+IsValueFault text from _ = ⊥
+
+-- a number that is none of 1 to n, or that one of the locations before it spells
+abbrev pub IsNoLocation : ℕ → List ℕ → ℤ → Type 0
+IsNoLocation n earlier z = (z ≤ℤ pos 0) ⊎ ((pos n <ℤ z) ⊎ ((i : ℕ) × (i < length earlier) × (z ≡ pos (slice_index earlier i + 1))))
+
+-- the next word from a place on is no location that the ones before it leave
+abbrev pub IsLocationFault : List ℕ → ℕ → ℕ → List ℕ → TextError → Type 0
+IsLocationFault text from n earlier CountDiffers = HasNoWord text from
+IsLocationFault text from n earlier (NotANumber place) = IsNoNumberAt text from place
+IsLocationFault text from n earlier (NotPermutation place) = (stop : ℕ) × (z : ℤ) × IsNumberAt text from place stop z × IsNoLocation n earlier z
+IsLocationFault text from n earlier _ = ⊥
+
+-- from a place on there are right locations, fewer than n, and then one that is at fault
+pub record HasLocationFault (text : List ℕ) (from n : ℕ) (e : TextError) : Type 0 where
+  pub earlier : List ℕ
+  pub stop : ℕ
+  pub spelled : Spells text from (from_one earlier) stop
+  pub right : AreLocations n earlier
+  pub too_few : length earlier < n
+  pub fault : IsLocationFault text stop n earlier e
+
+-- the size n, and then a value that is at fault
+pub record HasValueFault (text : List ℕ) (n : ℕ) (e : TextError) : Type 0 where
+  pub start : ℕ
+  pub stop : ℕ
+  pub size : IsNumberAt text 0 start stop (pos n)
+  pub fault : IsValueFault text stop e
+
+-- the size n and a right value, and then a location that is at fault, all before it being right
+pub record HasSolutionLocationFault (text : List ℕ) (n : ℕ) (e : TextError) : Type 0 where
+  pub value : ℤ
+  pub in_range : unsigned_abs value ≤ 10 ^ 24
+  pub stop : ℕ
+  pub spelled : Spells text 0 (pos n ∷ value ∷ []) stop
+  pub fault : HasLocationFault text stop n e
+
+-- the first fault of a text that is no solution's of size n
+abbrev pub IsSolutionFault : List ℕ → ℕ → TextError → Type 0
+IsSolutionFault text n e = IsOtherSizeFault text n e ⊎ (HasValueFault text n e ⊎ HasSolutionLocationFault text n e)

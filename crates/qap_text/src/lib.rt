@@ -1,0 +1,18 @@
+//! QAPLIB texts: instances and solutions, read and written.
+#![tactic(auto)]
+
+mod error;
+mod instance_text;
+mod number;
+mod numeral;
+mod solution_text;
+mod whole;
+mod word;
+
+pub use error::TextError;
+pub use instance_text::{instance_text_law, read_instance};
+pub use solution_text::{read_solution, solution_text_law};
+pub use whole::read_all;
+
+#[cfg(test)]
+mod tests;

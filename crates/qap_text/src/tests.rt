@@ -1,0 +1,109 @@
+//! What no clause says: that calls succeed, and what worked texts are read as.
+
+use crate::{TextError, read_all, read_instance, read_solution};
+use qap_io::{Counted, FailAt, OneByte};
+use std::test::Fail;
+
+#[test]
+fn reads_an_instance_and_lends_the_rest(rt: HostRuntime) -> Result<(), Fail> {
+    let text = b"+2,00,3,01,0\r\n0 2 5 0 nug text";
+    let (instance, rest) = read_instance(rt.alloc(), text)?;
+    assert_eq!(rt; rest, b" nug text".as_slice());
+    assert_eq!(rt; instance.size(), 2);
+    assert_eq!(rt; instance.a_row(0), [0, 3].as_slice());
+    assert_eq!(rt; instance.a_row(1), [1, 0].as_slice());
+    assert_eq!(rt; instance.b_row(0), [0, 2].as_slice());
+    assert_eq!(rt; instance.b_row(1), [5, 0].as_slice());
+    Ok(())
+}
+
+#[test]
+fn spells_numbers_in_many_ways(rt: HostRuntime) -> Result<(), Fail> {
+    // Each separator, signs, leading zeros in any number, and a zero with a sign.
+    let text =
+        b"\t\n\x0b\x0c\r ,+0000000000000000000000000000000000001,-0\x0b000000000000000000000000001000000000,tail";
+    let (instance, rest) = read_instance(rt.alloc(), text)?;
+    assert_eq!(rt;
+        (instance.size(), instance.a_row(0), instance.b_row(0)),
+        (1, [0].as_slice(), [1_000_000_000].as_slice())
+    );
+    assert_eq!(rt; rest, b",tail".as_slice());
+    let (value, permutation) = read_solution(
+        rt.alloc(),
+        3,
+        b" 3 -1000000000000000000000000, 2\n3 1 and more",
+    )?;
+    assert_eq!(rt; value, -1_000_000_000_000_000_000_000_000);
+    assert_eq!(rt; permutation.locations(), [1, 2, 0].as_slice());
+    Ok(())
+}
+
+#[test]
+fn tells_the_first_fault(rt: HostRuntime) {
+    let instances: [(&[u8], TextError); 16] = [
+        (b"", TextError::Empty),
+        (b", ,", TextError::Empty),
+        (b"x", TextError::NotANumber(0)),
+        (b" + 1 2", TextError::NotANumber(1)),
+        (b"-", TextError::NotANumber(0)),
+        (b"1 2- 3", TextError::NotANumber(2)),
+        (b"0", TextError::SizeZero(0)),
+        (b"\n-1", TextError::SizeZero(1)),
+        (
+            b"-99999999999999999999999999999999999999999999",
+            TextError::SizeZero(0),
+        ),
+        (b"257", TextError::SizeTooLarge(0)),
+        (
+            b"340282366920938463463374607431768211457",
+            TextError::SizeTooLarge(0),
+        ),
+        (b"2 0 3", TextError::CountDiffers),
+        (b"2 0 x", TextError::NotANumber(4)),
+        (b"1 1000000001 7", TextError::EntryRange(2)),
+        (b"1 7 -18446744073709551617", TextError::EntryRange(4)),
+        (b"2 0 1000000001 x", TextError::EntryRange(4)),
+    ];
+    for (text, want) in instances {
+        let fault = read_instance(rt.alloc(), text).err();
+        assert_eq!(rt; fault, Some(want), "{want}");
+    }
+    let solutions: [(&[u8], TextError); 12] = [
+        (b" ", TextError::Empty),
+        (b"2", TextError::CountDiffers),
+        (b"2 7", TextError::CountDiffers),
+        (b"2 7 1", TextError::CountDiffers),
+        (b"two", TextError::NotANumber(0)),
+        (b" 3 7 1 2", TextError::SizeDiffers(1)),
+        (b"2 1000000000000000000000001 1 2", TextError::ValueRange(2)),
+        (b"2 7.5 1 2", TextError::NotANumber(2)),
+        (b"2 7 0 2", TextError::NotPermutation(4)),
+        (b"2 7 3 2", TextError::NotPermutation(4)),
+        (b"2 7 1 1", TextError::NotPermutation(6)),
+        (b"2 7 1 65538", TextError::NotPermutation(6)),
+    ];
+    for (text, want) in solutions {
+        let fault = read_solution(rt.alloc(), 2, text).err();
+        assert_eq!(rt; fault, Some(want), "{want}");
+    }
+}
+
+#[test]
+fn reads_all_within_the_limit(rt: HostRuntime) -> Result<(), Fail> {
+    let alloc = rt.alloc();
+    let text = b"some bytes".as_slice();
+    let mut whole = Counted::new(OneByte::new(text));
+    assert_eq!(rt; read_all(alloc, &mut whole, 10)?.as_slice(), text);
+    let mut long = Counted::new(text);
+    assert_eq!(rt;
+        read_all(alloc, &mut long, 9).err(),
+        Some(TextError::InputTooLong)
+    );
+    let mut failing = Counted::new(FailAt::new(OneByte::new(text), 4));
+    assert_eq!(rt;
+        read_all(alloc, &mut failing, 10).err(),
+        Some(TextError::Device)
+    );
+    assert_eq!(rt; (whole.failed(), failing.failed()), (0, 1));
+    Ok(())
+}

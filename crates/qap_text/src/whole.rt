@@ -1,0 +1,38 @@
+//! A reader's bytes as one text.
+
+ghost use Rattle.std.specs.Prelude.{◌≡◌, ◌≤◌, IfSome, MatchResult, vec_len};
+ghost use Rattle.qap_text.specs.Whole.{IsReadFault};
+
+use crate::TextError;
+use qap_io::{Counted, read_some};
+use std::alloc::Global;
+use std::io::Read;
+
+/// How many bytes are asked for at once.
+const PIECE: usize = 32_768;
+
+/// Reads all the bytes that a reader has left, where they are at most `limit`.
+pub fn read_all<R: Read>(
+    alloc: Global,
+    reader: &mut Counted<R>,
+    limit: usize,
+) -> Result<Vec<u8>, TextError>
+    ensures { MatchResult result
+        (λ v. IfSome (R.remaining reader.old.inner) (λ bytes. v.items ≡ bytes) × (vec_len v ≤ limit))
+        (IsReadFault (R.remaining reader.old.inner) limit reader.old reader.new) }
+{
+    let mut bytes = Vec::new(alloc);
+    let mut piece = [0; PIECE];
+    loop {
+        let count = read_some(reader, &mut piece).map_err(|_| TextError::Device)?;
+        if count == 0 {
+            return Ok(bytes);
+        }
+        if limit - bytes.len() < count {
+            return Err(TextError::InputTooLong);
+        }
+        bytes
+            .extend_from_slice(&piece[..count])
+            .map_err(|_| TextError::OutOfMemory)?;
+    }
+}
