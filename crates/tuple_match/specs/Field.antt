@@ -1,0 +1,14 @@
+use Rattle.std.specs.Prelude.{List, map, string_bytes}
+use Rattle.tuple_match.specs.FieldValue.{FieldValue, number, word, numbers}
+use Rattle.tuple_match.specs.declared.fields.Field.{Field}
+use Rattle.tuple_match.specs.declared.fields.Field.TheVariants.{Int, Word, List as Numbers}
+
+-- what a field says, wherever it lies in memory
+abbrev pub field_value : Field → FieldValue
+field_value (Int n) = number n
+field_value (Word text) = word (string_bytes text)
+field_value (Numbers ns) = numbers ns.items
+
+-- what a row of fields says
+abbrev pub fields_value : List Field → List FieldValue
+fields_value fields = map field_value fields

@@ -1,0 +1,98 @@
+ghost use Rattle.std.specs.Prelude.{◌≡◌, ◌↔◌, IsTrue, IfOk};
+ghost use Rattle.std.specs.Cmp.{on_equiv, on_per};
+ghost use Rattle.tuple_match.specs.Equality.{field_eq, field_eq_equiv, field_eq_per};
+ghost use Rattle.tuple_match.specs.Field.{field_value};
+ghost use Rattle.tuple_match.specs.Word.{IsWord, IsWordByte};
+ghost use Rattle.tuple_match.specs.FieldValue.{IsField};
+
+use std::alloc::AllocError;
+
+/// The most bytes of a word.
+const LONGEST_WORD: usize = 32;
+/// The most numbers of a list.
+const LONGEST_LIST: usize = 1024;
+
+/// One field of a tuple.
+#[derive(Debug, Drop)]
+pub enum Field {
+    /// A number.
+    Int(i128),
+    /// In a tuple, 1 to 32 bytes: a letter `a` to `z`, then letters `a` to `z`, digits and `_`.
+    Word(String),
+    /// In a tuple, at most 1,024 numbers.
+    List(Vec<i128>),
+}
+
+impl Field {
+    /// Whether a tuple may hold this field: any number, a word of 1 to 32 bytes that is spelled
+    /// right, or a list of at most 1,024 numbers.
+    pub fn is_within_limits(&self) -> bool
+        ensures { IsTrue result ↔ IsField (field_value self.now) }
+    {
+        match self {
+            Field::Int(_) => true,
+            Field::Word(word) => is_word(word.as_bytes()),
+            Field::List(numbers) => numbers.len() <= LONGEST_LIST,
+        }
+    }
+}
+
+// By hand, so that its contract speaks of what the fields say.
+impl PartialEq for Field {
+    ghost eq = { λ field other. field_eq (field_value field) (field_value other) };
+
+    ghost laws = { on_per field_value field_eq_per };
+
+    /// Whether the two are of one type and hold equal numbers, texts or lists.
+    #[tactic(auto, using(crate::proofs::FieldLemmas::same_lists))]
+    fn eq(&self, other: &Field) -> bool
+        ensures test { result ≡ field_eq (field_value self.now) (field_value other.now) }
+        ensures same { IsTrue result ↔ (field_value self.now ≡ field_value other.now) }
+    {
+        match (self, other) {
+            (Field::Int(number), Field::Int(other)) => number == other,
+            (Field::Word(word), Field::Word(other)) => word == other,
+            (Field::List(numbers), Field::List(other)) => numbers == other,
+            _ => false,
+        }
+    }
+}
+
+impl Eq for Field {
+    ghost laws = { on_equiv field_value field_eq_equiv };
+}
+
+// By hand, so that its contract speaks of what the fields say.
+impl Clone for Field {
+    ghost is_clone = { λ field copy. field_value copy ≡ field_value field };
+
+    /// Another field that says the same, or `AllocError` where there is no memory for its text or list.
+    fn clone(&self) -> Result<Field, AllocError>
+        ensures { IfOk result (λ copy. field_value copy ≡ field_value self.now) }
+    {
+        match self {
+            Field::Int(number) => Ok(Field::Int(*number)),
+            Field::Word(word) => Ok(Field::Word(word.clone()?)),
+            Field::List(numbers) => Ok(Field::List(numbers.clone()?)),
+        }
+    }
+}
+
+fn is_word(bytes: &[u8]) -> bool
+    ensures { IsTrue result ↔ IsWord bytes.now }
+{
+    match bytes {
+        [] => false,
+        [first, rest @ ..] => {
+            first.is_ascii_lowercase()
+                && rest.len() < LONGEST_WORD
+                && rest.iter().all(|byte| is_word_byte(*byte))
+        }
+    }
+}
+
+fn is_word_byte(byte: u8) -> bool
+    ensures { IsTrue result ↔ IsWordByte byte }
+{
+    matches!(byte, b'a'..=b'z' | b'0'..=b'9' | b'_')
+}

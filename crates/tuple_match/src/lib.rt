@@ -1,0 +1,21 @@
+//! Tuples, templates and matching, as in Linda (Gelernter, Generative Communication in Linda, 1985).
+//!
+//! A tuple is a row of 1 to 8 fields, each a number, a word or a list of numbers. A template is a
+//! row of as many patterns: an actual, which asks for one field, or a formal, which asks for a type.
+//! `matches` says whether a tuple is one that a template asks for.
+#![tactic(auto)]
+
+mod fields;
+mod matching;
+mod refusal;
+mod templates;
+mod tuples;
+
+pub use fields::Field;
+pub use matching::matches;
+pub use refusal::MatchError;
+pub use templates::{Pattern, Template};
+pub use tuples::Tuple;
+
+#[cfg(test)]
+mod tests;

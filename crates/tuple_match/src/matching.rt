@@ -1,0 +1,27 @@
+ghost use Rattle.std.specs.Prelude.{◌≡◌, ◌↔◌, IsTrue};
+ghost use Rattle.tuple_match.specs.Field.{fields_value};
+ghost use Rattle.tuple_match.specs.Pattern.{patterns_value};
+ghost use Rattle.tuple_match.specs.PatternValue.{Matches};
+
+use crate::fields::Field;
+use crate::templates::{Pattern, Template};
+use crate::tuples::Tuple;
+
+/// Whether the tuple is one that the template asks for: they are equally long, and part by part an
+/// actual equals the field, in type and value, and a formal has the field's type (Gelernter 1985).
+/// Takes no memory.
+pub fn matches(template: &Template, tuple: &Tuple) -> bool
+    ensures { IsTrue result ↔ Matches template.now tuple.now }
+{
+    rows_match(template.patterns(), tuple.fields())
+}
+
+fn rows_match(patterns: &[Pattern], fields: &[Field]) -> bool
+    ensures { IsTrue result ↔ Matches (patterns_value patterns.now) (fields_value fields.now) }
+{
+    patterns.len() == fields.len()
+        && patterns
+            .iter()
+            .zip(fields)
+            .all(|(pattern, field)| pattern.matches_field(field))
+}

@@ -1,0 +1,110 @@
+ghost use Rattle.std.specs.Prelude.{◌≡◌, ◌↔◌, IsTrue, IsOk, IfOk, IfErr, All};
+ghost use Rattle.tuple_match.specs.FieldValue.{IsField};
+ghost use Rattle.tuple_match.specs.Field.{field_value, fields_value};
+ghost use Rattle.tuple_match.specs.Tuple.{IsTuple};
+
+use crate::fields::Field;
+use crate::refusal::MatchError;
+use std::alloc::AllocError;
+use std::marker::Model;
+
+/// The most fields of a tuple, and the most patterns of a template.
+pub(crate) const MOST_FIELDS: usize = 8;
+
+/// A row of 1 to 8 fields, each within its limits.
+#[derive(Debug, Drop)]
+pub struct Tuple {
+    fields: Vec<Field>,
+}
+
+impl Model for Tuple {
+    ghost use Rattle.std.specs.Prelude.{List};
+    ghost use Rattle.tuple_match.specs.FieldValue.{FieldValue};
+    ghost use Rattle.tuple_match.specs.Field.{fields_value};
+    ghost use Rattle.tuple_match.specs.Tuple.{IsTuple};
+
+    ghost Value = { List FieldValue };
+
+    ghost view = { λ t. fields_value t.fields.items };
+
+    ghost invariant = { λ t. IsTuple (fields_value t.fields.items) };
+}
+
+impl Tuple {
+    /// The tuple of these fields, or `BadTuple` and the fields, where there are not 1 to 8 of them
+    /// or one is outside its limits. Takes no memory.
+    pub fn new(fields: Vec<Field>) -> Result<Tuple, (MatchError, Vec<Field>)>
+        ensures accepted { IsOk result ↔ IsTuple (fields_value fields.items) }
+        ensures value { IfOk result (λ tuple. tuple ≡ fields_value fields.items) }
+        ensures error { IfErr result (λ refused. refused.0 ≡ MatchError.BadTuple) }
+        ensures handed_back { IfErr result (λ refused. refused.1 ≡ fields) }
+    {
+        if is_tuple(&fields) {
+            Ok(Tuple { fields })
+        } else {
+            Err((MatchError::BadTuple, fields))
+        }
+    }
+
+    /// The fields, first to last.
+    pub fn fields(&self) -> &[Field]
+        ensures value { fields_value result.now ≡ self.now }
+        ensures limits { IsTuple self.now }
+    {
+        &self.fields
+    }
+
+    /// Takes the fields out, first to last. Takes no memory.
+    pub fn into_fields(self) -> Vec<Field>
+        ensures value { fields_value result.items ≡ self }
+        ensures limits { IsTuple self }
+    {
+        let Tuple { fields } = self;
+        fields
+    }
+
+    /// Another tuple of equal fields, or `AllocError` where there is no memory for it.
+    pub fn copy(&self) -> Result<Tuple, AllocError>
+        ensures value { IfOk result (λ tuple. tuple ≡ self.now) }
+    {
+        let fields = self.fields.clone()?;
+        Ok(Tuple { fields })
+    }
+}
+
+// A proof that goes by `same` compares values, as `*a == *b`: on references `==` is that of `&T`,
+// of which callers know `test` alone, and `Decides-tuple_eq` makes `same` of it.
+impl PartialEq for Tuple {
+    ghost use Rattle.std.specs.Prelude.{◌≡◌, ◌↔◌, IsTrue};
+    ghost use Rattle.tuple_match.specs.Equality.{tuple_eq, tuple_eq_per};
+
+    ghost eq = { tuple_eq };
+
+    ghost laws = { tuple_eq_per };
+
+    /// Whether the two have equal fields: the same types, numbers, words and lists, in the same order.
+    fn eq(&self, other: &Tuple) -> bool
+        ensures test { result ≡ tuple_eq self.now other.now }
+        ensures same { IsTrue result ↔ (self.now ≡ other.now) }
+    {
+        self.fields == other.fields
+    }
+}
+
+impl Eq for Tuple {
+    ghost use Rattle.tuple_match.specs.Equality.{tuple_eq_equiv};
+
+    ghost laws = { tuple_eq_equiv };
+}
+
+fn is_tuple(fields: &[Field]) -> bool
+    ensures { IsTrue result ↔ IsTuple (fields_value fields.now) }
+{
+    !fields.is_empty() && fields.len() <= MOST_FIELDS && are_within_limits(fields)
+}
+
+fn are_within_limits(fields: &[Field]) -> bool
+    ensures { IsTrue result ↔ All (λ field. IsField (field_value field)) fields.now }
+{
+    fields.iter().all(|field| field.is_within_limits())
+}
