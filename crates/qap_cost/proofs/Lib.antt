@@ -1,5 +1,10 @@
 pub mod Bijections
+pub mod Listings
 pub mod Matrices
+pub mod Nodes
 pub mod Objectives
+pub mod Orders
+pub mod Picks
+pub mod Prefixes
 pub mod Seen
 pub mod Sums

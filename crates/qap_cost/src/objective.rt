@@ -4,7 +4,7 @@ ghost use Rattle.std.specs.Prelude.{◌≡◌, ◌*◌, ◌^◌, ◌<◌, ◌≤
 ghost use Rattle.qap_cost.specs.Sum.{sum_to};
 ghost use Rattle.qap_cost.specs.Instance.{Problem, InRange};
 ghost use Rattle.qap_cost.specs.Row.{AllInRange, product_at};
-ghost use Rattle.qap_cost.specs.Bijection.{IsBijection, IsInverse, IsPerm};
+ghost use Rattle.qap_cost.specs.Bijection.{IsBijection, IsInverse};
 ghost use Rattle.qap_cost.specs.Objective.{cost_of, exchanged};
 
 use crate::{Instance, Perm};
@@ -27,11 +27,11 @@ pub fn cost(instance: &Instance, permutation: &Perm) -> i128
     total
 }
 
-/// The sum over all `j` of `a_row[j] * b_row[locations[j]]`.
-fn row_product(a_row: &[i64], b_row: &[i64], locations: &[u16]) -> i128
-    requires locations { IsPerm locations.now }
-    requires a_count { length a_row.now ≡ length locations.now }
-    requires b_count { length b_row.now ≡ length locations.now }
+/// The sum over all `j` below the number of locations of `a_row[j] * b_row[locations[j]]`.
+pub(crate) fn row_product(a_row: &[i64], b_row: &[i64], locations: &[u16]) -> i128
+    requires small { length locations.now ≤ 256 }
+    requires a_count { length locations.now ≤ length a_row.now }
+    requires b_count { (j : ℕ) → j < length locations.now → slice_index locations.now j < length b_row.now }
     requires a_range { AllInRange a_row.now }
     requires b_range { AllInRange b_row.now }
     ensures value { result ≡ sum_to (product_at a_row.now b_row.now locations.now) (length locations.now) }

@@ -13,6 +13,6 @@ loop-j-preserved c =
     let is : c.product-term.result ≡ product_at c.args.a_row.now c.args.b_row.now c.args.locations.now c.loop-j.j =
     c.product-term.ensures.value
     ∙ ap₂ ◌*ℤ◌ (reads_entry x (c.requires.a_range.each c.loop-j.j (omega arith)))
-    (reads_entry y (c.requires.b_range.each c.from.result (omega (arith, c.requires.locations.bijection.within c.loop-j.j))))
+    (reads_entry y (c.requires.b_range.each c.from.result (omega (arith, c.requires.b_count c.loop-j.j))))
     ∙ ap (λ k. x *ℤ get_or c.args.b_row.now k (pos 0)) c.from.ensures in
     AddsUp-more _ c.product-term.result _ _ _ _ c.loop-j.invariant is c.product-term.ensures.bounded (omega (arith, ints))
