@@ -1,0 +1,10 @@
+use Rattle.std.proofs.Common.{ℕ, ◌<◌, ◌≤◌, get_or, pos, length}
+use Rattle.std.specs.Prelude.{◌≤ℤ◌}
+use Rattle.assign_dual.proofs.tree.nearest.Given as goal
+
+abbrev pub invariant-loop-q : goal.invariant-loop-q
+invariant-loop-q l = record {
+  from_done : l.done ≤ l.best;
+  within : l.best < length l.columns;
+  nearest : (s : ℕ) → l.done ≤ s → s < l.q → get_or l.distances (get_or l.columns l.best 0) (pos 0) ≤ℤ get_or l.distances (get_or l.columns s 0) (pos 0);
+}

@@ -1,0 +1,4 @@
+pub mod Partial
+pub mod Range
+pub mod Steps
+pub mod Tree

@@ -1,0 +1,44 @@
+-- A least assignment of the first rows of a matrix, with duals that prove it: what holds before and after each row is
+-- placed (Kuhn 1955; Burkard, Dell'Amico and Martello, Assignment Problems, 2009, section 4.2).
+use Rattle.std.specs.Prelude.{◌≡◌, ℕ, ◌<◌, ◌≤◌, List, length, ℤ, pos, ◌+ℤ◌, ◌≤ℤ◌, slice_index, slice_index_or, Option, Some, None}
+use Rattle.qap_cost.specs.Matrix.{Square, entry_of}
+
+-- the dual of row i, or of column i
+abbrev pub dual : List ℤ → ℕ → ℤ
+dual xs i = slice_index_or xs i (pos 0)
+
+-- the row that has column k, if one has it
+abbrev pub owner_of : List (Option ℕ) → ℕ → Option ℕ
+owner_of row_of k = slice_index_or row_of k None
+
+-- the duals fit the first rows, and those of the other rows are 0; no column's dual is above 0, and one is 0
+pub record FitsRows (M : Square) (rows : ℕ) (u v : List ℤ) : Type 0 where
+  pub u_count : length u ≡ M.size
+  pub v_count : length v ≡ M.size
+  pub below : (i k : ℕ) → i < rows → k < M.size → (dual u i +ℤ dual v k) ≤ℤ entry_of M i k
+  pub rest : (i : ℕ) → rows ≤ i → i < M.size → dual u i ≡ pos 0
+  pub falls : (k : ℕ) → k < M.size → dual v k ≤ℤ pos 0
+  pub level : 0 < M.size → (z : ℕ) × (z < M.size) × (dual v z ≡ pos 0)
+
+-- each of the first rows has a column of its own, and each column knows its row
+pub record IsMatching (n rows : ℕ) (matching : List ℕ) (row_of : List (Option ℕ)) : Type 0 where
+  pub matching_count : length matching ≡ n
+  pub row_of_count : length row_of ≡ n
+  pub column : (i : ℕ) → i < rows → slice_index matching i < n
+  pub owner : (i : ℕ) → i < rows → owner_of row_of (slice_index matching i) ≡ Some i
+  pub owned : (k i : ℕ) → k < n → owner_of row_of k ≡ Some i → (i < rows) × (slice_index matching i ≡ k)
+
+-- row i takes column k at no reduced cost
+abbrev pub IsTight : Square → List ℤ → List ℤ → ℕ → ℕ → Type 0
+IsTight M u v i k = (dual u i +ℤ dual v k) ≡ entry_of M i k
+
+pub record IsPartial (M : Square) (rows : ℕ) (matching : List ℕ) (row_of : List (Option ℕ)) (u v : List ℤ) : Type 0 where
+  pub fits : FitsRows M rows u v
+  pub matches : IsMatching M.size rows matching row_of
+  pub tight : (i : ℕ) → i < rows → IsTight M u v i (slice_index matching i)
+  pub free : (k : ℕ) → k < M.size → owner_of row_of k ≡ None → dual v k ≡ pos 0
+
+-- each column that has a row has one of the first rows, and no two have the same
+pub record OwnersDiffer (n rows : ℕ) (row_of : List (Option ℕ)) : Type 0 where
+  pub within : (k i : ℕ) → k < n → owner_of row_of k ≡ Some i → i < rows
+  pub distinct : (k l i : ℕ) → k < n → l < n → owner_of row_of k ≡ Some i → owner_of row_of l ≡ Some i → k ≡ l

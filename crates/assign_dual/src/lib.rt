@@ -1,0 +1,14 @@
+//! A least assignment of a matrix's rows to its columns, with duals that prove it.
+#![tactic(auto)]
+
+mod assignment;
+mod path;
+mod range;
+mod shift;
+mod tree;
+
+pub use assignment::{Assignment, solve};
+pub use range::{MAX_MATRIX_ENTRY, is_in_range};
+
+#[cfg(test)]
+mod tests;
