@@ -1,0 +1,9 @@
+pub mod Completions
+pub mod Dots
+pub mod FactorRows
+pub mod Lists
+pub mod PrefixNodes
+pub mod Rearrangement
+pub mod ReducedMatrices
+pub mod Skips
+pub mod Tables

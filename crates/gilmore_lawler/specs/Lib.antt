@@ -1,0 +1,5 @@
+pub mod Duals
+pub mod LeastProduct
+pub mod Order
+pub mod ReducedMatrix
+pub mod Table

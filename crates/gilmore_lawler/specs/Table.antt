@@ -1,0 +1,55 @@
+-- Lists that hold rows of one length, and the rows from which the entries of a reduced matrix are products.
+use Rattle.std.specs.Prelude.{◌≡◌, ℕ, ◌*◌, ◌<◌, ◌++◌, ◌∷◌, [], List, length, map, take, drop, ℤ, pos, ◌*ℤ◌, slice_index, slice_index_or}
+use Rattle.std.specs.List.{range_with_len}
+use Rattle.std.specs.List.Sorted.{IsPermutation}
+use Rattle.qap_cost.specs.Sum.{sum_to}
+use Rattle.qap_cost.specs.Instance.{Problem, entry}
+use Rattle.gilmore_lawler.specs.declared.side.Side.{Side}
+use Rattle.gilmore_lawler.specs.declared.side.Side.TheVariants.{Flow, Distance}
+use Rattle.gilmore_lawler.specs.Order.{IsAscending, IsDescending}
+use Rattle.gilmore_lawler.specs.ReducedMatrix.{others}
+
+-- row r of a list of rows of this length
+abbrev pub segment : ℕ → List ℤ → ℕ → List ℤ
+segment width xs r = take width (drop (r * width) xs)
+
+-- so many rows of this length, of which each has its property
+pub record IsTable (width count : ℕ) (P : ℕ → List ℤ → Type 0) (xs : List ℤ) : Type 0 where
+  pub size : length xs ≡ count * width
+  pub rows : (r : ℕ) → r < count → P r (segment width xs r)
+
+-- the sum of the products of two lists, place by place
+abbrev pub dot : List ℤ → List ℤ → ℤ
+dot xs ys = sum_to (λ j. slice_index_or xs j (pos 0) *ℤ slice_index_or ys j (pos 0)) (length xs)
+
+-- each number is below n
+pub record AllBelow (n : ℕ) (xs : List ℕ) : Type 0 where
+  pub each : (j : ℕ) → j < length xs → slice_index xs j < n
+
+abbrev pub matrix_of : Problem → Side → List ℤ
+matrix_of I Flow = I.a
+matrix_of I Distance = I.b
+
+-- flows ascend, distances descend
+abbrev pub IsOrdered : Side → List ℤ → Type 0
+IsOrdered Flow xs = IsAscending xs
+IsOrdered Distance xs = IsDescending xs
+
+-- the entry of i with itself, with each placed one, and of each placed one with it
+abbrev pub linear_row : ℕ → List ℤ → List ℕ → ℕ → List ℤ
+linear_row n matrix placed i = ((entry n matrix i i ∷ []) ++ map (entry n matrix i) placed) ++ map (λ h. entry n matrix h i) placed
+
+-- the row of the free one of number r: with itself and the placed ones, and then, in order, with the other free ones
+pub record IsFactorRow (I : Problem) (side : Side) (placed free : List ℕ) (r : ℕ) (row : List ℤ) : Type 0 where
+  pub sorted : List ℤ
+  pub moved : IsPermutation (others I.size (matrix_of I side) free r) sorted
+  pub ordered : IsOrdered side sorted
+  pub is : row ≡ linear_row I.size (matrix_of I side) placed (slice_index free r) ++ sorted
+
+-- the products of one row with each of so many others
+abbrev pub product_row : ℕ → ℕ → List ℤ → List ℤ → List ℤ
+product_row width count row others = map (λ c. dot row (segment width others c)) (range_with_len 0 count)
+
+-- row r of the products of the rows of two tables
+abbrev pub IsProductRow : ℕ → ℕ → List ℤ → List ℤ → ℕ → List ℤ → Type 0
+IsProductRow width count xs ys r row = row ≡ product_row width count (segment width xs r) ys

@@ -1,0 +1,40 @@
+//! Whether duals fit a matrix.
+
+ghost use Rattle.std.specs.Prelude.{◌≡◌, ◌≤◌, ◌<◌, ◌^◌, ◌↔◌, length, IsTrue, unsigned_abs};
+ghost use Rattle.qap_cost.specs.Matrix.{DualsFit};
+ghost use Rattle.gilmore_lawler.specs.Duals.{AllWithin, RowFits};
+
+use qap_cost::Matrix;
+
+/// Whether `(u, v)` fits the matrix: no entry in row `i` and column `k` is below `u[i] + v[k]`.
+///
+/// No memory is taken.
+pub fn fits(matrix: &Matrix, u: &[i128], v: &[i128]) -> bool
+    requires u_count { length u.now ≡ matrix.now.size }
+    requires v_count { length v.now ≡ matrix.now.size }
+    requires u_range { AllWithin u.now }
+    requires v_range { AllWithin v.now }
+    ensures { IsTrue result ↔ DualsFit matrix.now u.now v.now }
+{
+    for (i, &row_dual) in u.iter().enumerate() {
+        if !row_fits(matrix.row(i), row_dual, v) {
+            return false;
+        }
+    }
+    true
+}
+
+/// Whether no number of the row is below `row_dual` and its column's dual together.
+fn row_fits(row: &[i128], row_dual: i128, column_duals: &[i128]) -> bool
+    requires same_length { length row.now ≡ length column_duals.now }
+    requires row_range { unsigned_abs row_dual ≤ 10 ^ 24 }
+    requires column_range { AllWithin column_duals.now }
+    ensures { IsTrue result ↔ RowFits row.now row_dual column_duals.now }
+{
+    for k in 0..row.len() {
+        if row_dual + column_duals[k] > row[k] {
+            return false;
+        }
+    }
+    true
+}

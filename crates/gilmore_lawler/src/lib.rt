@@ -1,0 +1,17 @@
+//! The bound of Gilmore and Lawler: reduced matrices of the quadratic assignment problem.
+#![tactic(auto)]
+
+mod bound;
+mod duals;
+mod factors;
+mod pairing;
+mod reduction;
+mod side;
+
+pub use bound::{node_bound_law, one_reduced_matrix_law, prefix_bound_law};
+pub use duals::fits;
+pub use pairing::least_product;
+pub use reduction::{Workspace, reduced};
+
+#[cfg(test)]
+mod tests;
