@@ -1,0 +1,4 @@
+pub mod Certificate
+pub mod Shape
+pub mod Tree
+pub mod Valid

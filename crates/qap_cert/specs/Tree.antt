@@ -1,0 +1,43 @@
+-- Search trees: how the permutations of an instance are split up, and what closes each part. Apart from where a tree lies
+-- in memory.
+use Rattle.std.specs.Prelude.{ℕ, ◌+◌, List, [], ◌∷◌, map, ℤ}
+use Rattle.qap_cert.specs.declared.tree.Tree.{Tree}
+use Rattle.qap_cert.specs.declared.tree.Tree.TheOpen.{Tree-F, Split, Bound}
+use Rattle.qap_cert.specs.declared.tree.Tree.TheFolds.{fold-Tree}
+
+mutual
+  pub data Node : Type 0 where
+    split : Nodes → Node
+    bound : List ℤ → List ℤ → Node
+
+  pub data Nodes : Type 0 where
+    no_nodes : Nodes
+    node : Node → Nodes → Nodes
+
+-- nodes in a row
+abbrev pub in_row : List Node → Nodes
+in_row [] = no_nodes
+in_row (t ∷ ts) = node t (in_row ts)
+
+-- what a tree says, once each child has said it
+abbrev pub node_step : Tree-F Node → Node
+node_step (Split children) = split (in_row children.items)
+node_step (Bound u v) = bound u.items v.items
+
+-- what a tree says
+abbrev pub node_of : Tree → Node
+node_of = fold-Tree Node node_step
+
+-- what trees in a row say
+abbrev pub nodes_of : List Tree → Nodes
+nodes_of ts = in_row (map node_of ts)
+
+-- how many nodes there are
+abbrev mutual
+  pub node_count : Node → ℕ
+  node_count (split children) = 1 + nodes_count children
+  node_count (bound u v) = 1
+
+  pub nodes_count : Nodes → ℕ
+  nodes_count no_nodes = 0
+  nodes_count (node t rest) = node_count t + nodes_count rest
