@@ -3,6 +3,7 @@ pub mod Dots
 pub mod FactorRows
 pub mod Lists
 pub mod PrefixNodes
+pub mod Rankings
 pub mod Rearrangement
 pub mod ReducedMatrices
 pub mod Skips

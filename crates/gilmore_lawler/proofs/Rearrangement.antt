@@ -94,7 +94,7 @@ diagonal-le f p m b =
     (λ i h. duals_below f n i (get_or p i 0) m h (b.within i h)) in
     omega (arith, ints, diagonal, split, joined, order, below)
 
-not_below : (x y : ℤ) (o : Ordering) → MatchOrdering o (x <ℤ y) (x ≡ y) (y <ℤ x) → is_lt o ≡ false → y ≤ℤ x
+pub not_below : (x y : ℤ) (o : Ordering) → MatchOrdering o (x <ℤ y) (x ≡ y) (y <ℤ x) → is_lt o ≡ false → y ≤ℤ x
 not_below x y Less h e = cc
 not_below x y Equal h e = omega (arith, ints)
 not_below x y Greater h e = omega (arith, ints)

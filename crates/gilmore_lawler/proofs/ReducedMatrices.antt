@@ -2,6 +2,7 @@
 use Rattle.std.proofs.Common.{◌≡◌, ℕ, ◌+◌, ◌-◌, ◌*◌, ◌<◌, ◌≤◌, ◌++◌, ◌∷◌, [], sym, ◌∙◌, ap, ap₂, subst, arith, List, length, get_or}
 use Rattle.std.specs.Prelude.{ℤ, pos, Option, Some, MatchOption}
 use Rattle.std.specs.List.{range_with_len}
+use Rattle.std.specs.List.Sorted.{IsStrictlyIncreasing}
 use Rattle.std.proofs.lemmas.List.{map-id}
 use Rattle.std.proofs.lemmas.List.FromFn.{length-range_with_len, get_or-range_with_len, get_or-map-range_with_len, map-range_with_len_more}
 use Rattle.qap_cost.specs.Instance.{Problem}
@@ -124,3 +125,10 @@ made_is o n d n' d' entries M h e en ed =
     let made : Square = record { size = n - d; entries = entries } in
     let is = subst (λ (p : Option Square). MatchOption p (IsMatrix made → ⊥) (λ N. (N ≡ made) × IsMatrix made)) e h in
     is.0 ∙ ap₂ (λ (k l : ℕ). let N : Square = record { size = k - l; entries = entries } in N) en ed
+
+-- the free facilities rise
+pub IsStrictlyIncreasing-range : (a n : ℕ) (xs : List ℕ) → xs ≡ range_with_len a n → IsStrictlyIncreasing xs
+IsStrictlyIncreasing-range a n xs e =
+    subst IsStrictlyIncreasing (sym e) (λ k below.
+    let count = length-range_with_len a n in
+    omega (arith, get_or-range_with_len a n k 0 (omega (arith, count)), get_or-range_with_len a n (k + 1) 0 (omega (arith, count))))

@@ -22,20 +22,20 @@ row_end-le r k w h =
     let e : suc r * w ≤ k * w = mul-le _ _ _ _ h (omega arith) in
     omega (arith, e)
 
-segment-before : (w k r : ℕ) (xs row : List ℤ) → r < k → length xs ≡ k * w → segment w (xs ++ row) r ≡ segment w xs r
+segment-before : {X : Type 0} (w k r : ℕ) (xs row : List X) → r < k → length xs ≡ k * w → segment w (xs ++ row) r ≡ segment w xs r
 segment-before w k r xs row h count =
     let inside = row_end-le r k w h in
     ap (take w) (drop-append-le (r * w) xs row (omega (arith, inside)))
     ∙ take-append-le w (drop (r * w) xs) row (omega (arith, inside, length-drop (r * w) xs))
 
-segment-last : (w k : ℕ) (xs row : List ℤ) → length xs ≡ k * w → length row ≡ w → segment w (xs ++ row) k ≡ row
+segment-last : {X : Type 0} (w k : ℕ) (xs row : List X) → length xs ≡ k * w → length row ≡ w → segment w (xs ++ row) k ≡ row
 segment-last w k xs row count width = ap (take w) (drop_at xs row (k * w) count) ∙ take_all w row (omega arith)
 
-pub IsTable-none : (w : ℕ) (P : ℕ → List ℤ → Type 0) → IsTable w 0 P []
+pub IsTable-none : {X : Type 0} (w : ℕ) (P : ℕ → List X → Type 0) → IsTable w 0 P []
 IsTable-none w P = record { size = omega arith; rows = λ r h. absurd (omega arith) }
 
 -- a row more
-pub IsTable-more : (w k : ℕ) (P : ℕ → List ℤ → Type 0) (xs row : List ℤ) → IsTable w k P xs → length row ≡ w → P k row → IsTable w (k + 1) P (xs ++ row)
+pub IsTable-more : {X : Type 0} (w k : ℕ) (P : ℕ → List X → Type 0) (xs row : List X) → IsTable w k P xs → length row ≡ w → P k row → IsTable w (k + 1) P (xs ++ row)
 IsTable-more w k P xs row t width here = record {
   size = omega (arith, length-append xs row, t.size);
   rows = λ r h.
@@ -49,7 +49,7 @@ IsTable-more w k P xs row t width here = record {
       ];
 }
 
-pub length-segment : (w k r : ℕ) (xs : List ℤ) → r < k → length xs ≡ k * w → length (segment w xs r) ≡ w
+pub length-segment : {X : Type 0} (w k r : ℕ) (xs : List X) → r < k → length xs ≡ k * w → length (segment w xs r) ≡ w
 length-segment w k r xs h count =
     let inside = row_end-le r k w h in
     length-take-le w (drop (r * w) xs) (omega (arith, inside, length-drop (r * w) xs))

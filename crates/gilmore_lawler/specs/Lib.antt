@@ -1,5 +1,6 @@
 pub mod Duals
 pub mod LeastProduct
 pub mod Order
+pub mod Ranking
 pub mod ReducedMatrix
 pub mod Table

@@ -10,11 +10,11 @@ use Rattle.gilmore_lawler.specs.Order.{IsAscending, IsDescending}
 use Rattle.gilmore_lawler.specs.ReducedMatrix.{others}
 
 -- row r of a list of rows of this length
-abbrev pub segment : ℕ → List ℤ → ℕ → List ℤ
+abbrev pub segment : {X : Type 0} → ℕ → List X → ℕ → List X
 segment width xs r = take width (drop (r * width) xs)
 
 -- so many rows of this length, of which each has its property
-pub record IsTable (width count : ℕ) (P : ℕ → List ℤ → Type 0) (xs : List ℤ) : Type 0 where
+pub record IsTable {X : Type 0} (width count : ℕ) (P : ℕ → List X → Type 0) (xs : List X) : Type 0 where
   pub size : length xs ≡ count * width
   pub rows : (r : ℕ) → r < count → P r (segment width xs r)
 

@@ -1,41 +1,61 @@
 //! The rows from which the entries of a reduced matrix are products.
 
-ghost use Rattle.std.specs.Prelude.{◌≡◌, ◌<◌, ◌≤◌, ◌+◌, ◌*◌, ◌-◌, ◌++◌, length, map, OnOk, ℕ};
-ghost use Rattle.std.specs.List.Sorted.{IsPermutation};
+ghost use Rattle.std.specs.Prelude.{◌≡◌, ◌<◌, ◌≤◌, ◌==◌, ◌+◌, ◌*◌, ◌++◌, false, length, map, OnOk, slice_index, slice_index_or, ℕ};
+ghost use Rattle.std.specs.List.{list_any};
+ghost use Rattle.std.specs.List.Sorted.{IsStrictlyIncreasing};
 ghost use Rattle.qap_cost.specs.Instance.{entry, IsInstance};
 ghost use Rattle.qap_cost.specs.Row.{AllInRange};
-ghost use Rattle.gilmore_lawler.specs.ReducedMatrix.{others};
-ghost use Rattle.gilmore_lawler.specs.Table.{IsTable, AllBelow, matrix_of, IsOrdered, linear_row, IsFactorRow};
+ghost use Rattle.gilmore_lawler.specs.Ranking.{IsRankings};
+ghost use Rattle.gilmore_lawler.specs.Table.{IsTable, AllBelow, matrix_of, linear_row, IsFactorRow};
 
+use crate::ranking::{Ranked, push_others, ranking_of};
 use crate::side::{Side, entry_at, row_of};
-use qap_cost::Instance;
+use qap_cost::{Instance, MAX_SIZE};
 use std::alloc::AllocError;
 
 /// Makes `table` a row for each free facility, or for each free location: its entry with itself, its entries with the
 /// placed ones and theirs with it, and then its entries with the other free ones in order.
+///
+/// `rankings` are the rows of the matrix in order of their entries, and `free` ascends.
 pub fn factor_rows(
     instance: &Instance,
     side: Side,
+    rankings: &[Ranked],
     placed: &[u16],
     free: &[u16],
     table: &mut Vec<i64>,
-    sorted: &mut Vec<i64>,
 ) -> Result<(), AllocError>
     requires instance { IsInstance instance.now }
+    requires rankings { IsRankings instance.now side rankings.now }
     requires placed { AllBelow instance.now.size placed.now }
     requires free { AllBelow instance.now.size free.now }
+    requires rising { IsStrictlyIncreasing free.now }
     requires counts { length placed.now + length free.now ≤ 256 }
     ensures rows { OnOk result (IsTable (2 * length placed.now + length free.now) (length free.now) (IsFactorRow instance.now side placed.now free.now) table.new.items) }
     ensures range { OnOk result (AllInRange table.new.items) }
 {
+    let is_free = marked(free);
     table.clear();
     table.try_reserve(free.len() * (2 * placed.len() + free.len()))?;
     for r in 0..free.len() {
-        push_linear(instance, side, placed, free[r], table)?;
-        sort_others(instance, side, free, r, sorted)?;
-        table.extend_from_slice(sorted)?;
+        let own = free[r];
+        push_linear(instance, side, placed, own, table)?;
+        let row = ranking_of(instance, side, rankings, usize::from(own));
+        push_others(row, &is_free, own, table)?;
     }
     Ok(())
+}
+
+/// For each number whether it is in the list.
+fn marked(numbers: &[u16]) -> [bool; MAX_SIZE]
+    requires { (i : ℕ) → i < length numbers.now → slice_index numbers.now i < 256 }
+    ensures { (k : ℕ) → k < 256 → slice_index_or result k false ≡ list_any (λ l. k == l) numbers.now }
+{
+    let mut marks = [false; MAX_SIZE];
+    for &number in numbers {
+        marks[usize::from(number)] = true;
+    }
+    marks
 }
 
 /// Adds the entry of `i` with itself, those of `i` with the placed ones, and those of the placed ones with `i`.
@@ -54,31 +74,6 @@ fn push_linear(
     table.push(entry_at(instance, side, row, row))?;
     push_row(instance, side, row, placed, table)?;
     push_column(instance, side, placed, row, table)?;
-    Ok(())
-}
-
-/// Makes `sorted` the entries of the free one of number `r` with the other free ones, in order.
-fn sort_others(
-    instance: &Instance,
-    side: Side,
-    free: &[u16],
-    r: usize,
-    sorted: &mut Vec<i64>,
-) -> Result<(), AllocError>
-    requires free { AllBelow instance.now.size free.now }
-    requires own { r < length free.now }
-    ensures moved { OnOk result (IsPermutation (others instance.now.size (matrix_of instance.now side) free.now r) sorted.new.items) }
-    ensures ordered { OnOk result (IsOrdered side sorted.new.items) }
-{
-    sorted.clear();
-    let row = usize::from(free[r]);
-    push_row(instance, side, row, &free[..r], sorted)?;
-    push_row(instance, side, row, &free[r + 1..], sorted)?;
-    sorted.sort_unstable();
-    match side {
-        Side::Flow => {}
-        Side::Distance => sorted.reverse(),
-    }
     Ok(())
 }
 

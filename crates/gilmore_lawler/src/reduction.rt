@@ -2,15 +2,19 @@
 
 ghost use Rattle.std.specs.Prelude.{◌≡◌, ◌<◌, ◌≤◌, ◌*◌, ◌-◌, ◌^◌, ◌++◌, length, IfOk, OnOk};
 ghost use Rattle.std.specs.List.{range_with_len};
+ghost use Rattle.qap_cost.specs.Instance.{IsInstance, Problem};
 ghost use Rattle.qap_cost.specs.Row.{AllInRange};
+ghost use Rattle.gilmore_lawler.specs.Ranking.{HasRankings};
 ghost use Rattle.gilmore_lawler.specs.ReducedMatrix.{IsReduced, EntriesWithin};
 ghost use Rattle.gilmore_lawler.specs.Table.{IsTable, IsProductRow, product_row};
 
 use crate::factors::factor_rows;
 use crate::pairing::sum_of_products;
+use crate::ranking::{Ranked, ranked_rows};
 use crate::side::Side;
 use qap_cost::{Instance, Matrix, Prefix};
 use std::alloc::{AllocError, Global};
+use std::marker::Model;
 
 /// The reduced matrix of the prefix: a row for each free facility and a column for each free location, both ascending.
 ///
@@ -21,17 +25,69 @@ pub fn reduced(alloc: Global, instance: &Instance, prefix: &Prefix) -> Result<Ma
     ensures reduced { IfOk result (IsReduced instance.now prefix.now) }
     ensures bounded { IfOk result (EntriesWithin (512 * 10 ^ 18)) }
 {
-    Workspace::new(alloc).reduced(instance, prefix)
+    RankedInstance::new(alloc, instance)?.reduced(&mut Workspace::new(alloc), prefix)
 }
 
-/// Memory for reduced matrices, kept from one to the next.
+/// An instance with the rows of its matrices in order, which all its reduced matrices are made from.
+#[derive(Drop)]
+pub struct RankedInstance {
+    instance: Instance,
+    a_rankings: Vec<Ranked>,
+    b_rankings: Vec<Ranked>,
+}
+
+impl Model for RankedInstance {
+    ghost Value = { Problem };
+
+    ghost view = { λ r. r.instance };
+
+    ghost invariant = { λ r. HasRankings r.instance r.a_rankings.items r.b_rankings.items };
+}
+
+impl RankedInstance {
+    /// The instance, whose rows are sorted here, once.
+    pub fn new(alloc: Global, instance: &Instance) -> Result<RankedInstance, AllocError>
+        ensures value { IfOk result (λ r. r ≡ instance.now) }
+        ensures instance { IfOk result IsInstance }
+    {
+        Ok(RankedInstance {
+            instance: instance.copy()?,
+            a_rankings: ranked_rows(alloc, instance, Side::Flow)?,
+            b_rankings: ranked_rows(alloc, instance, Side::Distance)?,
+        })
+    }
+
+    /// The instance itself.
+    pub fn instance(&self) -> &Instance
+        ensures value { result.now ≡ self.now }
+        ensures instance { IsInstance self.now }
+    {
+        &self.instance
+    }
+
+    /// The reduced matrix of the prefix, as the function `reduced` gives it for the instance.
+    pub fn reduced(&self, workspace: &mut Workspace, prefix: &Prefix) -> Result<Matrix, AllocError>
+        requires { self.now.size ≡ prefix.now.size }
+        ensures reduced { IfOk result (IsReduced self.now prefix.now) }
+        ensures bounded { IfOk result (EntriesWithin (512 * 10 ^ 18)) }
+    {
+        reduced_from(
+            &self.instance,
+            &self.a_rankings,
+            &self.b_rankings,
+            prefix,
+            workspace,
+        )
+    }
+}
+
+/// Memory for reduced matrices, kept from one to the next. It can be used again after any answer, for any instance.
 #[derive(Drop)]
 pub struct Workspace {
     placed: Vec<u16>,
     facilities: Vec<u16>,
     a_rows: Vec<i64>,
     b_rows: Vec<i64>,
-    sorted: Vec<i64>,
 }
 
 impl Workspace {
@@ -42,45 +98,55 @@ impl Workspace {
             facilities: Vec::new(alloc),
             a_rows: Vec::new(alloc),
             b_rows: Vec::new(alloc),
-            sorted: Vec::new(alloc),
         }
     }
+}
 
-    /// The reduced matrix of the prefix, as the function `reduced` gives it. The workspace can be used again after any
-    /// answer, for this instance or another.
-    pub fn reduced(&mut self, instance: &Instance, prefix: &Prefix) -> Result<Matrix, AllocError>
-        requires { instance.now.size ≡ prefix.now.size }
-        ensures reduced { IfOk result (IsReduced instance.now prefix.now) }
-        ensures bounded { IfOk result (EntriesWithin (512 * 10 ^ 18)) }
-    {
-        let n = instance.size();
-        let depth = prefix.depth();
-        let locations = prefix.free_locations()?;
-        fill_numbers(0, depth, &mut self.placed)?;
-        fill_numbers(depth, n, &mut self.facilities)?;
-        let (placed, places): (&[u16], &[u16]) = (&self.placed, prefix.places());
-        let facilities: &[u16] = &self.facilities;
-        let sorted = &mut self.sorted;
-        factor_rows(
-            instance,
-            Side::Flow,
-            placed,
-            facilities,
-            &mut self.a_rows,
-            sorted,
-        )?;
-        factor_rows(
-            instance,
-            Side::Distance,
-            places,
-            &locations,
-            &mut self.b_rows,
-            sorted,
-        )?;
-        let alloc = *self.sorted.allocator();
-        let entries = products(alloc, &self.a_rows, &self.b_rows, n - depth, n + depth)?;
-        Ok(Matrix::new(n - depth, entries).unwrap())
-    }
+/// The reduced matrix of the prefix, from the rows of both matrices in order.
+fn reduced_from(
+    instance: &Instance,
+    a_rankings: &[Ranked],
+    b_rankings: &[Ranked],
+    prefix: &Prefix,
+    workspace: &mut Workspace,
+) -> Result<Matrix, AllocError>
+    requires size { instance.now.size ≡ prefix.now.size }
+    requires rankings { HasRankings instance.now a_rankings.now b_rankings.now }
+    ensures reduced { IfOk result (IsReduced instance.now prefix.now) }
+    ensures bounded { IfOk result (EntriesWithin (512 * 10 ^ 18)) }
+{
+    let n = instance.size();
+    let depth = prefix.depth();
+    let locations = prefix.free_locations()?;
+    fill_numbers(0, depth, &mut workspace.placed)?;
+    fill_numbers(depth, n, &mut workspace.facilities)?;
+    let (placed, places): (&[u16], &[u16]) = (&workspace.placed, prefix.places());
+    let facilities: &[u16] = &workspace.facilities;
+    factor_rows(
+        instance,
+        Side::Flow,
+        a_rankings,
+        placed,
+        facilities,
+        &mut workspace.a_rows,
+    )?;
+    factor_rows(
+        instance,
+        Side::Distance,
+        b_rankings,
+        places,
+        &locations,
+        &mut workspace.b_rows,
+    )?;
+    let alloc = *workspace.a_rows.allocator();
+    let entries = products(
+        alloc,
+        &workspace.a_rows,
+        &workspace.b_rows,
+        n - depth,
+        n + depth,
+    )?;
+    Ok(Matrix::new(n - depth, entries).unwrap())
 }
 
 /// Makes `list` the numbers from `start` to `end - 1`.

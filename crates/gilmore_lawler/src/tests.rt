@@ -1,6 +1,6 @@
 //! What no clause says: that calls succeed, and that the numbers are those of worked examples.
 
-use crate::{fits, least_product, reduced};
+use crate::{RankedInstance, Workspace, fits, least_product, reduced};
 use qap_cost::{Instance, Matrix, Prefix};
 use std::alloc::{AllocError, Global};
 use std::test::Fail;
@@ -104,5 +104,229 @@ fn duals_that_fit(rt: HostRuntime) -> Result<(), Fail> {
     let v: [i128; 2] = [0, 0];
     assert!(rt; fits(&matrix, &u, &v));
     assert!(rt; !fits(&matrix, &high, &v));
+    Ok(())
+}
+
+/// The entry in row `i` and column `j` of an `n` by `n` matrix; 0 where there is none.
+fn entry(n: usize, matrix: &[i64], i: usize, j: usize) -> i128 {
+    i128::from(
+        matrix
+            .get(i.wrapping_mul(n).wrapping_add(j))
+            .copied()
+            .unwrap_or(0),
+    )
+}
+
+/// The numbers below `n` but these.
+fn without(alloc: Global, n: usize, left_out: &[usize]) -> Result<Vec<usize>, AllocError> {
+    let mut numbers = Vec::new(alloc);
+    for k in 0..n {
+        if !left_out.contains(&k) {
+            numbers.push(k)?;
+        }
+    }
+    Ok(numbers)
+}
+
+/// The order of `m` numbers that these digits of base `m` are, where they are one.
+fn order_of(alloc: Global, m: usize, digits: usize) -> Result<Option<Vec<usize>>, AllocError> {
+    let mut order = Vec::new(alloc);
+    let mut rest = digits;
+    for _ in 0..m {
+        let digit = rest.checked_rem(m).unwrap_or(0);
+        if order.contains(&digit) {
+            return Ok(None);
+        }
+        order.push(digit)?;
+        rest = rest.checked_div(m).unwrap_or(0);
+    }
+    Ok(Some(order))
+}
+
+/// The least sum of products over all orders of the second list, each tried: for lists of at most 4 numbers.
+fn least_by_trying(alloc: Global, xs: &[i128], ys: &[i128]) -> Result<Option<i128>, AllocError> {
+    let mut least = None;
+    for digits in 0..256 {
+        let Some(order) = order_of(alloc, xs.len(), digits)? else {
+            continue;
+        };
+        let mut sum: i128 = 0;
+        for (x, &place) in xs.iter().zip(order.iter()) {
+            let y = ys.get(place).copied().unwrap_or(0);
+            sum = sum.wrapping_add(x.wrapping_mul(y));
+        }
+        least = Some(least.map_or(sum, |other: i128| other.min(sum)));
+    }
+    Ok(least)
+}
+
+/// The entries of row `i` in these columns.
+fn entries_in(
+    alloc: Global,
+    n: usize,
+    matrix: &[i64],
+    i: usize,
+    columns: &[usize],
+) -> Result<Vec<i128>, AllocError> {
+    let mut entries = Vec::new(alloc);
+    for &j in columns {
+        entries.push(entry(n, matrix, i, j))?;
+    }
+    Ok(entries)
+}
+
+/// The entry of facility `i` at location `k` of the reduced matrix, by its definition.
+fn slow_entry(
+    alloc: Global,
+    (n, a, b): (usize, &[i64], &[i64]),
+    places: &[usize],
+    i: usize,
+    k: usize,
+) -> Result<Option<i128>, AllocError> {
+    let mut cost = entry(n, a, i, i).wrapping_mul(entry(n, b, k, k));
+    let mut gone = Vec::new(alloc);
+    for (h, &g) in places.iter().enumerate() {
+        let there = entry(n, a, i, h).wrapping_mul(entry(n, b, k, g));
+        let back = entry(n, a, h, i).wrapping_mul(entry(n, b, g, k));
+        cost = cost.wrapping_add(there).wrapping_add(back);
+        gone.push(h)?;
+    }
+    gone.push(i)?;
+    let mut taken = Vec::from_slice(alloc, places)?;
+    taken.push(k)?;
+    let xs = entries_in(alloc, n, a, i, &without(alloc, n, &gone)?)?;
+    let ys = entries_in(alloc, n, b, k, &without(alloc, n, &taken)?)?;
+    Ok(least_by_trying(alloc, &xs, &ys)?.map(|least| cost.wrapping_add(least)))
+}
+
+/// The reduced matrix by its definition, where the first facilities stand at these places.
+fn slow_entries(
+    alloc: Global,
+    (n, a, b): (usize, &[i64], &[i64]),
+    places: &[usize],
+) -> Result<Option<Vec<i128>>, AllocError> {
+    let mut entries = Vec::new(alloc);
+    for i in places.len()..n {
+        for k in without(alloc, n, places)? {
+            let Some(entry) = slow_entry(alloc, (n, a, b), places, i, k)? else {
+                return Ok(None);
+            };
+            entries.push(entry)?;
+        }
+    }
+    Ok(Some(entries))
+}
+
+/// The entries of the reduced matrix where the first facilities stand at these places, from a workspace that has given
+/// the root's before.
+fn entries_after_root(
+    alloc: Global,
+    instance: &Instance,
+    places: &[usize],
+) -> Result<Option<Vec<i128>>, AllocError> {
+    let n = instance.size();
+    let root = Prefix::root(alloc, n)?;
+    let mut prefix = Prefix::root(alloc, n)?;
+    for &k in places {
+        let Ok(k) = u16::try_from(k) else {
+            return Ok(None);
+        };
+        if prefix.depth() >= prefix.size() || !prefix.is_free(k) {
+            return Ok(None);
+        }
+        prefix = prefix.extend(k)?;
+    }
+    if prefix.size() != n {
+        return Ok(None);
+    }
+    let ranked = RankedInstance::new(alloc, instance)?;
+    let mut workspace = Workspace::new(alloc);
+    ranked.reduced(&mut workspace, &root)?;
+    Ok(Some(entries_of(alloc, &ranked.reduced(&mut workspace, &prefix)?)?))
+}
+
+/// `n * n` numbers from -50 to 50, with no order in them.
+fn mixed(alloc: Global, n: usize, seed: i64) -> Result<Vec<i64>, AllocError> {
+    let mut numbers = Vec::new(alloc);
+    let mut state = seed;
+    for _ in 0..n.wrapping_mul(n) {
+        state = state.wrapping_mul(37).wrapping_add(11).rem_euclid(101);
+        numbers.push(state.wrapping_sub(50))?;
+    }
+    Ok(numbers)
+}
+
+/// Whether the reduced matrix of a mixed instance is the one that its definition gives.
+fn agrees(alloc: Global, n: usize, places: &[usize]) -> Result<bool, AllocError> {
+    let a = mixed(alloc, n, 5)?;
+    let b = mixed(alloc, n, 70)?;
+    let Some(instance) = instance(alloc, n, &a, &b)? else {
+        return Ok(false);
+    };
+    let Some(found) = entries_after_root(alloc, &instance, places)? else {
+        return Ok(false);
+    };
+    let want = slow_entries(alloc, (n, &a, &b), places)?;
+    Ok(want.is_some_and(|want| found.as_slice() == want.as_slice()))
+}
+
+#[test]
+fn entries_by_their_definition(rt: HostRuntime) -> Result<(), Fail> {
+    let alloc = rt.alloc();
+    for n in 1..6 {
+        assert!(rt; agrees(alloc, n, &[])?, "the root of size {n}");
+        for k in 0..n {
+            assert!(rt; agrees(alloc, n, &[k])?, "{k} of size {n}");
+            for l in without(alloc, n, &[k])? {
+                assert!(rt; agrees(alloc, n, &[k, l])?, "{k} and {l} of size {n}");
+            }
+        }
+    }
+    Ok(())
+}
+
+/// A list of 256 rows of 256, with the first number where row and column are both even or both odd, and else the
+/// second.
+fn chequered<T: Copy>(alloc: Global, (same, other): (T, T)) -> Result<Vec<T>, AllocError> {
+    let mut numbers = Vec::with_capacity(alloc, 65536)?;
+    for i in 0..256 {
+        for j in 0..256 {
+            let equal = i % 2 == j % 2;
+            numbers.push(if equal { same } else { other })?;
+        }
+    }
+    Ok(numbers)
+}
+
+/// Whether each entry of the reduced matrix at the root of the instance of these two matrices is this.
+fn is_at_the_root(
+    alloc: Global,
+    a: (i64, i64),
+    b: (i64, i64),
+    want: i128,
+) -> Result<bool, AllocError> {
+    let a = chequered(alloc, a)?;
+    let b = chequered(alloc, b)?;
+    let Some(instance) = instance(alloc, 256, &a, &b)? else {
+        return Ok(false);
+    };
+    let Some(found) = entries_after_root(alloc, &instance, &[])? else {
+        return Ok(false);
+    };
+    Ok(found.as_slice() == chequered(alloc, (want, want))?.as_slice())
+}
+
+#[test]
+fn entries_at_the_limits(rt: HostRuntime) -> Result<(), Fail> {
+    let alloc = rt.alloc();
+    let most = 1_000_000_000;
+    let square = 1_000_000_000_000_000_000;
+    // Each of the 256 products is the least that there is.
+    assert!(rt; is_at_the_root(alloc, (most, most), (-most, -most), -256 * square)?);
+    // A facility and a location cost a square together. In either row 127 of the 255 others are positive and 128
+    // negative, so that 254 pairs have different signs and one has not.
+    assert!(rt; is_at_the_root(alloc, (most, -most), (most, -most), -252 * square)?);
+    // Here 127 of the location's others are negative and 128 positive, so that all pairs have different signs.
+    assert!(rt; is_at_the_root(alloc, (most, -most), (-most, most), -256 * square)?);
     Ok(())
 }

@@ -1,6 +1,6 @@
 //! An instance: its size and its two matrices.
 
-ghost use Rattle.std.specs.Prelude.{◌≡◌, ◌<◌, MatchResult};
+ghost use Rattle.std.specs.Prelude.{◌≡◌, ◌<◌, IfOk, MatchResult};
 ghost use Rattle.std.specs.Bool.{MatchBool};
 ghost use Rattle.std.specs.List.{All};
 ghost use Rattle.qap_cost.specs.Fault.{IsFirstFault, HasEntryOutside};
@@ -8,6 +8,7 @@ ghost use Rattle.qap_cost.specs.Instance.{Problem, IsInstance, InRange, entry};
 ghost use Rattle.qap_cost.specs.Row.{AllInRange, IsRow};
 
 use crate::CostError;
+use std::alloc::AllocError;
 use std::marker::Model;
 
 /// The size that no instance passes.
@@ -106,6 +107,17 @@ impl Instance {
     {
         let start = k * self.size;
         &self.b[start..start + self.size]
+    }
+
+    /// The same instance again.
+    pub fn copy(&self) -> Result<Instance, AllocError>
+        ensures value { IfOk result (λ I. I ≡ self.now) }
+        ensures instance { IfOk result IsInstance }
+    {
+        let a = self.a.clone()?;
+        let b = self.b.clone()?;
+        let size = self.size;
+        Ok(Instance { size, a, b })
     }
 }
 
