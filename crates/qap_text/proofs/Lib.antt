@@ -2,5 +2,6 @@ pub mod Digits
 pub mod InstanceReadings
 pub mod Locations
 pub mod OneReading
+pub mod Separators
 pub mod SolutionReadings
 pub mod Spellings

@@ -1,6 +1,6 @@
 -- Words of a text, as the library of instances QAPLIB (Burkard, Karisch and Rendl 1997) separates them: by white space,
 -- and here by commas too.
-use Rattle.std.specs.Prelude.{◌≡◌, ℕ, ◌<◌, ◌≤◌, Bool, true, false, not, ◌||◌, ◌&&◌, ◌==◌, nat_le, List, length, slice_index}
+use Rattle.std.specs.Prelude.{◌≡◌, ℕ, ◌<◌, ◌≤◌, Bool, true, false, not, ◌||◌, ◌&&◌, ◌==◌, nat_le, if◌then◌else◌, List, [], ◌∷◌, length, slice_index}
 
 -- tab, line feed, vertical tab, form feed, carriage return, blank and comma
 abbrev pub is_separator : ℕ → Bool
@@ -26,3 +26,8 @@ pub record IsFirstThatIs (separator : Bool) (text : List ℕ) (from place : ℕ)
   pub in_text : place ≤ length text
   pub before : (k : ℕ) → from ≤ k → k < place → is_separator (slice_index text k) ≡ not separator
   pub at : place < length text → is_separator (slice_index text place) ≡ separator
+
+-- the text behind the separators at its front
+abbrev pub after_separators : List ℕ → List ℕ
+after_separators [] = []
+after_separators (b ∷ bs) = if is_separator b then after_separators bs else b ∷ bs

@@ -13,6 +13,7 @@ pub use error::TextError;
 pub use instance_text::{instance_text_law, read_instance};
 pub use solution_text::{read_solution, solution_text_law};
 pub use whole::read_all;
+pub use word::skip_separators;
 
 #[cfg(test)]
 mod tests;

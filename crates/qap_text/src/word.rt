@@ -1,7 +1,7 @@
 //! The words of a text.
 
 ghost use Rattle.std.specs.Prelude.{◌≡◌, ◌≤◌, length, MatchOption};
-ghost use Rattle.qap_text.specs.Word.{is_separator as separator_of, IsWordAt, HasNoWord, IsFirstThatIs};
+ghost use Rattle.qap_text.specs.Word.{is_separator as separator_of, after_separators, IsWordAt, HasNoWord, IsFirstThatIs};
 
 /// Where a word stands in a text: from the place of its first byte up to the place behind its last.
 #[derive(Clone, Copy)]
@@ -21,6 +21,14 @@ pub fn next_word(text: &[u8], from: usize) -> Option<Word>
     }
     let stop = first_place(text, start, true);
     Some(Word { start, stop })
+}
+
+/// The text behind the white space and the commas at its front. No byte is copied.
+pub fn skip_separators(text: &[u8]) -> &[u8]
+    ensures { result.now ≡ after_separators text.now }
+{
+    let start = first_place(text, 0, false);
+    &text[start..]
 }
 
 /// The first place from one on whose byte is a separator, or is none, as `separator` says; else the text's end.
