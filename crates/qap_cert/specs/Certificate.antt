@@ -13,11 +13,14 @@ pub record Claim : Type 0 where
   pub permutation : List ℕ
   pub tree : Node
 
+abbrev pub claim_of : ℤ → List ℕ → Node → Claim
+claim_of cost permutation tree = record { cost = cost; permutation = permutation; tree = tree }
+
 -- a certificate's shape: a cost from -10^24 to 10^24, a permutation, and a tree of its size
 pub record IsCertificate (C : Claim) : Type 0 where
   pub cost : unsigned_abs C.cost ≤ 10 ^ 24
   pub permutation : IsPerm C.permutation
-  pub tree : HasShape (length C.permutation) 0 C.tree
+  pub tree : HasShape (length C.permutation) C.tree
 
 -- the permutation is of the instance's size and has the cost, and the tree shows that none has less
 pub record Certifies (I : Problem) (C : Claim) : Type 0 where

@@ -1,4 +1,13 @@
+pub mod Acceptance
 pub mod Certificate
+pub mod Code
+pub mod Fault
+pub mod Line
+pub mod Number
+pub mod Numeral
 pub mod Shape
+pub mod Text
+pub mod TextFault
 pub mod Tree
 pub mod Valid
+pub mod Writing

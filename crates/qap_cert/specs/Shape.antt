@@ -7,6 +7,16 @@ abbrev pub child_count : Nodes → ℕ
 child_count no_nodes = 0
 child_count (node t rest) = 1 + child_count rest
 
+-- a dual for each of m rows and each of m columns
+pub record AreCounted (m : ℕ) (u v : List ℤ) : Type 0 where
+  pub rows : length u ≡ m
+  pub columns : length v ≡ m
+
+-- the duals lie within -10^24 to 10^24
+pub record AreInRange (u v : List ℤ) : Type 0 where
+  pub rows : AllWithin u
+  pub columns : AllWithin v
+
 -- a dual for each of m rows and each of m columns, all from -10^24 to 10^24
 pub record AreDuals (m : ℕ) (u v : List ℤ) : Type 0 where
   pub rows : length u ≡ m
@@ -14,13 +24,13 @@ pub record AreDuals (m : ℕ) (u v : List ℤ) : Type 0 where
   pub u_range : AllWithin u
   pub v_range : AllWithin v
 
--- a tree at depth d of size n: a split stands above depth n and has a child for each of the n - d free locations; a bound
--- has a dual for each free facility and each free location
+-- a tree with m free facilities: a split has some, and a child for each of the m free locations; a bound has a dual for
+-- each free facility and each free location
 abbrev mutual
-  pub HasShape : ℕ → ℕ → Node → Type 0
-  HasShape n d (split children) = (d < n) × (child_count children + d ≡ n) × AllHaveShape n (d + 1) children
-  HasShape n d (bound u v) = AreDuals (n - d) u v
+  pub HasShape : ℕ → Node → Type 0
+  HasShape m (split children) = (0 < m) × (child_count children ≡ m) × AllHaveShape (m - 1) children
+  HasShape m (bound u v) = AreDuals m u v
 
-  pub AllHaveShape : ℕ → ℕ → Nodes → Type 0
-  AllHaveShape n d no_nodes = Unit {0}
-  AllHaveShape n d (node t rest) = HasShape n d t × AllHaveShape n d rest
+  pub AllHaveShape : ℕ → Nodes → Type 0
+  AllHaveShape m no_nodes = Unit {0}
+  AllHaveShape m (node t rest) = HasShape m t × AllHaveShape m rest

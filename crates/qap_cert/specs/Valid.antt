@@ -2,7 +2,7 @@
 -- bound of Gilmore (1962) and Lawler (1963).
 use Rattle.std.specs.Prelude.{ℕ, ◌-◌, ◌<◌, ◌++◌, List, [], ◌∷◌, length, ℤ, ◌+ℤ◌, ◌≤ℤ◌}
 use Rattle.qap_cost.specs.Instance.{Problem}
-use Rattle.qap_cost.specs.Matrix.{Square, DualsFit, dual_value}
+use Rattle.qap_cost.specs.Matrix.{Square, IsMatrix, DualsFit, dual_value}
 use Rattle.qap_cost.specs.Prefix.{Placement, free_of, fixed_of}
 use Rattle.gilmore_lawler.specs.ReducedMatrix.{IsReduced}
 use Rattle.qap_cert.specs.Shape.{AreDuals}
@@ -15,6 +15,7 @@ prefix_of I places = record { size = I.size; places = places }
 -- the duals fit the reduced matrix
 pub record Fits (I : Problem) (places : List ℕ) (u v : List ℤ) : Type 0 where
   pub matrix : Square
+  pub square : IsMatrix matrix
   pub reduced : IsReduced I (prefix_of I places) matrix
   pub fits : DualsFit matrix u v
 

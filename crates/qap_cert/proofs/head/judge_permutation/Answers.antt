@@ -1,0 +1,21 @@
+use Rattle.std.proofs.Common.{◌≡◌, ◌∙◌, length, refl, sym, ap, inr}
+use Rattle.std.specs.Prelude.{codes}
+use Rattle.qap_cert.proofs.Locations.{permutation_named}
+use Rattle.qap_cert.proofs.Numbers.{IsNamed-unique}
+use Rattle.qap_cert.proofs.head.judge_permutation.Goals as goal
+
+pub returns-in_default : goal.returns-in_default
+returns-in_default c =
+    let none = rw c.in_default.is at c.in_ok-numbers.ensures in inr (refl, λ zs long. none zs)
+
+pub returns-then-numbers-n : goal.returns-then-numbers-n
+returns-then-numbers-n c =
+    let some = rw c.in-Some.is at c.in_ok-numbers.ensures in
+    inr (refl, λ zs long named. c.if-numbers-n.true (some.2 ∙ ap length (IsNamed-unique (codes "perm") c.args.line.now some.0 zs some.1 named) ∙ long))
+
+pub returns : goal.returns
+returns c =
+    let some = rw c.in-Some.is at c.in_ok-numbers.ensures in
+    let long : length some.0 ≡ c.args.n = sym some.2 ∙ c.if-numbers-n.false in
+    let lent = c.deref.ensures.value in
+    permutation_named c.args.n c.args.line.now some.0 _ c.permutation_from_one.result long (lent ∙ some.3) some.1 c.permutation_from_one.ensures

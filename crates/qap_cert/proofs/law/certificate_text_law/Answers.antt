@@ -1,0 +1,8 @@
+use Rattle.qap_cert.proofs.OneText.{no_text_fault, one_certificate}
+use Rattle.qap_cert.proofs.law.certificate_text_law.Goals as goal
+
+pub returns-clause-one : goal.returns-clause-one
+returns-clause-one c = one_certificate
+
+pub returns-clause-faultless : goal.returns-clause-faultless
+returns-clause-faultless c = no_text_fault

@@ -1,0 +1,79 @@
+-- By what a certificate's contents are told from others: the nodes of a tree in preorder give it back.
+use Rattle.std.specs.Prelude.{◌≡◌, ℕ, zero, suc, ◌+◌, ◌⊎◌, List, [], ◌∷◌, ℤ, refl}
+use Rattle.std.proofs.Common.{inl, inr, ◌∙◌, ap, arith}
+use Rattle.std.specs.Coded.{Coded, code_by, coded_ℕ, coded_ℤ, coded_list, coded×, coded⊎}
+use Rattle.qap_cert.specs.Certificate.{Claim, claim_of}
+use Rattle.qap_cert.specs.Shape.{child_count}
+use Rattle.qap_cert.specs.Tree.{Node, split, bound, Nodes, no_nodes, node}
+
+-- a split by the number of its children, and a bound by its duals
+abbrev pub Sign : Type 0
+Sign = ℕ ⊎ (List ℤ × List ℤ)
+
+abbrev mutual
+  pub signs : Node → List Sign → List Sign
+  signs (split children) rest = inl (child_count children) ∷ signs_of_all children rest
+  signs (bound u v) rest = inr (u, v) ∷ rest
+
+  pub signs_of_all : Nodes → List Sign → List Sign
+  signs_of_all no_nodes rest = rest
+  signs_of_all (node t ts) rest = signs t (signs_of_all ts rest)
+
+abbrev pub joined : Nodes → Nodes → Nodes
+joined no_nodes others = others
+joined (node t ts) others = node t (joined ts others)
+
+abbrev pub first_nodes : ℕ → Nodes → Nodes
+first_nodes zero ts = no_nodes
+first_nodes (suc k) no_nodes = no_nodes
+first_nodes (suc k) (node t ts) = node t (first_nodes k ts)
+
+abbrev pub nodes_behind : ℕ → Nodes → Nodes
+nodes_behind zero ts = ts
+nodes_behind (suc k) no_nodes = no_nodes
+nodes_behind (suc k) (node t ts) = nodes_behind k ts
+
+abbrev pub read_signs : List Sign → Nodes
+read_signs [] = no_nodes
+read_signs (inl k ∷ rest) = node (split (first_nodes k (read_signs rest))) (nodes_behind k (read_signs rest))
+read_signs (inr uv ∷ rest) = node (bound (uv.0) (uv.1)) (read_signs rest)
+
+abbrev pub first_node : Nodes → Node
+first_node no_nodes = bound [] []
+first_node (node t ts) = t
+
+first_nodes-joined : (ts others : Nodes) → first_nodes (child_count ts) (joined ts others) ≡ ts
+first_nodes-joined no_nodes others = refl
+first_nodes-joined (node t ts) others =
+    let more : 1 + child_count ts ≡ suc (child_count ts) = omega arith in
+    ap (λ (k : ℕ). first_nodes k (node t (joined ts others))) more ∙ ap (node t) (first_nodes-joined ts others)
+
+nodes_behind-joined : (ts others : Nodes) → nodes_behind (child_count ts) (joined ts others) ≡ others
+nodes_behind-joined no_nodes others = refl
+nodes_behind-joined (node t ts) others =
+    let more : 1 + child_count ts ≡ suc (child_count ts) = omega arith in
+    ap (λ (k : ℕ). nodes_behind k (node t (joined ts others))) more ∙ nodes_behind-joined ts others
+
+mutual
+  pub read_signs-signs : (t : Node) (rest : List Sign) → read_signs (signs t rest) ≡ node t (read_signs rest)
+  read_signs-signs (split children) rest =
+      let all = read_signs-signs_of_all children rest in
+      let k = child_count children in
+      ap (λ (ts : Nodes). node (split (first_nodes k ts)) (nodes_behind k ts)) all
+      ∙ ap (λ (ts : Nodes). node (split ts) (nodes_behind k (joined children (read_signs rest)))) (first_nodes-joined children (read_signs rest))
+      ∙ ap (node (split children)) (nodes_behind-joined children (read_signs rest))
+  read_signs-signs (bound u v) rest = refl
+
+  pub read_signs-signs_of_all : (ts : Nodes) (rest : List Sign) → read_signs (signs_of_all ts rest) ≡ joined ts (read_signs rest)
+  read_signs-signs_of_all no_nodes rest = refl
+  read_signs-signs_of_all (node t ts) rest = read_signs-signs t (signs_of_all ts rest) ∙ ap (node t) (read_signs-signs_of_all ts rest)
+
+abbrev pub node_code : Coded Node
+node_code =
+    code_by (List Sign) (coded_list (coded⊎ coded_ℕ (coded× (coded_list coded_ℤ) (coded_list coded_ℤ)))) (λ t. signs t [])
+    (λ xs. first_node (read_signs xs)) (λ t. ap first_node (read_signs-signs t []))
+
+abbrev pub claim_code : Coded Claim
+claim_code =
+    code_by (ℤ × (List ℕ × Node)) (coded× coded_ℤ (coded× (coded_list coded_ℕ) node_code)) (λ C. (C.cost, (C.permutation, C.tree)))
+    (λ p. claim_of p.0 p.1.0 p.1.1) (λ _. refl)

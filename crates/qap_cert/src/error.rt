@@ -1,0 +1,80 @@
+//! Why a certificate is refused.
+
+use qap_io::Device;
+use std::alloc::AllocError;
+use thiserror::Error;
+
+/// Why a certificate is refused. Lines are counted from 1; a line past 2^64 - 1 is told by that number.
+#[derive(Clone, Copy, Debug, PartialEq, Eq, Error)]
+pub enum CertError {
+    /// The certificate is of another size than the instance.
+    #[error("line {0}: the size is not the instance's")]
+    SizeDiffers(u64),
+    /// The first line isn't that of a certificate.
+    #[error("the first line is not that of a certificate")]
+    BadHeader,
+    /// The first line names a version that isn't known.
+    #[error("the certificate's version is not known")]
+    BadVersion,
+    /// A line isn't spelled as one at its place is.
+    #[error("line {0} is not spelled as it should be")]
+    BadLine(u64),
+    /// The text ends before this line does.
+    #[error("the text ends in line {0}")]
+    Truncated(u64),
+    /// Something follows the last line.
+    #[error("line {0} follows the last line")]
+    TrailingText(u64),
+    /// The permutation has another cost than is stated.
+    #[error("line {0}: the permutation has another cost")]
+    CostDiffers(u64),
+    /// The locations aren't each of 1 to the size once.
+    #[error("line {0}: the locations are no permutation")]
+    PermBad(u64),
+    /// A split stands where no facility is free.
+    #[error("line {0} splits where no facility is free")]
+    SplitTooDeep(u64),
+    /// A bound hasn't one dual for each free facility and each free location.
+    #[error("line {0} has another number of duals")]
+    DualCount(u64),
+    /// A dual lies outside -10^24 to 10^24.
+    #[error("line {0} has a dual outside -10^24 to 10^24")]
+    DualRange(u64),
+    /// The duals don't fit the reduced matrix.
+    #[error("line {0}: the duals don't fit the reduced matrix")]
+    NotFeasible(u64),
+    /// The duals fit, but bound their part by less than the stated cost.
+    #[error("line {0}: the bound is below the stated cost")]
+    BoundTooLow(u64),
+    /// A split hasn't one child for each free location.
+    #[error("line {0} splits into another number of children")]
+    SplitWidth(u64),
+    /// There is no memory left.
+    #[error("out of memory")]
+    OutOfMemory,
+    /// The writer failed.
+    #[error("the writer failed")]
+    Device,
+}
+
+impl From<AllocError> for CertError {
+    ghost use Rattle.std.specs.Prelude.{◌≡◌};
+    ghost use Rattle.qap_cert.specs.declared.error.CertError.TheVariants.{OutOfMemory};
+
+    ghost from_gives = { λ _ f. f ≡ OutOfMemory };
+
+    fn from(_error: AllocError) -> CertError {
+        CertError::OutOfMemory
+    }
+}
+
+impl From<Device> for CertError {
+    ghost use Rattle.std.specs.Prelude.{◌≡◌};
+    ghost use Rattle.qap_cert.specs.declared.error.CertError.TheVariants.{Device as FailedDevice};
+
+    ghost from_gives = { λ _ f. f ≡ FailedDevice };
+
+    fn from(_error: Device) -> CertError {
+        CertError::Device
+    }
+}

@@ -1,0 +1,204 @@
+//! Numbers of a line.
+
+ghost use Rattle.std.specs.Prelude.{◌≡◌, ◌≢◌, ◌≤◌, ◌^◌, ◌++◌, ◌∷◌, [], ℕ, ℤ, pos, neg_ℤ, List, length, map, take, min, MatchOption, IfOk, slice_index};
+ghost use Rattle.qap_cert.specs.Number.{Spells, IsNamed, held};
+ghost use Rattle.qap_cert.specs.Numeral.{magnitude_of, BeginsWithDigits, IsRun, IsFrontDecimal, IsFrontNumber, HasNoFrontDecimal, HasNoFrontNumber};
+
+use std::alloc::{AllocError, Global};
+
+/// A number beyond this one is read as this one: it lies outside every range that a certificate may use.
+const LIMIT: u128 = 10_000_000_000_000_000_000_000_000;
+
+/// The most digits whose number is made in 64 bits.
+const FEW: usize = 18;
+
+/// Digits at the front of a text: how many they are, and what they stand for.
+#[derive(Clone, Copy)]
+struct FewDigits {
+    count: usize,
+    magnitude: u64,
+}
+
+/// Digits at the front of a text: how many they are, and what they stand for, held to 10^25.
+#[derive(Clone, Copy)]
+struct Digits {
+    count: usize,
+    magnitude: u128,
+}
+
+/// A number at the front of a text: how many bytes spell it, and its value, held to -10^25 to 10^25.
+#[derive(Clone, Copy)]
+struct Numeral {
+    count: usize,
+    value: i128,
+}
+
+/// Up to 18 digits at the front of a text.
+fn few_digits(text: &[u8]) -> FewDigits
+    ensures digits { BeginsWithDigits text.now result.count }
+    ensures value { result.magnitude ≡ magnitude_of (take result.count text.now) }
+{
+    let stop = FEW.min(text.len());
+    let mut count = 0;
+    let mut magnitude = 0;
+    while count < stop && text[count].is_ascii_digit() {
+        magnitude = magnitude * 10 + u64::from(text[count] - b'0');
+        count += 1;
+    }
+    FewDigits { count, magnitude }
+}
+
+/// All digits at the front of a text, of which some have been read.
+fn more_digits(text: &[u8], few: FewDigits) -> Digits
+    requires digits { BeginsWithDigits text.now few.count }
+    requires value { few.magnitude ≡ magnitude_of (take few.count text.now) }
+    ensures { IsRun text.now result.count result.magnitude }
+{
+    let mut count = few.count;
+    let mut magnitude = u128::from(few.magnitude);
+    while count < text.len() && text[count].is_ascii_digit() {
+        magnitude = LIMIT.min(magnitude * 10 + u128::from(text[count] - b'0'));
+        count += 1;
+    }
+    Digits { count, magnitude }
+}
+
+/// The number without a sign at the front of a text.
+fn front_decimal(text: &[u8]) -> Option<Digits>
+    ensures { MatchOption result (HasNoFrontDecimal text.now) (λ d. IsFrontDecimal text.now d.count d.magnitude) }
+{
+    let digits = more_digits(text, few_digits(text));
+    if digits.count == 0 || (digits.count > 1 && text[0] == b'0') {
+        None
+    } else {
+        Some(digits)
+    }
+}
+
+fn signed(magnitude: u128) -> i128
+    requires { magnitude ≤ 10 ^ 25 }
+    ensures { result ≡ pos magnitude }
+{
+    magnitude as i128
+}
+
+fn negated(magnitude: u128) -> i128
+    requires { magnitude ≤ 10 ^ 25 }
+    ensures { result ≡ neg_ℤ (pos magnitude) }
+{
+    -(magnitude as i128)
+}
+
+/// The number with a minus sign, behind which these are the bytes.
+fn front_negative(text: &[u8]) -> Option<Numeral>
+    ensures { MatchOption result (HasNoFrontNumber (45 ∷ text.now)) (λ m. IsFrontNumber (45 ∷ text.now) m.count m.value) }
+{
+    match front_decimal(text) {
+        Some(digits) if digits.magnitude == 0 => None,
+        Some(digits) => Some(Numeral {
+            count: digits.count + 1,
+            value: negated(digits.magnitude),
+        }),
+        None => None,
+    }
+}
+
+/// The number without a sign at the front of a text that doesn't begin with a minus sign.
+fn front_positive(text: &[u8]) -> Option<Numeral>
+    requires { slice_index text.now 0 ≢ 45 }
+    ensures { MatchOption result (HasNoFrontNumber text.now) (λ m. IsFrontNumber text.now m.count m.value) }
+{
+    match front_decimal(text) {
+        Some(digits) => Some(Numeral {
+            count: digits.count,
+            value: signed(digits.magnitude),
+        }),
+        None => None,
+    }
+}
+
+/// The number at the front of a text.
+fn front_number(text: &[u8]) -> Option<Numeral>
+    ensures { MatchOption result (HasNoFrontNumber text.now) (λ m. IsFrontNumber text.now m.count m.value) }
+{
+    match text.split_first() {
+        Some((b'-', digits)) => front_negative(digits),
+        _ => front_positive(text),
+    }
+}
+
+/// What follows a name at the front of a line.
+fn behind_name<'a>(name: &[u8], line: &'a [u8]) -> Option<&'a [u8]>
+    ensures { MatchOption result ((rest : List ℕ) → line.now ≢ name.now ++ rest) (λ rest. line.now ≡ name.now ++ rest.now) }
+{
+    line.strip_prefix(name)
+}
+
+/// The one number that a text spells.
+fn only_number(text: &[u8]) -> Option<i128>
+    ensures { MatchOption result
+        ((z : ℤ) → Spells text.now (z ∷ []) → ⊥)
+        (λ v. (z : ℤ) × Spells text.now (z ∷ []) × (v ≡ held z)) }
+{
+    match text.split_first() {
+        Some((b' ', word)) => match front_number(word) {
+            Some(numeral) if numeral.count == word.len() => Some(numeral.value),
+            _ => None,
+        },
+        _ => None,
+    }
+}
+
+/// The number of a line of a name and one number, held to -10^25 to 10^25; `None` where the line is none such.
+pub(crate) fn one_number(name: &[u8], line: &[u8]) -> Option<i128>
+    ensures { MatchOption result
+        ((z : ℤ) → IsNamed name.now line.now (z ∷ []) → ⊥)
+        (λ v. (z : ℤ) × IsNamed name.now line.now (z ∷ []) × (v ≡ held z)) }
+{
+    match behind_name(name, line) {
+        Some(text) => only_number(text),
+        None => None,
+    }
+}
+
+/// The numbers of a line: how many they are, and the first of them, each held to -10^25 to 10^25.
+#[derive(Drop)]
+pub(crate) struct Numbers {
+    pub(crate) count: usize,
+    pub(crate) first: Vec<i128>,
+}
+
+/// The numbers of a line of a name and numbers, of which the first `wanted` are kept; `None` where the line is none such.
+///
+/// Room for `wanted` numbers is taken at once, and no more. The one error is want of memory.
+pub(crate) fn read_numbers(
+    alloc: Global,
+    name: &[u8],
+    line: &[u8],
+    wanted: usize,
+) -> Result<Option<Numbers>, AllocError>
+    ensures { IfOk result (λ found. MatchOption found
+        ((zs : List ℤ) → IsNamed name.now line.now zs → ⊥)
+        (λ r. (zs : List ℤ) × IsNamed name.now line.now zs × (r.count ≡ length zs) × (r.first.items ≡ map held (take wanted zs)))) }
+{
+    let Some(text) = behind_name(name, line) else {
+        return Ok(None);
+    };
+    let mut first = Vec::with_capacity(alloc, wanted)?;
+    let mut count = 0;
+    let mut rest = text;
+    while let Some((space, after)) = rest.split_first() {
+        if *space != b' ' {
+            return Ok(None);
+        }
+        let Some(numeral) = front_number(after) else {
+            return Ok(None);
+        };
+        if count < wanted {
+            first.push(numeral.value)?;
+        }
+        count += 1;
+        rest = &after[numeral.count..];
+    }
+    Ok(Some(Numbers { count, first }))
+}
