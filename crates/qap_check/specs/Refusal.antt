@@ -3,35 +3,50 @@ use Rattle.std.specs.Prelude.{◌≡◌, ℕ, ◌⊎◌, List, [], ◌++◌, Opt
 use Rattle.std.specs.Fmt.{decimal}
 use Rattle.qap_cost.specs.Instance.{Problem}
 use Rattle.qap_io.specs.Counting.{CountedDevice, FailedBetween}
-use Rattle.qap_text.specs.InstanceText.{IsInstanceText, IsInstanceFault}
+use Rattle.qap_cert.specs.Acceptance.{IsRefused}
+use Rattle.qap_cert.specs.declared.error.CertError.{CertError}
+use Rattle.qap_cert.specs.declared.error.CertError.TheVariants.{SizeDiffers as CertificateSize, BadHeader, BadVersion, BadLine, Truncated, TrailingText, CostDiffers, PermBad, SplitTooDeep, DualCount, DualRange, NotFeasible, BoundTooLow, SplitWidth, OutOfMemory as CertificateMemory, Device as CertificateDevice}
+use Rattle.qap_text.specs.InstanceText.{IsInstanceFault}
 use Rattle.qap_text.specs.SolutionText.{IsSolutionFault}
 use Rattle.qap_text.specs.Whole.{IsReadFault}
+use Rattle.qap_text.specs.Word.{after_separators}
 use Rattle.qap_text.specs.declared.error.TextError.{TextError}
 use Rattle.qap_text.specs.declared.error.TextError.TheVariants.{Empty, NotANumber, SizeZero, SizeTooLarge, EntryRange, CountDiffers, SizeDiffers, NotPermutation, ValueRange, InputTooLong, OutOfMemory, Device}
 use Rattle.qap_check.specs.declared.refusal.RunError.{RunError}
-use Rattle.qap_check.specs.declared.refusal.RunError.TheVariants.{Text}
+use Rattle.qap_check.specs.declared.refusal.RunError.TheVariants.{Text, Certificate}
+use Rattle.qap_check.specs.Source.{second_bytes, IsSecondFault, BehindInstance}
 
--- behind the text of an instance there is none of a solution of its size
-pub record HasSolutionFault (text : List ℕ) (e : TextError) : Type 0 where
-  pub instance : Problem
-  pub rest : List ℕ
-  pub instance_text : IsInstanceText text instance rest
-  pub fault : IsSolutionFault rest instance.size e
+-- a reader's bytes can't be read within the limit, or they have this first fault as the text of an instance, or the second
+-- reader's bytes can't be read within the limit
+abbrev pub IsInputFault : {R S : Type 0} → (R → Option (List ℕ)) → (S → Option (List ℕ)) → ℕ → CountedDevice R → CountedDevice R → Option (CountedDevice S) → Option (CountedDevice S) → TextError → Type 0
+IsInputFault first_bytes bytes limit reader reader_after second second_after e =
+    IsReadFault (first_bytes reader.inner) limit reader reader_after e
+    ⊎ (IfSome (first_bytes reader.inner) (λ text. IsInstanceFault text e) ⊎ IsSecondFault bytes limit second second_after e)
 
--- the first fault of a text: the instance's, else the solution's
-abbrev pub IsTextFault : List ℕ → TextError → Type 0
-IsTextFault text e = IsInstanceFault text e ⊎ HasSolutionFault text e
+-- memory ran out, or the text has this first fault as one of a solution
+abbrev pub IsSolutionRefusal : Problem → List ℕ → RunError → Type 0
+IsSolutionRefusal I text (Text e) = (e ≡ OutOfMemory) ⊎ IsSolutionFault text I.size e
+IsSolutionRefusal I text (Certificate e) = ⊥
 
--- memory ran out, or the text has this first fault
-abbrev pub RefusesText : List ℕ → RunError → Type 0
-RefusesText text (Text e) = (e ≡ OutOfMemory) ⊎ IsTextFault text e
+-- the input can't be read, or behind the instance there is none of its solutions, or memory ran out
+abbrev pub RefusesSolution : {R S : Type 0} → (R → Option (List ℕ)) → (S → Option (List ℕ)) → ℕ → CountedDevice R → CountedDevice R → Option (CountedDevice S) → Option (CountedDevice S) → RunError → Type 0
+RefusesSolution first_bytes bytes limit reader reader_after second second_after (Text e) =
+    IsInputFault first_bytes bytes limit reader reader_after second second_after e
+    ⊎ (IfSome (first_bytes reader.inner) (λ text. BehindInstance text (second_bytes bytes second) (λ I other. IsSolutionFault other I.size e))
+    ⊎ (e ≡ OutOfMemory))
+RefusesSolution first_bytes bytes limit reader reader_after second second_after (Certificate e) = ⊥
 
--- the reader's bytes can't be read within the limit, or the text that they are has this first fault, or the writer failed,
--- or memory ran out
-abbrev pub IsRefusal : {R W : Type 0} → ℕ → Option (List ℕ) → CountedDevice R → CountedDevice R → CountedDevice W → CountedDevice W → RunError → Type 0
-IsRefusal limit left reader reader_after writer writer_after (Text e) =
-    IsReadFault left limit reader reader_after e
-    ⊎ (IfSome left (λ text. IsTextFault text e) ⊎ (((e ≡ Device) × FailedBetween writer writer_after) ⊎ (e ≡ OutOfMemory)))
+-- the input can't be read, or behind the instance there is no certificate that shows a least cost, or memory ran out
+abbrev pub RefusesCertificate : {R S : Type 0} → (R → Option (List ℕ)) → (S → Option (List ℕ)) → ℕ → CountedDevice R → CountedDevice R → Option (CountedDevice S) → Option (CountedDevice S) → RunError → Type 0
+RefusesCertificate first_bytes bytes limit reader reader_after second second_after (Text e) =
+    IsInputFault first_bytes bytes limit reader reader_after second second_after e ⊎ (e ≡ OutOfMemory)
+RefusesCertificate first_bytes bytes limit reader reader_after second second_after (Certificate e) =
+    (e ≡ CertificateMemory)
+    ⊎ IfSome (first_bytes reader.inner) (λ text. BehindInstance text (λ rest. second_bytes bytes second (after_separators rest)) (λ I other. IsRefused I other e))
+
+-- the writer failed
+abbrev pub IsWriteFault : {W : Type 0} → CountedDevice W → CountedDevice W → RunError → Type 0
+IsWriteFault old new e = (e ≡ Text Device) × FailedBetween old new
 
 -- a refusal's number and name
 abbrev pub name_of : TextError → List ℕ
@@ -59,6 +74,41 @@ place_of (NotPermutation place) = Some place
 place_of (ValueRange place) = Some place
 place_of _ = None
 
+-- the number and the name of what a certificate is refused for
+abbrev pub certificate_name_of : CertError → List ℕ
+certificate_name_of (CertificateSize line) = codes "8 SizeDiffers"
+certificate_name_of BadHeader = codes "11 BadHeader"
+certificate_name_of BadVersion = codes "12 BadVersion"
+certificate_name_of (BadLine line) = codes "13 BadLine"
+certificate_name_of (Truncated line) = codes "14 Truncated"
+certificate_name_of (TrailingText line) = codes "15 TrailingText"
+certificate_name_of (CostDiffers line) = codes "16 CostDiffers"
+certificate_name_of (PermBad line) = codes "17 PermBad"
+certificate_name_of (SplitTooDeep line) = codes "18 SplitTooDeep"
+certificate_name_of (DualCount line) = codes "19 DualCount"
+certificate_name_of (DualRange line) = codes "20 DualRange"
+certificate_name_of (NotFeasible line) = codes "21 NotFeasible"
+certificate_name_of (BoundTooLow line) = codes "22 BoundTooLow"
+certificate_name_of (SplitWidth line) = codes "23 SplitWidth"
+certificate_name_of CertificateMemory = codes "50 OutOfMemory"
+certificate_name_of CertificateDevice = codes "51 Device"
+
+-- the line that a certificate is refused for
+abbrev pub line_of : CertError → Option ℕ
+line_of (CertificateSize line) = Some line
+line_of (BadLine line) = Some line
+line_of (Truncated line) = Some line
+line_of (TrailingText line) = Some line
+line_of (CostDiffers line) = Some line
+line_of (PermBad line) = Some line
+line_of (SplitTooDeep line) = Some line
+line_of (DualCount line) = Some line
+line_of (DualRange line) = Some line
+line_of (NotFeasible line) = Some line
+line_of (BoundTooLow line) = Some line
+line_of (SplitWidth line) = Some line
+line_of _ = None
+
 abbrev pub place_text : Option ℕ → List ℕ
 place_text None = []
 place_text (Some place) = codes " at " ++ decimal place
@@ -66,8 +116,11 @@ place_text (Some place) = codes " at " ++ decimal place
 -- the line that tells a refusal
 abbrev pub refusal_line : RunError → List ℕ
 refusal_line (Text e) = codes "refused " ++ name_of e ++ place_text (place_of e) ++ codes "\n"
+refusal_line (Certificate e) = codes "refused " ++ certificate_name_of e ++ place_text (line_of e) ++ codes "\n"
 
 -- the exit status of a refusal: 3 for want of memory, else 1
 abbrev pub status_of : RunError → ℕ
 status_of (Text OutOfMemory) = 3
 status_of (Text _) = 1
+status_of (Certificate CertificateMemory) = 3
+status_of (Certificate _) = 1

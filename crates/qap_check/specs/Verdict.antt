@@ -4,7 +4,6 @@ use Rattle.std.specs.Fmt.{signed_decimal}
 use Rattle.qap_cost.specs.Bijection.{IsInverse}
 use Rattle.qap_cost.specs.Instance.{Problem}
 use Rattle.qap_cost.specs.Objective.{cost_of}
-use Rattle.qap_text.specs.InstanceText.{IsInstanceText}
 use Rattle.qap_text.specs.SolutionText.{IsSolutionText}
 use Rattle.qap_check.specs.declared.verdict.Match.{Match}
 use Rattle.qap_check.specs.declared.verdict.Match.TheVariants.{Direct, Inverse, Neither}
@@ -25,15 +24,12 @@ pub record Judges (I : Problem) (p : List ℕ) (stated : ℤ) (v : Verdict) : Ty
   pub stated_is : v.stated ≡ stated
   pub found : IsMatch v.cost v.inverse v.stated v.found
 
--- an instance's text, and behind it the text of a solution of its size
-pub record AnswersText (text : List ℕ) (v : Verdict) : Type 0 where
-  pub instance : Problem
-  pub rest : List ℕ
-  pub instance_text : IsInstanceText text instance rest
+-- the text of a solution for an instance, judged
+pub record AnswersSolution (I : Problem) (text : List ℕ) (v : Verdict) : Type 0 where
   pub value : ℤ
   pub permutation : List ℕ
-  pub solution_text : IsSolutionText rest instance.size value permutation
-  pub judged : Judges instance permutation value v
+  pub solution_text : IsSolutionText text I.size value permutation
+  pub judged : Judges I permutation value v
 
 abbrev pub match_name : Match → List ℕ
 match_name Direct = codes "direct"
@@ -51,3 +47,7 @@ abbrev pub lines_of : Verdict → List ℕ
 lines_of v =
     codes "cost " ++ signed_decimal v.cost ++ codes "\ninverse " ++ signed_decimal v.inverse
     ++ codes "\nstated " ++ signed_decimal v.stated ++ codes "\nmatch " ++ match_name v.found ++ codes "\n"
+
+-- the line of a least cost
+abbrev pub optimal_line : ℤ → List ℕ
+optimal_line c = codes "optimal " ++ signed_decimal c ++ codes "\n"

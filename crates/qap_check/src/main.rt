@@ -1,16 +1,22 @@
-//! Checks a claimed cost of a quadratic assignment.
+//! Checks claimed costs and claimed optima of the quadratic assignment problem.
 #![tactic(auto)]
 
 mod command_line;
+mod optimal;
 mod refusal;
+mod source;
 mod value;
 mod verdict;
 
-use command_line::{CommandError, Request, USAGE, parse};
+use command_line::{CommandError, Files, Question, Request, USAGE, parse};
+use optimal::optimal_stream;
 use qap_io::Counted;
 use qap_text::TextError;
 use refusal::{RunError, fault_line, status};
+use std::alloc::Global;
 use std::env;
+use std::fs::{self, File};
+use std::io::Read;
 use std::process::ExitCode;
 use std::rt::Env;
 use value::value_stream;
@@ -19,18 +25,14 @@ use value::value_stream;
 mod tests;
 
 fn main(rt: HostRuntime) -> ExitCode {
-    let alloc = rt.alloc();
-    let answered = match asked(&rt) {
-        Ok(Request::Value) => {
-            let mut input = Counted::new(rt.stdin());
-            let mut output = Counted::new(rt.stdout());
-            value_stream(alloc, &mut input, &mut output).map(|found| found.status())
-        }
+    let answered = match arguments(&rt) {
+        Ok(words) => match parse(rt.alloc(), &words) {
+            Ok(request) => run(&rt, request),
+            Err(CommandError::OutOfMemory) => Err(RunError::Text(TextError::OutOfMemory)),
+            Err(CommandError::Usage) => return usage(&rt),
+        },
         Err(CommandError::OutOfMemory) => Err(RunError::Text(TextError::OutOfMemory)),
-        Err(CommandError::Usage) => {
-            let _ = rt.eprintln(USAGE);
-            return ExitCode::from(2);
-        }
+        Err(CommandError::Usage) => return usage(&rt),
     };
     let status = answered.unwrap_or_else(|error| {
         let _ = fault_line(&error, &mut Counted::new(rt.stderr()));
@@ -39,8 +41,54 @@ fn main(rt: HostRuntime) -> ExitCode {
     ExitCode::from(status)
 }
 
-/// What the program's own command line asks for.
-fn asked(rt: &(impl Env + AllocGlobal)) -> Result<Request, CommandError> {
-    let words: Vec<String> = env::args(rt)?.collect(rt.alloc())?;
-    parse(rt.alloc(), &words)
+/// Tells how the program is used.
+fn usage(rt: &HostRuntime) -> ExitCode {
+    let _ = rt.eprintln(USAGE);
+    ExitCode::from(2)
+}
+
+/// The words of the program's own command line.
+fn arguments(rt: &(impl Env + AllocGlobal)) -> Result<Vec<String>, CommandError> {
+    Ok(env::args(rt)?.collect(rt.alloc())?)
+}
+
+/// Answers a request, and tells the exit status. Named files are opened before any of them is read.
+fn run(rt: &HostRuntime, request: Request<'_>) -> Result<u8, RunError> {
+    match request.files {
+        Some(Files { instance, other }) => {
+            let mut first = Counted::new(open(rt, instance)?);
+            let mut second = Some(Counted::new(open(rt, other)?));
+            answer(rt, request.question, &mut first, &mut second)
+        }
+        None => {
+            let mut none: Option<Counted<File>> = None;
+            answer(
+                rt,
+                request.question,
+                &mut Counted::new(rt.stdin()),
+                &mut none,
+            )
+        }
+    }
+}
+
+/// A named file, opened for reading.
+fn open(rt: &HostRuntime, name: &str) -> Result<File, RunError> {
+    fs::open(rt, name).map_err(|_| RunError::Text(TextError::Device))
+}
+
+/// Answers a question on standard output, and tells the exit status.
+fn answer<R: Read, S: Read>(
+    rt: &HostRuntime,
+    question: Question,
+    first: &mut Counted<R>,
+    second: &mut Option<Counted<S>>,
+) -> Result<u8, RunError> {
+    let mut output = Counted::new(rt.stdout());
+    match question {
+        Question::Value => {
+            value_stream(rt.alloc(), first, second, &mut output).map(|found| found.status())
+        }
+        Question::Optimal => { optimal_stream(rt.alloc(), first, second, &mut output).map(|()| 0) }
+    }
 }

@@ -1,8 +1,12 @@
 //! Runs over memory: what is written, what is told, and the exit status.
 
-use crate::refusal::{fault_line, status};
+use crate::command_line::{Question, parse};
+use crate::optimal::optimal_stream;
+use crate::refusal::{RunError, fault_line, status};
 use crate::value::value_stream;
+use qap_cert::CertError;
 use qap_io::{Counted, FailAt, OneByte};
+use qap_text::TextError;
 use std::alloc::{AllocError, Global};
 use std::test::Fail;
 
@@ -14,17 +18,24 @@ struct Outcome {
     status: u8,
 }
 
-fn run(alloc: Global, text: &[u8]) -> Outcome {
-    let mut reader = Counted::new(text);
+/// A run on one text, or on two of which each has its reader.
+fn run(alloc: Global, question: Question, first: &[u8], second: Option<&[u8]>) -> Outcome {
+    let mut reader = Counted::new(first);
+    let mut second = second.map(|text| Counted::new(text));
     let mut output = Counted::new(Vec::new(alloc));
     let mut errors = Counted::new(Vec::new(alloc));
-    let status = match value_stream(alloc, &mut reader, &mut output) {
-        Ok(found) => found.status(),
-        Err(error) => {
-            let _ = fault_line(&error, &mut errors);
-            status(&error)
+    let answered = match question {
+        Question::Value => value_stream(alloc, &mut reader, &mut second, &mut output).map(
+            |found| found.status(),
+        ),
+        Question::Optimal => {
+            optimal_stream(alloc, &mut reader, &mut second, &mut output).map(|()| 0)
         }
     };
+    let status = answered.unwrap_or_else(|error| {
+        let _ = fault_line(&error, &mut errors);
+        status(&error)
+    });
     Outcome {
         output: output.into_inner(),
         errors: errors.into_inner(),
@@ -67,7 +78,7 @@ fn answers(rt: HostRuntime) {
         ),
     ];
     for (text, want, status) in cases {
-        let run = run(rt.alloc(), text);
+        let run = run(rt.alloc(), Question::Value, text, None);
         assert_eq!(rt; run.output.as_slice(), want);
         assert_eq!(rt; run.errors.as_slice(), b"".as_slice());
         assert_eq!(rt; run.status, status);
@@ -103,7 +114,7 @@ fn refusals(rt: HostRuntime) {
         (b"1 2 3 x", b"refused 2 NotANumber at 1\n"),
     ];
     for (text, want) in cases {
-        let run = run(rt.alloc(), text);
+        let run = run(rt.alloc(), Question::Value, text, None);
         assert_eq!(rt; run.errors.as_slice(), want);
         assert_eq!(rt; run.output.as_slice(), b"".as_slice());
         assert_eq!(rt; run.status, 1);
@@ -116,14 +127,15 @@ fn failing_devices(rt: HostRuntime) -> Result<(), AllocError> {
     let text = b"1 5 7\n1 35 1\n".as_slice();
     let mut reader = Counted::new(FailAt::new(OneByte::new(text), 5));
     let mut output = Counted::new(Vec::new(alloc));
-    let refused = value_stream(alloc, &mut reader, &mut output);
+    let mut none: Option<Counted<&[u8]>> = None;
+    let refused = value_stream(alloc, &mut reader, &mut none, &mut output);
     assert_eq!(rt; refused.map_err(|error| status(&error)), Err(1));
     assert_eq!(rt; (reader.failed(), output.failed()), (1, 0));
     assert_eq!(rt; output.into_inner().as_slice(), b"".as_slice());
 
     let mut reader = Counted::new(text);
     let mut output = Counted::new(FailAt::new(OneByte::new(Vec::new(alloc)), 8));
-    let Err(error) = value_stream(alloc, &mut reader, &mut output) else {
+    let Err(error) = value_stream(alloc, &mut reader, &mut none, &mut output) else {
         panic!(rt; "a failed write is passed over");
     };
     let mut errors = Counted::new(Vec::new(alloc));
@@ -141,9 +153,218 @@ fn failing_devices(rt: HostRuntime) -> Result<(), AllocError> {
 
 #[test]
 fn statuses(rt: HostRuntime) {
-    use crate::refusal::RunError;
-    use qap_text::TextError;
     assert_eq!(rt; status(&RunError::Text(TextError::OutOfMemory)), 3);
     assert_eq!(rt; status(&RunError::Text(TextError::InputTooLong)), 1);
     assert_eq!(rt; status(&RunError::Text(TextError::Device)), 1);
+    assert_eq!(rt; status(&RunError::Certificate(CertError::OutOfMemory)), 3);
+    assert_eq!(rt; status(&RunError::Certificate(CertError::BadHeader)), 1);
+}
+
+/// Two facilities: the permutations cost 11 and 17.
+const TWO: &[u8] = b"2 0 3 1 0 0 2 5 0";
+/// Three facilities, both matrices symmetric: the least cost is 24.
+const THREE: &[u8] = b"3 0 1 2 1 0 3 2 3 0 0 5 2 5 0 1 2 1 0";
+/// Three facilities, of which each permutation costs 1.
+const RING: &[u8] = b"3 0 1 0 0 0 1 1 0 0 0 1 0 1 0 0 0 0 0";
+/// A certificate of the least cost of `THREE`.
+const ROOT_BOUND: &[u8] = b"qapcert 1\nn 3\ncost 24\nperm 1 2 3\nb 9 10 12 0 -2 -5\nend\n";
+
+#[test]
+fn least_costs(rt: HostRuntime) {
+    let cases: [(&[u8], &[u8], &[u8]); 6] = [
+        (THREE, ROOT_BOUND, b"optimal 24\n"),
+        (
+            TWO,
+            b"qapcert 1\nn 2\ncost 11\nperm 1 2\ns\ns\nb\ns\nb\nend\n",
+            b"optimal 11\n",
+        ),
+        (
+            TWO,
+            b"qapcert 1\nn 2\ncost 11\nperm 1 2\ns\nb 11 0\nb 11 0\nend\n",
+            b"optimal 11\n",
+        ),
+        (
+            TWO,
+            b"qapcert 1\nn 2\ncost 11\nperm 1 2\nb 6 2 0 3\nend\n",
+            b"optimal 11\n",
+        ),
+        (
+            RING,
+            b"qapcert 1\nn 3\ncost 1\nperm 1 2 3\ns\nb 0 0 1 0\nb 0 0 1 0\nb 1 0 0 0\nend\n",
+            b"optimal 1\n",
+        ),
+        (
+            b"1 -3 7",
+            b"qapcert 1\nn 1\ncost -21\nperm 1\nb -20 -1\nend\n",
+            b"optimal -21\n",
+        ),
+    ];
+    for (instance, certificate, want) in cases {
+        let run = run(rt.alloc(), Question::Optimal, instance, Some(certificate));
+        assert_eq!(rt; run.output.as_slice(), want);
+        assert_eq!(rt; run.errors.as_slice(), b"".as_slice());
+        assert_eq!(rt; run.status, 0);
+    }
+}
+
+#[test]
+fn one_input(rt: HostRuntime) {
+    let cases: [(&[u8], &[u8], &[u8]); 3] = [
+        (
+            b"1 -3 7\r\n,\t qapcert 1\nn 1\ncost -21\nperm 1\nb -21 0\nend\n",
+            b"optimal -21\n",
+            b"",
+        ),
+        (b"1 -3 7", b"", b"refused 14 Truncated at 1\n"),
+        (b"1 -3", b"", b"refused 6 CountDiffers\n"),
+    ];
+    for (text, output, errors) in cases {
+        let run = run(rt.alloc(), Question::Optimal, text, None);
+        assert_eq!(rt; run.output.as_slice(), output);
+        assert_eq!(rt; run.errors.as_slice(), errors);
+    }
+    let behind_a_blank = run(rt.alloc(), Question::Optimal, THREE, Some(b" qapcert 1\n"));
+    assert_eq!(rt;
+        behind_a_blank.errors.as_slice(),
+        b"refused 11 BadHeader\n".as_slice()
+    );
+    let two_files = run(rt.alloc(), Question::Value, TWO, Some(b"2 11 1 2"));
+    assert_eq!(rt;
+        two_files.output.as_slice(),
+        b"cost 11\ninverse 11\nstated 11\nmatch direct\n".as_slice()
+    );
+}
+
+#[test]
+fn refused_certificates(rt: HostRuntime) {
+    let cases: [(&[u8], &[u8], &[u8]); 23] = [
+        (TWO, ROOT_BOUND, b"8 SizeDiffers at 2"),
+        (THREE, b"cert 1\n", b"11 BadHeader"),
+        (THREE, b"qapcert 3\n", b"12 BadVersion"),
+        (THREE, b"qapcert 1\nn 257\n", b"13 BadLine at 2"),
+        (THREE, b"qapcert 1\nn 3\ncost 24 \n", b"13 BadLine at 3"),
+        (
+            THREE,
+            b"qapcert 1\nn 3\ncost 24\nperm 1 2 3\nb 09 10 12 0 -2 -5\nend\n",
+            b"13 BadLine at 5",
+        ),
+        (
+            THREE,
+            b"qapcert 1\nn 3\ncost 24\nperm 1 2 3\nb  9 10 12 0 -2 -5\nend\n",
+            b"13 BadLine at 5",
+        ),
+        (
+            TWO,
+            b"qapcert 1\nn 2\ncost 11\nperm 1 2\ns\ns\nb\nend\n",
+            b"13 BadLine at 8",
+        ),
+        (THREE, b"", b"14 Truncated at 1"),
+        (
+            THREE,
+            b"qapcert 1\nn 3\ncost 24\nperm 1 2 3\nb 9 10 12 0 -",
+            b"14 Truncated at 5",
+        ),
+        (
+            THREE,
+            b"qapcert 1\nn 3\ncost 24\nperm 1 2 3\nb 9 10 12 0 -2 -5\nend\nx\n",
+            b"15 TrailingText at 7",
+        ),
+        (
+            THREE,
+            b"qapcert 1\nn 3\ncost 23\nperm 1 2 3\nb 9 10 12 0 -2 -5\nend\n",
+            b"16 CostDiffers at 3",
+        ),
+        (
+            TWO,
+            b"qapcert 1\nn 2\ncost 12\nperm 1 2\ns\ns\nb\ns\nb\nend\n",
+            b"16 CostDiffers at 3",
+        ),
+        (
+            THREE,
+            b"qapcert 1\nn 3\ncost 24\nperm 1 2 2\nb 9 10 12 0 -2 -5\nend\n",
+            b"17 PermBad at 4",
+        ),
+        (
+            TWO,
+            b"qapcert 1\nn 2\ncost 11\nperm 1 2\ns\ns\ns\ns\nb\nend\n",
+            b"18 SplitTooDeep at 7",
+        ),
+        (
+            THREE,
+            b"qapcert 1\nn 3\ncost 24\nperm 1 2 3\nb 9 10 12 0 -2\nend\n",
+            b"19 DualCount at 5",
+        ),
+        (
+            THREE,
+            b"qapcert 1\nn 3\ncost 24\nperm 1 2 3\nb 1000000000000000000000001 10 12 0 -2 -5\nend\n",
+            b"20 DualRange at 5",
+        ),
+        (
+            THREE,
+            b"qapcert 1\nn 3\ncost 24\nperm 1 2 3\nb 9 10 13 0 -2 -5\nend\n",
+            b"21 NotFeasible at 5",
+        ),
+        (
+            THREE,
+            b"qapcert 1\nn 3\ncost 24\nperm 1 2 3\nb 9 10 11 0 -2 -5\nend\n",
+            b"22 BoundTooLow at 5",
+        ),
+        (
+            RING,
+            b"qapcert 1\nn 3\ncost 1\nperm 1 2 3\nb 0 0 0 0 0 0\nend\n",
+            b"22 BoundTooLow at 5",
+        ),
+        (
+            TWO,
+            b"qapcert 1\nn 2\ncost 17\nperm 2 1\ns\ns\nb\ns\nb\nend\n",
+            b"22 BoundTooLow at 7",
+        ),
+        (
+            THREE,
+            b"qapcert 1\nn 3\ncost 23\nperm 1 2 3\nb 9 10 12 0 -2 -5\nend\nx\n",
+            b"15 TrailingText at 7",
+        ),
+        (b"2 0 x", ROOT_BOUND, b"2 NotANumber at 4"),
+    ];
+    for (instance, certificate, want) in cases {
+        let run = run(rt.alloc(), Question::Optimal, instance, Some(certificate));
+        let told = run.errors.strip_prefix(b"refused ".as_slice());
+        let fault = told.and_then(|told| told.strip_suffix(b"\n".as_slice()));
+        assert_eq!(rt; fault, Some(want));
+        assert_eq!(rt; run.output.as_slice(), b"".as_slice());
+        assert_eq!(rt; run.status, 1);
+    }
+}
+
+/// What the words behind the program's name ask for.
+fn asked(alloc: Global, words: &[&str]) -> Result<Option<(Question, bool)>, AllocError> {
+    let mut line = Vec::new(alloc);
+    line.push(String::from_str(alloc, "qapcheck")?)?;
+    for word in words {
+        line.push(String::from_str(alloc, word)?)?;
+    }
+    let request = parse(alloc, &line).ok();
+    Ok(request.map(|request| (request.question, request.files.is_some())))
+}
+
+#[test]
+fn command_lines(rt: HostRuntime) -> Result<(), Fail> {
+    let cases: [(&[&str], Option<(Question, bool)>); 9] = [
+        (&["value"], Some((Question::Value, false))),
+        (&["optimal"], Some((Question::Optimal, false))),
+        (&["value", "a.dat", "a.sln"], Some((Question::Value, true))),
+        (
+            &["optimal", "a.dat", "a.cert"],
+            Some((Question::Optimal, true)),
+        ),
+        (&[], None),
+        (&["best"], None),
+        (&["optimal", "a.dat"], None),
+        (&["optimal", "a.dat", "a.cert", "b"], None),
+        (&["--help"], None),
+    ];
+    for (words, want) in cases {
+        assert_eq!(rt; asked(rt.alloc(), words)?, want, "{words:?}");
+    }
+    Ok(())
 }
