@@ -1,12 +1,13 @@
--- A reader or a writer whose failed calls are counted.
+-- A reader or a writer whose failed calls are counted, and that knows whether all that was written has been flushed.
 use Rattle.std.specs.Prelude.{◌≡◌, ℕ, ◌+◌, ◌-◌, ◌^◌, ◌<◌, ◌==◌, ◌&&◌, nat_lt, min, Bool, true, false, List, length}
 use Rattle.std.specs.declared.result.Result.{Result}
 use Rattle.std.specs.declared.result.Result.TheVariants.{Ok, Err}
 
--- a reader or a writer, and how many of its calls have failed
+-- a reader or a writer, how many of its calls have failed, and whether no write came after the last flush that succeeded
 pub record CountedDevice (T : Type 0) : Type 0 where
   pub inner : T
   pub failures : ℕ
+  pub flushed : Bool
 
 -- `u64::MAX`, where the count stays
 abbrev pub last_count : ℕ
@@ -25,6 +26,11 @@ CountsCall failed old new = new.failures ≡ count_after failed old.failures
 abbrev pub is_failed_write : {E : Type 0} → Result ℕ E → List ℕ → Bool
 is_failed_write (Ok taken) text = (taken == 0) && nat_lt 0 (length text)
 is_failed_write (Err e) text = true
+
+-- whether all is flushed after a flush: where it succeeded, or all was flushed before it
+abbrev pub flushed_after : {T E : Type 0} → Result T E → Bool → Bool
+flushed_after (Ok done) before = true
+flushed_after (Err e) before = before
 
 -- a call failed between the two states: the count rose, or stands at its end
 abbrev pub FailedBetween : {T : Type 0} → CountedDevice T → CountedDevice T → Type 0

@@ -1,7 +1,8 @@
--- What a write that may stop in mid-text does to the bytes that a writer holds.
-use Rattle.std.specs.Prelude.{ℕ, ◌+◌, ◌≡◌, List, ◌++◌, length, take, drop}
+-- What a write that may stop in mid-text does to a writer and the bytes that it holds.
+use Rattle.std.specs.Prelude.{ℕ, ◌+◌, ◌≡◌, true, List, ◌++◌, length, take, drop}
 use Rattle.std.specs.declared.option.Option.{Option}
 use Rattle.std.specs.Io.KnownBytes.{Appends, Keeps}
+use Rattle.qap_io.specs.Counting.{CountedDevice, FailedBetween}
 use Rattle.std.proofs.Common.{sym, ap, subst, ◌∙◌, append_assoc, take-append-drop}
 use Rattle.std.proofs.Math.Seq.{take-append_seam, take-append-add, take-length}
 use Rattle.std.proofs.KnownBytes.{Appends-nil, Appends-kept, Appends-trans}
@@ -9,6 +10,17 @@ use Rattle.std.proofs.KnownBytes.{Appends-nil, Appends-kept, Appends-trans}
 -- known bytes grow by a beginning of the text
 abbrev pub AppendsBeginning : Option (List ℕ) → Option (List ℕ) → List ℕ → Type 0
 AppendsBeginning old new text = (count : ℕ) × Appends old new (take count text)
+
+-- the text has gone out and is flushed, and no call has failed
+pub record Sends {W : Type 0} (contents : W → Option (List ℕ)) (old new : CountedDevice W) (text : List ℕ) : Type 0 where
+  pub bytes : Appends (contents old.inner) (contents new.inner) text
+  pub flushed : new.flushed ≡ true
+  pub kept : new.failures ≡ old.failures
+
+-- a beginning of the text has gone out, and a call has failed
+pub record BreaksOff {W : Type 0} (contents : W → Option (List ℕ)) (old new : CountedDevice W) (text : List ℕ) : Type 0 where
+  pub bytes : AppendsBeginning (contents old.inner) (contents new.inner) text
+  pub failed : FailedBetween old new
 
 -- nothing is a beginning of each text
 pub AppendsBeginning-kept : (old new : Option (List ℕ)) (text : List ℕ) → Keeps old new → AppendsBeginning old new text

@@ -1,21 +1,23 @@
-// A reader or a writer that counts its failures.
-ghost use Rattle.std.specs.Prelude.{◌≡◌, is_err};
+// A reader or a writer that counts its failures, and knows whether all is flushed.
+ghost use Rattle.std.specs.Prelude.{◌≡◌, is_err, true, false};
 ghost use Rattle.std.specs.Io.{ReadsAtMost, WritesAtMost};
 ghost use Rattle.std.specs.Io.KnownBytes.{Keeps, ReadConsumes, WriteAppends};
-ghost use Rattle.qap_io.specs.Counting.{is_failed_write, CountsCall};
+ghost use Rattle.qap_io.specs.Counting.{is_failed_write, flushed_after, CountsCall};
 
 use std::io;
 use std::io::{Read, Write};
 use std::marker::Model;
 
-/// A reader or a writer, and the number of its calls that failed.
+/// A reader or a writer, the number of its calls that failed, and whether all is flushed.
 ///
 /// A read, a write or a flush that answers an error has failed, whatever the error's kind, and so
 /// has a write that takes no bytes of a text that is not empty. At `u64::MAX` the count stays.
+/// All is flushed where no write came after the last flush that succeeded.
 #[derive(Debug, Drop)]
 pub struct Counted<T> {
     inner: T,
     failures: u64,
+    flushed: bool,
 }
 
 impl<T> Model for Counted<T> {
@@ -24,7 +26,7 @@ impl<T> Model for Counted<T> {
 
     ghost Value = { CountedDevice T };
 
-    ghost view = { λ c. record { inner = c.inner; failures = c.failures } };
+    ghost view = { λ c. record { inner = c.inner; failures = c.failures; flushed = c.flushed } };
 
     ghost invariant = { λ c. c.failures ≤ last_count };
 }
@@ -34,8 +36,13 @@ impl<T> Counted<T> {
     pub fn new(inner: T) -> Counted<T>
         ensures inner { result.inner ≡ inner }
         ensures failures { result.failures ≡ 0 }
+        ensures flushed { result.flushed ≡ true }
     {
-        Counted { inner, failures: 0 }
+        Counted {
+            inner,
+            failures: 0,
+            flushed: true,
+        }
     }
 
     /// How many calls have failed, at most `u64::MAX`.
@@ -43,6 +50,13 @@ impl<T> Counted<T> {
         ensures { result ≡ self.now.failures }
     {
         self.failures
+    }
+
+    /// Whether no write came after the last flush that succeeded.
+    pub fn is_flushed(&self) -> bool
+        ensures { result ≡ self.now.flushed }
+    {
+        self.flushed
     }
 
     /// The device inside.
@@ -56,7 +70,11 @@ impl<T> Counted<T> {
     pub fn into_inner(self) -> T
         ensures { result ≡ self.inner }
     {
-        let Counted { inner, failures: _ } = self;
+        let Counted {
+            inner,
+            failures: _,
+            flushed: _,
+        } = self;
         inner
     }
 
@@ -64,6 +82,7 @@ impl<T> Counted<T> {
     fn count(&mut self, failed: bool)
         ensures inner { self.new.inner ≡ self.old.inner }
         ensures failures { CountsCall failed self.old self.new }
+        ensures flushed { self.new.flushed ≡ self.old.flushed }
     {
         if failed {
             self.failures = self.failures.saturating_add(1);
@@ -78,6 +97,7 @@ impl<R: Read> Read for Counted<R> {
         ensures bound { ReadsAtMost result buf.new }
         ensures bytes { ReadConsumes (R.remaining self.old.inner) (R.remaining self.new.inner) result buf.new }
         ensures count { CountsCall (is_err result) self.old self.new }
+        ensures flushed { self.new.flushed ≡ self.old.flushed }
     {
         let result = self.inner.read(buf);
         self.count(result.is_err());
@@ -92,7 +112,9 @@ impl<W: Write> Write for Counted<W> {
         ensures bound { WritesAtMost result buf.now }
         ensures bytes { WriteAppends (W.contents self.old.inner) (W.contents self.new.inner) result buf.now }
         ensures count { CountsCall (is_failed_write result buf.now) self.old self.new }
+        ensures flushed { self.new.flushed ≡ false }
     {
+        self.flushed = false;
         let result = self.inner.write(buf);
         let failed = match &result {
             Ok(taken) => *taken == 0 && !buf.is_empty(),
@@ -105,8 +127,12 @@ impl<W: Write> Write for Counted<W> {
     fn flush(&mut self) -> io::Result<()>
         ensures bytes { Keeps (W.contents self.old.inner) (W.contents self.new.inner) }
         ensures count { CountsCall (is_err result) self.old self.new }
+        ensures flushed { self.new.flushed ≡ flushed_after result self.old.flushed }
     {
         let result = self.inner.flush();
+        if result.is_ok() {
+            self.flushed = true;
+        }
         self.count(result.is_err());
         result
     }

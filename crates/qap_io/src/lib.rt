@@ -1,17 +1,26 @@
-//! Readers and writers whose failures are counted, and what reads from and writes to them.
+//! What every text of the project stands on: readers and writers whose failures are counted, what reads from and writes
+//! to them, decimal digits, and how programs tell refusals and end.
 #![tactic(auto)]
 
 mod counting;
 mod devices;
+mod digits;
 mod failure;
+mod number;
 mod reading;
+mod refusal;
+mod status;
 mod writing;
 
 pub use counting::Counted;
 pub use devices::{FailAt, OneByte};
+pub use digits::{Digits, all_digits, front_digits};
 pub use failure::Device;
+pub use number::{MAX_READ, from_one, negated};
 pub use reading::read_some;
-pub use writing::{finish, put};
+pub use refusal::Refusal;
+pub use status::Status;
+pub use writing::{finish, put, send};
 
 #[cfg(test)]
 mod tests;

@@ -2,7 +2,10 @@
 ghost use Rattle.std.specs.Prelude.{◌≡◌, ◌<◌, ◌≤◌, length, vec_len, IfOk, IfSome, IsErrOf};
 ghost use Rattle.qap_io.specs.Counting.{FailedBetween};
 
-use crate::{Counted, Device, FailAt, OneByte, finish, put, read_some};
+use crate::{
+    Counted, Device, Digits, FailAt, MAX_READ, OneByte, Refusal, Status, all_digits, finish,
+    from_one, front_digits, negated, put, read_some, send,
+};
 use std::alloc::Global;
 use std::io;
 use std::io::{Read, Write};
@@ -96,7 +99,9 @@ fn writes_the_text(rt: HostRuntime) -> Result<(), Fail> {
     let mut writer = Counted::new(OneByte::new(Vec::new(rt.alloc())));
     assert_eq!(rt; put(&mut writer, TEXT), Ok(()));
     assert_eq!(rt; put(&mut writer, b""), Ok(()));
+    assert!(rt; !writer.is_flushed());
     assert_eq!(rt; finish(&mut writer), Ok(()));
+    assert!(rt; writer.is_flushed());
     assert_eq!(rt; writer.failed(), 0);
     assert_eq!(rt; writer.into_inner().into_inner().as_slice(), TEXT);
     Ok(())
@@ -118,7 +123,9 @@ fn counts_a_failed_flush(rt: HostRuntime) -> Result<(), Fail> {
     let mut writer = Counted::new(OneByte::new(FailAt::new(&mut bytes, 10)));
     assert_eq!(rt; put(&mut writer, TEXT), Ok(()));
     assert_eq!(rt; finish(&mut writer), Err(Device));
+    assert!(rt; !writer.is_flushed());
     assert_eq!(rt; finish(&mut writer), Ok(()));
+    assert!(rt; writer.is_flushed());
     assert_eq!(rt; writer.failed(), 1);
     assert_eq!(rt; bytes.as_slice(), TEXT);
     Ok(())
@@ -133,4 +140,125 @@ fn counts_a_write_that_takes_nothing(rt: HostRuntime) -> Result<(), Fail> {
     assert_eq!(rt; put(&mut writer, TEXT), Err(Device));
     assert_eq!(rt; writer.failed(), 1);
     Ok(())
+}
+
+// The calls are the writes of a byte each, and then the flush.
+#[test]
+fn sends_or_stops_at_each_call(rt: HostRuntime) -> Result<(), Fail> {
+    let calls = TEXT.len() + 1;
+    for call in 1..=calls + 1 {
+        let mut writer = Counted::new(OneByte::new(FailAt::new(Vec::new(rt.alloc()), call as u64)));
+        let sent = send(&mut writer, TEXT);
+        assert_eq!(rt; sent, if call <= calls { Err(Device) } else { Ok(()) });
+        assert_eq!(rt; writer.failed(), if call <= calls { 1 } else { 0 });
+        assert_eq!(rt; writer.is_flushed(), call > calls);
+        let written = writer.into_inner().into_inner().into_inner();
+        assert_eq!(rt; written.as_slice(), &TEXT[..TEXT.len().min(call - 1)]);
+    }
+    Ok(())
+}
+
+#[test]
+fn tells_refusals(rt: HostRuntime) -> Result<(), Fail> {
+    let cases: [(u16, &'static str, Option<u64>, &[u8]); 3] = [
+        (1, "Empty", None, b"refused 1 Empty\n"),
+        (13, "BadLine", Some(0), b"refused 13 BadLine at 0\n"),
+        (
+            41,
+            "Unfinished",
+            Some(u64::MAX),
+            b"refused 41 Unfinished at 18446744073709551615\n",
+        ),
+    ];
+    for (number, name, at, line) in cases {
+        let refusal = Refusal { number, name, at };
+        let mut writer = Counted::new(Vec::new(rt.alloc()));
+        assert_eq!(rt; refusal.send(&mut writer), Ok(()));
+        assert!(rt; writer.is_flushed());
+        assert_eq!(rt; writer.into_inner().as_slice(), line);
+    }
+    Ok(())
+}
+
+#[test]
+fn statuses(rt: HostRuntime) {
+    let cases = [
+        (Status::Done, 0),
+        (Status::Refused, 1),
+        (Status::Usage, 2),
+        (Status::OutOfMemory, 3),
+        (Status::Unfinished, 4),
+    ];
+    for (status, code) in cases {
+        assert_eq!(rt; status.code(), code, "{status:?}");
+    }
+}
+
+#[test]
+fn reads_digits(rt: HostRuntime) {
+    let beyond = 1 << 127;
+    let cases: [(&[u8], u128, usize, u128); 9] = [
+        (b"", MAX_READ, 0, 0),
+        (b"-1", MAX_READ, 0, 0),
+        (b"0012 7", MAX_READ, 4, 12),
+        (b"999999999999999999", MAX_READ, 18, 999_999_999_999_999_999),
+        (
+            b"18446744073709551616x",
+            MAX_READ,
+            20,
+            18_446_744_073_709_551_616,
+        ),
+        (b"10000000000000000000000000", MAX_READ, 26, MAX_READ),
+        (
+            b"99999999999999999999999999999999999999999",
+            MAX_READ,
+            41,
+            MAX_READ,
+        ),
+        (
+            b"170141183460469231731687303715884105727",
+            beyond,
+            39,
+            beyond - 1,
+        ),
+        (
+            b"680564733841876926926749214863536422912",
+            beyond,
+            39,
+            beyond,
+        ),
+    ];
+    for (text, bound, count, magnitude) in cases {
+        let digits = front_digits(text, bound);
+        assert_eq!(rt; digits, Digits { count, magnitude });
+        let whole = count > 0 && count == text.len();
+        let number = if whole { Some(magnitude) } else { None };
+        assert_eq!(rt; all_digits(text, bound), number);
+    }
+}
+
+#[test]
+fn messages(rt: HostRuntime) -> Result<(), Fail> {
+    let message = format!(in rt.alloc(); "{}", Device)?;
+    assert_eq!(rt; message.as_str(), "a read or write of the device failed");
+    Ok(())
+}
+
+#[test]
+fn signs_and_counts(rt: HostRuntime) {
+    assert_eq!(rt;
+        (negated(0), negated(7), negated(1 << 127)),
+        (0, -7, i128::MIN)
+    );
+    let cases = [
+        (0, 3, None),
+        (1, 3, Some(0)),
+        (3, 3, Some(2)),
+        (4, 3, None),
+        (65_536, 65_536, Some(u16::MAX)),
+        (i128::MIN, 3, None),
+    ];
+    for (number, count, want) in cases {
+        assert_eq!(rt; from_one(number, count), want);
+    }
 }

@@ -1,8 +1,9 @@
 // Writing a whole text.
-ghost use Rattle.std.specs.Prelude.{is_err, OnOk, OnErr};
+ghost use Rattle.std.specs.Prelude.{◌≡◌, is_err, map, true, OnOk, OnErr, MatchResult};
+ghost use Rattle.std.specs.List.{concat};
 ghost use Rattle.std.specs.Io.KnownBytes.{Appends, Keeps};
 ghost use Rattle.qap_io.specs.Counting.{CountsCall, FailedBetween};
-ghost use Rattle.qap_io.specs.Writing.{AppendsBeginning};
+ghost use Rattle.qap_io.specs.Writing.{AppendsBeginning, Sends, BreaksOff};
 
 use crate::{Counted, Device};
 use std::io::Write;
@@ -27,11 +28,37 @@ pub fn put<W: Write>(writer: &mut Counted<W>, text: &[u8]) -> Result<(), Device>
     Ok(())
 }
 
-/// Flushes the writer, once.
+/// Writes texts, one after another. It stops at the first write that fails: a beginning of what the texts are together has
+/// gone out then.
+pub(crate) fn put_all<W: Write>(writer: &mut Counted<W>, texts: &[&[u8]]) -> Result<(), Device>
+    ensures whole { OnOk result (Appends (W.contents writer.old.inner) (W.contents writer.new.inner) (concat (map (λ t. t.now) texts.now))) }
+    ensures kept { OnOk result (writer.new.failures ≡ writer.old.failures) }
+
+    ensures beginning { OnErr result (AppendsBeginning (W.contents writer.old.inner) (W.contents writer.new.inner) (concat (map (λ t. t.now) texts.now))) }
+    ensures failed { OnErr result (FailedBetween writer.old writer.new) }
+{
+    for i in 0..texts.len() {
+        put(writer, texts[i])?;
+    }
+    Ok(())
+}
+
+/// Flushes the writer, once. Where that succeeds, all that was written is flushed.
 pub fn finish<W: Write>(writer: &mut Counted<W>) -> Result<(), Device>
     ensures bytes { Keeps (W.contents writer.old.inner) (W.contents writer.new.inner) }
+    ensures flushed { OnOk result (writer.new.flushed ≡ true) }
     ensures count { CountsCall (is_err result) writer.old writer.new }
     ensures failed { OnErr result (FailedBetween writer.old writer.new) }
 {
     writer.flush().map_err(|_| Device)
+}
+
+/// Writes the whole text, and flushes the writer. Where that fails, a beginning of the text has gone out.
+pub fn send<W: Write>(writer: &mut Counted<W>, text: &[u8]) -> Result<(), Device>
+    ensures { MatchResult result
+        (λ _. Sends W.contents writer.old writer.new text.now)
+        (λ _. BreaksOff W.contents writer.old writer.new text.now) }
+{
+    put(writer, text)?;
+    finish(writer)
 }

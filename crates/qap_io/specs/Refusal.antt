@@ -1,0 +1,17 @@
+-- Refusals as programs tell them.
+use Rattle.std.specs.Prelude.{ℕ, List, [], ◌++◌, Option, Some, None, codes}
+use Rattle.std.specs.Fmt.{decimal}
+
+-- a refusal's number, its name, and the place, the line or the count that it carries
+pub record RefusalText : Type 0 where
+  pub number : ℕ
+  pub name : List ℕ
+  pub at : Option ℕ
+
+abbrev pub at_text : Option ℕ → List ℕ
+at_text None = []
+at_text (Some k) = codes " at " ++ decimal k
+
+-- the line that tells a refusal
+abbrev pub refusal_line : RefusalText → List ℕ
+refusal_line r = codes "refused " ++ decimal r.number ++ codes " " ++ r.name ++ at_text r.at ++ codes "\n"

@@ -1,0 +1,34 @@
+// How programs end.
+
+/// How a program ends.
+#[derive(Clone, Copy, Debug, PartialEq, Eq)]
+pub enum Status {
+    /// It has done what was asked.
+    Done,
+    /// It has refused an input, or a device has failed.
+    Refused,
+    /// The command line asks for nothing that there is.
+    Usage,
+    /// There is no memory left.
+    OutOfMemory,
+    /// It has stopped before its end.
+    Unfinished,
+}
+
+impl Status {
+    ghost use Rattle.std.specs.Prelude.{◌≡◌};
+    ghost use Rattle.qap_io.specs.Status.{exit_code};
+
+    /// The exit status, from 0 to 4.
+    pub fn code(self) -> u8
+        ensures { result ≡ exit_code self }
+    {
+        match self {
+            Status::Done => 0,
+            Status::Refused => 1,
+            Status::Usage => 2,
+            Status::OutOfMemory => 3,
+            Status::Unfinished => 4,
+        }
+    }
+}
