@@ -1,6 +1,7 @@
 pub mod Equality
 pub mod Field
 pub mod FieldValue
+pub mod Matching
 pub mod Pattern
 pub mod PatternValue
 pub mod Template

@@ -1,9 +1,12 @@
+//! One field of a tuple, and its limits.
+
 ghost use Rattle.std.specs.Prelude.{◌≡◌, ◌↔◌, IsTrue, IfOk};
+ghost use Rattle.std.specs.Option.{option_copied};
 ghost use Rattle.std.specs.Cmp.{on_equiv, on_per};
 ghost use Rattle.tuple_match.specs.Equality.{field_eq, field_eq_equiv, field_eq_per};
 ghost use Rattle.tuple_match.specs.Field.{field_value};
 ghost use Rattle.tuple_match.specs.Word.{IsWord, IsWordByte};
-ghost use Rattle.tuple_match.specs.FieldValue.{IsField};
+ghost use Rattle.tuple_match.specs.FieldValue.{IsField, number_of, numbers_of, word_of};
 
 use std::alloc::AllocError;
 
@@ -33,6 +36,36 @@ impl Field {
             Field::Int(_) => true,
             Field::Word(word) => is_word(word.as_bytes()),
             Field::List(numbers) => numbers.len() <= LONGEST_LIST,
+        }
+    }
+
+    /// The number that this field is, or `None` where it is none.
+    pub fn as_int(&self) -> Option<i128>
+        ensures { result ≡ number_of (field_value self.now) }
+    {
+        match self {
+            Field::Int(number) => Some(*number),
+            Field::Word(_) | Field::List(_) => None,
+        }
+    }
+
+    /// The text of the word that this field is, or `None` where it is none.
+    pub fn as_word(&self) -> Option<&str>
+        ensures { option_copied result ≡ word_of (field_value self.now) }
+    {
+        match self {
+            Field::Word(word) => Some(word.as_str()),
+            Field::Int(_) | Field::List(_) => None,
+        }
+    }
+
+    /// The numbers of the list that this field is, or `None` where it is none.
+    pub fn as_list(&self) -> Option<&[i128]>
+        ensures { option_copied result ≡ numbers_of (field_value self.now) }
+    {
+        match self {
+            Field::List(numbers) => Some(numbers.as_slice()),
+            Field::Int(_) | Field::Word(_) => None,
         }
     }
 }

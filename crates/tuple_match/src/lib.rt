@@ -12,7 +12,7 @@ mod templates;
 mod tuples;
 
 pub use fields::Field;
-pub use matching::matches;
+pub use matching::{does_match_law, matches};
 pub use refusal::MatchError;
 pub use templates::{Pattern, Template};
 pub use tuples::Tuple;

@@ -1,7 +1,11 @@
-ghost use Rattle.std.specs.Prelude.{◌≡◌, ◌↔◌, IsTrue};
+//! Whether a tuple is one that a template asks for.
+
+ghost use Rattle.std.specs.Prelude.{◌≡◌, ◌↔◌, IsTrue, List};
+ghost use Rattle.tuple_match.specs.FieldValue.{FieldValue};
+ghost use Rattle.tuple_match.specs.Matching.{does_match};
 ghost use Rattle.tuple_match.specs.Field.{fields_value};
 ghost use Rattle.tuple_match.specs.Pattern.{patterns_value};
-ghost use Rattle.tuple_match.specs.PatternValue.{Matches};
+ghost use Rattle.tuple_match.specs.PatternValue.{PatternValue, Matches};
 
 use crate::fields::Field;
 use crate::templates::{Pattern, Template};
@@ -11,10 +15,17 @@ use crate::tuples::Tuple;
 /// actual equals the field, in type and value, and a formal has the field's type (Gelernter 1985).
 /// Takes no memory.
 pub fn matches(template: &Template, tuple: &Tuple) -> bool
-    ensures { IsTrue result ↔ Matches template.now tuple.now }
+    ensures meaning { IsTrue result ↔ Matches template.now tuple.now }
+    ensures test { result ≡ does_match template.now tuple.now }
 {
     rows_match(template.patterns(), tuple.fields())
 }
+
+/// The test `does_match` by which contracts count and keep tuples answers yes just where template and tuple match.
+pub fn does_match_law()
+    ensures { (template : List PatternValue) (tuple : List FieldValue) →
+        IsTrue (does_match template tuple) ↔ Matches template tuple }
+{}
 
 fn rows_match(patterns: &[Pattern], fields: &[Field]) -> bool
     ensures { IsTrue result ↔ Matches (patterns_value patterns.now) (fields_value fields.now) }

@@ -1,9 +1,11 @@
+//! Why fields are no tuple, or patterns no template.
+
 use thiserror::Error;
 
 /// Why a row of fields is no tuple, or a row of patterns no template.
 #[derive(Clone, Copy, Debug, PartialEq, Eq, Error)]
 pub enum MatchError {
     /// Refusal 30: there are not 1 to 8 of them, or a word or a list in one of them is outside its limits.
-    #[error("30 BadTuple")]
+    #[error("there are not 1 to 8 parts, or one of them is outside its limits")]
     BadTuple,
 }

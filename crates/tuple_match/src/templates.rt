@@ -1,3 +1,5 @@
+//! Templates: rows of patterns, each an actual or a formal.
+
 ghost use Rattle.std.specs.Prelude.{◌≡◌, ◌↔◌, IsTrue, IsOk, IfOk, IfErr, All};
 ghost use Rattle.tuple_match.specs.Field.{field_value};
 ghost use Rattle.tuple_match.specs.Pattern.{pattern_value, patterns_value};

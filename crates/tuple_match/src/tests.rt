@@ -165,8 +165,37 @@ fn copies_a_tuple(rt: HostRuntime) -> Result<(), Fail> {
 }
 
 #[test]
-fn names_the_refusal(rt: HostRuntime) -> Result<(), Fail> {
-    let name = format!(in rt.alloc(); "{}", MatchError::BadTuple)?;
-    assert_eq!(rt; name.as_str(), "30 BadTuple");
+fn tells_the_refusal(rt: HostRuntime) -> Result<(), Fail> {
+    let text = format!(in rt.alloc(); "{}", MatchError::BadTuple)?;
+    let want = "there are not 1 to 8 parts, or one of them is outside its limits";
+    assert_eq!(rt; text.as_str(), want);
+    Ok(())
+}
+
+#[test]
+fn lends_what_a_field_holds(rt: HostRuntime) -> Result<(), Fail> {
+    let fields = fields(rt.alloc(), &[Int(-5), JOB, List(&[3, 1])])?;
+    let numbers: [i128; 2] = [3, 1];
+    for (row, field) in fields.iter().enumerate() {
+        assert_eq!(rt;
+            field.as_int(),
+            if row == 0 { Some(-5) } else { None },
+            "row {row}"
+        );
+        assert_eq!(rt;
+            field.as_word(),
+            if row == 1 { Some("job") } else { None },
+            "row {row}"
+        );
+        assert_eq!(rt;
+            field.as_list(),
+            if row == 2 {
+                Some(numbers.as_slice())
+            } else {
+                None
+            },
+            "row {row}"
+        );
+    }
     Ok(())
 }

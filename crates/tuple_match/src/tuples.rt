@@ -1,3 +1,5 @@
+//! Tuples: rows of fields within their limits.
+
 ghost use Rattle.std.specs.Prelude.{◌≡◌, ◌↔◌, IsTrue, IsOk, IfOk, IfErr, All};
 ghost use Rattle.tuple_match.specs.FieldValue.{IsField};
 ghost use Rattle.tuple_match.specs.Field.{field_value, fields_value};
