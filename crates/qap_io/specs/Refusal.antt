@@ -15,3 +15,10 @@ at_text (Some k) = codes " at " ++ decimal k
 -- the line that tells a refusal
 abbrev pub refusal_line : RefusalText → List ℕ
 refusal_line r = codes "refused " ++ decimal r.number ++ codes " " ++ r.name ++ at_text r.at ++ codes "\n"
+
+-- want of memory, and a failed device, which every program and crate refuses by the same number and name
+abbrev pub memory_refusal : RefusalText
+memory_refusal = record { number = 50; name = codes "OutOfMemory"; at = None }
+
+abbrev pub device_refusal : RefusalText
+device_refusal = record { number = 51; name = codes "Device"; at = None }

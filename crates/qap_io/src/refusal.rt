@@ -3,7 +3,7 @@ ghost use Rattle.std.specs.Prelude.{◌≡◌, ◌++◌, OnOk, OnErr, MatchResul
 ghost use Rattle.std.specs.List.{concat};
 ghost use Rattle.std.specs.Io.KnownBytes.{Appends};
 ghost use Rattle.qap_io.specs.Counting.{FailedBetween};
-ghost use Rattle.qap_io.specs.Refusal.{refusal_line};
+ghost use Rattle.qap_io.specs.Refusal.{refusal_line, memory_refusal, device_refusal};
 ghost use Rattle.qap_io.specs.Writing.{AppendsBeginning, Sends, BreaksOff};
 
 use crate::writing::put_all;
@@ -29,6 +29,42 @@ impl Model for Refusal {
 }
 
 impl Refusal {
+    /// A refusal of this number and name, which carries nothing.
+    pub fn new(number: u16, name: &'static str) -> Refusal
+        ensures { result ≡ record { number = number; name = name.now; at = None } }
+    {
+        Refusal {
+            number,
+            name,
+            at: None,
+        }
+    }
+
+    /// A refusal of this number and name, which carries a place, a line or a count.
+    pub fn at(number: u16, name: &'static str, at: u64) -> Refusal
+        ensures { result ≡ record { number = number; name = name.now; at = Some at } }
+    {
+        Refusal {
+            number,
+            name,
+            at: Some(at),
+        }
+    }
+
+    /// Want of memory.
+    pub fn out_of_memory() -> Refusal
+        ensures { result ≡ memory_refusal }
+    {
+        Refusal::new(50, "OutOfMemory")
+    }
+
+    /// A failed device.
+    pub fn device() -> Refusal
+        ensures { result ≡ device_refusal }
+    {
+        Refusal::new(51, "Device")
+    }
+
     /// Writes the line of the refusal: `refused`, its number and its name, and `at` with what it carries; and flushes the
     /// writer. Where that fails, a beginning of the line has gone out.
     pub fn send<W: Write>(&self, writer: &mut Counted<W>) -> Result<(), Device>

@@ -160,18 +160,17 @@ fn sends_or_stops_at_each_call(rt: HostRuntime) -> Result<(), Fail> {
 
 #[test]
 fn tells_refusals(rt: HostRuntime) -> Result<(), Fail> {
-    let cases: [(u16, &'static str, Option<u64>, &[u8]); 3] = [
-        (1, "Empty", None, b"refused 1 Empty\n"),
-        (13, "BadLine", Some(0), b"refused 13 BadLine at 0\n"),
+    let cases: [(Refusal, &[u8]); 5] = [
+        (Refusal::new(1, "Empty"), b"refused 1 Empty\n"),
+        (Refusal::at(13, "BadLine", 0), b"refused 13 BadLine at 0\n"),
         (
-            41,
-            "Unfinished",
-            Some(u64::MAX),
+            Refusal::at(41, "Unfinished", u64::MAX),
             b"refused 41 Unfinished at 18446744073709551615\n",
         ),
+        (Refusal::out_of_memory(), b"refused 50 OutOfMemory\n"),
+        (Refusal::device(), b"refused 51 Device\n"),
     ];
-    for (number, name, at, line) in cases {
-        let refusal = Refusal { number, name, at };
+    for (refusal, line) in cases {
         let mut writer = Counted::new(Vec::new(rt.alloc()));
         assert_eq!(rt; refusal.send(&mut writer), Ok(()));
         assert!(rt; writer.is_flushed());

@@ -36,7 +36,7 @@ IsInstanceText-unique text I J r s a b =
       a.follows ∙ ap (λ n. drop n text) entries.1 ∙ sym b.follows,
     )
 
-size_right : (text : List ℕ) (start stop n : ℕ) (e : TextError) → 0 < n → n ≤ 256 → IsNumberAt text 0 start stop (pos n) → IsSizeFault text e → ⊥
+pub size_right : (text : List ℕ) (start stop n : ℕ) (e : TextError) → 0 < n → n ≤ 256 → IsNumberAt text 0 start stop (pos n) → IsSizeFault text e → ⊥
 size_right text start stop n Empty positive small number fault = no_word-word text 0 start stop fault number.word
 size_right text start stop n (NotANumber place) positive small number fault = no_number-number text 0 place start stop (pos n) fault number
 size_right text start stop n (SizeZero place) positive small number fault =
@@ -49,7 +49,7 @@ size_right text start stop n (SizeTooLarge place) positive small number fault =
     omega (arith, ints)
 size_right text start stop n _ positive small number fault = absurd fault
 
-entry_right : (text : List ℕ) (from start stop : ℕ) (z : ℤ) (e : TextError) → InRange z → IsNumberAt text from start stop z → IsEntryFault text from e → ⊥
+pub entry_right : (text : List ℕ) (from start stop : ℕ) (z : ℤ) (e : TextError) → InRange z → IsNumberAt text from start stop z → IsEntryFault text from e → ⊥
 entry_right text from start stop z CountDiffers in_range number fault = no_word-word text from start stop fault number.word
 entry_right text from start stop z (NotANumber place) in_range number fault = no_number-number text from place start stop z fault number
 entry_right text from start stop z (EntryRange place) in_range number fault =

@@ -1,4 +1,4 @@
-pub mod Digits
+pub mod FirstFaults
 pub mod InstanceReadings
 pub mod Locations
 pub mod OneReading

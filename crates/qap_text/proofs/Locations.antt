@@ -5,7 +5,8 @@ use Rattle.std.proofs.lemmas.Bool.{cases_lt}
 use Rattle.std.proofs.lemmas.List.{get_or_append_left, get_or_at, map-append}
 use Rattle.qap_cost.specs.Bijection.{IsPerm}
 use Rattle.qap_text.specs.Spelling.{IsNumberAt, Spells}
-use Rattle.qap_text.specs.SolutionText.{from_one, AreLocations}
+use Rattle.qap_io.specs.Number.{from_one}
+use Rattle.qap_text.specs.SolutionText.{AreLocations}
 use Rattle.qap_text.proofs.Spellings.{Spells-append}
 
 -- what reading locations has found so far

@@ -1,6 +1,6 @@
-pub mod Held
 pub mod InstanceText
 pub mod Number
+pub mod Refusal
 pub mod SolutionText
 pub mod Spelling
 pub mod Whole

@@ -1,14 +1,11 @@
 -- Texts of solutions, as the library QAPLIB (Burkard, Karisch and Rendl 1997) writes them, and their faults.
-use Rattle.std.specs.Prelude.{◌≡◌, ◌≢◌, ℕ, ◌+◌, ◌^◌, ◌<◌, ◌≤◌, ◌⊎◌, List, [], ◌∷◌, length, map, ℤ, pos, ◌≤ℤ◌, ◌<ℤ◌, unsigned_abs, slice_index}
+use Rattle.std.specs.Prelude.{◌≡◌, ◌≢◌, ℕ, ◌+◌, ◌^◌, ◌<◌, ◌≤◌, ◌⊎◌, List, [], ◌∷◌, length, ℤ, pos, ◌≤ℤ◌, ◌<ℤ◌, unsigned_abs, slice_index}
 use Rattle.qap_cost.specs.Bijection.{IsPerm}
+use Rattle.qap_io.specs.Number.{from_one}
 use Rattle.qap_text.specs.Word.{HasNoWord}
 use Rattle.qap_text.specs.Spelling.{IsNumberAt, IsNoNumberAt, Spells}
 use Rattle.qap_text.specs.declared.error.TextError.{TextError}
 use Rattle.qap_text.specs.declared.error.TextError.TheVariants.{Empty, NotANumber, SizeDiffers, ValueRange, NotPermutation, CountDiffers}
-
--- locations as texts count them, from 1 on
-abbrev pub from_one : List ℕ → List ℤ
-from_one p = map (λ k. pos (k + 1)) p
 
 -- the text spells the size, the objective value, and each facility's location; what follows means nothing
 pub record IsSolutionText (text : List ℕ) (n : ℕ) (value : ℤ) (p : List ℕ) : Type 0 where

@@ -1,5 +1,7 @@
-//! Why a text is no instance, or no solution.
+//! Why a text is no instance, or no solution, and how that is told.
 
+use qap_io::{Device, Refusal};
+use std::alloc::AllocError;
 use thiserror::Error;
 
 /// Why a text is refused. A place is the number of bytes before the word at fault.
@@ -41,4 +43,51 @@ pub enum TextError {
     /// The reader or the writer failed.
     #[error("the reader or the writer failed")]
     Device,
+}
+
+impl TextError {
+    ghost use Rattle.std.specs.Prelude.{◌≡◌};
+    ghost use Rattle.qap_text.specs.Refusal.{text_refusal};
+
+    /// The refusal that the fault is told as: its number, its name, and its place where it has one.
+    pub fn refusal(self) -> Refusal
+        ensures { result ≡ text_refusal self }
+    {
+        match self {
+            TextError::Empty => Refusal::new(1, "Empty"),
+            TextError::NotANumber(place) => Refusal::at(2, "NotANumber", place as u64),
+            TextError::SizeZero(place) => Refusal::at(3, "SizeZero", place as u64),
+            TextError::SizeTooLarge(place) => Refusal::at(4, "SizeTooLarge", place as u64),
+            TextError::EntryRange(place) => Refusal::at(5, "EntryRange", place as u64),
+            TextError::CountDiffers => Refusal::new(6, "CountDiffers"),
+            TextError::SizeDiffers(place) => Refusal::at(8, "SizeDiffers", place as u64),
+            TextError::NotPermutation(place) => Refusal::at(9, "NotPermutation", place as u64),
+            TextError::ValueRange(place) => Refusal::at(10, "ValueRange", place as u64),
+            TextError::InputTooLong => Refusal::new(24, "InputTooLong"),
+            TextError::OutOfMemory => Refusal::out_of_memory(),
+            TextError::Device => Refusal::device(),
+        }
+    }
+}
+
+impl From<Device> for TextError {
+    ghost use Rattle.std.specs.Prelude.{◌≡◌};
+    ghost use Rattle.qap_text.specs.declared.error.TextError.TheVariants.{Device as FailedDevice};
+
+    ghost from_gives = { λ _ f. f ≡ FailedDevice };
+
+    fn from(_error: Device) -> TextError {
+        TextError::Device
+    }
+}
+
+impl From<AllocError> for TextError {
+    ghost use Rattle.std.specs.Prelude.{◌≡◌};
+    ghost use Rattle.qap_text.specs.declared.error.TextError.TheVariants.{OutOfMemory};
+
+    ghost from_gives = { λ _ f. f ≡ OutOfMemory };
+
+    fn from(_error: AllocError) -> TextError {
+        TextError::OutOfMemory
+    }
 }

@@ -85,8 +85,10 @@ fn read_entries(
     Ok((entries, stop))
 }
 
-/// A text is that of one instance with one rest at most, and a text of an instance has no fault.
+/// A text is that of one instance with one rest at most, a text of an instance has no fault, and there is only one first
+/// fault.
 pub fn instance_text_law()
     ensures one { (text : List ℕ) (I J : Problem) (r s : List ℕ) → IsInstanceText text I r → IsInstanceText text J s → (I ≡ J) × (r ≡ s) }
     ensures faultless { (text : List ℕ) (I : Problem) (r : List ℕ) (e : TextError) → IsInstanceText text I r → IsInstanceFault text e → ⊥ }
+    ensures one_fault { (text : List ℕ) (e f : TextError) → IsInstanceFault text e → IsInstanceFault text f → e ≡ f }
 {}

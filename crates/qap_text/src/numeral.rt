@@ -1,13 +1,14 @@
 //! The numbers that the words of a text spell.
 
 ghost use Rattle.std.specs.Prelude.{◌≡◌, ◌≤◌, length, ℕ, ℤ, MatchOption, MatchResult};
-ghost use Rattle.qap_text.specs.Held.{held};
+ghost use Rattle.qap_io.specs.Number.{held};
 ghost use Rattle.qap_text.specs.Word.{HasNoWord};
 ghost use Rattle.qap_text.specs.Spelling.{IsNumberAt, IsNoNumberAt};
 
 use crate::TextError;
 use crate::number::parse;
 use crate::word::next_word;
+use qap_io::MAX_READ;
 
 /// A number in a text: the place of its word, the place behind it, and its value held to -10^25 to 10^25.
 #[derive(Clone, Copy)]
@@ -23,7 +24,7 @@ pub fn next_number(text: &[u8], from: usize) -> Result<Option<Numeral>, TextErro
     ensures { MatchResult result
         (λ found. MatchOption found
         (HasNoWord text.now from)
-        (λ m. (z : ℤ) × IsNumberAt text.now from m.start m.stop z × (m.value ≡ held z)))
+        (λ m. (z : ℤ) × IsNumberAt text.now from m.start m.stop z × (m.value ≡ held MAX_READ z)))
         (λ e. (start : ℕ) × (e ≡ TextError.NotANumber start) × IsNoNumberAt text.now from start) }
 {
     let Some(word) = next_word(text, from) else {

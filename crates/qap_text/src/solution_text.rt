@@ -1,6 +1,7 @@
 //! Texts of solutions.
 
 ghost use Rattle.std.specs.Prelude.{◌≡◌, ◌≢◌, ◌<◌, ◌≤◌, ◌+◌, ◌^◌, ◌⊎◌, List, length, ℕ, ℤ, pos, MatchResult, unsigned_abs, slice_index};
+ghost use Rattle.qap_io.specs.Number.{from_one as as_texts_count};
 ghost use Rattle.qap_text.specs.Spelling.{IsNumberAt, Spells};
 ghost use Rattle.qap_text.specs.SolutionText.{
   IsSolutionText,
@@ -10,12 +11,12 @@ ghost use Rattle.qap_text.specs.SolutionText.{
   IsLocationFault,
   HasLocationFault,
   AreLocations,
-  from_one,
 };
 
 use crate::TextError;
 use crate::numeral::next_number;
 use qap_cost::Perm;
+use qap_io::from_one;
 use std::alloc::Global;
 
 /// The greatest absolute value that a solution may state.
@@ -91,10 +92,9 @@ fn read_location(
     let Some(numeral) = next_number(text, from)? else {
         return Err(TextError::CountDiffers);
     };
-    if numeral.value < 1 || numeral.value > n as i128 {
+    let Some(location) = from_one(numeral.value, n) else {
         return Err(TextError::NotPermutation(numeral.start));
-    }
-    let location = (numeral.value - 1) as u16;
+    };
     if earlier.contains(&location) {
         return Err(TextError::NotPermutation(numeral.start));
     }
@@ -106,7 +106,7 @@ fn read_locations(alloc: Global, text: &[u8], from: usize, n: usize) -> Result<V
     requires place { from ≤ length text.now }
     requires small { n ≤ 256 }
     ensures { MatchResult result
-        (λ v. AreLocations n v.items × (length v.items ≡ n) × (stop : ℕ) × Spells text.now from (from_one v.items) stop)
+        (λ v. AreLocations n v.items × (length v.items ≡ n) × (stop : ℕ) × Spells text.now from (as_texts_count v.items) stop)
         (λ e. (e ≡ TextError.OutOfMemory) ⊎ HasLocationFault text.now from n e) }
 {
     let mut locations = Vec::with_capacity(alloc, n).map_err(|_| TextError::OutOfMemory)?;
@@ -121,8 +121,9 @@ fn read_locations(alloc: Global, text: &[u8], from: usize, n: usize) -> Result<V
     Ok(locations)
 }
 
-/// A text is that of one solution of a size at most, and a text of a solution has no fault.
+/// A text is that of one solution of a size at most, a text of a solution has no fault, and there is only one first fault.
 pub fn solution_text_law()
     ensures one { (text : List ℕ) (n : ℕ) (c d : ℤ) (p q : List ℕ) → IsSolutionText text n c p → IsSolutionText text n d q → (c ≡ d) × (p ≡ q) }
     ensures faultless { (text : List ℕ) (n : ℕ) (c : ℤ) (p : List ℕ) (e : TextError) → IsSolutionText text n c p → IsSolutionFault text n e → ⊥ }
+    ensures one_fault { (text : List ℕ) (n : ℕ) (e f : TextError) → IsSolutionFault text n e → IsSolutionFault text n f → e ≡ f }
 {}

@@ -89,21 +89,64 @@ fn tells_the_first_fault(rt: HostRuntime) {
 }
 
 #[test]
+fn messages(rt: HostRuntime) -> Result<(), Fail> {
+    let cases: [(TextError, &str); 12] = [
+        (TextError::Empty, "the text has no word"),
+        (TextError::NotANumber(7), "the word at 7 is no whole number"),
+        (TextError::SizeZero(0), "the size at 0 is not positive"),
+        (TextError::SizeTooLarge(1), "the size at 1 is above 256"),
+        (
+            TextError::EntryRange(2),
+            "the entry at 2 lies outside -10^9 to 10^9",
+        ),
+        (TextError::CountDiffers, "the text has too few numbers"),
+        (
+            TextError::SizeDiffers(3),
+            "the size at 3 is not the instance's",
+        ),
+        (
+            TextError::NotPermutation(4),
+            "the location at 4 is none of the size's, or stands twice",
+        ),
+        (
+            TextError::ValueRange(5),
+            "the value at 5 lies outside -10^24 to 10^24",
+        ),
+        (TextError::InputTooLong, "the input is too long"),
+        (TextError::OutOfMemory, "out of memory"),
+        (TextError::Device, "the reader or the writer failed"),
+    ];
+    for (error, want) in cases {
+        let message = format!(in rt.alloc(); "{error}")?;
+        assert_eq!(rt; message.as_str(), want);
+    }
+    Ok(())
+}
+
+#[test]
 fn reads_all_within_the_limit(rt: HostRuntime) -> Result<(), Fail> {
     let alloc = rt.alloc();
     let text = b"some bytes".as_slice();
     let mut whole = Counted::new(OneByte::new(text));
     assert_eq!(rt; read_all(alloc, &mut whole, 10)?.as_slice(), text);
+    assert!(rt; whole.into_inner().into_inner().is_empty());
     let mut long = Counted::new(text);
     assert_eq!(rt;
         read_all(alloc, &mut long, 9).err(),
         Some(TextError::InputTooLong)
     );
-    let mut failing = Counted::new(FailAt::new(OneByte::new(text), 4));
-    assert_eq!(rt;
-        read_all(alloc, &mut failing, 10).err(),
-        Some(TextError::Device)
-    );
-    assert_eq!(rt; (whole.failed(), failing.failed()), (0, 1));
+    assert_eq!(rt; long.failed(), 0);
     Ok(())
+}
+
+// The calls are a read of each byte, and the read that tells the end.
+#[test]
+fn fails_at_each_read(rt: HostRuntime) {
+    let text = b"some bytes".as_slice();
+    for call in 1..=text.len() + 1 {
+        let mut reader = Counted::new(OneByte::new(FailAt::new(text, call as u64)));
+        let read = read_all(rt.alloc(), &mut reader, 10).err();
+        assert_eq!(rt; read, Some(TextError::Device), "at call {call}");
+        assert_eq!(rt; reader.failed(), 1);
+    }
 }

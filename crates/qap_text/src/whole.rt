@@ -1,7 +1,7 @@
 //! A reader's bytes as one text.
 
-ghost use Rattle.std.specs.Prelude.{◌≡◌, ◌≤◌, IfSome, MatchResult, vec_len};
-ghost use Rattle.qap_text.specs.Whole.{IsReadFault};
+ghost use Rattle.std.specs.Prelude.{MatchResult};
+ghost use Rattle.qap_text.specs.Whole.{ReadsWhole, IsReadFault};
 
 use crate::TextError;
 use qap_io::{Counted, read_some};
@@ -11,28 +11,26 @@ use std::io::Read;
 /// How many bytes are asked for at once.
 const PIECE: usize = 32_768;
 
-/// Reads all the bytes that a reader has left, where they are at most `limit`.
+/// Reads all the bytes that a reader has left, where they are at most `limit`. It stops at the first read that fails.
 pub fn read_all<R: Read>(
     alloc: Global,
     reader: &mut Counted<R>,
     limit: usize,
 ) -> Result<Vec<u8>, TextError>
     ensures { MatchResult result
-        (λ v. IfSome (R.remaining reader.old.inner) (λ bytes. v.items ≡ bytes) × (vec_len v ≤ limit))
-        (IsReadFault (R.remaining reader.old.inner) limit reader.old reader.new) }
+        (λ v. ReadsWhole R.remaining limit reader.old reader.new v.items)
+        (IsReadFault R.remaining limit reader.old reader.new) }
 {
     let mut bytes = Vec::new(alloc);
     let mut piece = [0; PIECE];
     loop {
-        let count = read_some(reader, &mut piece).map_err(|_| TextError::Device)?;
+        let count = read_some(reader, &mut piece)?;
         if count == 0 {
             return Ok(bytes);
         }
         if limit - bytes.len() < count {
             return Err(TextError::InputTooLong);
         }
-        bytes
-            .extend_from_slice(&piece[..count])
-            .map_err(|_| TextError::OutOfMemory)?;
+        bytes.extend_from_slice(&piece[..count])?;
     }
 }
