@@ -1,0 +1,30 @@
+use Rattle.std.proofs.Common.{◌≡◌, ℕ, zero, suc, ◌<◌, true, false, List, [], ◌∷◌, ◌++◌, length, ap, ◌∙◌, sym, refl, eqb, arith}
+use Rattle.std.specs.Prelude.{not, ◌≢◌, All}
+use Rattle.std.proofs.Math.ListN.{set}
+use Rattle.std.specs.List.{list_any, HoldsAt, AllWithin}
+use Rattle.std.proofs.lemmas.Bool.{cond-true, cond-false, eq-eqb, ne_eqb}
+use Rattle.std.proofs.lemmas.List.Elements.{All-head, All-tail}
+use Rattle.tuple_space.specs.declared.hold.Hold.{Hold}
+use Rattle.tuple_space.specs.Holds.{holds_with}
+
+-- there is some hold where the list isn't empty
+pub some_hold : (holds : List Hold) → list_any (λ (h : Hold). true) holds ≡ not (eqb (length holds) 0)
+some_hold [] = refl
+some_hold (h ∷ hs) =
+    let e : eqb (length (h ∷ hs)) 0 ≡ false = ne_eqb _ _ (λ q. absurd (omega arith)) in
+    sym (ap not e)
+
+-- a hold written in the place of its holder's first one
+pub with_found : (hold : Hold) (rows : List Hold) (i : ℕ) → i < length rows → HoldsAt (λ h. h.by ≡ hold.by) rows i → AllWithin (λ h. h.by ≢ hold.by) rows 0 i → set rows i hold ≡ holds_with hold rows
+with_found hold [] i within here before = absurd (omega arith)
+with_found hold (x ∷ xs) zero within here before = sym (cond-true (eqb x.by hold.by) _ _ (eq-eqb _ _ (here x)))
+with_found hold (x ∷ xs) (suc i) within here before =
+    ap (λ l. x ∷ l) (with_found hold xs i (omega arith) (λ d. here d) (λ k d from to. before (suc k) d (omega arith) (omega arith)))
+    ∙ sym (cond-false (eqb x.by hold.by) _ _ (ne_eqb _ _ (before zero x (omega arith) (omega arith))))
+
+-- a hold of a new holder stands behind all others
+pub with_none : (hold : Hold) (rows : List Hold) → All (λ h. h.by ≢ hold.by) rows → rows ++ hold ∷ [] ≡ holds_with hold rows
+with_none hold [] none = refl
+with_none hold (x ∷ xs) none =
+    let P : Hold → Type 0 = λ h. h.by ≢ hold.by in
+    ap (λ l. x ∷ l) (with_none hold xs (All-tail P x xs none)) ∙ sym (cond-false (eqb x.by hold.by) _ _ (ne_eqb _ _ (All-head P x xs none)))

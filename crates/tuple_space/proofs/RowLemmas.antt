@@ -1,0 +1,158 @@
+use Rattle.std.proofs.Common.{◌≡◌, ℕ, zero, suc, ◌+◌, ◌<◌, ◌≤◌, Bool, true, false, List, [], ◌∷◌, length, get_or, ap, ◌∙◌, sym, refl, cond, eqb, Some, None, ⊎_elim, arith}
+use Rattle.std.specs.Prelude.{not, ◌≢◌, ◌&&◌, ◌||◌, All, filter, find, map, remove}
+use Rattle.std.proofs.Math.ListN.{set}
+use Rattle.std.specs.List.{list_any, HoldsAt, AllWithin}
+use Rattle.std.proofs.lemmas.Bool.{cond-true, cond-false, cond_both, eq-eqb, ne_eqb, cases_lt, false≢true}
+use Rattle.std.proofs.lemmas.List.{get_or-map, length-map}
+use Rattle.std.proofs.lemmas.List.Elements.{All-head, All-tail}
+use Rattle.std.proofs.lemmas.List.Kept.{AllPairs-filter}
+use Rattle.tuple_space.specs.Rows.{IsRising, without, changed}
+use Rattle.tuple_space.specs.declared.entry.Entry.{Entry}
+
+-- the entry of a number stands at one place alone
+pub record IsOnlyAt (number : ℕ) (es : List Entry) (i : ℕ) : Type 0 where
+  pub within : i < length es
+  pub here : HoldsAt (λ e. e.number ≡ number) es i
+  pub others : (k : ℕ) (d : Entry) → k < length es → k ≢ i → (get_or es k d).number ≢ number
+
+-- no entry has the number
+abbrev pub HasNone : ℕ → List Entry → Type 0
+HasNone number es = All (λ e. e.number ≢ number) es
+
+pub only_at : (number : ℕ) (es : List Entry) (i : ℕ) → IsRising es → i < length es → HoldsAt (λ e. e.number ≡ number) es i → IsOnlyAt number es i
+only_at number es i rising within here = record {
+  within = within;
+  here = here;
+  others = λ k d lt ne same. ⊎_elim
+      (λ below. let less : (get_or es k d).number < (get_or es i d).number = rising k i d below within in let at = here d in omega arith)
+      (λ above. let less : (get_or es i d).number < (get_or es k d).number = rising i k d (omega arith) lt in let at = here d in omega arith)
+      (cases_lt k i);
+}
+
+-- what stands before an entry whose number is below another is below it too
+pub below_place : (number : ℕ) (es : List Entry) (i : ℕ) → IsRising es → i < length es → HoldsAt (λ e. e.number < number) es i → AllWithin (λ e. e.number < number) es 0 (i + 1)
+below_place number es i rising within here = λ k d from to. ⊎_elim
+    (λ below. let less : (get_or es k d).number < (get_or es i d).number = rising k i d below within in let at = here d in omega arith)
+    (λ above. let same : k ≡ i = omega arith in rw same (here d))
+    (cases_lt k i)
+
+-- what stands behind an entry whose number isn't below another isn't either
+pub above_place : (number : ℕ) (es : List Entry) (i : ℕ) → IsRising es → i < length es → HoldsAt (λ e. number ≤ e.number) es i → AllWithin (λ e. number ≤ e.number) es i (length es)
+above_place number es i rising within here = λ k d from to. ⊎_elim
+    (λ behind. let less : (get_or es i d).number < (get_or es k d).number = rising i k d behind to in let at = here d in omega arith)
+    (λ at_most. let same : k ≡ i = omega arith in rw same (here d))
+    (cases_lt i k)
+
+-- where a search ended, no entry has the number unless the one there has it
+pub none_from_search : (number : ℕ) (es : List Entry) (low high : ℕ) → IsRising es → high ≤ low → AllWithin (λ e. e.number < number) es 0 low → AllWithin (λ e. number ≤ e.number) es high (length es) → (low < length es → HoldsAt (λ e. e.number ≢ number) es low) → HasNone number es
+none_from_search number es low high rising met below above not_here = λ k d lt same. ⊎_elim
+    (λ before. let less = below k d (omega arith) before in omega arith)
+    (λ behind. ⊎_elim
+    (λ far. let less : (get_or es low d).number < (get_or es k d).number = rising low k d far lt in let most = above low d (omega arith) (omega arith) in omega arith)
+    (λ near. let at : k ≡ low = omega arith in not_here (omega arith) d (sym (ap (λ i. (get_or es i d).number) at) ∙ same))
+    (cases_lt low k))
+    (cases_lt k low)
+
+only_tail : (number : ℕ) (x : Entry) (xs : List Entry) (i : ℕ) → IsOnlyAt number (x ∷ xs) (suc i) → IsOnlyAt number xs i
+only_tail number x xs i h = record {
+  within = let w = h.within in omega arith;
+  here = λ d. h.here d;
+  others = λ k d lt ne. h.others (suc k) d (omega arith) (λ e. ne (omega arith));
+}
+
+none_behind : (number : ℕ) (x : Entry) (xs : List Entry) → IsOnlyAt number (x ∷ xs) zero → HasNone number xs
+none_behind number x xs h = λ k d lt. h.others (suc k) d (omega arith) (λ e. omega arith)
+
+other_head : (number : ℕ) (x : Entry) (xs : List Entry) (i : ℕ) → IsOnlyAt number (x ∷ xs) (suc i) → eqb x.number number ≡ false
+other_head number x xs i h = ne_eqb _ _ (h.others zero x (omega arith) (λ e. omega arith))
+
+same_head : (number : ℕ) (x : Entry) (xs : List Entry) → IsOnlyAt number (x ∷ xs) zero → eqb x.number number ≡ true
+same_head number x xs h = eq-eqb _ _ (h.here x)
+
+none_head : (number : ℕ) (x : Entry) (xs : List Entry) → HasNone number (x ∷ xs) → eqb x.number number ≡ false
+none_head number x xs h = ne_eqb _ _ (All-head (λ (e : Entry). e.number ≢ number) x xs h)
+
+none_tail : (number : ℕ) (x : Entry) (xs : List Entry) → HasNone number (x ∷ xs) → HasNone number xs
+none_tail number x xs h = All-tail (λ (e : Entry). e.number ≢ number) x xs h
+
+pub without_none : (number : ℕ) (es : List Entry) → HasNone number es → without number es ≡ es
+without_none number [] h = refl
+without_none number (x ∷ xs) h =
+    cond-true (not (eqb x.number number)) _ _ (ap not (none_head number x xs h)) ∙ ap (λ l. x ∷ l) (without_none number xs (none_tail number x xs h))
+
+pub without_place : (number : ℕ) (es : List Entry) (i : ℕ) → IsOnlyAt number es i → remove es i ≡ without number es
+without_place number [] i h = let w = h.within in absurd (omega arith)
+without_place number (x ∷ xs) zero h =
+    sym (cond-false (not (eqb x.number number)) _ _ (ap not (same_head number x xs h)) ∙ without_none number xs (none_behind number x xs h))
+without_place number (x ∷ xs) (suc i) h =
+    ap (λ l. x ∷ l) (without_place number xs i (only_tail number x xs i h))
+    ∙ sym (cond-true (not (eqb x.number number)) _ _ (ap not (other_head number x xs i h)))
+
+pub changed_none : (number : ℕ) (change : Entry → Entry) (es : List Entry) → HasNone number es → changed number change es ≡ es
+changed_none number change [] h = refl
+changed_none number change (x ∷ xs) h =
+    ap (λ y. y ∷ changed number change xs) (cond-false (eqb x.number number) (change x) x (none_head number x xs h))
+    ∙ ap (λ l. x ∷ l) (changed_none number change xs (none_tail number x xs h))
+
+pub changed_place : (number : ℕ) (change : Entry → Entry) (es : List Entry) (i : ℕ) (x : Entry) → IsOnlyAt number es i → x ≡ get_or es i x → set es i (change x) ≡ changed number change es
+changed_place number change [] i x h is = let w = h.within in absurd (omega arith)
+changed_place number change (y ∷ ys) zero x h is =
+    ap (λ z. change z ∷ ys) is
+    ∙ sym (ap (λ z. z ∷ changed number change ys) (cond-true (eqb y.number number) (change y) y (same_head number y ys h))
+    ∙ ap (λ l. change y ∷ l) (changed_none number change ys (none_behind number y ys h)))
+changed_place number change (y ∷ ys) (suc i) x h is =
+    ap (λ l. y ∷ l) (changed_place number change ys i x (only_tail number y ys i h) is)
+    ∙ sym (ap (λ z. z ∷ changed number change ys) (cond-false (eqb y.number number) (change y) y (other_head number y ys i h)))
+
+pub find_none : (number : ℕ) (es : List Entry) → HasNone number es → None ≡ find (λ (e : Entry). eqb e.number number) es
+find_none number [] h = refl
+find_none number (x ∷ xs) h =
+    find_none number xs (none_tail number x xs h) ∙ sym (cond-false (eqb x.number number) _ _ (none_head number x xs h))
+
+pub find_place : (number : ℕ) (es : List Entry) (i : ℕ) (x : Entry) → IsOnlyAt number es i → x ≡ get_or es i x → Some x ≡ find (λ (e : Entry). eqb e.number number) es
+find_place number [] i x h is = let w = h.within in absurd (omega arith)
+find_place number (y ∷ ys) zero x h is = ap Some is ∙ sym (cond-true (eqb y.number number) _ _ (same_head number y ys h))
+find_place number (y ∷ ys) (suc i) x h is =
+    find_place number ys i x (only_tail number y ys i h) is ∙ sym (cond-false (eqb y.number number) _ _ (other_head number y ys i h))
+
+by_head : (a t r : Bool) → a ≡ true → r ≡ false → ((a && t) || r) ≡ t
+by_head true true r e f = refl
+by_head true false r e f = f
+by_head false t r e f = absurd (false≢true e)
+
+by_tail : (a t r : Bool) → a ≡ false → ((a && t) || r) ≡ r
+by_tail true t r e = absurd (false≢true (sym e))
+by_tail false t r e = refl
+
+-- whether some entry of a number passes a test
+abbrev pub passes_at : ℕ → (Entry → Bool) → List Entry → Bool
+passes_at number test es = list_any (λ e. eqb e.number number && test e) es
+
+pub any_none : (number : ℕ) (test : Entry → Bool) (es : List Entry) → HasNone number es → passes_at number test es ≡ false
+any_none number test [] h = refl
+any_none number test (x ∷ xs) h =
+    by_tail (eqb x.number number) (test x) (passes_at number test xs) (none_head number x xs h) ∙ any_none number test xs (none_tail number x xs h)
+
+pub any_place : (number : ℕ) (test : Entry → Bool) (es : List Entry) (i : ℕ) (x : Entry) → IsOnlyAt number es i → x ≡ get_or es i x → passes_at number test es ≡ test x
+any_place number test [] i x h is = let w = h.within in absurd (omega arith)
+any_place number test (y ∷ ys) zero x h is =
+    by_head (eqb y.number number) (test y) (passes_at number test ys) (same_head number y ys h) (any_none number test ys (none_behind number y ys h)) ∙ ap test (sym is)
+any_place number test (y ∷ ys) (suc i) x h is =
+    by_tail (eqb y.number number) (test y) (passes_at number test ys) (other_head number y ys i h) ∙ any_place number test ys i x (only_tail number y ys i h) is
+
+-- entries that are kept still rise
+pub rising_filter : (test : Entry → Bool) (es : List Entry) → IsRising es → IsRising (filter test es)
+rising_filter test es h = AllPairs-filter (λ (x y : Entry). x.number < y.number) test es h
+
+-- entries whose numbers stay still rise
+pub rising_map : (change : Entry → Entry) → ((e : Entry) → (change e).number ≡ e.number) → (es : List Entry) → IsRising es → IsRising (map change es)
+rising_map change keeps es h = λ i j d below within.
+    let long : length (map change es) ≡ length es = length-map es change in
+    let less : (get_or es i d).number < (get_or es j d).number = h i j d below (omega arith) in
+    let at_i = ap (λ (e : Entry). e.number) (get_or-map change es i d d (omega arith)) ∙ keeps (get_or es i d) in
+    let at_j = ap (λ (e : Entry). e.number) (get_or-map change es j d d (omega arith)) ∙ keeps (get_or es j d) in
+    omega arith
+
+-- a number stays where the entry of a number is changed in other things
+pub changed_number : (number : ℕ) (change : Entry → Entry) → ((e : Entry) → (change e).number ≡ e.number) → (e : Entry) → (cond (eqb e.number number) (change e) e).number ≡ e.number
+changed_number number change keeps e = cond_both (eqb e.number number) (change e) e (λ (x : Entry). x.number ≡ e.number) (λ t. keeps e) (λ t. refl)

@@ -1,0 +1,16 @@
+use Rattle.tuple_space.proofs.HoldLemmas.{with_found, with_none}
+use Rattle.std.proofs.Common.{◌∙◌}
+use Rattle.std.specs.Prelude.{◌≢◌}
+use Rattle.std.proofs.lemmas.List.Elements.{All-from_all_within}
+use Rattle.tuple_space.proofs.hold.put_hold.Goals as goal
+
+pub returns-in-Some-clause-ok : goal.returns-in-Some-clause-ok
+returns-in-Some-clause-ok c =
+    let first = rw c.deref.ensures.value at c.in-Some.ensures in
+    with_found c.args.hold c.args.rows.now.items c.in-Some.place first.0 first.1 first.2
+
+pub returns-in_ok-push-in-None-clause-ok : goal.returns-in_ok-push-in-None-clause-ok
+returns-in_ok-push-in-None-clause-ok c =
+    let none = rw c.deref.ensures.value at c.in-None.ensures in
+    let items = c.in_ok-push-in-None.ensures.items in
+    items ∙ with_none c.args.hold c.args.rows.now.items (All-from_all_within (λ h. h.by ≢ c.args.hold.by) c.args.rows.now.items none)

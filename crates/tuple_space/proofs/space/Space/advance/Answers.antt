@@ -1,0 +1,9 @@
+use Rattle.std.proofs.Common.{arith}
+use Rattle.tuple_space.specs.Entry.{is_there}
+use Rattle.tuple_space.proofs.SpaceLemmas.{IsSpace-filter}
+use Rattle.tuple_space.proofs.space.Space.advance.Goals as goal
+
+pub invariant_of-self : goal.invariant_of-self
+invariant_of-self c =
+    let s = c.self.inside in
+    rw c.keep_there.ensures (IsSpace-filter (is_there c.args.moment) s.entries.items s.moment s.last c.args.moment (omega arith) c.self.invariant)

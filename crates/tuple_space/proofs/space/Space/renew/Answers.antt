@@ -1,0 +1,14 @@
+use Rattle.std.proofs.Common.{cond, eqb, refl}
+use Rattle.tuple_space.specs.declared.entry.Entry.{Entry}
+use Rattle.tuple_space.specs.Rows.{with_end}
+use Rattle.tuple_space.proofs.RowLemmas.{changed_number}
+use Rattle.tuple_space.proofs.SpaceLemmas.{IsSpace-map}
+use Rattle.tuple_space.proofs.space.Space.renew.Goals as goal
+
+pub invariant_of-self : goal.invariant_of-self
+invariant_of-self c =
+    let s = c.self.inside in
+    let change = with_end c.granted-end.result in
+    let n = c.number.result in
+    rw c.if-change_end.ensures.changed
+    (IsSpace-map (λ (e : Entry). cond (eqb e.number n) (change e) e) (changed_number n change (λ e. refl)) s.entries.items s.moment s.last c.self.invariant)

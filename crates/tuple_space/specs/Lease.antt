@@ -1,0 +1,31 @@
+-- How long a tuple stays, in the manner of JavaSpaces; the rules are this project's own.
+use Rattle.std.specs.Prelude.{ℕ, ◌+◌, min, max, nat_lt, Bool, true, false}
+use Rattle.tuple_space.specs.declared.lease.Lease.{Lease}
+use Rattle.tuple_space.specs.declared.lease.Lease.TheVariants.{Forever, Ms}
+use Rattle.tuple_space.specs.declared.lease.LeaseEnd.{LeaseEnd}
+use Rattle.tuple_space.specs.declared.lease.LeaseEnd.TheVariants.{Never, At}
+
+-- the longest lease that is granted, in milliseconds: one day
+abbrev pub longest_lease : ℕ
+longest_lease = 86400000
+
+-- a lease asked for at a moment is granted for the time asked, or for a day where that is less, and ends then
+abbrev pub granted : ℕ → Lease → LeaseEnd
+granted moment Forever = Never
+granted moment (Ms asked) = At (moment + min asked longest_lease)
+
+-- a lease is live while the moment is smaller than its end
+abbrev pub is_live : ℕ → LeaseEnd → Bool
+is_live moment Never = true
+is_live moment (At end) = nat_lt moment end
+
+-- the later of two ends
+abbrev pub later : LeaseEnd → LeaseEnd → LeaseEnd
+later Never other = Never
+later (At end) Never = Never
+later (At end) (At other) = At (max end other)
+
+-- a tuple with such a lease is permanent
+abbrev pub is_permanent : LeaseEnd → Bool
+is_permanent Never = true
+is_permanent (At end) = false

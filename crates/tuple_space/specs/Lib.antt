@@ -1,0 +1,6 @@
+pub mod Entry
+pub mod Holds
+pub mod Lease
+pub mod Rows
+pub mod Space
+pub mod Step

@@ -1,0 +1,21 @@
+-- Rows of entries.
+use Rattle.std.specs.Prelude.{ℕ, ◌<◌, ◌==◌, not, List, AllPairs, filter, map, if◌then◌else◌}
+use Rattle.tuple_space.specs.Lease.{later}
+use Rattle.tuple_space.specs.declared.lease.LeaseEnd.{LeaseEnd}
+use Rattle.tuple_space.specs.declared.entry.Entry.{Entry}
+
+-- each number is below those behind it
+abbrev pub IsRising : List Entry → Type 0
+IsRising entries = AllPairs (λ x y. x.number < y.number) entries
+
+-- all entries but that of a number
+abbrev pub without : ℕ → List Entry → List Entry
+without number entries = filter (λ e. not (e.number == number)) entries
+
+-- the entry of a number changed
+abbrev pub changed : ℕ → (Entry → Entry) → List Entry → List Entry
+changed number change entries = map (λ e. if e.number == number then change e else e) entries
+
+-- an entry whose lease ends at the later of its end and another
+abbrev pub with_end : LeaseEnd → Entry → Entry
+with_end end e = record e { end = later e.end end }

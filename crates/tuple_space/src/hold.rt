@@ -1,0 +1,156 @@
+//! Those who hold an entry.
+
+ghost use Rattle.std.specs.Prelude.{◌≡◌, ◌≢◌, ◌<◌, ◌==◌, ◌&&◌, [], true, length, MatchOption, OnOk, OnErr};
+ghost use Rattle.std.specs.List.{list_any, list_all, AllWithin, HoldsAt};
+ghost use Rattle.tuple_space.specs.Holds.{holds_with, holds_without};
+
+use std::alloc::{AllocError, Global};
+use std::marker::Model;
+
+/// One holder's hold of an entry.
+#[derive(Clone, Copy, Debug, PartialEq, Eq)]
+pub struct Hold {
+    /// The number of the holder.
+    pub by: u64,
+    /// Whether the holder took the entry; else it read it.
+    pub taken: bool,
+    /// Whether the entry was permanent when it was marked so.
+    pub permanent: bool,
+}
+
+/// The holds of one entry.
+#[derive(Debug, Drop)]
+pub struct Holds {
+    rows: Vec<Hold>,
+}
+
+impl Model for Holds {
+    ghost use Rattle.std.specs.Prelude.{List};
+    ghost use Rattle.tuple_space.specs.declared.hold.Hold.{Hold};
+
+    ghost Value = { List Hold };
+
+    ghost view = { λ h. h.rows.items };
+}
+
+impl Holds {
+    /// No holds. Takes no memory.
+    pub fn new(alloc: Global) -> Holds
+        ensures { result ≡ [] }
+    {
+        Holds {
+            rows: Vec::new(alloc),
+        }
+    }
+
+    /// Whether somebody holds the entry.
+    pub fn is_held(&self) -> bool
+        ensures { result ≡ list_any (λ (h : Hold). true) self.now }
+    {
+        is_any(&self.rows)
+    }
+
+    /// Whether somebody took the entry.
+    pub fn is_taken(&self) -> bool
+        ensures { result ≡ list_any (λ h. h.taken) self.now }
+    {
+        is_any_taken(&self.rows)
+    }
+
+    /// Whether this holder holds the entry.
+    pub fn is_held_by(&self, holder: u64) -> bool
+        ensures { result ≡ list_any (λ h. h.by == holder) self.now }
+    {
+        is_any_by(&self.rows, holder)
+    }
+
+    /// Whether this holder took the entry.
+    pub fn is_taken_by(&self, holder: u64) -> bool
+        ensures { result ≡ list_any (λ h. (h.by == holder) && h.taken) self.now }
+    {
+        is_any_taken_by(&self.rows, holder)
+    }
+
+    /// Whether nobody but this holder holds the entry.
+    pub fn are_all_by(&self, holder: u64) -> bool
+        ensures { result ≡ list_all (λ h. h.by == holder) self.now }
+    {
+        are_all_by(&self.rows, holder)
+    }
+
+    /// The holds, in the order in which the holders came.
+    pub fn as_slice(&self) -> &[Hold]
+        ensures { result.now ≡ self.now }
+    {
+        &self.rows
+    }
+
+    /// Puts a hold in the place of its holder's older one, or behind all others.
+    pub fn put(&mut self, hold: Hold) -> Result<(), AllocError>
+        ensures ok { OnOk result (self.new ≡ holds_with hold self.old) }
+        ensures err { OnErr result (self.new ≡ self.old) }
+    {
+        put_hold(&mut self.rows, hold)
+    }
+
+    /// Ends the holds of a holder.
+    pub fn release(&mut self, holder: u64)
+        ensures { self.new ≡ holds_without holder self.old }
+    {
+        drop_by(&mut self.rows, holder);
+    }
+}
+
+fn is_any(rows: &[Hold]) -> bool
+    ensures { result ≡ list_any (λ (h : Hold). true) rows.now }
+{
+    !rows.is_empty()
+}
+
+fn is_any_taken(rows: &[Hold]) -> bool
+    ensures { result ≡ list_any (λ h. h.taken) rows.now }
+{
+    rows.iter().any(|hold| hold.taken)
+}
+
+fn is_any_by(rows: &[Hold], holder: u64) -> bool
+    ensures { result ≡ list_any (λ h. h.by == holder) rows.now }
+{
+    rows.iter().any(|hold| hold.by == holder)
+}
+
+fn is_any_taken_by(rows: &[Hold], holder: u64) -> bool
+    ensures { result ≡ list_any (λ h. (h.by == holder) && h.taken) rows.now }
+{
+    rows.iter().any(|hold| hold.by == holder && hold.taken)
+}
+
+fn are_all_by(rows: &[Hold], holder: u64) -> bool
+    ensures { result ≡ list_all (λ h. h.by == holder) rows.now }
+{
+    rows.iter().all(|hold| hold.by == holder)
+}
+
+fn place_by(rows: &[Hold], holder: u64) -> Option<usize>
+    ensures { MatchOption result (AllWithin (λ h. h.by ≢ holder) rows.now 0 (length rows.now))
+        (λ i. (i < length rows.now) × HoldsAt (λ h. h.by ≡ holder) rows.now i × AllWithin (λ h. h.by ≢ holder) rows.now 0 i) }
+{
+    rows.iter().position(|hold| hold.by == holder)
+}
+
+fn put_hold(rows: &mut Vec<Hold>, hold: Hold) -> Result<(), AllocError>
+    ensures ok { OnOk result (rows.new.items ≡ holds_with hold rows.old.items) }
+    ensures err { OnErr result (rows.new.items ≡ rows.old.items) }
+{
+    match place_by(rows, hold.by) {
+        Some(place) => rows[place] = hold,
+        None => rows.push(hold)?,
+    }
+    Ok(())
+}
+
+fn drop_by(rows: &mut Vec<Hold>, holder: u64)
+    ensures { rows.new.items ≡ holds_without holder rows.old.items }
+{
+    rows.retain(|hold| hold.by != holder);
+}

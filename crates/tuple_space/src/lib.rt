@@ -1,0 +1,22 @@
+//! A space of tuples with leases, in the manner of Linda (Gelernter, Generative Communication in Linda, 1985).
+//!
+//! Tuples are put out under numbers that rise from 1, each with a lease, and are taken or read by templates. Time is a
+//! number of milliseconds that the caller moves on. A layer above may hold entries for transactions of its own.
+#![tactic(auto)]
+
+mod admission;
+mod entry;
+mod error;
+mod hold;
+mod lease;
+mod rows;
+mod space;
+
+pub use entry::{Claim, Entry, EntryId};
+pub use error::SpaceError;
+pub use hold::{Hold, Holds};
+pub use lease::{Lease, LeaseEnd};
+pub use space::{MOST, Space};
+
+#[cfg(test)]
+mod tests;

@@ -1,0 +1,129 @@
+//! Rows of entries in rising order of number.
+
+ghost use Rattle.std.specs.Prelude.{◌≡◌, ◌<◌, ◌≢◌, ◌==◌, ◌&&◌, true, false, All, Contains, IfNone, IfSome, MatchBool, count_by, filter, find, length, slice_index_or, vec_len};
+ghost use Rattle.std.specs.List.{HoldsAt, list_any};
+ghost use Rattle.std.specs.Option.{option_copied};
+ghost use Rattle.tuple_space.specs.Lease.{is_live, later};
+ghost use Rattle.tuple_space.specs.Entry.{can_be_had, is_counted, is_there};
+ghost use Rattle.tuple_space.specs.Rows.{IsRising, changed, with_end, without};
+
+use crate::admission::{can_be_had, is_counted, is_there};
+use crate::entry::{Claim, Entry};
+use crate::lease::LeaseEnd;
+use tuple_match::Template;
+
+/// The place of the newest entry that can be had.
+pub(crate) fn newest_place(
+    entries: &[Entry],
+    claim: Claim,
+    moment: u64,
+    template: &Template,
+) -> Option<usize>
+    ensures none { IfNone result (All (λ e. can_be_had claim moment template.now e ≡ false) entries.now) }
+    ensures place { IfSome result (λ i. i < length entries.now) }
+    ensures can { IfSome result (HoldsAt (λ e. can_be_had claim moment template.now e ≡ true) entries.now) }
+{
+    for place in (0..entries.len()).rev() {
+        if can_be_had(&entries[place], claim, moment, template) {
+            return Some(place);
+        }
+    }
+    None
+}
+
+/// The newest entry that can be had.
+pub(crate) fn newest_entry<'a>(
+    entries: &'a [Entry],
+    claim: Claim,
+    moment: u64,
+    template: &Template,
+) -> Option<&'a Entry>
+    ensures none { IfNone result (All (λ e. can_be_had claim moment template.now e ≡ false) entries.now) }
+    ensures stands { IfSome result (λ e. Contains entries.now e.now) }
+    ensures can { IfSome result (λ e. can_be_had claim moment template.now e.now ≡ true) }
+{
+    match newest_place(entries, claim, moment, template) {
+        Some(place) => Some(&entries[place]),
+        None => None,
+    }
+}
+
+/// The place of the entry of a number.
+pub(crate) fn place_of(entries: &[Entry], number: u64) -> Option<usize>
+    requires { IsRising entries.now }
+    ensures none { IfNone result (All (λ e. e.number ≢ number) entries.now) }
+    ensures place { IfSome result (λ i. i < length entries.now) }
+    ensures found { IfSome result (HoldsAt (λ e. e.number ≡ number) entries.now) }
+{
+    let mut low = 0;
+    let mut high = entries.len();
+    while low < high {
+        let middle = low + (high - low) / 2;
+        if entries[middle].number < number {
+            low = middle + 1;
+        } else {
+            high = middle;
+        }
+    }
+    if low < entries.len() && entries[low].number == number {
+        Some(low)
+    } else {
+        None
+    }
+}
+
+/// The entry of a number.
+pub(crate) fn entry_of(entries: &[Entry], number: u64) -> Option<&Entry>
+    requires { IsRising entries.now }
+    ensures { option_copied result ≡ find (λ e. e.number == number) entries.now }
+{
+    match place_of(entries, number) {
+        Some(place) => Some(&entries[place]),
+        None => None,
+    }
+}
+
+/// Takes out the entry at a place.
+pub(crate) fn take_at(entries: &mut Vec<Entry>, place: usize) -> Entry
+    requires rising { IsRising entries.old.items }
+    requires within { place < vec_len entries.old }
+    ensures value { result ≡ slice_index_or entries.old.items place result }
+    ensures rest { entries.new.items ≡ without result.number entries.old.items }
+{
+    entries.remove(place)
+}
+
+/// Moves the end of a live entry's lease to a later one, and tells whether there is such an entry.
+pub(crate) fn change_end(entries: &mut Vec<Entry>, number: u64, moment: u64, end: LeaseEnd) -> bool
+    requires { IsRising entries.old.items }
+    ensures is_live { result ≡ list_any (λ e. (e.number == number) && is_live moment e.end) entries.old.items }
+    ensures changed { MatchBool result (entries.new.items ≡ changed number (with_end end) entries.old.items) (entries.new.items ≡ entries.old.items) }
+{
+    let Some(place) = place_of(entries, number) else {
+        return false;
+    };
+    let entry = &mut entries[place];
+    if !entry.end.is_live(moment) {
+        return false;
+    }
+    entry.end = entry.end.later(end);
+    true
+}
+
+/// How many entries are there whose tuples the template asks for.
+pub(crate) fn count_of(entries: &[Entry], moment: u64, template: &Template) -> u64
+    ensures { result ≡ count_by (is_counted moment template.now) entries.now }
+{
+    let count = entries
+        .iter()
+        .filter(|entry| is_counted(entry, moment, template))
+        .count();
+    count as u64
+}
+
+/// Keeps the entries that are there.
+pub(crate) fn keep_there(entries: &mut Vec<Entry>, moment: u64)
+    ensures { entries.new.items ≡ filter (is_there moment) entries.old.items }
+{
+    entries.retain(|entry| is_there(entry, moment));
+}

@@ -1,0 +1,152 @@
+//! The space and its calls.
+
+ghost use Rattle.std.specs.Prelude.{◌≡◌, ◌==◌, IfErr, IfSome, IfNone, find};
+ghost use Rattle.std.specs.Option.{option_copied};
+ghost use Rattle.tuple_space.specs.Space.{opening};
+ghost use Rattle.tuple_space.specs.Step.{IsHad, NothingHad, Step, advance, count, done_reply, inp, inp_reply, now, out, out_reply, rdp, rdp_reply, renew, told};
+
+use crate::entry::{Claim, Entry, EntryId};
+use crate::error::SpaceError;
+use crate::hold::Holds;
+use crate::lease::Lease;
+use crate::rows::{
+    change_end, count_of, entry_of, keep_there, newest_entry, newest_place, take_at,
+};
+use std::alloc::Global;
+use std::marker::Model;
+use tuple_match::{Template, Tuple};
+
+/// The most that a moment or the number of an entry can be.
+pub const MOST: u64 = 1 << 62;
+
+/// A space of tuples.
+#[derive(Debug, Drop)]
+pub struct Space {
+    entries: Vec<Entry>,
+    moment: u64,
+    last: u64,
+}
+
+impl Model for Space {
+    ghost use Rattle.tuple_space.specs.Space.{IsSpace, SpaceValue, space_of};
+
+    ghost Value = { SpaceValue };
+
+    ghost view = { λ s. space_of s.entries.items s.moment s.last };
+
+    ghost invariant = { λ s. IsSpace (space_of s.entries.items s.moment s.last) };
+}
+
+impl Space {
+    /// A space with no tuples, at the moment 0. Takes no memory.
+    pub fn new(alloc: Global) -> Space
+        ensures { result ≡ opening }
+    {
+        Space {
+            entries: Vec::new(alloc),
+            moment: 0,
+            last: 0,
+        }
+    }
+
+    /// The moment, in milliseconds.
+    pub fn now(&self) -> u64
+        ensures { Step self.now now (told result) self.now }
+    {
+        self.moment
+    }
+
+    /// Puts a tuple out, with a lease granted at the moment, and tells its number. Refusals: 33 where the numbers are
+    /// used up, 50; the tuple comes back.
+    pub fn out(&mut self, tuple: Tuple, lease: Lease) -> Result<EntryId, (SpaceError, Tuple)>
+        ensures step { Step self.old (out tuple lease) (out_reply result) self.new }
+        ensures handed_back { IfErr result (λ back. back.1 ≡ tuple) }
+    {
+        if self.last >= MOST {
+            return Err((SpaceError::Exhausted, tuple));
+        }
+        let number = self.last + 1;
+        let holds = Holds::new(*self.entries.allocator());
+        let end = lease.granted(self.moment);
+        match self.entries.push(Entry {
+            number,
+            tuple,
+            end,
+            holds,
+        }) {
+            Ok(()) => {
+                self.last = number;
+                Ok(EntryId::new(number))
+            }
+            Err(failed) => Err((SpaceError::OutOfMemory, failed.value.tuple)),
+        }
+    }
+
+    /// Takes a tuple that the template asks for, or answers `None` where none can be had now. Takes no memory.
+    pub fn inp(&mut self, template: &Template) -> Option<(EntryId, Tuple)>
+        ensures step { Step self.old (inp template.now) (inp_reply result) self.new }
+    {
+        let place = newest_place(&self.entries, Claim::Take, self.moment, template)?;
+        let entry = take_at(&mut self.entries, place);
+        Some((EntryId::new(entry.number), entry.tuple))
+    }
+
+    /// Copies a tuple that the template asks for, or answers `None` where none can be had now. Refusal: 50.
+    pub fn rdp(&self, template: &Template) -> Result<Option<(EntryId, Tuple)>, SpaceError>
+        ensures step { Step self.now (rdp template.now) (rdp_reply result) self.now }
+    {
+        match self.search(Claim::Read, template) {
+            Some(entry) => Ok(Some((EntryId::new(entry.number), entry.tuple.copy()?))),
+            None => Ok(None),
+        }
+    }
+
+    /// Moves the end of a live entry's lease to that of a lease granted now, where that is later. Refusal: 35 where no
+    /// live entry has the number. Takes no memory.
+    pub fn renew(&mut self, id: EntryId, lease: Lease) -> Result<(), SpaceError>
+        ensures step { Step self.old (renew id lease) (done_reply result) self.new }
+    {
+        let end = lease.granted(self.moment);
+        if change_end(&mut self.entries, id.number(), self.moment, end) {
+            return Ok(());
+        }
+        Err(SpaceError::NotThere)
+    }
+
+    /// Moves the moment on, and drops the entries whose lease has ended and that nobody holds; an earlier moment changes
+    /// nothing. Refusal: 33 where the moment lies past 2^62. Takes no memory.
+    pub fn advance(&mut self, moment: u64) -> Result<(), SpaceError>
+        ensures step { Step self.old (advance moment) (done_reply result) self.new }
+    {
+        if moment > MOST {
+            return Err(SpaceError::Exhausted);
+        }
+        if moment >= self.moment {
+            self.moment = moment;
+            keep_there(&mut self.entries, moment);
+        }
+        Ok(())
+    }
+
+    /// How many entries are there whose tuples the template asks for, held ones included. Takes no memory.
+    pub fn count(&self, template: &Template) -> u64
+        ensures step { Step self.now (count template.now) (told result) self.now }
+    {
+        count_of(&self.entries, self.moment, template)
+    }
+
+    /// The newest entry that can be had under a claim.
+    pub fn search(&self, claim: Claim, template: &Template) -> Option<&Entry>
+        ensures found { IfSome result (λ e. IsHad self.now claim template.now e.now) }
+        ensures none { IfNone result (NothingHad self.now claim template.now) }
+    {
+        newest_entry(&self.entries, claim, self.moment, template)
+    }
+
+    /// The entry of a number.
+    pub fn entry(&self, id: EntryId) -> Option<&Entry>
+        ensures { option_copied result ≡ find (λ e. e.number == id) self.now.entries }
+    {
+        entry_of(&self.entries, id.number())
+    }
+}

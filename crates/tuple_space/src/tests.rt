@@ -1,0 +1,57 @@
+use crate::entry::EntryId;
+use crate::error::SpaceError;
+use crate::lease::Lease;
+use crate::space::{MOST, Space};
+use std::alloc::{AllocError, Global};
+use std::test::Fail;
+use tuple_match::{Field, Pattern, Template, Tuple};
+
+/// The tuple `job n`.
+fn job(alloc: Global, number: i128) -> Result<Tuple, Fail> {
+    let mut fields = Vec::new(alloc);
+    fields.push(Field::Word(String::from_str(alloc, "job")?))?;
+    fields.push(Field::Int(number))?;
+    Ok(Tuple::new(fields)?)
+}
+
+/// The template `job ?i`.
+fn any_job(alloc: Global) -> Result<Template, Fail> {
+    let mut patterns = Vec::new(alloc);
+    patterns.push(Pattern::Is(Field::Word(String::from_str(alloc, "job")?)))?;
+    patterns.push(Pattern::AnyInt)?;
+    Ok(Template::new(patterns)?)
+}
+
+/// The number of a job.
+fn number_of(tuple: &Tuple) -> Option<i128> {
+    match tuple.fields() {
+        [_, number] => number.as_int(),
+        _ => None,
+    }
+}
+
+/// What is told of the jobs that can be had: the number of the one that is read.
+fn read(space: &Space, template: &Template) -> Result<Option<i128>, SpaceError> {
+    match space.rdp(template)? {
+        Some((_, tuple)) => Ok(number_of(&tuple)),
+        None => Ok(None),
+    }
+}
+
+#[test]
+fn leases_end(rt: HostRuntime) -> Result<(), Fail> {
+    let mut space = Space::new(rt.alloc());
+    let jobs = any_job(rt.alloc())?;
+    assert!(rt; space.out(job(rt.alloc(), 5)?, Lease::Ms(0)).is_ok());
+    assert_eq!(rt; read(&space, &jobs)?, None);
+    assert_eq!(rt; space.count(&jobs), 0);
+    assert_eq!(rt; space.advance(7), Ok(()));
+    assert_eq!(rt; space.advance(3), Ok(()));
+    assert_eq!(rt; space.now(), 7);
+    assert!(rt; space.out(job(rt.alloc(), 6)?, Lease::Ms(5)).is_ok());
+    assert_eq!(rt; space.advance(11), Ok(()));
+    assert_eq!(rt; read(&space, &jobs)?, Some(6));
+    assert_eq!(rt; space.advance(12), Ok(()));
+    assert_eq!(rt; read(&space, &jobs)?, None);
+    Ok(())
+}
