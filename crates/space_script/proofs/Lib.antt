@@ -1,0 +1,11 @@
+-- Lemmas.
+mod Cases
+mod Filters
+mod Lines
+mod Numerals
+mod OneCommand
+mod OneField
+mod Patterns
+mod Replies
+mod WordTexts
+mod Zips

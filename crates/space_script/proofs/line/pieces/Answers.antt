@@ -1,0 +1,9 @@
+-- The pieces of `split` as one list.
+use Rattle.std.proofs.Common.{rules, tests}
+use Rattle.std.proofs.lemmas.Iterator.Consumers.{map_from_collect}
+use Rattle.std.proofs.lemmas.Iterator.Splits.{YieldsList-from_slice_split}
+use Rattle.space_script.specs.Words.{is_blank}
+use Rattle.space_script.proofs.line.pieces.Goals as goal
+
+pub returns : goal.returns
+returns c = map_from_collect _ c.collect.ensures.ran (YieldsList-from_slice_split _ is_blank c.args.line.now c.split.ensures.rest c.split.ensures.done c.split.ensures.closure (λ x r q k. search (rules, tests)))

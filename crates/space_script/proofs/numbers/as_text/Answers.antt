@@ -1,0 +1,6 @@
+-- ASCII is UTF-8.
+use Rattle.std.proofs.lemmas.Str.{IsUtf8-from_ascii}
+use Rattle.space_script.proofs.numbers.as_text.Goals as goal
+
+pub returns-in-Err : goal.returns-in-Err
+returns-in-Err c = absurd (c.in-Err.ensures.cases.0 (IsUtf8-from_ascii c.args.word.now c.requires))

@@ -1,0 +1,6 @@
+-- What the contracts of a script's commands and replies cite.
+pub mod Command
+pub mod Field
+pub mod Number
+pub mod Reply
+pub mod Words
