@@ -1,11 +1,11 @@
-use Rattle.std.proofs.Common.{◌≡◌, ℕ, zero, suc, ◌<◌, true, false, List, [], ◌∷◌, ◌++◌, length, ap, ◌∙◌, sym, refl, eqb, arith}
-use Rattle.std.specs.Prelude.{not, ◌≢◌, All}
+use Rattle.std.proofs.Common.{Bool, ◌≡◌, ℕ, zero, suc, ◌<◌, true, false, List, [], ◌∷◌, ◌++◌, length, ap, ◌∙◌, sym, refl, cond, eqb, arith}
+use Rattle.std.specs.Prelude.{not, ◌||◌, ◌≢◌, All}
 use Rattle.std.proofs.Math.ListN.{set}
 use Rattle.std.specs.List.{list_any, HoldsAt, AllWithin}
-use Rattle.std.proofs.lemmas.Bool.{cond-true, cond-false, eq-eqb, ne_eqb}
+use Rattle.std.proofs.lemmas.Bool.{cond-true, cond-false, eq-eqb, ne_eqb, false≢true}
 use Rattle.std.proofs.lemmas.List.Elements.{All-head, All-tail}
 use Rattle.tuple_space.specs.declared.hold.Hold.{Hold}
-use Rattle.tuple_space.specs.Holds.{holds_with}
+use Rattle.tuple_space.specs.Holds.{holds_with, holds_without}
 
 -- there is some hold where the list isn't empty
 pub some_hold : (holds : List Hold) → list_any (λ (h : Hold). true) holds ≡ not (eqb (length holds) 0)
@@ -28,3 +28,18 @@ with_none hold [] none = refl
 with_none hold (x ∷ xs) none =
     let P : Hold → Type 0 = λ h. h.by ≢ hold.by in
     ap (λ l. x ∷ l) (with_none hold xs (All-tail P x xs none)) ∙ sym (cond-false (eqb x.by hold.by) _ _ (ne_eqb _ _ (All-head P x xs none)))
+
+keep_or : (b : Bool) (h : Hold) (kept : List Hold) (rest : Bool) → list_any (λ (x : Hold). true) kept ≡ rest → list_any (λ (x : Hold). true) (cond (not b) (h ∷ kept) kept) ≡ (not b || rest)
+keep_or true h kept rest e = e
+keep_or false h kept rest e = refl
+
+-- somebody is left where a holder's holds go, just where somebody else holds
+pub any_without : (holder : ℕ) (holds : List Hold) → list_any (λ (h : Hold). true) (holds_without holder holds) ≡ list_any (λ (h : Hold). not (eqb h.by holder)) holds
+any_without holder [] = refl
+any_without holder (h ∷ hs) = keep_or (eqb h.by holder) h (holds_without holder hs) _ (any_without holder hs)
+
+-- what is left of a test of three parts where the first two answered no
+pub last_part : (held live left besides : Bool) → held ≡ true → live ≡ false → left ≡ besides → besides ≡ (not held || (live || left))
+last_part true true left besides e f g = absurd (false≢true (sym f))
+last_part true false left besides e f g = sym g
+last_part false live left besides e f g = absurd (false≢true e)

@@ -1,3 +1,4 @@
 pub mod HoldLemmas
 pub mod RowLemmas
 pub mod SpaceLemmas
+pub mod WriteLemmas

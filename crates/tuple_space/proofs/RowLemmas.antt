@@ -2,7 +2,7 @@ use Rattle.std.proofs.Common.{◌≡◌, ℕ, zero, suc, ◌+◌, ◌<◌, ◌�
 use Rattle.std.specs.Prelude.{not, ◌≢◌, ◌&&◌, ◌||◌, All, filter, find, map, remove}
 use Rattle.std.proofs.Math.ListN.{set}
 use Rattle.std.specs.List.{list_any, HoldsAt, AllWithin}
-use Rattle.std.proofs.lemmas.Bool.{cond-true, cond-false, cond_both, eq-eqb, ne_eqb, cases_lt, false≢true}
+use Rattle.std.proofs.lemmas.Bool.{cond-true, cond-false, cond_both, eq-eqb, ne_eqb, cases_lt, false≢true, or_from}
 use Rattle.std.proofs.lemmas.List.{get_or-map, length-map}
 use Rattle.std.proofs.lemmas.List.Elements.{All-head, All-tail}
 use Rattle.std.proofs.lemmas.List.Kept.{AllPairs-filter}
@@ -156,3 +156,8 @@ rising_map change keeps es h = λ i j d below within.
 -- a number stays where the entry of a number is changed in other things
 pub changed_number : (number : ℕ) (change : Entry → Entry) → ((e : Entry) → (change e).number ≡ e.number) → (e : Entry) → (cond (eqb e.number number) (change e) e).number ≡ e.number
 changed_number number change keeps e = cond_both (eqb e.number number) (change e) e (λ (x : Entry). x.number ≡ e.number) (λ t. keeps e) (λ t. refl)
+
+-- no entry has the number
+pub number_none : (number : ℕ) (es : List Entry) → HasNone number es → list_any (λ (e : Entry). eqb e.number number) es ≡ false
+number_none number [] h = refl
+number_none number (x ∷ xs) h = or_from _ _ (none_head number x xs h) (number_none number xs (none_tail number x xs h))

@@ -4,3 +4,4 @@ pub mod Lease
 pub mod Rows
 pub mod Space
 pub mod Step
+pub mod Writes

@@ -1,6 +1,6 @@
 //! Those who hold an entry.
 
-ghost use Rattle.std.specs.Prelude.{◌≡◌, ◌≢◌, ◌<◌, ◌==◌, ◌&&◌, [], true, length, MatchOption, OnOk, OnErr};
+ghost use Rattle.std.specs.Prelude.{◌≡◌, ◌≢◌, ◌<◌, ◌==◌, ◌&&◌, [], true, not, length, MatchOption, OnOk, OnErr};
 ghost use Rattle.std.specs.List.{list_any, list_all, AllWithin, HoldsAt};
 ghost use Rattle.tuple_space.specs.Holds.{holds_with, holds_without};
 
@@ -64,6 +64,13 @@ impl Holds {
         is_any_by(&self.rows, holder)
     }
 
+    /// Whether somebody else holds the entry.
+    pub fn is_held_besides(&self, holder: u64) -> bool
+        ensures { result ≡ list_any (λ h. not (h.by == holder)) self.now }
+    {
+        is_any_besides(&self.rows, holder)
+    }
+
     /// Whether this holder took the entry.
     pub fn is_taken_by(&self, holder: u64) -> bool
         ensures { result ≡ list_any (λ h. (h.by == holder) && h.taken) self.now }
@@ -117,6 +124,12 @@ fn is_any_by(rows: &[Hold], holder: u64) -> bool
     ensures { result ≡ list_any (λ h. h.by == holder) rows.now }
 {
     rows.iter().any(|hold| hold.by == holder)
+}
+
+fn is_any_besides(rows: &[Hold], holder: u64) -> bool
+    ensures { result ≡ list_any (λ h. not (h.by == holder)) rows.now }
+{
+    rows.iter().any(|hold| hold.by != holder)
 }
 
 fn is_any_taken_by(rows: &[Hold], holder: u64) -> bool

@@ -8,15 +8,18 @@ mod admission;
 mod entry;
 mod error;
 mod hold;
+mod holding;
 mod lease;
 mod rows;
 mod space;
+mod write;
 
 pub use entry::{Claim, Entry, EntryId};
 pub use error::SpaceError;
 pub use hold::{Hold, Holds};
 pub use lease::{Lease, LeaseEnd};
 pub use space::{MOST, Space};
+pub use write::{Write, Writes};
 
 #[cfg(test)]
 mod tests;

@@ -93,6 +93,18 @@ pub(crate) fn take_at(entries: &mut Vec<Entry>, place: usize) -> Entry
     entries.remove(place)
 }
 
+/// Takes out the entry of a number.
+pub(crate) fn take_number(entries: &mut Vec<Entry>, number: u64) -> Option<Entry>
+    requires { IsRising entries.old.items }
+    ensures value { result ≡ find (λ e. e.number == number) entries.old.items }
+    ensures rest { entries.new.items ≡ without number entries.old.items }
+{
+    match place_of(entries, number) {
+        Some(place) => Some(take_at(entries, place)),
+        None => None,
+    }
+}
+
 /// Moves the end of a live entry's lease to a later one, and tells whether there is such an entry.
 pub(crate) fn change_end(entries: &mut Vec<Entry>, number: u64, moment: u64, end: LeaseEnd) -> bool
     requires { IsRising entries.old.items }

@@ -1,18 +1,23 @@
 //! The space and its calls.
 
-ghost use Rattle.std.specs.Prelude.{◌≡◌, ◌==◌, IfErr, IfSome, IfNone, find};
+ghost use Rattle.std.specs.Prelude.{◌≡◌, ◌≤◌, ◌+◌, ◌^◌, ◌==◌, true, IfErr, IfSome, IfNone, OnErr, OnOk, find, option_map};
 ghost use Rattle.std.specs.Option.{option_copied};
-ghost use Rattle.tuple_space.specs.Space.{opening};
+ghost use Rattle.tuple_space.specs.Space.{held_by, opening, released, with_entries, without_taken};
+ghost use Rattle.std.specs.List.{list_any};
+ghost use Rattle.tuple_space.specs.Rows.{changed, without};
+ghost use Rattle.tuple_space.specs.Writes.{IsPutRefusal, put_count, put_each};
 ghost use Rattle.tuple_space.specs.Step.{IsHad, NothingHad, Step, advance, count, done_reply, inp, inp_reply, now, out, out_reply, rdp, rdp_reply, renew, told};
 
 use crate::entry::{Claim, Entry, EntryId};
 use crate::error::SpaceError;
 use crate::hold::Holds;
+use crate::holding::{count_puts, drop_taken, hold_entry, put_rows, release_all};
 use crate::lease::Lease;
 use crate::rows::{
-    change_end, count_of, entry_of, keep_there, newest_entry, newest_place, take_at,
+    change_end, count_of, entry_of, keep_there, newest_entry, newest_place, take_at, take_number,
 };
-use std::alloc::Global;
+use crate::write::Writes;
+use std::alloc::{AllocError, Global};
 use std::marker::Model;
 use tuple_match::{Template, Tuple};
 
@@ -148,5 +153,74 @@ impl Space {
         ensures { option_copied result ≡ find (λ e. e.number == id) self.now.entries }
     {
         entry_of(&self.entries, id.number())
+    }
+
+    /// The tuple of the entry of a number.
+    pub fn tuple(&self, id: EntryId) -> Option<&Tuple>
+        ensures { option_copied result ≡ option_map (λ e. e.tuple) (find (λ e. e.number == id) self.now.entries) }
+    {
+        match self.entry(id) {
+            Some(entry) => Some(&entry.tuple),
+            None => None,
+        }
+    }
+
+    /// Holds an entry for a holder, named by a number: as taken or as read, in the place of its older hold if it has one.
+    pub fn pin(&mut self, id: EntryId, holder: u64, taken: bool) -> Result<(), AllocError>
+        requires { list_any (λ e. e.number == id) self.old.entries ≡ true }
+        ensures ok { OnOk result (self.new ≡ with_entries self.old (changed id (held_by holder taken) self.old.entries)) }
+        ensures err { OnErr result (self.new ≡ self.old) }
+    {
+        hold_entry(&mut self.entries, id.number(), holder, taken)?;
+        Ok(())
+    }
+
+    /// Ends all holds of a holder. An entry whose lease has ended leaves with its last hold. Takes no memory.
+    pub fn unpin(&mut self, holder: u64)
+        ensures { self.new ≡ with_entries self.old (released holder self.old.moment self.old.entries) }
+    {
+        release_all(&mut self.entries, holder, self.moment);
+    }
+
+    /// Drops the entries that a holder took. Takes no memory.
+    pub fn remove_taken(&mut self, holder: u64)
+        ensures { self.new ≡ with_entries self.old (without_taken holder self.old.entries) }
+    {
+        drop_taken(&mut self.entries, holder);
+    }
+
+    /// Takes out the entry of a number, whoever holds it, or answers `None` where there is none. Takes no memory.
+    pub fn remove(&mut self, id: EntryId) -> Option<Tuple>
+        ensures value { result ≡ option_map (λ e. e.tuple) (find (λ e. e.number == id) self.old.entries) }
+        ensures rest { self.new ≡ with_entries self.old (without id self.old.entries) }
+    {
+        match take_number(&mut self.entries, id.number()) {
+            Some(entry) => Some(entry.tuple),
+            None => None,
+        }
+    }
+
+    /// Puts out tuples in order, but for those that were taken again: all of them, or none. Refusals: 33 where too few
+    /// numbers are left, 50; the writes come back.
+    pub fn put_all(&mut self, writes: Writes) -> Result<(), (SpaceError, Writes)>
+        ensures ok { OnOk result ((self.old.last + put_count writes ≤ 2 ^ 62) × (self.new ≡ put_each self.old writes)) }
+        ensures err { OnErr result (self.new ≡ self.old) }
+        ensures handed_back { IfErr result (λ back. back.1 ≡ writes) }
+        ensures kind { IfErr result (λ back. IsPutRefusal self.old writes back.0) }
+    {
+        let count = count_puts(writes.as_slice());
+        if count as u64 > MOST - self.last {
+            return Err((SpaceError::Exhausted, writes));
+        }
+        if self.entries.reserve(count).is_err() {
+            return Err((SpaceError::OutOfMemory, writes));
+        }
+        self.last = put_rows(
+            &mut self.entries,
+            writes.into_rows(),
+            self.moment,
+            self.last,
+        );
+        Ok(())
     }
 }

@@ -1,0 +1,116 @@
+//! What holding entries does to rows of them.
+
+ghost use Rattle.std.specs.Prelude.{◌≡◌, ◌+◌, ◌≤◌, ◌^◌, ◌==◌, true, not, filter, map, reverse, OnErr, OnOk, vec_capacity, vec_len};
+ghost use Rattle.std.specs.List.{list_any};
+ghost use Rattle.tuple_space.specs.Entry.{is_taken_by, unheld};
+ghost use Rattle.tuple_space.specs.Rows.{IsRising, changed};
+ghost use Rattle.tuple_space.specs.Space.{held_by, released, space_of, stays_without, without_taken};
+ghost use Rattle.tuple_space.specs.Writes.{put_count, put_each};
+
+use crate::entry::Entry;
+use crate::hold::{Hold, Holds};
+use crate::rows::place_of;
+use crate::write::Write;
+use std::alloc::AllocError;
+
+/// Holds the entry of a number.
+pub(crate) fn hold_entry(
+    entries: &mut Vec<Entry>,
+    number: u64,
+    holder: u64,
+    taken: bool,
+) -> Result<(), AllocError>
+    requires rising { IsRising entries.old.items }
+    requires stands { list_any (λ e. e.number == number) entries.old.items ≡ true }
+    ensures ok { OnOk result (entries.new.items ≡ changed number (held_by holder taken) entries.old.items) }
+    ensures err { OnErr result (entries.new.items ≡ entries.old.items) }
+{
+    let Some(place) = place_of(entries, number) else {
+        unreachable!()
+    };
+    let entry = &mut entries[place];
+    let permanent = entry.end.is_permanent();
+    entry.holds.put(Hold {
+        by: holder,
+        taken,
+        permanent,
+    })?;
+    Ok(())
+}
+
+/// Whether an entry stays where a holder's hold of it ends.
+fn stays_without(entry: &Entry, holder: u64, moment: u64) -> bool
+    ensures { result ≡ stays_without holder moment entry.now }
+{
+    if !entry.holds.is_held_by(holder) {
+        return true;
+    }
+    entry.end.is_live(moment) || entry.holds.is_held_besides(holder)
+}
+
+/// Ends the holds of a holder, and drops the entries that go with them.
+pub(crate) fn release_all(entries: &mut Vec<Entry>, holder: u64, moment: u64)
+    ensures { entries.new.items ≡ released holder moment entries.old.items }
+{
+    entries.retain(|entry| stays_without(entry, holder, moment));
+    end_holds(entries, holder);
+}
+
+fn end_holds(entries: &mut [Entry], holder: u64)
+    ensures { entries.new ≡ map (unheld holder) entries.old }
+{
+    for entry in entries.iter_mut() {
+        entry.holds.release(holder);
+    }
+}
+
+/// Drops the entries that a holder took.
+pub(crate) fn drop_taken(entries: &mut Vec<Entry>, holder: u64)
+    ensures { entries.new.items ≡ without_taken holder entries.old.items }
+{
+    entries.retain(|entry| !entry.holds.is_taken_by(holder));
+}
+
+/// How many writes are put out.
+pub(crate) fn count_puts(writes: &[Write]) -> usize
+    ensures { result ≡ put_count writes.now }
+{
+    writes.iter().filter(|write| !write.taken).count()
+}
+
+fn reversed(writes: Vec<Write>) -> Vec<Write>
+    ensures items { result.items ≡ reverse writes.items }
+    ensures count { put_count result.items ≡ put_count writes.items }
+{
+    let mut rest = writes;
+    rest.reverse();
+    rest
+}
+
+/// Puts writes out in order, where there is room for them, and tells the number last given.
+pub(crate) fn put_rows(entries: &mut Vec<Entry>, writes: Vec<Write>, moment: u64, last: u64) -> u64
+    requires early { moment ≤ 2 ^ 62 }
+    requires few { last + put_count writes.items ≤ 2 ^ 62 }
+    requires room { vec_len entries.old + put_count writes.items ≤ vec_capacity entries.old }
+    ensures { space_of entries.new.items moment result ≡ put_each (space_of entries.old.items moment last) writes.items }
+{
+    let mut rest = reversed(writes);
+    let mut number = last;
+    while let Some(write) = rest.pop() {
+        if !write.taken {
+            number += 1;
+            let holds = Holds::new(*entries.allocator());
+            let end = write.lease.granted(moment);
+            let tuple = write.tuple;
+            entries
+                .push(Entry {
+                    number,
+                    tuple,
+                    end,
+                    holds,
+                })
+                .unwrap();
+        }
+    }
+    number
+}
