@@ -1,10 +1,11 @@
 pub mod Bijections
 pub mod Listings
+pub mod MarkTables
 pub mod Matrices
 pub mod Nodes
 pub mod Objectives
 pub mod Orders
 pub mod Picks
-pub mod Prefixes
+pub mod Placements
 pub mod Seen
 pub mod Sums

@@ -1,167 +1,127 @@
 -- The laws of nodes: each completion of a node completes just one child, and a node that places all facilities has its cost.
-use Rattle.std.proofs.Common.{◌≡◌, ◌≢◌, ℕ, zero, suc, ◌+◌, ◌<◌, ◌≤◌, true, cond, List, [], ◌∷◌, ◌++◌, length, get_or, refl, sym, ◌∙◌, ap, ap₂, inl, inr, arith, nat_eq, nat_lt}
-use Rattle.std.specs.Prelude.{ℤ, pos, ◌*ℤ◌, IsTrue, IsFalse}
-use Rattle.std.proofs.lemmas.Int.{ints}
-use Rattle.std.proofs.lemmas.Bool.{cases_eq, cases_lt, cond-true, cond-false, ne_eqb, eq-eqb, eqb-true, or_left, or_cases, or_right, lt-ltb, le-ltb, ltb-true, both_ways}
-use Rattle.std.proofs.lemmas.List.{get_or_append_left, get_or_push, length_push, ext_get_or}
+use Rattle.std.proofs.Common.{◌≡◌, ℕ, ◌<◌, List, [], ◌∷◌, ◌++◌, length, map, get_or, refl, sym, ◌∙◌, ap, ap₂, inl, inr, arith}
+use Rattle.std.specs.Prelude.{ℤ, ◌*ℤ◌}
+use Rattle.std.proofs.lemmas.Bool.{cases_eq}
+use Rattle.std.proofs.lemmas.List.{get_or_append_left, get_or_push, length_push, length-map, get_or-map, ext_get_or}
 use Rattle.qap_cost.specs.Sum.{sum_to}
 use Rattle.qap_cost.specs.Bijection.{IsBijection}
 use Rattle.qap_cost.specs.Instance.{Problem, entry}
 use Rattle.qap_cost.specs.Objective.{pair_cost, row_cost, cost_of}
-use Rattle.qap_cost.specs.Prefix.{Placement, IsPrefix, IsFree, Completes, extended, fixed_of}
-use Rattle.qap_cost.specs.Node.{Node, CompletesNode, IsFreeIn, placing, where_placed, location_cost, placed_cost, fixed_in, node_of}
+use Rattle.qap_cost.specs.Placement.{Placement, IsPlacement, IsFreeFacility, IsFreeLocation, Completes, placing, root_of, placed_pair_cost, fixed_cost_of}
+use Rattle.qap_cost.proofs.Bijections.{inverse_of, inverse-IsBijection, sum_to-in_order}
 use Rattle.qap_cost.proofs.Sums.{sum_to-same}
 
--- ---- branching on any free facility
+pub root_completed : (n : ℕ) (p : List ℕ) → IsBijection p → length p ≡ n → Completes (root_of n) p
+root_completed n p b same = record { bijection = b; same_size = same; agrees = λ t below. absurd (omega arith) }
 
-pub child_of : (x : Node) (f : ℕ) (p : List ℕ) → f < x.size → IsFalse (x.placed f) → CompletesNode x p → IsFreeIn x (get_or p f 0) × CompletesNode (placing x f (get_or p f 0)) p
-child_of x f p below free h =
+-- ---- a child
+
+pub child_of : (x : Placement) (f : ℕ) (p : List ℕ) → IsPlacement x → IsFreeFacility x f → Completes x p → IsFreeLocation x (get_or p f 0) × Completes (placing x f (get_or p f 0)) p
+child_of x f p x_is free h =
     let k = get_or p f 0 in
-    let untaken : (i : ℕ) → i < x.size → x.placed i ≡ true → x.location i ≢ k =
-    λ i small placed e.
-    let same : i ≡ f =
-    h.bijection.distinct i f (omega (arith, h.same_size)) (omega (arith, h.same_size)) (h.agrees i small placed ∙ e) in
-    both_ways (x.placed f) free (ap x.placed (sym same) ∙ placed) in (
-      record { within = omega (arith, h.same_size, h.bijection.within f); untaken = untaken },
+    let d = length x.facilities in
+    let below : (t : ℕ) → t < d → get_or x.facilities t 0 < length p = λ t less. omega (arith, h.same_size, x_is.facilities.within t less) in (
+      record {
+        within = omega (arith, h.same_size, h.bijection.within f (omega (arith, h.same_size, free.within)));
+        untaken = λ t less e.
+            let placed : t < d = omega (arith, x_is.paired) in
+            free.untaken t placed (h.bijection.distinct (get_or x.facilities t 0) f (below t placed) (omega (arith, h.same_size, free.within)) (h.agrees t placed ∙ e));
+      },
       record {
         bijection = h.bijection;
         same_size = h.same_size;
-        agrees = λ i small placed.
-            elim (cases_eq i f) [
-              | inl same ↦ ap (λ j. get_or p j 0) same ∙ sym (cond-true (nat_eq i f) k (x.location i) (eq-eqb i f same))
-              | inr other ↦ elim (or_cases (nat_eq i f) (x.placed i) placed) [
-                | inl e ↦ absurd (other (eqb-true i f e))
-                | inr before ↦ h.agrees i small before ∙ sym (cond-false (nat_eq i f) k (x.location i) (ne_eqb i f other))
-              ]
+        agrees = λ t less.
+            elim (cases_eq t d) [
+              | inl same ↦
+                  ap (λ (j : ℕ). get_or p (get_or (x.facilities ++ f ∷ []) j 0) 0) same
+                  ∙ ap (λ (j : ℕ). get_or p j 0) (get_or_push x.facilities f 0 d refl)
+                  ∙ sym (ap (λ (j : ℕ). get_or (x.places ++ k ∷ []) j 0) same ∙ get_or_push x.places k 0 d x_is.paired)
+              | inr other ↦
+                  let placed : t < d = omega (arith, length_push x.facilities f) in
+                  ap (λ (j : ℕ). get_or p j 0) (get_or_append_left x.facilities (f ∷ []) 0 t placed)
+                  ∙ h.agrees t placed
+                  ∙ sym (get_or_append_left x.places (k ∷ []) 0 t (omega (arith, x_is.paired)))
             ];
       },
     )
 
-pub child_is : (x : Node) (f k : ℕ) (p : List ℕ) → f < x.size → CompletesNode (placing x f k) p → get_or p f 0 ≡ k
-child_is x f k p below h =
-    h.agrees f below (or_left (nat_eq f f) (x.placed f) (eq-eqb f f refl))
-    ∙ cond-true (nat_eq f f) k (x.location f) (eq-eqb f f refl)
+pub child_is : (x : Placement) (f k : ℕ) (p : List ℕ) → IsPlacement x → Completes (placing x f k) p → get_or p f 0 ≡ k
+child_is x f k p x_is h =
+    let d = length x.facilities in
+    ap (λ (j : ℕ). get_or p j 0) (sym (get_or_push x.facilities f 0 d refl))
+    ∙ h.agrees d (omega (arith, length_push x.facilities f))
+    ∙ get_or_push x.places k 0 d x_is.paired
 
-pub parent_of : (x : Node) (f k : ℕ) (p : List ℕ) → IsFalse (x.placed f) → CompletesNode (placing x f k) p → CompletesNode x p
-parent_of x f k p free h = record {
+pub parent_of : (x : Placement) (f k : ℕ) (p : List ℕ) → IsPlacement x → Completes (placing x f k) p → Completes x p
+parent_of x f k p x_is h = record {
   bijection = h.bijection;
   same_size = h.same_size;
-  agrees = λ i small placed.
-      let other : i ≢ f = λ same. both_ways (x.placed f) free (ap x.placed (sym same) ∙ placed) in
-      h.agrees i small (or_right (nat_eq i f) (x.placed i) placed)
-      ∙ cond-false (nat_eq i f) k (x.location i) (ne_eqb i f other);
+  agrees = λ t less.
+      ap (λ (j : ℕ). get_or p j 0) (sym (get_or_append_left x.facilities (f ∷ []) 0 t less))
+      ∙ h.agrees t (omega (arith, length_push x.facilities f))
+      ∙ get_or_append_left x.places (k ∷ []) 0 t (omega (arith, x_is.paired));
 }
 
 -- ---- a node that places all facilities
 
-pub whole_cost : (I : Problem) (x : Node) (p : List ℕ) → I.size ≡ x.size → ((i : ℕ) → i < x.size → IsTrue (x.placed i)) → CompletesNode x p → cost_of I p ≡ fixed_in I x
-whole_cost I x p size all h =
+all_placed : (x : Placement) → IsPlacement x → length x.facilities ≡ x.size → IsBijection x.facilities
+all_placed x h all = record { within = λ i below. omega (arith, h.facilities.within i below); distinct = h.facilities.distinct }
+
+all_taken : (x : Placement) → IsPlacement x → length x.facilities ≡ x.size → IsBijection x.places
+all_taken x h all = record { within = λ i below. omega (arith, h.paired, h.places.within i below); distinct = h.places.distinct }
+
+pub whole_completed : (x : Placement) → IsPlacement x → length x.facilities ≡ x.size → (p : List ℕ) × Completes x p
+whole_completed x h all =
     let n = x.size in
-    let pair : (i j : ℕ) → i < n → j < n → pair_cost I p i j ≡ where_placed x j (location_cost I x i j) =
-    λ i j hi hj.
-    ap₂ (λ k l. entry I.size I.a i j *ℤ entry I.size I.b k l) (h.agrees i hi (all i hi)) (h.agrees j hj (all j hj))
-    ∙ sym (cond-true (x.placed j) (location_cost I x i j) (pos 0) (all j hj)) in
-    let row : (i : ℕ) → i < n → row_cost I p i ≡ where_placed x i (placed_cost I x i) =
-    λ i hi.
-    ap (sum_to (pair_cost I p i)) size
-    ∙ sum_to-same (pair_cost I p i) (λ j. where_placed x j (location_cost I x i j)) n (λ j hj. pair i j hi hj)
-    ∙ sym (cond-true (x.placed i) (placed_cost I x i) (pos 0) (all i hi)) in
-    ap (sum_to (row_cost I p)) size ∙ sum_to-same (row_cost I p) (λ i. where_placed x i (placed_cost I x i)) n row
+    let F = x.facilities in
+    let v = inverse_of F (all_placed x h all) in
+    let q = v.0 in
+    let count : length q ≡ n = v.1.same_length ∙ all in
+    let b : IsBijection q = inverse-IsBijection F q (all_placed x h all) v.1 in
+    let places = all_taken x h all in
+    let p = map (λ t. get_or x.places t 0) q in
+    let long : length p ≡ n = length-map q (λ t. get_or x.places t 0) ∙ count in
+    let at : (i : ℕ) → i < n → get_or p i 0 ≡ get_or x.places (get_or q i 0) 0 = λ i below. get_or-map (λ t. get_or x.places t 0) q i 0 0 (omega (arith, count)) in
+    let inside : (i : ℕ) → i < n → get_or q i 0 < length x.places = λ i below. omega (arith, count, all, h.paired, b.within i (omega (arith, count))) in (
+      p,
+      record {
+        bijection = record {
+          within = λ i below. omega (arith, long, at i (omega (arith, long)), all, h.paired, places.within (get_or q i 0) (inside i (omega (arith, long))));
+          distinct = λ i j hi hj e.
+              b.distinct i j (omega (arith, long, count)) (omega (arith, long, count))
+              (places.distinct (get_or q i 0) (get_or q j 0) (inside i (omega (arith, long))) (inside j (omega (arith, long))) (sym (at i (omega (arith, long))) ∙ e ∙ at j (omega (arith, long))));
+        };
+        same_size = long;
+        agrees = λ t less.
+            at (get_or F t 0) (omega (arith, all, h.facilities.within t less))
+            ∙ ap (λ (j : ℕ). get_or x.places j 0) (v.1.there t less);
+      },
+    )
 
--- ---- prefixes are nodes
+pub whole_only : (x : Placement) (p q : List ℕ) → IsPlacement x → length x.facilities ≡ x.size → Completes x p → Completes x q → p ≡ q
+whole_only x p q h all a b =
+    let F = x.facilities in
+    let v = inverse_of F (all_placed x h all) in
+    let at : (i : ℕ) → i < length p → get_or p i 0 ≡ get_or q i 0 =
+    λ i below.
+    let t = get_or v.0 i 0 in
+    let placed : t < length F = omega (arith, v.1.same_length, all, a.same_size, (inverse-IsBijection F v.0 (all_placed x h all) v.1).within i (omega (arith, v.1.same_length, all, a.same_size))) in
+    let is : get_or F t 0 ≡ i = v.1.back i (omega (arith, all, a.same_size)) in
+    ap (λ (j : ℕ). get_or p j 0) (sym is) ∙ a.agrees t placed ∙ sym (b.agrees t placed) ∙ ap (λ (j : ℕ). get_or q j 0) is in
+    ext_get_or 0 p q (a.same_size ∙ sym b.same_size) at
 
-pub node_from_prefix : (x : Placement) (p : List ℕ) → Completes x p → CompletesNode (node_of x) p
-node_from_prefix x p h = record {
-  bijection = h.bijection;
-  same_size = h.same_size;
-  agrees = λ i small placed. h.agrees i (ltb-true i (length x.places) placed);
-}
-
-pub prefix_from_node : (x : Placement) (p : List ℕ) → length x.places ≤ x.size → CompletesNode (node_of x) p → Completes x p
-prefix_from_node x p few h = record {
-  bijection = h.bijection;
-  same_size = h.same_size;
-  agrees = λ i below. h.agrees i (omega arith) (lt-ltb i (length x.places) below);
-}
-
-free_from_node : (x : Placement) (k : ℕ) → length x.places ≤ x.size → IsFreeIn (node_of x) k → IsFree x k
-free_from_node x k few h = record {
-  within = h.within;
-  untaken = λ i below. h.untaken i (omega arith) (lt-ltb i (length x.places) below);
-}
-
--- the first d terms of a sum
-sum_to-first : (f : ℕ → ℤ) (d n : ℕ) → d ≤ n → sum_to (λ i. cond (nat_lt i d) (f i) (pos 0)) n ≡ sum_to f d
-sum_to-first f d zero h = let none : d ≡ 0 = omega arith in ap (sum_to f) (sym none)
-sum_to-first f d (suc n) h =
-    let g : ℕ → ℤ = λ i. cond (nat_lt i d) (f i) (pos 0) in
-    elim (cases_lt n d) [
-      | inl inside ↦
-          let all : d ≡ suc n = omega arith in
-          sum_to-same g f (suc n) (λ i below. cond-true (nat_lt i d) (f i) (pos 0) (lt-ltb i d (omega arith))) ∙ ap (sum_to f) (sym all)
-      | inr past ↦
-          let before : sum_to g n ≡ sum_to f d = sum_to-first f d n past in
-          let last : g n ≡ pos 0 = cond-false (nat_lt n d) (f n) (pos 0) (le-ltb n d past) in
-          omega (arith, ints)
-    ]
-
-pub fixed_from_node : (I : Problem) (x : Placement) → length x.places ≤ x.size → fixed_in I (node_of x) ≡ fixed_of I x.places
-fixed_from_node I x few =
-    let d = length x.places in
-    let row : (i : ℕ) → placed_cost I (node_of x) i ≡ sum_to (pair_cost I x.places i) d =
-    λ i. sum_to-first (pair_cost I x.places i) d x.size few in
-    sum_to-first (placed_cost I (node_of x)) d x.size few
-    ∙ sum_to-same (placed_cost I (node_of x)) (λ i. sum_to (pair_cost I x.places i) d) d (λ i below. row i)
-
--- ---- the prefix
-
-pub root_completed : (n : ℕ) (p : List ℕ) → IsBijection p → length p ≡ n → Completes (record { size = n; places = [] }) p
-root_completed n p b same = record { bijection = b; same_size = same; agrees = λ i below. absurd (omega arith) }
-
--- the next facility at k, as a child of the node
-extended_from_node : (x : Placement) (k : ℕ) (p : List ℕ) → length x.places < x.size → CompletesNode (placing (node_of x) (length x.places) k) p → Completes (extended x k) p
-extended_from_node x k p deeper h = record {
-  bijection = h.bijection;
-  same_size = h.same_size;
-  agrees = λ i below.
-      let d = length x.places in
-      let count : length (x.places ++ k ∷ []) ≡ d + 1 = length_push x.places k in
-      elim (cases_eq i d) [
-        | inl same ↦ ap (λ j. get_or p j 0) same ∙ child_is (node_of x) d k p deeper h
-            ∙ sym (get_or_push x.places k 0 d refl) ∙ ap (λ j. get_or (x.places ++ k ∷ []) j 0) (sym same)
-        | inr other ↦ (parent_of (node_of x) d k p (le-ltb d d (omega arith)) h).agrees i (omega arith) (lt-ltb i d (omega arith))
-            ∙ sym (get_or_append_left x.places (k ∷ []) 0 i (omega arith))
-      ];
-}
-
-pub prefix_child_of : (x : Placement) (p : List ℕ) → length x.places < x.size → Completes x p → IsFree x (get_or p (length x.places) 0) × Completes (extended x (get_or p (length x.places) 0)) p
-prefix_child_of x p deeper h =
-    let d = length x.places in
-    let child = child_of (node_of x) d p deeper (le-ltb d d (omega arith)) (node_from_prefix x p h) in
-    (free_from_node x (get_or p d 0) (omega arith) child.0, extended_from_node x (get_or p d 0) p deeper child.1)
-
-pub prefix_child_is : (x : Placement) (k : ℕ) (p : List ℕ) → Completes (extended x k) p → get_or p (length x.places) 0 ≡ k
-prefix_child_is x k p h =
-    h.agrees (length x.places) (omega (arith, length_push x.places k)) ∙ get_or_push x.places k 0 (length x.places) refl
-
-pub prefix_parent_of : (x : Placement) (k : ℕ) (p : List ℕ) → Completes (extended x k) p → Completes x p
-prefix_parent_of x k p h = record {
-  bijection = h.bijection;
-  same_size = h.same_size;
-  agrees = λ i below. h.agrees i (omega (arith, length_push x.places k)) ∙ get_or_append_left x.places (k ∷ []) 0 i below;
-}
-
-pub full_completed : (x : Placement) → IsPrefix x → length x.places ≡ x.size → Completes x x.places
-full_completed x h full = record {
-  bijection = record { within = λ i below. omega (arith, h.within i below); distinct = h.distinct };
-  same_size = full;
-  agrees = λ i below. refl;
-}
-
-pub full_is : (x : Placement) (p : List ℕ) → length x.places ≡ x.size → Completes x p → p ≡ x.places
-full_is x p full h = ext_get_or 0 p x.places (h.same_size ∙ sym full) (λ i below. h.agrees i (omega (arith, h.same_size)))
-
-pub full_cost : (I : Problem) (x : Placement) (p : List ℕ) → I.size ≡ x.size → length x.places ≡ x.size → Completes x p → cost_of I p ≡ fixed_of I x.places
-full_cost I x p size full h =
-    whole_cost I (node_of x) p size (λ i below. lt-ltb i (length x.places) (omega arith)) (node_from_prefix x p h)
-    ∙ fixed_from_node I x (omega arith)
+pub whole_cost : (I : Problem) (x : Placement) (p : List ℕ) → IsPlacement x → I.size ≡ x.size → length x.facilities ≡ x.size → Completes x p → cost_of I p ≡ fixed_cost_of I x
+whole_cost I x p h size all done =
+    let d = length x.facilities in
+    let n_is : I.size ≡ d = size ∙ sym all in
+    let at : ℕ → ℕ = λ s. get_or x.facilities s 0 in
+    let in_order : (g : ℕ → ℤ) → sum_to g I.size ≡ sum_to (λ s. g (at s)) d =
+    λ g. ap (sum_to g) n_is ∙ sym (sum_to-in_order g x.facilities (all_placed x h all)) in
+    let pair : (s t : ℕ) → s < d → t < d → pair_cost I p (at s) (at t) ≡ placed_pair_cost I x s t =
+    λ s t hs ht. ap₂ (λ (k l : ℕ). entry I.size I.a (at s) (at t) *ℤ entry I.size I.b k l) (done.agrees s hs) (done.agrees t ht) in
+    let row : (s : ℕ) → s < d → row_cost I p (at s) ≡ sum_to (placed_pair_cost I x s) d =
+    λ s hs.
+    in_order (pair_cost I p (at s))
+    ∙ sum_to-same (λ t. pair_cost I p (at s) (at t)) (placed_pair_cost I x s) d (λ t ht. pair s t hs ht) in
+    in_order (row_cost I p)
+    ∙ sum_to-same (λ s. row_cost I p (at s)) (λ s. sum_to (placed_pair_cost I x s) d) d row

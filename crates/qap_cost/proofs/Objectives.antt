@@ -5,7 +5,8 @@ use Rattle.std.proofs.lemmas.Int.{to_z-of_z, fits_signed_from_abs}
 use Rattle.std.proofs.Math.IntN.{*ℤ_comm}
 use Rattle.qap_cost.specs.Sum.{sum_to}
 use Rattle.qap_cost.specs.Bijection.{IsBijection, IsInverse}
-use Rattle.qap_cost.specs.Instance.{Problem, InRange, entry}
+use Rattle.qap_cost.specs.Instance.{Problem, entry}
+use Rattle.qap_cost.specs.Range.{InRange}
 use Rattle.qap_cost.specs.Row.{IsRow, product_at}
 use Rattle.qap_cost.specs.Objective.{pair_cost, row_cost, cost_of, exchanged}
 use Rattle.qap_cost.proofs.Sums.{sum_to-same}

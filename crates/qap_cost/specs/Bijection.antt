@@ -1,10 +1,14 @@
 -- Permutations as lists: the number at place i is where i is sent.
 use Rattle.std.specs.Prelude.{◌≡◌, ℕ, ◌<◌, ◌≤◌, List, length, slice_index}
 
--- a bijection of 0, .., n - 1 to itself, where n is the list's length: each number is below n, and no two are equal
-pub record IsBijection (p : List ℕ) : Type 0 where
-  pub within : (i : ℕ) → i < length p → slice_index p i < length p
-  pub distinct : (i j : ℕ) → i < length p → j < length p → slice_index p i ≡ slice_index p j → i ≡ j
+-- numbers below n, no two of them equal
+pub record AreDifferent (n : ℕ) (xs : List ℕ) : Type 0 where
+  pub within : (i : ℕ) → i < length xs → slice_index xs i < n
+  pub distinct : (i j : ℕ) → i < length xs → j < length xs → slice_index xs i ≡ slice_index xs j → i ≡ j
+
+-- a bijection of 0, .., n - 1 to itself, where n is the list's length
+abbrev pub IsBijection : List ℕ → Type 0
+IsBijection p = AreDifferent (length p) p
 
 -- q sends each number back to where p takes it from
 pub record IsInverse (p q : List ℕ) : Type 0 where

@@ -1,5 +1,6 @@
 -- Instances of the quadratic assignment problem (Koopmans and Beckmann 1957), of the sizes and entries that are taken.
-use Rattle.std.specs.Prelude.{◌≡◌, ℕ, ◌+◌, ◌*◌, ◌<◌, ◌≤◌, List, length, ℤ, pos, slice_index_or, unsigned_abs}
+use Rattle.std.specs.Prelude.{◌≡◌, ℕ, ◌+◌, ◌*◌, ◌<◌, ◌≤◌, List, length, ℤ, pos, slice_index_or}
+pub use Rattle.qap_cost.specs.Range.{InRange}
 
 -- two size by size matrices, each listed by rows
 pub record Problem : Type 0 where
@@ -10,9 +11,6 @@ pub record Problem : Type 0 where
 -- row i, column j of an n by n matrix that is listed by rows
 abbrev pub entry : ℕ → List ℤ → ℕ → ℕ → ℤ
 entry n xs i j = slice_index_or xs (i * n + j) (pos 0)
-
-abbrev pub InRange : ℤ → Type 0
-InRange x = unsigned_abs x ≤ 1000000000
 
 pub record IsInstance (I : Problem) : Type 0 where
   pub positive : 0 < I.size

@@ -2,8 +2,8 @@ pub mod Bijection
 pub mod Fault
 pub mod Instance
 pub mod Matrix
-pub mod Node
 pub mod Objective
-pub mod Prefix
+pub mod Placement
+pub mod Range
 pub mod Row
 pub mod Sum

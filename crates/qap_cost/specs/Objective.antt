@@ -26,7 +26,11 @@ pub record Permutes (I : Problem) (p : List ℕ) : Type 0 where
   pub bijection : IsBijection p
   pub same_size : length p ≡ I.size
 
+-- no permutation costs less than c
+abbrev pub NoneCostsLess : Problem → ℤ → Type 0
+NoneCostsLess I c = (p : List ℕ) → Permutes I p → c ≤ℤ cost_of I p
+
 -- some permutation costs c, and none costs less
 pub record IsLeast (I : Problem) (c : ℤ) : Type 0 where
   pub reached : (p : List ℕ) × Permutes I p × (cost_of I p ≡ c)
-  pub least : (p : List ℕ) → Permutes I p → c ≤ℤ cost_of I p
+  pub least : NoneCostsLess I c

@@ -4,8 +4,9 @@ ghost use Rattle.std.specs.Prelude.{◌≡◌, ◌<◌, IfOk, MatchResult};
 ghost use Rattle.std.specs.Bool.{MatchBool};
 ghost use Rattle.std.specs.List.{All};
 ghost use Rattle.qap_cost.specs.Fault.{IsFirstFault, HasEntryOutside};
-ghost use Rattle.qap_cost.specs.Instance.{Problem, IsInstance, InRange, entry};
-ghost use Rattle.qap_cost.specs.Row.{AllInRange, IsRow};
+ghost use Rattle.qap_cost.specs.Instance.{Problem, IsInstance, entry};
+ghost use Rattle.qap_cost.specs.Range.{AllInRange, InRange};
+ghost use Rattle.qap_cost.specs.Row.{IsRow};
 
 use crate::CostError;
 use std::alloc::AllocError;

@@ -4,25 +4,24 @@
 mod error;
 mod instance;
 mod listing;
+mod marks;
 mod matrix;
-mod node;
 mod objective;
+mod partial;
 mod permutation;
-mod prefix;
+mod placement;
 
 pub use error::CostError;
 pub use instance::{Instance, MAX_ENTRY, MAX_SIZE};
 pub use listing::least_by_listing;
+pub use marks::marked;
 pub use matrix::{Matrix, weak_duality_law};
-pub use node::{
-    branching_law, children_law, free_locations_law, full_prefix_law, prefix_node_law, root_law,
-    whole_node_law,
-};
-pub use objective::{cost, exchange_law};
+pub use objective::{cost, exchange_law, product};
+pub use partial::Partial;
 pub use permutation::Perm;
-pub use prefix::Prefix;
+pub use placement::{children_law, free_law, root_law, whole_node_law};
 
 #[cfg(test)]
-mod prefix_tests;
+mod partial_tests;
 #[cfg(test)]
 mod tests;

@@ -2,8 +2,9 @@
 
 ghost use Rattle.std.specs.Prelude.{◌≡◌, ◌*◌, ◌^◌, ◌<◌, ◌≤◌, ◌*ℤ◌, List, ℕ, length, slice_index, unsigned_abs};
 ghost use Rattle.qap_cost.specs.Sum.{sum_to};
-ghost use Rattle.qap_cost.specs.Instance.{Problem, InRange};
-ghost use Rattle.qap_cost.specs.Row.{AllInRange, product_at};
+ghost use Rattle.qap_cost.specs.Instance.{Problem};
+ghost use Rattle.qap_cost.specs.Range.{AllInRange, InRange};
+ghost use Rattle.qap_cost.specs.Row.{product_at};
 ghost use Rattle.qap_cost.specs.Bijection.{IsBijection, IsInverse};
 ghost use Rattle.qap_cost.specs.Objective.{cost_of, exchanged};
 
@@ -28,7 +29,7 @@ pub fn cost(instance: &Instance, permutation: &Perm) -> i128
 }
 
 /// The sum over all `j` below the number of locations of `a_row[j] * b_row[locations[j]]`.
-pub(crate) fn row_product(a_row: &[i64], b_row: &[i64], locations: &[u16]) -> i128
+fn row_product(a_row: &[i64], b_row: &[i64], locations: &[u16]) -> i128
     requires small { length locations.now ≤ 256 }
     requires a_count { length locations.now ≤ length a_row.now }
     requires b_count { (j : ℕ) → j < length locations.now → slice_index locations.now j < length b_row.now }
@@ -45,7 +46,8 @@ pub(crate) fn row_product(a_row: &[i64], b_row: &[i64], locations: &[u16]) -> i1
     total
 }
 
-fn product(x: i64, y: i64) -> i64
+/// The product of two entries, which fits 64 bits.
+pub fn product(x: i64, y: i64) -> i64
     requires left { InRange x }
     requires right { InRange y }
     ensures value { result ≡ x *ℤ y }

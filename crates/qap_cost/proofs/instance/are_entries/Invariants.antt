@@ -1,5 +1,5 @@
 use Rattle.std.proofs.Common.{ℕ, ◌<◌, get_or, pos}
-use Rattle.qap_cost.specs.Instance.{InRange}
+use Rattle.qap_cost.specs.Range.{InRange}
 use Rattle.qap_cost.proofs.instance.are_entries.Given as goal
 
 abbrev pub invariant-loop-x : goal.invariant-loop-x

@@ -1,5 +1,0 @@
-use Rattle.qap_cost.proofs.Nodes.{child_of, child_is, parent_of}
-use Rattle.qap_cost.proofs.node.branching_law.Goals as goal
-
-pub returns : goal.returns
-returns c = record { child = child_of; only = child_is; parent = parent_of }

@@ -1,5 +1,0 @@
-use Rattle.qap_cost.proofs.Nodes.{root_completed}
-use Rattle.qap_cost.proofs.node.root_law.Goals as goal
-
-pub returns : goal.returns
-returns c = root_completed

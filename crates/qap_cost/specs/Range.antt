@@ -1,0 +1,20 @@
+-- How far from 0 numbers lie.
+use Rattle.std.specs.Prelude.{ℕ, ◌<◌, ◌≤◌, ◌^◌, List, length, ℤ, pos, slice_index_or, unsigned_abs}
+
+-- no number of the list is further from 0 than the limit
+pub record AllWithin (limit : ℕ) (xs : List ℤ) : Type 0 where
+  pub each : (j : ℕ) → j < length xs → unsigned_abs (slice_index_or xs j (pos 0)) ≤ limit
+
+-- from -10^9 to 10^9, as entries are
+abbrev pub InRange : ℤ → Type 0
+InRange x = unsigned_abs x ≤ 1000000000
+
+abbrev pub AllInRange : List ℤ → Type 0
+AllInRange xs = AllWithin 1000000000 xs
+
+-- from -10^24 to 10^24, as stated costs and duals are
+abbrev pub IsLimited : ℤ → Type 0
+IsLimited x = unsigned_abs x ≤ 10 ^ 24
+
+abbrev pub AllLimited : List ℤ → Type 0
+AllLimited xs = AllWithin (10 ^ 24) xs
