@@ -6,10 +6,11 @@ use Rattle.std.proofs.lemmas.Nat.{mul-le}
 use Rattle.std.proofs.lemmas.List.{length-append, length-map, get_or_append_left, get_or-append-add, get_or-map}
 use Rattle.qap_cost.specs.Sum.{sum_to}
 use Rattle.qap_cost.specs.Instance.{Problem, entry}
-use Rattle.qap_cost.specs.Row.{AllInRange}
+use Rattle.qap_cost.specs.Range.{AllInRange}
 use Rattle.qap_cost.proofs.Sums.{sum_to-same, sum_to-add, sum_to-bound}
 use Rattle.gilmore_lawler.specs.declared.side.Side.TheVariants.{Flow, Distance}
-use Rattle.gilmore_lawler.specs.ReducedMatrix.{Node, IsReducedEntry, cost_with, linear_cost, others}
+use Rattle.qap_cost.specs.Placement.{Placement, free_facilities, free_locations}
+use Rattle.gilmore_lawler.specs.ReducedMatrix.{IsReducedEntry, cost_with, linear_cost, others}
 use Rattle.gilmore_lawler.specs.Table.{dot, linear_row, IsFactorRow}
 use Rattle.gilmore_lawler.proofs.Lists.{IsArranged, IsArranged-from_permutation}
 use Rattle.gilmore_lawler.proofs.Rearrangement.{product_along, IsLeastProduct-sorted}
@@ -47,7 +48,7 @@ assoc_sum : (p q r : ℤ) → (p +ℤ q) +ℤ r ≡ p +ℤ (q +ℤ r)
 assoc_sum p q r = omega (arith, ints)
 
 -- what the linear parts of two rows give
-dot-linear_row : (I : Problem) (x : Node) (i k : ℕ) → length x.places ≡ length x.placed → dot (linear_row I.size I.a x.placed i) (linear_row I.size I.b x.places k) ≡ linear_cost I x i k
+dot-linear_row : (I : Problem) (x : Placement) (i k : ℕ) → length x.places ≡ length x.facilities → dot (linear_row I.size I.a x.facilities i) (linear_row I.size I.b x.places k) ≡ linear_cost I x i k
 dot-linear_row I x i k paired =
     let n = I.size in
     let a_own = entry n I.a i i ∷ [] in
@@ -56,29 +57,29 @@ dot-linear_row I x i k paired =
     let b_to : ℕ → ℤ = entry n I.b k in
     let a_from : ℕ → ℤ = λ h. entry n I.a h i in
     let b_from : ℕ → ℤ = λ g. entry n I.b g k in
-    let outer = dot-append (a_own ++ map a_to x.placed) (map a_from x.placed) (b_own ++ map b_to x.places) (map b_from x.places)
-    (omega (arith, length-append a_own (map a_to x.placed), length-append b_own (map b_to x.places), length-map x.placed a_to, length-map x.places b_to, paired)) in
-    let inner = dot-append a_own (map a_to x.placed) b_own (map b_to x.places) refl in
+    let outer = dot-append (a_own ++ map a_to x.facilities) (map a_from x.facilities) (b_own ++ map b_to x.places) (map b_from x.places)
+    (omega (arith, length-append a_own (map a_to x.facilities), length-append b_own (map b_to x.places), length-map x.facilities a_to, length-map x.places b_to, paired)) in
+    let inner = dot-append a_own (map a_to x.facilities) b_own (map b_to x.places) refl in
     let own = dot-one (entry n I.a i i) (entry n I.b k k) in
-    let there = dot-map a_to b_to x.placed x.places paired in
-    let back = dot-map a_from b_from x.placed x.places paired in
-    let both : sum_to (cost_with I x i k) (length x.placed) ≡ sum_to (λ t. a_to (get_or x.placed t 0) *ℤ b_to (get_or x.places t 0)) (length x.placed) +ℤ sum_to (λ t. a_from (get_or x.placed t 0) *ℤ b_from (get_or x.places t 0)) (length x.placed) =
-    sum_to-add (λ t. a_to (get_or x.placed t 0) *ℤ b_to (get_or x.places t 0)) (λ t. a_from (get_or x.placed t 0) *ℤ b_from (get_or x.places t 0)) (length x.placed) in
+    let there = dot-map a_to b_to x.facilities x.places paired in
+    let back = dot-map a_from b_from x.facilities x.places paired in
+    let both : sum_to (cost_with I x i k) (length x.facilities) ≡ sum_to (λ t. a_to (get_or x.facilities t 0) *ℤ b_to (get_or x.places t 0)) (length x.facilities) +ℤ sum_to (λ t. a_from (get_or x.facilities t 0) *ℤ b_from (get_or x.places t 0)) (length x.facilities) =
+    sum_to-add (λ t. a_to (get_or x.facilities t 0) *ℤ b_to (get_or x.places t 0)) (λ t. a_from (get_or x.facilities t 0) *ℤ b_from (get_or x.places t 0)) (length x.facilities) in
     outer
     ∙ ap₂ ◌+ℤ◌ (inner ∙ ap₂ ◌+ℤ◌ own there) back
-    ∙ assoc_sum (entry n I.a i i *ℤ entry n I.b k k) (sum_to (λ t. a_to (get_or x.placed t 0) *ℤ b_to (get_or x.places t 0)) (length x.placed)) (sum_to (λ t. a_from (get_or x.placed t 0) *ℤ b_from (get_or x.places t 0)) (length x.placed))
+    ∙ assoc_sum (entry n I.a i i *ℤ entry n I.b k k) (sum_to (λ t. a_to (get_or x.facilities t 0) *ℤ b_to (get_or x.places t 0)) (length x.facilities)) (sum_to (λ t. a_from (get_or x.facilities t 0) *ℤ b_from (get_or x.places t 0)) (length x.facilities))
     ∙ ap (λ z. entry n I.a i i *ℤ entry n I.b k k +ℤ z) (sym both)
 
 -- the product of a row of flows and a row of distances is an entry of the reduced matrix
-pub IsReducedEntry-from_rows : (I : Problem) (x : Node) (r c : ℕ) (a b : List ℤ) → length x.places ≡ length x.placed → length x.locations ≡ length x.facilities → r < length x.facilities → c < length x.facilities → IsFactorRow I Flow x.placed x.facilities r a → IsFactorRow I Distance x.places x.locations c b → IsReducedEntry I x r c (dot a b)
+pub IsReducedEntry-from_rows : (I : Problem) (x : Placement) (r c : ℕ) (a b : List ℤ) → length x.places ≡ length x.facilities → length (free_locations x) ≡ length (free_facilities x) → r < length (free_facilities x) → c < length (free_facilities x) → IsFactorRow I Flow x.facilities (free_facilities x) r a → IsFactorRow I Distance x.places (free_locations x) c b → IsReducedEntry I x r c (dot a b)
 IsReducedEntry-from_rows I x r c a b paired square hr hc ra rb =
     let n = I.size in
-    let i = get_or x.facilities r 0 in
-    let k = get_or x.locations c 0 in
-    let flows = others n I.a x.facilities r in
-    let distances = others n I.b x.locations c in
-    let flows_count = length-others n I.a x.facilities r hr in
-    let distances_count = length-others n I.b x.locations c (omega (arith, square)) in
+    let i = get_or (free_facilities x) r 0 in
+    let k = get_or (free_locations x) c 0 in
+    let flows = others n I.a (free_facilities x) r in
+    let distances = others n I.b (free_locations x) c in
+    let flows_count = length-others n I.a (free_facilities x) r hr in
+    let distances_count = length-others n I.b (free_locations x) c (omega (arith, square)) in
     let up : IsArranged flows ra.sorted = IsArranged-from_permutation flows ra.sorted ra.moved in
     let down : IsArranged distances rb.sorted = IsArranged-from_permutation distances rb.sorted rb.moved in
     let least = IsLeastProduct-sorted flows distances ra.sorted rb.sorted up down (omega (arith, flows_count, distances_count, square)) ra.ordered rb.ordered in
@@ -87,7 +88,7 @@ IsReducedEntry-from_rows I x r c a b paired square hr hc ra rb =
       is_least = least;
       sum =
           ap₂ dot ra.is rb.is
-          ∙ dot-append (linear_row n I.a x.placed i) ra.sorted (linear_row n I.b x.places k) rb.sorted
-          (omega (arith, length-linear_row n I.a x.placed i, length-linear_row n I.b x.places k, paired))
+          ∙ dot-append (linear_row n I.a x.facilities i) ra.sorted (linear_row n I.b x.places k) rb.sorted
+          (omega (arith, length-linear_row n I.a x.facilities i, length-linear_row n I.b x.places k, paired))
           ∙ ap₂ ◌+ℤ◌ (dot-linear_row I x i k paired) (ap (sum_to (product_along ra.sorted rb.sorted)) up.same_length);
     }

@@ -2,7 +2,7 @@ pub mod Completions
 pub mod Dots
 pub mod FactorRows
 pub mod Lists
-pub mod PrefixNodes
+pub mod OneMatrix
 pub mod Rankings
 pub mod Rearrangement
 pub mod ReducedMatrices

@@ -13,7 +13,8 @@ use Rattle.std.specs.List.Sorted.{IsSorted, IsPermutation}
 use Rattle.std.proofs.Math.IntN.{*ℤ_comm}
 use Rattle.qap_cost.specs.Sum.{sum_to}
 use Rattle.qap_cost.specs.Bijection.{IsBijection}
-use Rattle.qap_cost.specs.Row.{product_at, AllInRange}
+use Rattle.qap_cost.specs.Range.{AllInRange}
+use Rattle.qap_cost.specs.Row.{product_at}
 use Rattle.qap_cost.proofs.Sums.{*ℤ-+ℤ, sum_to-same, sum_to-add, sum_to-monotone}
 use Rattle.qap_cost.proofs.Bijections.{sum_to-in_order, inverse_of, inverse-IsBijection}
 use Rattle.gilmore_lawler.specs.Order.{IsAscending, IsDescending}

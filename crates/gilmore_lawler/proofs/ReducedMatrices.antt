@@ -1,116 +1,114 @@
 -- The products of the rows of factors are the reduced matrix.
-use Rattle.std.proofs.Common.{◌≡◌, ℕ, ◌+◌, ◌-◌, ◌*◌, ◌<◌, ◌≤◌, ◌++◌, ◌∷◌, [], sym, ◌∙◌, ap, ap₂, subst, arith, List, length, get_or}
-use Rattle.std.specs.Prelude.{ℤ, pos, Option, Some, MatchOption}
-use Rattle.std.specs.List.{range_with_len}
+use Rattle.std.proofs.Common.{◌≡◌, ℕ, ◌+◌, ◌-◌, ◌*◌, ◌/◌, ◌%◌, ◌<◌, ◌≤◌, sym, ◌∙◌, ap, ap₂, subst, arith, List, length, get_or}
+use Rattle.std.specs.Prelude.{ℤ, pos, unsigned_abs, Option, Some, MatchOption}
 use Rattle.std.specs.List.Sorted.{IsStrictlyIncreasing}
-use Rattle.std.proofs.lemmas.List.{map-id}
-use Rattle.std.proofs.lemmas.List.FromFn.{length-range_with_len, get_or-range_with_len, get_or-map-range_with_len, map-range_with_len_more}
+use Rattle.std.proofs.lemmas.List.FromFn.{get_or-map-range_with_len}
+use Rattle.std.proofs.lemmas.Nat.{mod_below}
+use Rattle.std.proofs.Math.Nat.{div-add-mod, mul_comm}
 use Rattle.qap_cost.specs.Instance.{Problem}
-use Rattle.qap_cost.specs.Row.{AllInRange}
+use Rattle.qap_cost.specs.Range.{AllInRange, AllWithin}
 use Rattle.qap_cost.specs.Matrix.{Square, IsMatrix}
-use Rattle.qap_cost.specs.Prefix.{Placement, IsPrefix, free_of}
-use Rattle.qap_cost.proofs.Prefixes.{ListsFree-free_of}
+use Rattle.qap_cost.specs.Bijection.{AreDifferent}
+use Rattle.qap_cost.specs.Placement.{Placement, IsPlacement, ListsFree, free_facilities, free_locations}
+use Rattle.qap_cost.proofs.Placements.{ListsFree-free_below}
 use Rattle.gilmore_lawler.specs.declared.side.Side.TheVariants.{Flow, Distance}
-use Rattle.gilmore_lawler.specs.ReducedMatrix.{IsReducedEntry, IsReduced, EntriesWithin, node_of}
+use Rattle.gilmore_lawler.specs.ReducedMatrix.{IsReducedEntry, IsReduced}
 use Rattle.gilmore_lawler.specs.Table.{segment, dot, AllBelow, IsTable, IsFactorRow, IsProductRow}
 use Rattle.gilmore_lawler.proofs.Dots.{dot-bound, IsReducedEntry-from_rows}
+use Rattle.gilmore_lawler.proofs.OneMatrix.{positive_root, row_below}
 use Rattle.gilmore_lawler.proofs.Tables.{get_or-segment, length-segment, AllInRange-segment}
 
-pub range_with_len-more : (a n j : ℕ) → a + n ≡ j → range_with_len a (n + 1) ≡ range_with_len a n ++ j ∷ []
-range_with_len-more a n j e =
-    sym (map-id (range_with_len a (n + 1)))
-    ∙ map-range_with_len_more (λ k. k) a n j e
-    ∙ ap (λ xs. xs ++ j ∷ []) (map-id (range_with_len a n))
+-- a node's placed facilities and places, and its free ones, are below its size
+pub AllBelow-different : (n : ℕ) (xs : List ℕ) → AreDifferent n xs → AllBelow n xs
+AllBelow-different n xs h = record { each = h.within }
 
-pub AllBelow-range : (a n m : ℕ) → a + n ≤ m → AllBelow m (range_with_len a n)
-AllBelow-range a n m h = record {
-  each = λ j below.
-      let inside : j < n = omega (arith, length-range_with_len a n) in
-      omega (arith, get_or-range_with_len a n j 0 inside);
-}
+pub AllBelow-listed : (n : ℕ) (taken free : List ℕ) → ListsFree n taken free → AllBelow n free
+AllBelow-listed n taken free h = record { each = λ j below. (h.each j below).within }
 
-pub AllBelow-places : (x : Placement) → IsPrefix x → AllBelow x.size x.places
-AllBelow-places x h = record { each = h.within }
+-- the free ones rise
+pub IsStrictlyIncreasing-listed : (n : ℕ) (taken free : List ℕ) → ListsFree n taken free → IsStrictlyIncreasing free
+IsStrictlyIncreasing-listed n taken free h = λ k below. h.ascending k (k + 1) (omega arith) below
 
-pub AllBelow-free : (x : Placement) → IsPrefix x → AllBelow x.size (free_of x)
-AllBelow-free x h = record { each = λ j below. ((ListsFree-free_of x h).each j below).within }
-
--- the tables of a prefix and their products
+-- the tables of a node and their products
 pub record HasProducts (I : Problem) (x : Placement) (a b entries : List ℤ) : Type 0 where
-  pub a_rows : IsTable (2 * length (node_of x).placed + length (node_of x).facilities) (length (node_of x).facilities) (IsFactorRow I Flow (node_of x).placed (node_of x).facilities) a
-  pub b_rows : IsTable (2 * length x.places + length (free_of x)) (length (free_of x)) (IsFactorRow I Distance x.places (free_of x)) b
+  pub a_rows : IsTable (2 * length x.facilities + length (free_facilities x)) (length (free_facilities x)) (IsFactorRow I Flow x.facilities (free_facilities x)) a
+  pub b_rows : IsTable (2 * length x.places + length (free_locations x)) (length (free_locations x)) (IsFactorRow I Distance x.places (free_locations x)) b
   pub a_range : AllInRange a
   pub b_range : AllInRange b
-  pub products : IsTable (x.size - length x.places) (x.size - length x.places) (IsProductRow (x.size + length x.places) (x.size - length x.places) a b) entries
+  pub products : IsTable (x.size - length x.facilities) (x.size - length x.facilities) (IsProductRow (x.size + length x.facilities) (x.size - length x.facilities) a b) entries
 
 -- an entry of the products
-entry_is : (I : Problem) (x : Placement) (a b entries : List ℤ) (r c : ℕ) → HasProducts I x a b entries → r < x.size - length x.places → c < x.size - length x.places → get_or entries (r * (x.size - length x.places) + c) (pos 0) ≡ dot (segment (x.size + length x.places) a r) (segment (x.size + length x.places) b c)
+entry_is : (I : Problem) (x : Placement) (a b entries : List ℤ) (r c : ℕ) → HasProducts I x a b entries → r < x.size - length x.facilities → c < x.size - length x.facilities → get_or entries (r * (x.size - length x.facilities) + c) (pos 0) ≡ dot (segment (x.size + length x.facilities) a r) (segment (x.size + length x.facilities) b c)
 entry_is I x a b entries r c h hr hc =
-    let m = x.size - length x.places in
-    let w = x.size + length x.places in
+    let m = x.size - length x.facilities in
+    let w = x.size + length x.facilities in
     sym (get_or-segment m r c entries hc)
     ∙ ap (λ xs. get_or xs c (pos 0)) (h.products.rows r hr)
     ∙ get_or-map-range_with_len (λ k. dot (segment w a r) (segment w b k)) 0 m c c (pos 0) hc (omega arith)
 
-pub IsReduced-from_products : (I : Problem) (x : Placement) (a b entries : List ℤ) → IsPrefix x → HasProducts I x a b entries → IsReduced I x (record { size = x.size - length x.places; entries = entries })
-IsReduced-from_products I x a b entries prefix h =
-    let d = length x.places in
+pub IsReduced-from_products : (I : Problem) (x : Placement) (a b entries : List ℤ) → IsPlacement x → HasProducts I x a b entries → IsReduced I x (record { size = x.size - length x.facilities; entries = entries })
+IsReduced-from_products I x a b entries node h =
+    let d = length x.facilities in
     let m = x.size - d in
     let w = x.size + d in
-    let node = node_of x in
-    let placed_count : length node.placed ≡ d = length-range_with_len 0 d in
-    let free_count : length node.facilities ≡ m = length-range_with_len d m in
-    let columns = (ListsFree-free_of x prefix).count in
-    let a_width : 2 * length node.placed + length node.facilities ≡ w = omega (arith, placed_count, free_count, prefix.depth) in
-    let b_width : 2 * d + length (free_of x) ≡ w = omega (arith, columns, prefix.depth) in
+    let rows = (ListsFree-free_below x.size x.facilities node.facilities).count in
+    let columns = (ListsFree-free_below x.size x.places node.places).count in
+    let free_count : length (free_facilities x) ≡ m = omega (arith, rows) in
+    let a_width : 2 * d + length (free_facilities x) ≡ w = omega (arith, rows) in
+    let b_width : 2 * length x.places + length (free_locations x) ≡ w = omega (arith, columns, node.paired) in
     record {
       size = sym free_count;
       entries = λ r c hr hc.
-          let ra : IsFactorRow I Flow node.placed node.facilities r (segment w a r) =
-          subst (λ (k : ℕ). IsFactorRow I Flow node.placed node.facilities r (segment k a r)) a_width (h.a_rows.rows r (omega (arith, free_count))) in
-          let rb : IsFactorRow I Distance node.places node.locations c (segment w b c) =
-          subst (λ (k : ℕ). IsFactorRow I Distance x.places (free_of x) c (segment k b c)) b_width (h.b_rows.rows c (omega (arith, columns))) in
-          subst (IsReducedEntry I node r c) (sym (entry_is I x a b entries r c h hr hc))
-          (IsReducedEntry-from_rows I node r c (segment w a r) (segment w b c) (sym placed_count) (omega (arith, columns, free_count, prefix.depth)) (omega (arith, free_count)) (omega (arith, free_count)) ra rb);
+          let ra : IsFactorRow I Flow x.facilities (free_facilities x) r (segment w a r) =
+          subst (λ (k : ℕ). IsFactorRow I Flow x.facilities (free_facilities x) r (segment k a r)) a_width (h.a_rows.rows r (omega (arith, free_count))) in
+          let rb : IsFactorRow I Distance x.places (free_locations x) c (segment w b c) =
+          subst (λ (k : ℕ). IsFactorRow I Distance x.places (free_locations x) c (segment k b c)) b_width (h.b_rows.rows c (omega (arith, columns, node.paired))) in
+          subst (IsReducedEntry I x r c) (sym (entry_is I x a b entries r c h hr hc))
+          (IsReducedEntry-from_rows I x r c (segment w a r) (segment w b c) node.paired (omega (arith, columns, rows, node.paired)) (omega (arith, free_count)) (omega (arith, free_count)) ra rb);
     }
 
-pub EntriesWithin-from_products : (I : Problem) (x : Placement) (a b entries : List ℤ) → IsPrefix x → HasProducts I x a b entries → EntriesWithin 512000000000000000000 (record { size = x.size - length x.places; entries = entries })
-EntriesWithin-from_products I x a b entries prefix h =
-    let d = length x.places in
+pub AllWithin-from_products : (I : Problem) (x : Placement) (a b entries : List ℤ) → IsPlacement x → HasProducts I x a b entries → AllWithin 512000000000000000000 entries
+AllWithin-from_products I x a b entries node h =
+    let d = length x.facilities in
     let m = x.size - d in
     let w = x.size + d in
-    let node = node_of x in
-    let placed_count : length node.placed ≡ d = length-range_with_len 0 d in
-    let free_count : length node.facilities ≡ m = length-range_with_len d m in
-    let columns = (ListsFree-free_of x prefix).count in
-    let a_size : length a ≡ m * w = h.a_rows.size ∙ ap₂ ◌*◌ free_count (omega (arith, placed_count, free_count, prefix.depth)) in
-    let b_size : length b ≡ m * w = h.b_rows.size ∙ ap₂ ◌*◌ (omega (arith, columns)) (omega (arith, columns, prefix.depth)) in
+    let rows = (ListsFree-free_below x.size x.facilities node.facilities).count in
+    let columns = (ListsFree-free_below x.size x.places node.places).count in
+    let a_size : length a ≡ m * w = h.a_rows.size ∙ ap₂ ◌*◌ (omega (arith, rows)) (omega (arith, rows)) in
+    let b_size : length b ≡ m * w = h.b_rows.size ∙ ap₂ ◌*◌ (omega (arith, columns, node.paired)) (omega (arith, columns, node.paired)) in
     record {
-      each = λ r c hr hc.
+      each = λ k below.
+          let inside : k < m * m = omega (arith, h.products.size) in
+          let r = k / m in
+          let c = k % m in
+          let at : r * m + c ≡ k = omega (arith, div-add-mod k m, mul_comm m r) in
+          let hr : r < m = row_below m r c k inside at in
+          let hc : c < m = mod_below k m (positive_root m k inside) in
           let a_count = length-segment w m r a hr a_size in
           let b_count = length-segment w m c b hc b_size in
           let bound = dot-bound (segment w a r) (segment w b c)
           (AllInRange-segment w m r a hr a_size h.a_range)
           (AllInRange-segment w m c b hc b_size h.b_range)
           (omega (arith, a_count, b_count)) in
-          rw (entry_is I x a b entries r c h hr hc) (omega (arith, bound, a_count, prefix.depth, prefix.small));
+          let is : get_or entries k (pos 0) ≡ dot (segment w a r) (segment w b c) =
+          ap (λ j. get_or entries j (pos 0)) (sym at) ∙ entry_is I x a b entries r c h hr hc in
+          subst (λ (z : ℤ). unsigned_abs z ≤ 512000000000000000000) (sym is) (omega (arith, bound, a_count, rows, node.small));
     }
 
 -- the same, from what the calls of `reduced` say
-pub HasProducts-from_calls : (I : Problem) (x : Placement) (n d : ℕ) (placed facilities places locations : List ℕ) (a b a' b' entries : List ℤ) → n ≡ x.size → d ≡ length x.places → placed ≡ range_with_len 0 (d - 0) → facilities ≡ range_with_len d (n - d) → places ≡ x.places → locations ≡ free_of x → IsTable (2 * length placed + length facilities) (length facilities) (IsFactorRow I Flow placed facilities) a → AllInRange a → IsTable (2 * length places + length locations) (length locations) (IsFactorRow I Distance places locations) b → AllInRange b → a' ≡ a → b' ≡ b → IsTable (n - d) (n - d) (IsProductRow (n + d) (n - d) a' b') entries → HasProducts I x a b entries
+pub HasProducts-from_calls : (I : Problem) (x : Placement) (n d : ℕ) (placed facilities places locations : List ℕ) (a b a' b' entries : List ℤ) → n ≡ x.size → d ≡ length x.facilities → placed ≡ x.facilities → facilities ≡ free_facilities x → places ≡ x.places → locations ≡ free_locations x → IsTable (2 * length placed + length facilities) (length facilities) (IsFactorRow I Flow placed facilities) a → AllInRange a → IsTable (2 * length places + length locations) (length locations) (IsFactorRow I Distance places locations) b → AllInRange b → a' ≡ a → b' ≡ b → IsTable (n - d) (n - d) (IsProductRow (n + d) (n - d) a' b') entries → HasProducts I x a b entries
 HasProducts-from_calls I x n d placed facilities places locations a b a' b' entries en ed ep ef eg el ta ra tb rb ea eb te =
     let A : List ℕ → List ℕ → Type 0 = λ ps fs. IsTable (2 * length ps + length fs) (length fs) (IsFactorRow I Flow ps fs) a in
     let B : List ℕ → List ℕ → Type 0 = λ gs ls. IsTable (2 * length gs + length ls) (length ls) (IsFactorRow I Distance gs ls) b in
-    let placed_is : placed ≡ (node_of x).placed = ep ∙ ap (range_with_len 0) (omega (arith, ed)) in
-    let facilities_is : facilities ≡ (node_of x).facilities = ef ∙ ap₂ (λ (k l : ℕ). range_with_len k (l - k)) ed en in
+    let m = length x.facilities in
     record {
-      a_rows = subst (λ (fs : List ℕ). A (node_of x).placed fs) facilities_is (subst (λ (ps : List ℕ). A ps facilities) placed_is ta);
+      a_rows = subst (λ (fs : List ℕ). A x.facilities fs) ef (subst (λ (ps : List ℕ). A ps facilities) ep ta);
       b_rows = subst (λ (ls : List ℕ). B x.places ls) el (subst (λ (gs : List ℕ). B gs locations) eg tb);
       a_range = ra;
       b_range = rb;
       products =
-          subst (λ (ys : List ℤ). IsTable (x.size - length x.places) (x.size - length x.places) (IsProductRow (x.size + length x.places) (x.size - length x.places) a ys) entries) eb
-          (subst (λ (xs : List ℤ). IsTable (x.size - length x.places) (x.size - length x.places) (IsProductRow (x.size + length x.places) (x.size - length x.places) xs b') entries) ea
+          subst (λ (ys : List ℤ). IsTable (x.size - m) (x.size - m) (IsProductRow (x.size + m) (x.size - m) a ys) entries) eb
+          (subst (λ (xs : List ℤ). IsTable (x.size - m) (x.size - m) (IsProductRow (x.size + m) (x.size - m) xs b') entries) ea
           (subst (λ (k : ℕ). IsTable (x.size - k) (x.size - k) (IsProductRow (x.size + k) (x.size - k) a' b') entries) ed
           (subst (λ (l : ℕ). IsTable (l - d) (l - d) (IsProductRow (l + d) (l - d) a' b') entries) en te)));
     }
@@ -125,10 +123,3 @@ made_is o n d n' d' entries M h e en ed =
     let made : Square = record { size = n - d; entries = entries } in
     let is = subst (λ (p : Option Square). MatchOption p (IsMatrix made → ⊥) (λ N. (N ≡ made) × IsMatrix made)) e h in
     is.0 ∙ ap₂ (λ (k l : ℕ). let N : Square = record { size = k - l; entries = entries } in N) en ed
-
--- the free facilities rise
-pub IsStrictlyIncreasing-range : (a n : ℕ) (xs : List ℕ) → xs ≡ range_with_len a n → IsStrictlyIncreasing xs
-IsStrictlyIncreasing-range a n xs e =
-    subst IsStrictlyIncreasing (sym e) (λ k below.
-    let count = length-range_with_len a n in
-    omega (arith, get_or-range_with_len a n k 0 (omega (arith, count)), get_or-range_with_len a n (k + 1) 0 (omega (arith, count))))

@@ -6,8 +6,8 @@ use Rattle.std.proofs.lemmas.Bool.{cases_lt, cases_eq}
 use Rattle.std.proofs.lemmas.Nat.{mul-le}
 use Rattle.std.proofs.lemmas.List.{length-append, length-map, length-drop, length-take-le, drop-append-le, take-append-le, drop_at, take_all, get_or_append_left, get_or-append_right, get_or-map, get_or_past, get_or-take, get_or-drop}
 use Rattle.std.proofs.lemmas.List.Sorted.{length_permutation}
-use Rattle.qap_cost.specs.Instance.{Problem, IsInstance, InRange, entry}
-use Rattle.qap_cost.specs.Row.{AllInRange}
+use Rattle.qap_cost.specs.Instance.{Problem, IsInstance, entry}
+use Rattle.qap_cost.specs.Range.{AllInRange, InRange}
 use Rattle.gilmore_lawler.specs.declared.side.Side.{Side}
 use Rattle.gilmore_lawler.specs.declared.side.Side.TheVariants.{Flow, Distance}
 use Rattle.gilmore_lawler.specs.ReducedMatrix.{others}

@@ -1,9 +1,5 @@
 -- Numbers for the rows and the columns of a matrix.
-use Rattle.std.specs.Prelude.{ℕ, ◌≤◌, ◌<◌, ◌^◌, List, length, ℤ, pos, ◌+ℤ◌, ◌≤ℤ◌, slice_index_or, unsigned_abs}
-
--- the numbers lie within -10^24 to 10^24
-pub record AllWithin (xs : List ℤ) : Type 0 where
-  pub each : (j : ℕ) → j < length xs → unsigned_abs (slice_index_or xs j (pos 0)) ≤ 10 ^ 24
+use Rattle.std.specs.Prelude.{ℕ, ◌<◌, List, length, ℤ, pos, ◌+ℤ◌, ◌≤ℤ◌, slice_index_or}
 
 -- no number of the row is below the row's dual and the dual of its column together
 pub record RowFits (row : List ℤ) (x : ℤ) (v : List ℤ) : Type 0 where

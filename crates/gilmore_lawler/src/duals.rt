@@ -1,8 +1,9 @@
 //! Whether duals fit a matrix.
 
-ghost use Rattle.std.specs.Prelude.{◌≡◌, ◌≤◌, ◌<◌, ◌^◌, ◌↔◌, length, IsTrue, unsigned_abs};
+ghost use Rattle.std.specs.Prelude.{◌≡◌, ◌↔◌, length, IsTrue};
 ghost use Rattle.qap_cost.specs.Matrix.{DualsFit};
-ghost use Rattle.gilmore_lawler.specs.Duals.{AllWithin, RowFits};
+ghost use Rattle.qap_cost.specs.Range.{AllLimited, IsLimited};
+ghost use Rattle.gilmore_lawler.specs.Duals.{RowFits};
 
 use qap_cost::Matrix;
 
@@ -12,8 +13,8 @@ use qap_cost::Matrix;
 pub fn fits(matrix: &Matrix, u: &[i128], v: &[i128]) -> bool
     requires u_count { length u.now ≡ matrix.now.size }
     requires v_count { length v.now ≡ matrix.now.size }
-    requires u_range { AllWithin u.now }
-    requires v_range { AllWithin v.now }
+    requires u_range { AllLimited u.now }
+    requires v_range { AllLimited v.now }
     ensures { IsTrue result ↔ DualsFit matrix.now u.now v.now }
 {
     for (i, &row_dual) in u.iter().enumerate() {
@@ -27,8 +28,8 @@ pub fn fits(matrix: &Matrix, u: &[i128], v: &[i128]) -> bool
 /// Whether no number of the row is below `row_dual` and its column's dual together.
 fn row_fits(row: &[i128], row_dual: i128, column_duals: &[i128]) -> bool
     requires same_length { length row.now ≡ length column_duals.now }
-    requires row_range { unsigned_abs row_dual ≤ 10 ^ 24 }
-    requires column_range { AllWithin column_duals.now }
+    requires row_range { IsLimited row_dual }
+    requires column_range { AllLimited column_duals.now }
     ensures { IsTrue result ↔ RowFits row.now row_dual column_duals.now }
 {
     for k in 0..row.len() {

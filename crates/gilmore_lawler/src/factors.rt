@@ -1,16 +1,15 @@
 //! The rows from which the entries of a reduced matrix are products.
 
 ghost use Rattle.std.specs.Prelude.{◌≡◌, ◌<◌, ◌≤◌, ◌==◌, ◌+◌, ◌*◌, ◌++◌, false, length, map, OnOk, slice_index, slice_index_or, ℕ};
-ghost use Rattle.std.specs.List.{list_any};
 ghost use Rattle.std.specs.List.Sorted.{IsStrictlyIncreasing};
 ghost use Rattle.qap_cost.specs.Instance.{entry, IsInstance};
-ghost use Rattle.qap_cost.specs.Row.{AllInRange};
+ghost use Rattle.qap_cost.specs.Range.{AllInRange};
 ghost use Rattle.gilmore_lawler.specs.Ranking.{IsRankings};
 ghost use Rattle.gilmore_lawler.specs.Table.{IsTable, AllBelow, matrix_of, linear_row, IsFactorRow};
 
 use crate::ranking::{Ranked, push_others, ranking_of};
 use crate::side::{Side, entry_at, row_of};
-use qap_cost::{Instance, MAX_SIZE};
+use qap_cost::{Instance, marked};
 use std::alloc::AllocError;
 
 /// Makes `table` a row for each free facility, or for each free location: its entry with itself, its entries with the
@@ -44,18 +43,6 @@ pub fn factor_rows(
         push_others(row, &is_free, own, table)?;
     }
     Ok(())
-}
-
-/// For each number whether it is in the list.
-fn marked(numbers: &[u16]) -> [bool; MAX_SIZE]
-    requires { (i : ℕ) → i < length numbers.now → slice_index numbers.now i < 256 }
-    ensures { (k : ℕ) → k < 256 → slice_index_or result k false ≡ list_any (λ l. k == l) numbers.now }
-{
-    let mut marks = [false; MAX_SIZE];
-    for &number in numbers {
-        marks[usize::from(number)] = true;
-    }
-    marks
 }
 
 /// Adds the entry of `i` with itself, those of `i` with the placed ones, and those of the placed ones with `i`.

@@ -9,10 +9,11 @@ mod ranking;
 mod reduction;
 mod side;
 
-pub use bound::{node_bound_law, one_reduced_matrix_law, prefix_bound_law};
+pub use bound::{node_bound_law, one_reduced_matrix_law};
 pub use duals::fits;
 pub use pairing::least_product;
 pub use reduction::{RankedInstance, Workspace, reduced};
+
 
 #[cfg(test)]
 mod tests;

@@ -1,11 +1,11 @@
 //! The least sum of products of two lists, over all ways to pair their numbers.
 
 ghost use Rattle.std.specs.Prelude.{◌≡◌, ◌*◌, ◌^◌, ◌≤◌, ◌*ℤ◌, length, IfOk, pos, slice_index_or, unsigned_abs};
-ghost use Rattle.qap_cost.specs.Instance.{InRange};
-ghost use Rattle.qap_cost.specs.Row.{AllInRange};
+ghost use Rattle.qap_cost.specs.Range.{AllInRange};
 ghost use Rattle.qap_cost.specs.Sum.{sum_to};
 ghost use Rattle.gilmore_lawler.specs.LeastProduct.{IsLeastProduct};
 
+use qap_cost::product;
 use std::alloc::{AllocError, Global};
 
 /// The least sum over all pairings of the numbers of `xs` with those of `ys` of the products of the pairs; 0 where
@@ -44,14 +44,4 @@ pub(crate) fn sum_of_products(xs: &[i64], ys: &[i64]) -> i128
         total += i128::from(term);
     }
     total
-}
-
-/// The product of two entries, which fits 64 bits.
-pub(crate) fn product(x: i64, y: i64) -> i64
-    requires left { InRange x }
-    requires right { InRange y }
-    ensures value { result ≡ x *ℤ y }
-    ensures bounded { unsigned_abs result ≤ 10 ^ 18 }
-{
-    x * y
 }

@@ -1,31 +1,31 @@
 //! The reduced matrix of a node.
 
 ghost use Rattle.std.specs.Prelude.{◌≡◌, ◌<◌, ◌≤◌, ◌*◌, ◌-◌, ◌^◌, ◌++◌, length, IfOk, OnOk};
-ghost use Rattle.std.specs.List.{range_with_len};
 ghost use Rattle.qap_cost.specs.Instance.{IsInstance, Problem};
-ghost use Rattle.qap_cost.specs.Row.{AllInRange};
+ghost use Rattle.qap_cost.specs.Range.{AllInRange, AllWithin};
 ghost use Rattle.gilmore_lawler.specs.Ranking.{HasRankings};
-ghost use Rattle.gilmore_lawler.specs.ReducedMatrix.{IsReduced, EntriesWithin};
+ghost use Rattle.gilmore_lawler.specs.ReducedMatrix.{IsReduced};
 ghost use Rattle.gilmore_lawler.specs.Table.{IsTable, IsProductRow, product_row};
 
 use crate::factors::factor_rows;
 use crate::pairing::sum_of_products;
 use crate::ranking::{Ranked, ranked_rows};
 use crate::side::Side;
-use qap_cost::{Instance, Matrix, Prefix};
+use qap_cost::{Instance, Matrix, Partial};
 use std::alloc::{AllocError, Global};
 use std::marker::Model;
 
-/// The reduced matrix of the prefix: a row for each free facility and a column for each free location, both ascending.
+/// The reduced matrix of the node: a row for each free facility and a column for each free location, both ascending.
 ///
 /// An entry is the least that its facility can cost at its location with itself, with the placed facilities, and with
 /// the other free facilities, however these are put on the other free locations (Gilmore 1962; Lawler 1963).
-pub fn reduced(alloc: Global, instance: &Instance, prefix: &Prefix) -> Result<Matrix, AllocError>
-    requires { instance.now.size ≡ prefix.now.size }
-    ensures reduced { IfOk result (IsReduced instance.now prefix.now) }
-    ensures bounded { IfOk result (EntriesWithin (512 * 10 ^ 18)) }
+pub fn reduced(alloc: Global, instance: &Instance, node: &Partial) -> Result<Matrix, AllocError>
+    requires { instance.now.size ≡ node.now.size }
+    ensures reduced { IfOk result (IsReduced instance.now node.now) }
+    ensures size { IfOk result (λ M. M.size ≡ node.now.size - length node.now.facilities) }
+    ensures bounded { IfOk result (λ M. AllWithin (512 * 10 ^ 18) M.entries) }
 {
-    RankedInstance::new(alloc, instance)?.reduced(&mut Workspace::new(alloc), prefix)
+    RankedInstance::new(alloc, instance)?.reduced(&mut Workspace::new(alloc), node)
 }
 
 /// An instance with the rows of its matrices in order, which all its reduced matrices are made from.
@@ -65,17 +65,18 @@ impl RankedInstance {
         &self.instance
     }
 
-    /// The reduced matrix of the prefix, as the function `reduced` gives it for the instance.
-    pub fn reduced(&self, workspace: &mut Workspace, prefix: &Prefix) -> Result<Matrix, AllocError>
-        requires { self.now.size ≡ prefix.now.size }
-        ensures reduced { IfOk result (IsReduced self.now prefix.now) }
-        ensures bounded { IfOk result (EntriesWithin (512 * 10 ^ 18)) }
+    /// The reduced matrix of the node, as the function `reduced` gives it for the instance.
+    pub fn reduced(&self, workspace: &mut Workspace, node: &Partial) -> Result<Matrix, AllocError>
+        requires { self.now.size ≡ node.now.size }
+        ensures reduced { IfOk result (IsReduced self.now node.now) }
+            ensures size { IfOk result (λ M. M.size ≡ node.now.size - length node.now.facilities) }
+        ensures bounded { IfOk result (λ M. AllWithin (512 * 10 ^ 18) M.entries) }
     {
         reduced_from(
             &self.instance,
             &self.a_rankings,
             &self.b_rankings,
-            prefix,
+            node,
             workspace,
         )
     }
@@ -84,8 +85,6 @@ impl RankedInstance {
 /// Memory for reduced matrices, kept from one to the next. It can be used again after any answer, for any instance.
 #[derive(Drop)]
 pub struct Workspace {
-    placed: Vec<u16>,
-    facilities: Vec<u16>,
     a_rows: Vec<i64>,
     b_rows: Vec<i64>,
 }
@@ -94,47 +93,43 @@ impl Workspace {
     /// A workspace that has no memory yet.
     pub fn new(alloc: Global) -> Workspace {
         Workspace {
-            placed: Vec::new(alloc),
-            facilities: Vec::new(alloc),
             a_rows: Vec::new(alloc),
             b_rows: Vec::new(alloc),
         }
     }
 }
 
-/// The reduced matrix of the prefix, from the rows of both matrices in order.
+/// The reduced matrix of the node, from the rows of both matrices in order.
 fn reduced_from(
     instance: &Instance,
     a_rankings: &[Ranked],
     b_rankings: &[Ranked],
-    prefix: &Prefix,
+    node: &Partial,
     workspace: &mut Workspace,
 ) -> Result<Matrix, AllocError>
-    requires size { instance.now.size ≡ prefix.now.size }
+    requires size { instance.now.size ≡ node.now.size }
     requires rankings { HasRankings instance.now a_rankings.now b_rankings.now }
-    ensures reduced { IfOk result (IsReduced instance.now prefix.now) }
-    ensures bounded { IfOk result (EntriesWithin (512 * 10 ^ 18)) }
+    ensures reduced { IfOk result (IsReduced instance.now node.now) }
+    ensures size { IfOk result (λ M. M.size ≡ node.now.size - length node.now.facilities) }
+    ensures bounded { IfOk result (λ M. AllWithin (512 * 10 ^ 18) M.entries) }
 {
     let n = instance.size();
-    let depth = prefix.depth();
-    let locations = prefix.free_locations()?;
-    fill_numbers(0, depth, &mut workspace.placed)?;
-    fill_numbers(depth, n, &mut workspace.facilities)?;
-    let (placed, places): (&[u16], &[u16]) = (&workspace.placed, prefix.places());
-    let facilities: &[u16] = &workspace.facilities;
+    let depth = node.depth();
+    let facilities = node.free_facilities()?;
+    let locations = node.free_locations()?;
     factor_rows(
         instance,
         Side::Flow,
         a_rankings,
-        placed,
-        facilities,
+        node.facilities(),
+        &facilities,
         &mut workspace.a_rows,
     )?;
     factor_rows(
         instance,
         Side::Distance,
         b_rankings,
-        places,
+        node.places(),
         &locations,
         &mut workspace.b_rows,
     )?;
@@ -147,19 +142,6 @@ fn reduced_from(
         n + depth,
     )?;
     Ok(Matrix::new(n - depth, entries).unwrap())
-}
-
-/// Makes `list` the numbers from `start` to `end - 1`.
-fn fill_numbers(start: usize, end: usize, list: &mut Vec<u16>) -> Result<(), AllocError>
-    requires order { start ≤ end }
-    requires small { end ≤ 256 }
-    ensures { OnOk result (list.new.items ≡ range_with_len start (end - start)) }
-{
-    list.clear();
-    for k in start..end {
-        list.push(k as u16)?;
-    }
-    Ok(())
 }
 
 /// The products of each row of the one table with each of the other: so many rows of this width each.

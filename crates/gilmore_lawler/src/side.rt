@@ -1,8 +1,9 @@
 //! The two matrices of an instance.
 
 ghost use Rattle.std.specs.Prelude.{◌≡◌, ◌<◌};
-ghost use Rattle.qap_cost.specs.Instance.{InRange, entry};
-ghost use Rattle.qap_cost.specs.Row.{AllInRange, IsRow};
+ghost use Rattle.qap_cost.specs.Instance.{entry};
+ghost use Rattle.qap_cost.specs.Range.{AllInRange, InRange};
+ghost use Rattle.qap_cost.specs.Row.{IsRow};
 ghost use Rattle.gilmore_lawler.specs.Table.{matrix_of};
 
 use qap_cost::Instance;

@@ -1,7 +1,7 @@
 //! What no clause says: that calls succeed, and that the numbers are those of worked examples.
 
 use crate::{RankedInstance, Workspace, fits, least_product, reduced};
-use qap_cost::{Instance, Matrix, Prefix};
+use qap_cost::{Instance, Matrix, Partial};
 use std::alloc::{AllocError, Global};
 use std::test::Fail;
 
@@ -22,22 +22,45 @@ fn entries_of(alloc: Global, matrix: &Matrix) -> Result<Vec<i128>, AllocError> {
     Ok(entries)
 }
 
-/// The entries of the reduced matrix at the prefix that gives facility 0 this location, or at the root.
+/// The node of size `n` with these facilities at these locations, where it is one.
+fn node(alloc: Global, n: usize, pairs: &[(u16, u16)]) -> Result<Option<Partial>, AllocError> {
+    if n == 0 || n > 256 {
+        return Ok(None);
+    }
+    let mut node = Partial::root(alloc, n)?;
+    for &(f, k) in pairs {
+        if usize::from(f) >= node.size() || node.is_placed(f) || !node.is_free(k) {
+            return Ok(None);
+        }
+        node = node.place(f, k)?;
+    }
+    Ok(Some(node))
+}
+
+/// The entries of the reduced matrix at this node, from a workspace that has given the root's before.
 fn reduced_at(
     alloc: Global,
     instance: &Instance,
-    location: Option<u16>,
+    pairs: &[(u16, u16)],
 ) -> Result<Option<Vec<i128>>, AllocError> {
-    let n = instance.size();
-    let root = Prefix::root(alloc, n)?;
-    let Some(location) = location else {
-        return Ok(Some(entries_of(alloc, &reduced(alloc, instance, &root)?)?));
+    let Some(root) = node(alloc, instance.size(), &[])? else {
+        return Ok(None);
     };
-    if root.depth() >= n || !root.is_free(location) {
+    let Some(node) = node(alloc, instance.size(), pairs)? else {
+        return Ok(None);
+    };
+    if root.size() != instance.size() || node.size() != instance.size() {
         return Ok(None);
     }
-    let prefix = root.extend(location)?;
-    Ok(Some(entries_of(alloc, &reduced(alloc, instance, &prefix)?)?))
+    let ranked = RankedInstance::new(alloc, instance)?;
+    if root.size() != ranked.instance().size() || node.size() != ranked.instance().size() {
+        return Ok(None);
+    }
+    let mut workspace = Workspace::new(alloc);
+    ranked.reduced(&mut workspace, &root)?;
+    let found = entries_of(alloc, &ranked.reduced(&mut workspace, &node)?)?;
+    let again = entries_of(alloc, &reduced(alloc, instance, &node)?)?;
+    Ok((found.as_slice() == again.as_slice()).then_some(found))
 }
 
 #[test]
@@ -63,17 +86,17 @@ fn reduced_matrices(rt: HostRuntime) -> Result<(), Fail> {
     else {
         panic!(rt; "an instance is refused");
     };
-    let cases: [(Option<u16>, &[i128]); 4] = [
-        (None, &[0, 0, 0, 0, 0, 0, 0, 0, 0]),
-        (Some(0), &[1, 0, 1, 0]),
-        (Some(1), &[1, 0, 1, 0]),
-        (Some(2), &[1, 1, 0, 0]),
+    let cases: [(&[(u16, u16)], &[i128]); 4] = [
+        (&[], &[0, 0, 0, 0, 0, 0, 0, 0, 0]),
+        (&[(0, 0)], &[1, 0, 1, 0]),
+        (&[(0, 1)], &[1, 0, 1, 0]),
+        (&[(0, 2)], &[1, 1, 0, 0]),
     ];
-    for (location, want) in cases {
-        let Some(found) = reduced_at(alloc, &three, location)? else {
-            panic!(rt; "a location is refused");
+    for (pairs, want) in cases {
+        let Some(found) = reduced_at(alloc, &three, pairs)? else {
+            panic!(rt; "a node is refused");
         };
-        assert_eq!(rt; found.as_slice(), want, "at {location:?}");
+        assert_eq!(rt; found.as_slice(), want, "at {pairs:?}");
     }
     let Some(symmetric) = instance(
         alloc,
@@ -84,7 +107,7 @@ fn reduced_matrices(rt: HostRuntime) -> Result<(), Fail> {
     else {
         panic!(rt; "an instance is refused");
     };
-    let Some(found) = reduced_at(alloc, &symmetric, None)? else {
+    let Some(found) = reduced_at(alloc, &symmetric, &[])? else {
         panic!(rt; "the root is refused");
     };
     let want: [i128; 9] = [9, 7, 4, 11, 8, 5, 16, 13, 7];
@@ -179,70 +202,48 @@ fn entries_in(
 fn slow_entry(
     alloc: Global,
     (n, a, b): (usize, &[i64], &[i64]),
-    places: &[usize],
+    pairs: &[(u16, u16)],
     i: usize,
     k: usize,
 ) -> Result<Option<i128>, AllocError> {
     let mut cost = entry(n, a, i, i).wrapping_mul(entry(n, b, k, k));
-    let mut gone = Vec::new(alloc);
-    for (h, &g) in places.iter().enumerate() {
+    let mut gone = Vec::from_slice(alloc, &[i])?;
+    let mut taken = Vec::from_slice(alloc, &[k])?;
+    for &(h, g) in pairs {
+        let (h, g) = (usize::from(h), usize::from(g));
         let there = entry(n, a, i, h).wrapping_mul(entry(n, b, k, g));
         let back = entry(n, a, h, i).wrapping_mul(entry(n, b, g, k));
         cost = cost.wrapping_add(there).wrapping_add(back);
         gone.push(h)?;
+        taken.push(g)?;
     }
-    gone.push(i)?;
-    let mut taken = Vec::from_slice(alloc, places)?;
-    taken.push(k)?;
     let xs = entries_in(alloc, n, a, i, &without(alloc, n, &gone)?)?;
     let ys = entries_in(alloc, n, b, k, &without(alloc, n, &taken)?)?;
     Ok(least_by_trying(alloc, &xs, &ys)?.map(|least| cost.wrapping_add(least)))
 }
 
-/// The reduced matrix by its definition, where the first facilities stand at these places.
+/// The reduced matrix of a node by its definition.
 fn slow_entries(
     alloc: Global,
     (n, a, b): (usize, &[i64], &[i64]),
-    places: &[usize],
+    pairs: &[(u16, u16)],
 ) -> Result<Option<Vec<i128>>, AllocError> {
+    let mut gone = Vec::new(alloc);
+    let mut taken = Vec::new(alloc);
+    for &(h, g) in pairs {
+        gone.push(usize::from(h))?;
+        taken.push(usize::from(g))?;
+    }
     let mut entries = Vec::new(alloc);
-    for i in places.len()..n {
-        for k in without(alloc, n, places)? {
-            let Some(entry) = slow_entry(alloc, (n, a, b), places, i, k)? else {
+    for i in without(alloc, n, &gone)? {
+        for k in without(alloc, n, &taken)? {
+            let Some(entry) = slow_entry(alloc, (n, a, b), pairs, i, k)? else {
                 return Ok(None);
             };
             entries.push(entry)?;
         }
     }
     Ok(Some(entries))
-}
-
-/// The entries of the reduced matrix where the first facilities stand at these places, from a workspace that has given
-/// the root's before.
-fn entries_after_root(
-    alloc: Global,
-    instance: &Instance,
-    places: &[usize],
-) -> Result<Option<Vec<i128>>, AllocError> {
-    let n = instance.size();
-    let root = Prefix::root(alloc, n)?;
-    let mut prefix = Prefix::root(alloc, n)?;
-    for &k in places {
-        let Ok(k) = u16::try_from(k) else {
-            return Ok(None);
-        };
-        if prefix.depth() >= prefix.size() || !prefix.is_free(k) {
-            return Ok(None);
-        }
-        prefix = prefix.extend(k)?;
-    }
-    if prefix.size() != n {
-        return Ok(None);
-    }
-    let ranked = RankedInstance::new(alloc, instance)?;
-    let mut workspace = Workspace::new(alloc);
-    ranked.reduced(&mut workspace, &root)?;
-    Ok(Some(entries_of(alloc, &ranked.reduced(&mut workspace, &prefix)?)?))
 }
 
 /// `n * n` numbers from -50 to 50, with no order in them.
@@ -257,28 +258,33 @@ fn mixed(alloc: Global, n: usize, seed: i64) -> Result<Vec<i64>, AllocError> {
 }
 
 /// Whether the reduced matrix of a mixed instance is the one that its definition gives.
-fn agrees(alloc: Global, n: usize, places: &[usize]) -> Result<bool, AllocError> {
+fn agrees(alloc: Global, n: usize, pairs: &[(u16, u16)]) -> Result<bool, AllocError> {
     let a = mixed(alloc, n, 5)?;
     let b = mixed(alloc, n, 70)?;
     let Some(instance) = instance(alloc, n, &a, &b)? else {
         return Ok(false);
     };
-    let Some(found) = entries_after_root(alloc, &instance, places)? else {
+    let Some(found) = reduced_at(alloc, &instance, pairs)? else {
         return Ok(false);
     };
-    let want = slow_entries(alloc, (n, &a, &b), places)?;
+    let want = slow_entries(alloc, (n, &a, &b), pairs)?;
     Ok(want.is_some_and(|want| found.as_slice() == want.as_slice()))
 }
 
 #[test]
 fn entries_by_their_definition(rt: HostRuntime) -> Result<(), Fail> {
     let alloc = rt.alloc();
-    for n in 1..6 {
-        assert!(rt; agrees(alloc, n, &[])?, "the root of size {n}");
-        for k in 0..n {
-            assert!(rt; agrees(alloc, n, &[k])?, "{k} of size {n}");
-            for l in without(alloc, n, &[k])? {
-                assert!(rt; agrees(alloc, n, &[k, l])?, "{k} and {l} of size {n}");
+    for n in 1..6u16 {
+        let size = usize::from(n);
+        assert!(rt; agrees(alloc, size, &[])?, "the root of size {n}");
+        for f in 0..n {
+            for k in 0..n {
+                assert!(rt; agrees(alloc, size, &[(f, k)])?, "{f} at {k} of size {n}");
+                if n > 2 {
+                    let (g, l) = (f.wrapping_add(1) % n, k.wrapping_add(2) % n);
+                    let pairs = [(g, l), (f, k)];
+                    assert!(rt; agrees(alloc, size, &pairs)?, "{pairs:?} of size {n}");
+                }
             }
         }
     }
@@ -310,7 +316,7 @@ fn is_at_the_root(
     let Some(instance) = instance(alloc, 256, &a, &b)? else {
         return Ok(false);
     };
-    let Some(found) = entries_after_root(alloc, &instance, &[])? else {
+    let Some(found) = reduced_at(alloc, &instance, &[])? else {
         return Ok(false);
     };
     Ok(found.as_slice() == chequered(alloc, (want, want))?.as_slice())
