@@ -1,17 +1,18 @@
--- What has a fault isn't a certificate, or doesn't certify its cost.
+-- What has a fault isn't a certificate, or doesn't certify its bound.
 use Rattle.std.proofs.Common.{ℕ, ◌-◌, ◌++◌, List, [], ◌∷◌, length, inl, inr, arith}
 use Rattle.std.specs.Prelude.{ℤ, ◌+ℤ◌, ◌<ℤ◌, ◌≤ℤ◌}
 use Rattle.std.proofs.lemmas.Int.{ints}
 use Rattle.qap_cost.specs.Instance.{Problem}
 use Rattle.qap_cost.specs.Matrix.{dual_value}
-use Rattle.qap_cost.specs.Prefix.{free_of, fixed_of}
-use Rattle.qap_cert.specs.Certificate.{Claim, IsCertificate, Certifies}
+use Rattle.qap_cost.specs.Placement.{Placement, free_locations, placing, root_of, fixed_cost_of}
+use Rattle.qap_cert.specs.Certificate.{Claim, IsCertificate, Certifies, tree_line}
 use Rattle.qap_cert.specs.Fault.{IsDualFault, IsShapeFault, IsShapeFaultAmong, IsClaimFault, IsBoundFault, IsTreeFault, IsTreeFaultAmong, IsFault}
 use Rattle.qap_cert.specs.Line.{line_after}
 use Rattle.qap_cert.specs.Shape.{AreDuals, HasShape, AllHaveShape}
 use Rattle.qap_cert.specs.Tree.{Node, split, bound, Nodes, no_nodes, node, node_count}
-use Rattle.qap_cert.specs.Valid.{prefix_of, Closes, Valid, AllValid}
+use Rattle.qap_cert.specs.Valid.{Closes, Valid, AllValid}
 use Rattle.qap_cert.specs.declared.error.CertError.{CertError}
+use Rattle.qap_cert.specs.declared.version.Version.TheVariants.{Second}
 
 dual_fault : (m line : ℕ) (u v : List ℤ) (e : CertError) → IsDualFault m line u v e → AreDuals m u v → ⊥
 dual_fault m line u v e fault h =
@@ -21,56 +22,62 @@ dual_fault m line u v e fault h =
     ]
 
 mutual
-  pub shape_fault : (t : Node) (m line : ℕ) (e : CertError) → IsShapeFault m line t e → HasShape m t → ⊥
-  shape_fault (split children) m line e fault h =
+  pub shape_fault : (t : Node) (n : ℕ) (placed : List ℕ) (line : ℕ) (e : CertError) → IsShapeFault n placed line t e → HasShape Second n placed t → ⊥
+  shape_fault (split f children) n placed line e fault h =
       elim fault [
         | inl own ↦ elim own [
-          | inl deep ↦ absurd (omega (arith, deep.1, h.0))
-          | inr width ↦ width.2 h.1
+          | inl facility ↦ elim facility [
+            | inl deep ↦ absurd (omega (arith, deep.1, h.0))
+            | inr taken ↦ taken.2 h.1
+          ]
+          | inr width ↦ width.3 h.3
         ]
-        | inr below ↦ shape_fault_among children (m - 1) (line_after line 1) e below.2 h.2
+        | inr below ↦ shape_fault_among children n (placed ++ f ∷ []) (line_after line 1) e below.3 h.4
       ]
-  shape_fault (bound u v) m line e fault h = dual_fault m line u v e fault h
+  shape_fault (bound u v) n placed line e fault h = dual_fault (n - length placed) line u v e fault h
 
-  shape_fault_among : (ts : Nodes) (m line : ℕ) (e : CertError) → IsShapeFaultAmong m line ts e → AllHaveShape m ts → ⊥
-  shape_fault_among no_nodes m line e fault h = fault
-  shape_fault_among (node t rest) m line e fault h =
+  shape_fault_among : (ts : Nodes) (n : ℕ) (placed : List ℕ) (line : ℕ) (e : CertError) → IsShapeFaultAmong n placed line ts e → AllHaveShape Second n placed ts → ⊥
+  shape_fault_among no_nodes n placed line e fault h = fault
+  shape_fault_among (node t rest) n placed line e fault h =
       elim fault [
-        | inl first ↦ shape_fault t m line e first h.0
-        | inr later ↦ shape_fault_among rest m (line_after line (node_count t)) e later.1 h.1
+        | inl first ↦ shape_fault t n placed line e first h.0
+        | inr later ↦ shape_fault_among rest n placed (line_after line (node_count t)) e later.1 h.1
       ]
 
 pub claim_fault : (C : Claim) (e : CertError) → IsClaimFault C e → IsCertificate C → ⊥
 claim_fault C e fault h =
     elim fault [
       | inl cost ↦ absurd (omega (arith, cost.1, h.cost))
-      | inr tree ↦ shape_fault C.tree (length C.permutation) 5 e tree.1 h.tree
+      | inr other ↦ elim other [
+        | inl low ↦ low.2 h.bound
+        | inr tree ↦ shape_fault C.tree (length C.permutation) [] (tree_line C.cost C.bound) e tree.2 h.tree
+      ]
     ]
 
-bound_fault : (I : Problem) (c : ℤ) (places : List ℕ) (line : ℕ) (u v : List ℤ) (e : CertError) → IsBoundFault I c places line u v e → Closes I c places u v → ⊥
-bound_fault I c places line u v e fault h =
+bound_fault : (I : Problem) (g : ℤ) (x : Placement) (line : ℕ) (u v : List ℤ) (e : CertError) → IsBoundFault I g x line u v e → Closes I g x u v → ⊥
+bound_fault I g x line u v e fault h =
     elim fault [
       | inl feasible ↦ feasible.1 h.fits
       | inr low ↦
-          let below : (fixed_of I places +ℤ dual_value u v) <ℤ c = low.2 in
-          let enough : c ≤ℤ (fixed_of I places +ℤ dual_value u v) = h.enough in
+          let below : (fixed_cost_of I x +ℤ dual_value u v) <ℤ g = low.2 in
+          let enough : g ≤ℤ (fixed_cost_of I x +ℤ dual_value u v) = h.enough in
           absurd (omega (arith, ints, below, enough))
     ]
 
 mutual
-  pub tree_fault : (t : Node) (I : Problem) (c : ℤ) (places : List ℕ) (line : ℕ) (e : CertError) → IsTreeFault I c places line t e → Valid I c places t → ⊥
-  tree_fault (split children) I c places line e fault h =
-      tree_fault_among children I c places (free_of (prefix_of I places)) (line_after line 1) e fault h.1
-  tree_fault (bound u v) I c places line e fault h = bound_fault I c places line u v e fault h
+  pub tree_fault : (t : Node) (I : Problem) (g : ℤ) (x : Placement) (line : ℕ) (e : CertError) → IsTreeFault I g x line t e → Valid I g x t → ⊥
+  tree_fault (split f children) I g x line e fault h =
+      tree_fault_among children I g x f (free_locations x) (line_after line 1) e fault h.2
+  tree_fault (bound u v) I g x line e fault h = bound_fault I g x line u v e fault h
 
-  tree_fault_among : (ts : Nodes) (I : Problem) (c : ℤ) (places ks : List ℕ) (line : ℕ) (e : CertError) → IsTreeFaultAmong I c places ks line ts e → AllValid I c places ks ts → ⊥
-  tree_fault_among no_nodes I c places [] line e fault h = fault
-  tree_fault_among no_nodes I c places (k ∷ ks) line e fault h = fault
-  tree_fault_among (node t rest) I c places [] line e fault h = fault
-  tree_fault_among (node t rest) I c places (k ∷ ks) line e fault h =
+  tree_fault_among : (ts : Nodes) (I : Problem) (g : ℤ) (x : Placement) (f : ℕ) (ks : List ℕ) (line : ℕ) (e : CertError) → IsTreeFaultAmong I g x f ks line ts e → AllValid I g x f ks ts → ⊥
+  tree_fault_among no_nodes I g x f [] line e fault h = fault
+  tree_fault_among no_nodes I g x f (k ∷ ks) line e fault h = fault
+  tree_fault_among (node t rest) I g x f [] line e fault h = fault
+  tree_fault_among (node t rest) I g x f (k ∷ ks) line e fault h =
       elim fault [
-        | inl first ↦ tree_fault t I c (places ++ k ∷ []) line e first h.0
-        | inr later ↦ tree_fault_among rest I c places ks (line_after line (node_count t)) e later.1 h.1
+        | inl first ↦ tree_fault t I g (placing x f k) line e first h.0
+        | inr later ↦ tree_fault_among rest I g x f ks (line_after line (node_count t)) e later.1 h.1
       ]
 
 pub certificate_fault : (I : Problem) (C : Claim) (e : CertError) → IsFault I C e → Certifies I C → ⊥
@@ -79,6 +86,6 @@ certificate_fault I C e fault h =
       | inl size ↦ size.1 h.same_size
       | inr other ↦ elim other [
         | inl cost ↦ cost.2 h.cost
-        | inr tree ↦ tree_fault C.tree I C.cost [] 5 e tree.2 h.tree
+        | inr tree ↦ tree_fault C.tree I C.bound (root_of I.size) (tree_line C.cost C.bound) e tree.2 h.tree
       ]
     ]

@@ -9,10 +9,13 @@ pub mod Locations
 pub mod Numbers
 pub mod Numerals
 pub mod OneText
+pub mod ReadTexts
 pub mod Readings
 pub mod Runs
 pub mod Shapes
 pub mod Trees
 pub mod Validity
+pub mod Verdicts
+pub mod Versions
 pub mod Words
 pub mod WrittenTexts

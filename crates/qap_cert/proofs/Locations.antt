@@ -2,7 +2,7 @@
 use Rattle.std.proofs.Common.{◌≡◌, ◌≢◌, ℕ, ◌+◌, ◌-◌, ◌^◌, ◌<◌, ◌≤◌, List, [], ◌∷◌, length, map, take, get_or, ℤ, pos, unsigned_abs, refl, sym, ap, ap₂, subst, ◌∙◌, inl, inr, arith}
 use Rattle.std.specs.Prelude.{codes, SomeIndex, ◌⊎◌, Result, Ok, Err, MatchResult}
 use Rattle.std.proofs.lemmas.List.{get_or-map, length-map, take_all}
-use Rattle.gilmore_lawler.specs.Duals.{AllWithin}
+use Rattle.qap_cost.specs.Range.{AllLimited}
 use Rattle.qap_cost.specs.Bijection.{IsPerm}
 use Rattle.qap_cert.specs.Number.{IsNamed, held}
 use Rattle.qap_cert.specs.Text.{from_one}
@@ -12,15 +12,15 @@ use Rattle.qap_cert.specs.declared.error.CertError.TheVariants.{OutOfMemory, Per
 use Rattle.qap_cert.proofs.Held.{held-all_within, held_all_within-is}
 
 -- locations below 2^64 are in range
-pub AllWithin-from_one : (p : List ℕ) → ((i : ℕ) → i < length p → get_or p i 0 < 2 ^ 64) → AllWithin (from_one p)
-AllWithin-from_one p small = record {
+pub AllLimited-from_one : (p : List ℕ) → ((i : ℕ) → i < length p → get_or p i 0 < 2 ^ 64) → AllLimited (from_one p)
+AllLimited-from_one p small = record {
   each = λ j below.
       let inside : j < length p = omega (arith, length-map p (λ k. pos (k + 1))) in
       subst (λ (z : ℤ). unsigned_abs z ≤ 10 ^ 24) (sym (get_or-map (λ k. pos (k + 1)) p j 0 (pos 0) inside)) (omega (arith, small j inside));
 }
 
-pub AllWithin-permutation : (p : List ℕ) → IsPerm p → AllWithin (from_one p)
-AllWithin-permutation p perm = AllWithin-from_one p (λ i below. omega (arith, perm.bijection.within i below, perm.small))
+pub AllLimited-permutation : (p : List ℕ) → IsPerm p → AllLimited (from_one p)
+AllLimited-permutation p perm = AllLimited-from_one p (λ i below. omega (arith, perm.bijection.within i below, perm.small))
 
 pub from_one-injective : (p q : List ℕ) → from_one p ≡ from_one q → p ≡ q
 from_one-injective p q e = sym (back p) ∙ ap (map before) e ∙ back q
@@ -49,7 +49,7 @@ IsNamed-permutation : (n : ℕ) (line : List ℕ) (zs first : List ℤ) (p : Lis
     → IsPerm p × (length p ≡ n) × IsNamed (codes "perm") line (from_one p)
 IsNamed-permutation n line zs first p long is named perm locations =
     let same : map held zs ≡ from_one p = ap (map held) (sym (take_all n zs (omega arith))) ∙ sym is ∙ locations in
-    let exact : zs ≡ from_one p = sym (held_all_within-is zs (subst AllWithin (sym same) (AllWithin-permutation p perm))) ∙ same in
+    let exact : zs ≡ from_one p = sym (held_all_within-is zs (subst AllLimited (sym same) (AllLimited-permutation p perm))) ∙ same in
     (perm, sym (length-map p (λ k. pos (k + 1))) ∙ sym (ap length exact) ∙ long, subst (IsNamed (codes "perm") line) exact named)
 
 -- where the held numbers are no permutation, those of the line are none
@@ -58,7 +58,7 @@ IsPermFault-numbers : (n : ℕ) (line : List ℕ) (zs first : List ℤ) (e : Cer
 IsPermFault-numbers n line zs first e long is named (inl memory) = inl memory
 IsPermFault-numbers n line zs first e long is named (inr fault) =
     let none : (p : List ℕ) → IsPerm p → zs ≢ from_one p = λ p perm same.
-    fault.1 p perm (is ∙ ap (map held) (take_all n zs (omega arith) ∙ same) ∙ held-all_within (from_one p) (AllWithin-permutation p perm)) in
+    fault.1 p perm (is ∙ ap (map held) (take_all n zs (omega arith) ∙ same) ∙ held-all_within (from_one p) (AllLimited-permutation p perm)) in
     inr (subst (IsPermFault n line) (sym fault.0) (refl, zs, long, named, none))
 
 -- what is known of the held numbers is known of those of the line

@@ -4,7 +4,7 @@ use Rattle.std.specs.Prelude.{neg_ℤ, Option, None, Some, MatchOption}
 use Rattle.std.specs.Fmt.{signed_decimal}
 use Rattle.std.proofs.lemmas.List.{append_cancel_left, drop_at, append-nil, map-append, length-take-le, length-drop, nil_from_length, take_all, take-append-le}
 use Rattle.std.proofs.lemmas.Bool.{cases_lt}
-use Rattle.gilmore_lawler.specs.Duals.{AllWithin}
+use Rattle.qap_cost.specs.Range.{AllLimited}
 use Rattle.qap_cert.specs.Line.{HasNoLine, IsLine}
 use Rattle.qap_cert.specs.Number.{IsNumber, Spells, IsNamed, held}
 use Rattle.qap_cert.specs.Numeral.{IsNoDigit, IsFrontNumber, HasNoFrontNumber}
@@ -12,14 +12,14 @@ use Rattle.qap_cert.specs.Text.{numbers_text, line_text}
 use Rattle.qap_cert.proofs.Lines.{HasNoLine-append}
 use Rattle.qap_cert.proofs.Words.{number_fronts, IsNumber-unique, IsNumber-signed_decimal, number_word, HasNoLine-cons, HasNoLine-number}
 
-pub AllWithin-head : (z : ℤ) (zs : List ℤ) → AllWithin (z ∷ zs) → unsigned_abs z ≤ 10 ^ 24
-AllWithin-head z zs h = h.each 0 (omega arith)
+pub AllLimited-head : (z : ℤ) (zs : List ℤ) → AllLimited (z ∷ zs) → unsigned_abs z ≤ 10 ^ 24
+AllLimited-head z zs h = h.each 0 (omega arith)
 
-pub AllWithin-tail : (z : ℤ) (zs : List ℤ) → AllWithin (z ∷ zs) → AllWithin zs
-AllWithin-tail z zs h = record { each = λ j below. h.each (suc j) (omega arith) }
+pub AllLimited-tail : (z : ℤ) (zs : List ℤ) → AllLimited (z ∷ zs) → AllLimited zs
+AllLimited-tail z zs h = record { each = λ j below. h.each (suc j) (omega arith) }
 
-pub AllWithin-one : (z : ℤ) → unsigned_abs z ≤ 10 ^ 24 → AllWithin (z ∷ [])
-AllWithin-one z small = record { each = each }
+pub AllLimited-one : (z : ℤ) → unsigned_abs z ≤ 10 ^ 24 → AllLimited (z ∷ [])
+AllLimited-one z small = record { each = each }
   where
     each : (j : ℕ) → j < 1 → unsigned_abs (get_or (z ∷ []) j (pos 0)) ≤ 10 ^ 24
     each zero below = small
@@ -51,16 +51,16 @@ IsNamed-unique name line xs ys a b =
     Spells-unique a.numbers xs ys a.spelled (subst (λ (t : List ℕ). Spells t ys) (sym same) b.spelled)
 
 -- numbers in range spell their text
-pub Spells-numbers_text : (zs : List ℤ) → AllWithin zs → Spells (numbers_text zs) zs
+pub Spells-numbers_text : (zs : List ℤ) → AllLimited zs → Spells (numbers_text zs) zs
 Spells-numbers_text [] h = refl
 Spells-numbers_text (z ∷ zs) h =
-    (signed_decimal z, numbers_text zs, refl, IsNumber-signed_decimal z (AllWithin-head z zs h), Spells-numbers_text zs (AllWithin-tail z zs h))
+    (signed_decimal z, numbers_text zs, refl, IsNumber-signed_decimal z (AllLimited-head z zs h), Spells-numbers_text zs (AllLimited-tail z zs h))
 
 -- and have no other text
-pub numbers_text-is : (text : List ℕ) (zs : List ℤ) → Spells text zs → AllWithin zs → text ≡ numbers_text zs
+pub numbers_text-is : (text : List ℕ) (zs : List ℤ) → Spells text zs → AllLimited zs → text ≡ numbers_text zs
 numbers_text-is text [] a h = a
 numbers_text-is text (z ∷ zs) a h =
-    a.2 ∙ ap₂ (λ w r. 32 ∷ w ++ r) (number_word a.0 z a.3 (AllWithin-head z zs h)) (numbers_text-is a.1 zs a.4 (AllWithin-tail z zs h))
+    a.2 ∙ ap₂ (λ w r. 32 ∷ w ++ r) (number_word a.0 z a.3 (AllLimited-head z zs h)) (numbers_text-is a.1 zs a.4 (AllLimited-tail z zs h))
 
 -- numbers have no line feed
 pub HasNoLine-numbers : (text : List ℕ) (zs : List ℤ) → Spells text zs → HasNoLine text
@@ -73,17 +73,17 @@ HasNoLine-named name line zs none a =
     subst HasNoLine (sym a.is) (HasNoLine-append name a.numbers none (HasNoLine-numbers a.numbers zs a.spelled))
 
 -- a line of a name and numbers in range is their text
-pub line_text-is : (text line rest name : List ℕ) (zs : List ℤ) → IsLine text line rest → IsNamed name line zs → AllWithin zs → text ≡ line_text name zs ++ rest
+pub line_text-is : (text line rest name : List ℕ) (zs : List ℤ) → IsLine text line rest → IsNamed name line zs → AllLimited zs → text ≡ line_text name zs ++ rest
 line_text-is text line rest name zs first named h =
     first.is
     ∙ ap (λ l. l ++ 10 ∷ rest) (named.is ∙ ap (λ l. name ++ l) (numbers_text-is named.numbers zs named.spelled h))
     ∙ sym (append_assoc (name ++ numbers_text zs) (10 ∷ []) rest)
 
-pub IsNamed-numbers_text : (name : List ℕ) (zs : List ℤ) → AllWithin zs → IsNamed name (name ++ numbers_text zs) zs
+pub IsNamed-numbers_text : (name : List ℕ) (zs : List ℤ) → AllLimited zs → IsNamed name (name ++ numbers_text zs) zs
 IsNamed-numbers_text name zs h = record { numbers = numbers_text zs; is = refl; spelled = Spells-numbers_text zs h }
 
 -- the text of a name and numbers in range is a line of them
-pub IsLine-line_text : (rest name : List ℕ) (zs : List ℤ) → HasNoLine name → AllWithin zs → IsLine (line_text name zs ++ rest) (name ++ numbers_text zs) rest
+pub IsLine-line_text : (rest name : List ℕ) (zs : List ℤ) → HasNoLine name → AllLimited zs → IsLine (line_text name zs ++ rest) (name ++ numbers_text zs) rest
 IsLine-line_text rest name zs none h = record {
   is = append_assoc (name ++ numbers_text zs) (10 ∷ []) rest;
   first = HasNoLine-named name (name ++ numbers_text zs) zs none (IsNamed-numbers_text name zs h);
@@ -112,7 +112,7 @@ held_within-is (negsuc n) small =
 -- the text of a name and one number in range
 pub line_text-one : (text line rest name : List ℕ) (z : ℤ) → IsLine text line rest → IsNamed name line (z ∷ []) → unsigned_abs z ≤ 10 ^ 24 → text ≡ line_text name (z ∷ []) ++ rest
 line_text-one text line rest name z first named small =
-    line_text-is text line rest name (z ∷ []) first named (AllWithin-one z small)
+    line_text-is text line rest name (z ∷ []) first named (AllLimited-one z small)
 
 -- what has been read of a text: whatever the rest spells follows these numbers in it
 pub record HasRead (text rest : List ℕ) (zs : List ℤ) : Type 0 where

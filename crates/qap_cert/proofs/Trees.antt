@@ -12,8 +12,8 @@ use Rattle.qap_cert.specs.declared.tree.Tree.TheOpen.{Split as Layer}
 use Rattle.qap_cert.specs.declared.tree.Tree.TheFolds.{fold-roll-Tree}
 
 -- what a split of these children says
-pub node_of-Split : (t : Tree) (children : Vec Tree Global) → t ≡ Split children → node_of t ≡ split (nodes_of children.items)
-node_of-Split t children is = ap node_of is ∙ ap node_of (sym (rolls-Split children)) ∙ fold-roll-Tree Node node_step (Layer children)
+pub node_of-Split : (t : Tree) (f : ℕ) (children : Vec Tree Global) → t ≡ Split f children → node_of t ≡ split f (nodes_of children.items)
+node_of-Split t f children is = ap node_of is ∙ ap node_of (sym (rolls-Split f children)) ∙ fold-roll-Tree Node node_step (Layer f children)
 
 pub child_count-nodes_of : (ts : List Tree) → child_count (nodes_of ts) ≡ length ts
 child_count-nodes_of [] = omega arith

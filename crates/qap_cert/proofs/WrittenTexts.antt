@@ -14,7 +14,9 @@ use Rattle.qap_cert.specs.declared.tree.Tree.TheVariants.{rolls-Split}
 use Rattle.qap_cert.specs.declared.tree.Tree.TheOpen.{Split as Layer}
 use Rattle.qap_cert.specs.declared.tree.Tree.TheFolds.{fold-roll-Tree}
 use Rattle.qap_cert.specs.Writing.{HasWritten, HasStopped}
+use Rattle.qap_cert.specs.Version.{split_numbers}
 use Rattle.qap_cert.specs.declared.error.CertError.{CertError}
+use Rattle.qap_cert.specs.declared.version.Version.TheVariants.{Second}
 
 pub numbers_text-append : (xs ys : List ℤ) → numbers_text (xs ++ ys) ≡ numbers_text xs ++ numbers_text ys
 numbers_text-append [] ys = refl
@@ -79,30 +81,30 @@ pub written_number : {T S : Type 0} (contents : T → Option (List ℕ)) (old ne
 written_number contents old new name r y z same h =
     subst (λ (x : ℤ). MatchResult r (λ _. HasWritten contents old new (line_text name (x ∷ []))) (HasStopped contents old new (line_text name (x ∷ [])))) same h
 
-pub trees_text-append : (xs ys : List Tree) → trees_text (nodes_of (xs ++ ys)) ≡ trees_text (nodes_of xs) ++ trees_text (nodes_of ys)
+pub trees_text-append : (xs ys : List Tree) → trees_text Second (nodes_of (xs ++ ys)) ≡ trees_text Second (nodes_of xs) ++ trees_text Second (nodes_of ys)
 trees_text-append [] ys = refl
 trees_text-append (x ∷ xs) ys =
-    ap (λ l. tree_text (node_of x) ++ l) (trees_text-append xs ys) ∙ sym (append_assoc (tree_text (node_of x)) (trees_text (nodes_of xs)) (trees_text (nodes_of ys)))
+    ap (λ l. tree_text Second (node_of x) ++ l) (trees_text-append xs ys) ∙ sym (append_assoc (tree_text Second (node_of x)) (trees_text Second (nodes_of xs)) (trees_text Second (nodes_of ys)))
 
 -- the lines of one tree more
-pub trees_text-more : (ts : List Tree) (i : ℕ) (t : Tree) → i < length ts → t ≡ get_or ts i t → trees_text (nodes_of (take (i + 1) ts)) ≡ trees_text (nodes_of (take i ts)) ++ tree_text (node_of t)
+pub trees_text-more : (ts : List Tree) (i : ℕ) (t : Tree) → i < length ts → t ≡ get_or ts i t → trees_text Second (nodes_of (take (i + 1) ts)) ≡ trees_text Second (nodes_of (take i ts)) ++ tree_text Second (node_of t)
 trees_text-more ts i t inside is =
-    ap (λ l. trees_text (nodes_of l)) (take_more ts i t inside ∙ ap (λ x. take i ts ++ x ∷ []) (sym is))
+    ap (λ l. trees_text Second (nodes_of l)) (take_more ts i t inside ∙ ap (λ x. take i ts ++ x ∷ []) (sym is))
     ∙ trees_text-append (take i ts) (t ∷ [])
-    ∙ ap (λ l. trees_text (nodes_of (take i ts)) ++ l) (append-nil (tree_text (node_of t)))
+    ∙ ap (λ l. trees_text Second (nodes_of (take i ts)) ++ l) (append-nil (tree_text Second (node_of t)))
 
 -- what follows them
 pub trees_text-rest : (ts : List Tree) (i : ℕ) (t : Tree) → i < length ts → t ≡ get_or ts i t
-    → trees_text (nodes_of ts) ≡ (trees_text (nodes_of (take i ts)) ++ tree_text (node_of t)) ++ trees_text (nodes_of (drop (i + 1) ts))
+    → trees_text Second (nodes_of ts) ≡ (trees_text Second (nodes_of (take i ts)) ++ tree_text Second (node_of t)) ++ trees_text Second (nodes_of (drop (i + 1) ts))
 trees_text-rest ts i t inside is =
-    ap (λ l. trees_text (nodes_of l)) (sym (take-append-drop (i + 1) ts))
+    ap (λ l. trees_text Second (nodes_of l)) (sym (take-append-drop (i + 1) ts))
     ∙ trees_text-append (take (i + 1) ts) (drop (i + 1) ts)
-    ∙ ap (λ l. l ++ trees_text (nodes_of (drop (i + 1) ts))) (trees_text-more ts i t inside is)
+    ∙ ap (λ l. l ++ trees_text Second (nodes_of (drop (i + 1) ts))) (trees_text-more ts i t inside is)
 
 -- what a split's text is, by its children
-pub tree_text-split : (tree : Tree) (children : Vec Tree Global) → tree ≡ Split children → tree_text (node_of tree) ≡ codes "s\n" ++ trees_text (nodes_of children.items)
-tree_text-split tree children is =
-    ap (λ t. tree_text (node_of t)) (is ∙ sym (rolls-Split children)) ∙ ap tree_text (fold-roll-Tree Node node_step (Layer children))
+pub tree_text-split : (tree : Tree) (f : ℕ) (children : Vec Tree Global) → tree ≡ Split f children → tree_text Second (node_of tree) ≡ line_text (codes "s") (split_numbers Second f) ++ trees_text Second (nodes_of children.items)
+tree_text-split tree f children is =
+    ap (λ t. tree_text Second (node_of t)) (is ∙ sym (rolls-Split f children)) ∙ ap (tree_text Second) (fold-roll-Tree Node node_step (Layer f children))
 
 -- the same of an equal text
 pub MatchResult-text : {T S : Type 0} (contents : T → Option (List ℕ)) (old new : CountedDevice T) (text other : List ℕ) (r : Result S CertError) → text ≡ other

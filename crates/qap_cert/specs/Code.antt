@@ -6,13 +6,13 @@ use Rattle.qap_cert.specs.Certificate.{Claim, claim_of}
 use Rattle.qap_cert.specs.Shape.{child_count}
 use Rattle.qap_cert.specs.Tree.{Node, split, bound, Nodes, no_nodes, node}
 
--- a split by the number of its children, and a bound by its duals
+-- a split by its facility and the number of its children, and a bound by its duals
 abbrev pub Sign : Type 0
-Sign = ℕ ⊎ (List ℤ × List ℤ)
+Sign = (ℕ × ℕ) ⊎ (List ℤ × List ℤ)
 
 abbrev mutual
   pub signs : Node → List Sign → List Sign
-  signs (split children) rest = inl (child_count children) ∷ signs_of_all children rest
+  signs (split f children) rest = inl (f, child_count children) ∷ signs_of_all children rest
   signs (bound u v) rest = inr (u, v) ∷ rest
 
   pub signs_of_all : Nodes → List Sign → List Sign
@@ -35,7 +35,7 @@ nodes_behind (suc k) (node t ts) = nodes_behind k ts
 
 abbrev pub read_signs : List Sign → Nodes
 read_signs [] = no_nodes
-read_signs (inl k ∷ rest) = node (split (first_nodes k (read_signs rest))) (nodes_behind k (read_signs rest))
+read_signs (inl fk ∷ rest) = node (split (fk.0) (first_nodes (fk.1) (read_signs rest))) (nodes_behind (fk.1) (read_signs rest))
 read_signs (inr uv ∷ rest) = node (bound (uv.0) (uv.1)) (read_signs rest)
 
 abbrev pub first_node : Nodes → Node
@@ -56,12 +56,12 @@ nodes_behind-joined (node t ts) others =
 
 mutual
   pub read_signs-signs : (t : Node) (rest : List Sign) → read_signs (signs t rest) ≡ node t (read_signs rest)
-  read_signs-signs (split children) rest =
+  read_signs-signs (split f children) rest =
       let all = read_signs-signs_of_all children rest in
       let k = child_count children in
-      ap (λ (ts : Nodes). node (split (first_nodes k ts)) (nodes_behind k ts)) all
-      ∙ ap (λ (ts : Nodes). node (split ts) (nodes_behind k (joined children (read_signs rest)))) (first_nodes-joined children (read_signs rest))
-      ∙ ap (node (split children)) (nodes_behind-joined children (read_signs rest))
+      ap (λ (ts : Nodes). node (split f (first_nodes k ts)) (nodes_behind k ts)) all
+      ∙ ap (λ (ts : Nodes). node (split f ts) (nodes_behind k (joined children (read_signs rest)))) (first_nodes-joined children (read_signs rest))
+      ∙ ap (node (split f children)) (nodes_behind-joined children (read_signs rest))
   read_signs-signs (bound u v) rest = refl
 
   pub read_signs-signs_of_all : (ts : Nodes) (rest : List Sign) → read_signs (signs_of_all ts rest) ≡ joined ts (read_signs rest)
@@ -70,10 +70,10 @@ mutual
 
 abbrev pub node_code : Coded Node
 node_code =
-    code_by (List Sign) (coded_list (coded⊎ coded_ℕ (coded× (coded_list coded_ℤ) (coded_list coded_ℤ)))) (λ t. signs t [])
+    code_by (List Sign) (coded_list (coded⊎ (coded× coded_ℕ coded_ℕ) (coded× (coded_list coded_ℤ) (coded_list coded_ℤ)))) (λ t. signs t [])
     (λ xs. first_node (read_signs xs)) (λ t. ap first_node (read_signs-signs t []))
 
 abbrev pub claim_code : Coded Claim
 claim_code =
-    code_by (ℤ × (List ℕ × Node)) (coded× coded_ℤ (coded× (coded_list coded_ℕ) node_code)) (λ C. (C.cost, (C.permutation, C.tree)))
-    (λ p. claim_of p.0 p.1.0 p.1.1) (λ _. refl)
+    code_by (ℤ × (ℤ × (List ℕ × Node))) (coded× coded_ℤ (coded× coded_ℤ (coded× (coded_list coded_ℕ) node_code))) (λ C. (C.cost, (C.bound, (C.permutation, C.tree))))
+    (λ p. claim_of p.0 p.1.0 p.1.1.0 p.1.1.1) (λ _. refl)

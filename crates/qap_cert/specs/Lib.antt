@@ -10,4 +10,5 @@ pub mod Text
 pub mod TextFault
 pub mod Tree
 pub mod Valid
+pub mod Version
 pub mod Writing

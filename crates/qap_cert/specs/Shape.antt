@@ -1,7 +1,10 @@
--- The shape of a tree: how many children a split has, and how many duals a bound.
-use Rattle.std.specs.Prelude.{◌≡◌, ℕ, ◌+◌, ◌-◌, ◌<◌, List, length, ℤ}
-use Rattle.gilmore_lawler.specs.Duals.{AllWithin}
+-- The shape of a tree: which facility a split may have, how many children, and how many duals a bound.
+use Rattle.std.specs.Prelude.{◌≡◌, ℕ, ◌+◌, ◌-◌, ◌<◌, List, [], ◌∷◌, ◌++◌, length, ℤ}
+use Rattle.qap_cost.specs.Placement.{IsFree}
+use Rattle.qap_cost.specs.Range.{AllLimited}
 use Rattle.qap_cert.specs.Tree.{Node, split, bound, Nodes, no_nodes, node}
+use Rattle.qap_cert.specs.Version.{MayName}
+use Rattle.qap_cert.specs.declared.version.Version.{Version}
 
 abbrev pub child_count : Nodes → ℕ
 child_count no_nodes = 0
@@ -14,23 +17,25 @@ pub record AreCounted (m : ℕ) (u v : List ℤ) : Type 0 where
 
 -- the duals lie within -10^24 to 10^24
 pub record AreInRange (u v : List ℤ) : Type 0 where
-  pub rows : AllWithin u
-  pub columns : AllWithin v
+  pub rows : AllLimited u
+  pub columns : AllLimited v
 
 -- a dual for each of m rows and each of m columns, all from -10^24 to 10^24
 pub record AreDuals (m : ℕ) (u v : List ℤ) : Type 0 where
   pub rows : length u ≡ m
   pub columns : length v ≡ m
-  pub u_range : AllWithin u
-  pub v_range : AllWithin v
+  pub u_range : AllLimited u
+  pub v_range : AllLimited v
 
--- a tree with m free facilities: a split has some, and a child for each of the m free locations; a bound has a dual for
--- each free facility and each free location
+-- a tree in which these of n facilities are placed: a split is on a free facility that its version may name, and has a
+-- child for each free location; a bound has a dual for each free facility and each free location
 abbrev mutual
-  pub HasShape : ℕ → Node → Type 0
-  HasShape m (split children) = (0 < m) × (child_count children ≡ m) × AllHaveShape (m - 1) children
-  HasShape m (bound u v) = AreDuals m u v
+  pub HasShape : Version → ℕ → List ℕ → Node → Type 0
+  HasShape v n placed (split f children) =
+      (length placed < n) × IsFree n placed f × MayName v n placed f × (child_count children ≡ n - length placed)
+      × AllHaveShape v n (placed ++ f ∷ []) children
+  HasShape v n placed (bound u w) = AreDuals (n - length placed) u w
 
-  pub AllHaveShape : ℕ → Nodes → Type 0
-  AllHaveShape m no_nodes = Unit {0}
-  AllHaveShape m (node t rest) = HasShape m t × AllHaveShape m rest
+  pub AllHaveShape : Version → ℕ → List ℕ → Nodes → Type 0
+  AllHaveShape v n placed no_nodes = Unit {0}
+  AllHaveShape v n placed (node t rest) = HasShape v n placed t × AllHaveShape v n placed rest

@@ -1,23 +1,27 @@
 -- What keeps a text from being that of a certificate: the first fault in order of lines.
-use Rattle.std.specs.Prelude.{◌≡◌, ◌≢◌, ℕ, suc, zero, ◌*◌, ◌^◌, ◌<◌, ◌≤◌, ◌⊎◌, ◌++◌, ◌∷◌, [], List, length, ℤ, pos, codes, unsigned_abs}
+use Rattle.std.specs.Prelude.{◌≡◌, ◌≢◌, ℕ, suc, zero, ◌+◌, ◌-◌, ◌*◌, ◌<◌, ◌≤◌, ◌⊎◌, ◌++◌, ◌∷◌, [], List, length, ℤ, pos, codes, ◌<ℤ◌}
 use Rattle.qap_cost.specs.Bijection.{IsPerm}
-use Rattle.gilmore_lawler.specs.Duals.{AllWithin}
+use Rattle.qap_cost.specs.Placement.{IsFree}
+use Rattle.qap_cost.specs.Range.{AllLimited, IsLimited}
 use Rattle.qap_cert.specs.Line.{line_after, HasNoLine, IsLine}
 use Rattle.qap_cert.specs.Number.{IsNamed}
 use Rattle.qap_cert.specs.Shape.{HasShape, AllHaveShape, child_count}
+use Rattle.qap_cert.specs.Version.{version_number, MayName, split_numbers}
+use Rattle.qap_cert.specs.declared.version.Version.{Version}
+use Rattle.qap_cert.specs.declared.version.Version.TheVariants.{First, Second}
 use Rattle.qap_cert.specs.Text.{line_text, from_one, tree_text, trees_text}
 use Rattle.qap_cert.specs.Tree.{Node, Nodes, node_count, nodes_count}
 use Rattle.qap_cert.specs.declared.error.CertError.{CertError}
-use Rattle.qap_cert.specs.declared.error.CertError.TheVariants.{BadHeader, BadVersion, BadLine, Truncated, TrailingText, PermBad, SplitTooDeep, DualCount, DualRange}
+use Rattle.qap_cert.specs.declared.error.CertError.TheVariants.{BadHeader, BadVersion, BadLine, Truncated, TrailingText, PermBad, SplitTooDeep, FacilityTaken, DualCount, DualRange}
 
 -- the text has no whole line, or its first line has a fault
 abbrev pub IsLineFault : ℕ → List ℕ → (List ℕ → CertError → Type 0) → CertError → Type 0
 IsLineFault number text P e = ((e ≡ Truncated number) × HasNoLine text) ⊎ ((line rest : List ℕ) × IsLine text line rest × P line e)
 
--- the first line: `qapcert` and a positive number, which is to be 1
+-- the first line: `qapcert` and a positive number, which is to be 1 or 2
 abbrev pub IsHeaderFault : List ℕ → CertError → Type 0
 IsHeaderFault line BadHeader = (n : ℕ) → 0 < n → IsNamed (codes "qapcert") line (pos n ∷ []) → ⊥
-IsHeaderFault line BadVersion = (n : ℕ) × (0 < n) × (n ≢ 1) × IsNamed (codes "qapcert") line (pos n ∷ [])
+IsHeaderFault line BadVersion = (n : ℕ) × (2 < n) × IsNamed (codes "qapcert") line (pos n ∷ [])
 IsHeaderFault line _ = ⊥
 
 -- the second line: `n` and a number from 1 to 256
@@ -26,7 +30,7 @@ IsSizeFault line e = (e ≡ BadLine 2) × ((n : ℕ) → 0 < n → n ≤ 256 →
 
 -- the third line: `cost` and a number from -10^24 to 10^24
 abbrev pub IsCostFault : List ℕ → CertError → Type 0
-IsCostFault line e = (e ≡ BadLine 3) × ((c : ℤ) → unsigned_abs c ≤ 10 ^ 24 → IsNamed (codes "cost") line (c ∷ []) → ⊥)
+IsCostFault line e = (e ≡ BadLine 3) × ((c : ℤ) → IsLimited c → IsNamed (codes "cost") line (c ∷ []) → ⊥)
 
 -- the fourth line: `perm` and n numbers, which are to be each of 1 to n once
 abbrev pub IsPermFault : ℕ → List ℕ → CertError → Type 0
@@ -34,27 +38,41 @@ IsPermFault n line (BadLine at) = (at ≡ 4) × ((zs : List ℤ) → length zs �
 IsPermFault n line (PermBad at) = (at ≡ 4) × (zs : List ℤ) × (length zs ≡ n) × IsNamed (codes "perm") line zs × ((p : List ℕ) → IsPerm p → zs ≢ from_one p)
 IsPermFault n line _ = ⊥
 
--- the line of a node with m free facilities: `s` where m is positive, or `b` and 2 * m numbers from -10^24 to 10^24
-abbrev pub IsNodeFault : ℕ → ℕ → List ℕ → CertError → Type 0
-IsNodeFault m number line (BadLine at) = (at ≡ number) × (line ≢ codes "s") × ((zs : List ℤ) → IsNamed (codes "b") line zs → ⊥)
-IsNodeFault m number line (SplitTooDeep at) = (at ≡ number) × (line ≡ codes "s") × (m ≡ 0)
-IsNodeFault m number line (DualCount at) = (at ≡ number) × (zs : List ℤ) × IsNamed (codes "b") line zs × (length zs ≢ 2 * m)
-IsNodeFault m number line (DualRange at) = (at ≡ number) × (zs : List ℤ) × IsNamed (codes "b") line zs × (length zs ≡ 2 * m) × (AllWithin zs → ⊥)
-IsNodeFault m number line _ = ⊥
+-- the line is that of a split of this facility: `s`, in version 2 with the facility, which is one of n
+pub record IsSplitLine (v : Version) (n : ℕ) (placed line : List ℕ) (f : ℕ) : Type 0 where
+  pub named : IsNamed (codes "s") line (split_numbers v f)
+  pub allowed : MayName v n placed f
 
--- behind at most m trees with m free facilities, the first of which begins at the line of this number, there is a fault
-abbrev pub IsFaultAmong : ℕ → ℕ → List ℕ → (ℕ → List ℕ → Type 0) → Type 0
-IsFaultAmong m number text P =
-    (before : Nodes) × (rest : List ℕ) × (text ≡ trees_text before ++ rest) × AllHaveShape m before × (child_count before ≤ m)
-    × P (line_after number (nodes_count before)) rest
+-- the line of a node at which these of n facilities are placed: a split's, where there are free ones, and its facility is;
+-- or `b` and a number from -10^24 to 10^24 for each free facility and each free location
+abbrev pub IsNodeFault : Version → ℕ → List ℕ → ℕ → List ℕ → CertError → Type 0
+IsNodeFault v n placed number line (BadLine at) =
+    (at ≡ number) × ((f : ℕ) → IsSplitLine v n placed line f → ⊥) × ((zs : List ℤ) → IsNamed (codes "b") line zs → ⊥)
+IsNodeFault v n placed number line (SplitTooDeep at) = (at ≡ number) × (f : ℕ) × IsSplitLine v n placed line f × (n ≤ length placed)
+IsNodeFault v n placed number line (FacilityTaken at) =
+    (at ≡ number) × (f : ℕ) × IsSplitLine v n placed line f × (length placed < n) × (IsFree n placed f → ⊥)
+IsNodeFault v n placed number line (DualCount at) =
+    (at ≡ number) × (zs : List ℤ) × IsNamed (codes "b") line zs × (length zs ≢ 2 * (n - length placed))
+IsNodeFault v n placed number line (DualRange at) =
+    (at ≡ number) × (zs : List ℤ) × IsNamed (codes "b") line zs × (length zs ≡ 2 * (n - length placed)) × (AllLimited zs → ⊥)
+IsNodeFault v n placed number line _ = ⊥
 
--- the first fault of what is to begin with the lines of a tree with m free facilities: the first line has it, or that is a
--- split and, behind some of its children, the next one has it
-abbrev pub IsTreeTextFault : ℕ → ℕ → List ℕ → CertError → Type 0
-IsTreeTextFault zero number text e = IsLineFault number text (IsNodeFault 0 number) e
-IsTreeTextFault (suc m) number text e =
-    IsLineFault number text (IsNodeFault (suc m) number) e
-    ⊎ ((rest : List ℕ) × (text ≡ codes "s\n" ++ rest) × IsFaultAmong m (line_after number 1) rest (λ line rest. IsTreeTextFault m line rest e))
+-- behind some but not all of the children of a split, behind which these facilities are placed and whose first begins at
+-- the line of this number, there is a fault
+abbrev pub IsFaultAmong : Version → ℕ → List ℕ → ℕ → List ℕ → (ℕ → List ℕ → Type 0) → Type 0
+IsFaultAmong v n placed number text P =
+    (before : Nodes) × (rest : List ℕ) × (text ≡ trees_text v before ++ rest) × AllHaveShape v n placed before
+    × (child_count before + length placed ≤ n) × P (line_after number (nodes_count before)) rest
+
+-- the first fault of what is to begin with the lines of a tree with m free facilities, besides these placed ones: the first
+-- line has it, or that is a split and, behind some of its children, the next one has it
+abbrev pub IsTreeTextFault : Version → ℕ → ℕ → List ℕ → ℕ → List ℕ → CertError → Type 0
+IsTreeTextFault v n zero placed number text e = IsLineFault number text (IsNodeFault v n placed number) e
+IsTreeTextFault v n (suc m) placed number text e =
+    IsLineFault number text (IsNodeFault v n placed number) e
+    ⊎ ((f : ℕ) × (rest : List ℕ) × (text ≡ line_text (codes "s") (split_numbers v f) ++ rest) × MayName v n placed f
+    × IsFree n placed f
+    × IsFaultAmong v n (placed ++ f ∷ []) (line_after number 1) rest (λ line rest. IsTreeTextFault v n m (placed ++ f ∷ []) line rest e))
 
 -- the last line: `end`, with nothing behind it
 abbrev pub IsEndFault : ℕ → List ℕ → CertError → Type 0
@@ -68,31 +86,54 @@ pub record Behind (front text : List ℕ) (P : List ℕ → Type 0) : Type 0 whe
   pub is : text ≡ front ++ rest
   pub holds : P rest
 
--- the first fault from the tree on, for a certificate of size n
-abbrev pub IsFaultFromTree : ℕ → List ℕ → CertError → Type 0
-IsFaultFromTree n text e =
-    IsTreeTextFault n 5 text e
-    ⊎ ((t : Node) × HasShape n t × Behind (tree_text t) text (λ rest. IsEndFault (line_after 5 (node_count t)) rest e))
+-- the first fault from the tree on, which begins at this line, for a certificate of size n
+abbrev pub IsFaultFromTree : Version → ℕ → ℕ → List ℕ → CertError → Type 0
+IsFaultFromTree v n number text e =
+    IsTreeTextFault v n n [] number text e
+    ⊎ ((t : Node) × HasShape v n [] t × Behind (tree_text v t) text (λ rest. IsEndFault (line_after number (node_count t)) rest e))
+
+-- a bound that has a line: from -10^24 to 10^24, and below the cost
+pub record IsBelow (c g : ℤ) : Type 0 where
+  pub limited : IsLimited g
+  pub less : g <ℤ c
+
+-- the first line is not one of a bound
+abbrev pub HasNoBound : List ℕ → Type 0
+HasNoBound text = (line rest : List ℕ) (g : ℤ) → IsLine text line rest → IsNamed (codes "bound") line (g ∷ []) → ⊥
+
+-- the first line is one of a bound, which isn't below the cost, or is out of range
+abbrev pub IsBoundLineFault : ℤ → List ℕ → CertError → Type 0
+IsBoundLineFault c text e =
+    (e ≡ BadLine 5) × (line rest : List ℕ) × (g : ℤ) × IsLine text line rest × IsNamed (codes "bound") line (g ∷ []) × (IsBelow c g → ⊥)
+
+-- the first fault from the fifth line on: in version 2 that may state a bound
+abbrev pub IsFaultFromBound : Version → ℕ → ℤ → List ℕ → CertError → Type 0
+IsFaultFromBound First n c text e = IsFaultFromTree First n 5 text e
+IsFaultFromBound Second n c text e =
+    IsBoundLineFault c text e
+    ⊎ ((HasNoBound text × IsFaultFromTree Second n 5 text e)
+    ⊎ ((g : ℤ) × IsBelow c g × Behind (line_text (codes "bound") (g ∷ [])) text (λ rest. IsFaultFromTree Second n 6 rest e)))
 
 -- the first fault from the fourth line on
-abbrev pub IsFaultFromPerm : ℕ → List ℕ → CertError → Type 0
-IsFaultFromPerm n text e =
+abbrev pub IsFaultFromPerm : Version → ℕ → ℤ → List ℕ → CertError → Type 0
+IsFaultFromPerm v n c text e =
     IsLineFault 4 text (IsPermFault n) e
-    ⊎ ((p : List ℕ) × IsPerm p × (length p ≡ n) × Behind (line_text (codes "perm") (from_one p)) text (λ rest. IsFaultFromTree n rest e))
+    ⊎ ((p : List ℕ) × IsPerm p × (length p ≡ n) × Behind (line_text (codes "perm") (from_one p)) text (λ rest. IsFaultFromBound v n c rest e))
 
 -- the first fault from the third line on
-abbrev pub IsFaultFromCost : ℕ → List ℕ → CertError → Type 0
-IsFaultFromCost n text e =
+abbrev pub IsFaultFromCost : Version → ℕ → List ℕ → CertError → Type 0
+IsFaultFromCost v n text e =
     IsLineFault 3 text IsCostFault e
-    ⊎ ((c : ℤ) × (unsigned_abs c ≤ 10 ^ 24) × Behind (line_text (codes "cost") (c ∷ [])) text (λ rest. IsFaultFromPerm n rest e))
+    ⊎ ((c : ℤ) × IsLimited c × Behind (line_text (codes "cost") (c ∷ [])) text (λ rest. IsFaultFromPerm v n c rest e))
 
 -- the first fault from the second line on
-abbrev pub IsFaultFromSize : List ℕ → CertError → Type 0
-IsFaultFromSize text e =
+abbrev pub IsFaultFromSize : Version → List ℕ → CertError → Type 0
+IsFaultFromSize v text e =
     IsLineFault 2 text IsSizeFault e
-    ⊎ ((n : ℕ) × (0 < n) × (n ≤ 256) × Behind (line_text (codes "n") (pos n ∷ [])) text (λ rest. IsFaultFromCost n rest e))
+    ⊎ ((n : ℕ) × (0 < n) × (n ≤ 256) × Behind (line_text (codes "n") (pos n ∷ [])) text (λ rest. IsFaultFromCost v n rest e))
 
 -- the first fault of a text
 abbrev pub IsTextFault : List ℕ → CertError → Type 0
 IsTextFault text e =
-    IsLineFault 1 text IsHeaderFault e ⊎ Behind (line_text (codes "qapcert") (pos 1 ∷ [])) text (λ rest. IsFaultFromSize rest e)
+    IsLineFault 1 text IsHeaderFault e
+    ⊎ ((v : Version) × Behind (line_text (codes "qapcert") (pos (version_number v) ∷ [])) text (λ rest. IsFaultFromSize v rest e))

@@ -5,9 +5,10 @@ use Rattle.qap_cert.specs.declared.tree.Tree.{Tree}
 use Rattle.qap_cert.specs.declared.tree.Tree.TheOpen.{Tree-F, Split, Bound}
 use Rattle.qap_cert.specs.declared.tree.Tree.TheFolds.{fold-Tree}
 
+-- a split on a facility, with a child for each of its locations; a bound by duals
 mutual
   pub data Node : Type 0 where
-    split : Nodes → Node
+    split : ℕ → Nodes → Node
     bound : List ℤ → List ℤ → Node
 
   pub data Nodes : Type 0 where
@@ -21,7 +22,7 @@ in_row (t ∷ ts) = node t (in_row ts)
 
 -- what a tree says, once each child has said it
 abbrev pub node_step : Tree-F Node → Node
-node_step (Split children) = split (in_row children.items)
+node_step (Split facility children) = split facility (in_row children.items)
 node_step (Bound u v) = bound u.items v.items
 
 -- what a tree says
@@ -35,7 +36,7 @@ nodes_of ts = in_row (map node_of ts)
 -- how many nodes there are
 abbrev mutual
   pub node_count : Node → ℕ
-  node_count (split children) = 1 + nodes_count children
+  node_count (split f children) = 1 + nodes_count children
   node_count (bound u v) = 1
 
   pub nodes_count : Nodes → ℕ

@@ -1,27 +1,26 @@
-//! Certificates of a least cost.
+//! Certificates of a least cost, or of a bound on it.
 
-ghost use Rattle.std.specs.Prelude.{◌≡◌, MatchResult};
-ghost use Rattle.qap_cert.specs.Certificate.{claim_of, IsCertificate};
+ghost use Rattle.std.specs.Prelude.{◌≡◌, ◌↔◌, IsTrue, MatchResult};
+ghost use Rattle.qap_cert.specs.Certificate.{claim_of, tree_line, IsBoundFor, IsCertificate};
 ghost use Rattle.qap_cert.specs.Fault.{IsClaimFault};
 ghost use Rattle.qap_cert.specs.Tree.{node_of};
 
 use crate::CertError;
-use crate::shape::{GREATEST, judge_tree};
+use crate::line_number::{BOUND_LINE, COST_LINE, GREATEST, TREE_LINE_BEHIND_BOUND};
+use crate::placed::Placed;
+use crate::shape::judge_tree;
 use crate::tree::Tree;
 use qap_cost::Perm;
 use std::marker::Model;
 
-/// The line of the cost in a certificate's text.
-pub(crate) const COST_LINE: u64 = 3;
-/// The line of the first node in a certificate's text.
-pub(crate) const TREE_LINE: u64 = 5;
-
-/// A cost from -10^24 to 10^24, a permutation that is to have it, and a tree of the permutation's size that is to show that
-/// no permutation costs less. Whether it does, for an instance, is for `check` to say.
+/// A cost from -10^24 to 10^24, a bound from -10^24 to the cost, a permutation that is to have the cost, and a tree of the
+/// permutation's size that is to show that no permutation costs less than the bound. Whether it does, for an instance, is
+/// for `check` to say.
 #[derive(Drop)]
 pub struct Certificate {
     pub(crate) cost: i128,
-    pub(crate) permutation: Perm,
+    pub(crate) bound: i128,
+    pub(crate) perm: Perm,
     pub(crate) tree: Tree,
 }
 
@@ -34,39 +33,42 @@ impl Model for Certificate {
 
     ghost coded = { claim_code };
 
-    ghost view = { λ s. claim_of s.cost s.permutation (node_of s.tree) };
+    ghost view = { λ s. claim_of s.cost s.bound s.perm (node_of s.tree) };
 
-    ghost invariant = { λ s. IsCertificate (claim_of s.cost s.permutation (node_of s.tree)) };
+    ghost invariant = { λ s. IsCertificate (claim_of s.cost s.bound s.perm (node_of s.tree)) };
 }
 
 impl Certificate {
-    /// The certificate of this cost, this permutation and this tree, where they have the shape of one.
+    /// The certificate of this cost, this bound, this permutation and this tree, where they have the shape of one.
     ///
     /// No memory is taken. Where the call refuses, it tells the first fault in order of the lines that the certificate's
     /// text would have, and the permutation and the tree come back: `BadLine(3)` for a cost outside -10^24 to 10^24,
-    /// `SplitTooDeep` for a split where no facility is free, `SplitWidth` for one with another number of children than
-    /// there are free locations, `DualCount` for a bound with another number of duals than there are free facilities or
-    /// free locations, and `DualRange` for a dual outside -10^24 to 10^24.
+    /// `BadLine(5)` for a bound that is above the cost or outside that range, `SplitTooDeep` for a split where no facility
+    /// is free, `FacilityTaken` for a split on a facility that is placed or isn't below the size, `SplitWidth` for one with
+    /// another number of children than there are free locations, `DualCount` for a bound with another number of duals than
+    /// there are free facilities or free locations, and `DualRange` for a dual outside -10^24 to 10^24.
     pub fn new(
         cost: i128,
-        permutation: Perm,
+        bound: i128,
+        perm: Perm,
         tree: Tree,
     ) -> Result<Certificate, (CertError, Perm, Tree)>
         ensures { MatchResult result
-            (λ c. (c ≡ claim_of cost permutation (node_of tree)) × IsCertificate c)
-            (λ r. IsClaimFault (claim_of cost permutation (node_of tree)) r.0 × (r.1 ≡ permutation) × (r.2 ≡ tree)) }
+            (λ c. (c ≡ claim_of cost bound perm (node_of tree)) × IsCertificate c)
+            (λ r. IsClaimFault (claim_of cost bound perm (node_of tree)) r.0 × (r.1 ≡ perm) × (r.2 ≡ tree)) }
     {
-        match judge_claim(cost, &permutation, &tree) {
+        match judge_claim(cost, bound, &perm, &tree) {
             Ok(()) => Ok(Certificate {
                 cost,
-                permutation,
+                bound,
+                perm,
                 tree,
             }),
-            Err(error) => Err((error, permutation, tree)),
+            Err(error) => Err((error, perm, tree)),
         }
     }
 
-    /// The cost that is certified: from -10^24 to 10^24.
+    /// The cost of the permutation: from -10^24 to 10^24.
     pub fn cost(&self) -> i128
         ensures value { result ≡ self.now.cost }
         ensures certificate { IsCertificate self.now }
@@ -74,32 +76,69 @@ impl Certificate {
         self.cost
     }
 
+    /// The bound that no permutation is to be below: from -10^24 to the cost.
+    pub fn bound(&self) -> i128
+        ensures value { result ≡ self.now.bound }
+        ensures certificate { IsCertificate self.now }
+    {
+        self.bound
+    }
+
     /// The permutation that is to have the cost.
-    pub fn permutation(&self) -> &Perm
+    pub fn perm(&self) -> &Perm
         ensures value { result.now ≡ self.now.permutation }
         ensures certificate { IsCertificate self.now }
     {
-        &self.permutation
+        &self.perm
     }
 
-    /// The tree that is to show that no permutation costs less.
+    /// The tree that is to show that no permutation costs less than the bound.
     pub fn tree(&self) -> &Tree
         ensures value { node_of result.now ≡ self.now.tree }
         ensures certificate { IsCertificate self.now }
     {
         &self.tree
     }
+
+    /// The line of the tree's first node.
+    pub(crate) fn tree_line(&self) -> u64
+        ensures { result ≡ tree_line self.now.cost self.now.bound }
+    {
+        first_tree_line(self.cost, self.bound)
+    }
 }
 
-/// Whether this cost, this permutation and this tree have the shape of a certificate, and the first fault if not.
-fn judge_claim(cost: i128, permutation: &Perm, tree: &Tree) -> Result<(), CertError>
+/// The line of the first node of a tree, for this cost and this bound.
+fn first_tree_line(cost: i128, bound: i128) -> u64
+    ensures { result ≡ tree_line cost bound }
+{
+    if bound < cost {
+        TREE_LINE_BEHIND_BOUND
+    } else {
+        BOUND_LINE
+    }
+}
+
+/// Whether the bound is one for this cost.
+fn is_bound_for(cost: i128, bound: i128) -> bool
+    ensures { IsTrue result ↔ IsBoundFor cost bound }
+{
+    bound.unsigned_abs() <= GREATEST && bound <= cost
+}
+
+/// Whether these have the shape of a certificate, and the first fault if not.
+fn judge_claim(cost: i128, bound: i128, perm: &Perm, tree: &Tree) -> Result<(), CertError>
     ensures { MatchResult result
-        (λ done. IsCertificate (claim_of cost permutation.now (node_of tree.now)))
-        (λ e. IsClaimFault (claim_of cost permutation.now (node_of tree.now)) e) }
+        (λ done. IsCertificate (claim_of cost bound perm.now (node_of tree.now)))
+        (λ e. IsClaimFault (claim_of cost bound perm.now (node_of tree.now)) e) }
 {
     if cost.unsigned_abs() > GREATEST {
         return Err(CertError::BadLine(COST_LINE));
     }
-    judge_tree(tree, permutation.len(), TREE_LINE)?;
+    if !is_bound_for(cost, bound) {
+        return Err(CertError::BadLine(BOUND_LINE));
+    }
+    let line = first_tree_line(cost, bound);
+    judge_tree(tree, perm.len(), &Placed::none(), line)?;
     Ok(())
 }

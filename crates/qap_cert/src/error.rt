@@ -34,6 +34,9 @@ pub enum CertError {
     /// A split stands where no facility is free.
     #[error("line {0} splits where no facility is free")]
     SplitTooDeep(u64),
+    /// A split names a facility that is placed already, or is none of the size.
+    #[error("line {0} splits on a facility that is not free")]
+    FacilityTaken(u64),
     /// A bound hasn't one dual for each free facility and each free location.
     #[error("line {0} has another number of duals")]
     DualCount(u64),
@@ -43,8 +46,8 @@ pub enum CertError {
     /// The duals don't fit the reduced matrix.
     #[error("line {0}: the duals don't fit the reduced matrix")]
     NotFeasible(u64),
-    /// The duals fit, but bound their part by less than the stated cost.
-    #[error("line {0}: the bound is below the stated cost")]
+    /// The duals fit, but bound their part by less than the certificate's bound.
+    #[error("line {0}: the duals bound their part by too little")]
     BoundTooLow(u64),
     /// A split hasn't one child for each free location.
     #[error("line {0} splits into another number of children")]

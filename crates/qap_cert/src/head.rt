@@ -1,38 +1,39 @@
 //! The first four lines of a certificate.
 
-ghost use Rattle.std.specs.Prelude.{◌≡◌, ◌≢◌, ◌<◌, ◌≤◌, ◌+◌, ◌^◌, ◌⊎◌, ◌++◌, ◌∷◌, [], ℕ, ℤ, pos, List, length, codes, unsigned_abs, slice_index_or, MatchResult, MatchOption, IfOk, SomeIndex};
+ghost use Rattle.std.specs.Prelude.{◌≡◌, ◌≢◌, ◌<◌, ◌≤◌, ◌+◌, ◌⊎◌, ◌++◌, ◌∷◌, [], ℕ, ℤ, pos, List, length, codes, slice_index_or, MatchResult, MatchOption, IfOk, SomeIndex};
 ghost use Rattle.qap_cost.specs.Bijection.{IsPerm};
+ghost use Rattle.qap_cost.specs.Range.{IsLimited};
 ghost use Rattle.qap_cert.specs.Number.{IsNamed};
 ghost use Rattle.qap_cert.specs.declared.error.CertError.TheVariants.{OutOfMemory, PermBad};
-ghost use Rattle.qap_cert.specs.Text.{line_text, from_one};
+ghost use Rattle.qap_cert.specs.Text.{line_text, from_one as counted_from_one};
 ghost use Rattle.qap_cert.specs.TextFault.{IsLineFault, IsHeaderFault, IsSizeFault, IsCostFault, IsPermFault};
+ghost use Rattle.qap_cert.specs.Version.{version_number};
 
 use crate::CertError;
 use crate::line::line_at;
-use crate::number::{one_number, read_numbers};
-use crate::shape::GREATEST;
-use qap_cost::Perm;
+use crate::line_number::{COST_LINE, GREATEST, PERM_LINE, SIZE_LINE, VERSION_LINE};
+use crate::number::{from_one, one_number, read_numbers};
+use crate::version::Version;
+use qap_cost::{MAX_SIZE, Perm};
 use std::alloc::{AllocError, Global};
 
-/// The greatest size of a certificate.
-const MAX_SIZE: i128 = 256;
-
-/// What follows the first line, `qapcert 1`.
-pub(crate) fn read_header(text: &[u8]) -> Result<&[u8], CertError>
+/// The version, which the first line states, and what follows that.
+pub(crate) fn read_header(text: &[u8]) -> Result<(Version, &[u8]), CertError>
     ensures { MatchResult result
-        (λ rest. text.now ≡ line_text (codes "qapcert") (pos 1 ∷ []) ++ rest.now)
+        (λ r. text.now ≡ line_text (codes "qapcert") (pos (version_number r.0) ∷ []) ++ r.1.now)
         (IsLineFault 1 text.now IsHeaderFault) }
 {
-    let line = line_at(text, 1)?;
-    judge_header(line.bytes)?;
-    Ok(line.rest)
+    let line = line_at(text, VERSION_LINE)?;
+    let version = judge_header(line.bytes)?;
+    Ok((version, line.rest))
 }
 
-fn judge_header(line: &[u8]) -> Result<(), CertError>
-    ensures { MatchResult result (λ _. IsNamed (codes "qapcert") line.now (pos 1 ∷ [])) (IsHeaderFault line.now) }
+fn judge_header(line: &[u8]) -> Result<Version, CertError>
+    ensures { MatchResult result (λ v. IsNamed (codes "qapcert") line.now (pos (version_number v) ∷ [])) (IsHeaderFault line.now) }
 {
     match one_number(b"qapcert", line) {
-        Some(1) => Ok(()),
+        Some(1) => Ok(Version::First),
+        Some(2) => Ok(Version::Second),
         Some(version) if version > 0 => Err(CertError::BadVersion),
         Some(_) => Err(CertError::BadHeader),
         None => Err(CertError::BadHeader),
@@ -45,7 +46,7 @@ pub(crate) fn read_size(text: &[u8]) -> Result<(usize, &[u8]), CertError>
         (λ r. (0 < r.0) × (r.0 ≤ 256) × (text.now ≡ line_text (codes "n") (pos r.0 ∷ []) ++ r.1.now))
         (IsLineFault 2 text.now IsSizeFault) }
 {
-    let line = line_at(text, 2)?;
+    let line = line_at(text, SIZE_LINE)?;
     let size = judge_size(line.bytes)?;
     Ok((size, line.rest))
 }
@@ -56,30 +57,30 @@ fn judge_size(line: &[u8]) -> Result<usize, CertError>
         (IsSizeFault line.now) }
 {
     match one_number(b"n", line) {
-        Some(size) if size > 0 && size <= MAX_SIZE => Ok(size as usize),
-        _ => Err(CertError::BadLine(2)),
+        Some(size) if size > 0 && size <= MAX_SIZE as i128 => Ok(size as usize),
+        _ => Err(CertError::BadLine(SIZE_LINE)),
     }
 }
 
 /// The cost, which the third line states, from -10^24 to 10^24, and what follows that.
 pub(crate) fn read_cost(text: &[u8]) -> Result<(i128, &[u8]), CertError>
     ensures { MatchResult result
-        (λ r. (unsigned_abs r.0 ≤ 10 ^ 24) × (text.now ≡ line_text (codes "cost") (r.0 ∷ []) ++ r.1.now))
+        (λ r. (IsLimited r.0) × (text.now ≡ line_text (codes "cost") (r.0 ∷ []) ++ r.1.now))
         (IsLineFault 3 text.now IsCostFault) }
 {
-    let line = line_at(text, 3)?;
+    let line = line_at(text, COST_LINE)?;
     let cost = judge_cost(line.bytes)?;
     Ok((cost, line.rest))
 }
 
 fn judge_cost(line: &[u8]) -> Result<i128, CertError>
     ensures { MatchResult result
-        (λ c. (unsigned_abs c ≤ 10 ^ 24) × IsNamed (codes "cost") line.now (c ∷ []))
+        (λ c. (IsLimited c) × IsNamed (codes "cost") line.now (c ∷ []))
         (IsCostFault line.now) }
 {
     match one_number(b"cost", line) {
         Some(cost) if cost.unsigned_abs() <= GREATEST => Ok(cost),
-        _ => Err(CertError::BadLine(3)),
+        _ => Err(CertError::BadLine(COST_LINE)),
     }
 }
 
@@ -93,10 +94,10 @@ pub(crate) fn read_permutation(
     requires positive { 0 < n }
     requires small { n ≤ 256 }
     ensures { MatchResult result
-        (λ r. IsPerm r.0 × (length r.0 ≡ n) × (text.now ≡ line_text (codes "perm") (from_one r.0) ++ r.1.now))
+        (λ r. IsPerm r.0 × (length r.0 ≡ n) × (text.now ≡ line_text (codes "perm") (counted_from_one r.0) ++ r.1.now))
         (λ e. (e ≡ OutOfMemory) ⊎ IsLineFault 4 text.now (IsPermFault n) e) }
 {
-    let line = line_at(text, 4)?;
+    let line = line_at(text, PERM_LINE)?;
     let permutation = judge_permutation(alloc, line.bytes, n)?;
     Ok((permutation, line.rest))
 }
@@ -104,14 +105,14 @@ pub(crate) fn read_permutation(
 fn judge_permutation(alloc: Global, line: &[u8], n: usize) -> Result<Perm, CertError>
     requires small { n ≤ 256 }
     ensures { MatchResult result
-        (λ p. IsPerm p × (length p ≡ n) × IsNamed (codes "perm") line.now (from_one p))
+        (λ p. IsPerm p × (length p ≡ n) × IsNamed (codes "perm") line.now (counted_from_one p))
         (λ e. (e ≡ OutOfMemory) ⊎ IsPermFault n line.now e) }
 {
     let Some(numbers) = read_numbers(alloc, b"perm", line, n)? else {
-        return Err(CertError::BadLine(4));
+        return Err(CertError::BadLine(PERM_LINE));
     };
     if numbers.count != n {
-        return Err(CertError::BadLine(4));
+        return Err(CertError::BadLine(PERM_LINE));
     }
     permutation_from_one(alloc, &numbers.first)
 }
@@ -120,15 +121,15 @@ fn judge_permutation(alloc: Global, line: &[u8], n: usize) -> Result<Perm, CertE
 fn permutation_from_one(alloc: Global, values: &[i128]) -> Result<Perm, CertError>
     requires small { length values.now ≤ 256 }
     ensures { MatchResult result
-        (λ p. IsPerm p × (values.now ≡ from_one p))
-        (λ e. (e ≡ OutOfMemory) ⊎ ((e ≡ PermBad 4) × ((p : List ℕ) → IsPerm p → values.now ≢ from_one p))) }
+        (λ p. IsPerm p × (values.now ≡ counted_from_one p))
+        (λ e. (e ≡ OutOfMemory) ⊎ ((e ≡ PermBad 4) × ((p : List ℕ) → IsPerm p → values.now ≢ counted_from_one p))) }
 {
     let Some(locations) = locations_from_one(alloc, values)? else {
-        return Err(CertError::PermBad(4));
+        return Err(CertError::PermBad(PERM_LINE));
     };
     match Perm::new(locations) {
         Ok(permutation) => Ok(permutation),
-        Err(_) => Err(CertError::PermBad(4)),
+        Err(_) => Err(CertError::PermBad(PERM_LINE)),
     }
 }
 
@@ -137,28 +138,14 @@ fn locations_from_one(alloc: Global, values: &[i128]) -> Result<Option<Vec<u16>>
     requires small { length values.now ≤ 256 }
     ensures { IfOk result (λ found. MatchOption found
         (SomeIndex values.now (λ i. (k : ℕ) → k < length values.now → slice_index_or values.now i (pos 0) ≢ pos (k + 1)))
-        (λ v. values.now ≡ from_one v.items)) }
+        (λ v. values.now ≡ counted_from_one v.items)) }
 {
     let mut locations = Vec::with_capacity(alloc, values.len())?;
     for value in values {
-        let Some(location) = location_from_one(*value, values.len()) else {
+        let Some(location) = from_one(*value, values.len()) else {
             return Ok(None);
         };
         locations.push(location)?;
     }
     Ok(Some(locations))
-}
-
-/// A location that is counted from 1, counted from 0; `None` where it isn't one of `n`.
-fn location_from_one(value: i128, n: usize) -> Option<u16>
-    requires small { n ≤ 256 }
-    ensures { MatchOption result
-        ((k : ℕ) → k < n → value ≢ pos (k + 1))
-        (λ k. (k < n) × (value ≡ pos (k + 1))) }
-{
-    if value < 1 || value > n as i128 {
-        None
-    } else {
-        Some((value - 1) as u16)
-    }
 }

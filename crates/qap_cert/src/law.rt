@@ -1,22 +1,24 @@
-//! Why a certificate that certifies a cost shows that the cost is the least, that a fault keeps it from that, and that a
-//! text is that of one certificate.
+//! Why a certificate that certifies its bound shows that no permutation costs less, that a fault keeps it from that, and
+//! that a text is that of one certificate.
 
 ghost use Rattle.std.specs.Prelude.{◌≡◌, List, ℕ};
 ghost use Rattle.qap_cost.specs.Instance.{Problem, IsInstance};
-ghost use Rattle.qap_cost.specs.Objective.{IsLeast};
+ghost use Rattle.qap_cost.specs.Objective.{IsLeast, NoneCostsLess};
 ghost use Rattle.qap_cert.specs.Certificate.{Claim, IsCertificate, Certifies};
 ghost use Rattle.qap_cert.specs.Fault.{IsClaimFault, IsFault};
 ghost use Rattle.qap_cert.specs.Text.{IsCertificateText};
 ghost use Rattle.qap_cert.specs.TextFault.{IsTextFault};
 ghost use Rattle.qap_cert.specs.declared.error.CertError.{CertError};
 
-/// What is certified is the least cost: the permutation has it, and no permutation of the instance costs less.
-pub fn least_cost_law()
-    ensures { (I : Problem) (C : Claim) → IsInstance I → IsCertificate C → Certifies I C → IsLeast I C.cost }
+/// No permutation of the instance costs less than the bound that is certified; and where that is the cost, it is the least
+/// cost, which the permutation has.
+pub fn certified_law()
+    ensures bound { (I : Problem) (C : Claim) → IsInstance I → Certifies I C → NoneCostsLess I C.bound }
+    ensures least { (I : Problem) (C : Claim) → IsInstance I → IsCertificate C → Certifies I C → C.bound ≡ C.cost → IsLeast I C.cost }
 {}
 
 /// What has a first fault of shape is no certificate, and a certificate that has a fault for an instance doesn't certify its
-/// cost; and there is only one first fault.
+/// bound; and there is only one first fault.
 pub fn fault_law()
     ensures certificate { (C : Claim) (e : CertError) → IsClaimFault C e → IsCertificate C → ⊥ }
     ensures certified { (I : Problem) (C : Claim) (e : CertError) → IsFault I C e → Certifies I C → ⊥ }

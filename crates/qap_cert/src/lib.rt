@@ -1,27 +1,33 @@
-//! Certificates of least costs: what a tree has to show, why that is enough, and what tells whether it does.
+//! Certificates of least costs and of bounds on them: what a tree has to show, why that is enough, and what tells whether it
+//! does.
 #![tactic(auto)]
 
 mod acceptance;
+mod bound;
 mod certificate;
 mod checking;
 mod error;
 mod head;
 mod law;
 mod line;
+mod line_number;
 mod number;
+mod placed;
 mod reader;
 mod shape;
 mod tree;
 mod tree_reader;
+mod version;
 mod writing;
 
-pub use acceptance::accept;
+pub use acceptance::{Verdict, accept};
 pub use certificate::Certificate;
 pub use checking::check;
 pub use error::CertError;
-pub use law::{certificate_text_law, fault_law, least_cost_law};
+pub use law::{certificate_text_law, certified_law, fault_law};
 pub use reader::read;
 pub use tree::Tree;
+pub use version::Version;
 pub use writing::write;
 
 #[cfg(test)]

@@ -1,6 +1,6 @@
 //! Numbers of a line.
 
-ghost use Rattle.std.specs.Prelude.{◌≡◌, ◌≢◌, ◌≤◌, ◌^◌, ◌++◌, ◌∷◌, [], ℕ, ℤ, pos, neg_ℤ, List, length, map, take, min, MatchOption, IfOk, slice_index};
+ghost use Rattle.std.specs.Prelude.{◌≡◌, ◌≢◌, ◌<◌, ◌≤◌, ◌+◌, ◌^◌, ◌++◌, ◌∷◌, [], ℕ, ℤ, pos, neg_ℤ, List, length, map, take, min, MatchOption, IfOk, slice_index};
 ghost use Rattle.qap_cert.specs.Number.{Spells, IsNamed, held};
 ghost use Rattle.qap_cert.specs.Numeral.{magnitude_of, BeginsWithDigits, IsRun, IsFrontDecimal, IsFrontNumber, HasNoFrontDecimal, HasNoFrontNumber};
 
@@ -201,4 +201,18 @@ pub(crate) fn read_numbers(
         rest = &after[numeral.count..];
     }
     Ok(Some(Numbers { count, first }))
+}
+
+/// A number of 1 to `n`, counted from 0; `None` where it is none of these.
+pub(crate) fn from_one(value: i128, n: usize) -> Option<u16>
+    requires small { n ≤ 256 }
+    ensures { MatchOption result
+        ((k : ℕ) → k < n → value ≢ pos (k + 1))
+        (λ k. (k < n) × (value ≡ pos (k + 1))) }
+{
+    if value < 1 || value > n as i128 {
+        None
+    } else {
+        Some((value - 1) as u16)
+    }
 }

@@ -1,37 +1,42 @@
 //! Whether a tree has the shape that its size asks for.
 
-ghost use Rattle.std.specs.Prelude.{◌≡◌, ◌≤◌, ◌↔◌, IsTrue, MatchResult};
-ghost use Rattle.gilmore_lawler.specs.Duals.{AllWithin};
-ghost use Rattle.qap_cert.specs.Fault.{IsDualFault, IsShapeFault, IsShapeFaultAmong};
+ghost use Rattle.std.specs.Prelude.{◌≡◌, ◌-◌, ◌<◌, ◌≤◌, ◌↔◌, IsTrue, length, MatchResult};
+ghost use Rattle.qap_cost.specs.Placement.{IsFree};
+ghost use Rattle.qap_cost.specs.Range.{AllLimited};
+ghost use Rattle.qap_cert.specs.Fault.{IsDualFault, IsFacilityFault, IsSplitFault, IsShapeFault, IsShapeFaultAmong};
 ghost use Rattle.qap_cert.specs.Line.{line_after};
 ghost use Rattle.qap_cert.specs.Shape.{AreDuals, HasShape, AllHaveShape};
 ghost use Rattle.qap_cert.specs.Tree.{node_of, nodes_of, node_count, nodes_count};
+ghost use Rattle.qap_cert.specs.declared.version.Version.TheVariants.{Second};
 
 use crate::CertError;
+use crate::line_number::GREATEST;
+use crate::placed::Placed;
 use crate::tree::Tree;
 
-/// The greatest absolute value of a dual and of a certificate's cost.
-pub(crate) const GREATEST: u128 = 1_000_000_000_000_000_000_000_000;
-
-/// The line behind those of a tree with so many free facilities that begins at this line, or what is wrong with its shape.
+/// The line behind those of a tree that begins at this line, in which these of so many facilities are placed; or what is
+/// wrong with its shape.
 #[cycle(shape)]
-pub(crate) fn judge_tree(tree: &Tree, free: usize, line: u64) -> Result<u64, CertError>
+pub(crate) fn judge_tree(
+    tree: &Tree,
+    size: usize,
+    placed: &Placed,
+    line: u64,
+) -> Result<u64, CertError>
+    requires small { size ≤ 256 }
+    requires depth { length placed.now ≤ size }
     ensures { MatchResult result
-        (λ next. HasShape free (node_of tree.now) × (next ≡ line_after line (node_count (node_of tree.now))))
-        (λ e. IsShapeFault free line (node_of tree.now) e) }
+        (λ next. HasShape Second size placed.now (node_of tree.now) × (next ≡ line_after line (node_count (node_of tree.now))))
+        (λ e. IsShapeFault size placed.now line (node_of tree.now) e) }
 {
     match tree {
-        Tree::Split(children) => {
-            if free == 0 {
-                return Err(CertError::SplitTooDeep(line));
-            }
-            if children.len() != free {
-                return Err(CertError::SplitWidth(line));
-            }
-            judge_trees(children, free - 1, line.saturating_add(1))
+        Tree::Split { facility, children } => {
+            judge_split(*facility, children.len(), size, placed, line)?;
+            let inner = placed.with(*facility);
+            judge_trees(children, size, &inner, line.saturating_add(1))
         }
         Tree::Bound { u, v } => {
-            judge_duals(u, v, free, line)?;
+            judge_duals(u, v, size - placed.count(), line)?;
             Ok(line.saturating_add(1))
         }
     }
@@ -39,20 +44,69 @@ pub(crate) fn judge_tree(tree: &Tree, free: usize, line: u64) -> Result<u64, Cer
 
 /// The same for trees one after another.
 #[cycle(shape)]
-fn judge_trees(trees: &[Tree], free: usize, line: u64) -> Result<u64, CertError>
+fn judge_trees(trees: &[Tree], size: usize, placed: &Placed, line: u64) -> Result<u64, CertError>
+    requires small { size ≤ 256 }
+    requires depth { length placed.now ≤ size }
     ensures { MatchResult result
-        (λ next. AllHaveShape free (nodes_of trees.now) × (next ≡ line_after line (nodes_count (nodes_of trees.now))))
-        (λ e. IsShapeFaultAmong free line (nodes_of trees.now) e) }
+        (λ next. AllHaveShape Second size placed.now (nodes_of trees.now) × (next ≡ line_after line (nodes_count (nodes_of trees.now))))
+        (λ e. IsShapeFaultAmong size placed.now line (nodes_of trees.now) e) }
 {
     let mut next = line;
     for tree in trees {
-        next = judge_tree(tree, free, next)?;
+        next = judge_tree(tree, size, placed, next)?;
     }
     Ok(next)
 }
 
+/// Whether a split may be on this facility and have so many children.
+fn judge_split(
+    facility: u16,
+    children: usize,
+    size: usize,
+    placed: &Placed,
+    line: u64,
+) -> Result<(), CertError>
+    requires { length placed.now ≤ size }
+    ensures { MatchResult result
+        (λ done. (length placed.now < size) × IsFree size placed.now facility × (children ≡ size - length placed.now))
+        (λ e. IsSplitFault size placed.now line facility children e) }
+{
+    judge_facility(facility, size, placed, line)?;
+    if children != size - placed.count() {
+        return Err(CertError::SplitWidth(line));
+    }
+    Ok(())
+}
+
+/// Whether a split may be on this facility.
+pub(crate) fn judge_facility(
+    facility: u16,
+    size: usize,
+    placed: &Placed,
+    line: u64,
+) -> Result<(), CertError>
+    ensures { MatchResult result
+        (λ done. (length placed.now < size) × IsFree size placed.now facility)
+        (λ e. IsFacilityFault size placed.now line facility e) }
+{
+    if placed.count() >= size {
+        return Err(CertError::SplitTooDeep(line));
+    }
+    if !is_free(facility, size, placed) {
+        return Err(CertError::FacilityTaken(line));
+    }
+    Ok(())
+}
+
+/// Whether the facility is one of so many, and not among those placed.
+fn is_free(facility: u16, size: usize, placed: &Placed) -> bool
+    ensures { IsTrue result ↔ IsFree size placed.now facility }
+{
+    usize::from(facility) < size && !placed.has(facility)
+}
+
 /// Whether there is a dual for each of so many facilities and locations, and all are within -10^24 to 10^24.
-pub(crate) fn judge_duals(u: &[i128], v: &[i128], free: usize, line: u64) -> Result<(), CertError>
+fn judge_duals(u: &[i128], v: &[i128], free: usize, line: u64) -> Result<(), CertError>
     ensures { MatchResult result
         (λ done. AreDuals free u.now v.now)
         (λ e. IsDualFault free line u.now v.now e) }
@@ -68,7 +122,7 @@ pub(crate) fn judge_duals(u: &[i128], v: &[i128], free: usize, line: u64) -> Res
 
 /// Whether the numbers are within -10^24 to 10^24.
 pub(crate) fn is_in_range(numbers: &[i128]) -> bool
-    ensures { IsTrue result ↔ AllWithin numbers.now }
+    ensures { IsTrue result ↔ AllLimited numbers.now }
 {
     for &number in numbers {
         if number.unsigned_abs() > GREATEST {

@@ -26,35 +26,40 @@ fn bound(alloc: Global, u: &[i128], v: &[i128]) -> Result<Tree, AllocError> {
     })
 }
 
-/// A split with one child.
-fn single(alloc: Global, child: Tree) -> Result<Tree, AllocError> {
-    Ok(Tree::Split(vec![in alloc; child]?))
+fn split(facility: u16, children: Vec<Tree>) -> Tree {
+    Tree::Split { facility, children }
 }
 
-/// A split with two children.
-fn pair(alloc: Global, first: Tree, second: Tree) -> Result<Tree, AllocError> {
-    Ok(Tree::Split(vec![in alloc; first, second]?))
+/// A split on this facility with one child.
+fn single(alloc: Global, facility: u16, child: Tree) -> Result<Tree, AllocError> {
+    Ok(split(facility, vec![in alloc; child]?))
 }
 
-/// The tree that splits down to each permutation of two.
-fn full_tree(alloc: Global) -> Result<Tree, AllocError> {
-    let first = single(alloc, bound(alloc, &[], &[])?)?;
-    let second = single(alloc, bound(alloc, &[], &[])?)?;
-    pair(alloc, first, second)
+/// A split on this facility with two children.
+fn pair(alloc: Global, facility: u16, first: Tree, second: Tree) -> Result<Tree, AllocError> {
+    Ok(split(facility, vec![in alloc; first, second]?))
+}
+
+/// The tree that splits down to each permutation of two, on this facility first.
+fn full_tree(alloc: Global, facility: u16) -> Result<Tree, AllocError> {
+    let other = 1u16.wrapping_sub(facility);
+    let first = single(alloc, other, bound(alloc, &[], &[])?)?;
+    let second = single(alloc, other, bound(alloc, &[], &[])?)?;
+    pair(alloc, facility, first, second)
 }
 
 /// What `check` says of the certificate of these, or what keeps them from being one.
 fn verdict(
     alloc: Global,
     instance: &Instance,
-    cost: i128,
+    (cost, bound): (i128, i128),
     locations: &[u16],
     tree: Tree,
 ) -> Result<(), CertError> {
     let Ok(permutation) = Perm::new(Vec::from_slice(alloc, locations)?) else {
         return Err(CertError::PermBad(4));
     };
-    match Certificate::new(cost, permutation, tree) {
+    match Certificate::new(cost, bound, permutation, tree) {
         Ok(certificate) => check(alloc, instance, &certificate),
         Err((error, _, _)) => Err(error),
     }
@@ -66,18 +71,25 @@ fn bounds_at_the_root(rt: HostRuntime) -> Result<(), Fail> {
     let Some(three) = three(alloc)? else {
         panic!(rt; "an instance is refused");
     };
-    let cases: [(i128, i128, Result<(), CertError>); 4] = [
-        (12, 24, Ok(())),
-        (13, 24, Err(CertError::NotFeasible(5))),
-        (11, 24, Err(CertError::BoundTooLow(5))),
-        (12, 23, Err(CertError::CostDiffers(3))),
+    let limit = 1_000_000_000_000_000_000_000_000;
+    let cases: [(i128, i128, i128, Result<(), CertError>); 9] = [
+        (12, 24, 24, Ok(())),
+        (13, 24, 24, Err(CertError::NotFeasible(5))),
+        (11, 24, 24, Err(CertError::BoundTooLow(5))),
+        (12, 23, 23, Err(CertError::CostDiffers(3))),
+        (11, 24, 23, Ok(())),
+        (10, 24, 23, Err(CertError::BoundTooLow(6))),
+        (10, 24, -limit, Ok(())),
+        (12, 24, 25, Err(CertError::BadLine(5))),
+        (12, 24, -limit - 1, Err(CertError::BadLine(5))),
     ];
-    for (last, cost, want) in cases {
+    for (last, cost, lower, want) in cases {
         let tree = bound(alloc, &[9, 10, last], &[0, -2, -5])?;
-        assert_eq!(rt; verdict(alloc, &three, cost, &[0, 1, 2], tree), want);
+        let found = verdict(alloc, &three, (cost, lower), &[0, 1, 2], tree);
+        assert_eq!(rt; found, want, "{last}, {lower} of {cost}");
     }
-    let tree = full_tree(alloc)?;
-    let found = verdict(alloc, &three, 11, &[0, 1], tree);
+    let tree = full_tree(alloc, 0)?;
+    let found = verdict(alloc, &three, (11, 11), &[0, 1], tree);
     assert_eq!(rt; found, Err(CertError::SizeDiffers(2)));
     Ok(())
 }
@@ -88,23 +100,29 @@ fn splits(rt: HostRuntime) -> Result<(), Fail> {
     let Some(two) = two(alloc)? else {
         panic!(rt; "an instance is refused");
     };
-    let found = verdict(alloc, &two, 17, &[1, 0], full_tree(alloc)?);
-    assert_eq!(rt; found, Err(CertError::BoundTooLow(7)));
-    let found = verdict(alloc, &two, 11, &[0, 1], full_tree(alloc)?);
-    assert_eq!(rt; found, Ok(()));
-    let tree = pair(
-        alloc,
-        bound(alloc, &[11], &[0])?,
-        bound(alloc, &[11], &[0])?,
-    )?;
-    assert_eq!(rt; verdict(alloc, &two, 11, &[0, 1], tree), Ok(()));
-    let tree = pair(
-        alloc,
-        bound(alloc, &[11], &[0])?,
-        bound(alloc, &[18], &[0])?,
-    )?;
-    let found = verdict(alloc, &two, 11, &[0, 1], tree);
-    assert_eq!(rt; found, Err(CertError::NotFeasible(7)));
+    for facility in [0, 1] {
+        let tree = full_tree(alloc, facility)?;
+        assert_eq!(rt; verdict(alloc, &two, (11, 11), &[0, 1], tree), Ok(()));
+    }
+    // The second leaf is where facility 0 stands at 1, or where facility 1 does: the identity costs 11, the other 17.
+    for (facility, line) in [(0, 7), (1, 9)] {
+        let tree = full_tree(alloc, facility)?;
+        let found = verdict(alloc, &two, (17, 17), &[1, 0], tree);
+        assert_eq!(rt; found, Err(CertError::BoundTooLow(line)));
+    }
+    let cases: [(u16, i128, i128, Result<(), CertError>); 4] = [
+        (0, 11, 11, Ok(())),
+        (0, 11, 18, Err(CertError::NotFeasible(7))),
+        (1, 17, 11, Ok(())),
+        (1, 18, 11, Err(CertError::NotFeasible(6))),
+    ];
+    for (facility, first, second, want) in cases {
+        let first = bound(alloc, &[first], &[0])?;
+        let second = bound(alloc, &[second], &[0])?;
+        let tree = pair(alloc, facility, first, second)?;
+        let found = verdict(alloc, &two, (11, 11), &[0, 1], tree);
+        assert_eq!(rt; found, want);
+    }
     Ok(())
 }
 
@@ -115,23 +133,45 @@ fn shapes(rt: HostRuntime) -> Result<(), Fail> {
         panic!(rt; "an instance is refused");
     };
     let limit = 1_000_000_000_000_000_000_000_000;
-    let deep = single(alloc, Tree::Split(Vec::new(alloc)))?;
-    let wide = pair(alloc, bound(alloc, &[], &[])?, bound(alloc, &[], &[])?)?;
-    let full = single(alloc, bound(alloc, &[], &[])?)?;
-    let cases: [(Tree, CertError); 5] = [
+    let deep = single(alloc, 1, split(9, Vec::new(alloc)))?;
+    let wide = pair(alloc, 1, bound(alloc, &[], &[])?, bound(alloc, &[], &[])?)?;
+    let full = single(alloc, 1, bound(alloc, &[], &[])?)?;
+    let cases: [(Tree, CertError); 7] = [
         (deep, CertError::SplitTooDeep(8)),
         (wide, CertError::SplitWidth(7)),
-        (Tree::Split(Vec::new(alloc)), CertError::SplitWidth(7)),
+        (split(1, Vec::new(alloc)), CertError::SplitWidth(7)),
+        (split(0, Vec::new(alloc)), CertError::FacilityTaken(7)),
+        (split(2, Vec::new(alloc)), CertError::FacilityTaken(7)),
         (bound(alloc, &[11, 0], &[0])?, CertError::DualCount(7)),
         (bound(alloc, &[11], &[-limit - 1])?, CertError::DualRange(7)),
     ];
     for (second, want) in cases {
-        let tree = pair(alloc, bound(alloc, &[11], &[0])?, second)?;
-        let found = verdict(alloc, &two, 11, &[0, 1], tree);
+        let tree = pair(alloc, 0, bound(alloc, &[11], &[0])?, second)?;
+        let found = verdict(alloc, &two, (11, 11), &[0, 1], tree);
         assert_eq!(rt; found, Err(want));
     }
-    let tree = pair(alloc, full, bound(alloc, &[11], &[0, 0])?)?;
-    let found = verdict(alloc, &two, limit + 1, &[0, 1], tree);
+    let tree = pair(alloc, 0, full, bound(alloc, &[11], &[0, 0])?)?;
+    let found = verdict(alloc, &two, (limit + 1, limit + 2), &[0, 1], tree);
     assert_eq!(rt; found, Err(CertError::BadLine(3)));
+    Ok(())
+}
+
+#[test]
+fn parts(rt: HostRuntime) -> Result<(), Fail> {
+    let alloc = rt.alloc();
+    let Ok(perm) = Perm::new(vec![in alloc; 1, 0]?) else {
+        panic!(rt; "a permutation is refused");
+    };
+    let Ok(certificate) = Certificate::new(17, -3, perm, full_tree(alloc, 1)?) else {
+        panic!(rt; "a certificate is refused");
+    };
+    assert_eq!(rt; (certificate.cost(), certificate.bound()), (17, -3));
+    assert_eq!(rt; certificate.perm().locations(), [1, 0].as_slice());
+    match certificate.tree() {
+        Tree::Split { facility, children } => {
+            assert_eq!(rt; (*facility, children.len()), (1, 2));
+        }
+        Tree::Bound { .. } => panic!(rt; "the tree is no split"),
+    }
     Ok(())
 }

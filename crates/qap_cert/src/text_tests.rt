@@ -1,48 +1,77 @@
 //! What no clause says of texts: that calls succeed, and that texts are those of worked examples.
 
-use crate::{CertError, accept, read, write};
+use crate::{CertError, Verdict, accept, read, write};
 use qap_cost::{Instance, least_by_listing};
 use qap_io::{Counted, FailAt, OneByte};
 use std::alloc::{AllocError, Global};
 use std::test::Fail;
 
-/// A certificate of size 3: a split and three bounds.
+/// A certificate of size 3, of the first version and of the second: a split and three bounds.
 const SPLIT: &[u8] =
     b"qapcert 1\nn 3\ncost 1\nperm 1 2 3\ns\nb 0 0 1 0\nb 0 0 1 0\nb 1 0 0 0\nend\n";
-/// A certificate of size 3: one bound, with duals of both signs.
+const SPLIT_2: &[u8] =
+    b"qapcert 2\nn 3\ncost 1\nperm 1 2 3\ns 1\nb 0 0 1 0\nb 0 0 1 0\nb 1 0 0 0\nend\n";
+/// One bound, with duals of both signs.
 const BOUND: &[u8] = b"qapcert 1\nn 3\ncost -24\nperm 3 1 2\nb 9 10 12 0 -2 -1000000\nend\n";
+const BOUND_2: &[u8] = b"qapcert 2\nn 3\ncost -24\nperm 3 1 2\nb 9 10 12 0 -2 -1000000\nend\n";
 /// The certificate of size 2 that splits down to each permutation.
 const FULL: &[u8] = b"qapcert 1\nn 2\ncost 11\nperm 1 2\ns\ns\nb\ns\nb\nend\n";
-/// The same for the instance of three facilities whose permutations all cost 1.
-const FULL_RING: &[u8] =
-    b"qapcert 1\nn 3\ncost 1\nperm 2 3 1\ns\ns\ns\nb\ns\nb\ns\ns\nb\ns\nb\ns\ns\nb\ns\nb\nend\n";
+const FULL_2: &[u8] = b"qapcert 2\nn 2\ncost 11\nperm 1 2\ns 1\ns 2\nb\ns 2\nb\nend\n";
+/// A bound below the cost.
+const GAP: &[u8] = b"qapcert 2\nn 3\ncost 1\nperm 1 2 3\nbound 0\nb 0 0 0 0 0 0\nend\n";
+/// A split on the second facility.
+const SECOND: &[u8] =
+    b"qapcert 2\nn 3\ncost 1\nperm 1 2 3\ns 2\nb 0 0 1 0\nb 0 0 1 0\nb 0 1 0 0\nend\n";
 
 fn instance(alloc: Global, n: usize, a: &[i64], b: &[i64]) -> Result<Option<Instance>, AllocError> {
     Ok(Instance::new(n, Vec::from_slice(alloc, a)?, Vec::from_slice(alloc, b)?).ok())
 }
 
+/// Three facilities in a ring, each of whose permutations costs 1.
+fn ring(alloc: Global) -> Result<Option<Instance>, AllocError> {
+    instance(
+        alloc,
+        3,
+        &[0, 1, 0, 0, 0, 1, 1, 0, 0],
+        &[0, 1, 0, 1, 0, 0, 0, 0, 0],
+    )
+}
+
 #[test]
 fn round_trips(rt: HostRuntime) -> Result<(), Fail> {
     let alloc = rt.alloc();
-    for text in [SPLIT, BOUND, FULL, FULL_RING] {
+    let cases: [(&[u8], &[u8]); 8] = [
+        (SPLIT, SPLIT_2),
+        (SPLIT_2, SPLIT_2),
+        (BOUND, BOUND_2),
+        (BOUND_2, BOUND_2),
+        (FULL, FULL_2),
+        (FULL_2, FULL_2),
+        (GAP, GAP),
+        (SECOND, SECOND),
+    ];
+    for (text, want) in cases {
         let Ok(certificate) = read(alloc, text) else {
             panic!(rt; "a certificate is refused");
         };
         let mut writer = Counted::new(Vec::new(alloc));
         assert_eq!(rt; write(alloc, &mut writer, &certificate), Ok(()));
-        assert_eq!(rt; writer.into_inner().as_slice(), text);
+        assert_eq!(rt; writer.failed(), 0);
+        assert_eq!(rt; writer.into_inner().as_slice(), want);
     }
     Ok(())
 }
 
 #[test]
 fn proper_beginnings(rt: HostRuntime) {
-    let mut line = 1;
-    for stop in 0..SPLIT.len() {
-        let found = read(rt.alloc(), &SPLIT[..stop]).err();
-        assert_eq!(rt; found, Some(CertError::Truncated(line)), "{stop} bytes");
-        if SPLIT[stop] == b'\n' {
-            line = line.wrapping_add(1);
+    for text in [SPLIT, GAP] {
+        let mut line = 1;
+        for stop in 0..text.len() {
+            let found = read(rt.alloc(), &text[..stop]).err();
+            assert_eq!(rt; found, Some(CertError::Truncated(line)), "{stop} bytes");
+            if text[stop] == b'\n' {
+                line = line.wrapping_add(1);
+            }
         }
     }
 }
@@ -58,10 +87,56 @@ fn too_deep(rt: HostRuntime) -> Result<(), Fail> {
     Ok(())
 }
 
+/// What `accept` says of a text that begins with these lines of size 3 and the cost 1, for the ring.
+#[test]
+fn verdicts(rt: HostRuntime) -> Result<(), Fail> {
+    let alloc = rt.alloc();
+    let Some(ring) = ring(alloc)? else {
+        panic!(rt; "an instance is refused");
+    };
+    let cases: [(&[u8], &[u8], Result<Verdict, CertError>); 27] = [
+        (b"1", b"s\nb 0 0 1 0\nb 0 0 1 0\nb 1 0 0 0\nend\n", Ok(Verdict::Optimal(1))),
+        (b"1", b"b 0 0 0 0 0 0\nend\n", Err(CertError::BoundTooLow(5))),
+        (b"1", b"s 1\nb 0 0 1 0\nb 0 0 1 0\nb 1 0 0 0\nend\n", Err(CertError::BadLine(5))),
+        (b"1", b"bound 0\nb 0 0 0 0 0 0\nend\n", Err(CertError::BadLine(5))),
+        (b"1", b"s\ns\ns\ns\n", Err(CertError::SplitTooDeep(8))),
+        (b"2", b"s 2\nb 0 0 1 0\nb 0 0 1 0\nb 0 1 0 0\nend\n", Ok(Verdict::Optimal(1))),
+        (b"2", b"s 2\nb 0 0 1 0\nb 0 0 1 0\nb 1 0 0 0\nend\n", Err(CertError::NotFeasible(8))),
+        (b"2", b"s 2\ns 2\nb 0 0 1 0\nb 0 1 0 0\nend\n", Err(CertError::FacilityTaken(6))),
+        (b"2", b"s\nb 0 0 1 0\nb 0 0 1 0\nb 0 1 0 0\nend\n", Err(CertError::BadLine(5))),
+        (b"2", b"s 4\nb 0 0 1 0\nend\n", Err(CertError::BadLine(5))),
+        (b"2", b"s 0\nb 0 0 1 0\nend\n", Err(CertError::BadLine(5))),
+        (b"2", b"s 1 2\nb 0 0 1 0\nend\n", Err(CertError::BadLine(5))),
+        (b"2", b"s 01\nb 0 0 1 0\nend\n", Err(CertError::BadLine(5))),
+        (b"2", b"s 3\ns 1\ns 2\ns 2\n", Err(CertError::SplitTooDeep(8))),
+        (b"2", b"s 3\ns 1\ns 2\ns 4\n", Err(CertError::BadLine(8))),
+        (b"2", b"bound 0\nb 0 0 0 0 0 0\nend\n", Ok(Verdict::Gap(0, 1))),
+        (b"2", b"bound -5\nb 0 0 0 0 0 0\nend\n", Ok(Verdict::Gap(-5, 1))),
+        (b"2", b"bound 1\nb 0 0 0 0 0 0\nend\n", Err(CertError::BadLine(5))),
+        (b"2", b"bound 2\nb 0 0 0 0 0 0\nend\n", Err(CertError::BadLine(5))),
+        (b"2", b"bound -1000000000000000000000001\nb 0 0 0 0 0 0\nend\n", Err(CertError::BadLine(5))),
+        (b"2", b"bound 0 0\nb 0 0 0 0 0 0\nend\n", Err(CertError::BadLine(5))),
+        (b"2", b"bound 0\nb 0 0 -1 0 0 0\nend\n", Err(CertError::BoundTooLow(6))),
+        (b"2", b"bound 0\nbound 0\nb 0 0 0 0 0 0\nend\n", Err(CertError::BadLine(6))),
+        (b"2", b"bound 0\nb 0 0 0 0 0\nend\n", Err(CertError::DualCount(6))),
+        (b"2", b"bound 0\nb 0 0 0 0 0 0\nend\nx\n", Err(CertError::TrailingText(8))),
+        (b"3", b"b 0 0 0 0 0 0\nend\n", Err(CertError::BadVersion)),
+        (b"0", b"b 0 0 0 0 0 0\nend\n", Err(CertError::BadHeader)),
+    ];
+    for (version, rest, want) in cases {
+        let mut text = Vec::from_slice(alloc, b"qapcert ")?;
+        text.extend_from_slice(version)?;
+        text.extend_from_slice(b"\nn 3\ncost 1\nperm 1 2 3\n")?;
+        text.extend_from_slice(rest)?;
+        assert_eq!(rt; accept(alloc, &ring, &text), want, "{rest:?}");
+    }
+    Ok(())
+}
+
 #[test]
 fn a_failing_writer(rt: HostRuntime) -> Result<(), Fail> {
     let alloc = rt.alloc();
-    let Ok(certificate) = read(alloc, SPLIT) else {
+    let Ok(certificate) = read(alloc, SPLIT_2) else {
         panic!(rt; "a certificate is refused");
     };
     let mut writer = Counted::new(FailAt::new(OneByte::new(Vec::new(alloc)), 20));
@@ -71,29 +146,86 @@ fn a_failing_writer(rt: HostRuntime) -> Result<(), Fail> {
     );
     assert_eq!(rt; writer.failed(), 1);
     let written = writer.into_inner().into_inner().into_inner();
-    assert_eq!(rt; written.as_slice(), &SPLIT[..19]);
+    assert_eq!(rt; written.as_slice(), &SPLIT_2[..19]);
     Ok(())
+}
+
+/// The free facility of this number, counted round.
+fn free_facility(n: usize, path: &[usize], number: usize) -> usize {
+    let mut left = number % n.wrapping_sub(path.len()).max(1);
+    for f in 0..n {
+        if path.contains(&f) {
+            continue;
+        }
+        if left == 0 {
+            return f;
+        }
+        left = left.wrapping_sub(1);
+    }
+    0
+}
+
+/// The lines of a tree that splits down to each permutation of `n`, at each node on a facility by a rule of its own.
+fn full_lines(alloc: Global, n: usize) -> Result<Vec<u8>, AllocError> {
+    let mut text = Vec::new(alloc);
+    let mut path = Vec::new(alloc);
+    let mut left: Vec<usize> = Vec::new(alloc);
+    for step in 0..4000usize {
+        if path.len() < n {
+            let facility = free_facility(n, &path, step);
+            left.push(n.wrapping_sub(path.len()))?;
+            path.push(facility)?;
+            text.extend_from_slice(format!(in alloc; "s {}\n", facility.wrapping_add(1))?.as_bytes())?;
+            continue;
+        }
+        text.extend_from_slice(b"b\n")?;
+        for _ in 0..n {
+            let more = left.pop().unwrap_or(0).wrapping_sub(1);
+            if more > 0 {
+                left.push(more)?;
+                break;
+            }
+            path.pop();
+        }
+        if left.is_empty() {
+            break;
+        }
+    }
+    Ok(text)
+}
+
+/// `n * n` numbers from 0 to 6, with no order in them.
+fn mixed(alloc: Global, n: usize, step: i64) -> Result<Vec<i64>, AllocError> {
+    let mut numbers = Vec::new(alloc);
+    let mut state = step;
+    for _ in 0..n.wrapping_mul(n) {
+        state = state.wrapping_mul(step).wrapping_add(11).rem_euclid(101);
+        numbers.push(state.rem_euclid(7))?;
+    }
+    Ok(numbers)
 }
 
 #[test]
 fn full_trees_and_the_listing(rt: HostRuntime) -> Result<(), Fail> {
     let alloc = rt.alloc();
-    let cases: [(usize, &[i64], &[i64], &[u8]); 2] = [
-        (2, &[0, 3, 1, 0], &[0, 2, 5, 0], FULL),
-        (
-            3,
-            &[0, 1, 0, 0, 0, 1, 1, 0, 0],
-            &[0, 1, 0, 1, 0, 0, 0, 0, 0],
-            FULL_RING,
-        ),
-    ];
-    for (n, a, b, text) in cases {
-        let Some(instance) = instance(alloc, n, a, b)? else {
+    for n in 2..7 {
+        let a = mixed(alloc, n, 37)?;
+        let b = mixed(alloc, n, 18)?;
+        let Some(instance) = instance(alloc, n, &a, &b)? else {
             panic!(rt; "an instance is refused");
         };
         assert!(rt; instance.size() <= 8);
-        let (least, _) = least_by_listing(alloc, &instance)?;
-        assert_eq!(rt; accept(alloc, &instance, text), Ok(least));
+        let (least, perm) = least_by_listing(alloc, &instance)?;
+        let head = format!(in alloc; "qapcert 2\nn {n}\ncost {least}\nperm")?;
+        let mut text = Vec::from_slice(alloc, head.as_bytes())?;
+        for location in perm.locations() {
+            let word = format!(in alloc; " {}", location.wrapping_add(1))?;
+            text.extend_from_slice(word.as_bytes())?;
+        }
+        text.extend_from_slice(b"\n")?;
+        text.extend_from_slice(&full_lines(alloc, n)?)?;
+        text.extend_from_slice(b"end\n")?;
+        assert_eq!(rt; accept(alloc, &instance, &text), Ok(Verdict::Optimal(least)), "size {n}");
     }
     Ok(())
 }

@@ -1,10 +1,10 @@
 //! Search trees.
 
-/// A part of the permutations of an instance: all that complete a prefix.
+/// A part of the permutations of an instance: all that complete a node of the search.
 #[derive(Drop)]
 pub enum Tree {
-    /// The next facility is put at each free location in turn, the free locations ascending.
-    Split(Vec<Tree>),
+    /// The facility is put at each free location in turn, the free locations ascending.
+    Split { facility: u16, children: Vec<Tree> },
     /// The part is closed by duals of its reduced matrix.
     Bound { u: Vec<i128>, v: Vec<i128> },
 }

@@ -1,18 +1,27 @@
 //! Reads the tree of a certificate.
 
-ghost use Rattle.std.specs.Prelude.{◌≡◌, ◌⊎◌, ◌++◌, ◌-◌, ◌<◌, ◌≤◌, ◌*◌, codes, length, List, ℕ, MatchResult};
+ghost use Rattle.std.specs.Prelude.{◌≡◌, ◌⊎◌, ◌++◌, ◌+◌, ◌-◌, ◌<◌, ◌≤◌, codes, length, ℕ, MatchOption, MatchResult};
 ghost use Rattle.qap_cert.specs.Line.{line_after};
 ghost use Rattle.qap_cert.specs.Shape.{HasShape, AllHaveShape, AreDuals, child_count};
 ghost use Rattle.qap_cert.specs.Text.{numbers_text, tree_text, trees_text};
-ghost use Rattle.qap_cert.specs.TextFault.{IsTreeTextFault, IsFaultAmong, IsNodeFault};
+ghost use Rattle.qap_cert.specs.TextFault.{IsTreeTextFault, IsFaultAmong, IsNodeFault, IsSplitLine};
 ghost use Rattle.qap_cert.specs.Tree.{node_of, nodes_of, node_count, nodes_count};
 
 use crate::error::CertError;
 use crate::line::first_line;
-use crate::number::read_numbers;
-use crate::shape::is_in_range;
+use crate::number::{from_one, one_number, read_numbers};
+use crate::placed::Placed;
+use crate::shape::{is_in_range, judge_facility};
 use crate::tree::Tree;
+use crate::version::Version;
 use std::alloc::Global;
+
+/// How the lines of a tree are read: in this version, for a certificate of this size.
+#[derive(Clone, Copy)]
+pub(crate) struct Grammar {
+    pub(crate) version: Version,
+    pub(crate) size: usize,
+}
 
 /// A tree, the text behind its lines, and the number of the line there.
 #[derive(Drop)]
@@ -37,26 +46,28 @@ struct Duals {
     v: Vec<i128>,
 }
 
-/// Reads a tree with so many free facilities at the front of a text, whose first line has this number.
+/// Reads a tree at the front of a text, whose first line has this number, where these facilities are placed.
 #[cycle(reading)]
-pub(crate) fn read_tree(
+pub(crate) fn read_tree<'a>(
     alloc: Global,
-    text: &[u8],
-    free: usize,
+    text: &'a [u8],
+    grammar: Grammar,
+    placed: &Placed,
     line: u64,
-) -> Result<TreeRead<'_>, CertError>
-    requires { free ≤ 256 }
+) -> Result<TreeRead<'a>, CertError>
+    requires small { grammar.size ≤ 256 }
+    requires depth { length placed.now ≤ grammar.size }
     ensures { MatchResult result
-        (λ r. HasShape free (node_of r.tree) × (text.now ≡ tree_text (node_of r.tree) ++ r.rest.now)
+        (λ r. HasShape grammar.version grammar.size placed.now (node_of r.tree) × (text.now ≡ tree_text grammar.version (node_of r.tree) ++ r.rest.now)
         × (r.next ≡ line_after line (node_count (node_of r.tree))))
-        (λ e. (e ≡ CertError.OutOfMemory) ⊎ IsTreeTextFault free line text.now e) }
+        (λ e. (e ≡ CertError.OutOfMemory) ⊎ IsTreeTextFault grammar.version grammar.size (grammar.size - length placed.now) placed.now line text.now e) }
 {
     let Some(first) = first_line(text) else {
         return Err(CertError::Truncated(line));
     };
     let next = line.saturating_add(1);
-    if first.bytes != b"s".as_slice() {
-        let duals = read_duals(alloc, first.bytes, free, line)?;
+    let Some(facility) = split_facility(first.bytes, grammar, placed) else {
+        let duals = read_duals(alloc, first.bytes, grammar, placed, line)?;
         let tree = Tree::Bound {
             u: duals.u,
             v: duals.v,
@@ -66,39 +77,45 @@ pub(crate) fn read_tree(
             rest: first.rest,
             next,
         });
-    }
-    if free == 0 {
-        return Err(CertError::SplitTooDeep(line));
-    }
-    let children = read_children(alloc, first.rest, free, next)?;
+    };
+    judge_facility(facility, grammar.size, placed, line)?;
+    let inner = placed.with(facility);
+    let read = read_children(alloc, first.rest, grammar, &inner, next)?;
     Ok(TreeRead {
-        tree: Tree::Split(children.trees),
-        rest: children.rest,
-        next: children.next,
+        tree: Tree::Split {
+            facility,
+            children: read.trees,
+        },
+        rest: read.rest,
+        next: read.next,
     })
 }
 
-/// Reads a tree for each of so many free locations, with one free facility fewer.
+/// Reads the children of a split, behind which these facilities are placed.
 #[cycle(reading)]
-fn read_children(
+fn read_children<'a>(
     alloc: Global,
-    text: &[u8],
-    free: usize,
+    text: &'a [u8],
+    grammar: Grammar,
+    placed: &Placed,
     line: u64,
-) -> Result<ChildrenRead<'_>, CertError>
-    requires some { 0 < free }
-    requires small { free ≤ 256 }
+) -> Result<ChildrenRead<'a>, CertError>
+    requires small { grammar.size ≤ 256 }
+    requires depth { length placed.now ≤ grammar.size }
     ensures { MatchResult result
-        (λ r. AllHaveShape (free - 1) (nodes_of r.trees.items) × (child_count (nodes_of r.trees.items) ≡ free)
-        × (text.now ≡ trees_text (nodes_of r.trees.items) ++ r.rest.now)
+        (λ r. AllHaveShape grammar.version grammar.size placed.now (nodes_of r.trees.items)
+        × (child_count (nodes_of r.trees.items) ≡ grammar.size + 1 - length placed.now)
+        × (text.now ≡ trees_text grammar.version (nodes_of r.trees.items) ++ r.rest.now)
         × (r.next ≡ line_after line (nodes_count (nodes_of r.trees.items))))
-        (λ e. (e ≡ CertError.OutOfMemory) ⊎ IsFaultAmong (free - 1) line text.now (λ line rest. IsTreeTextFault (free - 1) line rest e)) }
+        (λ e. (e ≡ CertError.OutOfMemory) ⊎ IsFaultAmong grammar.version grammar.size placed.now line text.now
+        (λ line rest. IsTreeTextFault grammar.version grammar.size (grammar.size - length placed.now) placed.now line rest e)) }
 {
-    let mut trees = Vec::with_capacity(alloc, free)?;
+    let count = grammar.size + 1 - placed.count();
+    let mut trees = Vec::with_capacity(alloc, count)?;
     let mut rest = text;
     let mut next = line;
-    for _ in 0..free {
-        let child = read_tree(alloc, rest, free - 1, next)?;
+    for _ in 0..count {
+        let child = read_tree(alloc, rest, grammar, placed, next)?;
         trees.push(child.tree).map_err(|_| CertError::OutOfMemory)?;
         rest = child.rest;
         next = child.next;
@@ -106,14 +123,39 @@ fn read_children(
     Ok(ChildrenRead { trees, rest, next })
 }
 
-/// Reads the line of a bound: `b` and a number for each free facility and each free location.
-fn read_duals(alloc: Global, line: &[u8], free: usize, number: u64) -> Result<Duals, CertError>
-    requires small { free ≤ 256 }
-    requires no_split { line.now ≡ codes "s" → ⊥ }
-    ensures { MatchResult result
-        (λ r. AreDuals free r.u.items r.v.items × (line.now ≡ codes "b" ++ numbers_text (r.u.items ++ r.v.items)))
-        (λ e. (e ≡ CertError.OutOfMemory) ⊎ IsNodeFault free number line.now e) }
+/// The facility of a split's line; `None` where the line is none such.
+fn split_facility(line: &[u8], grammar: Grammar, placed: &Placed) -> Option<u16>
+    requires small { grammar.size ≤ 256 }
+    ensures { MatchOption result
+        ((f : ℕ) → IsSplitLine grammar.version grammar.size placed.now line.now f → ⊥)
+        (IsSplitLine grammar.version grammar.size placed.now line.now) }
 {
+    match grammar.version {
+        Version::First if line == b"s".as_slice() => Some(placed.count() as u16),
+        Version::First => None,
+        Version::Second => match one_number(b"s", line) {
+            Some(facility) => from_one(facility, grammar.size),
+            None => None,
+        },
+    }
+}
+
+/// Reads the line of a bound: `b` and a number for each free facility and each free location.
+fn read_duals(
+    alloc: Global,
+    line: &[u8],
+    grammar: Grammar,
+    placed: &Placed,
+    number: u64,
+) -> Result<Duals, CertError>
+    requires small { grammar.size ≤ 256 }
+    requires depth { length placed.now ≤ grammar.size }
+    requires no_split { (f : ℕ) → IsSplitLine grammar.version grammar.size placed.now line.now f → ⊥ }
+    ensures { MatchResult result
+        (λ r. AreDuals (grammar.size - length placed.now) r.u.items r.v.items × (line.now ≡ codes "b" ++ numbers_text (r.u.items ++ r.v.items)))
+        (λ e. (e ≡ CertError.OutOfMemory) ⊎ IsNodeFault grammar.version grammar.size placed.now number line.now e) }
+{
+    let free = grammar.size - placed.count();
     let Some(numbers) = read_numbers(alloc, b"b", line, 2 * free)? else {
         return Err(CertError::BadLine(number));
     };

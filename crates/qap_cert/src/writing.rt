@@ -5,10 +5,12 @@ ghost use Rattle.std.specs.Io.KnownBytes.{Appends};
 ghost use Rattle.qap_io.specs.Counting.{FailedBetween};
 ghost use Rattle.qap_io.specs.Writing.{AppendsBeginning};
 ghost use Rattle.std.specs.Fmt.{signed_decimal};
-ghost use Rattle.qap_cert.specs.Text.{numbers_text, line_text, from_one, tree_text, trees_text, certificate_text};
+ghost use Rattle.qap_cert.specs.Text.{numbers_text, line_text, from_one, head_text, bound_text, tree_text, trees_text, certificate_text};
 ghost use Rattle.qap_cert.specs.Tree.{bound, node_of, nodes_of};
+ghost use Rattle.qap_cert.specs.Version.{split_numbers};
 ghost use Rattle.qap_cert.specs.declared.error.CertError.TheVariants.{OutOfMemory, Device as FailedDevice};
-ghost use Rattle.qap_cert.specs.Writing.{head_text, HasWritten, HasStopped};
+ghost use Rattle.qap_cert.specs.Writing.{HasWritten, HasStopped};
+ghost use Rattle.qap_cert.specs.declared.version.Version.TheVariants.{Second};
 
 use crate::{CertError, Certificate, Tree};
 use itoa::{Buffer, Integer};
@@ -35,11 +37,11 @@ fn push_numbers(line: &mut Vec<u8>, numbers: &[i128]) -> Result<(), AllocError>
     Ok(())
 }
 
-/// A location, counted from 1.
-fn number_of(location: u16) -> i128
-    ensures { result ≡ pos (location + 1) }
+/// A facility or a location, counted from 1.
+fn number_of(index: u16) -> i128
+    ensures { result ≡ pos (index + 1) }
 {
-    i128::from(location) + 1
+    i128::from(index) + 1
 }
 
 /// Puts locations at the end of a line, counted from 1.
@@ -126,7 +128,7 @@ fn write_size<W: Write>(
         (λ _. HasWritten W.contents writer.old writer.new (line_text (codes "n") (pos (length certificate.now.permutation) ∷ [])))
         (HasStopped W.contents writer.old writer.new (line_text (codes "n") (pos (length certificate.now.permutation) ∷ []))) }
 {
-    write_one(writer, line, b"n", certificate.permutation().len() as i128)
+    write_one(writer, line, b"n", certificate.perm().len() as i128)
 }
 
 /// Writes the line of a certificate's cost.
@@ -152,7 +154,7 @@ fn write_permutation<W: Write>(
         (λ _. HasWritten W.contents writer.old writer.new (line_text (codes "perm") (from_one certificate.now.permutation)))
         (HasStopped W.contents writer.old writer.new (line_text (codes "perm") (from_one certificate.now.permutation))) }
 {
-    make_permutation(line, certificate.permutation().locations())?;
+    make_permutation(line, certificate.perm().locations())?;
     write_text(writer, line)
 }
 
@@ -164,11 +166,24 @@ fn write_bound<W: Write>(
     v: &[i128],
 ) -> Result<(), CertError>
     ensures { MatchResult result
-        (λ _. HasWritten W.contents writer.old writer.new (tree_text (bound u.now v.now)))
-        (HasStopped W.contents writer.old writer.new (tree_text (bound u.now v.now))) }
+        (λ _. HasWritten W.contents writer.old writer.new (tree_text Second (bound u.now v.now)))
+        (HasStopped W.contents writer.old writer.new (tree_text Second (bound u.now v.now))) }
 {
     make_bound(line, u, v)?;
     write_text(writer, line)
+}
+
+/// Writes the line of a split.
+fn write_split<W: Write>(
+    writer: &mut Counted<W>,
+    line: &mut Vec<u8>,
+    facility: u16,
+) -> Result<(), CertError>
+    ensures { MatchResult result
+        (λ _. HasWritten W.contents writer.old writer.new (line_text (codes "s") (split_numbers Second facility)))
+        (HasStopped W.contents writer.old writer.new (line_text (codes "s") (split_numbers Second facility))) }
+{
+    write_one(writer, line, b"s", number_of(facility))
 }
 
 /// Writes the lines of a tree.
@@ -179,12 +194,12 @@ fn write_tree<W: Write>(
     tree: &Tree,
 ) -> Result<(), CertError>
     ensures { MatchResult result
-        (λ _. HasWritten W.contents writer.old writer.new (tree_text (node_of tree.now)))
-        (HasStopped W.contents writer.old writer.new (tree_text (node_of tree.now))) }
+        (λ _. HasWritten W.contents writer.old writer.new (tree_text Second (node_of tree.now)))
+        (HasStopped W.contents writer.old writer.new (tree_text Second (node_of tree.now))) }
 {
     match tree {
-        Tree::Split(children) => {
-            write_text(writer, b"s\n")?;
+        Tree::Split { facility, children } => {
+            write_split(writer, line, *facility)?;
             write_trees(writer, line, children)
         }
         Tree::Bound { u, v } => write_bound(writer, line, u, v),
@@ -199,8 +214,8 @@ fn write_trees<W: Write>(
     trees: &[Tree],
 ) -> Result<(), CertError>
     ensures { MatchResult result
-        (λ _. HasWritten W.contents writer.old writer.new (trees_text (nodes_of trees.now)))
-        (HasStopped W.contents writer.old writer.new (trees_text (nodes_of trees.now))) }
+        (λ _. HasWritten W.contents writer.old writer.new (trees_text Second (nodes_of trees.now)))
+        (HasStopped W.contents writer.old writer.new (trees_text Second (nodes_of trees.now))) }
 {
     for tree in trees {
         write_tree(writer, line, tree)?;
@@ -215,16 +230,47 @@ fn write_head<W: Write>(
     certificate: &Certificate,
 ) -> Result<(), CertError>
     ensures { MatchResult result
-        (λ _. HasWritten W.contents writer.old writer.new (head_text certificate.now))
-        (HasStopped W.contents writer.old writer.new (head_text certificate.now)) }
+        (λ _. HasWritten W.contents writer.old writer.new (head_text Second certificate.now))
+        (HasStopped W.contents writer.old writer.new (head_text Second certificate.now)) }
 {
-    write_one(writer, line, b"qapcert", 1)?;
+    write_one(writer, line, b"qapcert", 2)?;
     write_size(writer, line, certificate)?;
     write_cost(writer, line, certificate)?;
     write_permutation(writer, line, certificate)
 }
 
-/// Writes the text of a certificate, and flushes the writer.
+/// Writes the line of a certificate's bound, where that is below the cost.
+fn write_bound_line<W: Write>(
+    writer: &mut Counted<W>,
+    line: &mut Vec<u8>,
+    certificate: &Certificate,
+) -> Result<(), CertError>
+    ensures { MatchResult result
+        (λ _. HasWritten W.contents writer.old writer.new (bound_text certificate.now.cost certificate.now.bound))
+        (HasStopped W.contents writer.old writer.new (bound_text certificate.now.cost certificate.now.bound)) }
+{
+    if certificate.bound() < certificate.cost() {
+        write_one(writer, line, b"bound", certificate.bound())
+    } else {
+        Ok(())
+    }
+}
+
+/// Writes the lines before the tree.
+fn write_front<W: Write>(
+    writer: &mut Counted<W>,
+    line: &mut Vec<u8>,
+    certificate: &Certificate,
+) -> Result<(), CertError>
+    ensures { MatchResult result
+        (λ _. HasWritten W.contents writer.old writer.new (head_text Second certificate.now ++ bound_text certificate.now.cost certificate.now.bound))
+        (HasStopped W.contents writer.old writer.new (head_text Second certificate.now ++ bound_text certificate.now.cost certificate.now.bound)) }
+{
+    write_head(writer, line, certificate)?;
+    write_bound_line(writer, line, certificate)
+}
+
+/// Writes the text of a certificate, in version 2, and flushes the writer.
 ///
 /// Where the call refuses, a beginning of the text has gone out: for want of memory (`OutOfMemory`) no call of the writer
 /// has failed, and otherwise one has (`Device`).
@@ -233,13 +279,14 @@ pub fn write<W: Write>(
     writer: &mut Counted<W>,
     certificate: &Certificate,
 ) -> Result<(), CertError>
-    ensures whole { OnOk result (Appends (W.contents writer.old.inner) (W.contents writer.new.inner) (certificate_text certificate.now)) }
-    ensures beginning { OnErr result (AppendsBeginning (W.contents writer.old.inner) (W.contents writer.new.inner) (certificate_text certificate.now)) }
+    ensures whole { OnOk result (Appends (W.contents writer.old.inner) (W.contents writer.new.inner) (certificate_text Second certificate.now)) }
+    ensures count { OnOk result (writer.new.failures ≡ writer.old.failures) }
+    ensures beginning { OnErr result (AppendsBeginning (W.contents writer.old.inner) (W.contents writer.new.inner) (certificate_text Second certificate.now)) }
     ensures failed { IfErr result (λ e. ((e ≡ OutOfMemory) × (writer.new.failures ≡ writer.old.failures))
         ⊎ ((e ≡ FailedDevice) × FailedBetween writer.old writer.new)) }
 {
     let mut line = Vec::new(alloc);
-    write_head(writer, &mut line, certificate)?;
+    write_front(writer, &mut line, certificate)?;
     write_tree(writer, &mut line, certificate.tree())?;
     write_text(writer, b"end\n")?;
     finish(writer)?;

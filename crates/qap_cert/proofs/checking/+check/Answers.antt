@@ -1,13 +1,13 @@
-use Rattle.std.proofs.Common.{◌≡◌, ◌-◌, ◌+◌, ◌*◌, ◌<◌, ◌≤◌, ◌++◌, ◌∷◌, [], ℕ, List, length, get_or, drop, sym, ◌∙◌, ap, subst, inl, inr, arith, to_z, of_z}
-use Rattle.std.proofs.lemmas.List.{length-append}
+use Rattle.std.proofs.Common.{◌≡◌, ◌+◌, ◌*◌, ◌<◌, ◌≤◌, ◌++◌, ◌∷◌, [], ℕ, List, length, get_or, drop, sym, ◌∙◌, ap, subst, inl, inr, arith, to_z, of_z}
 use Rattle.std.proofs.lemmas.Result.{err_from_is_err_and}
 use Rattle.std.specs.Int.{w128}
-use Rattle.qap_cost.specs.Prefix.{Placement, IsFree}
+use Rattle.qap_cost.specs.Placement.{Placement, IsFreeLocation, placing}
 use Rattle.std.proofs.lemmas.Int.{to_z-of_z}
 use Rattle.qap_cert.specs.Fault.{IsTreeFault, IsTreeFaultAmong}
 use Rattle.qap_cert.specs.Shape.{HasShape, AllHaveShape}
 use Rattle.qap_cert.specs.Tree.{split, node_of, nodes_of, node_count, nodes_count}
 use Rattle.qap_cert.specs.declared.tree.Tree.{Tree}
+use Rattle.qap_cert.specs.declared.version.Version.TheVariants.{Second}
 use Rattle.qap_cert.specs.Valid.{Valid}
 use Rattle.qap_cert.proofs.Trees.{node_of-Split, child_count-nodes_of, node_count-le}
 use Rattle.qap_cert.proofs.Checks.{Checked-at, Checked-more, Checked-fault}
@@ -15,25 +15,26 @@ use Rattle.qap_cert.proofs.checking.+check.Goals as goal
 
 pub check_tree-check_children-requires : goal.check_tree-check_children-requires
 check_tree-check_children-requires t c =
-    let x = c.args.prefix.now in
+    let x = c.args.node.now in
+    let f = c.in-Split.facility in
     let ts = c.in-Split.children.items in
-    let m = x.size - length x.places in
-    let shape : HasShape m (split (nodes_of ts)) = subst (HasShape m) (node_of-Split c.args.tree.now c.in-Split.children c.in-Split.is) c.requires.shape in
+    let is = node_of-Split c.args.tree.now f c.in-Split.children c.in-Split.is in
+    let shape : HasShape Second x.size x.facilities (split f (nodes_of ts)) = subst (HasShape Second x.size x.facilities) is c.requires.shape in
     let listed = c.in_ok-locations-in-Split.ensures.free in
     let count = child_count-nodes_of ts in
     let whole : 2 * node_count (node_of c.args.tree.now) ≡ t = c.decreases in
     let smaller : 2 * nodes_count (nodes_of c.deref-in-Split.result.now) + 1 < t =
-    omega (arith, whole, ap node_count (node_of-Split c.args.tree.now c.in-Split.children c.in-Split.is), ap (λ us. nodes_count (nodes_of us)) c.deref-in-Split.ensures.value) in (
+    omega (arith, whole, ap node_count is, ap (λ us. nodes_count (nodes_of us)) c.deref-in-Split.ensures.value) in (
       smaller,
       (
         c.requires.same_size,
         (
-          omega (arith, shape.0),
+          shape.1,
           (
-            subst (λ (ks : List ℕ). (i : ℕ) → i < length ks → IsFree x (get_or ks i 0)) (sym c.deref.ensures.value) listed.each,
+            subst (λ (ks : List ℕ). (i : ℕ) → i < length ks → IsFreeLocation x (get_or ks i 0)) (sym c.deref.ensures.value) listed.each,
             (
-              omega (arith, shape.1, listed.count, count, ap length c.deref.ensures.value, ap length c.deref-in-Split.ensures.value),
-              subst (λ ts. AllHaveShape (m - 1) (nodes_of ts)) (sym c.deref-in-Split.ensures.value) shape.2,
+              omega (arith, shape.3, listed.count, count, c.free_locations.ensures.placement.paired, ap length c.deref.ensures.value, ap length c.deref-in-Split.ensures.value),
+              subst (λ us. AllHaveShape Second x.size (x.facilities ++ f ∷ []) (nodes_of us)) (sym c.deref-in-Split.ensures.value) shape.4,
             ),
           ),
         ),
@@ -42,56 +43,56 @@ check_tree-check_children-requires t c =
 
 pub check_children-loop-i-preserved : goal.check_children-loop-i-preserved
 check_children-loop-i-preserved t c =
-    let places = c.args.prefix.now.places in
+    let I = c.args.ranked.now in
+    let x = c.args.node.now in
+    let f = c.args.facility in
     let ks = c.args.locations.now in
     let ts = c.args.children.now in
     let i = c.loop-i.i in
     let child = c.index-children-i.result in
-    let cost = to_z w128 (of_z w128 c.args.cost) in
-    let m = c.args.prefix.now.size - length places - 1 in
+    let g = to_z w128 (of_z w128 c.args.bound) in
     let below : i < length ts = omega (arith, c.loop-i-test.true) in
-    let at = Checked-at c.args.ranked.now cost places m c.args.line c.loop-i.next ks ts i child below (omega (arith, below, c.requires.one_each)) c.index-children-i.is c.loop-i.invariant in
-    let placed : c.in_ok-part.part.places ≡ places ++ get_or ks i 0 ∷ [] = ap (λ (y : Placement). y.places) c.in_ok-part.ensures.value in
-    let valid = subst (λ (y : List ℕ). Valid c.args.ranked.now cost y (node_of child)) placed c.in_ok-next.ensures.0 in
-    Checked-more c.args.ranked.now cost places m c.args.line c.loop-i.next c.in_ok-next.next ks (nodes_of ts) (get_or ks i 0) (drop (i + 1) ks) (node_of child) (nodes_of (drop (i + 1) ts)) at valid c.in_ok-next.ensures.1
+    let at = Checked-at I g x f c.args.line c.loop-i.next ks ts i child below (omega (arith, below, c.requires.one_each)) c.index-children-i.is c.loop-i.invariant in
+    let valid = subst (λ (y : Placement). Valid I g y (node_of child)) c.in_ok-part.ensures.value c.in_ok-next.ensures.0 in
+    Checked-more I g x f c.args.line c.loop-i.next c.in_ok-next.next ks (nodes_of ts) (get_or ks i 0) (drop (i + 1) ks) (node_of child) (nodes_of (drop (i + 1) ts)) at valid c.in_ok-next.ensures.1
 
 pub check_children-check_tree-requires : goal.check_children-check_tree-requires
 check_children-check_tree-requires t c =
-    let places = c.args.prefix.now.places in
+    let I = c.args.ranked.now in
+    let x = c.args.node.now in
+    let f = c.args.facility in
     let ks = c.args.locations.now in
     let ts = c.args.children.now in
     let i = c.loop-i.i in
     let child = c.index-children-i.result in
     let part = c.in_ok-part.part in
-    let cost = to_z w128 (of_z w128 c.args.cost) in
-    let m = c.args.prefix.now.size - length places - 1 in
+    let g = to_z w128 (of_z w128 c.args.bound) in
     let below : i < length ts = omega (arith, c.loop-i-test.true) in
-    let at = Checked-at c.args.ranked.now cost places m c.args.line c.loop-i.next ks ts i child below (omega (arith, below, c.requires.one_each)) c.index-children-i.is c.loop-i.invariant in
-    let placed : part.places ≡ places ++ get_or ks i 0 ∷ [] = ap (λ (y : Placement). y.places) c.in_ok-part.ensures.value in
-    let size : part.size ≡ c.args.prefix.now.size = ap (λ (y : Placement). y.size) c.in_ok-part.ensures.value in
-    let count : part.size - length part.places ≡ m = omega (arith, size, ap length placed, length-append places (get_or ks i 0 ∷ [])) in
+    let at = Checked-at I g x f c.args.line c.loop-i.next ks ts i child below (omega (arith, below, c.requires.one_each)) c.index-children-i.is c.loop-i.invariant in
+    let part_is : part ≡ placing x f (get_or ks i 0) = c.in_ok-part.ensures.value in
+    let size : part.size ≡ x.size = ap (λ (y : Placement). y.size) part_is in
     let whole : 2 * nodes_count (nodes_of ts) + 1 ≡ t = c.decreases in
     let less : node_count (node_of child) ≤ nodes_count (nodes_of ts) = subst (λ (u : Tree). node_count (node_of u) ≤ nodes_count (nodes_of ts)) (sym c.index-children-i.is) (node_count-le ts i child below) in
     let smaller : 2 * node_count (node_of child) < t = omega (arith, whole, less) in
-    (smaller, (c.requires.same_size ∙ sym size, subst (λ (n : ℕ). HasShape n (node_of child)) (sym count) at.shape.0))
+    (smaller, (c.requires.same_size ∙ sym size, subst (λ (y : Placement). HasShape Second y.size y.facilities (node_of child)) (sym part_is) at.shape.0))
 
 pub check_children-returns-in_err-next : goal.check_children-returns-in_err-next
 check_children-returns-in_err-next t c =
-    let places = c.args.prefix.now.places in
+    let I = c.args.ranked.now in
+    let x = c.args.node.now in
+    let f = c.args.facility in
     let ks = c.args.locations.now in
     let ts = c.args.children.now in
     let i = c.loop-i.i in
     let child = c.index-children-i.result in
-    let cost = to_z w128 (of_z w128 c.args.cost) in
-    let m = c.args.prefix.now.size - length places - 1 in
+    let g = to_z w128 (of_z w128 c.args.bound) in
     let below : i < length ts = omega (arith, c.loop-i-test.true) in
-    let at = Checked-at c.args.ranked.now cost places m c.args.line c.loop-i.next ks ts i child below (omega (arith, below, c.requires.one_each)) c.index-children-i.is c.loop-i.invariant in
-    let placed : c.in_ok-part.part.places ≡ places ++ get_or ks i 0 ∷ [] = ap (λ (y : Placement). y.places) c.in_ok-part.ensures.value in
+    let at = Checked-at I g x f c.args.line c.loop-i.next ks ts i child below (omega (arith, below, c.requires.one_each)) c.index-children-i.is c.loop-i.invariant in
     let p = err_from_is_err_and c.from_residual-in_err-next.result c.from_residual-in_err-next.ensures.1 in
-    let same : cost ≡ c.args.cost = to_z-of_z w128 c.args.cost c.ranges.cost in
+    let same : g ≡ c.args.bound = to_z-of_z w128 c.args.bound c.ranges.bound in
     rw (p.1, p.2) (elim (c.in_err-next.ensures {u = tt}) [
       | inl memory ↦ inl memory
-      | inr fault ↦ inr (subst (λ z. IsTreeFaultAmong c.args.ranked.now z places ks c.args.line (nodes_of ts) c.in_err-next.field-0.0) same
-          (Checked-fault c.args.ranked.now cost places m c.args.line c.loop-i.next ks (nodes_of ts) (get_or ks i 0) (drop (i + 1) ks) (node_of child) (nodes_of (drop (i + 1) ts)) c.in_err-next.field-0.0 at
-          (subst (λ (y : List ℕ). IsTreeFault c.args.ranked.now cost y c.loop-i.next (node_of child) c.in_err-next.field-0.0) placed fault)))
+      | inr fault ↦ inr (subst (λ z. IsTreeFaultAmong I z x f ks c.args.line (nodes_of ts) c.in_err-next.field-0.0) same
+          (Checked-fault I g x f c.args.line c.loop-i.next ks (nodes_of ts) (get_or ks i 0) (drop (i + 1) ks) (node_of child) (nodes_of (drop (i + 1) ts)) c.in_err-next.field-0.0 at
+          (subst (λ (y : Placement). IsTreeFault I g y c.loop-i.next (node_of child) c.in_err-next.field-0.0) c.in_ok-part.ensures.value fault)))
     ])

@@ -1,4 +1,4 @@
-use Rattle.std.proofs.Common.{◌+◌, ◌-◌, ◌*◌, length, drop}
+use Rattle.std.proofs.Common.{◌+◌, ◌*◌, drop}
 use Rattle.qap_cert.specs.Tree.{node_of, nodes_of, node_count, nodes_count}
 use Rattle.qap_cert.proofs.Checks.{Checked}
 use Rattle.qap_cert.proofs.checking.+check.Given as goal
@@ -11,5 +11,4 @@ decreases-check_children l = 2 * nodes_count (nodes_of l.children.now) + 1
 
 abbrev pub invariant-check_children-loop-i : goal.invariant-check_children-loop-i
 invariant-check_children-loop-i l =
-    Checked l.ranked l.cost l.prefix.places (l.prefix.size - length l.prefix.places - 1) l.line l.next l.locations (nodes_of l.children)
-    (drop l.i l.locations) (nodes_of (drop l.i l.children))
+    Checked l.ranked l.bound l.node l.facility l.line l.next l.locations (nodes_of l.children) (drop l.i l.locations) (nodes_of (drop l.i l.children))

@@ -8,5 +8,5 @@ use Rattle.qap_cert.proofs.writing.write_size.Goals as goal
 pub returns : goal.returns
 returns g c =
     let size = c.len.result in
-    let same = c.len.ensures.value ∙ ap length c.permutation.ensures.value in
+    let same = c.len.ensures.value ∙ ap length c.perm.ensures.value in
     written_number g.W.Write.contents c.args.writer.now c.write_one.new.writer (codes "n") c.write_one.result (to_z w128 size) _ (to_z_pos w128 size (omega arith) ∙ ap pos same) c.write_one.ensures
