@@ -14,6 +14,5 @@ pub use duals::fits;
 pub use pairing::least_product;
 pub use reduction::{RankedInstance, Workspace, reduced};
 
-
 #[cfg(test)]
 mod tests;

@@ -69,7 +69,7 @@ impl RankedInstance {
     pub fn reduced(&self, workspace: &mut Workspace, node: &Partial) -> Result<Matrix, AllocError>
         requires { self.now.size ≡ node.now.size }
         ensures reduced { IfOk result (IsReduced self.now node.now) }
-            ensures size { IfOk result (λ M. M.size ≡ node.now.size - length node.now.facilities) }
+        ensures size { IfOk result (λ M. M.size ≡ node.now.size - length node.now.facilities) }
         ensures bounded { IfOk result (λ M. AllWithin (512 * 10 ^ 18) M.entries) }
     {
         reduced_from(

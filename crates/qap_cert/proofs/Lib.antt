@@ -8,6 +8,7 @@ pub mod Lines
 pub mod Locations
 pub mod Numbers
 pub mod Numerals
+pub mod OneFault
 pub mod OneText
 pub mod ReadTexts
 pub mod Readings

@@ -37,34 +37,34 @@ no_line-cons b bs other h = record { each = by }
 no_line-nil : HasNoLine []
 no_line-nil = record { each = λ i below. absurd (omega arith) }
 
-no_line-version : HasNoLine (codes "qapcert")
+pub no_line-version : HasNoLine (codes "qapcert")
 no_line-version = no_line-cons 113 _ (λ e. omega arith) (no_line-cons 97 _ (λ e. omega arith) (no_line-cons 112 _ (λ e. omega arith)
     (no_line-cons 99 _ (λ e. omega arith) (no_line-cons 101 _ (λ e. omega arith) (no_line-cons 114 _ (λ e. omega arith) (no_line-cons 116 _ (λ e. omega arith) no_line-nil))))))
 
-no_line-size : HasNoLine (codes "n")
+pub no_line-size : HasNoLine (codes "n")
 no_line-size = no_line-cons 110 _ (λ e. omega arith) no_line-nil
 
-no_line-cost : HasNoLine (codes "cost")
+pub no_line-cost : HasNoLine (codes "cost")
 no_line-cost = no_line-cons 99 _ (λ e. omega arith) (no_line-cons 111 _ (λ e. omega arith) (no_line-cons 115 _ (λ e. omega arith) (no_line-cons 116 _ (λ e. omega arith) no_line-nil)))
 
-no_line-perm : HasNoLine (codes "perm")
+pub no_line-perm : HasNoLine (codes "perm")
 no_line-perm = no_line-cons 112 _ (λ e. omega arith) (no_line-cons 101 _ (λ e. omega arith) (no_line-cons 114 _ (λ e. omega arith) (no_line-cons 109 _ (λ e. omega arith) no_line-nil)))
 
 no_line-bound : HasNoLine (codes "b")
 no_line-bound = no_line-cons 98 _ (λ e. omega arith) no_line-nil
 
-no_line-split : HasNoLine (codes "s")
+pub no_line-split : HasNoLine (codes "s")
 no_line-split = no_line-cons 115 _ (λ e. omega arith) no_line-nil
 
-no_line-below : HasNoLine (codes "bound")
+pub no_line-below : HasNoLine (codes "bound")
 no_line-below = no_line-cons 98 _ (λ e. omega arith) (no_line-cons 111 _ (λ e. omega arith) (no_line-cons 117 _ (λ e. omega arith) (no_line-cons 110 _ (λ e. omega arith) (no_line-cons 100 _ (λ e. omega arith) no_line-nil))))
 
-no_line-end : HasNoLine (codes "end")
+pub no_line-end : HasNoLine (codes "end")
 no_line-end = no_line-cons 101 _ (λ e. omega arith) (no_line-cons 110 _ (λ e. omega arith) (no_line-cons 100 _ (λ e. omega arith) no_line-nil))
 
 -- a line at the front of a text
 
-line_front : (name : List ℕ) (xs ys : List ℤ) (rest more : List ℕ) → HasNoLine name → AllLimited xs → AllLimited ys
+pub line_front : (name : List ℕ) (xs ys : List ℤ) (rest more : List ℕ) → HasNoLine name → AllLimited xs → AllLimited ys
     → line_text name xs ++ rest ≡ line_text name ys ++ more → (xs ≡ ys) × (rest ≡ more)
 line_front name xs ys rest more none h k e =
     let one = IsLine-line_text rest name xs none h in
@@ -72,11 +72,11 @@ line_front name xs ys rest more none h k e =
     let u = IsLine-unique (line_text name xs ++ rest) (name ++ numbers_text xs) rest (name ++ numbers_text ys) more one other in
     (IsNamed-unique name (name ++ numbers_text xs) xs ys (IsNamed-numbers_text name xs h) (subst (λ l. IsNamed name l ys) (sym u.0) (IsNamed-numbers_text name ys k)), u.1)
 
-line_fault : (number : ℕ) (text line rest : List ℕ) (P : List ℕ → CertError → Type 0) (e : CertError) → IsLine text line rest → IsLineFault number text P e → P line e
+pub line_fault : (number : ℕ) (text line rest : List ℕ) (P : List ℕ → CertError → Type 0) (e : CertError) → IsLine text line rest → IsLineFault number text P e → P line e
 line_fault number text line rest P e is (inl h) = absurd (no_line-line text line rest h.1 is)
 line_fault number text line rest P e is (inr h) = subst (λ l. P l e) (IsLine-unique text h.0 h.1 line rest h.2 is).0 h.3
 
-named_fault : (number : ℕ) (text name rest : List ℕ) (zs : List ℤ) (P : List ℕ → CertError → Type 0) (e : CertError) → HasNoLine name → AllLimited zs
+pub named_fault : (number : ℕ) (text name rest : List ℕ) (zs : List ℤ) (P : List ℕ → CertError → Type 0) (e : CertError) → HasNoLine name → AllLimited zs
     → text ≡ line_text name zs ++ rest → IsLineFault number text P e → P (name ++ numbers_text zs) e
 named_fault number text name rest zs P e none h is fault =
     line_fault number text (name ++ numbers_text zs) rest P e (subst (λ t. IsLine t (name ++ numbers_text zs) rest) (sym is) (IsLine-line_text rest name zs none h)) fault
@@ -97,7 +97,7 @@ split_differs : (bs cs : List ℕ) → 115 ∷ bs ≡ 98 ∷ cs → ⊥
 split_differs bs cs e = differ 115 98 bs cs (λ (same : 115 ≡ 98). omega arith) e
 
 mutual
-  tree_front : (t s : Node) (w : Version) (n : ℕ) (placed : List ℕ) (rest more : List ℕ) → n ≤ 256 → HasShape w n placed t → HasShape w n placed s → tree_text w t ++ rest ≡ tree_text w s ++ more → (t ≡ s) × (rest ≡ more)
+  pub tree_front : (t s : Node) (w : Version) (n : ℕ) (placed : List ℕ) (rest more : List ℕ) → n ≤ 256 → HasShape w n placed t → HasShape w n placed s → tree_text w t ++ rest ≡ tree_text w s ++ more → (t ≡ s) × (rest ≡ more)
   tree_front (split f ts) (split g ss) w n placed rest more small h k e =
       let first = line_front (codes "s") (split_numbers w f) (split_numbers w g) (trees_text w ts ++ rest) (trees_text w ss ++ more) no_line-split
       (AllLimited-split_numbers w n placed f small h.2) (AllLimited-split_numbers w n placed g small k.2)
@@ -113,7 +113,7 @@ mutual
       let q = same_halves u v y x (h.rows ∙ sym k.rows) p.0 in
       (ap₂ bound q.0 q.1, p.1)
 
-  trees_front : (ts ss : Nodes) (w : Version) (n : ℕ) (placed : List ℕ) (rest more : List ℕ) → n ≤ 256 → AllHaveShape w n placed ts → AllHaveShape w n placed ss → child_count ts ≡ child_count ss
+  pub trees_front : (ts ss : Nodes) (w : Version) (n : ℕ) (placed : List ℕ) (rest more : List ℕ) → n ≤ 256 → AllHaveShape w n placed ts → AllHaveShape w n placed ss → child_count ts ≡ child_count ss
       → trees_text w ts ++ rest ≡ trees_text w ss ++ more → (ts ≡ ss) × (rest ≡ more)
   trees_front no_nodes no_nodes w n placed rest more small h k same e = (refl, e)
   trees_front no_nodes (node s ss) w n placed rest more small h k same e = absurd (omega arith)
@@ -125,7 +125,7 @@ mutual
       (ap₂ node p.0 q.0, q.1)
 
 -- behind fewer trees than there are, there is one more
-next_tree : (before ts : Nodes) (w : Version) (n : ℕ) (placed : List ℕ) (rest after : List ℕ) → n ≤ 256 → AllHaveShape w n placed before → AllHaveShape w n placed ts → child_count before < child_count ts
+pub next_tree : (before ts : Nodes) (w : Version) (n : ℕ) (placed : List ℕ) (rest after : List ℕ) → n ≤ 256 → AllHaveShape w n placed before → AllHaveShape w n placed ts → child_count before < child_count ts
     → trees_text w ts ++ rest ≡ trees_text w before ++ after → (s : Node) × (behind : List ℕ) × HasShape w n placed s × (after ≡ tree_text w s ++ behind)
 next_tree no_nodes no_nodes w n placed rest after small h k fewer e = absurd (omega arith)
 next_tree no_nodes (node s ss) w n placed rest after small h k fewer e = (s, trees_text w ss ++ rest, k.0, sym e ∙ append_assoc (tree_text w s) (trees_text w ss) rest)
@@ -138,17 +138,17 @@ next_tree (node t ts) (node s ss) w n placed rest after small h k fewer e =
 -- the text of a tree has no fault
 
 -- a split's line names one facility, and is none of a bound
-split_named : (w : Version) (n : ℕ) (placed : List ℕ) (f : ℕ) → n ≤ 256 → MayName w n placed f → IsSplitLine w n placed (codes "s" ++ numbers_text (split_numbers w f)) f
+pub split_named : (w : Version) (n : ℕ) (placed : List ℕ) (f : ℕ) → n ≤ 256 → MayName w n placed f → IsSplitLine w n placed (codes "s" ++ numbers_text (split_numbers w f)) f
 split_named w n placed f small may = record { named = IsNamed-numbers_text (codes "s") (split_numbers w f) (AllLimited-split_numbers w n placed f small may); allowed = may }
 
 one_split : (w : Version) (n : ℕ) (placed line : List ℕ) (f g : ℕ) → IsSplitLine w n placed line f → IsSplitLine w n placed line g → f ≡ g
 one_split w n placed line f g a b =
     same_facility w n placed f g a.allowed b.allowed (IsNamed-unique (codes "s") line (split_numbers w f) (split_numbers w g) a.named b.named)
 
-split_or_bound : (w : Version) (n : ℕ) (placed line : List ℕ) (f : ℕ) (zs : List ℤ) → IsSplitLine w n placed line f → IsNamed (codes "b") line zs → ⊥
+pub split_or_bound : (w : Version) (n : ℕ) (placed line : List ℕ) (f : ℕ) (zs : List ℤ) → IsSplitLine w n placed line f → IsNamed (codes "b") line zs → ⊥
 split_or_bound w n placed line f zs a b = split_differs _ _ (sym a.named.is ∙ b.is)
 
-split_line : (w : Version) (n : ℕ) (placed line : List ℕ) (number f : ℕ) (e : CertError) → length placed < n → IsFree n placed f → IsSplitLine w n placed line f → IsNodeFault w n placed number line e → ⊥
+pub split_line : (w : Version) (n : ℕ) (placed line : List ℕ) (number f : ℕ) (e : CertError) → length placed < n → IsFree n placed f → IsSplitLine w n placed line f → IsNodeFault w n placed number line e → ⊥
 split_line w n placed line number f (BadLine at) some free is h = h.1 f is
 split_line w n placed line number f (SplitTooDeep at) some free is h = absurd (omega (arith, h.3, some))
 split_line w n placed line number f (FacilityTaken at) some free is h =
@@ -180,7 +180,7 @@ no_node_fault w n placed number (split f children) text rest e small h is fault 
 no_node_fault w n placed number (bound u v) text rest e small h is fault =
     bound_line w n placed number u v e h (named_fault number text (codes "b") rest (u ++ v) (IsNodeFault w n placed number) e no_line-bound (AllLimited-append u v h.u_range h.v_range) is fault)
 
-no_tree_fault : (w : Version) (n m : ℕ) (placed : List ℕ) (number : ℕ) (t : Node) (text rest : List ℕ) (e : CertError) → n ≤ 256 → HasShape w n placed t → text ≡ tree_text w t ++ rest → IsTreeTextFault w n m placed number text e → ⊥
+pub no_tree_fault : (w : Version) (n m : ℕ) (placed : List ℕ) (number : ℕ) (t : Node) (text rest : List ℕ) (e : CertError) → n ≤ 256 → HasShape w n placed t → text ≡ tree_text w t ++ rest → IsTreeTextFault w n m placed number text e → ⊥
 no_tree_fault w n zero placed number t text rest e small h is fault = no_node_fault w n placed number t text rest e small h is fault
 no_tree_fault w n (suc m) placed number t text rest e small h is (inl fault) = no_node_fault w n placed number t text rest e small h is fault
 no_tree_fault w n (suc m) placed number (bound u v) text rest e small h is (inr fault) =
@@ -203,7 +203,7 @@ no_end_fault number text e is (inr fault) = fault.2 (ap (drop 4) (sym fault.3 �
 
 -- the text of a certificate has no fault
 
-header_line : (v : Version) (e : CertError) → IsHeaderFault (codes "qapcert" ++ numbers_text (pos (version_number v) ∷ [])) e → ⊥
+pub header_line : (v : Version) (e : CertError) → IsHeaderFault (codes "qapcert" ++ numbers_text (pos (version_number v) ∷ [])) e → ⊥
 header_line v BadHeader h = h (version_number v) (version_small v).0 (IsNamed-numbers_text (codes "qapcert") (pos (version_number v) ∷ []) (version_limited v))
 header_line v BadVersion h =
     let same = same_number h.0 (version_number v) (IsNamed-unique (codes "qapcert") (codes "qapcert" ++ numbers_text (pos (version_number v) ∷ [])) (pos h.0 ∷ []) (pos (version_number v) ∷ []) h.2
@@ -211,7 +211,7 @@ header_line v BadVersion h =
     omega (arith, h.1, same, (version_small v).1)
 header_line v _ h = absurd h
 
-perm_line : (n : ℕ) (p : List ℕ) (e : CertError) → IsPerm p → length p ≡ n → IsPermFault n (codes "perm" ++ numbers_text (from_one p)) e → ⊥
+pub perm_line : (n : ℕ) (p : List ℕ) (e : CertError) → IsPerm p → length p ≡ n → IsPermFault n (codes "perm" ++ numbers_text (from_one p)) e → ⊥
 perm_line n p (BadLine at) perm size h =
     h.1 (from_one p) (length-map p (λ k. pos (k + 1)) ∙ size) (IsNamed-numbers_text (codes "perm") (from_one p) (AllLimited-permutation p perm))
 perm_line n p (PermBad at) perm size h =
@@ -322,7 +322,7 @@ fault_from_cost w n C text e small h may shape size is (inr f) =
     let cost_is : C.cost ≡ f.0 = ap (λ l. get_or l 0 (pos 0)) same.0 in
     fault_from_perm w n C b.rest e small h may shape size (sym same.1) (subst (λ (z : ℤ). IsFaultFromPerm w n z b.rest e) (sym cost_is) b.holds)
 
-small_number : (n : ℕ) → n ≤ 256 → AllLimited (pos n ∷ [])
+pub small_number : (n : ℕ) → n ≤ 256 → AllLimited (pos n ∷ [])
 small_number n h = AllLimited-one (pos n) (omega (arith, h))
 
 -- what stands behind the version

@@ -5,6 +5,7 @@ pub mod Fault
 pub mod Line
 pub mod Number
 pub mod Numeral
+pub mod Refusal
 pub mod Shape
 pub mod Text
 pub mod TextFault

@@ -7,8 +7,9 @@ ghost use Rattle.qap_cert.specs.TextFault.{HasNoBound, IsBelow, IsBoundLineFault
 
 use crate::CertError;
 use crate::line::first_line;
-use crate::line_number::{BOUND_LINE, GREATEST};
+use crate::line_number::BOUND_LINE;
 use crate::number::one_number;
+use qap_cost::MAX_VALUE;
 
 /// A bound that is stated, and what follows its line.
 #[derive(Clone, Copy)]
@@ -47,7 +48,7 @@ fn judge_bound(line: &[u8], cost: i128) -> Result<Option<i128>, CertError>
 {
     match one_number(b"bound", line) {
         None => Ok(None),
-        Some(bound) if bound.unsigned_abs() <= GREATEST && bound < cost => Ok(Some(bound)),
+        Some(bound) if bound.unsigned_abs() <= MAX_VALUE && bound < cost => Ok(Some(bound)),
         Some(_) => Err(CertError::BadLine(BOUND_LINE)),
     }
 }

@@ -6,11 +6,11 @@ ghost use Rattle.qap_cert.specs.Fault.{IsClaimFault};
 ghost use Rattle.qap_cert.specs.Tree.{node_of};
 
 use crate::CertError;
-use crate::line_number::{BOUND_LINE, COST_LINE, GREATEST, TREE_LINE_BEHIND_BOUND};
+use crate::line_number::{BOUND_LINE, COST_LINE, TREE_LINE_BEHIND_BOUND};
 use crate::placed::Placed;
 use crate::shape::judge_tree;
 use crate::tree::Tree;
-use qap_cost::Perm;
+use qap_cost::{MAX_VALUE, Perm};
 use std::marker::Model;
 
 /// A cost from -10^24 to 10^24, a bound from -10^24 to the cost, a permutation that is to have the cost, and a tree of the
@@ -123,7 +123,7 @@ fn first_tree_line(cost: i128, bound: i128) -> u64
 fn is_bound_for(cost: i128, bound: i128) -> bool
     ensures { IsTrue result ↔ IsBoundFor cost bound }
 {
-    bound.unsigned_abs() <= GREATEST && bound <= cost
+    bound.unsigned_abs() <= MAX_VALUE && bound <= cost
 }
 
 /// Whether these have the shape of a certificate, and the first fault if not.
@@ -132,7 +132,7 @@ fn judge_claim(cost: i128, bound: i128, perm: &Perm, tree: &Tree) -> Result<(), 
         (λ done. IsCertificate (claim_of cost bound perm.now (node_of tree.now)))
         (λ e. IsClaimFault (claim_of cost bound perm.now (node_of tree.now)) e) }
 {
-    if cost.unsigned_abs() > GREATEST {
+    if cost.unsigned_abs() > MAX_VALUE {
         return Err(CertError::BadLine(COST_LINE));
     }
     if !is_bound_for(cost, bound) {

@@ -41,7 +41,14 @@ pub fn check(alloc: Global, instance: &Instance, certificate: &Certificate) -> R
     let mut workspace = Workspace::new(alloc);
     let line = certificate.tree_line();
     let bound = certificate.bound();
-    check_tree(&mut workspace, &ranked, bound, &root, certificate.tree(), line)?;
+    check_tree(
+        &mut workspace,
+        &ranked,
+        bound,
+        &root,
+        certificate.tree(),
+        line,
+    )?;
     Ok(())
 }
 
@@ -82,7 +89,9 @@ fn check_tree(
         Tree::Split { facility, children } => {
             let locations = node.free_locations()?;
             let first = line.saturating_add(1);
-            check_children(workspace, ranked, bound, node, *facility, &locations, children, first)
+            check_children(
+                workspace, ranked, bound, node, *facility, &locations, children, first,
+            )
         }
         Tree::Bound { u, v } => {
             check_bound(workspace, ranked, bound, node, u, v, line)?;

@@ -1,6 +1,6 @@
 //! Why a certificate is refused.
 
-use qap_io::Device;
+use qap_io::{Device, Refusal};
 use std::alloc::AllocError;
 use thiserror::Error;
 
@@ -58,6 +58,36 @@ pub enum CertError {
     /// The writer failed.
     #[error("the writer failed")]
     Device,
+}
+
+impl CertError {
+    ghost use Rattle.std.specs.Prelude.{◌≡◌};
+    ghost use Rattle.qap_cert.specs.Refusal.{certificate_refusal};
+
+    /// The refusal that the fault is told as: its number, its name, and its line where it has one.
+    pub fn refusal(self) -> Refusal
+        ensures { result ≡ certificate_refusal self }
+    {
+        match self {
+            CertError::SizeDiffers(line) => Refusal::at(8, "SizeDiffers", line),
+            CertError::BadHeader => Refusal::new(11, "BadHeader"),
+            CertError::BadVersion => Refusal::new(12, "BadVersion"),
+            CertError::BadLine(line) => Refusal::at(13, "BadLine", line),
+            CertError::Truncated(line) => Refusal::at(14, "Truncated", line),
+            CertError::TrailingText(line) => Refusal::at(15, "TrailingText", line),
+            CertError::CostDiffers(line) => Refusal::at(16, "CostDiffers", line),
+            CertError::PermBad(line) => Refusal::at(17, "PermBad", line),
+            CertError::SplitTooDeep(line) => Refusal::at(18, "SplitTooDeep", line),
+            CertError::DualCount(line) => Refusal::at(19, "DualCount", line),
+            CertError::DualRange(line) => Refusal::at(20, "DualRange", line),
+            CertError::NotFeasible(line) => Refusal::at(21, "NotFeasible", line),
+            CertError::BoundTooLow(line) => Refusal::at(22, "BoundTooLow", line),
+            CertError::SplitWidth(line) => Refusal::at(23, "SplitWidth", line),
+            CertError::FacilityTaken(line) => Refusal::at(25, "FacilityTaken", line),
+            CertError::OutOfMemory => Refusal::out_of_memory(),
+            CertError::Device => Refusal::device(),
+        }
+    }
 }
 
 impl From<AllocError> for CertError {

@@ -11,10 +11,10 @@ ghost use Rattle.qap_cert.specs.Version.{version_number};
 
 use crate::CertError;
 use crate::line::line_at;
-use crate::line_number::{COST_LINE, GREATEST, PERM_LINE, SIZE_LINE, VERSION_LINE};
+use crate::line_number::{COST_LINE, PERM_LINE, SIZE_LINE, VERSION_LINE};
 use crate::number::{from_one, one_number, read_numbers};
 use crate::version::Version;
-use qap_cost::{MAX_SIZE, Perm};
+use qap_cost::{MAX_SIZE, MAX_VALUE, Perm};
 use std::alloc::{AllocError, Global};
 
 /// The version, which the first line states, and what follows that.
@@ -79,7 +79,7 @@ fn judge_cost(line: &[u8]) -> Result<i128, CertError>
         (IsCostFault line.now) }
 {
     match one_number(b"cost", line) {
-        Some(cost) if cost.unsigned_abs() <= GREATEST => Ok(cost),
+        Some(cost) if cost.unsigned_abs() <= MAX_VALUE => Ok(cost),
         _ => Err(CertError::BadLine(COST_LINE)),
     }
 }

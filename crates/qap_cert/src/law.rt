@@ -26,8 +26,9 @@ pub fn fault_law()
     ensures one { (I : Problem) (C : Claim) (e f : CertError) → IsFault I C e → IsFault I C f → e ≡ f }
 {}
 
-/// A text is that of one certificate at most, and the text of a certificate has no fault.
+/// A text is that of one certificate at most, the text of a certificate has no fault, and a text has one first fault at most.
 pub fn certificate_text_law()
     ensures one { (text : List ℕ) (C D : Claim) → IsCertificateText text C → IsCertificateText text D → C ≡ D }
     ensures faultless { (text : List ℕ) (C : Claim) (e : CertError) → IsCertificateText text C → IsTextFault text e → ⊥ }
+    ensures one_fault { (text : List ℕ) (d e : CertError) → IsTextFault text d → IsTextFault text e → d ≡ e }
 {}

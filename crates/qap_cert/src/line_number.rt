@@ -1,4 +1,4 @@
-//! The numbers of a certificate's lines, and the greatest number that it may state.
+//! The numbers of a certificate's lines.
 
 /// The line of the version.
 pub(crate) const VERSION_LINE: u64 = 1;
@@ -12,6 +12,3 @@ pub(crate) const PERM_LINE: u64 = 4;
 pub(crate) const BOUND_LINE: u64 = 5;
 /// The line of the tree's first node behind that of a bound.
 pub(crate) const TREE_LINE_BEHIND_BOUND: u64 = 6;
-
-/// The greatest absolute value of a dual, of a cost and of a bound.
-pub(crate) const GREATEST: u128 = 1_000_000_000_000_000_000_000_000;

@@ -96,12 +96,7 @@ fn read_unstated(
 }
 
 /// Reads a tree, whose first line has this number, and the last line.
-fn read_to_end(
-    alloc: Global,
-    text: &[u8],
-    grammar: Grammar,
-    line: u64,
-) -> Result<Tree, CertError>
+fn read_to_end(alloc: Global, text: &[u8], grammar: Grammar, line: u64) -> Result<Tree, CertError>
     requires { grammar.size ≤ 256 }
     ensures { MatchResult result
         (λ t. HasShape grammar.version grammar.size [] (node_of t) × (text.now ≡ tree_text grammar.version (node_of t) ++ codes "end\n"))

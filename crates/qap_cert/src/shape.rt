@@ -10,9 +10,9 @@ ghost use Rattle.qap_cert.specs.Tree.{node_of, nodes_of, node_count, nodes_count
 ghost use Rattle.qap_cert.specs.declared.version.Version.TheVariants.{Second};
 
 use crate::CertError;
-use crate::line_number::GREATEST;
 use crate::placed::Placed;
 use crate::tree::Tree;
+use qap_cost::MAX_VALUE;
 
 /// The line behind those of a tree that begins at this line, in which these of so many facilities are placed; or what is
 /// wrong with its shape.
@@ -125,7 +125,7 @@ pub(crate) fn is_in_range(numbers: &[i128]) -> bool
     ensures { IsTrue result ↔ AllLimited numbers.now }
 {
     for &number in numbers {
-        if number.unsigned_abs() > GREATEST {
+        if number.unsigned_abs() > MAX_VALUE {
             return false;
         }
     }

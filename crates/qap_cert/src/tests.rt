@@ -175,3 +175,132 @@ fn parts(rt: HostRuntime) -> Result<(), Fail> {
     }
     Ok(())
 }
+
+#[test]
+fn refusals(rt: HostRuntime) -> Result<(), Fail> {
+    let alloc = rt.alloc();
+    let cases: [(CertError, &str, u16, &str, Option<u64>); 17] = [
+        (
+            CertError::SizeDiffers(2),
+            "line 2: the size is not the instance's",
+            8,
+            "SizeDiffers",
+            Some(2),
+        ),
+        (
+            CertError::BadHeader,
+            "the first line is not that of a certificate",
+            11,
+            "BadHeader",
+            None,
+        ),
+        (
+            CertError::BadVersion,
+            "the certificate's version is not known",
+            12,
+            "BadVersion",
+            None,
+        ),
+        (
+            CertError::BadLine(5),
+            "line 5 is not spelled as it should be",
+            13,
+            "BadLine",
+            Some(5),
+        ),
+        (
+            CertError::Truncated(6),
+            "the text ends in line 6",
+            14,
+            "Truncated",
+            Some(6),
+        ),
+        (
+            CertError::TrailingText(7),
+            "line 7 follows the last line",
+            15,
+            "TrailingText",
+            Some(7),
+        ),
+        (
+            CertError::CostDiffers(3),
+            "line 3: the permutation has another cost",
+            16,
+            "CostDiffers",
+            Some(3),
+        ),
+        (
+            CertError::PermBad(4),
+            "line 4: the locations are no permutation",
+            17,
+            "PermBad",
+            Some(4),
+        ),
+        (
+            CertError::SplitTooDeep(8),
+            "line 8 splits where no facility is free",
+            18,
+            "SplitTooDeep",
+            Some(8),
+        ),
+        (
+            CertError::DualCount(9),
+            "line 9 has another number of duals",
+            19,
+            "DualCount",
+            Some(9),
+        ),
+        (
+            CertError::DualRange(10),
+            "line 10 has a dual outside -10^24 to 10^24",
+            20,
+            "DualRange",
+            Some(10),
+        ),
+        (
+            CertError::NotFeasible(11),
+            "line 11: the duals don't fit the reduced matrix",
+            21,
+            "NotFeasible",
+            Some(11),
+        ),
+        (
+            CertError::BoundTooLow(12),
+            "line 12: the duals bound their part by too little",
+            22,
+            "BoundTooLow",
+            Some(12),
+        ),
+        (
+            CertError::SplitWidth(13),
+            "line 13 splits into another number of children",
+            23,
+            "SplitWidth",
+            Some(13),
+        ),
+        (
+            CertError::FacilityTaken(14),
+            "line 14 splits on a facility that is not free",
+            25,
+            "FacilityTaken",
+            Some(14),
+        ),
+        (
+            CertError::OutOfMemory,
+            "out of memory",
+            50,
+            "OutOfMemory",
+            None,
+        ),
+        (CertError::Device, "the writer failed", 51, "Device", None),
+    ];
+    for (error, message, number, name, at) in cases {
+        assert_eq!(rt; format!(in alloc; "{error}")?.as_str(), message);
+        let refusal = error.refusal();
+        assert_eq!(rt;
+            (refusal.number, refusal.name, refusal.at),
+            (number, name, at)
+        );
+    }
+    Ok(())
+}

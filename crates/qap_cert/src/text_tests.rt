@@ -9,13 +9,16 @@ use std::test::Fail;
 /// A certificate of size 3, of the first version and of the second: a split and three bounds.
 const SPLIT: &[u8] =
     b"qapcert 1\nn 3\ncost 1\nperm 1 2 3\ns\nb 0 0 1 0\nb 0 0 1 0\nb 1 0 0 0\nend\n";
+
 const SPLIT_2: &[u8] =
     b"qapcert 2\nn 3\ncost 1\nperm 1 2 3\ns 1\nb 0 0 1 0\nb 0 0 1 0\nb 1 0 0 0\nend\n";
 /// One bound, with duals of both signs.
 const BOUND: &[u8] = b"qapcert 1\nn 3\ncost -24\nperm 3 1 2\nb 9 10 12 0 -2 -1000000\nend\n";
+
 const BOUND_2: &[u8] = b"qapcert 2\nn 3\ncost -24\nperm 3 1 2\nb 9 10 12 0 -2 -1000000\nend\n";
 /// The certificate of size 2 that splits down to each permutation.
 const FULL: &[u8] = b"qapcert 1\nn 2\ncost 11\nperm 1 2\ns\ns\nb\ns\nb\nend\n";
+
 const FULL_2: &[u8] = b"qapcert 2\nn 2\ncost 11\nperm 1 2\ns 1\ns 2\nb\ns 2\nb\nend\n";
 /// A bound below the cost.
 const GAP: &[u8] = b"qapcert 2\nn 3\ncost 1\nperm 1 2 3\nbound 0\nb 0 0 0 0 0 0\nend\n";
@@ -95,31 +98,107 @@ fn verdicts(rt: HostRuntime) -> Result<(), Fail> {
         panic!(rt; "an instance is refused");
     };
     let cases: [(&[u8], &[u8], Result<Verdict, CertError>); 27] = [
-        (b"1", b"s\nb 0 0 1 0\nb 0 0 1 0\nb 1 0 0 0\nend\n", Ok(Verdict::Optimal(1))),
-        (b"1", b"b 0 0 0 0 0 0\nend\n", Err(CertError::BoundTooLow(5))),
-        (b"1", b"s 1\nb 0 0 1 0\nb 0 0 1 0\nb 1 0 0 0\nend\n", Err(CertError::BadLine(5))),
-        (b"1", b"bound 0\nb 0 0 0 0 0 0\nend\n", Err(CertError::BadLine(5))),
+        (
+            b"1",
+            b"s\nb 0 0 1 0\nb 0 0 1 0\nb 1 0 0 0\nend\n",
+            Ok(Verdict::Optimal(1)),
+        ),
+        (
+            b"1",
+            b"b 0 0 0 0 0 0\nend\n",
+            Err(CertError::BoundTooLow(5)),
+        ),
+        (
+            b"1",
+            b"s 1\nb 0 0 1 0\nb 0 0 1 0\nb 1 0 0 0\nend\n",
+            Err(CertError::BadLine(5)),
+        ),
+        (
+            b"1",
+            b"bound 0\nb 0 0 0 0 0 0\nend\n",
+            Err(CertError::BadLine(5)),
+        ),
         (b"1", b"s\ns\ns\ns\n", Err(CertError::SplitTooDeep(8))),
-        (b"2", b"s 2\nb 0 0 1 0\nb 0 0 1 0\nb 0 1 0 0\nend\n", Ok(Verdict::Optimal(1))),
-        (b"2", b"s 2\nb 0 0 1 0\nb 0 0 1 0\nb 1 0 0 0\nend\n", Err(CertError::NotFeasible(8))),
-        (b"2", b"s 2\ns 2\nb 0 0 1 0\nb 0 1 0 0\nend\n", Err(CertError::FacilityTaken(6))),
-        (b"2", b"s\nb 0 0 1 0\nb 0 0 1 0\nb 0 1 0 0\nend\n", Err(CertError::BadLine(5))),
+        (
+            b"2",
+            b"s 2\nb 0 0 1 0\nb 0 0 1 0\nb 0 1 0 0\nend\n",
+            Ok(Verdict::Optimal(1)),
+        ),
+        (
+            b"2",
+            b"s 2\nb 0 0 1 0\nb 0 0 1 0\nb 1 0 0 0\nend\n",
+            Err(CertError::NotFeasible(8)),
+        ),
+        (
+            b"2",
+            b"s 2\ns 2\nb 0 0 1 0\nb 0 1 0 0\nend\n",
+            Err(CertError::FacilityTaken(6)),
+        ),
+        (
+            b"2",
+            b"s\nb 0 0 1 0\nb 0 0 1 0\nb 0 1 0 0\nend\n",
+            Err(CertError::BadLine(5)),
+        ),
         (b"2", b"s 4\nb 0 0 1 0\nend\n", Err(CertError::BadLine(5))),
         (b"2", b"s 0\nb 0 0 1 0\nend\n", Err(CertError::BadLine(5))),
         (b"2", b"s 1 2\nb 0 0 1 0\nend\n", Err(CertError::BadLine(5))),
         (b"2", b"s 01\nb 0 0 1 0\nend\n", Err(CertError::BadLine(5))),
-        (b"2", b"s 3\ns 1\ns 2\ns 2\n", Err(CertError::SplitTooDeep(8))),
+        (
+            b"2",
+            b"s 3\ns 1\ns 2\ns 2\n",
+            Err(CertError::SplitTooDeep(8)),
+        ),
         (b"2", b"s 3\ns 1\ns 2\ns 4\n", Err(CertError::BadLine(8))),
-        (b"2", b"bound 0\nb 0 0 0 0 0 0\nend\n", Ok(Verdict::Gap(0, 1))),
-        (b"2", b"bound -5\nb 0 0 0 0 0 0\nend\n", Ok(Verdict::Gap(-5, 1))),
-        (b"2", b"bound 1\nb 0 0 0 0 0 0\nend\n", Err(CertError::BadLine(5))),
-        (b"2", b"bound 2\nb 0 0 0 0 0 0\nend\n", Err(CertError::BadLine(5))),
-        (b"2", b"bound -1000000000000000000000001\nb 0 0 0 0 0 0\nend\n", Err(CertError::BadLine(5))),
-        (b"2", b"bound 0 0\nb 0 0 0 0 0 0\nend\n", Err(CertError::BadLine(5))),
-        (b"2", b"bound 0\nb 0 0 -1 0 0 0\nend\n", Err(CertError::BoundTooLow(6))),
-        (b"2", b"bound 0\nbound 0\nb 0 0 0 0 0 0\nend\n", Err(CertError::BadLine(6))),
-        (b"2", b"bound 0\nb 0 0 0 0 0\nend\n", Err(CertError::DualCount(6))),
-        (b"2", b"bound 0\nb 0 0 0 0 0 0\nend\nx\n", Err(CertError::TrailingText(8))),
+        (
+            b"2",
+            b"bound 0\nb 0 0 0 0 0 0\nend\n",
+            Ok(Verdict::Gap(0, 1)),
+        ),
+        (
+            b"2",
+            b"bound -5\nb 0 0 0 0 0 0\nend\n",
+            Ok(Verdict::Gap(-5, 1)),
+        ),
+        (
+            b"2",
+            b"bound 1\nb 0 0 0 0 0 0\nend\n",
+            Err(CertError::BadLine(5)),
+        ),
+        (
+            b"2",
+            b"bound 2\nb 0 0 0 0 0 0\nend\n",
+            Err(CertError::BadLine(5)),
+        ),
+        (
+            b"2",
+            b"bound -1000000000000000000000001\nb 0 0 0 0 0 0\nend\n",
+            Err(CertError::BadLine(5)),
+        ),
+        (
+            b"2",
+            b"bound 0 0\nb 0 0 0 0 0 0\nend\n",
+            Err(CertError::BadLine(5)),
+        ),
+        (
+            b"2",
+            b"bound 0\nb 0 0 -1 0 0 0\nend\n",
+            Err(CertError::BoundTooLow(6)),
+        ),
+        (
+            b"2",
+            b"bound 0\nbound 0\nb 0 0 0 0 0 0\nend\n",
+            Err(CertError::BadLine(6)),
+        ),
+        (
+            b"2",
+            b"bound 0\nb 0 0 0 0 0\nend\n",
+            Err(CertError::DualCount(6)),
+        ),
+        (
+            b"2",
+            b"bound 0\nb 0 0 0 0 0 0\nend\nx\n",
+            Err(CertError::TrailingText(8)),
+        ),
         (b"3", b"b 0 0 0 0 0 0\nend\n", Err(CertError::BadVersion)),
         (b"0", b"b 0 0 0 0 0 0\nend\n", Err(CertError::BadHeader)),
     ];
@@ -175,7 +254,10 @@ fn full_lines(alloc: Global, n: usize) -> Result<Vec<u8>, AllocError> {
             let facility = free_facility(n, &path, step);
             left.push(n.wrapping_sub(path.len()))?;
             path.push(facility)?;
-            text.extend_from_slice(format!(in alloc; "s {}\n", facility.wrapping_add(1))?.as_bytes())?;
+            text.extend_from_slice(format!(in alloc;
+                "s {}\n",
+                facility.wrapping_add(1)
+            )?.as_bytes())?;
             continue;
         }
         text.extend_from_slice(b"b\n")?;
@@ -225,7 +307,11 @@ fn full_trees_and_the_listing(rt: HostRuntime) -> Result<(), Fail> {
         text.extend_from_slice(b"\n")?;
         text.extend_from_slice(&full_lines(alloc, n)?)?;
         text.extend_from_slice(b"end\n")?;
-        assert_eq!(rt; accept(alloc, &instance, &text), Ok(Verdict::Optimal(least)), "size {n}");
+        assert_eq!(rt;
+            accept(alloc, &instance, &text),
+            Ok(Verdict::Optimal(least)),
+            "size {n}"
+        );
     }
     Ok(())
 }

@@ -1,6 +1,6 @@
 //! Certificates as texts.
 
-ghost use Rattle.std.specs.Prelude.{◌≡◌, ◌+◌, ◌⊎◌, ◌++◌, ◌∷◌, [], pos, length, codes, OnOk, OnErr, IfErr, MatchResult};
+ghost use Rattle.std.specs.Prelude.{◌≡◌, ◌+◌, ◌⊎◌, ◌++◌, ◌∷◌, [], pos, length, codes, true, OnOk, OnErr, IfErr, MatchResult};
 ghost use Rattle.std.specs.Io.KnownBytes.{Appends};
 ghost use Rattle.qap_io.specs.Counting.{FailedBetween};
 ghost use Rattle.qap_io.specs.Writing.{AppendsBeginning};
@@ -280,6 +280,7 @@ pub fn write<W: Write>(
     certificate: &Certificate,
 ) -> Result<(), CertError>
     ensures whole { OnOk result (Appends (W.contents writer.old.inner) (W.contents writer.new.inner) (certificate_text Second certificate.now)) }
+    ensures flushed { OnOk result (writer.new.flushed ≡ true) }
     ensures count { OnOk result (writer.new.failures ≡ writer.old.failures) }
     ensures beginning { OnErr result (AppendsBeginning (W.contents writer.old.inner) (W.contents writer.new.inner) (certificate_text Second certificate.now)) }
     ensures failed { IfErr result (λ e. ((e ≡ OutOfMemory) × (writer.new.failures ≡ writer.old.failures))

@@ -15,6 +15,9 @@ use std::marker::Model;
 /// The size that no instance passes.
 pub const MAX_SIZE: usize = 256;
 
+/// The greatest absolute value of a stated cost, of a bound and of a dual.
+pub const MAX_VALUE: u128 = 1_000_000_000_000_000_000_000_000;
+
 /// The greatest absolute value of an entry.
 pub const MAX_ENTRY: u64 = 1_000_000_000;
 

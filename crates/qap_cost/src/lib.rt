@@ -12,7 +12,7 @@ mod permutation;
 mod placement;
 
 pub use error::CostError;
-pub use instance::{Instance, MAX_ENTRY, MAX_SIZE};
+pub use instance::{Instance, MAX_ENTRY, MAX_SIZE, MAX_VALUE};
 pub use listing::least_by_listing;
 pub use marks::marked;
 pub use matrix::{Matrix, weak_duality_law};

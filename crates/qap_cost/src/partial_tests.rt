@@ -41,7 +41,10 @@ fn placed_and_free(rt: HostRuntime) -> Result<(), Fail> {
         assert_eq!(rt; (node.size(), node.depth()), (n, pairs.len()));
         assert_eq!(rt; node.free_facilities()?.as_slice(), facilities);
         assert_eq!(rt; node.free_locations()?.as_slice(), locations);
-        assert_eq!(rt; (node.facilities().len(), node.places().len()), (pairs.len(), pairs.len()));
+        assert_eq!(rt;
+            (node.facilities().len(), node.places().len()),
+            (pairs.len(), pairs.len())
+        );
         for k in 0..6 {
             assert_eq!(rt; node.is_free(k), locations.contains(&k), "location {k}");
             let placed = pairs.iter().find(|pair| pair.0 == k).map(|pair| pair.1);
@@ -101,8 +104,14 @@ fn fixed_costs(rt: HostRuntime) -> Result<(), Fail> {
 #[test]
 fn marks_and_products(rt: HostRuntime) {
     let marks = marked(&[2, 255]);
-    assert_eq!(rt; (marks[0], marks[2], marks[254], marks[255]), (false, true, false, true));
-    assert_eq!(rt; product(-1_000_000_000, 1_000_000_000), -1_000_000_000_000_000_000);
+    assert_eq!(rt;
+        (marks[0], marks[2], marks[254], marks[255]),
+        (false, true, false, true)
+    );
+    assert_eq!(rt;
+        product(-1_000_000_000, 1_000_000_000),
+        -1_000_000_000_000_000_000
+    );
 }
 
 #[test]

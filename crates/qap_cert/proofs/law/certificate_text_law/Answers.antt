@@ -1,3 +1,4 @@
+use Rattle.qap_cert.proofs.OneFault.{one_text_fault}
 use Rattle.qap_cert.proofs.OneText.{no_text_fault, one_certificate}
 use Rattle.qap_cert.proofs.law.certificate_text_law.Goals as goal
 
@@ -6,3 +7,6 @@ returns-clause-one c = one_certificate
 
 pub returns-clause-faultless : goal.returns-clause-faultless
 returns-clause-faultless c = no_text_fault
+
+pub returns-clause-one_fault : goal.returns-clause-one_fault
+returns-clause-one_fault c = one_text_fault

@@ -15,33 +15,39 @@ pub returns-in_err-cost : goal.returns-in_err-cost
 returns-in_err-cost c =
     let p = err_from_is_err_and c.from_residual-in_err-cost.result c.from_residual-in_err-cost.ensures.1 in
     let size = c.in_ok-size.ensures in
-    rw (p.1, p.2) (inr (inr (c.in_ok-version.version, record {
-      rest = _;
-      is = c.in_ok-version.ensures;
-      holds =
-          inr (c.in_ok-size.size, size.0, size.1, record { rest = _; is = size.2; holds = inl (c.in_err-cost.ensures {u = tt}) });
-    })))
+    rw (p.1, p.2) (inr (inr (
+      c.in_ok-version.version,
+      record {
+        rest = _;
+        is = c.in_ok-version.ensures;
+        holds =
+            inr (c.in_ok-size.size, size.0, size.1, record { rest = _; is = size.2; holds = inl (c.in_err-cost.ensures {u = tt}) });
+      },
+    )))
 
 pub returns-in_err-perm : goal.returns-in_err-perm
 returns-in_err-perm c =
     let p = err_from_is_err_and c.from_residual-in_err-perm.result c.from_residual-in_err-perm.ensures.1 in
     let size = c.in_ok-size.ensures in
     let cost = c.in_ok-cost.ensures in
-    rw (p.1, p.2) (⊎_elim inl (λ fault. inr (inr (c.in_ok-version.version, record {
-      rest = _;
-      is = c.in_ok-version.ensures;
-      holds =
-          inr (
-            c.in_ok-size.size,
-            size.0,
-            size.1,
-            record {
-              rest = _;
-              is = size.2;
-              holds = inr (c.in_ok-cost.cost, cost.0, record { rest = _; is = cost.1; holds = inl fault });
-            },
-          );
-    })))
+    rw (p.1, p.2) (⊎_elim inl (λ fault. inr (inr (
+      c.in_ok-version.version,
+      record {
+        rest = _;
+        is = c.in_ok-version.ensures;
+        holds =
+            inr (
+              c.in_ok-size.size,
+              size.0,
+              size.1,
+              record {
+                rest = _;
+                is = size.2;
+                holds = inr (c.in_ok-cost.cost, cost.0, record { rest = _; is = cost.1; holds = inl fault });
+              },
+            );
+      },
+    )))
     (c.in_err-perm.ensures {u = tt}))
 
 pub returns-in_err-read : goal.returns-in_err-read
@@ -51,40 +57,43 @@ returns-in_err-read c =
     let cost = c.in_ok-cost.ensures in
     let perm = c.in_ok-perm.ensures in
     let same : to_z w128 (of_z w128 c.in_ok-cost.cost) ≡ c.in_ok-cost.cost = reads_wide c.in_ok-cost.cost (omega (arith, cost.0)) in
-    rw (p.1, p.2) (⊎_elim inl (λ fault. inr (inr (c.in_ok-version.version, record {
-      rest = _;
-      is = c.in_ok-version.ensures;
-      holds =
-          inr (
-            c.in_ok-size.size,
-            size.0,
-            size.1,
-            record {
-              rest = _;
-              is = size.2;
-              holds =
-                  inr (
-                    c.in_ok-cost.cost,
-                    cost.0,
-                    record {
-                      rest = _;
-                      is = cost.1;
-                      holds =
-                          inr (
-                            _,
-                            perm.0,
-                            perm.1,
-                            record {
-                              rest = _;
-                              is = perm.2;
-                              holds = subst (λ (z : ℤ). IsFaultFromBound c.in_ok-version.version c.in_ok-size.size z c.in_ok-perm.rest.now c.in_err-read.field-0.0) same fault;
-                            },
-                          );
-                    },
-                  );
-            },
-          );
-    })))
+    rw (p.1, p.2) (⊎_elim inl (λ fault. inr (inr (
+      c.in_ok-version.version,
+      record {
+        rest = _;
+        is = c.in_ok-version.ensures;
+        holds =
+            inr (
+              c.in_ok-size.size,
+              size.0,
+              size.1,
+              record {
+                rest = _;
+                is = size.2;
+                holds =
+                    inr (
+                      c.in_ok-cost.cost,
+                      cost.0,
+                      record {
+                        rest = _;
+                        is = cost.1;
+                        holds =
+                            inr (
+                              _,
+                              perm.0,
+                              perm.1,
+                              record {
+                                rest = _;
+                                is = perm.2;
+                                holds = subst (λ (z : ℤ). IsFaultFromBound c.in_ok-version.version c.in_ok-size.size z c.in_ok-perm.rest.now c.in_err-read.field-0.0) same fault;
+                              },
+                            );
+                      },
+                    );
+              },
+            );
+      },
+    )))
     (c.in_err-read.ensures {u = tt}))
 
 pub invariant_of-result : goal.invariant_of-result
