@@ -1,3 +1,4 @@
+pub mod Optimal
 pub mod Refusal
 pub mod Source
-pub mod Verdict
+pub mod Valuation

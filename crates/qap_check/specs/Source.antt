@@ -1,32 +1,64 @@
 -- Where the two texts of a request come from: both from one reader, one after the other, or each from its own.
-use Rattle.std.specs.Prelude.{ℕ, List, Option, Some, None, IfSome}
-use Rattle.std.specs.declared.vec.Vec.{Vec}
-use Rattle.std.specs.declared.alloc.Global.{Global}
+use Rattle.std.specs.Prelude.{◌≡◌, ℕ, ◌⊎◌, List, Option, Some, None}
 use Rattle.qap_cost.specs.Instance.{Problem}
 use Rattle.qap_io.specs.Counting.{CountedDevice}
 use Rattle.qap_text.specs.InstanceText.{IsInstanceText}
-use Rattle.qap_text.specs.Whole.{IsReadFault}
-use Rattle.qap_text.specs.declared.error.TextError.{TextError}
+use Rattle.qap_text.specs.Whole.{ReadsWhole}
+use Rattle.qap_text.specs.Word.{after_separators}
+use Rattle.qap_check.specs.declared.source.Separators.{Separators}
+use Rattle.qap_check.specs.declared.source.Separators.TheVariants.{Kept, PassedOver}
 
--- the bytes that a second reader has left, where there is one; else what is left of the first text
-abbrev pub second_bytes : {S : Type 0} → (S → Option (List ℕ)) → Option (CountedDevice S) → List ℕ → Option (List ℕ)
-second_bytes remaining None rest = Some rest
-second_bytes remaining (Some device) rest = remaining device.inner
+-- the readers of the two texts, as a call found them and as it left them; what is known of the bytes that each has left; and
+-- the most bytes that each text may have
+pub record Source (R S : Type 0) : Type 0 where
+  pub first_bytes : R → Option (List ℕ)
+  pub second_bytes : S → Option (List ℕ)
+  pub limit : ℕ
+  pub first : CountedDevice R
+  pub first_after : CountedDevice R
+  pub second : Option (CountedDevice S)
+  pub second_after : Option (CountedDevice S)
 
--- there is a second reader, and its bytes can't be read within the limit
-abbrev pub IsSecondFault : {S : Type 0} → (S → Option (List ℕ)) → ℕ → Option (CountedDevice S) → Option (CountedDevice S) → TextError → Type 0
-IsSecondFault remaining limit (Some old) (Some new) e = IsReadFault (remaining old.inner) limit old new e
-IsSecondFault remaining limit _ _ e = ⊥
+-- all that the first reader had left was read, within the limit, and begins with the text of an instance
+pub record HasInstance {R S : Type 0} (s : Source R S) (I : Problem) (rest : List ℕ) : Type 0 where
+  pub text : List ℕ
+  pub read : ReadsWhole s.first_bytes s.limit s.first s.first_after text
+  pub instance_text : IsInstanceText text I rest
 
--- the bytes that were read, where there are some; else the rest
-abbrev pub bytes_or : Option (Vec ℕ Global) → List ℕ → List ℕ
-bytes_or None rest = rest
-bytes_or (Some bytes) rest = bytes.items
+-- where there is a second reader, all that it had left, read within the limit; else what follows the instance
+abbrev pub IsOtherText : {S : Type 0} → (S → Option (List ℕ)) → ℕ → Option (CountedDevice S) → Option (CountedDevice S) → List ℕ → List ℕ → Type 0
+IsOtherText bytes limit None None behind other = other ≡ behind
+IsOtherText bytes limit (Some old) (Some new) behind other = ReadsWhole bytes limit old new other
+IsOtherText bytes limit _ _ behind other = ⊥
 
--- the first text is an instance's, and what is known of the second one, which may be what is left of the first, has a
--- property for that instance
-pub record BehindInstance (text : List ℕ) (second : List ℕ → Option (List ℕ)) (P : Problem → List ℕ → Type 0) : Type 0 where
-  pub instance : Problem
+-- what follows an instance, from its first byte, or from the first one that is no separator
+abbrev pub between : Separators → List ℕ → List ℕ
+between Kept rest = rest
+between PassedOver rest = after_separators rest
+
+-- the instance, and the text that goes with it
+pub record HasTexts {R S : Type 0} (s : Source R S) (separators : Separators) (I : Problem) (other : List ℕ) : Type 0 where
   pub rest : List ℕ
-  pub instance_text : IsInstanceText text instance rest
-  pub holds : IfSome (second rest) (P instance)
+  pub first : HasInstance s I rest
+  pub second : IsOtherText s.second_bytes s.limit s.second s.second_after (between separators rest) other
+
+-- what an instance and the text that goes with it come to
+pub record ComeTo {R S A : Type 0} (s : Source R S) (separators : Separators) (P : Problem → List ℕ → A → Type 0) (answer : A) : Type 0 where
+  pub instance : Problem
+  pub other : List ℕ
+  pub texts : HasTexts s separators instance other
+  pub holds : P instance other answer
+
+-- the second reader is as it was, unless an instance had been read before
+abbrev pub SecondWaits : {R S : Type 0} → Source R S → Type 0
+SecondWaits s = (s.second_after ≡ s.second) ⊎ ((I : Problem) × (rest : List ℕ) × HasInstance s I rest)
+
+abbrev pub KeepsCount : {S : Type 0} → Option (CountedDevice S) → Option (CountedDevice S) → Type 0
+KeepsCount None None = Unit {0}
+KeepsCount (Some old) (Some new) = new.failures ≡ old.failures
+KeepsCount _ _ = ⊥
+
+-- no call of a reader failed
+pub record KeepsCounts {R S : Type 0} (s : Source R S) : Type 0 where
+  pub first : s.first_after.failures ≡ s.first.failures
+  pub second : KeepsCount s.second s.second_after

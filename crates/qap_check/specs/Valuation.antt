@@ -5,9 +5,11 @@ use Rattle.qap_cost.specs.Bijection.{IsInverse}
 use Rattle.qap_cost.specs.Instance.{Problem}
 use Rattle.qap_cost.specs.Objective.{cost_of}
 use Rattle.qap_text.specs.SolutionText.{IsSolutionText}
-use Rattle.qap_check.specs.declared.verdict.Match.{Match}
-use Rattle.qap_check.specs.declared.verdict.Match.TheVariants.{Direct, Inverse, Neither}
-use Rattle.qap_check.specs.declared.verdict.Verdict.{Verdict}
+use Rattle.qap_io.specs.declared.status.Status.{Status}
+use Rattle.qap_io.specs.declared.status.Status.TheVariants.{Done, Refused}
+use Rattle.qap_check.specs.declared.valuation.Match.{Match}
+use Rattle.qap_check.specs.declared.valuation.Match.TheVariants.{Direct, Inverse, Neither}
+use Rattle.qap_check.specs.declared.valuation.Valuation.{Valuation}
 
 -- the stated value is the permutation's own cost, else that of its inverse, else neither
 abbrev pub IsMatch : ℤ → ℤ → ℤ → Match → Type 0
@@ -16,7 +18,7 @@ IsMatch cost inverse stated Inverse = (cost ≢ stated) × (inverse ≡ stated)
 IsMatch cost inverse stated Neither = (cost ≢ stated) × (inverse ≢ stated)
 
 -- both costs of a permutation, and how a stated value meets them
-pub record Judges (I : Problem) (p : List ℕ) (stated : ℤ) (v : Verdict) : Type 0 where
+pub record Judges (I : Problem) (p : List ℕ) (stated : ℤ) (v : Valuation) : Type 0 where
   pub cost : v.cost ≡ cost_of I p
   pub backward : List ℕ
   pub inverse : IsInverse p backward
@@ -25,7 +27,7 @@ pub record Judges (I : Problem) (p : List ℕ) (stated : ℤ) (v : Verdict) : Ty
   pub found : IsMatch v.cost v.inverse v.stated v.found
 
 -- the text of a solution for an instance, judged
-pub record AnswersSolution (I : Problem) (text : List ℕ) (v : Verdict) : Type 0 where
+pub record AnswersSolution (I : Problem) (text : List ℕ) (v : Valuation) : Type 0 where
   pub value : ℤ
   pub permutation : List ℕ
   pub solution_text : IsSolutionText text I.size value permutation
@@ -36,18 +38,14 @@ match_name Direct = codes "direct"
 match_name Inverse = codes "inverse"
 match_name Neither = codes "none"
 
--- the exit status of a verdict
-abbrev pub match_status : Match → ℕ
-match_status Direct = 0
-match_status Inverse = 0
-match_status Neither = 1
+-- how a run ends that answers so: refused, where the stated value is neither cost
+abbrev pub match_status : Match → Status
+match_status Direct = Done
+match_status Inverse = Done
+match_status Neither = Refused
 
--- the four lines of a verdict
-abbrev pub lines_of : Verdict → List ℕ
+-- the four lines of a valuation
+abbrev pub lines_of : Valuation → List ℕ
 lines_of v =
     codes "cost " ++ signed_decimal v.cost ++ codes "\ninverse " ++ signed_decimal v.inverse
     ++ codes "\nstated " ++ signed_decimal v.stated ++ codes "\nmatch " ++ match_name v.found ++ codes "\n"
-
--- the line of a least cost
-abbrev pub optimal_line : ℤ → List ℕ
-optimal_line c = codes "optimal " ++ signed_decimal c ++ codes "\n"

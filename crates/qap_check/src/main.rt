@@ -3,15 +3,15 @@
 
 mod command_line;
 mod optimal;
+mod reading;
 mod refusal;
 mod source;
+mod valuation;
 mod value;
-mod verdict;
 
 use command_line::{CommandError, Files, Question, Request, USAGE, parse};
 use optimal::optimal_stream;
-use qap_io::Counted;
-use qap_text::TextError;
+use qap_io::{Counted, Status};
 use refusal::{RunError, fault_line, status};
 use std::alloc::Global;
 use std::env;
@@ -28,23 +28,26 @@ fn main(rt: HostRuntime) -> ExitCode {
     let answered = match arguments(&rt) {
         Ok(words) => match parse(rt.alloc(), &words) {
             Ok(request) => run(&rt, request),
-            Err(CommandError::OutOfMemory) => Err(RunError::Text(TextError::OutOfMemory)),
+            Err(CommandError::OutOfMemory) => Err(RunError::OutOfMemory),
             Err(CommandError::Usage) => return usage(&rt),
         },
-        Err(CommandError::OutOfMemory) => Err(RunError::Text(TextError::OutOfMemory)),
+        Err(CommandError::OutOfMemory) => Err(RunError::OutOfMemory),
         Err(CommandError::Usage) => return usage(&rt),
     };
-    let status = answered.unwrap_or_else(|error| {
-        let _ = fault_line(&error, &mut Counted::new(rt.stderr()));
-        status(&error)
-    });
-    ExitCode::from(status)
+    let code = answered.map_or_else(
+        |error| {
+            let _ = fault_line(&error, &mut Counted::new(rt.stderr()));
+            status(&error)
+        },
+        |status| status.code(),
+    );
+    ExitCode::from(code)
 }
 
 /// Tells how the program is used.
 fn usage(rt: &HostRuntime) -> ExitCode {
     let _ = rt.eprintln(USAGE);
-    ExitCode::from(2)
+    ExitCode::from(Status::Usage.code())
 }
 
 /// The words of the program's own command line.
@@ -52,8 +55,8 @@ fn arguments(rt: &(impl Env + AllocGlobal)) -> Result<Vec<String>, CommandError>
     Ok(env::args(rt)?.collect(rt.alloc())?)
 }
 
-/// Answers a request, and tells the exit status. Named files are opened before any of them is read.
-fn run(rt: &HostRuntime, request: Request<'_>) -> Result<u8, RunError> {
+/// Answers a request, and tells how the run ends. Named files are opened before any of them is read.
+fn run(rt: &HostRuntime, request: Request<'_>) -> Result<Status, RunError> {
     match request.files {
         Some(Files { instance, other }) => {
             let mut first = Counted::new(open(rt, instance)?);
@@ -74,21 +77,21 @@ fn run(rt: &HostRuntime, request: Request<'_>) -> Result<u8, RunError> {
 
 /// A named file, opened for reading.
 fn open(rt: &HostRuntime, name: &str) -> Result<File, RunError> {
-    fs::open(rt, name).map_err(|_| RunError::Text(TextError::Device))
+    fs::open(rt, name).map_err(|_| RunError::Device)
 }
 
-/// Answers a question on standard output, and tells the exit status.
+/// Answers a question on standard output, and tells how the run ends.
 fn answer<R: Read, S: Read>(
     rt: &HostRuntime,
     question: Question,
     first: &mut Counted<R>,
     second: &mut Option<Counted<S>>,
-) -> Result<u8, RunError> {
+) -> Result<Status, RunError> {
     let mut output = Counted::new(rt.stdout());
     match question {
         Question::Value => {
             value_stream(rt.alloc(), first, second, &mut output).map(|found| found.status())
         }
-        Question::Optimal => { optimal_stream(rt.alloc(), first, second, &mut output).map(|()| 0) }
+        Question::Optimal => { optimal_stream(rt.alloc(), first, second, &mut output).map(|()| Status::Done) }
     }
 }

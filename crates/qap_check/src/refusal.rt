@@ -1,14 +1,13 @@
 //! Why a run answers no verdict, and how that is told.
 
-ghost use Rattle.std.specs.Prelude.{◌≡◌, ◌++◌, codes, OnOk, OnErr};
-ghost use Rattle.std.specs.Io.KnownBytes.{Appends};
-ghost use Rattle.qap_io.specs.Counting.{FailedBetween};
-ghost use Rattle.qap_check.specs.Refusal.{name_of, place_of, certificate_name_of, line_of, place_text, refusal_line, status_of};
-ghost use Rattle.qap_text.specs.declared.error.TextError.TheVariants.{OutOfMemory, Device as FailedDevice};
+ghost use Rattle.std.specs.Prelude.{◌≡◌, MatchResult};
+ghost use Rattle.qap_io.specs.Refusal.{refusal_line};
+ghost use Rattle.qap_io.specs.Writing.{Sends, BreaksOff};
+ghost use Rattle.qap_check.specs.Refusal.{certificate_refusal, refusal_of, status_of};
+ghost use Rattle.qap_check.specs.declared.refusal.RunError.TheVariants.{OutOfMemory as WantOfMemory, Device as FailedDevice};
 
-use itoa::Buffer;
 use qap_cert::CertError;
-use qap_io::{Counted, Device, put};
+use qap_io::{Counted, Device, Refusal, Status};
 use qap_text::TextError;
 use std::alloc::AllocError;
 use std::io::Write;
@@ -17,51 +16,61 @@ use thiserror::Error;
 /// Why a run answers no verdict.
 #[derive(Clone, Copy, Debug, PartialEq, Eq, Error)]
 pub enum RunError {
-    /// The input can't be read, or a text in it is at fault.
+    /// An input is too long, or a text in it is at fault.
     #[error("{0}")]
     Text(TextError),
     /// The certificate is at fault.
     #[error("{0}")]
     Certificate(CertError),
+    /// There is no memory left.
+    #[error("out of memory")]
+    OutOfMemory,
+    /// A reader or the writer failed.
+    #[error("a reader or the writer failed")]
+    Device,
 }
 
 impl From<TextError> for RunError {
-    ghost use Rattle.qap_check.specs.declared.refusal.RunError.TheVariants.{Text};
+    ghost use Rattle.qap_check.specs.Refusal.{of_text};
 
-    ghost from_gives = { λ e f. f ≡ Text e };
+    ghost from_gives = { λ e f. f ≡ of_text e };
 
     fn from(error: TextError) -> RunError {
-        RunError::Text(error)
+        match error {
+            TextError::OutOfMemory => RunError::OutOfMemory,
+            TextError::Device => RunError::Device,
+            _ => RunError::Text(error),
+        }
     }
 }
 
 impl From<CertError> for RunError {
-    ghost use Rattle.qap_check.specs.declared.refusal.RunError.TheVariants.{Certificate};
+    ghost use Rattle.qap_check.specs.Refusal.{of_certificate};
 
-    ghost from_gives = { λ e f. f ≡ Certificate e };
+    ghost from_gives = { λ e f. f ≡ of_certificate e };
 
     fn from(error: CertError) -> RunError {
-        RunError::Certificate(error)
+        match error {
+            CertError::OutOfMemory => RunError::OutOfMemory,
+            CertError::Device => RunError::Device,
+            _ => RunError::Certificate(error),
+        }
     }
 }
 
 impl From<AllocError> for RunError {
-    ghost use Rattle.qap_check.specs.declared.refusal.RunError.TheVariants.{Text};
-
-    ghost from_gives = { λ _ f. f ≡ Text OutOfMemory };
+    ghost from_gives = { λ _ f. f ≡ WantOfMemory };
 
     fn from(_error: AllocError) -> RunError {
-        RunError::Text(TextError::OutOfMemory)
+        RunError::OutOfMemory
     }
 }
 
 impl From<Device> for RunError {
-    ghost use Rattle.qap_check.specs.declared.refusal.RunError.TheVariants.{Text};
-
-    ghost from_gives = { λ _ f. f ≡ Text FailedDevice };
+    ghost from_gives = { λ _ f. f ≡ FailedDevice };
 
     fn from(_error: Device) -> RunError {
-        RunError::Text(TextError::Device)
+        RunError::Device
     }
 }
 
@@ -69,120 +78,55 @@ impl From<Device> for RunError {
 pub fn status(error: &RunError) -> u8
     ensures { result ≡ status_of error.now }
 {
-    match error {
-        RunError::Text(TextError::OutOfMemory) | RunError::Certificate(CertError::OutOfMemory) => 3,
-        RunError::Text(_) | RunError::Certificate(_) => 1,
-    }
+    let status = match error {
+        RunError::OutOfMemory => Status::OutOfMemory,
+        _ => Status::Refused,
+    };
+    status.code()
 }
 
 /// Writes the line that tells a refusal: `refused`, its number and name, and `at` with its place or its line where it
-/// carries one.
+/// carries one; and flushes the writer. Where that fails, a beginning of the line has gone out.
 pub fn fault_line<W: Write>(error: &RunError, writer: &mut Counted<W>) -> Result<(), Device>
-    ensures line { OnOk result (Appends (W.contents writer.old.inner) (W.contents writer.new.inner) (refusal_line error.now)) }
-    ensures failed { OnErr result (FailedBetween writer.old writer.new) }
+    ensures { MatchResult result
+        (λ _. Sends W.contents writer.old writer.new (refusal_line (refusal_of error.now)))
+        (λ _. BreaksOff W.contents writer.old writer.new (refusal_line (refusal_of error.now))) }
 {
-    match *error {
-        RunError::Text(fault) => { put_fault(writer, name(fault), place(fault)) }
-        RunError::Certificate(fault) => { put_fault(writer, certificate_name(fault), line(fault)) }
+    refusal(*error).send(writer)
+}
+
+/// The refusal that a run is told as.
+fn refusal(error: RunError) -> Refusal
+    ensures { result ≡ refusal_of error }
+{
+    match error {
+        RunError::Text(fault) => fault.refusal(),
+        RunError::Certificate(fault) => refused_certificate(fault),
+        RunError::OutOfMemory => Refusal::out_of_memory(),
+        RunError::Device => Refusal::device(),
     }
 }
 
-/// Writes the line of a refusal with this number and name, at this place or line.
-fn put_fault<W: Write>(
-    writer: &mut Counted<W>,
-    name: &str,
-    place: Option<u64>,
-) -> Result<(), Device>
-    ensures line { OnOk result (Appends (W.contents writer.old.inner) (W.contents writer.new.inner) (codes "refused " ++ name.now ++ place_text place ++ codes "\n")) }
-    ensures failed { OnErr result (FailedBetween writer.old writer.new) }
-{
-    put(writer, b"refused ")?;
-    put(writer, name.as_bytes())?;
-    if let Some(place) = place {
-        put(writer, b" at ")?;
-        put(writer, Buffer::new().format(place).as_bytes())?;
-    }
-    put(writer, b"\n")
-}
-
-/// The number and the name of a text's fault.
-fn name(fault: TextError) -> &'static str
-    ensures { result.now ≡ name_of fault }
+/// The refusal of a certificate, with its line where it has one.
+fn refused_certificate(fault: CertError) -> Refusal
+    ensures { result ≡ certificate_refusal fault }
 {
     match fault {
-        TextError::Empty => "1 Empty",
-        TextError::NotANumber(_) => "2 NotANumber",
-        TextError::SizeZero(_) => "3 SizeZero",
-        TextError::SizeTooLarge(_) => "4 SizeTooLarge",
-        TextError::EntryRange(_) => "5 EntryRange",
-        TextError::CountDiffers => "6 CountDiffers",
-        TextError::SizeDiffers(_) => "8 SizeDiffers",
-        TextError::NotPermutation(_) => "9 NotPermutation",
-        TextError::ValueRange(_) => "10 ValueRange",
-        TextError::InputTooLong => "24 InputTooLong",
-        TextError::OutOfMemory => "50 OutOfMemory",
-        TextError::Device => "51 Device",
-    }
-}
-
-/// The place that a text's fault carries.
-fn place(fault: TextError) -> Option<u64>
-    ensures { result ≡ place_of fault }
-{
-    match fault {
-        TextError::NotANumber(place)
-        | TextError::SizeZero(place)
-        | TextError::SizeTooLarge(place)
-        | TextError::EntryRange(place)
-        | TextError::SizeDiffers(place)
-        | TextError::NotPermutation(place)
-        | TextError::ValueRange(place) => Some(place as u64),
-        _ => None,
-    }
-}
-
-/// The number and the name of a certificate's fault.
-fn certificate_name(fault: CertError) -> &'static str
-    ensures { result.now ≡ certificate_name_of fault }
-{
-    match fault {
-        CertError::SizeDiffers(_) => "8 SizeDiffers",
-        CertError::BadHeader => "11 BadHeader",
-        CertError::BadVersion => "12 BadVersion",
-        CertError::BadLine(_) => "13 BadLine",
-        CertError::Truncated(_) => "14 Truncated",
-        CertError::TrailingText(_) => "15 TrailingText",
-        CertError::CostDiffers(_) => "16 CostDiffers",
-        CertError::PermBad(_) => "17 PermBad",
-        CertError::SplitTooDeep(_) => "18 SplitTooDeep",
-        CertError::DualCount(_) => "19 DualCount",
-        CertError::DualRange(_) => "20 DualRange",
-        CertError::NotFeasible(_) => "21 NotFeasible",
-        CertError::BoundTooLow(_) => "22 BoundTooLow",
-        CertError::SplitWidth(_) => "23 SplitWidth",
-        CertError::OutOfMemory => "50 OutOfMemory",
-        CertError::Device => "51 Device",
-    }
-}
-
-/// The line that a certificate's fault carries.
-fn line(fault: CertError) -> Option<u64>
-    ensures { result ≡ line_of fault }
-{
-    match fault {
-        CertError::SizeDiffers(line)
-        | CertError::BadLine(line)
-        | CertError::Truncated(line)
-        | CertError::TrailingText(line)
-        | CertError::CostDiffers(line)
-        | CertError::PermBad(line)
-        | CertError::SplitTooDeep(line)
-        | CertError::DualCount(line)
-        | CertError::DualRange(line)
-        | CertError::NotFeasible(line)
-        | CertError::BoundTooLow(line)
-        | CertError::SplitWidth(line) => Some(line),
-        CertError::BadHeader | CertError::BadVersion | CertError::OutOfMemory | CertError::Device =>
-            None,
+        CertError::SizeDiffers(line) => Refusal::at(8, "SizeDiffers", line),
+        CertError::BadHeader => Refusal::new(11, "BadHeader"),
+        CertError::BadVersion => Refusal::new(12, "BadVersion"),
+        CertError::BadLine(line) => Refusal::at(13, "BadLine", line),
+        CertError::Truncated(line) => Refusal::at(14, "Truncated", line),
+        CertError::TrailingText(line) => Refusal::at(15, "TrailingText", line),
+        CertError::CostDiffers(line) => Refusal::at(16, "CostDiffers", line),
+        CertError::PermBad(line) => Refusal::at(17, "PermBad", line),
+        CertError::SplitTooDeep(line) => Refusal::at(18, "SplitTooDeep", line),
+        CertError::DualCount(line) => Refusal::at(19, "DualCount", line),
+        CertError::DualRange(line) => Refusal::at(20, "DualRange", line),
+        CertError::NotFeasible(line) => Refusal::at(21, "NotFeasible", line),
+        CertError::BoundTooLow(line) => Refusal::at(22, "BoundTooLow", line),
+        CertError::SplitWidth(line) => Refusal::at(23, "SplitWidth", line),
+        CertError::OutOfMemory => Refusal::out_of_memory(),
+        CertError::Device => Refusal::device(),
     }
 }

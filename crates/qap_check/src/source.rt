@@ -1,37 +1,66 @@
-//! The bytes of the two texts of a request.
+//! The two texts of a request.
 
-ghost use Rattle.std.specs.Prelude.{IfSome, MatchResult, List, ℕ, ◌≡◌};
-ghost use Rattle.qap_check.specs.Source.{second_bytes, IsSecondFault, bytes_or};
+ghost use Rattle.std.specs.Prelude.{◌≡◌, ◌≤◌, drop, vec_len};
 
-use qap_io::Counted;
-use qap_text::{TextError, read_all};
-use std::alloc::Global;
-use std::io::Read;
+use qap_cost::Instance;
+use std::marker::Model;
 
 /// The most bytes that are read of an input.
 pub const MAX_INPUT: usize = 1_073_741_824;
 
-/// All bytes of the second reader, where there is one.
-pub fn read_second<S: Read>(
-    alloc: Global,
-    second: &mut Option<Counted<S>>,
-) -> Result<Option<Vec<u8>>, TextError>
-    ensures { MatchResult result
-        (λ found. (rest : List ℕ) → IfSome (second_bytes S.remaining second.old rest) (λ bytes. bytes_or found rest ≡ bytes))
-        (IsSecondFault S.remaining MAX_INPUT second.old second.new) }
-{
-    match second {
-        Some(reader) => Ok(Some(read_all(alloc, reader, MAX_INPUT)?)),
-        None => Ok(None),
-    }
+/// What becomes of the separators between an instance and the text that follows it on one input.
+#[derive(Clone, Copy, Debug, PartialEq, Eq)]
+pub enum Separators {
+    /// They belong to the text.
+    Kept,
+    /// They are passed over.
+    PassedOver,
 }
 
-/// The bytes of the second reader, where there is one; else the rest of the first one's.
-pub fn bytes_or_rest<'a>(found: &'a Option<Vec<u8>>, rest: &'a [u8]) -> &'a [u8]
-    ensures { result.now ≡ bytes_or found.now rest.now }
-{
-    match found {
-        Some(bytes) => bytes.as_slice(),
-        None => rest,
+/// An instance, and the text of a solution or a certificate that goes with it.
+#[derive(Drop)]
+pub struct Texts {
+    pub instance: Instance,
+    pub other: OtherText,
+}
+
+/// Bytes from a place on.
+#[derive(Drop)]
+pub struct OtherText {
+    bytes: Vec<u8>,
+    start: usize,
+}
+
+impl Model for OtherText {
+    ghost use Rattle.std.specs.Prelude.{◌≤◌, List, ℕ, drop, vec_len};
+
+    ghost Value = { List ℕ };
+
+    ghost view = { λ t. drop t.start t.bytes.items };
+
+    ghost invariant = { λ t. t.start ≤ vec_len t.bytes };
+}
+
+impl OtherText {
+    /// The text, of which no byte is copied.
+    pub fn as_slice(&self) -> &[u8]
+        ensures { result.now ≡ self.now }
+    {
+        &self.bytes[self.start..]
+    }
+
+    /// What follows a place in a text.
+    pub fn behind(bytes: Vec<u8>, start: usize) -> OtherText
+        requires { start ≤ vec_len bytes }
+        ensures { result ≡ drop start bytes.items }
+    {
+        OtherText { bytes, start }
+    }
+
+    /// A text of its own.
+    pub fn whole(bytes: Vec<u8>) -> OtherText
+        ensures { result ≡ bytes.items }
+    {
+        OtherText { bytes, start: 0 }
     }
 }

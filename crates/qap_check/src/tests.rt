@@ -1,13 +1,14 @@
 //! Runs over memory: what is written, what is told, and the exit status.
 
-use crate::command_line::{Question, parse};
+use crate::command_line::{CommandError, Files, Question, Request, USAGE, parse};
 use crate::optimal::optimal_stream;
 use crate::refusal::{RunError, fault_line, status};
 use crate::value::value_stream;
 use qap_cert::CertError;
-use qap_io::{Counted, FailAt, OneByte};
+use qap_io::{Counted, FailAt, OneByte, Status};
 use qap_text::TextError;
 use std::alloc::{AllocError, Global};
+use std::io::{Read, Write};
 use std::test::Fail;
 
 /// What a run over memory writes to its standard output and its standard error, and its exit status.
@@ -18,24 +19,36 @@ struct Outcome {
     status: u8,
 }
 
+/// What a stream answers to a question.
+fn asked<R: Read, S: Read, W: Write>(
+    alloc: Global,
+    question: Question,
+    reader: &mut Counted<R>,
+    second: &mut Option<Counted<S>>,
+    writer: &mut Counted<W>,
+) -> Result<Status, RunError> {
+    match question {
+        Question::Value => value_stream(alloc, reader, second, writer).map(|found| found.status()),
+        Question::Optimal => {
+            optimal_stream(alloc, reader, second, writer).map(|()| Status::Done)
+        }
+    }
+}
+
 /// A run on one text, or on two of which each has its reader.
 fn run(alloc: Global, question: Question, first: &[u8], second: Option<&[u8]>) -> Outcome {
     let mut reader = Counted::new(first);
     let mut second = second.map(|text| Counted::new(text));
     let mut output = Counted::new(Vec::new(alloc));
     let mut errors = Counted::new(Vec::new(alloc));
-    let answered = match question {
-        Question::Value => value_stream(alloc, &mut reader, &mut second, &mut output).map(
-            |found| found.status(),
-        ),
-        Question::Optimal => {
-            optimal_stream(alloc, &mut reader, &mut second, &mut output).map(|()| 0)
-        }
-    };
-    let status = answered.unwrap_or_else(|error| {
-        let _ = fault_line(&error, &mut errors);
-        status(&error)
-    });
+    let answered = asked(alloc, question, &mut reader, &mut second, &mut output);
+    let status = answered.map_or_else(
+        |error| {
+            let _ = fault_line(&error, &mut errors);
+            status(&error)
+        },
+        |status| status.code(),
+    );
     Outcome {
         output: output.into_inner(),
         errors: errors.into_inner(),
@@ -121,43 +134,135 @@ fn refusals(rt: HostRuntime) {
     }
 }
 
-#[test]
-fn failing_devices(rt: HostRuntime) -> Result<(), AllocError> {
-    let alloc = rt.alloc();
-    let text = b"1 5 7\n1 35 1\n".as_slice();
-    let mut reader = Counted::new(FailAt::new(OneByte::new(text), 5));
-    let mut output = Counted::new(Vec::new(alloc));
-    let mut none: Option<Counted<&[u8]>> = None;
-    let refused = value_stream(alloc, &mut reader, &mut none, &mut output);
-    assert_eq!(rt; refused.map_err(|error| status(&error)), Err(1));
-    assert_eq!(rt; (reader.failed(), output.failed()), (1, 0));
-    assert_eq!(rt; output.into_inner().as_slice(), b"".as_slice());
+/// A question, its two texts, and what it is answered.
+#[derive(Clone, Copy)]
+struct Worked {
+    question: Question,
+    first: &'static [u8],
+    second: &'static [u8],
+    answer: &'static [u8],
+}
 
-    let mut reader = Counted::new(text);
-    let mut output = Counted::new(FailAt::new(OneByte::new(Vec::new(alloc)), 8));
-    let Err(error) = value_stream(alloc, &mut reader, &mut none, &mut output) else {
-        panic!(rt; "a failed write is passed over");
-    };
-    let mut errors = Counted::new(Vec::new(alloc));
-    let _ = fault_line(&error, &mut errors);
-    assert_eq!(rt;
-        errors.into_inner().as_slice(),
-        b"refused 51 Device\n".as_slice()
-    );
-    assert_eq!(rt;
-        output.into_inner().into_inner().into_inner().as_slice(),
-        b"cost 35".as_slice()
-    );
-    Ok(())
+const WORKED: [Worked; 2] = [
+    Worked {
+        question: Question::Value,
+        first: b"1 5 7 ",
+        second: b"1 35 1",
+        answer: b"cost 35\ninverse 35\nstated 35\nmatch direct\n",
+    },
+    Worked {
+        question: Question::Optimal,
+        first: b"1 -3 7 ",
+        second: b"qapcert 1\nn 1\ncost -21\nperm 1\nb -20 -1\nend\n",
+        answer: b"optimal -21\n",
+    },
+];
+
+// Each read of the first input fails in turn: the second one stays unread.
+#[test]
+fn first_input_fails(rt: HostRuntime) {
+    let alloc = rt.alloc();
+    for worked in WORKED {
+        for call in 1..=worked.first.len() + 1 {
+            let mut reader = Counted::new(OneByte::new(FailAt::new(worked.first, call as u64)));
+            let mut second = Some(Counted::new(worked.second));
+            let mut output = Counted::new(Vec::new(alloc));
+            let answer = asked(alloc, worked.question, &mut reader, &mut second, &mut output);
+            assert_eq!(rt; answer, Err(RunError::Device), "at call {call}");
+            assert_eq!(rt; (reader.failed(), output.failed()), (1, 0));
+            assert_eq!(rt; second.map(|second| second.into_inner()), Some(worked.second));
+            assert_eq!(rt; output.into_inner().as_slice(), b"".as_slice());
+        }
+    }
+}
+
+// Each read of the second input fails in turn.
+#[test]
+fn second_input_fails(rt: HostRuntime) {
+    let alloc = rt.alloc();
+    for worked in WORKED {
+        for call in 1..=worked.second.len() + 1 {
+            let mut reader = Counted::new(worked.first);
+            let failing = OneByte::new(FailAt::new(worked.second, call as u64));
+            let mut second = Some(Counted::new(failing));
+            let mut output = Counted::new(Vec::new(alloc));
+            let answer = asked(alloc, worked.question, &mut reader, &mut second, &mut output);
+            assert_eq!(rt; answer, Err(RunError::Device), "at call {call}");
+            assert_eq!(rt; second.map(|second| second.failed()), Some(1));
+            assert_eq!(rt; (reader.failed(), output.failed()), (0, 0));
+            assert_eq!(rt; output.into_inner().as_slice(), b"".as_slice());
+        }
+    }
+}
+
+// Each write of the answer, a byte at a time, and the flush fail in turn.
+#[test]
+fn output_fails(rt: HostRuntime) {
+    let alloc = rt.alloc();
+    for worked in WORKED {
+        for call in 1..=worked.answer.len() + 1 {
+            let mut reader = Counted::new(worked.first);
+            let mut second = Some(Counted::new(worked.second));
+            let failing = OneByte::new(FailAt::new(Vec::new(alloc), call as u64));
+            let mut output = Counted::new(failing);
+            let answer = asked(alloc, worked.question, &mut reader, &mut second, &mut output);
+            assert_eq!(rt; answer, Err(RunError::Device), "at call {call}");
+            assert_eq!(rt; (output.failed(), output.is_flushed()), (1, false));
+            let written = output.into_inner().into_inner().into_inner();
+            assert_eq!(rt; written.as_slice(), &worked.answer[..worked.answer.len().min(call - 1)]);
+        }
+    }
+}
+
+// Each write of a refusal's line, a byte at a time, and the flush fail in turn.
+#[test]
+fn refusal_fails(rt: HostRuntime) {
+    let line = b"refused 22 BoundTooLow at 5\n".as_slice();
+    let error = RunError::Certificate(CertError::BoundTooLow(5));
+    for call in 1..=line.len() + 2 {
+        let failing = OneByte::new(FailAt::new(Vec::new(rt.alloc()), call as u64));
+        let mut errors = Counted::new(failing);
+        let failed = fault_line(&error, &mut errors).is_err();
+        assert_eq!(rt; failed, call <= line.len() + 1);
+        assert_eq!(rt; (errors.failed() == 1, errors.is_flushed()), (failed, !failed));
+        let written = errors.into_inner().into_inner().into_inner();
+        assert_eq!(rt; written.as_slice(), &line[..line.len().min(call - 1)]);
+    }
 }
 
 #[test]
 fn statuses(rt: HostRuntime) {
-    assert_eq!(rt; status(&RunError::Text(TextError::OutOfMemory)), 3);
-    assert_eq!(rt; status(&RunError::Text(TextError::InputTooLong)), 1);
-    assert_eq!(rt; status(&RunError::Text(TextError::Device)), 1);
-    assert_eq!(rt; status(&RunError::Certificate(CertError::OutOfMemory)), 3);
-    assert_eq!(rt; status(&RunError::Certificate(CertError::BadHeader)), 1);
+    let cases = [
+        (RunError::OutOfMemory, 3),
+        (RunError::Device, 1),
+        (RunError::Text(TextError::InputTooLong), 1),
+        (RunError::Certificate(CertError::BadHeader), 1),
+        (RunError::from(TextError::OutOfMemory), 3),
+        (RunError::from(CertError::OutOfMemory), 3),
+        (RunError::from(TextError::Device), 1),
+    ];
+    for (error, want) in cases {
+        assert_eq!(rt; status(&error), want, "{error}");
+    }
+}
+
+#[test]
+fn messages(rt: HostRuntime) -> Result<(), Fail> {
+    let cases: [(RunError, &str); 4] = [
+        (RunError::Text(TextError::Empty), "the text has no word"),
+        (
+            RunError::Certificate(CertError::Truncated(7)),
+            "the text ends in line 7",
+        ),
+        (RunError::OutOfMemory, "out of memory"),
+        (RunError::Device, "a reader or the writer failed"),
+    ];
+    for (error, want) in cases {
+        let message = format!(in rt.alloc(); "{error}")?;
+        assert_eq!(rt; message.as_str(), want);
+    }
+    assert_eq!(rt; USAGE, "usage: qapcheck value|optimal [INSTANCE OTHER]");
+    Ok(())
 }
 
 /// Two facilities: the permutations cost 11 and 17.
@@ -336,26 +441,52 @@ fn refused_certificates(rt: HostRuntime) {
     }
 }
 
-/// What the words behind the program's name ask for.
-fn asked(alloc: Global, words: &[&str]) -> Result<Option<(Question, bool)>, AllocError> {
+/// The words of a command line, behind the program's name.
+fn command(alloc: Global, words: &[&str]) -> Result<Vec<String>, AllocError> {
     let mut line = Vec::new(alloc);
     line.push(String::from_str(alloc, "qapcheck")?)?;
     for word in words {
         line.push(String::from_str(alloc, word)?)?;
     }
-    let request = parse(alloc, &line).ok();
-    Ok(request.map(|request| (request.question, request.files.is_some())))
+    Ok(line)
 }
 
 #[test]
 fn command_lines(rt: HostRuntime) -> Result<(), Fail> {
-    let cases: [(&[&str], Option<(Question, bool)>); 9] = [
-        (&["value"], Some((Question::Value, false))),
-        (&["optimal"], Some((Question::Optimal, false))),
-        (&["value", "a.dat", "a.sln"], Some((Question::Value, true))),
+    let cases: [(&[&str], Option<Request<'_>>); 9] = [
+        (
+            &["value"],
+            Some(Request {
+                question: Question::Value,
+                files: None,
+            }),
+        ),
+        (
+            &["optimal"],
+            Some(Request {
+                question: Question::Optimal,
+                files: None,
+            }),
+        ),
+        (
+            &["value", "a.dat", "a.sln"],
+            Some(Request {
+                question: Question::Value,
+                files: Some(Files {
+                    instance: "a.dat",
+                    other: "a.sln",
+                }),
+            }),
+        ),
         (
             &["optimal", "a.dat", "a.cert"],
-            Some((Question::Optimal, true)),
+            Some(Request {
+                question: Question::Optimal,
+                files: Some(Files {
+                    instance: "a.dat",
+                    other: "a.cert",
+                }),
+            }),
         ),
         (&[], None),
         (&["best"], None),
@@ -364,7 +495,9 @@ fn command_lines(rt: HostRuntime) -> Result<(), Fail> {
         (&["--help"], None),
     ];
     for (words, want) in cases {
-        assert_eq!(rt; asked(rt.alloc(), words)?, want, "{words:?}");
+        let line = command(rt.alloc(), words)?;
+        let wanted = want.ok_or(CommandError::Usage);
+        assert_eq!(rt; parse(rt.alloc(), &line), wanted, "{words:?}");
     }
     Ok(())
 }

@@ -3,6 +3,7 @@
 ghost use Rattle.std.specs.Prelude.{◌≡◌, IfOk, length, string_bytes};
 
 use qap_cost::{Instance, Perm, cost};
+use qap_io::Status;
 use std::alloc::{AllocError, Global};
 
 /// Which cost the stated value is.
@@ -18,18 +19,18 @@ pub enum Match {
 
 /// The cost of a permutation, that of its inverse, the stated value, and which of the two it is.
 #[derive(Clone, Copy, Debug, PartialEq, Eq)]
-pub struct Verdict {
+pub struct Valuation {
     pub cost: i128,
     pub inverse: i128,
     pub stated: i128,
     pub found: Match,
 }
 
-impl Verdict {
-    ghost use Rattle.qap_check.specs.Verdict.{Judges, lines_of};
+impl Valuation {
+    ghost use Rattle.qap_check.specs.Valuation.{Judges, lines_of};
 
     /// Judges a stated value against both costs of a permutation of the instance's size.
-    pub fn new(instance: &Instance, permutation: &Perm, stated: i128) -> Result<Verdict, AllocError>
+    pub fn new(instance: &Instance, permutation: &Perm, stated: i128) -> Result<Valuation, AllocError>
         requires { length permutation.now ≡ instance.now.size }
         ensures { IfOk result (Judges instance.now permutation.now stated) }
     {
@@ -43,7 +44,7 @@ impl Verdict {
         } else {
             Match::Neither
         };
-        Ok(Verdict {
+        Ok(Valuation {
             cost: cost_forward,
             inverse: cost_backward,
             stated,
@@ -51,11 +52,11 @@ impl Verdict {
         })
     }
 
-    /// The four lines of a verdict.
+    /// The four lines of a valuation.
     pub fn lines(&self, alloc: Global) -> Result<String, AllocError>
         ensures { IfOk result (λ text. string_bytes text ≡ lines_of self.now) }
     {
-        let Verdict {
+        let Valuation {
             cost,
             inverse,
             stated,
@@ -67,15 +68,15 @@ impl Verdict {
 }
 
 impl Match {
-    ghost use Rattle.qap_check.specs.Verdict.{match_name, match_status};
+    ghost use Rattle.qap_check.specs.Valuation.{match_name, match_status};
 
-    /// The exit status: 1 where the stated value is neither cost, else 0.
-    pub fn status(self) -> u8
+    /// How a run ends that answers so: refused, where the stated value is neither cost.
+    pub fn status(self) -> Status
         ensures { result ≡ match_status self }
     {
         match self {
-            Match::Direct | Match::Inverse => 0,
-            Match::Neither => 1,
+            Match::Direct | Match::Inverse => Status::Done,
+            Match::Neither => Status::Refused,
         }
     }
 

@@ -1,19 +1,18 @@
 //! A claimed cost checked, from bytes to bytes.
 
-ghost use Rattle.std.specs.Prelude.{◌≡◌, ◌⊎◌, IfOk, IfErr, IfSome, OnErr, MatchResult};
-ghost use Rattle.std.specs.Io.KnownBytes.{Appends};
-ghost use Rattle.qap_io.specs.Counting.{FailedBetween};
-ghost use Rattle.qap_text.specs.SolutionText.{IsSolutionFault};
-ghost use Rattle.qap_check.specs.Refusal.{RefusesSolution, IsSolutionRefusal, IsWriteFault};
-ghost use Rattle.qap_check.specs.Source.{second_bytes, BehindInstance};
-ghost use Rattle.qap_check.specs.Verdict.{AnswersSolution, lines_of};
+ghost use Rattle.std.specs.Prelude.{◌≡◌, ◌⊎◌, IfOk, IfErr, MatchResult};
+ghost use Rattle.qap_io.specs.Writing.{Sends, BreaksOff};
+ghost use Rattle.qap_check.specs.Refusal.{HasNoTexts, IsNoSolution};
+ghost use Rattle.qap_check.specs.Source.{Source, ComeTo};
+ghost use Rattle.qap_check.specs.Valuation.{AnswersSolution, lines_of};
 
+use crate::reading::read_texts;
 use crate::refusal::RunError;
-use crate::source::{MAX_INPUT, bytes_or_rest, read_second};
-use crate::verdict::{Match, Verdict};
+use crate::source::{MAX_INPUT, Separators};
+use crate::valuation::{Match, Valuation};
 use qap_cost::Instance;
-use qap_io::{Counted, finish, put};
-use qap_text::{read_all, read_instance, read_solution};
+use qap_io::{Counted, send};
+use qap_text::read_solution;
 use std::alloc::Global;
 use std::io::{Read, Write};
 
@@ -22,25 +21,32 @@ use std::io::{Read, Write};
 ///
 /// Without a second reader both texts come from the first one, one after the other; else the solution's is all that the
 /// second reader has. The instance is judged before the second reader is read. Where the input is refused, nothing is
-/// written.
+/// written; where the writer fails, a beginning of the right lines has gone out.
 pub fn value_stream<R: Read, S: Read, W: Write>(
     alloc: Global,
     reader: &mut Counted<R>,
     second: &mut Option<Counted<S>>,
     writer: &mut Counted<W>,
 ) -> Result<Match, RunError>
-    ensures answered { IfOk result (λ found. IfSome (R.remaining reader.old.inner) (λ text.
-        (v : Verdict) × BehindInstance text (second_bytes S.remaining second.old) (λ I other. AnswersSolution I other v) × (v.found ≡ found)
-        × Appends (W.contents writer.old.inner) (W.contents writer.new.inner) (lines_of v))) }
-    ensures refused { IfErr result (λ e. RefusesSolution R.remaining S.remaining MAX_INPUT reader.old reader.new second.old second.new e
-        ⊎ IsWriteFault writer.old writer.new e) }
-    ensures untouched { OnErr result ((writer.new ≡ writer.old) ⊎ FailedBetween writer.old writer.new) }
+    ensures { let s : Source R S = record {
+        first_bytes = R.remaining;
+        second_bytes = S.remaining;
+        limit = MAX_INPUT;
+        first = reader.old;
+        first_after = reader.new;
+        second = second.old;
+        second_after = second.new
+        } in MatchResult result
+        (λ found. (v : Valuation) × (v.found ≡ found) × ComeTo s Separators.Kept AnswersSolution v
+        × Sends W.contents writer.old writer.new (lines_of v))
+        (λ e. ((HasNoTexts s e ⊎ ComeTo s Separators.Kept IsNoSolution e) × (writer.new ≡ writer.old))
+        ⊎ ((e ≡ RunError.Device) × (v : Valuation) × ComeTo s Separators.Kept AnswersSolution v
+        × BreaksOff W.contents writer.old writer.new (lines_of v))) }
 {
-    let verdict = judged(alloc, reader, second)?;
-    let lines = verdict.lines(alloc)?;
-    put(writer, lines.as_bytes())?;
-    finish(writer)?;
-    Ok(verdict.found)
+    let valuation = judged(alloc, reader, second)?;
+    let lines = valuation.lines(alloc)?;
+    send(writer, lines.as_bytes())?;
+    Ok(valuation.found)
 }
 
 /// What an instance and a solution come to.
@@ -48,22 +54,27 @@ fn judged<R: Read, S: Read>(
     alloc: Global,
     reader: &mut Counted<R>,
     second: &mut Option<Counted<S>>,
-) -> Result<Verdict, RunError>
-    ensures { MatchResult result
-        (λ v. IfSome (R.remaining reader.old.inner) (λ text. BehindInstance text (second_bytes S.remaining second.old) (λ I other. AnswersSolution I other v)))
-        (RefusesSolution R.remaining S.remaining MAX_INPUT reader.old reader.new second.old second.new) }
+) -> Result<Valuation, RunError>
+    ensures { let s : Source R S = record {
+        first_bytes = R.remaining;
+        second_bytes = S.remaining;
+        limit = MAX_INPUT;
+        first = reader.old;
+        first_after = reader.new;
+        second = second.old;
+        second_after = second.new
+        } in MatchResult result (ComeTo s Separators.Kept AnswersSolution) (λ e. HasNoTexts s e ⊎ ComeTo s Separators.Kept IsNoSolution e) }
 {
-    let text = read_all(alloc, reader, MAX_INPUT)?;
-    let (instance, rest) = read_instance(alloc, &text)?;
-    let named = read_second(alloc, second)?;
-    let solution = bytes_or_rest(&named, rest);
-    answer(alloc, &instance, solution)
+    let texts = read_texts(alloc, reader, second, Separators::Kept)?;
+    answer(alloc, &texts.instance, texts.other.as_slice())
 }
 
 /// What an instance and a solution's text come to.
-fn answer(alloc: Global, instance: &Instance, text: &[u8]) -> Result<Verdict, RunError>
-    ensures { MatchResult result (AnswersSolution instance.now text.now) (IsSolutionRefusal instance.now text.now) }
+fn answer(alloc: Global, instance: &Instance, text: &[u8]) -> Result<Valuation, RunError>
+    ensures { MatchResult result
+        (AnswersSolution instance.now text.now)
+        (λ e. (e ≡ RunError.OutOfMemory) ⊎ IsNoSolution instance.now text.now e) }
 {
     let (stated, permutation) = read_solution(alloc, instance.size(), text)?;
-    Ok(Verdict::new(instance, &permutation, stated)?)
+    Ok(Valuation::new(instance, &permutation, stated)?)
 }

@@ -3,7 +3,7 @@ use Rattle.std.specs.Int.{w128}
 use Rattle.std.specs.Prelude.{FitsSigned}
 use Rattle.std.proofs.lemmas.Int.{to_z-of_z}
 use Rattle.std.proofs.lemmas.Result.{IfOk-weaker}
-use Rattle.qap_check.proofs.verdict.Verdict.lines.Goals as goal
+use Rattle.qap_check.proofs.valuation.Valuation.lines.Goals as goal
 
 pub returns : goal.returns
 returns c =
