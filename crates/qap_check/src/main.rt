@@ -92,6 +92,8 @@ fn answer<R: Read, S: Read>(
         Question::Value => {
             value_stream(rt.alloc(), first, second, &mut output).map(|found| found.status())
         }
-        Question::Optimal => { optimal_stream(rt.alloc(), first, second, &mut output).map(|()| Status::Done) }
+        Question::Optimal => {
+            optimal_stream(rt.alloc(), first, second, &mut output).map(|()| Status::Done)
+        }
     }
 }

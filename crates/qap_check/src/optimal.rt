@@ -27,14 +27,14 @@ pub fn optimal_stream<R: Read, S: Read, W: Write>(
     writer: &mut Counted<W>,
 ) -> Result<(), RunError>
     ensures { let s : Source R S = record {
-        first_bytes = R.remaining;
-        second_bytes = S.remaining;
-        limit = MAX_INPUT;
-        first = reader.old;
-        first_after = reader.new;
-        second = second.old;
-        second_after = second.new
-        } in MatchResult result
+      first_bytes = R.remaining;
+      second_bytes = S.remaining;
+      limit = MAX_INPUT;
+      first = reader.old;
+      first_after = reader.new;
+      second = second.old;
+      second_after = second.new;
+    } in MatchResult result
         (λ _. (c : ℤ) × ComeTo s Separators.PassedOver Proves c × Sends W.contents writer.old writer.new (optimal_line c))
         (λ e. ((HasNoTexts s e ⊎ ComeTo s Separators.PassedOver IsNoProof e) × (writer.new ≡ writer.old))
         ⊎ ((e ≡ RunError.Device) × (c : ℤ) × ComeTo s Separators.PassedOver Proves c
@@ -54,14 +54,14 @@ fn least_cost<R: Read, S: Read>(
 ) -> Result<i128, RunError>
     ensures bounded { IfOk result (λ c. unsigned_abs c ≤ 10 ^ 24) }
     ensures verdict { let s : Source R S = record {
-        first_bytes = R.remaining;
-        second_bytes = S.remaining;
-        limit = MAX_INPUT;
-        first = reader.old;
-        first_after = reader.new;
-        second = second.old;
-        second_after = second.new
-        } in MatchResult result (ComeTo s Separators.PassedOver Proves) (λ e. HasNoTexts s e ⊎ ComeTo s Separators.PassedOver IsNoProof e) }
+      first_bytes = R.remaining;
+      second_bytes = S.remaining;
+      limit = MAX_INPUT;
+      first = reader.old;
+      first_after = reader.new;
+      second = second.old;
+      second_after = second.new;
+    } in MatchResult result (ComeTo s Separators.PassedOver Proves) (λ e. HasNoTexts s e ⊎ ComeTo s Separators.PassedOver IsNoProof e) }
 {
     let texts = read_texts(alloc, reader, second, Separators::PassedOver)?;
     Ok(accept(alloc, &texts.instance, texts.other.as_slice())?)

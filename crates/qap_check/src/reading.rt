@@ -23,14 +23,14 @@ pub fn read_texts<R: Read, S: Read>(
     separators: Separators,
 ) -> Result<Texts, RunError>
     ensures { let s : Source R S = record {
-        first_bytes = R.remaining;
-        second_bytes = S.remaining;
-        limit = MAX_INPUT;
-        first = reader.old;
-        first_after = reader.new;
-        second = second.old;
-        second_after = second.new
-        } in MatchResult result (λ t. HasTexts s separators t.instance t.other) (HasNoTexts s) }
+      first_bytes = R.remaining;
+      second_bytes = S.remaining;
+      limit = MAX_INPUT;
+      first = reader.old;
+      first_after = reader.new;
+      second = second.old;
+      second_after = second.new;
+    } in MatchResult result (λ t. HasTexts s separators t.instance t.other) (HasNoTexts s) }
 {
     let text = read_all(alloc, reader, MAX_INPUT)?;
     let (instance, rest) = read_instance(alloc, &text)?;

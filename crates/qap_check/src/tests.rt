@@ -167,10 +167,19 @@ fn first_input_fails(rt: HostRuntime) {
             let mut reader = Counted::new(OneByte::new(FailAt::new(worked.first, call as u64)));
             let mut second = Some(Counted::new(worked.second));
             let mut output = Counted::new(Vec::new(alloc));
-            let answer = asked(alloc, worked.question, &mut reader, &mut second, &mut output);
+            let answer = asked(
+                alloc,
+                worked.question,
+                &mut reader,
+                &mut second,
+                &mut output,
+            );
             assert_eq!(rt; answer, Err(RunError::Device), "at call {call}");
             assert_eq!(rt; (reader.failed(), output.failed()), (1, 0));
-            assert_eq!(rt; second.map(|second| second.into_inner()), Some(worked.second));
+            assert_eq!(rt;
+                second.map(|second| second.into_inner()),
+                Some(worked.second)
+            );
             assert_eq!(rt; output.into_inner().as_slice(), b"".as_slice());
         }
     }
@@ -186,7 +195,13 @@ fn second_input_fails(rt: HostRuntime) {
             let failing = OneByte::new(FailAt::new(worked.second, call as u64));
             let mut second = Some(Counted::new(failing));
             let mut output = Counted::new(Vec::new(alloc));
-            let answer = asked(alloc, worked.question, &mut reader, &mut second, &mut output);
+            let answer = asked(
+                alloc,
+                worked.question,
+                &mut reader,
+                &mut second,
+                &mut output,
+            );
             assert_eq!(rt; answer, Err(RunError::Device), "at call {call}");
             assert_eq!(rt; second.map(|second| second.failed()), Some(1));
             assert_eq!(rt; (reader.failed(), output.failed()), (0, 0));
@@ -205,11 +220,20 @@ fn output_fails(rt: HostRuntime) {
             let mut second = Some(Counted::new(worked.second));
             let failing = OneByte::new(FailAt::new(Vec::new(alloc), call as u64));
             let mut output = Counted::new(failing);
-            let answer = asked(alloc, worked.question, &mut reader, &mut second, &mut output);
+            let answer = asked(
+                alloc,
+                worked.question,
+                &mut reader,
+                &mut second,
+                &mut output,
+            );
             assert_eq!(rt; answer, Err(RunError::Device), "at call {call}");
             assert_eq!(rt; (output.failed(), output.is_flushed()), (1, false));
             let written = output.into_inner().into_inner().into_inner();
-            assert_eq!(rt; written.as_slice(), &worked.answer[..worked.answer.len().min(call - 1)]);
+            assert_eq!(rt;
+                written.as_slice(),
+                &worked.answer[..worked.answer.len().min(call - 1)]
+            );
         }
     }
 }
@@ -224,7 +248,10 @@ fn refusal_fails(rt: HostRuntime) {
         let mut errors = Counted::new(failing);
         let failed = fault_line(&error, &mut errors).is_err();
         assert_eq!(rt; failed, call <= line.len() + 1);
-        assert_eq!(rt; (errors.failed() == 1, errors.is_flushed()), (failed, !failed));
+        assert_eq!(rt;
+            (errors.failed() == 1, errors.is_flushed()),
+            (failed, !failed)
+        );
         let written = errors.into_inner().into_inner().into_inner();
         assert_eq!(rt; written.as_slice(), &line[..line.len().min(call - 1)]);
     }

@@ -30,7 +30,11 @@ impl Valuation {
     ghost use Rattle.qap_check.specs.Valuation.{Judges, lines_of};
 
     /// Judges a stated value against both costs of a permutation of the instance's size.
-    pub fn new(instance: &Instance, permutation: &Perm, stated: i128) -> Result<Valuation, AllocError>
+    pub fn new(
+        instance: &Instance,
+        permutation: &Perm,
+        stated: i128,
+    ) -> Result<Valuation, AllocError>
         requires { length permutation.now ≡ instance.now.size }
         ensures { IfOk result (Judges instance.now permutation.now stated) }
     {

@@ -29,14 +29,14 @@ pub fn value_stream<R: Read, S: Read, W: Write>(
     writer: &mut Counted<W>,
 ) -> Result<Match, RunError>
     ensures { let s : Source R S = record {
-        first_bytes = R.remaining;
-        second_bytes = S.remaining;
-        limit = MAX_INPUT;
-        first = reader.old;
-        first_after = reader.new;
-        second = second.old;
-        second_after = second.new
-        } in MatchResult result
+      first_bytes = R.remaining;
+      second_bytes = S.remaining;
+      limit = MAX_INPUT;
+      first = reader.old;
+      first_after = reader.new;
+      second = second.old;
+      second_after = second.new;
+    } in MatchResult result
         (λ found. (v : Valuation) × (v.found ≡ found) × ComeTo s Separators.Kept AnswersSolution v
         × Sends W.contents writer.old writer.new (lines_of v))
         (λ e. ((HasNoTexts s e ⊎ ComeTo s Separators.Kept IsNoSolution e) × (writer.new ≡ writer.old))
@@ -56,14 +56,14 @@ fn judged<R: Read, S: Read>(
     second: &mut Option<Counted<S>>,
 ) -> Result<Valuation, RunError>
     ensures { let s : Source R S = record {
-        first_bytes = R.remaining;
-        second_bytes = S.remaining;
-        limit = MAX_INPUT;
-        first = reader.old;
-        first_after = reader.new;
-        second = second.old;
-        second_after = second.new
-        } in MatchResult result (ComeTo s Separators.Kept AnswersSolution) (λ e. HasNoTexts s e ⊎ ComeTo s Separators.Kept IsNoSolution e) }
+      first_bytes = R.remaining;
+      second_bytes = S.remaining;
+      limit = MAX_INPUT;
+      first = reader.old;
+      first_after = reader.new;
+      second = second.old;
+      second_after = second.new;
+    } in MatchResult result (ComeTo s Separators.Kept AnswersSolution) (λ e. HasNoTexts s e ⊎ ComeTo s Separators.Kept IsNoSolution e) }
 {
     let texts = read_texts(alloc, reader, second, Separators::Kept)?;
     answer(alloc, &texts.instance, texts.other.as_slice())
