@@ -61,3 +61,12 @@ pub struct Entry {
     /// Who took it or read it.
     pub holds: Holds,
 }
+
+impl Entry {
+    /// Its number, as calls of the space take it.
+    pub fn id(&self) -> EntryId
+        ensures { result ≡ self.now.number }
+    {
+        EntryId::new(self.number)
+    }
+}

@@ -1,7 +1,8 @@
 //! Those who hold an entry.
 
 ghost use Rattle.std.specs.Prelude.{◌≡◌, ◌≢◌, ◌<◌, ◌==◌, ◌&&◌, [], true, not, length, MatchOption, OnOk, OnErr};
-ghost use Rattle.std.specs.List.{list_any, list_all, AllWithin, HoldsAt};
+ghost use Rattle.std.specs.List.{list_any, list_all, find, AllWithin, HoldsAt};
+ghost use Rattle.std.specs.Option.{option_copied};
 ghost use Rattle.tuple_space.specs.Holds.{holds_with, holds_without};
 
 use std::alloc::{AllocError, Global};
@@ -85,6 +86,13 @@ impl Holds {
         are_all_by(&self.rows, holder)
     }
 
+    /// The hold of a holder.
+    pub fn hold_of(&self, holder: u64) -> Option<&Hold>
+        ensures { option_copied result ≡ find (λ h. h.by == holder) self.now }
+    {
+        find_by(&self.rows, holder)
+    }
+
     /// The holds, in the order in which the holders came.
     pub fn as_slice(&self) -> &[Hold]
         ensures { result.now ≡ self.now }
@@ -142,6 +150,12 @@ fn are_all_by(rows: &[Hold], holder: u64) -> bool
     ensures { result ≡ list_all (λ h. h.by == holder) rows.now }
 {
     rows.iter().all(|hold| hold.by == holder)
+}
+
+fn find_by(rows: &[Hold], holder: u64) -> Option<&Hold>
+    ensures { option_copied result ≡ find (λ h. h.by == holder) rows.now }
+{
+    rows.iter().find(|hold| hold.by == holder)
 }
 
 fn place_by(rows: &[Hold], holder: u64) -> Option<usize>

@@ -2,7 +2,7 @@
 
 ghost use Rattle.std.specs.Prelude.{◌≡◌, ◌≤◌, ◌+◌, ◌^◌, ◌==◌, true, IfErr, IfSome, IfNone, OnErr, OnOk, find, option_map};
 ghost use Rattle.std.specs.Option.{option_copied};
-ghost use Rattle.tuple_space.specs.Space.{held_by, opening, released, with_entries, without_taken};
+ghost use Rattle.tuple_space.specs.Space.{IsSpace, held_by, opening, released, with_entries, without_taken};
 ghost use Rattle.std.specs.List.{list_any};
 ghost use Rattle.tuple_space.specs.Rows.{changed, without};
 ghost use Rattle.tuple_space.specs.Writes.{IsPutRefusal, put_count, put_each};
@@ -56,7 +56,8 @@ impl Space {
 
     /// The moment, in milliseconds.
     pub fn now(&self) -> u64
-        ensures { Step self.now now (told result) self.now }
+        ensures step { Step self.now now (told result) self.now }
+        ensures valid { IsSpace self.now }
     {
         self.moment
     }
@@ -153,6 +154,13 @@ impl Space {
         ensures { option_copied result ≡ find (λ e. e.number == id) self.now.entries }
     {
         entry_of(&self.entries, id.number())
+    }
+
+    /// The entries, in rising order of number.
+    pub fn entries(&self) -> &[Entry]
+        ensures { result.now ≡ self.now.entries }
+    {
+        &self.entries
     }
 
     /// The tuple of the entry of a number.

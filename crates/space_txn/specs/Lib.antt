@@ -1,0 +1,6 @@
+pub mod Live
+pub mod Machine
+pub mod Marks
+pub mod Refusal
+pub mod Txn
+pub mod World

@@ -1,0 +1,41 @@
+-- The live transactions: the number of each, and when its lease ends.
+use Rattle.std.specs.Prelude.{ℕ, ◌+◌, ◌==◌, ◌&&◌, not, nat_lt, min, max, Bool, List, [], ◌∷◌, filter, map, if◌then◌else◌}
+use Rattle.std.specs.List.{list_any}
+use Rattle.tuple_space.specs.Lease.{longest_lease}
+use Rattle.tuple_space.specs.Space.{SpaceValue, with_entries, released}
+use Rattle.space_txn.specs.declared.live.Live.{Live}
+
+-- the end of a lease that is granted at a moment: for the time asked, and for a day at most
+abbrev pub granted_end : ℕ → ℕ → ℕ
+granted_end moment asked = moment + min asked longest_lease
+
+-- a transaction with this number is live: the moment is smaller than its end
+abbrev pub is_live_in : ℕ → ℕ → List Live → Bool
+is_live_in moment number live = list_any (λ t. (t.number == number) && nat_lt moment t.end) live
+
+-- a transaction's end moved to another one where that is later
+abbrev pub renewed_row : ℕ → ℕ → Live → Live
+renewed_row number end t = if t.number == number then record t { end = max t.end end } else t
+
+abbrev pub renewed_rows : ℕ → ℕ → List Live → List Live
+renewed_rows number end live = map (renewed_row number end) live
+
+-- the rows of other transactions
+abbrev pub others : ℕ → List Live → List Live
+others number live = filter (λ t. not (t.number == number)) live
+
+-- the rows of transactions whose lease has ended at a moment, and of those whose lease hasn't
+abbrev pub ended_at : ℕ → List Live → List Live
+ended_at moment live = filter (λ t. not (nat_lt moment t.end)) live
+
+abbrev pub going_at : ℕ → List Live → List Live
+going_at moment live = filter (λ t. nat_lt moment t.end) live
+
+-- the space without a transaction's marks; an entry whose lease has ended leaves with its last mark
+abbrev pub unmarked : ℕ → SpaceValue → SpaceValue
+unmarked number s = with_entries s (released number s.moment s.entries)
+
+-- the marks of these transactions dropped, one transaction after another
+abbrev pub abort_each : List Live → SpaceValue → SpaceValue
+abort_each [] s = s
+abort_each (t ∷ ts) s = abort_each ts (unmarked t.number s)

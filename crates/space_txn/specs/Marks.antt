@@ -1,0 +1,37 @@
+-- The marks that a transaction has put on entries.
+use Rattle.std.specs.Prelude.{◌≡◌, ℕ, ◌==◌, nat_lt, Bool, List, [], ◌∷◌, find, Contains, Option, if◌then◌else◌}
+use Rattle.std.specs.List.{filter_map}
+use Rattle.std.specs.Option.{option_map}
+use Rattle.tuple_space.specs.Lease.{is_permanent}
+use Rattle.tuple_space.specs.declared.entry.Entry.{Entry}
+use Rattle.tuple_space.specs.declared.hold.Hold.{Hold}
+use Rattle.space_txn.specs.declared.mark.Mark.{Mark}
+
+-- the mark that a hold of an entry is, with the entry's tuple
+abbrev pub mark_from : Entry → Hold → Mark
+mark_from e h = record { entry = e.number; tuple = e.tuple; taken = h.taken; permanent = h.permanent }
+
+abbrev pub IsMarkOf : Mark → Entry → Hold → Type 0
+IsMarkOf m e h = m ≡ mark_from e h
+
+-- a transaction's mark on an entry
+abbrev pub mark_of : ℕ → Entry → Option Mark
+mark_of number e = option_map (mark_from e) (find (λ h. h.by == number) e.holds)
+
+-- the marks of a transaction, in rising order of the entries' numbers: what it took, and what it read and didn't take
+abbrev pub marks_of : ℕ → List Entry → List Mark
+marks_of number entries = filter_map (mark_of number) entries
+
+-- the mark that a transaction puts on an entry now
+abbrev pub new_mark : Entry → Bool → Mark
+new_mark e taken = record { entry = e.number; tuple = e.tuple; taken = taken; permanent = is_permanent e.end }
+
+-- it is such a mark on one of the entries
+abbrev pub IsNewMark : List Entry → Mark → Type 0
+IsNewMark entries m = (e : Entry) × Contains entries e × (m ≡ new_mark e m.taken)
+
+-- marks in rising order of number with one more, in the place of an older mark on the same entry
+abbrev pub with_mark : Mark → List Mark → List Mark
+with_mark m [] = m ∷ []
+with_mark m (x ∷ xs) =
+    if nat_lt x.entry m.entry then x ∷ with_mark m xs else (if x.entry == m.entry then m ∷ xs else m ∷ x ∷ xs)

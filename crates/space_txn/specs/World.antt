@@ -1,0 +1,53 @@
+-- The world: the space, in which each entry tells who took it or read it, and the live transactions.
+use Rattle.std.specs.Prelude.{ℕ, ◌+◌, ◌≤◌, nat_lt, Bool, List, [], ◌∷◌, ◌++◌, if◌then◌else◌}
+use Rattle.tuple_space.specs.Space as space
+use Rattle.tuple_space.specs.Space.{SpaceValue, most, advanced}
+use Rattle.space_txn.specs.Live.{abort_each, ended_at, going_at, granted_end, is_live_in, others, renewed_rows, unmarked}
+use Rattle.space_txn.specs.declared.live.Live.{Live}
+
+-- begun is the number of the transaction that was begun last, commits how many were accepted
+pub record World : Type 0 where
+  pub space : SpaceValue
+  pub live : List Live
+  pub begun : ℕ
+  pub commits : ℕ
+
+abbrev pub world_of : SpaceValue → List Live → ℕ → ℕ → World
+world_of s live begun commits = record { space = s; live = live; begun = begun; commits = commits }
+
+-- what holds of every world
+pub record IsWorld (w : World) : Type 0 where
+  pub few_begun : w.begun ≤ most
+  pub few_commits : w.commits ≤ most
+
+-- nothing has happened yet
+abbrev pub opening : World
+opening = world_of space.opening [] 0 0
+
+-- the world with another space
+abbrev pub with_space : World → SpaceValue → World
+with_space w s = world_of s w.live w.begun w.commits
+
+-- a transaction with this number is live
+abbrev pub is_live_transaction : World → ℕ → Bool
+is_live_transaction w number = is_live_in w.space.moment number w.live
+
+-- a transaction begun under the next number
+abbrev pub begin_at : World → ℕ → World
+begin_at w asked =
+    world_of w.space (w.live ++ record { number = w.begun + 1; end = granted_end w.space.moment asked } ∷ []) (w.begun + 1) w.commits
+
+-- a transaction's lease renewed: its end is the later of its old end and that of a lease granted now
+abbrev pub renew_at : World → ℕ → ℕ → World
+renew_at w number asked = world_of w.space (renewed_rows number (granted_end w.space.moment asked) w.live) w.begun w.commits
+
+-- a transaction ended: its marks are dropped
+abbrev pub abort_at : World → ℕ → World
+abort_at w number = world_of (unmarked number w.space) (others number w.live) w.begun w.commits
+
+-- the moment moved on: the transactions whose lease has ended end as by an abort, and then what is not there is dropped; an
+-- earlier moment changes nothing
+abbrev pub advance_at : World → ℕ → World
+advance_at w moment =
+    if nat_lt moment w.space.moment then w
+    else world_of (advanced moment (abort_each (ended_at moment w.live) w.space)) (going_at moment w.live) w.begun w.commits

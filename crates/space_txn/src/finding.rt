@@ -1,0 +1,69 @@
+//! What a transaction's search finds, and the mark that it puts there.
+
+ghost use Rattle.std.specs.Prelude.{◌≡◌, IfOk, OnErr, OnOk, MatchOption};
+ghost use Rattle.tuple_space.specs.Rows.{changed};
+ghost use Rattle.tuple_space.specs.Space.{IsSpace, held_by, with_entries};
+ghost use Rattle.tuple_space.specs.Writes.{taken_at};
+ghost use Rattle.space_txn.specs.Marks.{IsNewMark, marks_of, new_mark};
+ghost use Rattle.space_txn.specs.Machine.{IsOwnFound, NoOpenWrite, own_place};
+
+use crate::mark::{Mark, put_mark};
+use crate::txn::{Found, open_write};
+use std::alloc::AllocError;
+use tuple_match::Template;
+use tuple_space::{Entry, EntryId, Space, Write, Writes};
+
+/// The mark that a transaction puts on an entry.
+pub(crate) fn mark_for(entry: &Entry, taken: bool) -> Result<Mark, AllocError>
+    ensures { IfOk result (λ mark. mark ≡ new_mark entry.now taken) }
+{
+    let tuple = entry.tuple.copy()?;
+    Ok(Mark {
+        entry: entry.number,
+        tuple,
+        taken,
+        permanent: entry.end.is_permanent(),
+    })
+}
+
+/// Puts a transaction's mark on an entry, in the space and in the transaction's own list, or in neither.
+pub(crate) fn put_mark_on(
+    space: &mut Space,
+    marks: &mut Vec<Mark>,
+    holder: u64,
+    id: EntryId,
+    mark: Mark,
+) -> Result<(), AllocError>
+    requires valid { IsSpace space.old }
+    requires own { marks.old.items ≡ marks_of holder space.old.entries }
+    requires new { IsNewMark space.old.entries mark }
+    requires id { id ≡ mark.entry }
+    ensures space { OnOk result (space.new ≡ with_entries space.old (changed mark.entry (held_by holder mark.taken) space.old.entries)) }
+    ensures marks { OnOk result (marks.new.items ≡ marks_of holder space.new.entries) }
+    ensures space_err { OnErr result (space.new ≡ space.old) }
+    ensures marks_err { OnErr result (marks.new.items ≡ marks.old.items) }
+{
+    marks.reserve(1)?;
+    space.pin(id, holder, mark.taken)?;
+    put_mark(marks, mark);
+    Ok(())
+}
+
+/// Takes again a write that the template asks for.
+pub(crate) fn take_own(writes: &mut Writes, template: &Template) -> Option<Found>
+    ensures { MatchOption result
+        (NoOpenWrite template.now writes.old × (writes.new ≡ writes.old))
+        (λ what. IsOwnFound template.now writes.old what × (writes.new ≡ taken_at (own_place what) writes.old)) }
+{
+    let place = open_write(writes.as_slice(), template)?;
+    writes.take(place);
+    Some(Found::Own(place))
+}
+
+/// Finds a write that the template asks for.
+pub(crate) fn find_own(writes: &[Write], template: &Template) -> Option<Found>
+    ensures { MatchOption result (NoOpenWrite template.now writes.now) (IsOwnFound template.now writes.now) }
+{
+    let place = open_write(writes, template)?;
+    Some(Found::Own(place))
+}

@@ -1,0 +1,20 @@
+//! Transactions on a space of tuples: what a transaction takes or reads it holds until it commits or ends.
+//!
+//! The rules are this project's own, in the manner of JavaSpaces. A transaction has a lease; once that has ended, nothing
+//! that it did counts.
+#![tactic(auto)]
+
+mod error;
+mod finding;
+mod live;
+mod mark;
+mod txn;
+mod world;
+
+pub use error::TxnError;
+pub use mark::Mark;
+pub use txn::{Found, Txn};
+pub use world::TxnSpace;
+
+#[cfg(test)]
+mod tests;

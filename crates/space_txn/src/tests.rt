@@ -1,0 +1,323 @@
+use crate::error::TxnError;
+use crate::txn::{Found, Txn};
+use crate::world::TxnSpace;
+use Act::{Abort, Advance, Begin, Commit, Inp, Out, OutForever, Rdp};
+use std::alloc::Global;
+use std::process::Abort as Ending;
+use std::test::Fail;
+use tuple_match::{Field, Pattern, Template, Tuple};
+use tuple_space::{Lease, SpaceError};
+
+/// A call as a row of a table writes it: the number of a transaction, or 0 for none, and what is answered.
+#[derive(Clone, Copy, Debug)]
+enum Act {
+    /// Puts out `job n`, forever or for so many milliseconds.
+    OutForever(usize, i128),
+    Out(usize, u64, i128),
+    /// Takes or reads `job ?i`, and the number that is got.
+    Inp(usize, Option<i128>),
+    Rdp(usize, Option<i128>),
+    Begin(u64),
+    /// Ends a transaction; a refusal that is told.
+    Commit(usize, Option<TxnError>),
+    Abort(usize, Option<TxnError>),
+    Advance(u64),
+}
+
+fn job(alloc: Global, number: i128) -> Result<Tuple, Fail> {
+    let mut fields = Vec::new(alloc);
+    fields.push(Field::Word(String::from_str(alloc, "job")?))?;
+    fields.push(Field::Int(number))?;
+    Ok(Tuple::new(fields)?)
+}
+
+fn any_job(alloc: Global) -> Result<Template, Fail> {
+    let mut patterns = Vec::new(alloc);
+    patterns.push(Pattern::Is(Field::Word(String::from_str(alloc, "job")?)))?;
+    patterns.push(Pattern::AnyInt)?;
+    Ok(Template::new(patterns)?)
+}
+
+fn number_of(tuple: &Tuple) -> Option<i128> {
+    match tuple.fields() {
+        [_, number] => number.as_int(),
+        _ => None,
+    }
+}
+
+/// A space with the transactions that were begun in it, in order.
+#[derive(Drop)]
+struct Run {
+    space: TxnSpace,
+    begun: Vec<Option<Txn>>,
+    jobs: Template,
+}
+
+impl Run {
+    fn new(alloc: Global) -> Result<Run, Fail> {
+        Ok(Run {
+            space: TxnSpace::new(alloc),
+            begun: Vec::new(alloc),
+            jobs: any_job(alloc)?,
+        })
+    }
+
+    fn put(
+        &mut self,
+        alloc: Global,
+        number: usize,
+        lease: Lease,
+        job_number: i128,
+    ) -> Result<bool, Fail> {
+        let tuple = job(alloc, job_number)?;
+        if number == 0 {
+            return Ok(self.space.out(tuple, lease).is_ok());
+        }
+        match self.begun.get_mut(number - 1) {
+            Some(Some(txn)) => Ok(txn.out_in(tuple, lease).is_ok()),
+            _ => Ok(false),
+        }
+    }
+
+    /// The number of the job that is taken or read.
+    fn get(&mut self, number: usize, take: bool) -> Result<Option<i128>, Fail> {
+        if number == 0 {
+            return get_outside(&mut self.space, &self.jobs, take);
+        }
+        match self.begun.get_mut(number - 1) {
+            Some(Some(txn)) => get_inside(&mut self.space, txn, &self.jobs, take),
+            _ => Ok(None),
+        }
+    }
+
+    /// Ends a transaction, and keeps it where that is refused.
+    fn end(&mut self, number: usize, commit: bool) -> Option<TxnError> {
+        if number == 0 {
+            return Some(TxnError::Expired);
+        }
+        let Some(place) = self.begun.get_mut(number - 1) else {
+            return Some(TxnError::Expired);
+        };
+        let Some(txn) = place.take() else {
+            return Some(TxnError::Expired);
+        };
+        let ended = if commit {
+            self.space.commit(txn)
+        } else {
+            self.space.abort(txn)
+        };
+        match ended {
+            Ok(()) => None,
+            Err((error, txn)) => {
+                *place = Some(txn);
+                Some(error)
+            }
+        }
+    }
+}
+
+fn get_outside(space: &mut TxnSpace, jobs: &Template, take: bool) -> Result<Option<i128>, Fail> {
+    let found = if take {
+        space.inp(jobs)
+    } else {
+        space.rdp(jobs)?
+    };
+    match found {
+        Some((_, tuple)) => Ok(number_of(&tuple)),
+        None => Ok(None),
+    }
+}
+
+fn get_inside(
+    space: &mut TxnSpace,
+    txn: &mut Txn,
+    jobs: &Template,
+    take: bool,
+) -> Result<Option<i128>, Fail> {
+    let found = if take {
+        space.inp_in(txn, jobs)?
+    } else {
+        space.rdp_in(txn, jobs)?
+    };
+    match found {
+        Some(what) => Ok(found_number(txn, &what)),
+        None => Ok(None),
+    }
+}
+
+fn found_number(txn: &Txn, what: &Found) -> Option<i128> {
+    match txn.found(what) {
+        Some(tuple) => number_of(tuple),
+        None => None,
+    }
+}
+
+fn play(rt: &impl Ending, alloc: Global, acts: &[Act]) -> Result<(), Fail> {
+    let mut run = Run::new(alloc)?;
+    for (row, act) in acts.iter().enumerate() {
+        match *act {
+            OutForever(number, n) => {
+                assert!(rt; run.put(alloc, number, Lease::Forever, n)?, "act {row}");
+            }
+            Out(number, ms, n) => {
+                assert!(rt; run.put(alloc, number, Lease::Ms(ms), n)?, "act {row}");
+            }
+            Inp(number, want) => assert_eq!(rt; run.get(number, true)?, want, "act {row}"),
+            Rdp(number, want) => assert_eq!(rt; run.get(number, false)?, want, "act {row}"),
+            Begin(ms) => {
+                let txn = run.space.begin(ms)?;
+                run.begun.push(Some(txn))?;
+            }
+            Commit(number, want) => assert_eq!(rt; run.end(number, true), want, "act {row}"),
+            Abort(number, want) => assert_eq!(rt; run.end(number, false), want, "act {row}"),
+            Advance(moment) => assert_eq!(rt; run.space.advance(moment), Ok(()), "act {row}"),
+        }
+    }
+    Ok(())
+}
+
+static ROWS: [&[Act]; 7] = [
+    &[
+        OutForever(0, 1),
+        Begin(10),
+        Inp(1, Some(1)),
+        Rdp(0, None),
+        Advance(10),
+        Rdp(0, Some(1)),
+        Commit(1, Some(TxnError::Expired)),
+    ],
+    &[
+        OutForever(0, 1),
+        Begin(100),
+        Begin(100),
+        Rdp(1, Some(1)),
+        Rdp(2, Some(1)),
+        Inp(2, None),
+        Abort(1, None),
+        Inp(2, Some(1)),
+        Rdp(0, None),
+        Commit(2, None),
+        Rdp(0, None),
+    ],
+    &[
+        Out(0, 0, 5),
+        Rdp(0, None),
+        Advance(7),
+        Advance(3),
+        Out(0, 5, 6),
+        Advance(11),
+        Rdp(0, Some(6)),
+        Advance(12),
+        Rdp(0, None),
+    ],
+    &[
+        Begin(50),
+        OutForever(1, 9),
+        Rdp(0, None),
+        Rdp(1, Some(9)),
+        Commit(1, None),
+        Inp(0, Some(9)),
+        Inp(0, None),
+    ],
+    &[
+        Out(0, 5, 1),
+        Begin(20),
+        Inp(1, Some(1)),
+        Advance(6),
+        Abort(1, None),
+        Rdp(0, None),
+    ],
+    // A write with a lease of 0 is found by its own transaction until the commit, and is not there afterwards.
+    &[
+        Begin(50),
+        Out(1, 0, 4),
+        Rdp(1, Some(4)),
+        Commit(1, None),
+        Rdp(0, None),
+    ],
+    // A write that its own transaction takes never enters the space; a tuple of the space is found before it.
+    &[
+        OutForever(0, 1),
+        Begin(50),
+        OutForever(1, 2),
+        Inp(1, Some(1)),
+        Inp(1, Some(2)),
+        Inp(1, None),
+        Commit(1, None),
+        Rdp(0, None),
+        Abort(1, Some(TxnError::Expired)),
+    ],
+];
+
+#[test]
+fn plays_each_row(rt: HostRuntime) -> Result<(), Fail> {
+    for acts in ROWS.iter() {
+        play(&rt, rt.alloc(), acts)?;
+    }
+    Ok(())
+}
+
+#[test]
+fn refuses_a_transaction_of_another_space(rt: HostRuntime) -> Result<(), Fail> {
+    let alloc = rt.alloc();
+    let jobs = any_job(alloc)?;
+    let mut one = TxnSpace::new(alloc);
+    let mut other = TxnSpace::new(alloc);
+    assert!(rt; one.out(job(alloc, 1)?, Lease::Forever).is_ok());
+    assert!(rt; other.out(job(alloc, 2)?, Lease::Forever).is_ok());
+    let mut txn = one.begin(100)?;
+    let mut twin = other.begin(100)?;
+    assert!(rt; one.inp_in(&mut txn, &jobs)?.is_some());
+    assert_eq!(rt; txn.number(), 1);
+    assert_eq!(rt; txn.marks().len(), 1);
+    // The marks differ in the tuple alone.
+    assert!(rt; other.inp_in(&mut twin, &jobs)?.is_some());
+    assert_eq!(rt; other.renew_txn(&txn, 5), Err(TxnError::Foreign));
+    match other.commit(txn) {
+        Ok(()) => assert!(rt; false, "accepted"),
+        Err((error, back)) => {
+            assert_eq!(rt; error, TxnError::Foreign);
+            assert!(rt; one.commit(back).is_ok());
+        }
+    }
+    assert_eq!(rt; one.commits(), 1);
+    assert_eq!(rt; other.commits(), 0);
+    assert_eq!(rt; one.count(&jobs), 0);
+    assert_eq!(rt; other.count(&jobs), 1);
+    Ok(())
+}
+
+#[test]
+fn renews_a_transaction(rt: HostRuntime) -> Result<(), Fail> {
+    let mut space = TxnSpace::new(rt.alloc());
+    let txn = space.begin(10)?;
+    assert_eq!(rt; space.advance(5), Ok(()));
+    assert_eq!(rt; space.renew_txn(&txn, 100), Ok(()));
+    assert_eq!(rt; space.advance(104), Ok(()));
+    assert_eq!(rt; space.now(), 104);
+    assert_eq!(rt; space.renew_txn(&txn, 0), Ok(()));
+    assert_eq!(rt; space.advance(105), Ok(()));
+    assert_eq!(rt; space.renew_txn(&txn, 1), Err(TxnError::Expired));
+    assert_eq!(rt; txn.writes().len(), 0);
+    assert_eq!(rt; txn.marks().len(), 0);
+    assert_eq!(rt; space.advance((1 << 62) + 1), Err(SpaceError::Exhausted));
+    Ok(())
+}
+
+#[test]
+fn tells_each_refusal(rt: HostRuntime) -> Result<(), Fail> {
+    let texts = [
+        (TxnError::Expired, "no live transaction has this number"),
+        (
+            TxnError::Foreign,
+            "the transaction belongs to another space",
+        ),
+        (TxnError::Exhausted, "the numbers are used up"),
+        (TxnError::OutOfMemory, "out of memory"),
+    ];
+    for (error, want) in texts {
+        let text = format!(in rt.alloc(); "{error}")?;
+        assert_eq!(rt; text.as_str(), want);
+    }
+    Ok(())
+}

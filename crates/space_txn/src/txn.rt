@@ -1,0 +1,135 @@
+//! A transaction's own value.
+
+ghost use Rattle.std.specs.Prelude.{◌≡◌, ◌<◌, ◌==◌, ◌++◌, ◌∷◌, [], true, false, length, find, slice_get, option_map, IfErr, IsOk, OnOk, OnErr, All, IfNone, IfSome};
+ghost use Rattle.std.specs.Option.{option_copied};
+ghost use Rattle.space_txn.specs.Txn.{TxnValue, found_tuple, is_open_write};
+ghost use Rattle.std.specs.List.{HoldsAt};
+
+use crate::error::TxnError;
+use crate::mark::{Mark, mark_on};
+use std::alloc::AllocError;
+use std::marker::Model;
+use tuple_match::{Template, Tuple, matches};
+use tuple_space::{EntryId, Lease, Write, Writes};
+
+/// What a call on a transaction found.
+#[derive(Clone, Copy, Debug, PartialEq, Eq)]
+pub enum Found {
+    /// An entry of the space.
+    Entry(EntryId),
+    /// A write of the transaction itself, by its place from 0.
+    Own(usize),
+}
+
+/// A transaction: its number, what it took and read, and what it wrote.
+#[derive(Debug, Drop)]
+pub struct Txn {
+    pub(crate) number: u64,
+    pub(crate) marks: Vec<Mark>,
+    pub(crate) writes: Writes,
+}
+
+impl Model for Txn {
+    ghost use Rattle.space_txn.specs.Txn.{TxnValue, txn_of};
+
+    ghost Value = { TxnValue };
+
+    ghost view = { λ t. txn_of t.number t.marks.items t.writes };
+}
+
+impl Txn {
+    /// The transaction's number.
+    pub fn number(&self) -> u64
+        ensures { result ≡ self.now.number }
+    {
+        self.number
+    }
+
+    /// The marks of the transaction: what it took, and what it read and didn't take, in rising order of number.
+    pub fn marks(&self) -> &[Mark]
+        ensures { result.now ≡ self.now.marks }
+    {
+        &self.marks
+    }
+
+    /// What the transaction wrote, in order.
+    pub fn writes(&self) -> &[Write]
+        ensures { result.now ≡ self.now.writes }
+    {
+        self.writes.as_slice()
+    }
+
+    /// The tuple of an entry that the transaction took or read.
+    pub fn tuple(&self, id: EntryId) -> Option<&Tuple>
+        ensures { option_copied result ≡ option_map (λ m. m.tuple) (find (λ m. m.entry == id) self.now.marks) }
+    {
+        match mark_on(&self.marks, id.number()) {
+            Some(mark) => Some(&mark.tuple),
+            None => None,
+        }
+    }
+
+    /// Whether an entry that the transaction took or read was permanent when it was marked so.
+    pub fn permanent(&self, id: EntryId) -> Option<bool>
+        ensures { result ≡ option_map (λ m. m.permanent) (find (λ m. m.entry == id) self.now.marks) }
+    {
+        match mark_on(&self.marks, id.number()) {
+            Some(mark) => Some(mark.permanent),
+            None => None,
+        }
+    }
+
+    /// The tuple that a call found.
+    pub fn found(&self, found: &Found) -> Option<&Tuple>
+        ensures { option_copied result ≡ found_tuple self.now found.now }
+    {
+        match found {
+            Found::Entry(id) => self.tuple(*id),
+            Found::Own(place) => own_tuple(self.writes.as_slice(), *place),
+        }
+    }
+
+    /// Writes a tuple under the transaction: it is put out by the commit, under a lease that is granted then. This is no
+    /// step on the space. Refused memory, the tuple comes back; the first four writes take none.
+    pub fn out_in(&mut self, tuple: Tuple, lease: Lease) -> Result<(), (TxnError, Tuple)>
+        ensures ok { OnOk result (self.new ≡ record self.old { writes = self.old.writes ++ record { tuple = tuple; lease = lease; taken = false } ∷ [] }) }
+        ensures err { OnErr result (self.new ≡ self.old) }
+        ensures handed_back { IfErr result (λ back. back.1 ≡ tuple) }
+        ensures kind { IfErr result (λ back. back.0 ≡ TxnError.OutOfMemory) }
+        ensures ready { length self.old.writes < 4 → IsOk result }
+    {
+        match self.writes.push(tuple, lease) {
+            Ok(()) => Ok(()),
+            Err((_, tuple)) => Err((TxnError::OutOfMemory, tuple)),
+        }
+    }
+}
+
+fn own_tuple(writes: &[Write], place: usize) -> Option<&Tuple>
+    ensures { option_copied result ≡ option_map (λ x. x.tuple) (slice_get writes.now place) }
+{
+    match writes.get(place) {
+        Some(write) => Some(&write.tuple),
+        None => None,
+    }
+}
+
+/// The place of a write that the template asks for and that wasn't taken again.
+pub(crate) fn open_write(writes: &[Write], template: &Template) -> Option<usize>
+    ensures none { IfNone result (All (λ x. is_open_write template.now x ≡ false) writes.now) }
+    ensures place { IfSome result (λ i. i < length writes.now) }
+    ensures open { IfSome result (HoldsAt (λ x. is_open_write template.now x ≡ true) writes.now) }
+{
+    for place in 0..writes.len() {
+        if is_open_write(&writes[place], template) {
+            return Some(place);
+        }
+    }
+    None
+}
+
+fn is_open_write(write: &Write, template: &Template) -> bool
+    ensures { result ≡ is_open_write template.now write.now }
+{
+    !write.taken && matches(template, &write.tuple)
+}

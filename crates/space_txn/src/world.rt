@@ -1,0 +1,250 @@
+//! The space with transactions, and its calls.
+
+ghost use Rattle.std.specs.Prelude.{◌≡◌, ◌≤◌, IfErr, MatchResult};
+ghost use Rattle.tuple_space.specs.Step as space;
+ghost use Rattle.tuple_space.specs.Space.{IsSpace, most};
+ghost use Rattle.space_txn.specs.World.{opening, with_space};
+ghost use Rattle.space_txn.specs.Machine.{IsAccepted, IsRefused, Step, BeginStep, AdvanceStep, abort, commit, end_answer, find_answer, inp_in, rdp_in, renew_answer, renew_txn};
+
+use crate::error::{TxnError, refusal_of};
+use crate::finding::{find_own, mark_for, put_mark_on, take_own};
+use crate::live::{Live, abort_ended, drop_ended, drop_row, granted_end, is_live_in, renew_row};
+use crate::mark::{are_marks_of, has_mark_on};
+use crate::txn::{Found, Txn};
+use std::alloc::Global;
+use std::marker::Model;
+use tuple_match::{Template, Tuple};
+use tuple_space::{Claim, EntryId, Lease, MOST, Space, SpaceError, Writes};
+
+/// A space of tuples with transactions.
+#[derive(Debug, Drop)]
+pub struct TxnSpace {
+    space: Space,
+    live: Vec<Live>,
+    begun: u64,
+    commits: u64,
+}
+
+impl Model for TxnSpace {
+    ghost use Rattle.space_txn.specs.World.{IsWorld, World, world_of};
+
+    ghost Value = { World };
+
+    ghost view = { λ w. world_of w.space w.live.items w.begun w.commits };
+
+    ghost invariant = { λ w. IsWorld (world_of w.space w.live.items w.begun w.commits) };
+}
+
+impl TxnSpace {
+    /// A space with no tuples and no transactions, at the moment 0. Takes no memory.
+    pub fn new(alloc: Global) -> TxnSpace
+        ensures { result ≡ opening }
+    {
+        TxnSpace {
+            space: Space::new(alloc),
+            live: Vec::new(alloc),
+            begun: 0,
+            commits: 0,
+        }
+    }
+
+    /// The moment, in milliseconds.
+    pub fn now(&self) -> u64
+        ensures { result ≡ self.now.space.moment }
+    {
+        self.space.now()
+    }
+
+    /// How many commits were accepted.
+    pub fn commits(&self) -> u64
+        ensures value { result ≡ self.now.commits }
+        ensures few { result ≤ most }
+    {
+        self.commits
+    }
+
+    /// Puts a tuple out, outside all transactions. Refusals: 33, 50; the tuple comes back.
+    pub fn out(&mut self, tuple: Tuple, lease: Lease) -> Result<EntryId, (SpaceError, Tuple)>
+        ensures step { space.Step self.old.space (space.out tuple lease) (space.out_reply result) self.new.space }
+        ensures rest { self.new ≡ with_space self.old self.new.space }
+        ensures handed_back { IfErr result (λ back. back.1 ≡ tuple) }
+    {
+        self.space.out(tuple, lease)
+    }
+
+    /// Takes a tuple, outside all transactions, or answers `None` where none can be had now. Takes no memory.
+    pub fn inp(&mut self, template: &Template) -> Option<(EntryId, Tuple)>
+        ensures step { space.Step self.old.space (space.inp template.now) (space.inp_reply result) self.new.space }
+        ensures rest { self.new ≡ with_space self.old self.new.space }
+    {
+        self.space.inp(template)
+    }
+
+    /// Copies a tuple, outside all transactions, or answers `None` where none can be had now. Refusal: 50.
+    pub fn rdp(&self, template: &Template) -> Result<Option<(EntryId, Tuple)>, SpaceError>
+        ensures { space.Step self.now.space (space.rdp template.now) (space.rdp_reply result) self.now.space }
+    {
+        self.space.rdp(template)
+    }
+
+    /// Renews the lease of a live entry. Refusal: 35. Takes no memory.
+    pub fn renew(&mut self, id: EntryId, lease: Lease) -> Result<(), SpaceError>
+        ensures step { space.Step self.old.space (space.renew id lease) (space.done_reply result) self.new.space }
+        ensures rest { self.new ≡ with_space self.old self.new.space }
+    {
+        self.space.renew(id, lease)
+    }
+
+    /// How many entries are there whose tuples the template asks for, held ones included. Takes no memory.
+    pub fn count(&self, template: &Template) -> u64
+        ensures { space.Step self.now.space (space.count template.now) (space.told result) self.now.space }
+    {
+        self.space.count(template)
+    }
+
+    /// Moves the moment on, which ends first the transactions whose lease has ended and drops then what is not there; an
+    /// earlier moment changes nothing. Refusal: 33 where the moment lies past 2^62. Takes no memory.
+    pub fn advance(&mut self, moment: u64) -> Result<(), SpaceError>
+        ensures { AdvanceStep self.old moment (space.done_reply result) self.new }
+    {
+        if moment > MOST {
+            return Err(SpaceError::Exhausted);
+        }
+        if moment < self.space.now() {
+            return Ok(());
+        }
+        abort_ended(&mut self.space, &self.live, moment);
+        drop_ended(&mut self.live, moment);
+        self.space.advance(moment)
+    }
+
+    /// Begins a transaction with a lease of so many milliseconds, and a day at most. Refusals: 33 where the numbers are
+    /// used up, 50.
+    pub fn begin(&mut self, asked: u64) -> Result<Txn, TxnError>
+        ensures { BeginStep self.old asked result self.new }
+    {
+        if self.begun >= MOST {
+            return Err(TxnError::Exhausted);
+        }
+        let number = self.begun + 1;
+        let alloc = *self.live.allocator();
+        let marks = Vec::with_capacity(alloc, READY)?;
+        let writes = Writes::new(alloc)?;
+        let end = granted_end(self.space.now(), asked);
+        self.live.push(Live { number, end })?;
+        self.begun = number;
+        Ok(Txn {
+            number,
+            marks,
+            writes,
+        })
+    }
+
+    /// Whether this is the value of a live transaction of this space. Refusals: 31, 32.
+    fn accept(&self, txn: &Txn) -> Result<(), TxnError>
+        ensures judged { MatchResult result (λ _. IsAccepted self.now txn.now) (IsRefused self.now txn.now) }
+        ensures valid { IsSpace self.now.space }
+    {
+        if !is_live_in(&self.live, self.space.now(), txn.number) {
+            return Err(TxnError::Expired);
+        }
+        if !are_marks_of(&txn.marks, self.space.entries(), txn.number) {
+            return Err(TxnError::Foreign);
+        }
+        Ok(())
+    }
+
+    /// Takes for a transaction a tuple that the template asks for: one of the space, or, where none of these can be had, one
+    /// that the transaction wrote. `None` where there is none of these either. Refusals: 31, 32, 50.
+    pub fn inp_in(&mut self, txn: &mut Txn, template: &Template) -> Result<Option<Found>, TxnError>
+        ensures { Step self.old txn.old (inp_in template.now) (find_answer result) self.new txn.new }
+    {
+        self.accept(txn)?;
+        let Some(entry) = self.space.search(Claim::TakeBy(txn.number), template) else {
+            return Ok(take_own(&mut txn.writes, template));
+        };
+        let id = entry.id();
+        let mark = mark_for(entry, true)?;
+        put_mark_on(&mut self.space, &mut txn.marks, txn.number, id, mark)?;
+        Ok(Some(Found::Entry(id)))
+    }
+
+    /// Reads for a transaction a tuple that the template asks for: one of the space, or, where none of these can be had, one
+    /// that the transaction wrote. `None` where there is none of these either. Refusals: 31, 32, 50.
+    pub fn rdp_in(&mut self, txn: &mut Txn, template: &Template) -> Result<Option<Found>, TxnError>
+        ensures { Step self.old txn.old (rdp_in template.now) (find_answer result) self.new txn.new }
+    {
+        self.accept(txn)?;
+        let Some(entry) = self.space.search(Claim::Read, template) else {
+            return Ok(find_own(txn.writes.as_slice(), template));
+        };
+        let id = entry.id();
+        if has_mark_on(&txn.marks, id.number()) {
+            return Ok(Some(Found::Entry(id)));
+        }
+        let mark = mark_for(entry, false)?;
+        put_mark_on(&mut self.space, &mut txn.marks, txn.number, id, mark)?;
+        Ok(Some(Found::Entry(id)))
+    }
+
+    /// Renews a transaction's lease: its end is the later of its old end and that of a lease granted now. Refusals: 31, 32.
+    /// Takes no memory.
+    pub fn renew_txn(&mut self, txn: &Txn, asked: u64) -> Result<(), TxnError>
+        ensures { Step self.old txn.now (renew_txn asked) (renew_answer result) self.new txn.now }
+    {
+        self.accept(txn)?;
+        let end = granted_end(self.space.now(), asked);
+        renew_row(&mut self.live, txn.number, end);
+        Ok(())
+    }
+
+    /// Ends a transaction, whose marks are dropped. Refusals: 31, 32; the transaction comes back. Takes no memory.
+    pub fn abort(&mut self, txn: Txn) -> Result<(), (TxnError, Txn)>
+        ensures step { Step self.old txn abort (end_answer result) self.new txn }
+        ensures handed_back { IfErr result (λ back. back.1 ≡ txn) }
+    {
+        if let Err(error) = self.accept(&txn) {
+            return Err((error, txn));
+        }
+        self.space.unpin(txn.number);
+        drop_row(&mut self.live, txn.number);
+        Ok(())
+    }
+
+    /// Ends a transaction and makes it count: what it wrote is put out, what it took is gone, its marks are dropped.
+    /// Refusals: 31, 32, 33 where the commits or the numbers of entries are used up, 50; the transaction comes back.
+    pub fn commit(&mut self, txn: Txn) -> Result<(), (TxnError, Txn)>
+        ensures step { Step self.old txn commit (end_answer result) self.new txn }
+        ensures handed_back { IfErr result (λ back. back.1 ≡ txn) }
+    {
+        if let Err(error) = self.accept(&txn) {
+            return Err((error, txn));
+        }
+        if self.commits >= MOST {
+            return Err((TxnError::Exhausted, txn));
+        }
+        let Txn {
+            number,
+            marks,
+            writes,
+        } = txn;
+        if let Err((error, writes)) = self.space.put_all(writes) {
+            return Err((
+                refusal_of(error),
+                Txn {
+                    number,
+                    marks,
+                    writes,
+                },
+            ));
+        }
+        self.space.remove_taken(number);
+        self.space.unpin(number);
+        drop_row(&mut self.live, number);
+        self.commits += 1;
+        Ok(())
+    }
+}
+
+/// The marks that take no memory in a transaction's own list.
+const READY: usize = 4;
