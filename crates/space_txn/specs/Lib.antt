@@ -1,3 +1,4 @@
+pub mod Content
 pub mod Live
 pub mod Machine
 pub mod Marks

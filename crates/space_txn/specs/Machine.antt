@@ -1,6 +1,6 @@
 -- What a call may answer, and what it leaves: the rules of the space with transactions.
 -- Which of several tuples that can be had is got stays open.
-use Rattle.std.specs.Prelude.{◌≡◌, ◌≢◌, ℕ, ◌+◌, ◌<◌, ◌≤◌, ◌==◌, ◌⊎◌, true, false, Bool, List, [], All, is_some, find, length, Option, Some, None, Result, Ok, Err, if◌then◌else◌}
+use Rattle.std.specs.Prelude.{◌≡◌, ◌≢◌, ℕ, ◌+◌, ◌<◌, ◌≤◌, ◌==◌, ◌⊎◌, true, false, List, [], All, is_some, find, length, Option, Some, None, Result, Ok, Err, if◌then◌else◌}
 use Rattle.std.specs.List.{HoldsAt}
 use Rattle.tuple_match.specs.PatternValue.{PatternValue}
 use Rattle.tuple_space.specs.Rows.{changed}

@@ -1,5 +1,5 @@
 -- What a transaction's value tells.
-use Rattle.std.specs.Prelude.{ℕ, ◌==◌, ◌&&◌, not, Bool, List, [], Option, find, slice_get}
+use Rattle.std.specs.Prelude.{ℕ, ◌==◌, ◌&&◌, not, Bool, List, Option, find, slice_get}
 use Rattle.std.specs.Option.{option_map}
 use Rattle.tuple_match.specs.FieldValue.{FieldValue}
 use Rattle.tuple_match.specs.PatternValue.{PatternValue}

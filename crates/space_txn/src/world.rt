@@ -1,8 +1,9 @@
 //! The space with transactions, and its calls.
 
-ghost use Rattle.std.specs.Prelude.{◌≡◌, ◌≤◌, IfErr, MatchResult};
+ghost use Rattle.std.specs.Prelude.{◌≡◌, ◌≤◌, IfErr, OnOk, MatchResult};
 ghost use Rattle.tuple_space.specs.Step as space;
 ghost use Rattle.tuple_space.specs.Space.{IsSpace, most};
+ghost use Rattle.space_txn.specs.Content.{ChangesContent};
 ghost use Rattle.space_txn.specs.World.{opening, with_space};
 ghost use Rattle.space_txn.specs.Machine.{IsAccepted, IsRefused, Step, BeginStep, AdvanceStep, abort, commit, end_answer, find_answer, inp_in, rdp_in, renew_answer, renew_txn};
 
@@ -26,6 +27,7 @@ pub struct TxnSpace {
 }
 
 impl Model for TxnSpace {
+    ghost use Rattle.space_txn.specs.Content.{ChangesContent};
     ghost use Rattle.space_txn.specs.World.{IsWorld, World, world_of};
 
     ghost Value = { World };
@@ -216,6 +218,7 @@ impl TxnSpace {
     pub fn commit(&mut self, txn: Txn) -> Result<(), (TxnError, Txn)>
         ensures step { Step self.old txn commit (end_answer result) self.new txn }
         ensures handed_back { IfErr result (λ back. back.1 ≡ txn) }
+        ensures content { OnOk result (ChangesContent self.old self.new txn.number txn.writes) }
     {
         if let Err(error) = self.accept(&txn) {
             return Err((error, txn));

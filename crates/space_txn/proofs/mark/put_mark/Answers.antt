@@ -1,7 +1,4 @@
-use Rattle.std.proofs.Common.{◌≡◌, ◌∙◌, ◌<◌, ◌≤◌, length, arith}
-use Rattle.std.specs.Prelude.{◌≢◌}
-use Rattle.std.specs.List.{HoldsAt}
-use Rattle.space_txn.specs.declared.mark.Mark.{Mark}
+use Rattle.std.proofs.Common.{◌∙◌, arith}
 use Rattle.space_txn.proofs.MarkLemmas.{with_mark_set, with_mark_insert}
 use Rattle.space_txn.proofs.mark.put_mark.Goals as goal
 

@@ -1,0 +1,173 @@
+use Rattle.std.proofs.Common.{◌≡◌, ℕ, ◌+◌, Bool, true, false, List, [], ◌∷◌, ◌++◌, ap, ◌∙◌, sym, subst, refl, cond, arith}
+use Rattle.std.specs.Prelude.{not, ◌&&◌, ◌||◌, filter, map}
+use Rattle.std.specs.List.{list_any, sum_by}
+use Rattle.std.proofs.lemmas.Bool.{false≢true}
+use Rattle.std.proofs.lemmas.List.Filters.{sum_by-filter_both}
+use Rattle.std.proofs.lemmas.List.Sums.{sum_by-append, sum_by-cons, sum_by_push}
+use Rattle.tuple_match.specs.FieldValue.{FieldValue}
+use Rattle.tuple_space.specs.Lease.{granted, is_live, is_permanent}
+use Rattle.tuple_space.specs.Entry.{is_held_by, is_taken_by, unheld}
+use Rattle.tuple_space.specs.Holds.{holds_without}
+use Rattle.tuple_space.specs.Space.{SpaceValue, put, released, stays_without, without_taken}
+use Rattle.tuple_space.specs.Writes.{put_each}
+use Rattle.tuple_space.specs.declared.entry.Entry.{Entry}
+use Rattle.tuple_space.specs.declared.lease.Lease.{Lease}
+use Rattle.tuple_space.specs.declared.lease.Lease.TheVariants.{Forever, Ms}
+use Rattle.tuple_space.specs.declared.lease.LeaseEnd.{LeaseEnd}
+use Rattle.tuple_space.specs.declared.lease.LeaseEnd.TheVariants.{Never, At}
+use Rattle.tuple_space.specs.declared.hold.Hold.{Hold}
+use Rattle.tuple_space.specs.declared.write.Write.{Write}
+use Rattle.space_txn.specs.Content.{ChangesContent, permanent_tuples, content_of, gone_of, kept_of, is_added, added_of}
+use Rattle.space_txn.specs.Machine.{Step, commit, done, committed_space, commit_at}
+use Rattle.space_txn.specs.Txn.{TxnValue}
+use Rattle.space_txn.specs.World.{World}
+
+-- a weight over what is kept of a list
+sum_of_one : {X Y : Type 0} (f : Y → ℕ) (g : X → Y) (b : Bool) (x : X) (ys : List X) → sum_by f (map g (cond b (x ∷ ys) ys)) ≡ cond b (f (g x)) 0 + sum_by f (map g ys)
+sum_of_one f g true x ys = sum_by-cons f (g x) (map g ys)
+sum_of_one f g false x ys = omega arith
+
+pub sum_of_kept : {X Y : Type 0} (f : Y → ℕ) (g : X → Y) (p : X → Bool) (xs : List X) → sum_by f (map g (filter p xs)) ≡ sum_by (λ x. cond (p x) (f (g x)) 0) xs
+sum_of_kept f g p [] = refl
+sum_of_kept {X} {Y} f g p (x ∷ xs) =
+    let one = sum_of_one f g (p x) x (filter p xs) in
+    let rest = sum_of_kept f g p xs in
+    let all = sum_by-cons (λ (y : X). cond (p y) (f (g y)) 0) x xs in
+    omega arith
+
+-- two weights that agree at each element add up to the same
+sum_same : {X : Type 0} (f g : X → ℕ) → ((x : X) → f x ≡ g x) → (xs : List X) → sum_by f xs ≡ sum_by g xs
+sum_same f g same [] = refl
+sum_same f g same (x ∷ xs) =
+    let one = same x in
+    let rest = sum_same f g same xs in
+    let left = sum_by-cons f x xs in
+    let right = sum_by-cons g x xs in
+    omega arith
+
+-- a weight of tuples as one of entries
+abbrev pub weight : (List FieldValue → ℕ) → Entry → ℕ
+weight f e = cond (is_permanent e.end) (f e.tuple) 0
+
+sum_of_permanent : (f : List FieldValue → ℕ) (es : List Entry) → sum_by f (permanent_tuples es) ≡ sum_by (weight f) es
+sum_of_permanent f es = sum_of_kept f (λ (e : Entry). e.tuple) (λ (e : Entry). is_permanent e.end) es
+
+-- an entry that goes with a holder's hold isn't permanent
+goes_unweighed : (f : List FieldValue → ℕ) (held left : Bool) (moment : ℕ) (end : LeaseEnd) (tuple : List FieldValue) → (not held || (is_live moment end || left)) ≡ false → cond (is_permanent end) (f tuple) 0 ≡ 0
+goes_unweighed f held left moment (At end) tuple e = refl
+goes_unweighed f true left moment Never tuple e = absurd (false≢true (sym e))
+goes_unweighed f false left moment Never tuple e = absurd (false≢true (sym e))
+
+released_one : (f : List FieldValue → ℕ) (number moment : ℕ) (e : Entry) (es : List Entry) (stays : Bool) → stays_without number moment e ≡ stays → sum_by (weight f) (map (unheld number) (cond stays (e ∷ es) es)) ≡ weight f e + sum_by (weight f) (map (unheld number) es)
+released_one f number moment e es true is = sum_by-cons (weight f) (unheld number e) (map (unheld number) es)
+released_one f number moment e es false is =
+    let none : weight f e ≡ 0 = goes_unweighed f (is_held_by number e) (list_any (λ (h : Hold). true) (holds_without number e.holds)) moment e.end e.tuple is in
+    omega arith
+
+-- ending holds leaves the permanent tuples
+sum_of_released : (f : List FieldValue → ℕ) (number moment : ℕ) (es : List Entry) → sum_by (weight f) (released number moment es) ≡ sum_by (weight f) es
+sum_of_released f number moment [] = refl
+sum_of_released f number moment (e ∷ es) =
+    let one = released_one f number moment e (filter (stays_without number moment) es) (stays_without number moment e) refl in
+    let rest = sum_of_released f number moment es in
+    let all = sum_by-cons (weight f) e es in
+    omega arith
+
+-- what a weight of fresh entries adds up to
+put_one : (g : Entry → ℕ) (h : List FieldValue → Lease → ℕ) → ((n m : ℕ) (t : List FieldValue) (l : Lease) → g (record { number = n; tuple = t; end = granted m l; holds = [] }) ≡ h t l)
+    → (s : SpaceValue) (x : Write) (taken : Bool) → sum_by g (cond taken s (put s x.tuple x.lease)).entries ≡ sum_by g s.entries + cond taken 0 (h x.tuple x.lease)
+put_one g h fresh s x true = omega arith
+put_one g h fresh s x false =
+    sum_by_push g s.entries (record { number = s.last + 1; tuple = x.tuple; end = granted s.moment x.lease; holds = [] })
+    ∙ ap (λ n. sum_by g s.entries + n) (fresh (s.last + 1) s.moment x.tuple x.lease)
+
+sum_of_put : (g : Entry → ℕ) (h : List FieldValue → Lease → ℕ) → ((n m : ℕ) (t : List FieldValue) (l : Lease) → g (record { number = n; tuple = t; end = granted m l; holds = [] }) ≡ h t l)
+    → (s : SpaceValue) (writes : List Write) → sum_by g (put_each s writes).entries ≡ sum_by g s.entries + sum_by (λ x. cond x.taken 0 (h x.tuple x.lease)) writes
+sum_of_put g h fresh s [] = omega arith
+sum_of_put g h fresh s (x ∷ xs) =
+    let one = put_one g h fresh s x x.taken in
+    let rest = sum_of_put g h fresh (cond x.taken s (put s x.tuple x.lease)) xs in
+    let all = sum_by-cons (λ (y : Write). cond y.taken 0 (h y.tuple y.lease)) x xs in
+    omega arith
+
+-- a lease is permanent whenever it is granted
+permanent_anytime : (f : ℕ) (m : ℕ) (l : Lease) → cond (is_permanent (granted m l)) f 0 ≡ cond (is_permanent (granted 0 l)) f 0
+permanent_anytime f m Forever = refl
+permanent_anytime f m (Ms k) = refl
+
+added_weight : (f : List FieldValue → ℕ) (x : Write) (taken : Bool) → cond (not taken && is_permanent (granted 0 x.lease)) (f x.tuple) 0 ≡ cond taken 0 (cond (is_permanent (granted 0 x.lease)) (f x.tuple) 0)
+added_weight f x true = refl
+added_weight f x false = refl
+
+sum_of_added : (f : List FieldValue → ℕ) (writes : List Write) → sum_by f (added_of writes) ≡ sum_by (λ x. cond x.taken 0 (cond (is_permanent (granted 0 x.lease)) (f x.tuple) 0)) writes
+sum_of_added f writes =
+    sum_of_kept f (λ (x : Write). x.tuple) is_added writes
+    ∙ sum_same (λ (x : Write). cond (is_added x) (f x.tuple) 0) (λ (x : Write). cond x.taken 0 (cond (is_permanent (granted 0 x.lease)) (f x.tuple) 0)) (λ x. added_weight f x x.taken) writes
+
+filter_one : (w : Entry → ℕ) (b : Bool) (e : Entry) (es : List Entry) → sum_by w (cond b (e ∷ es) es) ≡ cond b (w e) 0 + sum_by w es
+filter_one w true e es = sum_by-cons w e es
+filter_one w false e es = omega arith
+
+-- a weight over what is kept, of entries themselves
+sum_of_filter : (w : Entry → ℕ) (p : Entry → Bool) (es : List Entry) → sum_by w (filter p es) ≡ sum_by (λ e. cond (p e) (w e) 0) es
+sum_of_filter w p [] = refl
+sum_of_filter w p (e ∷ es) =
+    let one = filter_one w (p e) e (filter p es) in
+    let rest = sum_of_filter w p es in
+    let all = sum_by-cons (λ (y : Entry). cond (p y) (w y) 0) e es in
+    omega arith
+
+abbrev content_entries : World → TxnValue → List Entry
+content_entries w t = (committed_space w.space t.number t.writes).entries
+
+-- the content after a commit: what wasn't taken, and what was added
+sum_after : (f : List FieldValue → ℕ) (w : World) (t : TxnValue) → sum_by f (content_of (commit_at w t)) ≡ sum_by (weight f) (without_taken t.number w.space.entries) + sum_by f (added_of t.writes)
+sum_after f w t =
+    let number = t.number in
+    let s = put_each w.space t.writes in
+    let untaken : Entry → Bool = λ e. not (is_taken_by number e) in
+    let g : Entry → ℕ = λ e. cond (untaken e) (weight f e) 0 in
+    let h : List FieldValue → Lease → ℕ = λ tuple lease. cond (is_permanent (granted 0 lease)) (f tuple) 0 in
+    let now = sum_of_permanent f (content_entries w t) in
+    let kept = sum_of_released f number s.moment (without_taken number s.entries) in
+    let left = sum_of_filter (weight f) untaken s.entries in
+    let put = sum_of_put g h (λ n m tuple lease. permanent_anytime (f tuple) m lease) w.space t.writes in
+    let back = sum_of_filter (weight f) untaken w.space.entries in
+    let added = sum_of_added f t.writes in
+    omega arith
+
+-- what a commit does to the content
+pub commit_changes : (w : World) (t : TxnValue) → ChangesContent w (commit_at w t) t.number t.writes
+commit_changes w t =
+    let number = t.number in
+    let es = w.space.entries in
+    let left = without_taken number es in
+    let rest = permanent_tuples (filter (λ e. not (is_held_by number e)) left) in
+    record {
+      rest = rest;
+      before = λ f.
+          let parts = sum_by-append f (gone_of w number) (kept_of w number ++ rest) in
+          let others = sum_by-append f (kept_of w number) rest in
+          let all = sum_of_permanent f es in
+          let gone = sum_of_permanent f (filter (is_taken_by number) es) in
+          let kept = sum_of_permanent f (filter (is_held_by number) left) in
+          let over = sum_of_permanent f (filter (λ e. not (is_held_by number e)) left) in
+          let taken = sum_by-filter_both (is_taken_by number) (λ e. not (is_taken_by number e)) (λ e. refl) (weight f) es in
+          let held = sum_by-filter_both (is_held_by number) (λ e. not (is_held_by number e)) (λ e. refl) (weight f) left in
+          omega arith;
+      after = λ f.
+          let parts = sum_by-append f (added_of t.writes) (kept_of w number ++ rest) in
+          let others = sum_by-append f (kept_of w number) rest in
+          let new = sum_after f w t in
+          let kept = sum_of_permanent f (filter (is_held_by number) left) in
+          let over = sum_of_permanent f (filter (λ e. not (is_held_by number e)) left) in
+          let held = sum_by-filter_both (is_held_by number) (λ e. not (is_held_by number e)) (λ e. refl) (weight f) left in
+          omega arith;
+      counted = refl;
+    }
+
+-- the same of a step of the machine
+pub commit_step_changes : (old new : World) (t : TxnValue) → Step old t commit done new t → ChangesContent old new t.number t.writes
+commit_step_changes old new t s =
+    let P : World → Type 0 = λ w. ChangesContent old w t.number t.writes in
+    subst P (sym s.2) (commit_changes old t)
