@@ -1,14 +1,15 @@
-use Rattle.std.proofs.Common.{◌≡◌, ℕ, ◌+◌, Bool, true, false, List, [], ◌∷◌, ◌++◌, ap, ◌∙◌, sym, subst, refl, cond, arith}
-use Rattle.std.specs.Prelude.{not, ◌&&◌, ◌||◌, filter, map}
+use Rattle.std.proofs.Common.{◌≡◌, ℕ, ◌+◌, Bool, true, false, List, [], ◌∷◌, ◌++◌, ap, ◌∙◌, sym, subst, refl, cond, eqb, ltb, arith}
+use Rattle.std.specs.Prelude.{not, ◌&&◌, ◌||◌, filter, find, is_some, map, Result, Ok, Err}
 use Rattle.std.specs.List.{list_any, sum_by}
-use Rattle.std.proofs.lemmas.Bool.{false≢true}
+use Rattle.std.proofs.lemmas.Bool.{cond_both, false≢true}
 use Rattle.std.proofs.lemmas.List.Filters.{sum_by-filter_both}
 use Rattle.std.proofs.lemmas.List.Sums.{sum_by-append, sum_by-cons, sum_by_push}
 use Rattle.tuple_match.specs.FieldValue.{FieldValue}
 use Rattle.tuple_space.specs.Lease.{granted, is_live, is_permanent}
-use Rattle.tuple_space.specs.Entry.{is_held_by, is_taken_by, unheld}
+use Rattle.tuple_space.specs.Entry.{is_held, is_held_by, is_taken_by, is_there, unheld}
 use Rattle.tuple_space.specs.Holds.{holds_without}
-use Rattle.tuple_space.specs.Space.{SpaceValue, put, released, stays_without, without_taken}
+use Rattle.tuple_space.specs.Rows.{changed, permanent_tuples}
+use Rattle.tuple_space.specs.Space.{SpaceValue, advanced, held_by, put, with_entries, released, stays_without, without_taken}
 use Rattle.tuple_space.specs.Writes.{put_each}
 use Rattle.tuple_space.specs.declared.entry.Entry.{Entry}
 use Rattle.tuple_space.specs.declared.lease.Lease.{Lease}
@@ -17,10 +18,19 @@ use Rattle.tuple_space.specs.declared.lease.LeaseEnd.{LeaseEnd}
 use Rattle.tuple_space.specs.declared.lease.LeaseEnd.TheVariants.{Never, At}
 use Rattle.tuple_space.specs.declared.hold.Hold.{Hold}
 use Rattle.tuple_space.specs.declared.write.Write.{Write}
-use Rattle.space_txn.specs.Content.{ChangesContent, permanent_tuples, content_of, gone_of, kept_of, is_added, added_of}
-use Rattle.space_txn.specs.Machine.{Step, commit, done, committed_space, commit_at}
+use Rattle.space_txn.specs.Content.{SameItems, ChangesContent, KeepsContent, LeavesContent, content_of, gone_of, kept_of, is_added, added_of}
+use Rattle.space_txn.specs.Machine.{Step, BeginStep, AdvanceStep, Call, inp_in, rdp_in, renew_txn, commit, abort, Answer, found, nothing, done, refused, committed_space, commit_at, taken_space, read_space}
+use Rattle.space_txn.specs.Live.{abort_each, ended_at, going_at, unmarked}
+use Rattle.space_txn.specs.declared.live.Live.{Live}
+use Rattle.space_txn.specs.declared.mark.Mark.{Mark}
+use Rattle.space_txn.specs.declared.txn.Found.TheVariants.{Entry as Stored, Own}
+use Rattle.space_txn.specs.declared.error.TxnError.{TxnError}
+use Rattle.space_txn.specs.declared.error.TxnError.TheVariants.{Expired, Foreign, Exhausted, OutOfMemory}
+use Rattle.tuple_space.specs.Step.{done_reply}
+use Rattle.tuple_space.specs.declared.error.SpaceError.{SpaceError}
+use Rattle.tuple_space.specs.declared.error.SpaceError.TheVariants.{Exhausted as moments_used_up, NotThere, OutOfMemory as memory_used_up}
 use Rattle.space_txn.specs.Txn.{TxnValue}
-use Rattle.space_txn.specs.World.{World}
+use Rattle.space_txn.specs.World.{World, world_of, with_space, abort_at, advance_at, begin_at, renew_at}
 
 -- a weight over what is kept of a list
 sum_of_one : {X Y : Type 0} (f : Y → ℕ) (g : X → Y) (b : Bool) (x : X) (ys : List X) → sum_by f (map g (cond b (x ∷ ys) ys)) ≡ cond b (f (g x)) 0 + sum_by f (map g ys)
@@ -171,3 +181,98 @@ pub commit_step_changes : (old new : World) (t : TxnValue) → Step old t commit
 commit_step_changes old new t s =
     let P : World → Type 0 = λ w. ChangesContent old w t.number t.writes in
     subst P (sym s.2) (commit_changes old t)
+
+-- a change of entries that leaves their weights
+sum_of_map : (w : Entry → ℕ) (g : Entry → Entry) → ((e : Entry) → w (g e) ≡ w e) → (es : List Entry) → sum_by w (map g es) ≡ sum_by w es
+sum_of_map w g same [] = refl
+sum_of_map w g same (e ∷ es) =
+    let one = same e in
+    let rest = sum_of_map w g same es in
+    let left = sum_by-cons w (g e) (map g es) in
+    let right = sum_by-cons w e es in
+    omega arith
+
+sum_of_held : (f : List FieldValue → ℕ) (number holder : ℕ) (taken : Bool) (es : List Entry) → sum_by (weight f) (changed number (held_by holder taken) es) ≡ sum_by (weight f) es
+sum_of_held f number holder taken es =
+    sum_of_map (weight f) (λ (e : Entry). cond (eqb e.number number) (held_by holder taken e) e)
+    (λ e. cond_both (eqb e.number number) (held_by holder taken e) e (λ (x : Entry). weight f x ≡ weight f e) (λ t. refl) (λ t. refl)) es
+
+-- an entry that isn't there isn't permanent
+there_one : (f : List FieldValue → ℕ) (moment : ℕ) (held : Bool) (end : LeaseEnd) (tuple : List FieldValue) → cond (is_live moment end || held) (cond (is_permanent end) (f tuple) 0) 0 ≡ cond (is_permanent end) (f tuple) 0
+there_one f moment held Never tuple = refl
+there_one f moment held (At end) tuple = cond_both (is_live moment (At end) || held) 0 0 (λ (n : ℕ). n ≡ 0) (λ t. refl) (λ t. refl)
+
+sum_of_there : (f : List FieldValue → ℕ) (moment : ℕ) (es : List Entry) → sum_by (weight f) (filter (is_there moment) es) ≡ sum_by (weight f) es
+sum_of_there f moment es =
+    sum_of_filter (weight f) (is_there moment) es
+    ∙ sum_same (λ (e : Entry). cond (is_there moment e) (weight f e) 0) (weight f) (λ e. there_one f moment (is_held e) e.end e.tuple) es
+
+sum_of_aborts : (f : List FieldValue → ℕ) (live : List Live) (s : SpaceValue) → sum_by (weight f) (abort_each live s).entries ≡ sum_by (weight f) s.entries
+sum_of_aborts f [] s = refl
+sum_of_aborts f (t ∷ ts) s = sum_of_aborts f ts (unmarked t.number s) ∙ sum_of_released f t.number s.moment s.entries
+
+-- worlds whose entries weigh the same have the same content
+weighs_same : (old new : World) → ((f : List FieldValue → ℕ) → sum_by (weight f) new.space.entries ≡ sum_by (weight f) old.space.entries) → SameItems (content_of new) (content_of old)
+weighs_same old new h = λ f. sum_of_permanent f new.space.entries ∙ h f ∙ sym (sum_of_permanent f old.space.entries)
+
+keeps_at : (old w new : World) → ((f : List FieldValue → ℕ) → sum_by (weight f) w.space.entries ≡ sum_by (weight f) old.space.entries) → w.commits ≡ old.commits → new ≡ w → KeepsContent old new
+keeps_at old w new h counted is =
+    let P : World → Type 0 = λ v. KeepsContent old v in
+    subst P (sym is) (record { same = weighs_same old w h; counted = counted })
+
+keeps_same : (old new : World) → new ≡ old → KeepsContent old new
+keeps_same old new is = keeps_at old old new (λ f. refl) refl is
+
+read_weighs : (f : List FieldValue → ℕ) (s : SpaceValue) (holder : ℕ) (marks : List Mark) (number : ℕ) → sum_by (weight f) (read_space s holder marks number).entries ≡ sum_by (weight f) s.entries
+read_weighs f s holder marks number =
+    cond_both (is_some (find (λ (m : Mark). eqb m.entry number) marks)) s (with_entries s (changed number (held_by holder false) s.entries))
+    (λ (x : SpaceValue). sum_by (weight f) x.entries ≡ sum_by (weight f) s.entries) (λ t. refl) (λ t. sum_of_held f number holder false s.entries)
+
+advance_keeps : (old : World) (moment : ℕ) → KeepsContent old (advance_at old moment)
+advance_keeps old moment =
+    let after = world_of (advanced moment (abort_each (ended_at moment old.live) old.space)) (going_at moment old.live) old.begun old.commits in
+    let s = abort_each (ended_at moment old.live) old.space in
+    cond_both (ltb moment old.space.moment) old after (KeepsContent old)
+    (λ t. keeps_same old old refl)
+    (λ t. keeps_at old after after
+    (λ f. cond_both (ltb moment s.moment) s (record { entries = filter (is_there moment) s.entries; moment = moment; last = s.last })
+    (λ (x : SpaceValue). sum_by (weight f) x.entries ≡ sum_by (weight f) old.space.entries)
+    (λ u. sum_of_aborts f (ended_at moment old.live) old.space)
+    (λ u. sum_of_there f moment s.entries ∙ sum_of_aborts f (ended_at moment old.live) old.space))
+    refl refl)
+
+-- what a step but an accepted commit does to the content
+pub step_keeps : (old : World) (t : TxnValue) (call : Call) (answer : Answer) (new : World) (t' : TxnValue) → Step old t call answer new t' → LeavesContent call answer → KeepsContent old new
+step_keeps old t (inp_in template) (found (Stored number)) new t' s l =
+    keeps_at old (with_space old (taken_space old.space t.number number)) new (λ f. sum_of_held f number t.number true old.space.entries) refl s.4
+step_keeps old t (inp_in template) (found (Own place)) new t' s l = keeps_same old new s.3
+step_keeps old t (inp_in template) nothing new t' s l = keeps_same old new s.3
+step_keeps old t (inp_in template) (refused error) new t' s l = keeps_same old new s.1
+step_keeps old t (rdp_in template) (found (Stored number)) new t' s l =
+    keeps_at old (with_space old (read_space old.space t.number t.marks number)) new (λ f. read_weighs f old.space t.number t.marks number) refl s.4
+step_keeps old t (rdp_in template) (found (Own place)) new t' s l = keeps_same old new s.3
+step_keeps old t (rdp_in template) nothing new t' s l = keeps_same old new s.3
+step_keeps old t (rdp_in template) (refused error) new t' s l = keeps_same old new s.1
+step_keeps old t (renew_txn asked) done new t' s l = keeps_at old (renew_at old t.number asked) new (λ f. refl) refl s.1
+step_keeps old t (renew_txn asked) (refused error) new t' s l = keeps_same old new s.1
+step_keeps old t commit (refused error) new t' s l = keeps_same old new s.1
+step_keeps old t abort done new t' s l =
+    keeps_at old (abort_at old t.number) new (λ f. sum_of_released f t.number old.space.moment old.space.entries) refl s.1
+step_keeps old t abort (refused error) new t' s l = keeps_same old new s.1
+step_keeps old t commit done new t' s l = absurd l
+step_keeps old t _ _ new t' s l = absurd s
+
+pub begin_keeps : (old : World) (asked : ℕ) (result : Result TxnValue TxnError) (new : World) → BeginStep old asked result new → KeepsContent old new
+begin_keeps old asked (Ok t) new s = keeps_at old (begin_at old asked) new (λ f. refl) refl s.2
+begin_keeps old asked (Err Exhausted) new s = keeps_same old new s.1
+begin_keeps old asked (Err OutOfMemory) new s = keeps_same old new s.1
+begin_keeps old asked (Err Expired) new s = absurd s
+begin_keeps old asked (Err Foreign) new s = absurd s
+
+pub advance_step_keeps : (old : World) (moment : ℕ) (result : Result (Unit {0}) SpaceError) (new : World) → AdvanceStep old moment (done_reply result) new → KeepsContent old new
+advance_step_keeps old moment (Ok u) new s =
+    let P : World → Type 0 = λ v. KeepsContent old v in
+    subst P (sym s.1) (advance_keeps old moment)
+advance_step_keeps old moment (Err moments_used_up) new s = keeps_same old new s.1
+advance_step_keeps old moment (Err NotThere) new s = absurd s
+advance_step_keeps old moment (Err memory_used_up) new s = absurd s

@@ -4,18 +4,15 @@ use Rattle.std.specs.List.{sum_by}
 use Rattle.tuple_match.specs.FieldValue.{FieldValue}
 use Rattle.tuple_space.specs.Lease.{granted, is_permanent}
 use Rattle.tuple_space.specs.Entry.{is_held_by, is_taken_by}
+use Rattle.tuple_space.specs.Rows.{permanent_tuples}
 use Rattle.tuple_space.specs.Space.{without_taken}
-use Rattle.tuple_space.specs.declared.entry.Entry.{Entry}
 use Rattle.tuple_space.specs.declared.write.Write.{Write}
+use Rattle.space_txn.specs.Machine.{Call, commit, Answer, done}
 use Rattle.space_txn.specs.World.{World}
 
 -- two lists have the same items, each as often: every weight adds up to the same over both
 abbrev pub SameItems : {X : Type 0} → List X → List X → Type 0
 SameItems {X} xs ys = (f : X → ℕ) → sum_by f xs ≡ sum_by f ys
-
--- the permanent tuples among entries
-abbrev pub permanent_tuples : List Entry → List (List FieldValue)
-permanent_tuples entries = map (λ e. e.tuple) (filter (λ e. is_permanent e.end) entries)
 
 -- the content of a world: its permanent tuples, held and taken ones included
 abbrev pub content_of : World → List (List FieldValue)
@@ -42,3 +39,13 @@ pub record ChangesContent (old new : World) (number : ℕ) (writes : List Write)
   pub before : SameItems (content_of old) (gone_of old number ++ (kept_of old number ++ rest))
   pub after : SameItems (content_of new) (added_of writes ++ (kept_of old number ++ rest))
   pub counted : new.commits ≡ old.commits + 1
+
+-- each answer to a call but that a commit is done
+abbrev pub LeavesContent : Call → Answer → Type 0
+LeavesContent commit done = ⊥
+LeavesContent _ _ = Unit {0}
+
+-- the content stays as it was, and so does the number of commits
+pub record KeepsContent (old new : World) : Type 0 where
+  pub same : SameItems (content_of new) (content_of old)
+  pub counted : new.commits ≡ old.commits

@@ -6,12 +6,14 @@
 
 mod error;
 mod finding;
+mod laws;
 mod live;
 mod mark;
 mod txn;
 mod world;
 
 pub use error::TxnError;
+pub use laws::content_law;
 pub use mark::Mark;
 pub use txn::{Found, Txn};
 pub use world::TxnSpace;

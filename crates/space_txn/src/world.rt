@@ -1,9 +1,9 @@
 //! The space with transactions, and its calls.
 
-ghost use Rattle.std.specs.Prelude.{◌≡◌, ◌≤◌, IfErr, OnOk, MatchResult};
+ghost use Rattle.std.specs.Prelude.{◌≡◌, ◌≤◌, IfErr, IfOk, OnOk, MatchResult};
 ghost use Rattle.tuple_space.specs.Step as space;
 ghost use Rattle.tuple_space.specs.Space.{IsSpace, most};
-ghost use Rattle.space_txn.specs.Content.{ChangesContent};
+ghost use Rattle.space_txn.specs.Content.{ChangesContent, content_of};
 ghost use Rattle.space_txn.specs.World.{opening, with_space};
 ghost use Rattle.space_txn.specs.Machine.{IsAccepted, IsRefused, Step, BeginStep, AdvanceStep, abort, commit, end_answer, find_answer, inp_in, rdp_in, renew_answer, renew_txn};
 
@@ -12,10 +12,13 @@ use crate::finding::{find_own, mark_for, put_mark_on, take_own};
 use crate::live::{Live, abort_ended, drop_ended, drop_row, granted_end, is_live_in, renew_row};
 use crate::mark::{are_marks_of, has_mark_on};
 use crate::txn::{Found, Txn};
-use std::alloc::Global;
+use std::alloc::{AllocError, Global};
 use std::marker::Model;
 use tuple_match::{Template, Tuple};
 use tuple_space::{Claim, EntryId, Lease, MOST, Space, SpaceError, Writes};
+
+/// The marks that take no memory in a transaction's own list.
+const READY: usize = 4;
 
 /// A space of tuples with transactions.
 #[derive(Debug, Drop)]
@@ -27,7 +30,7 @@ pub struct TxnSpace {
 }
 
 impl Model for TxnSpace {
-    ghost use Rattle.space_txn.specs.Content.{ChangesContent};
+    ghost use Rattle.space_txn.specs.Content.{ChangesContent, content_of};
     ghost use Rattle.space_txn.specs.World.{IsWorld, World, world_of};
 
     ghost Value = { World };
@@ -247,7 +250,30 @@ impl TxnSpace {
         self.commits += 1;
         Ok(())
     }
-}
 
-/// The marks that take no memory in a transaction's own list.
-const READY: usize = 4;
+    /// Takes the permanent tuples out, in the order in which they were put out, held ones included. Refused memory, the
+    /// space comes back whole.
+    pub fn into_tuples(self) -> Result<Vec<Tuple>, (AllocError, TxnSpace)>
+        ensures ok { IfOk result (λ tuples. tuples.items ≡ content_of self) }
+        ensures handed_back { IfErr result (λ back. back.1 ≡ self) }
+    {
+        let TxnSpace {
+            space,
+            live,
+            begun,
+            commits,
+        } = self;
+        match space.into_permanent() {
+            Ok(tuples) => Ok(tuples),
+            Err((error, space)) => Err((
+                error,
+                TxnSpace {
+                    space,
+                    live,
+                    begun,
+                    commits,
+                },
+            )),
+        }
+    }
+}

@@ -1,6 +1,7 @@
 -- Rows of entries.
 use Rattle.std.specs.Prelude.{ℕ, ◌<◌, ◌==◌, not, List, AllPairs, filter, map, if◌then◌else◌}
-use Rattle.tuple_space.specs.Lease.{later}
+use Rattle.tuple_match.specs.FieldValue.{FieldValue}
+use Rattle.tuple_space.specs.Lease.{is_permanent, later}
 use Rattle.tuple_space.specs.declared.lease.LeaseEnd.{LeaseEnd}
 use Rattle.tuple_space.specs.declared.entry.Entry.{Entry}
 
@@ -19,3 +20,7 @@ changed number change entries = map (λ e. if e.number == number then change e e
 -- an entry whose lease ends at the later of its end and another
 abbrev pub with_end : LeaseEnd → Entry → Entry
 with_end end e = record e { end = later e.end end }
+
+-- the permanent tuples among entries
+abbrev pub permanent_tuples : List Entry → List (List FieldValue)
+permanent_tuples entries = map (λ e. e.tuple) (filter (λ e. is_permanent e.end) entries)

@@ -10,6 +10,7 @@ mod error;
 mod hold;
 mod holding;
 mod lease;
+mod permanent;
 mod rows;
 mod space;
 mod write;

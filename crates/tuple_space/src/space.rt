@@ -1,10 +1,10 @@
 //! The space and its calls.
 
-ghost use Rattle.std.specs.Prelude.{◌≡◌, ◌≤◌, ◌+◌, ◌^◌, ◌==◌, true, IfErr, IfSome, IfNone, OnErr, OnOk, find, option_map};
+ghost use Rattle.std.specs.Prelude.{◌≡◌, ◌≤◌, ◌+◌, ◌^◌, ◌==◌, true, IfErr, IfSome, IfNone, IfOk, OnErr, OnOk, find, option_map};
 ghost use Rattle.std.specs.Option.{option_copied};
 ghost use Rattle.tuple_space.specs.Space.{IsSpace, held_by, opening, released, with_entries, without_taken};
 ghost use Rattle.std.specs.List.{list_any};
-ghost use Rattle.tuple_space.specs.Rows.{changed, without};
+ghost use Rattle.tuple_space.specs.Rows.{changed, permanent_tuples, without};
 ghost use Rattle.tuple_space.specs.Writes.{IsPutRefusal, put_count, put_each};
 ghost use Rattle.tuple_space.specs.Step.{IsHad, NothingHad, Step, advance, count, done_reply, inp, inp_reply, now, out, out_reply, rdp, rdp_reply, renew, told};
 
@@ -13,6 +13,7 @@ use crate::error::SpaceError;
 use crate::hold::Holds;
 use crate::holding::{count_puts, drop_taken, hold_entry, put_rows, release_all};
 use crate::lease::Lease;
+use crate::permanent::permanent_of;
 use crate::rows::{
     change_end, count_of, entry_of, keep_there, newest_entry, newest_place, take_at, take_number,
 };
@@ -230,5 +231,23 @@ impl Space {
             self.last,
         );
         Ok(())
+    }
+
+    /// Takes the tuples out whose lease is forever, in order of number, held ones included. Refused memory, the space comes
+    /// back whole.
+    pub fn into_permanent(self) -> Result<Vec<Tuple>, (AllocError, Space)>
+        ensures ok { IfOk result (λ tuples. tuples.items ≡ permanent_tuples self.entries) }
+        ensures handed_back { IfErr result (λ back. back.1 ≡ self) }
+    {
+        let alloc = *self.entries.allocator();
+        let Ok(room) = Vec::with_capacity(alloc, self.entries.len()) else {
+            return Err((AllocError, self));
+        };
+        let Space {
+            entries,
+            moment: _,
+            last: _,
+        } = self;
+        Ok(permanent_of(entries, room))
     }
 }
