@@ -3,4 +3,5 @@ pub mod Command
 pub mod Field
 pub mod Number
 pub mod Reply
+pub mod Session
 pub mod Words

@@ -2,14 +2,17 @@
 #![tactic(auto)]
 
 mod arguments;
+mod carrying;
 mod command;
 mod error;
 mod fields;
+mod keeping;
 mod law;
 mod line;
 mod lists;
 mod numbers;
 mod reply;
+mod session;
 mod verb;
 
 pub use command::Command;
@@ -17,6 +20,7 @@ pub use error::LineError;
 pub use law::line_law;
 pub use line::{LONGEST_LINE, read_line};
 pub use reply::{Reply, reply_line};
+pub use session::Session;
 
 #[cfg(test)]
 mod tests;

@@ -1,6 +1,6 @@
 //! What no contract says: that lines are read and replies written while there is memory, and how they look.
 
-use crate::{LineError, Reply, read_line, reply_line};
+use crate::{LineError, Reply, Session, read_line, reply_line};
 use std::alloc::Global;
 use std::test::Fail;
 use tuple_match::{Field, Tuple};
@@ -219,4 +219,126 @@ fn names_the_errors(rt: HostRuntime) -> Result<(), Fail> {
         assert_eq!(rt; format!(in rt.alloc(); "{error}")?.as_str(), text);
     }
     Ok(())
+}
+
+/// Carries lines out, and compares each reply with the line that stands beside it.
+fn expect_replies(alloc: Global, rows: &[(&str, &str)]) -> Result<(), Fail> {
+    let mut session = Session::new(alloc);
+    for (line, want) in rows {
+        let reply = match read_line(alloc, line.as_bytes()) {
+            Ok(Some(command)) => session.perform(command)?,
+            Ok(None) => return Err(Fail::new("a line without words")),
+            Err(LineError::BadCommand) => Reply::Refused(36),
+            Err(LineError::OutOfMemory) => return Err(Fail::new("out of memory")),
+        };
+        let text = reply_line(alloc, &reply)?;
+        if text.strip_suffix(b"\n") != Some(want.as_bytes()) {
+            return Err(Fail::new(format_args!("another reply to {line}")));
+        }
+    }
+    Ok(())
+}
+
+#[test]
+fn leases_end(rt: HostRuntime) -> Result<(), Fail> {
+    expect_replies(
+        rt.alloc(),
+        &[
+            ("out - 0 job 5", "ok"),
+            ("rdp - job ?i", "none"),
+            ("advance 7", "ok"),
+            ("advance 3", "ok"),
+            ("out - 5 job 6", "ok"),
+            ("advance 11", "ok"),
+            ("rdp - job ?i", "got job 6"),
+            ("advance 12", "ok"),
+            ("rdp - job ?i", "none"),
+            ("out - forever -007 a_1", "ok"),
+            ("rdp - ?i ?w", "got -7 a_1"),
+            ("rdp - ?i ?i", "none"),
+            ("out - forever node []", "ok"),
+            ("inp - node ?l", "got node []"),
+            ("rdp - node ?l", "none"),
+        ],
+    )
+}
+
+#[test]
+fn transactions_expire(rt: HostRuntime) -> Result<(), Fail> {
+    expect_replies(
+        rt.alloc(),
+        &[
+            ("out - forever job 1", "ok"),
+            ("begin 10", "txn 1"),
+            ("inp 1 job ?i", "got job 1"),
+            ("rdp - job ?i", "none"),
+            ("advance 10", "ok"),
+            ("rdp - job ?i", "got job 1"),
+            ("commit 1", "refused 31"),
+        ],
+    )
+}
+
+#[test]
+fn what_is_read_is_not_taken(rt: HostRuntime) -> Result<(), Fail> {
+    expect_replies(
+        rt.alloc(),
+        &[
+            ("out - forever job 1", "ok"),
+            ("begin 100", "txn 1"),
+            ("begin 100", "txn 2"),
+            ("rdp 1 job ?i", "got job 1"),
+            ("rdp 2 job ?i", "got job 1"),
+            ("inp 2 job ?i", "none"),
+            ("abort 1", "ok"),
+            ("inp 2 job ?i", "got job 1"),
+            ("rdp - job ?i", "none"),
+            ("commit 2", "ok"),
+            ("rdp - job ?i", "none"),
+        ],
+    )
+}
+
+#[test]
+fn writes_wait_for_the_commit(rt: HostRuntime) -> Result<(), Fail> {
+    expect_replies(
+        rt.alloc(),
+        &[
+            ("begin 50", "txn 1"),
+            ("out 1 forever job 9", "ok"),
+            ("rdp - job ?i", "none"),
+            ("rdp 1 job ?i", "got job 9"),
+            ("commit 1", "ok"),
+            ("inp - job ?i", "got job 9"),
+            ("inp - job ?i", "none"),
+            ("job 1", "refused 36"),
+            ("advance 4611686018427387905", "refused 33"),
+        ],
+    )
+}
+
+#[test]
+fn a_held_tuple_stays_for_its_holder(rt: HostRuntime) -> Result<(), Fail> {
+    expect_replies(
+        rt.alloc(),
+        &[
+            ("out - 5 job 1", "ok"),
+            ("begin 20", "txn 1"),
+            ("inp 1 job ?i", "got job 1"),
+            ("advance 6", "ok"),
+            ("abort 1", "ok"),
+            ("rdp - job ?i", "none"),
+            ("out 1 forever job 2", "refused 31"),
+            ("begin 0", "txn 2"),
+            ("rdp 2 job ?i", "refused 31"),
+            ("begin 10", "txn 3"),
+            ("renew 3 20", "ok"),
+            ("advance 20", "ok"),
+            ("out 3 0 job 3", "ok"),
+            ("inp 3 job ?i", "got job 3"),
+            ("commit 3", "ok"),
+            ("commit 3", "refused 31"),
+            ("renew 9 1", "refused 31"),
+        ],
+    )
 }

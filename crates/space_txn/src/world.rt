@@ -4,7 +4,7 @@ ghost use Rattle.std.specs.Prelude.{◌≡◌, ◌≤◌, IfErr, IfOk, OnOk, Mat
 ghost use Rattle.tuple_space.specs.Step as space;
 ghost use Rattle.tuple_space.specs.Space.{IsSpace, most};
 ghost use Rattle.space_txn.specs.Content.{ChangesContent, content_of};
-ghost use Rattle.space_txn.specs.World.{opening, with_space};
+ghost use Rattle.space_txn.specs.World.{is_live_transaction, opening, with_space};
 ghost use Rattle.space_txn.specs.Machine.{IsAccepted, IsRefused, Step, BeginStep, AdvanceStep, abort, commit, end_answer, find_answer, inp_in, rdp_in, renew_answer, renew_txn};
 
 use crate::error::{TxnError, refusal_of};
@@ -190,6 +190,13 @@ impl TxnSpace {
         let mark = mark_for(entry, false)?;
         put_mark_on(&mut self.space, &mut txn.marks, txn.number, id, mark)?;
         Ok(Some(Found::Entry(id)))
+    }
+
+    /// Whether the transaction is live in this space.
+    pub fn is_live(&self, txn: &Txn) -> bool
+        ensures { result ≡ is_live_transaction self.now txn.now.number }
+    {
+        is_live_in(&self.live, self.space.now(), txn.number)
     }
 
     /// Renews a transaction's lease: its end is the later of its old end and that of a lease granted now. Refusals: 31, 32.

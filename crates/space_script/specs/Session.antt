@@ -1,0 +1,151 @@
+-- What the commands of a script do: steps of the space with transactions.
+use Rattle.std.specs.Prelude.{◌≡◌, ◌≢◌, ℕ, ◌⊎◌, true, false, List, [], ◌∷◌, ◌++◌, All, filter, slice_get, Option, Some, None, Ok, Err}
+use Rattle.std.specs.List.{remove}
+use Rattle.tuple_match.specs.FieldValue.{FieldValue}
+use Rattle.tuple_space.specs.Step as space
+use Rattle.tuple_space.specs.declared.lease.Lease.{Lease}
+use Rattle.tuple_space.specs.declared.error.SpaceError.TheVariants.{Exhausted as numbers_used_up}
+use Rattle.space_txn.specs.Machine.{Answer, Call, Step, BeginStep, AdvanceStep, inp_in, rdp_in, renew_txn, commit, abort, found, nothing, done, refused}
+use Rattle.space_txn.specs.Txn.{TxnValue, found_tuple}
+use Rattle.space_txn.specs.World.{World, opening, with_space, is_live_transaction}
+use Rattle.space_txn.specs.declared.error.TxnError.{TxnError}
+use Rattle.space_txn.specs.declared.error.TxnError.TheVariants.{Expired, Foreign, Exhausted, OutOfMemory}
+use Rattle.space_script.specs.declared.command.Command.{Command}
+use Rattle.space_script.specs.declared.command.Command.TheVariants.{Out, Inp, Rdp, Begin, Renew, Commit, Abort, Advance}
+use Rattle.space_script.specs.declared.reply.Reply.{Reply}
+use Rattle.space_script.specs.declared.reply.Reply.TheVariants.{Done, Begun, Got, Nothing, Refused}
+
+-- a space, and the values of the transactions that a script keeps
+pub record SessionValue : Type 0 where
+  pub world : World
+  pub kept : List TxnValue
+
+abbrev pub session_of : World → List TxnValue → SessionValue
+session_of world kept = record { world = world; kept = kept }
+
+-- nothing has happened yet
+abbrev pub start : SessionValue
+start = session_of opening []
+
+-- a transaction of this number is among those kept, and these are the others
+pub record TakesOut (kept : List TxnValue) (number : ℕ) (t : TxnValue) (rest : List TxnValue) : Type 0 where
+  pub place : ℕ
+  pub stands : slice_get kept place ≡ Some t
+  pub named : t.number ≡ number
+  pub others : rest ≡ remove kept place
+
+-- no transaction of this number is kept
+abbrev pub NoneKept : List TxnValue → ℕ → Type 0
+NoneKept kept number = All (λ (t : TxnValue). t.number ≢ number) kept
+
+-- the transactions that are live in a world
+abbrev pub live_of : World → List TxnValue → List TxnValue
+live_of w kept = filter (λ t. is_live_transaction w t.number) kept
+
+-- how the space's reply to a call outside all transactions is told
+abbrev pub Tells : space.Reply → Reply → Type 0
+Tells (space.given number) Done = Unit {0}
+Tells (space.got number tuple) (Got told) = told ≡ tuple
+Tells space.nothing Nothing = Unit {0}
+Tells space.done Done = Unit {0}
+Tells (space.refused numbers_used_up) (Refused number) = number ≡ 33
+Tells _ _ = ⊥
+
+-- a call outside all transactions
+pub record Outside (old : World) (event : space.Event) (reply : Reply) (new : World) : Type 0 where
+  pub answer : space.Reply
+  pub step : space.Step old.space event answer new.space
+  pub rest : new ≡ with_space old new.space
+  pub told : Tells answer reply
+
+-- how the refusal of a call on a transaction is told
+abbrev pub TellsRefusal : TxnError → ℕ → Type 0
+TellsRefusal Expired number = number ≡ 31
+TellsRefusal Foreign number = number ≡ 32
+TellsRefusal Exhausted number = number ≡ 33
+TellsRefusal OutOfMemory number = ⊥
+
+abbrev pub IsRefusedReply : TxnError → Reply → Type 0
+IsRefusedReply error (Refused number) = TellsRefusal error number
+IsRefusedReply error _ = ⊥
+
+-- how the answer to a call on a transaction is told
+abbrev pub TellsAnswer : TxnValue → Answer → Reply → Type 0
+TellsAnswer t (found what) (Got tuple) = found_tuple t what ≡ Some tuple
+TellsAnswer t nothing Nothing = Unit {0}
+TellsAnswer t done Done = Unit {0}
+TellsAnswer t (refused error) reply = IsRefusedReply error reply
+TellsAnswer _ _ _ = ⊥
+
+-- what an option has, as a list
+abbrev pub option_list : {A : Type 0} → Option A → List A
+option_list None = []
+option_list (Some x) = x ∷ []
+
+-- a search or a renewal under a transaction, and its value afterwards
+pub record Calls (old : World) (t : TxnValue) (call : Call) (reply : Reply) (new : World) (after : TxnValue) : Type 0 where
+  pub answer : Answer
+  pub step : Step old t call answer new after
+  pub told : TellsAnswer after answer reply
+
+-- a commit or an abort: the transaction is spent where it is done, and else kept
+abbrev pub left_by : Answer → TxnValue → List TxnValue
+left_by done t = []
+left_by _ t = t ∷ []
+
+pub record Ends (old : World) (t : TxnValue) (call : Call) (reply : Reply) (new : World) (left : List TxnValue) : Type 0 where
+  pub answer : Answer
+  pub step : Step old t call answer new t
+  pub told : TellsAnswer t answer reply
+  pub left_is : left ≡ left_by answer t
+
+-- a transaction's value with one more write
+abbrev pub with_write : TxnValue → List FieldValue → Lease → TxnValue
+with_write t tuple lease = record t { writes = t.writes ++ record { tuple = tuple; lease = lease; taken = false } ∷ [] }
+
+-- a write under a transaction, which is refused where that isn't live
+abbrev pub Writes : World → TxnValue → List FieldValue → Lease → Reply → TxnValue → Type 0
+Writes w t tuple lease Done after = (is_live_transaction w t.number ≡ true) × (after ≡ with_write t tuple lease)
+Writes w t tuple lease (Refused number) after = (is_live_transaction w t.number ≡ false) × (number ≡ 31) × (after ≡ t)
+Writes _ _ _ _ _ _ = ⊥
+
+-- what is done under a transaction of this number, and what is left of it; none that is kept is refused 31
+abbrev pub Under : SessionValue → ℕ → (World → TxnValue → Reply → World → List TxnValue → Type 0) → Reply → SessionValue → Type 0
+Under old number P reply new =
+    (NoneKept old.kept number × (reply ≡ Refused 31) × (new ≡ old))
+    ⊎ ((t : TxnValue) × (rest : List TxnValue) × (left : List TxnValue) × TakesOut old.kept number t rest × P old.world t reply new.world left × (new.kept ≡ rest ++ left))
+
+-- the same where one value is left
+abbrev pub Left : (TxnValue → Type 0) → List TxnValue → Type 0
+Left P left = (after : TxnValue) × (left ≡ after ∷ []) × P after
+
+-- a transaction begun; it is kept where it is live
+abbrev pub Begins : SessionValue → ℕ → Reply → SessionValue → Type 0
+Begins old asked (Begun number) new = (t : TxnValue) × BeginStep old.world asked (Ok t) new.world × (t.number ≡ number) × (new.kept ≡ live_of new.world (old.kept ++ t ∷ []))
+Begins old asked (Refused number) new = BeginStep old.world asked (Err Exhausted) new.world × (number ≡ 33) × (new.kept ≡ old.kept)
+Begins _ _ _ _ = ⊥
+
+-- the moment moved on
+pub record Advances (old : World) (moment : ℕ) (reply : Reply) (new : World) : Type 0 where
+  pub answer : space.Reply
+  pub step : AdvanceStep old moment answer new
+  pub told : Tells answer reply
+
+-- a call outside all transactions leaves those that are kept as they are
+abbrev pub OutsideAll : SessionValue → space.Event → Reply → SessionValue → Type 0
+OutsideAll old event reply new = Outside old.world event reply new.world × (new.kept ≡ old.kept)
+
+-- From old, a command may be answered this reply and lead to new.
+abbrev pub Performs : SessionValue → Command → Reply → SessionValue → Type 0
+Performs old (Out None lease tuple) reply new = OutsideAll old (space.out tuple lease) reply new
+Performs old (Out (Some number) lease tuple) reply new =
+    Under old number (λ w t r v left. (v ≡ w) × Left (Writes w t tuple lease r) left) reply new
+Performs old (Inp None template) reply new = OutsideAll old (space.inp template) reply new
+Performs old (Inp (Some number) template) reply new = Under old number (λ w t r v left. Left (Calls w t (inp_in template) r v) left) reply new
+Performs old (Rdp None template) reply new = OutsideAll old (space.rdp template) reply new
+Performs old (Rdp (Some number) template) reply new = Under old number (λ w t r v left. Left (Calls w t (rdp_in template) r v) left) reply new
+Performs old (Begin asked) reply new = Begins old asked reply new
+Performs old (Renew number asked) reply new = Under old number (λ w t r v left. Left (Calls w t (renew_txn asked) r v) left) reply new
+Performs old (Commit number) reply new = Under old number (λ w t r v left. Ends w t commit r v left) reply new
+Performs old (Abort number) reply new = Under old number (λ w t r v left. Ends w t abort r v left) reply new
+Performs old (Advance moment) reply new = Advances old.world moment reply new.world × (new.kept ≡ live_of new.world old.kept)
