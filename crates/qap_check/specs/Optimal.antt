@@ -1,14 +1,16 @@
--- The answer to a certificate: the least cost that it shows.
-use Rattle.std.specs.Prelude.{ℕ, List, ◌++◌, ℤ, codes}
+-- The answer to a certificate: what it shows of the least cost.
+use Rattle.std.specs.Prelude.{ℕ, List, ◌++◌, codes}
 use Rattle.std.specs.Fmt.{signed_decimal}
 use Rattle.qap_cost.specs.Instance.{Problem}
-use Rattle.qap_cost.specs.Objective.{IsLeast}
-use Rattle.qap_cert.specs.Acceptance.{ShowsLeast}
+use Rattle.qap_cert.specs.Acceptance.{ShowsVerdict, IsSo}
+use Rattle.qap_cert.specs.declared.acceptance.Verdict.{Verdict}
+use Rattle.qap_cert.specs.declared.acceptance.Verdict.TheVariants.{Optimal, Gap}
 
--- the text shows that this cost is the least, and it is
-abbrev pub Proves : Problem → List ℕ → ℤ → Type 0
-Proves I text c = ShowsLeast I text c × IsLeast I c
+-- the text shows what the verdict says, and it is so
+abbrev pub Proves : Problem → List ℕ → Verdict → Type 0
+Proves I text v = ShowsVerdict I text v × IsSo I v
 
--- the line of a least cost
-abbrev pub optimal_line : ℤ → List ℕ
-optimal_line c = codes "optimal " ++ signed_decimal c ++ codes "\n"
+-- the line of a least cost, or of a bound and the cost above it
+abbrev pub answer_line : Verdict → List ℕ
+answer_line (Optimal c) = codes "optimal " ++ signed_decimal c ++ codes "\n"
+answer_line (Gap g c) = codes "gap " ++ signed_decimal g ++ codes " " ++ signed_decimal c ++ codes "\n"

@@ -5,7 +5,8 @@ use Rattle.qap_io.specs.Counting.{CountedDevice}
 use Rattle.qap_io.specs.Refusal.{RefusalText, memory_refusal, device_refusal}
 use Rattle.qap_cert.specs.Acceptance.{IsRefused}
 use Rattle.qap_cert.specs.declared.error.CertError.{CertError}
-use Rattle.qap_cert.specs.declared.error.CertError.TheVariants.{SizeDiffers as CertificateSize, BadHeader, BadVersion, BadLine, Truncated, TrailingText, CostDiffers, PermBad, SplitTooDeep, DualCount, DualRange, NotFeasible, BoundTooLow, SplitWidth, OutOfMemory as CertificateMemory, Device as CertificateDevice}
+use Rattle.qap_cert.specs.declared.error.CertError.TheVariants.{OutOfMemory as CertificateMemory, Device as CertificateDevice}
+use Rattle.qap_cert.specs.Refusal.{certificate_refusal}
 use Rattle.qap_text.specs.InstanceText.{IsInstanceFault}
 use Rattle.qap_text.specs.SolutionText.{IsSolutionFault}
 use Rattle.qap_text.specs.Whole.{ReadsWhole, IsReadFault}
@@ -73,30 +74,6 @@ IsNoSolution I text e = (fault : TextError) × (e ≡ of_text fault) × IsSoluti
 -- the text has this first fault as one of a certificate that shows a least cost
 abbrev pub IsNoProof : Problem → List ℕ → RunError → Type 0
 IsNoProof I text e = (fault : CertError) × (e ≡ of_certificate fault) × IsRefused I text fault
-
-abbrev refused : ℕ → List ℕ → RefusalText
-refused number name = record { number = number; name = name; at = None }
-
-abbrev refused_at : ℕ → List ℕ → ℕ → RefusalText
-refused_at number name line = record { number = number; name = name; at = Some line }
-
-abbrev pub certificate_refusal : CertError → RefusalText
-certificate_refusal (CertificateSize line) = refused_at 8 (codes "SizeDiffers") line
-certificate_refusal BadHeader = refused 11 (codes "BadHeader")
-certificate_refusal BadVersion = refused 12 (codes "BadVersion")
-certificate_refusal (BadLine line) = refused_at 13 (codes "BadLine") line
-certificate_refusal (Truncated line) = refused_at 14 (codes "Truncated") line
-certificate_refusal (TrailingText line) = refused_at 15 (codes "TrailingText") line
-certificate_refusal (CostDiffers line) = refused_at 16 (codes "CostDiffers") line
-certificate_refusal (PermBad line) = refused_at 17 (codes "PermBad") line
-certificate_refusal (SplitTooDeep line) = refused_at 18 (codes "SplitTooDeep") line
-certificate_refusal (DualCount line) = refused_at 19 (codes "DualCount") line
-certificate_refusal (DualRange line) = refused_at 20 (codes "DualRange") line
-certificate_refusal (NotFeasible line) = refused_at 21 (codes "NotFeasible") line
-certificate_refusal (BoundTooLow line) = refused_at 22 (codes "BoundTooLow") line
-certificate_refusal (SplitWidth line) = refused_at 23 (codes "SplitWidth") line
-certificate_refusal CertificateMemory = memory_refusal
-certificate_refusal CertificateDevice = device_refusal
 
 -- the refusal that a run is told as
 abbrev pub refusal_of : RunError → RefusalText

@@ -1,20 +1,23 @@
 //! A claimed optimum checked, from bytes to bytes.
 
-ghost use Rattle.std.specs.Prelude.{◌≡◌, ◌⊎◌, ◌≤◌, ◌^◌, unsigned_abs, IfOk, MatchResult, ℤ, string_bytes};
+ghost use Rattle.std.specs.Prelude.{◌≡◌, ◌⊎◌, IfOk, MatchResult, string_bytes};
 ghost use Rattle.qap_io.specs.Writing.{Sends, BreaksOff};
-ghost use Rattle.qap_check.specs.Optimal.{Proves, optimal_line};
+ghost use Rattle.qap_cert.specs.Acceptance.{IsLimitedVerdict};
+ghost use Rattle.qap_cert.specs.declared.acceptance.Verdict.{Verdict};
+ghost use Rattle.qap_check.specs.Optimal.{Proves, answer_line};
 ghost use Rattle.qap_check.specs.Refusal.{HasNoTexts, IsNoProof};
 ghost use Rattle.qap_check.specs.Source.{Source, ComeTo};
 
 use crate::reading::read_texts;
 use crate::refusal::RunError;
 use crate::source::{MAX_INPUT, Separators};
-use qap_cert::accept;
+use qap_cert::{Verdict, accept};
 use qap_io::{Counted, send};
 use std::alloc::{AllocError, Global};
 use std::io::{Read, Write};
 
-/// Reads an instance and a certificate for it, and writes one line with the least cost that the certificate shows.
+/// Reads an instance and a certificate for it, and writes one line with what the certificate shows: the least cost, or
+/// a bound and the cost above it.
 ///
 /// Without a second reader both texts come from the first one, one after the other, and white space and commas between
 /// them are passed over; else the certificate is all that the second reader has. The instance is judged before the second
@@ -35,24 +38,24 @@ pub fn optimal_stream<R: Read, S: Read, W: Write>(
       second = second.old;
       second_after = second.new;
     } in MatchResult result
-        (λ _. (c : ℤ) × ComeTo s Separators.PassedOver Proves c × Sends W.contents writer.old writer.new (optimal_line c))
+        (λ _. (v : Verdict) × ComeTo s Separators.PassedOver Proves v × Sends W.contents writer.old writer.new (answer_line v))
         (λ e. ((HasNoTexts s e ⊎ ComeTo s Separators.PassedOver IsNoProof e) × (writer.new ≡ writer.old))
-        ⊎ ((e ≡ RunError.Device) × (c : ℤ) × ComeTo s Separators.PassedOver Proves c
-        × BreaksOff W.contents writer.old writer.new (optimal_line c))) }
+        ⊎ ((e ≡ RunError.Device) × (v : Verdict) × ComeTo s Separators.PassedOver Proves v
+        × BreaksOff W.contents writer.old writer.new (answer_line v))) }
 {
-    let cost = least_cost(alloc, reader, second)?;
-    let line = line(alloc, cost)?;
+    let verdict = shown(alloc, reader, second)?;
+    let line = line(alloc, verdict)?;
     send(writer, line.as_bytes())?;
     Ok(())
 }
 
-/// The least cost that a certificate shows.
-fn least_cost<R: Read, S: Read>(
+/// What a certificate shows.
+fn shown<R: Read, S: Read>(
     alloc: Global,
     reader: &mut Counted<R>,
     second: &mut Option<Counted<S>>,
-) -> Result<i128, RunError>
-    ensures bounded { IfOk result (λ c. unsigned_abs c ≤ 10 ^ 24) }
+) -> Result<Verdict, RunError>
+    ensures bounded { IfOk result IsLimitedVerdict }
     ensures verdict { let s : Source R S = record {
       first_bytes = R.remaining;
       second_bytes = S.remaining;
@@ -67,9 +70,13 @@ fn least_cost<R: Read, S: Read>(
     Ok(accept(alloc, &texts.instance, texts.other.as_slice())?)
 }
 
-/// The line of a least cost.
-fn line(alloc: Global, cost: i128) -> Result<String, AllocError>
-    ensures { IfOk result (λ text. string_bytes text ≡ optimal_line cost) }
+/// The line of a verdict.
+fn line(alloc: Global, verdict: Verdict) -> Result<String, AllocError>
+    requires { IsLimitedVerdict verdict }
+    ensures { IfOk result (λ text. string_bytes text ≡ answer_line verdict) }
 {
-    format!(in alloc; "optimal {cost}\n")
+    match verdict {
+        Verdict::Optimal(cost) => format!(in alloc; "optimal {cost}\n"),
+        Verdict::Gap(bound, cost) => format!(in alloc; "gap {bound} {cost}\n"),
+    }
 }

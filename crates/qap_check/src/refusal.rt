@@ -3,7 +3,7 @@
 ghost use Rattle.std.specs.Prelude.{◌≡◌, MatchResult};
 ghost use Rattle.qap_io.specs.Refusal.{refusal_line};
 ghost use Rattle.qap_io.specs.Writing.{Sends, BreaksOff};
-ghost use Rattle.qap_check.specs.Refusal.{certificate_refusal, refusal_of, status_of};
+ghost use Rattle.qap_check.specs.Refusal.{refusal_of, status_of};
 ghost use Rattle.qap_check.specs.declared.refusal.RunError.TheVariants.{OutOfMemory as WantOfMemory, Device as FailedDevice};
 
 use qap_cert::CertError;
@@ -101,32 +101,8 @@ fn refusal(error: RunError) -> Refusal
 {
     match error {
         RunError::Text(fault) => fault.refusal(),
-        RunError::Certificate(fault) => refused_certificate(fault),
+        RunError::Certificate(fault) => fault.refusal(),
         RunError::OutOfMemory => Refusal::out_of_memory(),
         RunError::Device => Refusal::device(),
-    }
-}
-
-/// The refusal of a certificate, with its line where it has one.
-fn refused_certificate(fault: CertError) -> Refusal
-    ensures { result ≡ certificate_refusal fault }
-{
-    match fault {
-        CertError::SizeDiffers(line) => Refusal::at(8, "SizeDiffers", line),
-        CertError::BadHeader => Refusal::new(11, "BadHeader"),
-        CertError::BadVersion => Refusal::new(12, "BadVersion"),
-        CertError::BadLine(line) => Refusal::at(13, "BadLine", line),
-        CertError::Truncated(line) => Refusal::at(14, "Truncated", line),
-        CertError::TrailingText(line) => Refusal::at(15, "TrailingText", line),
-        CertError::CostDiffers(line) => Refusal::at(16, "CostDiffers", line),
-        CertError::PermBad(line) => Refusal::at(17, "PermBad", line),
-        CertError::SplitTooDeep(line) => Refusal::at(18, "SplitTooDeep", line),
-        CertError::DualCount(line) => Refusal::at(19, "DualCount", line),
-        CertError::DualRange(line) => Refusal::at(20, "DualRange", line),
-        CertError::NotFeasible(line) => Refusal::at(21, "NotFeasible", line),
-        CertError::BoundTooLow(line) => Refusal::at(22, "BoundTooLow", line),
-        CertError::SplitWidth(line) => Refusal::at(23, "SplitWidth", line),
-        CertError::OutOfMemory => Refusal::out_of_memory(),
-        CertError::Device => Refusal::device(),
     }
 }

@@ -296,14 +296,16 @@ fn messages(rt: HostRuntime) -> Result<(), Fail> {
 const TWO: &[u8] = b"2 0 3 1 0 0 2 5 0";
 /// Three facilities, both matrices symmetric: the least cost is 24.
 const THREE: &[u8] = b"3 0 1 2 1 0 3 2 3 0 0 5 2 5 0 1 2 1 0";
+/// Two facilities: the order 0 1 costs 15, and 1 0 costs 30.
+const FLOWS: &[u8] = b"2\n0 4\n1 0\n0 2\n7 0\n";
 /// Three facilities, of which each permutation costs 1.
 const RING: &[u8] = b"3 0 1 0 0 0 1 1 0 0 0 1 0 1 0 0 0 0 0";
 /// A certificate of the least cost of `THREE`.
 const ROOT_BOUND: &[u8] = b"qapcert 1\nn 3\ncost 24\nperm 1 2 3\nb 9 10 12 0 -2 -5\nend\n";
 
 #[test]
-fn least_costs(rt: HostRuntime) {
-    let cases: [(&[u8], &[u8], &[u8]); 6] = [
+fn least_costs_and_gaps(rt: HostRuntime) {
+    let cases: [(&[u8], &[u8], &[u8]); 11] = [
         (THREE, ROOT_BOUND, b"optimal 24\n"),
         (
             TWO,
@@ -329,6 +331,31 @@ fn least_costs(rt: HostRuntime) {
             b"1 -3 7",
             b"qapcert 1\nn 1\ncost -21\nperm 1\nb -20 -1\nend\n",
             b"optimal -21\n",
+        ),
+        (
+            RING,
+            b"qapcert 2\nn 3\ncost 1\nperm 1 2 3\ns 2\nb 0 0 1 0\nb 0 0 1 0\nb 0 1 0 0\nend\n",
+            b"optimal 1\n",
+        ),
+        (
+            FLOWS,
+            b"qapcert 2\nn 2\ncost 15\nperm 1 2\ns 2\ns 1\nb\nb 15 0\nend\n",
+            b"optimal 15\n",
+        ),
+        (
+            FLOWS,
+            b"qapcert 2\nn 2\ncost 15\nperm 1 2\nbound 12\nb 8 2 0 2\nend\n",
+            b"gap 12 15\n",
+        ),
+        (
+            RING,
+            b"qapcert 2\nn 3\ncost 1\nperm 1 2 3\nbound 0\nb 0 0 0 0 0 0\nend\n",
+            b"gap 0 1\n",
+        ),
+        (
+            RING,
+            b"qapcert 2\nn 3\ncost 1\nperm 1 2 3\nbound -5\nb 0 0 0 0 0 0\nend\n",
+            b"gap -5 1\n",
         ),
     ];
     for (instance, certificate, want) in cases {
@@ -369,7 +396,22 @@ fn one_input(rt: HostRuntime) {
 
 #[test]
 fn refused_certificates(rt: HostRuntime) {
-    let cases: [(&[u8], &[u8], &[u8]); 23] = [
+    let cases: [(&[u8], &[u8], &[u8]); 26] = [
+        (
+            RING,
+            b"qapcert 2\nn 3\ncost 1\nperm 1 2 3\ns 2\ns 2\nb 0 0 1 0\nb 0 1 0 0\nend\n",
+            b"25 FacilityTaken at 6",
+        ),
+        (
+            RING,
+            b"qapcert 2\nn 3\ncost 1\nperm 1 2 3\nbound 1\nb 0 0 0 0 0 0\nend\n",
+            b"13 BadLine at 5",
+        ),
+        (
+            RING,
+            b"qapcert 2\nn 3\ncost 1\nperm 1 2 3\nbound 0\nb 0 0 -1 0 0 0\nend\n",
+            b"22 BoundTooLow at 6",
+        ),
         (TWO, ROOT_BOUND, b"8 SizeDiffers at 2"),
         (THREE, b"cert 1\n", b"11 BadHeader"),
         (THREE, b"qapcert 3\n", b"12 BadVersion"),

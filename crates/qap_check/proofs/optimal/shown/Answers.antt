@@ -5,7 +5,7 @@ use Rattle.qap_cert.specs.declared.error.CertError.TheVariants.{OutOfMemory as C
 use Rattle.qap_check.specs.Refusal.{of_certificate}
 use Rattle.qap_check.specs.declared.source.Separators.TheVariants.{PassedOver}
 use Rattle.qap_check.proofs.Comes.{wants_memory}
-use Rattle.qap_check.proofs.optimal.least_cost.Goals as goal
+use Rattle.qap_check.proofs.optimal.shown.Goals as goal
 
 pub returns-in_err-texts-clause-verdict : goal.returns-in_err-texts-clause-verdict
 returns-in_err-texts-clause-verdict g c =
