@@ -5,3 +5,4 @@ pub mod SolutionText
 pub mod Spelling
 pub mod Whole
 pub mod Word
+pub mod WrittenSolution

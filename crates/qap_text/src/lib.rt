@@ -6,12 +6,14 @@ mod instance_text;
 mod number;
 mod numeral;
 mod solution_text;
+mod solution_writing;
 mod whole;
 mod word;
 
 pub use error::TextError;
 pub use instance_text::{instance_text_law, read_instance};
 pub use solution_text::{read_solution, solution_text_law};
+pub use solution_writing::write_solution;
 pub use whole::read_all;
 pub use word::skip_separators;
 

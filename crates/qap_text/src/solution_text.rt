@@ -15,12 +15,9 @@ ghost use Rattle.qap_text.specs.SolutionText.{
 
 use crate::TextError;
 use crate::numeral::next_number;
-use qap_cost::Perm;
+use qap_cost::{MAX_VALUE, Perm};
 use qap_io::from_one;
 use std::alloc::Global;
-
-/// The greatest absolute value that a solution may state.
-const MAX_VALUE: u128 = 1_000_000_000_000_000_000_000_000;
 
 /// Reads a solution of size `n` at the front of a text: `n`, the objective value (-10^24 to 10^24), and the locations of
 /// the facilities, counted from 1.

@@ -1,6 +1,7 @@
 //! What no clause says: that calls succeed, and what worked texts are read as.
 
-use crate::{TextError, read_all, read_instance, read_solution};
+use crate::{TextError, read_all, read_instance, read_solution, write_solution};
+use qap_cost::Perm;
 use qap_io::{Counted, FailAt, OneByte};
 use std::test::Fail;
 
@@ -149,4 +150,55 @@ fn fails_at_each_read(rt: HostRuntime) {
         assert_eq!(rt; read, Some(TextError::Device), "at call {call}");
         assert_eq!(rt; reader.failed(), 1);
     }
+}
+
+/// A value, the locations from 0, and the text.
+const WRITTEN: [(i128, &[u16], &[u8]); 3] = [
+    (24, &[0, 1, 2], b"3 24\n1 2 3\n"),
+    (-21, &[0], b"1 -21\n1\n"),
+    (
+        -1_000_000_000_000_000_000_000_000,
+        &[10, 0, 9, 1, 8, 2, 7, 3, 6, 4, 5],
+        b"11 -1000000000000000000000000\n11 1 10 2 9 3 8 4 7 5 6\n",
+    ),
+];
+
+#[test]
+fn writes_what_is_read(rt: HostRuntime) -> Result<(), Fail> {
+    let alloc = rt.alloc();
+    for (value, locations, text) in WRITTEN {
+        let Ok(permutation) = Perm::new(Vec::from_slice(alloc, locations)?) else {
+            panic!(rt; "a permutation is refused");
+        };
+        let mut writer = Counted::new(Vec::new(alloc));
+        assert_eq!(rt;
+            write_solution(alloc, &mut writer, value, &permutation),
+            Ok(())
+        );
+        assert_eq!(rt; (writer.failed(), writer.is_flushed()), (0, true));
+        assert_eq!(rt; writer.into_inner().as_slice(), text);
+        let (stated, read) = read_solution(alloc, permutation.len().clamp(1, 256), text)?;
+        assert_eq!(rt; (stated, read.locations()), (value, locations));
+    }
+    Ok(())
+}
+
+// The calls are the writes of a byte each, and then the flush.
+#[test]
+fn writing_fails_at_each_call(rt: HostRuntime) -> Result<(), Fail> {
+    let alloc = rt.alloc();
+    let text = b"3 24\n1 2 3\n".as_slice();
+    let Ok(permutation) = Perm::new(Vec::from_slice(alloc, &[0, 1, 2])?) else {
+        panic!(rt; "a permutation is refused");
+    };
+    for call in 1..=text.len() + 1 {
+        let failing = OneByte::new(FailAt::new(Vec::new(alloc), call as u64));
+        let mut writer = Counted::new(failing);
+        let written = write_solution(alloc, &mut writer, 24, &permutation);
+        assert_eq!(rt; written, Err(TextError::Device), "at call {call}");
+        assert_eq!(rt; (writer.failed(), writer.is_flushed()), (1, false));
+        let bytes = writer.into_inner().into_inner().into_inner();
+        assert_eq!(rt; bytes.as_slice(), &text[..text.len().min(call - 1)]);
+    }
+    Ok(())
 }
