@@ -13,7 +13,7 @@ mod txn;
 mod world;
 
 pub use error::TxnError;
-pub use laws::content_law;
+pub use laws::{content_law, ending_law, expired_law, holding_law, lease_law, moment_law};
 pub use mark::Mark;
 pub use txn::{Found, Txn};
 pub use world::TxnSpace;
