@@ -321,3 +321,23 @@ fn tells_each_refusal(rt: HostRuntime) -> Result<(), Fail> {
     }
     Ok(())
 }
+
+#[test]
+fn stops_at_the_last_numbers(rt: HostRuntime) -> Result<(), Fail> {
+    let mut space = TxnSpace::nearly_used_up(rt.alloc());
+    let first = space.begin(10)?;
+    let second = space.begin(10)?;
+    assert_eq!(rt; second.number(), 1 << 62);
+    assert!(rt; space.begin(10).is_err());
+    assert!(rt; space.commit(first).is_ok());
+    assert_eq!(rt; space.commits(), 1 << 62);
+    match space.commit(second) {
+        Ok(()) => assert!(rt; false, "accepted"),
+        Err((error, back)) => {
+            assert_eq!(rt; error, TxnError::Exhausted);
+            assert!(rt; space.abort(back).is_ok());
+        }
+    }
+    assert_eq!(rt; space.commits(), 1 << 62);
+    Ok(())
+}
