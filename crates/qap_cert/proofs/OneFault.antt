@@ -1,18 +1,18 @@
 -- A text has one first fault.
-use Rattle.std.proofs.Common.{◌≡◌, ◌≢◌, ℕ, zero, suc, ◌+◌, ◌<◌, ◌≤◌, List, [], ◌∷◌, ◌++◌, length, get_or, ℤ, pos, refl, sym, ap, subst, ◌∙◌, inl, inr, arith, length-append}
+use Rattle.std.proofs.Common.{◌≡◌, ◌≢◌, ℕ, zero, suc, ◌<◌, ◌≤◌, List, [], ◌∷◌, ◌++◌, length, get_or, ℤ, pos, refl, sym, ap, subst, ◌∙◌, inl, inr, arith, length-append}
 use Rattle.std.proofs.lemmas.Bool.{cases_order}
-use Rattle.std.specs.Prelude.{codes, ◌⊎◌}
+use Rattle.std.specs.Prelude.{codes}
 use Rattle.qap_cost.specs.Bijection.{IsPerm}
 use Rattle.qap_cost.specs.Range.{AllLimited}
 use Rattle.qap_cert.proofs.Lines.{IsLine-unique, no_line-line}
-use Rattle.qap_cert.proofs.Locations.{AllLimited-permutation, from_one-injective}
+use Rattle.qap_cert.proofs.Locations.{AllLimited-permutation}
 use Rattle.qap_cert.proofs.Numbers.{AllLimited-one, IsLine-line_text, IsNamed-unique, IsNamed-numbers_text}
 use Rattle.qap_cert.proofs.OneText.{no_line-version, no_line-size, no_line-cost, no_line-perm, no_line-split, no_line-below, no_line-end, line_front, line_fault, named_fault, split_line, split_named, split_or_bound, small_number, trees_front, tree_front, next_tree, no_tree_fault, header_line, perm_line}
 use Rattle.qap_cert.proofs.Versions.{AllLimited-split_numbers, same_facility, same_number, one_version, version_limited}
 use Rattle.qap_cert.specs.Line.{line_after, IsLine}
 use Rattle.qap_cert.specs.Number.{IsNamed}
-use Rattle.qap_cert.specs.Shape.{HasShape, AllHaveShape, child_count}
-use Rattle.qap_cert.specs.Text.{numbers_text, line_text, from_one, tree_text, trees_text}
+use Rattle.qap_cert.specs.Shape.{AllHaveShape, child_count}
+use Rattle.qap_cert.specs.Text.{numbers_text, line_text, from_one, trees_text}
 use Rattle.qap_cert.specs.TextFault.{IsLineFault, IsHeaderFault, IsSizeFault, IsCostFault, IsPermFault, IsNodeFault, IsTreeTextFault, IsEndFault, IsBelow, IsFaultFromTree, IsFaultFromBound, IsFaultFromPerm, IsFaultFromCost, IsFaultFromSize, IsTextFault}
 use Rattle.qap_cert.specs.Tree.{Node, Nodes, node_count, nodes_count}
 use Rattle.qap_cert.specs.Version.{version_number, split_numbers}
