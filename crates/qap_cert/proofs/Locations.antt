@@ -5,7 +5,7 @@ use Rattle.std.proofs.lemmas.List.{get_or-map, length-map, take_all}
 use Rattle.qap_cost.specs.Range.{AllLimited}
 use Rattle.qap_cost.specs.Bijection.{IsPerm}
 use Rattle.qap_cert.specs.Number.{IsNamed, held}
-use Rattle.qap_cert.specs.Text.{from_one}
+use Rattle.qap_io.specs.Number.{from_one}
 use Rattle.qap_cert.specs.TextFault.{IsPermFault}
 use Rattle.qap_cert.specs.declared.error.CertError.{CertError}
 use Rattle.qap_cert.specs.declared.error.CertError.TheVariants.{OutOfMemory, PermBad}

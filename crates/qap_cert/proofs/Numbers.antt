@@ -7,7 +7,8 @@ use Rattle.std.proofs.lemmas.Bool.{cases_lt}
 use Rattle.qap_cost.specs.Range.{AllLimited}
 use Rattle.qap_cert.specs.Line.{HasNoLine, IsLine}
 use Rattle.qap_cert.specs.Number.{IsNumber, Spells, IsNamed, held}
-use Rattle.qap_cert.specs.Numeral.{IsNoDigit, IsFrontNumber, HasNoFrontNumber}
+use Rattle.qap_io.specs.Digits.{IsNoDigit}
+use Rattle.qap_cert.specs.Numeral.{IsFrontNumber, HasNoFrontNumber}
 use Rattle.qap_cert.specs.Text.{numbers_text, line_text}
 use Rattle.qap_cert.proofs.Lines.{HasNoLine-append}
 use Rattle.qap_cert.proofs.Words.{number_fronts, IsNumber-unique, IsNumber-signed_decimal, number_word, HasNoLine-cons, HasNoLine-number}

@@ -4,7 +4,8 @@ use Rattle.std.specs.Prelude.{neg_ℤ}
 use Rattle.std.specs.Int.{w128}
 use Rattle.std.proofs.lemmas.Int.{to_z-of_z, fits_signed_from_abs}
 use Rattle.qap_cert.specs.Number.{IsDecimal, IsNumber}
-use Rattle.qap_cert.specs.Numeral.{magnitude_of, IsFront, IsFrontDecimal, IsFrontNumber, HasNoFrontDecimal, HasNoFrontNumber}
+use Rattle.qap_io.specs.Digits.{magnitude_of}
+use Rattle.qap_cert.specs.Numeral.{IsFront, IsFrontDecimal, IsFrontNumber, HasNoFrontDecimal, HasNoFrontNumber}
 use Rattle.qap_cert.proofs.Words.{no_minus, decimal_fronts}
 
 -- the 128 bits of a number held to 10^25 are that number

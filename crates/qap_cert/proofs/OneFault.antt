@@ -12,7 +12,8 @@ use Rattle.qap_cert.proofs.Versions.{AllLimited-split_numbers, same_facility, sa
 use Rattle.qap_cert.specs.Line.{line_after, IsLine}
 use Rattle.qap_cert.specs.Number.{IsNamed}
 use Rattle.qap_cert.specs.Shape.{AllHaveShape, child_count}
-use Rattle.qap_cert.specs.Text.{numbers_text, line_text, from_one, trees_text}
+use Rattle.qap_io.specs.Number.{from_one}
+use Rattle.qap_cert.specs.Text.{numbers_text, line_text, trees_text}
 use Rattle.qap_cert.specs.TextFault.{IsLineFault, IsHeaderFault, IsSizeFault, IsCostFault, IsPermFault, IsNodeFault, IsTreeTextFault, IsEndFault, IsBelow, IsFaultFromTree, IsFaultFromBound, IsFaultFromPerm, IsFaultFromCost, IsFaultFromSize, IsTextFault}
 use Rattle.qap_cert.specs.Tree.{Node, Nodes, node_count, nodes_count}
 use Rattle.qap_cert.specs.Version.{version_number, split_numbers}

@@ -16,7 +16,8 @@ use Rattle.qap_cert.specs.Certificate.{Claim, claim_of, IsBoundFor, IsCertificat
 use Rattle.qap_cert.specs.Line.{line_after, HasNoLine, IsLine}
 use Rattle.qap_cert.specs.Number.{IsNamed}
 use Rattle.qap_cert.specs.Shape.{HasShape, AllHaveShape, AreDuals, child_count}
-use Rattle.qap_cert.specs.Text.{numbers_text, line_text, from_one, tree_text, trees_text, bound_text, certificate_text, IsCertificateText}
+use Rattle.qap_io.specs.Number.{from_one}
+use Rattle.qap_cert.specs.Text.{numbers_text, line_text, tree_text, trees_text, bound_text, certificate_text, IsCertificateText}
 use Rattle.qap_cert.specs.TextFault.{IsLineFault, IsHeaderFault, IsSizeFault, IsCostFault, IsPermFault, IsSplitLine, IsNodeFault, IsTreeTextFault, IsEndFault, IsBelow, IsFaultFromTree, IsFaultFromBound, IsFaultFromPerm, IsFaultFromCost, IsFaultFromSize, IsTextFault}
 use Rattle.qap_cert.specs.Tree.{Node, split, bound, Nodes, no_nodes, node, node_count, nodes_count}
 use Rattle.qap_cert.specs.Version.{version_number, MayName, MayBound, split_numbers}

@@ -5,7 +5,8 @@ use Rattle.qap_cost.specs.Bijection.{IsPerm}
 use Rattle.qap_cost.specs.Range.{IsLimited}
 use Rattle.qap_cert.specs.Certificate.{claim_of, IsBoundFor, IsCertificate}
 use Rattle.qap_cert.specs.Shape.{HasShape}
-use Rattle.qap_cert.specs.Text.{line_text, from_one, bound_text, tree_text, IsCertificateText}
+use Rattle.qap_io.specs.Number.{from_one}
+use Rattle.qap_cert.specs.Text.{line_text, bound_text, tree_text, IsCertificateText}
 use Rattle.qap_cert.specs.Tree.{Node}
 use Rattle.qap_cert.specs.Version.{version_number, MayBound}
 use Rattle.qap_cert.specs.declared.version.Version.{Version}

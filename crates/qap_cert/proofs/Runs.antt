@@ -1,47 +1,10 @@
 -- Digits at the front of a text, one after another.
-use Rattle.std.proofs.Common.{◌≡◌, ℕ, zero, suc, ◌+◌, ◌-◌, ◌*◌, ◌^◌, ◌<◌, ◌≤◌, List, length, map, take, drop, get_or, refl, sym, subst, ap, ◌∙◌, inl, inr, add-one, arith, length-append}
-use Rattle.std.specs.Int.Digits.{number_from_digits}
-use Rattle.std.proofs.lemmas.Bool.{cases_lt, cases_order}
-use Rattle.std.proofs.lemmas.List.{map_more, length-take-le, take-append-drop, get_or-take, get_or-drop, get_or_append_left, get_or-append_right}
-use Rattle.std.proofs.lemmas.Int.Digits.{number_push}
-use Rattle.std.proofs.Math.Nat.{pow-le-pow_right, pow-suc}
+use Rattle.std.proofs.Common.{◌≡◌, ℕ, ◌+◌, ◌-◌, ◌^◌, ◌<◌, ◌≤◌, List, length, take, drop, get_or, refl, sym, subst, ap, ◌∙◌, inl, inr, arith, length-append}
+use Rattle.std.proofs.lemmas.Bool.{cases_order}
+use Rattle.std.proofs.lemmas.List.{length-take-le, take-append-drop, get_or-take, get_or-drop, get_or_append_left, get_or-append_right}
 use Rattle.qap_cert.specs.Number.{IsDecimal}
-use Rattle.qap_cert.specs.Numeral.{magnitude_of, IsNoDigit, BeginsWithDigits, IsRun, IsFront, IsFrontDecimal}
-
--- one digit more
-pub BeginsWithDigits-more : (text : List ℕ) (count : ℕ) → BeginsWithDigits text count → count < length text → 48 ≤ get_or text count 0 → get_or text count 0 ≤ 57 → BeginsWithDigits text (count + 1)
-BeginsWithDigits-more text count h inside low high = record {
-  in_text = omega arith;
-  each = λ i below.
-      elim (cases_lt i count) [
-        | inl before ↦ h.each i before
-        | inr past ↦
-            let here : count ≡ i = omega arith in
-            subst (λ (k : ℕ). (48 ≤ get_or text k 0) × (get_or text k 0 ≤ 57)) here (low, high)
-      ];
-}
-
-pub magnitude_of-more : (text : List ℕ) (i : ℕ) → i < length text → magnitude_of (take (i + 1) text) ≡ magnitude_of (take i text) * 10 + (get_or text i 0 - 48)
-magnitude_of-more text i h =
-    ap (number_from_digits 10) (map_more (λ b. b - 48) text i 0 h) ∙ number_push 10 (map (λ b. b - 48) (take i text)) (get_or text i 0 - 48)
-
--- i digits stand for less than 10^i
-pub magnitude_of-lt : (text : List ℕ) (i : ℕ) → BeginsWithDigits text i → magnitude_of (take i text) < 10 ^ i
-magnitude_of-lt text zero h = omega arith
-magnitude_of-lt text (suc i) h =
-    let inside : suc i ≤ length text = h.in_text in
-    let front : magnitude_of (take i text) < 10 ^ i = magnitude_of-lt text i (record { in_text = omega arith; each = λ k below. h.each k (omega arith) }) in
-    let digit : get_or text i 0 ≤ 57 = (h.each i (omega arith)).1 in
-    let more : magnitude_of (take (suc i) text) ≡ magnitude_of (take i text) * 10 + (get_or text i 0 - 48) =
-    ap (λ k. magnitude_of (take k text)) (sym (add-one i)) ∙ magnitude_of-more text i (omega arith) in
-    let power : 10 ^ suc i ≡ 10 ^ i * 10 = pow-suc 10 i in
-    omega arith
-
-pub magnitude_of-lt_few : (text : List ℕ) (i : ℕ) → BeginsWithDigits text i → i < 18 → magnitude_of (take i text) < 10 ^ 17
-magnitude_of-lt_few text i h few =
-    let less : magnitude_of (take i text) < 10 ^ i = magnitude_of-lt text i h in
-    let most : 10 ^ i ≤ 10 ^ 17 = pow-le-pow_right {n = 10} (omega arith) {i = i} {j = 17} (omega arith) in
-    omega arith
+use Rattle.qap_io.specs.Digits.{magnitude_of, IsNoDigit, BeginsWithDigits, IsRun}
+use Rattle.qap_cert.specs.Numeral.{IsFront, IsFrontDecimal}
 
 -- the digits at the front of a text end in one place
 same_runs : (text : List ℕ) (i j : ℕ) → BeginsWithDigits text i → IsNoDigit (get_or text i 0) → BeginsWithDigits text j → IsNoDigit (get_or text j 0) → i ≡ j
@@ -79,7 +42,7 @@ IsFront-take text count ends = let start : count + 0 ≡ count = omega arith in 
 }
 
 -- all digits at the front, if there is one, and a zero before no other, are a number
-pub IsFrontDecimal-from_run : (text : List ℕ) (count magnitude : ℕ) → IsRun text count magnitude → 0 < count → (get_or text 0 0 ≡ 48 → count ≡ 1) → IsFrontDecimal text count magnitude
+pub IsFrontDecimal-from_run : (text : List ℕ) (count magnitude : ℕ) → IsRun text (10 ^ 25) count magnitude → 0 < count → (get_or text 0 0 ≡ 48 → count ≡ 1) → IsFrontDecimal text count magnitude
 IsFrontDecimal-from_run text count magnitude run some leading =
     let long : length (take count text) ≡ count = length-take-le count text run.digits.in_text in
     record {
@@ -98,7 +61,7 @@ IsFrontDecimal-from_run text count magnitude run some leading =
     }
 
 -- the digits of a number at the front are all digits there
-pub run_from_decimal : (text word : List ℕ) (count magnitude n : ℕ) → IsRun text count magnitude → IsFront text word → IsDecimal word n → (0 < count) × (get_or text 0 0 ≡ 48 → count ≡ 1)
+pub run_from_decimal : (text word : List ℕ) (count magnitude n : ℕ) → IsRun text (10 ^ 25) count magnitude → IsFront text word → IsDecimal word n → (0 < count) × (get_or text 0 0 ≡ 48 → count ≡ 1)
 run_from_decimal text word count magnitude n run front decimal =
     let same : length word ≡ count =
     same_runs text (length word) count (front_digits text word n front decimal) (front_ends text word front) run.digits run.longest in

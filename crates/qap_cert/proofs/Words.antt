@@ -8,7 +8,7 @@ use Rattle.std.proofs.lemmas.Int.Digits.{number_push, number_after_ge}
 use Rattle.std.proofs.lemmas.List.{get_or_at, get_or_append_left, get_or-append_right, get_or-take, map-append, length-take-le, take_more, take_all}
 use Rattle.qap_cert.specs.Line.{HasNoLine}
 use Rattle.qap_cert.specs.Number.{IsDecimal, IsNumber}
-use Rattle.qap_cert.specs.Numeral.{IsNoDigit, magnitude_of}
+use Rattle.qap_io.specs.Digits.{IsNoDigit, magnitude_of}
 use Rattle.qap_cert.proofs.Lines.{same_fronts}
 
 -- digits with no digit behind them are no shorter than digits at the same front

@@ -1,6 +1,7 @@
 -- Numbers as certificates spell them: each whole number has one word.
-use Rattle.std.specs.Prelude.{◌≡◌, ℕ, suc, ◌-◌, ◌^◌, ◌≤◌, ◌<◌, ◌++◌, ◌∷◌, [], List, length, map, min, ℤ, pos, negsuc, neg_ℤ, slice_index}
+use Rattle.std.specs.Prelude.{◌≡◌, ℕ, suc, ◌-◌, ◌^◌, ◌≤◌, ◌<◌, ◌++◌, ◌∷◌, [], List, length, map, ℤ, pos, negsuc, slice_index}
 use Rattle.std.specs.Int.Digits.{number_from_digits}
+use Rattle.qap_io.specs.Number as number
 
 -- decimal digits of n, of which the first is 0 only where it is the only one
 pub record IsDecimal (word : List ℕ) (n : ℕ) : Type 0 where
@@ -27,5 +28,4 @@ pub record IsNamed (name line : List ℕ) (zs : List ℤ) : Type 0 where
 
 -- the nearest number from -10^25 to 10^25
 abbrev pub held : ℤ → ℤ
-held (pos n) = pos (min n (10 ^ 25))
-held (negsuc n) = neg_ℤ (pos (min (suc n) (10 ^ 25)))
+held = number.held (10 ^ 25)

@@ -1,25 +1,7 @@
 -- Numbers at the front of a text.
-use Rattle.std.specs.Prelude.{◌≡◌, ℕ, ◌-◌, ◌^◌, ◌≤◌, ◌<◌, ◌⊎◌, ◌++◌, List, length, map, take, min, ℤ, slice_index}
-use Rattle.std.specs.Int.Digits.{number_from_digits}
+use Rattle.std.specs.Prelude.{◌≡◌, ℕ, ◌^◌, ◌≤◌, ◌++◌, List, length, take, min, ℤ, slice_index}
+use Rattle.qap_io.specs.Digits.{IsNoDigit}
 use Rattle.qap_cert.specs.Number.{IsDecimal, IsNumber, held}
-
-abbrev pub IsNoDigit : ℕ → Type 0
-IsNoDigit b = (b < 48) ⊎ (57 < b)
-
--- what decimal digits stand for
-abbrev pub magnitude_of : List ℕ → ℕ
-magnitude_of digits = number_from_digits 10 (map (λ b. b - 48) digits)
-
--- the text begins with so many digits
-pub record BeginsWithDigits (text : List ℕ) (count : ℕ) : Type 0 where
-  pub in_text : count ≤ length text
-  pub each : (i : ℕ) → i < count → (48 ≤ slice_index text i) × (slice_index text i ≤ 57)
-
--- the text begins with so many digits and no more, and this is what they stand for, held to 10^25
-pub record IsRun (text : List ℕ) (count magnitude : ℕ) : Type 0 where
-  pub digits : BeginsWithDigits text count
-  pub longest : IsNoDigit (slice_index text count)
-  pub value : magnitude ≡ min (magnitude_of (take count text)) (10 ^ 25)
 
 -- the text begins with the word, and no digit follows
 pub record IsFront (text word : List ℕ) : Type 0 where

@@ -9,7 +9,8 @@ use Rattle.qap_cert.specs.Shape.{HasShape, AllHaveShape, child_count}
 use Rattle.qap_cert.specs.Version.{version_number, MayName, split_numbers}
 use Rattle.qap_cert.specs.declared.version.Version.{Version}
 use Rattle.qap_cert.specs.declared.version.Version.TheVariants.{First, Second}
-use Rattle.qap_cert.specs.Text.{line_text, from_one, tree_text, trees_text}
+use Rattle.qap_io.specs.Number.{from_one}
+use Rattle.qap_cert.specs.Text.{line_text, tree_text, trees_text}
 use Rattle.qap_cert.specs.Tree.{Node, Nodes, node_count, nodes_count}
 use Rattle.qap_cert.specs.declared.error.CertError.{CertError}
 use Rattle.qap_cert.specs.declared.error.CertError.TheVariants.{BadHeader, BadVersion, BadLine, Truncated, TrailingText, PermBad, SplitTooDeep, FacilityTaken, DualCount, DualRange}

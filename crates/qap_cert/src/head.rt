@@ -5,16 +5,18 @@ ghost use Rattle.qap_cost.specs.Bijection.{IsPerm};
 ghost use Rattle.qap_cost.specs.Range.{IsLimited};
 ghost use Rattle.qap_cert.specs.Number.{IsNamed};
 ghost use Rattle.qap_cert.specs.declared.error.CertError.TheVariants.{OutOfMemory, PermBad};
-ghost use Rattle.qap_cert.specs.Text.{line_text, from_one as counted_from_one};
+ghost use Rattle.qap_io.specs.Number.{from_one as counted_from_one};
+ghost use Rattle.qap_cert.specs.Text.{line_text};
 ghost use Rattle.qap_cert.specs.TextFault.{IsLineFault, IsHeaderFault, IsSizeFault, IsCostFault, IsPermFault};
 ghost use Rattle.qap_cert.specs.Version.{version_number};
 
 use crate::CertError;
 use crate::line::line_at;
 use crate::line_number::{COST_LINE, PERM_LINE, SIZE_LINE, VERSION_LINE};
-use crate::number::{from_one, one_number, read_numbers};
+use crate::number::{one_number, read_numbers};
 use crate::version::Version;
 use qap_cost::{MAX_SIZE, MAX_VALUE, Perm};
+use qap_io::from_one;
 use std::alloc::{AllocError, Global};
 
 /// The version, which the first line states, and what follows that.

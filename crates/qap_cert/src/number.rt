@@ -2,29 +2,10 @@
 
 ghost use Rattle.std.specs.Prelude.{◌≡◌, ◌≢◌, ◌<◌, ◌≤◌, ◌+◌, ◌^◌, ◌++◌, ◌∷◌, [], ℕ, ℤ, pos, neg_ℤ, List, length, map, take, min, MatchOption, IfOk, slice_index};
 ghost use Rattle.qap_cert.specs.Number.{Spells, IsNamed, held};
-ghost use Rattle.qap_cert.specs.Numeral.{magnitude_of, BeginsWithDigits, IsRun, IsFrontDecimal, IsFrontNumber, HasNoFrontDecimal, HasNoFrontNumber};
+ghost use Rattle.qap_cert.specs.Numeral.{IsFrontDecimal, IsFrontNumber, HasNoFrontDecimal, HasNoFrontNumber};
 
+use qap_io::{Digits, MAX_READ, front_digits, negated};
 use std::alloc::{AllocError, Global};
-
-/// A number beyond this one is read as this one: it lies outside every range that a certificate may use.
-const LIMIT: u128 = 10_000_000_000_000_000_000_000_000;
-
-/// The most digits whose number is made in 64 bits.
-const FEW: usize = 18;
-
-/// Digits at the front of a text: how many they are, and what they stand for.
-#[derive(Clone, Copy)]
-struct FewDigits {
-    count: usize,
-    magnitude: u64,
-}
-
-/// Digits at the front of a text: how many they are, and what they stand for, held to 10^25.
-#[derive(Clone, Copy)]
-struct Digits {
-    count: usize,
-    magnitude: u128,
-}
 
 /// A number at the front of a text: how many bytes spell it, and its value, held to -10^25 to 10^25.
 #[derive(Clone, Copy)]
@@ -33,41 +14,11 @@ struct Numeral {
     value: i128,
 }
 
-/// Up to 18 digits at the front of a text.
-fn few_digits(text: &[u8]) -> FewDigits
-    ensures digits { BeginsWithDigits text.now result.count }
-    ensures value { result.magnitude ≡ magnitude_of (take result.count text.now) }
-{
-    let stop = FEW.min(text.len());
-    let mut count = 0;
-    let mut magnitude = 0;
-    while count < stop && text[count].is_ascii_digit() {
-        magnitude = magnitude * 10 + u64::from(text[count] - b'0');
-        count += 1;
-    }
-    FewDigits { count, magnitude }
-}
-
-/// All digits at the front of a text, of which some have been read.
-fn more_digits(text: &[u8], few: FewDigits) -> Digits
-    requires digits { BeginsWithDigits text.now few.count }
-    requires value { few.magnitude ≡ magnitude_of (take few.count text.now) }
-    ensures { IsRun text.now result.count result.magnitude }
-{
-    let mut count = few.count;
-    let mut magnitude = u128::from(few.magnitude);
-    while count < text.len() && text[count].is_ascii_digit() {
-        magnitude = LIMIT.min(magnitude * 10 + u128::from(text[count] - b'0'));
-        count += 1;
-    }
-    Digits { count, magnitude }
-}
-
 /// The number without a sign at the front of a text.
 fn front_decimal(text: &[u8]) -> Option<Digits>
     ensures { MatchOption result (HasNoFrontDecimal text.now) (λ d. IsFrontDecimal text.now d.count d.magnitude) }
 {
-    let digits = more_digits(text, few_digits(text));
+    let digits = front_digits(text, MAX_READ);
     if digits.count == 0 || (digits.count > 1 && text[0] == b'0') {
         None
     } else {
@@ -80,13 +31,6 @@ fn signed(magnitude: u128) -> i128
     ensures { result ≡ pos magnitude }
 {
     magnitude as i128
-}
-
-fn negated(magnitude: u128) -> i128
-    requires { magnitude ≤ 10 ^ 25 }
-    ensures { result ≡ neg_ℤ (pos magnitude) }
-{
-    -(magnitude as i128)
 }
 
 /// The number with a minus sign, behind which these are the bytes.
@@ -201,18 +145,4 @@ pub(crate) fn read_numbers(
         rest = &after[numeral.count..];
     }
     Ok(Some(Numbers { count, first }))
-}
-
-/// A number of 1 to `n`, counted from 0; `None` where it is none of these.
-pub(crate) fn from_one(value: i128, n: usize) -> Option<u16>
-    requires small { n ≤ 256 }
-    ensures { MatchOption result
-        ((k : ℕ) → k < n → value ≢ pos (k + 1))
-        (λ k. (k < n) × (value ≡ pos (k + 1))) }
-{
-    if value < 1 || value > n as i128 {
-        None
-    } else {
-        Some((value - 1) as u16)
-    }
 }

@@ -9,11 +9,12 @@ ghost use Rattle.qap_cert.specs.Tree.{node_of, nodes_of, node_count, nodes_count
 
 use crate::error::CertError;
 use crate::line::first_line;
-use crate::number::{from_one, one_number, read_numbers};
+use crate::number::{one_number, read_numbers};
 use crate::placed::Placed;
 use crate::shape::{is_in_range, judge_facility};
 use crate::tree::Tree;
 use crate::version::Version;
+use qap_io::from_one;
 use std::alloc::Global;
 
 /// How the lines of a tree are read: in this version, for a certificate of this size.

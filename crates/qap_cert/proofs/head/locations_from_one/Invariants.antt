@@ -1,5 +1,5 @@
 use Rattle.std.proofs.Common.{◌≡◌, take}
-use Rattle.qap_cert.specs.Text.{from_one}
+use Rattle.qap_io.specs.Number.{from_one}
 use Rattle.qap_cert.proofs.head.locations_from_one.Given as goal
 
 abbrev pub invariant-loop-value : goal.invariant-loop-value

@@ -1,5 +1,5 @@
 use Rattle.std.proofs.Common.{◌≡◌, refl, inr}
-use Rattle.qap_cert.specs.Text.{from_one}
+use Rattle.qap_io.specs.Number.{from_one}
 use Rattle.qap_cert.proofs.Locations.{no_location-no_permutation, no_other-permutation}
 use Rattle.qap_cert.proofs.head.permutation_from_one.Goals as goal
 

@@ -1,5 +1,5 @@
 use Rattle.std.specs.Prelude.{codes}
-use Rattle.qap_cert.specs.Text.{from_one}
+use Rattle.qap_io.specs.Number.{from_one}
 use Rattle.qap_cert.proofs.Locations.{AllLimited-permutation}
 use Rattle.qap_cert.proofs.Numbers.{line_text-is}
 use Rattle.qap_cert.proofs.head.read_permutation.Goals as goal

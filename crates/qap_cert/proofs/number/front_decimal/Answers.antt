@@ -7,7 +7,7 @@ use Rattle.qap_cert.proofs.number.front_decimal.Goals.{then-digits-eq0, else-dig
 pub returns-then-text-eq48 : goal.returns-then-text-eq48
 returns-then-text-eq48 c = record {
   none = λ word n front decimal.
-      let right = run_from_decimal c.args.text.now word _ _ n c.more_digits-digits.ensures front decimal in
+      let right = run_from_decimal c.args.text.now word _ _ n c.front_digits-digits.ensures front decimal in
       elim c.if-digits-eq0.branch [
         | then-digits-eq0 w ↦ omega (arith, right.0)
         | else-digits-eq0+then-digits-gt1 w ↦ omega (arith, right.1 (eqb-true _ _ (sym w.value-is ∙ c.if-text-eq48.true)))
@@ -17,7 +17,7 @@ returns-then-text-eq48 c = record {
 
 pub returns-else-text-eq48 : goal.returns-else-text-eq48
 returns-else-text-eq48 c =
-    let run = c.more_digits-digits.ensures in
+    let run = c.front_digits-digits.ensures in
     elim c.if-digits-eq0.branch [
       | then-digits-eq0 w ↦ absurd (both_ways _ (sym w.value-is ∙ c.if-text-eq48.false) (eq-eqb _ _ w.if-digits-eq0.true))
       | else-digits-eq0+then-digits-gt1 w ↦
