@@ -1,6 +1,6 @@
 -- Texts of solutions, as the library QAPLIB (Burkard, Karisch and Rendl 1997) writes them, and their faults.
 use Rattle.std.specs.Prelude.{◌≡◌, ◌≢◌, ℕ, ◌+◌, ◌^◌, ◌<◌, ◌≤◌, ◌⊎◌, List, [], ◌∷◌, length, ℤ, pos, ◌≤ℤ◌, ◌<ℤ◌, unsigned_abs, slice_index}
-use Rattle.qap_cost.specs.Bijection.{IsPerm}
+use Rattle.qap_cost.specs.Bijection.{AreDifferent, IsPerm}
 use Rattle.qap_io.specs.Number.{from_one}
 use Rattle.qap_text.specs.Word.{HasNoWord}
 use Rattle.qap_text.specs.Spelling.{IsNumberAt, IsNoNumberAt, Spells}
@@ -14,11 +14,6 @@ pub record IsSolutionText (text : List ℕ) (n : ℕ) (value : ℤ) (p : List �
   pub in_range : unsigned_abs value ≤ 10 ^ 24
   pub stop : ℕ
   pub spelled : Spells text 0 (pos n ∷ value ∷ from_one p) stop
-
--- different locations below n
-pub record AreLocations (n : ℕ) (p : List ℕ) : Type 0 where
-  pub within : (i : ℕ) → i < length p → slice_index p i < n
-  pub distinct : (i j : ℕ) → i < length p → j < length p → slice_index p i ≡ slice_index p j → i ≡ j
 
 -- the first word is not the size n
 abbrev pub IsOtherSizeFault : List ℕ → ℕ → TextError → Type 0
@@ -50,7 +45,7 @@ pub record HasLocationFault (text : List ℕ) (from n : ℕ) (e : TextError) : T
   pub earlier : List ℕ
   pub stop : ℕ
   pub spelled : Spells text from (from_one earlier) stop
-  pub right : AreLocations n earlier
+  pub right : AreDifferent n earlier
   pub too_few : length earlier < n
   pub fault : IsLocationFault text stop n earlier e
 

@@ -1,6 +1,7 @@
 //! Texts of solutions.
 
 ghost use Rattle.std.specs.Prelude.{◌≡◌, ◌≢◌, ◌<◌, ◌≤◌, ◌+◌, ◌^◌, ◌⊎◌, List, length, ℕ, ℤ, pos, MatchResult, unsigned_abs, slice_index};
+ghost use Rattle.qap_cost.specs.Bijection.{AreDifferent};
 ghost use Rattle.qap_io.specs.Number.{from_one as as_texts_count};
 ghost use Rattle.qap_text.specs.Spelling.{IsNumberAt, Spells};
 ghost use Rattle.qap_text.specs.SolutionText.{
@@ -10,7 +11,6 @@ ghost use Rattle.qap_text.specs.SolutionText.{
   IsValueFault,
   IsLocationFault,
   HasLocationFault,
-  AreLocations,
 };
 
 use crate::TextError;
@@ -103,7 +103,7 @@ fn read_locations(alloc: Global, text: &[u8], from: usize, n: usize) -> Result<V
     requires place { from ≤ length text.now }
     requires small { n ≤ 256 }
     ensures { MatchResult result
-        (λ v. AreLocations n v.items × (length v.items ≡ n) × (stop : ℕ) × Spells text.now from (as_texts_count v.items) stop)
+        (λ v. AreDifferent n v.items × (length v.items ≡ n) × (stop : ℕ) × Spells text.now from (as_texts_count v.items) stop)
         (λ e. (e ≡ TextError.OutOfMemory) ⊎ HasLocationFault text.now from n e) }
 {
     let mut locations = Vec::with_capacity(alloc, n).map_err(|_| TextError::OutOfMemory)?;
