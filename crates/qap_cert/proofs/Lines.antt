@@ -1,8 +1,16 @@
 -- Lines of a text: there is one first line.
-use Rattle.std.proofs.Common.{◌≡◌, ◌≢◌, ℕ, ◌-◌, ◌<◌, List, ◌∷◌, ◌++◌, length, take, drop, get_or, refl, sym, ap, subst, ◌∙◌, inl, inr, arith, length-append}
+use Rattle.std.proofs.Common.{◌≡◌, ◌≢◌, ℕ, zero, suc, ◌-◌, ◌<◌, List, ◌∷◌, ◌++◌, length, take, drop, get_or, refl, sym, ap, subst, ◌∙◌, inl, inr, arith, length-append}
 use Rattle.std.proofs.lemmas.Bool.{cases_lt, cases_order}
 use Rattle.std.proofs.lemmas.List.{get_or_at, get_or_append_left, get_or-append_right, take_at, drop_at}
 use Rattle.qap_cert.specs.Line.{HasNoLine, IsLine}
+
+-- one byte more at the front is none that ends a line
+pub HasNoLine-cons : (byte : ℕ) (text : List ℕ) → byte ≢ 10 → HasNoLine text → HasNoLine (byte ∷ text)
+HasNoLine-cons byte text other none = record { each = each }
+  where
+    each : (i : ℕ) → i < length (byte ∷ text) → get_or (byte ∷ text) i 0 ≢ 10
+    each zero below = other
+    each (suc i) below = none.each i (omega arith)
 
 pub HasNoLine-append : (front back : List ℕ) → HasNoLine front → HasNoLine back → HasNoLine (front ++ back)
 HasNoLine-append front back a b = record {

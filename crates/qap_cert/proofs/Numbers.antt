@@ -10,8 +10,8 @@ use Rattle.qap_cert.specs.Number.{IsNumber, Spells, IsNamed, held}
 use Rattle.qap_io.specs.Digits.{IsNoDigit}
 use Rattle.qap_cert.specs.Numeral.{IsFrontNumber, HasNoFrontNumber}
 use Rattle.qap_cert.specs.Text.{numbers_text, line_text}
-use Rattle.qap_cert.proofs.Lines.{HasNoLine-append}
-use Rattle.qap_cert.proofs.Words.{number_fronts, IsNumber-unique, IsNumber-signed_decimal, number_word, HasNoLine-cons, HasNoLine-number}
+use Rattle.qap_cert.proofs.Lines.{HasNoLine-cons, HasNoLine-append}
+use Rattle.qap_cert.proofs.Words.{number_fronts, IsNumber-unique, IsNumber-signed_decimal, number_word, HasNoLine-number}
 
 pub AllLimited-head : (z : ℤ) (zs : List ℤ) → AllLimited (z ∷ zs) → unsigned_abs z ≤ 10 ^ 24
 AllLimited-head z zs h = h.each 0 (omega arith)

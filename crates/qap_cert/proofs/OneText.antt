@@ -8,7 +8,7 @@ use Rattle.qap_cost.specs.Bijection.{IsPerm}
 use Rattle.qap_cost.specs.Placement.{IsFree}
 use Rattle.qap_cost.specs.Range.{AllLimited}
 use Rattle.qap_cert.proofs.Duals.{AllLimited-append}
-use Rattle.qap_cert.proofs.Lines.{IsLine-unique, no_line-line}
+use Rattle.qap_cert.proofs.Lines.{HasNoLine-cons, IsLine-unique, no_line-line}
 use Rattle.qap_cert.proofs.Locations.{AllLimited-permutation, from_one-injective}
 use Rattle.qap_cert.proofs.Numbers.{AllLimited-one, IsLine-line_text, IsNamed-unique, IsNamed-numbers_text}
 use Rattle.qap_cert.proofs.Versions.{AllLimited-split_numbers, same_facility, same_number, one_version, version_small, version_limited, bound_text-below, bound_text-equal}
@@ -28,40 +28,33 @@ use Rattle.qap_cert.specs.declared.version.Version.TheVariants.{First, Second}
 
 -- the names of the lines
 
-no_line-cons : (b : ℕ) (bs : List ℕ) → b ≢ 10 → HasNoLine bs → HasNoLine (b ∷ bs)
-no_line-cons b bs other h = record { each = by }
-  where
-    by : (i : ℕ) → i < length (b ∷ bs) → get_or (b ∷ bs) i 0 ≢ 10
-    by zero below = other
-    by (suc i) below = h.each i (omega arith)
-
 no_line-nil : HasNoLine []
 no_line-nil = record { each = λ i below. absurd (omega arith) }
 
 pub no_line-version : HasNoLine (codes "qapcert")
-no_line-version = no_line-cons 113 _ (λ e. omega arith) (no_line-cons 97 _ (λ e. omega arith) (no_line-cons 112 _ (λ e. omega arith)
-    (no_line-cons 99 _ (λ e. omega arith) (no_line-cons 101 _ (λ e. omega arith) (no_line-cons 114 _ (λ e. omega arith) (no_line-cons 116 _ (λ e. omega arith) no_line-nil))))))
+no_line-version = HasNoLine-cons 113 _ (λ e. omega arith) (HasNoLine-cons 97 _ (λ e. omega arith) (HasNoLine-cons 112 _ (λ e. omega arith)
+    (HasNoLine-cons 99 _ (λ e. omega arith) (HasNoLine-cons 101 _ (λ e. omega arith) (HasNoLine-cons 114 _ (λ e. omega arith) (HasNoLine-cons 116 _ (λ e. omega arith) no_line-nil))))))
 
 pub no_line-size : HasNoLine (codes "n")
-no_line-size = no_line-cons 110 _ (λ e. omega arith) no_line-nil
+no_line-size = HasNoLine-cons 110 _ (λ e. omega arith) no_line-nil
 
 pub no_line-cost : HasNoLine (codes "cost")
-no_line-cost = no_line-cons 99 _ (λ e. omega arith) (no_line-cons 111 _ (λ e. omega arith) (no_line-cons 115 _ (λ e. omega arith) (no_line-cons 116 _ (λ e. omega arith) no_line-nil)))
+no_line-cost = HasNoLine-cons 99 _ (λ e. omega arith) (HasNoLine-cons 111 _ (λ e. omega arith) (HasNoLine-cons 115 _ (λ e. omega arith) (HasNoLine-cons 116 _ (λ e. omega arith) no_line-nil)))
 
 pub no_line-perm : HasNoLine (codes "perm")
-no_line-perm = no_line-cons 112 _ (λ e. omega arith) (no_line-cons 101 _ (λ e. omega arith) (no_line-cons 114 _ (λ e. omega arith) (no_line-cons 109 _ (λ e. omega arith) no_line-nil)))
+no_line-perm = HasNoLine-cons 112 _ (λ e. omega arith) (HasNoLine-cons 101 _ (λ e. omega arith) (HasNoLine-cons 114 _ (λ e. omega arith) (HasNoLine-cons 109 _ (λ e. omega arith) no_line-nil)))
 
 no_line-bound : HasNoLine (codes "b")
-no_line-bound = no_line-cons 98 _ (λ e. omega arith) no_line-nil
+no_line-bound = HasNoLine-cons 98 _ (λ e. omega arith) no_line-nil
 
 pub no_line-split : HasNoLine (codes "s")
-no_line-split = no_line-cons 115 _ (λ e. omega arith) no_line-nil
+no_line-split = HasNoLine-cons 115 _ (λ e. omega arith) no_line-nil
 
 pub no_line-below : HasNoLine (codes "bound")
-no_line-below = no_line-cons 98 _ (λ e. omega arith) (no_line-cons 111 _ (λ e. omega arith) (no_line-cons 117 _ (λ e. omega arith) (no_line-cons 110 _ (λ e. omega arith) (no_line-cons 100 _ (λ e. omega arith) no_line-nil))))
+no_line-below = HasNoLine-cons 98 _ (λ e. omega arith) (HasNoLine-cons 111 _ (λ e. omega arith) (HasNoLine-cons 117 _ (λ e. omega arith) (HasNoLine-cons 110 _ (λ e. omega arith) (HasNoLine-cons 100 _ (λ e. omega arith) no_line-nil))))
 
 pub no_line-end : HasNoLine (codes "end")
-no_line-end = no_line-cons 101 _ (λ e. omega arith) (no_line-cons 110 _ (λ e. omega arith) (no_line-cons 100 _ (λ e. omega arith) no_line-nil))
+no_line-end = HasNoLine-cons 101 _ (λ e. omega arith) (HasNoLine-cons 110 _ (λ e. omega arith) (HasNoLine-cons 100 _ (λ e. omega arith) no_line-nil))
 
 -- a line at the front of a text
 

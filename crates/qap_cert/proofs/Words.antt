@@ -9,7 +9,7 @@ use Rattle.std.proofs.lemmas.List.{get_or_at, get_or_append_left, get_or-append_
 use Rattle.qap_cert.specs.Line.{HasNoLine}
 use Rattle.qap_cert.specs.Number.{IsDecimal, IsNumber}
 use Rattle.qap_io.specs.Digits.{IsNoDigit, magnitude_of}
-use Rattle.qap_cert.proofs.Lines.{same_fronts}
+use Rattle.qap_cert.proofs.Lines.{HasNoLine-cons, same_fronts}
 
 -- digits with no digit behind them are no shorter than digits at the same front
 no_longer_decimal : (word rest other more : List ℕ) (n : ℕ) → word ++ rest ≡ other ++ more → IsDecimal other n → IsNoDigit (get_or rest 0 0) → length word < length other → ⊥
@@ -68,13 +68,6 @@ IsNumber-unique word (negsuc m) (negsuc n) a b =
 -- a word has no line feed
 pub HasNoLine-decimal : (word : List ℕ) (n : ℕ) → IsDecimal word n → HasNoLine word
 HasNoLine-decimal word n a = record { each = λ i below e. let digit = a.digits i below in absurd (omega arith) }
-
-pub HasNoLine-cons : (byte : ℕ) (text : List ℕ) → byte ≢ 10 → HasNoLine text → HasNoLine (byte ∷ text)
-HasNoLine-cons byte text other none = record { each = each }
-  where
-    each : (i : ℕ) → i < length (byte ∷ text) → get_or (byte ∷ text) i 0 ≢ 10
-    each zero below = other
-    each (suc i) below = none.each i (omega arith)
 
 pub HasNoLine-number : (word : List ℕ) (z : ℤ) → IsNumber word z → HasNoLine word
 HasNoLine-number word (pos n) a = HasNoLine-decimal word n a
