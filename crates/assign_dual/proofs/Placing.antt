@@ -5,7 +5,7 @@ use Rattle.std.proofs.lemmas.Int.{ints}
 use Rattle.std.proofs.lemmas.Bool.{cases_eq, cases_lt}
 use Rattle.qap_cost.specs.Matrix.{Square, entry_of}
 use Rattle.qap_cost.proofs.Bijections.{each_reached}
-use Rattle.assign_dual.specs.Range.{NumbersWithin}
+use Rattle.qap_cost.specs.Range.{AllWithin}
 use Rattle.assign_dual.specs.Partial.{FitsRows, IsMatching, IsPartial, IsTight, OwnersDiffer, owner_of, dual}
 use Rattle.assign_dual.specs.Tree.{IsTree, IsNext, reduced_cost, far}
 use Rattle.assign_dual.specs.Steps.{RaisesRows, LowersColumns, Augments, TakesEdge, IsPath}
@@ -84,7 +84,7 @@ tree_rows-differ M root row_of u v columns tree_rows row_distances distances ori
 
 -- a tree's rows are no further away than its columns
 pub row_distances-within : (M : Square) (root : ℕ) (row_of : List (Option ℕ)) (u v : List ℤ) (columns tree_rows : List ℕ) (row_distances distances : List ℤ) (origins : List ℕ) (done m : ℕ) →
-    IsTree M root row_of u v columns tree_rows row_distances distances origins done → done < M.size → NumbersWithin distances m →
+    IsTree M root row_of u v columns tree_rows row_distances distances origins done → done < M.size → AllWithin m distances →
     (p : ℕ) → p < done + 1 → unsigned_abs (far row_distances p) ≤ m
 row_distances-within M root row_of u v columns tree_rows row_distances distances origins done m tree left range p h =
     elim (cases_eq p 0) [

@@ -8,10 +8,11 @@ use Rattle.qap_cost.specs.Bijection.{IsBijection}
 use Rattle.qap_cost.specs.Matrix.{Square}
 use Rattle.qap_cost.specs.Row.{IsRow}
 use Rattle.qap_cost.proofs.Bijections.{each_reached}
-use Rattle.assign_dual.specs.Range.{EntriesWithin, NumbersWithin}
+use Rattle.qap_cost.specs.Range.{AllWithin}
 use Rattle.assign_dual.specs.Partial.{FitsRows, OwnersDiffer, owner_of, dual}
 use Rattle.assign_dual.specs.Tree.{IsTree, IsNext, reduced_cost, far}
 use Rattle.assign_dual.specs.Steps.{StartsRow, KeepsScanned, Relaxes, TakesShorter}
+use Rattle.assign_dual.proofs.Ranges.{entry-within}
 
 -- fewer rows than columns leave a column without a row
 no_room : (n r : ℕ) (row_of : List (Option ℕ)) → OwnersDiffer n r row_of → r < n → length row_of ≡ n →
@@ -132,16 +133,16 @@ IsTree-start M root row_of u v columns tree_rows row_distances distances origins
     }
 
 -- the entries of a row
-pub row_within : (M : Square) (i : ℕ) (row : List ℤ) (m : ℕ) → EntriesWithin M m → i < M.size → IsRow M.size M.entries i row → NumbersWithin row m
+pub row_within : (M : Square) (i : ℕ) (row : List ℤ) (m : ℕ) → AllWithin m M.entries → i < M.size → IsRow M.size M.entries i row → AllWithin m row
 row_within M i row m range below is = record {
   each = λ k h.
       let hk : k < M.size = omega (arith, is.count) in
-      subst (λ (x : ℤ). unsigned_abs x ≤ m) (sym (is.entries k hk)) (range.each i k below hk);
+      subst (λ (x : ℤ). unsigned_abs x ≤ m) (sym (is.entries k hk)) (entry-within M m range i k);
 }
 
 -- the first distances
 pub StartsRow-within : (row v distances : List ℤ) (origins : List ℕ) → StartsRow row v distances origins → length distances ≡ length row → length v ≡ length row →
-    NumbersWithin row (10 ^ 21) → NumbersWithin v (2 * 10 ^ 21) → NumbersWithin distances (3 * 10 ^ 21)
+    AllWithin (10 ^ 21) row → AllWithin (2 * 10 ^ 21) v → AllWithin (3 * 10 ^ 21) distances
 StartsRow-within row v distances origins starts distances_count v_count row_range v_range = record {
   each = λ k h.
       let is = starts.distance k (omega (arith, distances_count)) in
@@ -309,7 +310,7 @@ pub Relaxes-within : (M : Square) (root : ℕ) (row_of : List (Option ℕ)) (u v
     IsTree M root row_of u v columns tree_rows row_distances distances origins done → IsNext columns distances done → FitsRows M root u v →
     done < M.size → row < root → IsRow M.size M.entries row entries → base ≡ far distances (get_or columns done 0) -ℤ dual u row →
     length new_distances ≡ M.size → Relaxes entries v base (done + 1) columns distances origins new_distances new_origins →
-    NumbersWithin distances (3 * 10 ^ 21) → NumbersWithin new_distances (3 * 10 ^ 21)
+    AllWithin (3 * 10 ^ 21) distances → AllWithin (3 * 10 ^ 21) new_distances
 Relaxes-within M root row_of u v columns tree_rows row_distances distances origins done row entries base new_distances new_origins tree next fits left less is_row base_is count relaxes range = record {
   each = λ k h.
       let hk : k < M.size = omega (arith, count) in

@@ -3,7 +3,8 @@
 ghost use Rattle.std.specs.Prelude.{◌≡◌, ℕ, ◌+◌, ◌*◌, ◌^◌, ◌<◌, ◌≤◌, List, length, ℤ, ◌≤ℤ◌, pos, replicate, IfOk, Option, None};
 ghost use Rattle.qap_cost.specs.Bijection.{IsBijection};
 ghost use Rattle.qap_cost.specs.Matrix.{IsMatrix, Assigns, DualsFit, assignment_cost, dual_value};
-ghost use Rattle.assign_dual.specs.Range.{EntriesWithin, NumbersWithin, NoneAbove};
+ghost use Rattle.assign_dual.specs.Range.{NoneAbove};
+ghost use Rattle.qap_cost.specs.Range.{AllWithin};
 ghost use Rattle.assign_dual.specs.Partial.{IsPartial};
 
 use crate::path::augment;
@@ -24,14 +25,14 @@ pub struct Assignment {
 ///
 /// Takes time in m^3 for m rows. The only error is want of memory.
 pub fn solve(alloc: Global, matrix: &Matrix) -> Result<Assignment, AllocError>
-    requires { EntriesWithin matrix.now (10 ^ 21) }
+    requires { AllWithin (10 ^ 21) matrix.now.entries }
     ensures assigns { IfOk result (λ a. Assigns matrix.now a.matching.items) }
     ensures fits { IfOk result (λ a. DualsFit matrix.now a.u.items a.v.items) }
     ensures equal { IfOk result (λ a. dual_value a.u.items a.v.items ≡ assignment_cost matrix.now a.matching.items) }
     ensures least { IfOk result (λ a. (p : List ℕ) → Assigns matrix.now p →
         assignment_cost matrix.now a.matching.items ≤ℤ assignment_cost matrix.now p) }
-    ensures u_range { IfOk result (λ a. (m : ℕ) → EntriesWithin matrix.now m → NumbersWithin a.u.items m) }
-    ensures v_range { IfOk result (λ a. (m : ℕ) → EntriesWithin matrix.now m → NumbersWithin a.v.items (2 * m)) }
+    ensures u_range { IfOk result (λ a. (m : ℕ) → AllWithin m matrix.now.entries → AllWithin m a.u.items) }
+    ensures v_range { IfOk result (λ a. (m : ℕ) → AllWithin m matrix.now.entries → AllWithin (2 * m) a.v.items) }
     ensures v_sign { IfOk result (λ a. NoneAbove a.v.items) }
 {
     let n = matrix.size();
@@ -98,7 +99,7 @@ fn place_rows(
     distances: &mut [i128],
     origins: &mut [usize],
 )
-    requires entries { EntriesWithin matrix.now (10 ^ 21) }
+    requires entries { AllWithin (10 ^ 21) matrix.now.entries }
     requires partial { IsPartial matrix.now 0 matching.old row_of.old u.old v.old }
     requires order { IsBijection columns.old }
     requires columns_count { length columns.old ≡ matrix.now.size }
@@ -140,7 +141,7 @@ fn place_row(
     origins: &mut [usize],
 )
     requires is_matrix { IsMatrix matrix.now }
-    requires entries { EntriesWithin matrix.now (10 ^ 21) }
+    requires entries { AllWithin (10 ^ 21) matrix.now.entries }
     requires root_below { root < matrix.now.size }
     requires partial { IsPartial matrix.now root matching.old row_of.old u.old v.old }
     requires order { IsBijection columns.old }

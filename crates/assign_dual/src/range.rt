@@ -1,8 +1,7 @@
 //! The test for the entries that are taken.
 
-ghost use Rattle.std.specs.Prelude.{◌↔◌, ◌^◌, IsTrue, ◌≤◌, List, ℤ, length, unsigned_abs};
-ghost use Rattle.qap_cost.specs.Row.{IsRow};
-ghost use Rattle.assign_dual.specs.Range.{EntriesWithin, NumbersWithin};
+ghost use Rattle.std.specs.Prelude.{◌↔◌, ◌^◌, IsTrue};
+ghost use Rattle.qap_cost.specs.Range.{AllWithin};
 
 use qap_cost::Matrix;
 
@@ -11,20 +10,15 @@ pub const MAX_MATRIX_ENTRY: u128 = 1_000_000_000_000_000_000_000;
 
 /// Whether every entry lies from -10^21 to 10^21.
 pub fn is_in_range(matrix: &Matrix) -> bool
-    ensures { IsTrue result ↔ EntriesWithin matrix.now (10 ^ 21) }
+    ensures { IsTrue result ↔ AllWithin (10 ^ 21) matrix.now.entries }
 {
-    for i in 0..matrix.size() {
-        if !is_row_in_range(matrix.row(i)) {
-            return false;
-        }
-    }
-    true
+    are_in_range(matrix.entries())
 }
 
-fn is_row_in_range(row: &[i128]) -> bool
-    ensures { IsTrue result ↔ NumbersWithin row.now (10 ^ 21) }
+fn are_in_range(entries: &[i128]) -> bool
+    ensures { IsTrue result ↔ AllWithin (10 ^ 21) entries.now }
 {
-    for entry in row {
+    for entry in entries {
         if entry.unsigned_abs() > MAX_MATRIX_ENTRY {
             return false;
         }

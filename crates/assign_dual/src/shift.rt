@@ -2,7 +2,7 @@
 
 ghost use Rattle.std.specs.Prelude.{◌≡◌, ℕ, ◌+◌, ◌*◌, ◌^◌, ◌<◌, ◌≤◌, List, length, ℤ, slice_index, unsigned_abs};
 ghost use Rattle.qap_cost.specs.Bijection.{IsBijection};
-ghost use Rattle.assign_dual.specs.Range.{NumbersWithin};
+ghost use Rattle.qap_cost.specs.Range.{AllWithin};
 ghost use Rattle.assign_dual.specs.Tree.{far};
 ghost use Rattle.assign_dual.specs.Steps.{RaisesRows, LowersColumns};
 
@@ -18,7 +18,7 @@ pub fn raise_rows(
     requires distances_count { count ≤ length row_distances.now }
     requires within { (p : ℕ) → p < count → slice_index tree_rows.now p < length u.old }
     requires distinct { (p q : ℕ) → p < count → q < count → slice_index tree_rows.now p ≡ slice_index tree_rows.now q → p ≡ q }
-    requires u_range { NumbersWithin u.old (10 ^ 21) }
+    requires u_range { AllWithin (10 ^ 21) u.old }
     requires row_distances_range { (p : ℕ) → p < count → unsigned_abs (far row_distances.now p) ≤ 3 * 10 ^ 21 }
     requires path_range { unsigned_abs path_length ≤ 3 * 10 ^ 21 }
     ensures { RaisesRows tree_rows.now row_distances.now count path_length u.old u.new }
@@ -40,8 +40,8 @@ pub fn lower_columns(
     requires distances_count { length distances.now ≡ length columns.now }
     requires v_count { length v.old ≡ length columns.now }
     requires left { done ≤ length columns.now }
-    requires v_range { NumbersWithin v.old (2 * 10 ^ 21) }
-    requires distances_range { NumbersWithin distances.now (3 * 10 ^ 21) }
+    requires v_range { AllWithin (2 * 10 ^ 21) v.old }
+    requires distances_range { AllWithin (3 * 10 ^ 21) distances.now }
     requires path_range { unsigned_abs path_length ≤ 3 * 10 ^ 21 }
     ensures { LowersColumns columns.now distances.now done path_length v.old v.new }
 {

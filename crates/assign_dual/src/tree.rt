@@ -3,7 +3,7 @@
 ghost use Rattle.std.specs.Prelude.{◌≡◌, ℕ, ◌+◌, ◌*◌, ◌^◌, ◌<◌, ◌≤◌, List, length, ℤ, pos, ◌+ℤ◌, ◌≤ℤ◌, slice_index, slice_index_or, Option, None, unsigned_abs};
 ghost use Rattle.qap_cost.specs.Bijection.{IsBijection};
 ghost use Rattle.qap_cost.specs.Matrix.{IsMatrix};
-ghost use Rattle.assign_dual.specs.Range.{EntriesWithin, NumbersWithin};
+ghost use Rattle.qap_cost.specs.Range.{AllWithin};
 ghost use Rattle.assign_dual.specs.Partial.{FitsRows, OwnersDiffer, owner_of};
 ghost use Rattle.assign_dual.specs.Tree.{IsTree, IsNext, far};
 ghost use Rattle.assign_dual.specs.Steps.{StartsRow, KeepsScanned, Relaxes};
@@ -15,8 +15,8 @@ fn start_row(row: &[i128], v: &[i128], distances: &mut [i128], origins: &mut [us
     requires v_count { length v.now ≡ length row.now }
     requires distances_count { length distances.old ≡ length row.now }
     requires origins_count { length origins.old ≡ length row.now }
-    requires row_range { NumbersWithin row.now (10 ^ 21) }
-    requires v_range { NumbersWithin v.now (2 * 10 ^ 21) }
+    requires row_range { AllWithin (10 ^ 21) row.now }
+    requires v_range { AllWithin (2 * 10 ^ 21) v.now }
     ensures { StartsRow row.now v.now distances.new origins.new }
 {
     for k in 0..row.len() {
@@ -73,8 +73,8 @@ fn relax(
     requires v_count { length v.now ≡ length row.now }
     requires distances_count { length distances.old ≡ length row.now }
     requires origins_count { length origins.old ≡ length row.now }
-    requires row_range { NumbersWithin row.now (10 ^ 21) }
-    requires v_range { NumbersWithin v.now (2 * 10 ^ 21) }
+    requires row_range { AllWithin (10 ^ 21) row.now }
+    requires v_range { AllWithin (2 * 10 ^ 21) v.now }
     requires base_range { unsigned_abs base ≤ 4 * 10 ^ 21 }
     ensures { Relaxes row.now v.now base place columns.now distances.old origins.old distances.new origins.new }
 {
@@ -103,13 +103,13 @@ pub fn grow(
     distances: &mut [i128],
     origins: &mut [usize],
 ) -> usize
-    requires entries { EntriesWithin matrix.now (10 ^ 21) }
+    requires entries { AllWithin (10 ^ 21) matrix.now.entries }
     requires root_below { root < matrix.now.size }
     requires owners { OwnersDiffer matrix.now.size root row_of.now }
     requires row_of_count { length row_of.now ≡ matrix.now.size }
     requires fits { FitsRows matrix.now root u.now v.now }
-    requires u_range { NumbersWithin u.now (10 ^ 21) }
-    requires v_range { NumbersWithin v.now (2 * 10 ^ 21) }
+    requires u_range { AllWithin (10 ^ 21) u.now }
+    requires v_range { AllWithin (2 * 10 ^ 21) v.now }
     requires order { IsBijection columns.old }
     requires columns_count { length columns.old ≡ matrix.now.size }
     requires tree_rows_count { length tree_rows.old ≡ matrix.now.size }
@@ -119,7 +119,7 @@ pub fn grow(
     ensures left { result < matrix.now.size }
     ensures tree { IsTree matrix.now root row_of.now u.now v.now columns.new tree_rows.new row_distances.new distances.new origins.new result }
     ensures next { IsNext columns.new distances.new result }
-    ensures distances_range { NumbersWithin distances.new (3 * 10 ^ 21) }
+    ensures distances_range { AllWithin (3 * 10 ^ 21) distances.new }
     ensures free { owner_of row_of.now (slice_index columns.new result) ≡ None }
 {
     start_row(matrix.row(root), v, distances, origins);

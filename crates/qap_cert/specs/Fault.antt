@@ -1,6 +1,7 @@
 -- What keeps a cost, a bound, a permutation and a tree from being a certificate, and a certificate from certifying its
 -- bound: the first fault in order of lines, where the nodes of the tree have the lines from `tree_line` on in preorder.
 use Rattle.std.specs.Prelude.{◌≡◌, ◌≢◌, ℕ, ◌-◌, ◌^◌, ◌<◌, ◌≤◌, ◌⊎◌, ◌++◌, ◌∷◌, [], List, length, ℤ, ◌+ℤ◌, ◌<ℤ◌, unsigned_abs}
+use Rattle.qap_cost.specs.Limits.{max_value}
 use Rattle.qap_cost.specs.Instance.{Problem}
 use Rattle.qap_cost.specs.Matrix.{dual_value}
 use Rattle.qap_cost.specs.Objective.{cost_of}
@@ -50,7 +51,7 @@ abbrev mutual
 -- the first fault of what is to be a certificate
 abbrev pub IsClaimFault : Claim → CertError → Type 0
 IsClaimFault C e =
-    ((e ≡ BadLine 3) × (10 ^ 24 < unsigned_abs C.cost))
+    ((e ≡ BadLine 3) × (max_value < unsigned_abs C.cost))
     ⊎ (((e ≡ BadLine 5) × IsLimited C.cost × (IsBoundFor C.cost C.bound → ⊥))
     ⊎ (IsLimited C.cost × IsBoundFor C.cost C.bound
     × IsShapeFault (length C.permutation) [] (tree_line C.cost C.bound) C.tree e))

@@ -1,5 +1,6 @@
 -- What keeps a text from being that of a certificate: the first fault in order of lines.
 use Rattle.std.specs.Prelude.{◌≡◌, ◌≢◌, ℕ, suc, zero, ◌+◌, ◌-◌, ◌*◌, ◌<◌, ◌≤◌, ◌⊎◌, ◌++◌, ◌∷◌, [], List, length, ℤ, pos, codes, ◌<ℤ◌}
+use Rattle.qap_cost.specs.Limits.{max_size}
 use Rattle.qap_cost.specs.Bijection.{IsPerm}
 use Rattle.qap_cost.specs.Placement.{IsFree}
 use Rattle.qap_cost.specs.Range.{AllLimited, IsLimited}
@@ -27,7 +28,7 @@ IsHeaderFault line _ = ⊥
 
 -- the second line: `n` and a number from 1 to 256
 abbrev pub IsSizeFault : List ℕ → CertError → Type 0
-IsSizeFault line e = (e ≡ BadLine 2) × ((n : ℕ) → 0 < n → n ≤ 256 → IsNamed (codes "n") line (pos n ∷ []) → ⊥)
+IsSizeFault line e = (e ≡ BadLine 2) × ((n : ℕ) → 0 < n → n ≤ max_size → IsNamed (codes "n") line (pos n ∷ []) → ⊥)
 
 -- the third line: `cost` and a number from -10^24 to 10^24
 abbrev pub IsCostFault : List ℕ → CertError → Type 0
@@ -131,7 +132,7 @@ IsFaultFromCost v n text e =
 abbrev pub IsFaultFromSize : Version → List ℕ → CertError → Type 0
 IsFaultFromSize v text e =
     IsLineFault 2 text IsSizeFault e
-    ⊎ ((n : ℕ) × (0 < n) × (n ≤ 256) × Behind (line_text (codes "n") (pos n ∷ [])) text (λ rest. IsFaultFromCost v n rest e))
+    ⊎ ((n : ℕ) × (0 < n) × (n ≤ max_size) × Behind (line_text (codes "n") (pos n ∷ [])) text (λ rest. IsFaultFromCost v n rest e))
 
 -- the first fault of a text
 abbrev pub IsTextFault : List ℕ → CertError → Type 0

@@ -1,5 +1,6 @@
 -- Permutations as lists: the number at place i is where i is sent.
 use Rattle.std.specs.Prelude.{◌≡◌, ℕ, ◌<◌, ◌≤◌, List, length, slice_index}
+use Rattle.qap_cost.specs.Limits.{max_size}
 
 -- numbers below n, no two of them equal
 pub record AreDifferent (n : ℕ) (xs : List ℕ) : Type 0 where
@@ -20,4 +21,4 @@ pub record IsInverse (p q : List ℕ) : Type 0 where
 pub record IsPerm (p : List ℕ) : Type 0 where
   pub bijection : IsBijection p
   pub positive : 0 < length p
-  pub small : length p ≤ 256
+  pub small : length p ≤ max_size

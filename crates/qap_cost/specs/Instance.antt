@@ -1,5 +1,6 @@
 -- Instances of the quadratic assignment problem (Koopmans and Beckmann 1957), of the sizes and entries that are taken.
 use Rattle.std.specs.Prelude.{◌≡◌, ℕ, ◌+◌, ◌*◌, ◌<◌, ◌≤◌, List, length, ℤ, pos, slice_index_or}
+use Rattle.qap_cost.specs.Limits.{max_size}
 pub use Rattle.qap_cost.specs.Range.{InRange}
 
 -- two size by size matrices, each listed by rows
@@ -14,7 +15,7 @@ entry n xs i j = slice_index_or xs (i * n + j) (pos 0)
 
 pub record IsInstance (I : Problem) : Type 0 where
   pub positive : 0 < I.size
-  pub small : I.size ≤ 256
+  pub small : I.size ≤ max_size
   pub a_count : length I.a ≡ I.size * I.size
   pub b_count : length I.b ≡ I.size * I.size
   pub a_range : (k : ℕ) → k < I.size * I.size → InRange (slice_index_or I.a k (pos 0))

@@ -1,6 +1,7 @@
 pub mod Bijection
 pub mod Fault
 pub mod Instance
+pub mod Limits
 pub mod Matrix
 pub mod Objective
 pub mod Placement

@@ -1,6 +1,7 @@
 -- Square matrices, and the assignments of their rows to their columns (Kuhn 1955; Burkard, Dell'Amico and Martello,
 -- Assignment Problems, 2009).
 use Rattle.std.specs.Prelude.{◌≡◌, ℕ, ◌*◌, ◌<◌, ◌≤◌, List, length, ℤ, pos, ◌+ℤ◌, ◌≤ℤ◌, slice_index, slice_index_or}
+use Rattle.qap_cost.specs.Limits.{max_size}
 use Rattle.qap_cost.specs.Sum.{sum_to}
 use Rattle.qap_cost.specs.Bijection.{IsBijection}
 use Rattle.qap_cost.specs.Instance.{entry}
@@ -11,7 +12,7 @@ pub record Square : Type 0 where
   pub entries : List ℤ
 
 pub record IsMatrix (M : Square) : Type 0 where
-  pub small : M.size ≤ 256
+  pub small : M.size ≤ max_size
   pub count : length M.entries ≡ M.size * M.size
 
 -- row i, column k

@@ -1,6 +1,7 @@
 -- Nodes of a search: some facilities stand at locations of their own, and the others are free.
 use Rattle.std.specs.Prelude.{◌≡◌, ◌≢◌, ℕ, ◌+◌, ◌<◌, ◌≤◌, ◌==◌, not, Bool, List, [], ◌∷◌, ◌++◌, length, filter, ℤ, ◌*ℤ◌, slice_index}
 use Rattle.std.specs.List.{list_any, range_with_len}
+use Rattle.qap_cost.specs.Limits.{max_size}
 use Rattle.qap_cost.specs.Sum.{sum_to}
 use Rattle.qap_cost.specs.Bijection.{AreDifferent, IsBijection}
 use Rattle.qap_cost.specs.Instance.{Problem, entry}
@@ -14,7 +15,7 @@ pub record Placement : Type 0 where
 -- different facilities at different locations
 pub record IsPlacement (x : Placement) : Type 0 where
   pub positive : 0 < x.size
-  pub small : x.size ≤ 256
+  pub small : x.size ≤ max_size
   pub paired : length x.places ≡ length x.facilities
   pub facilities : AreDifferent x.size x.facilities
   pub places : AreDifferent x.size x.places

@@ -1,5 +1,6 @@
 -- How far from 0 numbers lie.
-use Rattle.std.specs.Prelude.{ℕ, ◌<◌, ◌≤◌, ◌^◌, List, length, ℤ, pos, slice_index_or, unsigned_abs}
+use Rattle.std.specs.Prelude.{ℕ, ◌<◌, ◌≤◌, List, length, ℤ, pos, slice_index_or, unsigned_abs}
+use Rattle.qap_cost.specs.Limits.{max_entry, max_value}
 
 -- no number of the list is further from 0 than the limit
 pub record AllWithin (limit : ℕ) (xs : List ℤ) : Type 0 where
@@ -7,14 +8,14 @@ pub record AllWithin (limit : ℕ) (xs : List ℤ) : Type 0 where
 
 -- from -10^9 to 10^9, as entries are
 abbrev pub InRange : ℤ → Type 0
-InRange x = unsigned_abs x ≤ 1000000000
+InRange x = unsigned_abs x ≤ max_entry
 
 abbrev pub AllInRange : List ℤ → Type 0
-AllInRange xs = AllWithin 1000000000 xs
+AllInRange xs = AllWithin max_entry xs
 
 -- from -10^24 to 10^24, as stated costs and duals are
 abbrev pub IsLimited : ℤ → Type 0
-IsLimited x = unsigned_abs x ≤ 10 ^ 24
+IsLimited x = unsigned_abs x ≤ max_value
 
 abbrev pub AllLimited : List ℤ → Type 0
-AllLimited xs = AllWithin (10 ^ 24) xs
+AllLimited xs = AllWithin max_value xs

@@ -44,6 +44,13 @@ impl Matrix {
         self.size
     }
 
+    /// All entries, listed by rows.
+    pub fn entries(&self) -> &[i128]
+        ensures { result.now ≡ self.now.entries }
+    {
+        &self.entries
+    }
+
     /// Row `i`, column `k`.
     pub fn at(&self, i: usize, k: usize) -> i128
         requires row { i < self.now.size }

@@ -1,5 +1,6 @@
 -- Texts of instances, as the library QAPLIB (Burkard, Karisch and Rendl 1997) writes them, and their faults.
 use Rattle.std.specs.Prelude.{◌≡◌, ℕ, ◌*◌, ◌<◌, ◌≤◌, ◌⊎◌, List, ◌∷◌, ◌++◌, length, drop, ℤ, pos, ◌≤ℤ◌, ◌<ℤ◌, unsigned_abs}
+use Rattle.qap_cost.specs.Limits.{max_size, max_entry}
 use Rattle.qap_cost.specs.Instance.{Problem, IsInstance}
 use Rattle.qap_cost.specs.Row.{AllInRange}
 use Rattle.qap_text.specs.Word.{HasNoWord}
@@ -19,14 +20,14 @@ abbrev pub IsSizeFault : List ℕ → TextError → Type 0
 IsSizeFault text Empty = HasNoWord text 0
 IsSizeFault text (NotANumber place) = IsNoNumberAt text 0 place
 IsSizeFault text (SizeZero place) = (stop : ℕ) × (z : ℤ) × IsNumberAt text 0 place stop z × (z ≤ℤ pos 0)
-IsSizeFault text (SizeTooLarge place) = (stop : ℕ) × (z : ℤ) × IsNumberAt text 0 place stop z × (pos 256 <ℤ z)
+IsSizeFault text (SizeTooLarge place) = (stop : ℕ) × (z : ℤ) × IsNumberAt text 0 place stop z × (pos max_size <ℤ z)
 IsSizeFault text _ = ⊥
 
 -- the next word from a place on is no entry
 abbrev pub IsEntryFault : List ℕ → ℕ → TextError → Type 0
 IsEntryFault text from CountDiffers = HasNoWord text from
 IsEntryFault text from (NotANumber place) = IsNoNumberAt text from place
-IsEntryFault text from (EntryRange place) = (stop : ℕ) × (z : ℤ) × IsNumberAt text from place stop z × (1000000000 < unsigned_abs z)
+IsEntryFault text from (EntryRange place) = (stop : ℕ) × (z : ℤ) × IsNumberAt text from place stop z × (max_entry < unsigned_abs z)
 IsEntryFault text from _ = ⊥
 
 -- from a place on there are right entries, fewer than are wanted, and then one that is at fault
@@ -42,7 +43,7 @@ pub record HasEntryFault (text : List ℕ) (from wanted : ℕ) (e : TextError) :
 pub record HasInstanceEntryFault (text : List ℕ) (e : TextError) : Type 0 where
   pub size : ℕ
   pub positive : 0 < size
-  pub small : size ≤ 256
+  pub small : size ≤ max_size
   pub start : ℕ
   pub stop : ℕ
   pub spelled : IsNumberAt text 0 start stop (pos size)

@@ -1,5 +1,6 @@
 -- Texts of solutions, as the library QAPLIB (Burkard, Karisch and Rendl 1997) writes them, and their faults.
 use Rattle.std.specs.Prelude.{◌≡◌, ◌≢◌, ℕ, ◌+◌, ◌^◌, ◌<◌, ◌≤◌, ◌⊎◌, List, [], ◌∷◌, length, ℤ, pos, ◌≤ℤ◌, ◌<ℤ◌, unsigned_abs, slice_index}
+use Rattle.qap_cost.specs.Limits.{max_value}
 use Rattle.qap_cost.specs.Bijection.{AreDifferent, IsPerm}
 use Rattle.qap_io.specs.Number.{from_one}
 use Rattle.qap_text.specs.Word.{HasNoWord}
@@ -11,7 +12,7 @@ use Rattle.qap_text.specs.declared.error.TextError.TheVariants.{Empty, NotANumbe
 pub record IsSolutionText (text : List ℕ) (n : ℕ) (value : ℤ) (p : List ℕ) : Type 0 where
   pub permutation : IsPerm p
   pub same_size : length p ≡ n
-  pub in_range : unsigned_abs value ≤ 10 ^ 24
+  pub in_range : unsigned_abs value ≤ max_value
   pub stop : ℕ
   pub spelled : Spells text 0 (pos n ∷ value ∷ from_one p) stop
 
@@ -26,7 +27,7 @@ IsOtherSizeFault text n _ = ⊥
 abbrev pub IsValueFault : List ℕ → ℕ → TextError → Type 0
 IsValueFault text from CountDiffers = HasNoWord text from
 IsValueFault text from (NotANumber place) = IsNoNumberAt text from place
-IsValueFault text from (ValueRange place) = (stop : ℕ) × (z : ℤ) × IsNumberAt text from place stop z × (10 ^ 24 < unsigned_abs z)
+IsValueFault text from (ValueRange place) = (stop : ℕ) × (z : ℤ) × IsNumberAt text from place stop z × (max_value < unsigned_abs z)
 IsValueFault text from _ = ⊥
 
 -- a number that is none of 1 to n, or that one of the locations before it spells
@@ -59,7 +60,7 @@ pub record HasValueFault (text : List ℕ) (n : ℕ) (e : TextError) : Type 0 wh
 -- the size n and a right value, and then a location that is at fault, all before it being right
 pub record HasSolutionLocationFault (text : List ℕ) (n : ℕ) (e : TextError) : Type 0 where
   pub value : ℤ
-  pub in_range : unsigned_abs value ≤ 10 ^ 24
+  pub in_range : unsigned_abs value ≤ max_value
   pub stop : ℕ
   pub spelled : Spells text 0 (pos n ∷ value ∷ []) stop
   pub fault : HasLocationFault text stop n e
