@@ -1,3 +1,4 @@
+pub mod EntryLemmas
 pub mod HoldLemmas
 pub mod RowLemmas
 pub mod SpaceLemmas

@@ -6,6 +6,8 @@ use Rattle.std.proofs.lemmas.Bool.{cond_both, false≢true}
 use Rattle.std.proofs.lemmas.List.Sums.{sum_by-cons}
 use Rattle.tuple_match.specs.FieldValue.{FieldValue}
 use Rattle.tuple_space.specs.declared.entry.Entry.{Entry}
+use Rattle.tuple_space.specs.Entry.{IsEntry}
+use Rattle.tuple_space.proofs.EntryLemmas.{IsEntry-new}
 use Rattle.tuple_space.specs.Space.{SpaceValue, IsSpace, most, put, space_of}
 use Rattle.tuple_space.specs.Writes.{put_count, put_each}
 use Rattle.tuple_space.specs.Lease.{granted}
@@ -17,15 +19,17 @@ use Rattle.tuple_space.proofs.RowLemmas.{rising_filter, rising_map}
 pub IsSpace-filter : (test : Entry → Bool) (es : List Entry) (moment last later : ℕ) → later ≤ most → IsSpace (space_of es moment last) → IsSpace (space_of (filter test es) later last)
 IsSpace-filter test es moment last later early h = record {
   rising = rising_filter test es h.rising;
+  entries = All-filter test IsEntry es h.entries;
   numbered = All-filter test (λ (e : Entry). (0 < e.number) × (e.number ≤ last)) es h.numbered;
   few = h.few;
   early = early;
 }
 
--- a space keeps being one where entries change in other things than their numbers
-pub IsSpace-map : (change : Entry → Entry) → ((e : Entry) → (change e).number ≡ e.number) → (es : List Entry) (moment last : ℕ) → IsSpace (space_of es moment last) → IsSpace (space_of (map change es) moment last)
-IsSpace-map change keeps es moment last h = record {
+-- a space keeps being one where entries change in other things than their numbers and stay entries
+pub IsSpace-map : (change : Entry → Entry) → ((e : Entry) → (change e).number ≡ e.number) → ((e : Entry) → IsEntry e → IsEntry (change e)) → (es : List Entry) (moment last : ℕ) → IsSpace (space_of es moment last) → IsSpace (space_of (map change es) moment last)
+IsSpace-map change keeps stays es moment last h = record {
   rising = rising_map change keeps es h.rising;
+  entries = All-map IsEntry change es (λ k d lt. stays (get_or es k d) (h.entries k d lt));
   numbered = All-map (λ (e : Entry). (0 < e.number) × (e.number ≤ last)) change es (λ k d lt.
       let own = h.numbered k d lt in
       let same = keeps (get_or es k d) in
@@ -40,6 +44,7 @@ IsSpace-put w tuple lease room h =
     let fits : Entry → Type 0 = λ e. (0 < e.number) × (e.number ≤ w.last + 1) in
     let new : Entry = record { number = w.last + 1; tuple = tuple; end = granted w.moment lease; holds = [] } in
     record {
+      entries = All-push IsEntry w.entries new h.entries (IsEntry-new new refl);
       rising = all_pairs_push (λ (x y : Entry). x.number < y.number) w.entries new h.rising (λ k d lt. let own = h.numbered k d lt in omega arith);
       numbered = All-push fits w.entries new (λ k d lt. let own = h.numbered k d lt in (omega arith, omega arith)) (omega arith, omega arith);
       few = omega arith;

@@ -1,9 +1,9 @@
 -- A tuple in the space, with its number, its lease and those who hold it.
-use Rattle.std.specs.Prelude.{ℕ, Bool, true, not, ◌&&◌, ◌||◌, ◌==◌, List}
+use Rattle.std.specs.Prelude.{◌≡◌, ◌≢◌, ℕ, Bool, true, not, ◌&&◌, ◌||◌, ◌==◌, List, All, AllPairs}
 use Rattle.std.specs.List.{list_any, list_all}
 use Rattle.tuple_match.specs.PatternValue.{PatternValue}
 use Rattle.tuple_match.specs.Matching.{does_match}
-use Rattle.tuple_space.specs.Lease.{is_live}
+use Rattle.tuple_space.specs.Lease.{is_live, is_permanent}
 use Rattle.tuple_space.specs.Holds.{holds_without}
 use Rattle.tuple_space.specs.declared.hold.Hold.{Hold}
 use Rattle.tuple_space.specs.declared.entry.Entry.{Entry}
@@ -51,3 +51,8 @@ is_counted moment template e = is_there moment e && does_match template e.tuple
 -- an entry without the holds of one holder
 abbrev pub unheld : ℕ → Entry → Entry
 unheld holder e = record e { holds = holds_without holder e.holds }
+
+-- what holds of every entry: nobody holds it twice, and where it was permanent when it was marked, it still is
+pub record IsEntry (e : Entry) : Type 0 where
+  pub once : AllPairs (λ h k. h.by ≢ k.by) e.holds
+  pub stays : All (λ h. h.permanent ≡ true → is_permanent e.end ≡ true) e.holds

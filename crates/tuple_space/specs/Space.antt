@@ -2,7 +2,7 @@
 use Rattle.std.specs.Prelude.{Bool, ℕ, ◌+◌, ◌<◌, ◌≤◌, ◌^◌, nat_lt, not, ◌||◌, List, [], ◌∷◌, ◌++◌, All, filter, map, if◌then◌else◌}
 use Rattle.tuple_match.specs.FieldValue.{FieldValue}
 use Rattle.tuple_space.specs.Lease.{granted, is_permanent}
-use Rattle.tuple_space.specs.Entry.{is_there, is_held_by, is_taken_by, unheld}
+use Rattle.tuple_space.specs.Entry.{IsEntry, is_there, is_held_by, is_taken_by, unheld}
 use Rattle.tuple_space.specs.Holds.{holds_with}
 use Rattle.tuple_space.specs.Rows.{IsRising}
 use Rattle.tuple_space.specs.declared.lease.Lease.{Lease}
@@ -17,9 +17,10 @@ pub record SpaceValue : Type 0 where
   pub moment : ℕ
   pub last : ℕ
 
--- what holds of every space: the numbers rise, from 1 to the one last given
+-- what holds of every space: the numbers rise, from 1 to the one last given, and each entry's holds are in order
 pub record IsSpace (w : SpaceValue) : Type 0 where
   pub rising : IsRising w.entries
+  pub entries : All IsEntry w.entries
   pub numbered : All (λ (e : Entry). (0 < e.number) × (e.number ≤ w.last)) w.entries
   pub few : w.last ≤ most
   pub early : w.moment ≤ most

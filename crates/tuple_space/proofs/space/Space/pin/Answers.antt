@@ -2,6 +2,7 @@ use Rattle.std.proofs.Common.{cond, eqb, refl}
 use Rattle.tuple_space.specs.declared.entry.Entry.{Entry}
 use Rattle.tuple_space.specs.Space.{held_by}
 use Rattle.tuple_space.proofs.RowLemmas.{changed_number}
+use Rattle.tuple_space.proofs.EntryLemmas.{IsEntry-changed, IsEntry-held}
 use Rattle.tuple_space.proofs.SpaceLemmas.{IsSpace-map}
 use Rattle.tuple_space.proofs.space.Space.pin.Goals as goal
 
@@ -11,4 +12,4 @@ invariant_of-self-2 c =
     let change = held_by c.args.holder c.args.taken in
     let n = c.number.result in
     rw c.in_ok-hold_entry.ensures.ok
-    (IsSpace-map (λ (e : Entry). cond (eqb e.number n) (change e) e) (changed_number n change (λ e. refl)) s.entries.items s.moment s.last c.self.invariant)
+    (IsSpace-map (λ (e : Entry). cond (eqb e.number n) (change e) e) (changed_number n change (λ e. refl)) (IsEntry-changed n change (IsEntry-held c.args.holder c.args.taken)) s.entries.items s.moment s.last c.self.invariant)

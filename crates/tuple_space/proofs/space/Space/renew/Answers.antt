@@ -2,6 +2,7 @@ use Rattle.std.proofs.Common.{cond, eqb, refl}
 use Rattle.tuple_space.specs.declared.entry.Entry.{Entry}
 use Rattle.tuple_space.specs.Rows.{with_end}
 use Rattle.tuple_space.proofs.RowLemmas.{changed_number}
+use Rattle.tuple_space.proofs.EntryLemmas.{IsEntry-changed, IsEntry-end}
 use Rattle.tuple_space.proofs.SpaceLemmas.{IsSpace-map}
 use Rattle.tuple_space.proofs.space.Space.renew.Goals as goal
 
@@ -11,4 +12,4 @@ invariant_of-self c =
     let change = with_end c.granted-end.result in
     let n = c.number.result in
     rw c.if-change_end.ensures.changed
-    (IsSpace-map (λ (e : Entry). cond (eqb e.number n) (change e) e) (changed_number n change (λ e. refl)) s.entries.items s.moment s.last c.self.invariant)
+    (IsSpace-map (λ (e : Entry). cond (eqb e.number n) (change e) e) (changed_number n change (λ e. refl)) (IsEntry-changed n change (IsEntry-end c.granted-end.result)) s.entries.items s.moment s.last c.self.invariant)

@@ -2,6 +2,7 @@ use Rattle.std.proofs.Common.{refl}
 use Rattle.std.specs.Prelude.{filter}
 use Rattle.tuple_space.specs.Entry.{unheld}
 use Rattle.tuple_space.specs.Space.{stays_without}
+use Rattle.tuple_space.proofs.EntryLemmas.{IsEntry-unheld}
 use Rattle.tuple_space.proofs.SpaceLemmas.{IsSpace-filter, IsSpace-map}
 use Rattle.tuple_space.proofs.space.Space.unpin.Goals as goal
 
@@ -10,5 +11,5 @@ invariant_of-self c =
     let s = c.self.inside in
     let stays = stays_without c.args.holder s.moment in
     rw c.release_all.ensures
-    (IsSpace-map (unheld c.args.holder) (λ e. refl) (filter stays s.entries.items) s.moment s.last
+    (IsSpace-map (unheld c.args.holder) (λ e. refl) (IsEntry-unheld c.args.holder) (filter stays s.entries.items) s.moment s.last
     (IsSpace-filter stays s.entries.items s.moment s.last s.moment c.self.invariant.early c.self.invariant))
