@@ -1,9 +1,8 @@
-use Rattle.std.proofs.Common.{◌≡◌, ℕ, ◌+◌, Bool, true, false, List, [], ◌∷◌, ◌++◌, ap, ◌∙◌, sym, subst, refl, cond, eqb, ltb, arith}
+use Rattle.std.proofs.Common.{◌≡◌, ℕ, ◌+◌, Bool, true, false, List, [], ◌∷◌, ap, ◌∙◌, sym, subst, refl, cond, eqb, ltb, arith}
 use Rattle.std.specs.Prelude.{not, ◌&&◌, ◌||◌, filter, find, is_some, map, Result, Ok, Err}
 use Rattle.std.specs.List.{list_any, sum_by}
 use Rattle.std.proofs.lemmas.Bool.{cond_both, false≢true}
-use Rattle.std.proofs.lemmas.List.Filters.{sum_by-filter_both}
-use Rattle.std.proofs.lemmas.List.Sums.{sum_by-append, sum_by-cons, sum_by_push}
+use Rattle.std.proofs.lemmas.List.Sums.{sum_by-cons, sum_by_push}
 use Rattle.tuple_match.specs.FieldValue.{FieldValue}
 use Rattle.tuple_space.specs.Lease.{granted, is_live, is_permanent}
 use Rattle.tuple_space.specs.Entry.{is_held, is_held_by, is_taken_by, is_there, unheld}
@@ -18,7 +17,7 @@ use Rattle.tuple_space.specs.declared.lease.LeaseEnd.{LeaseEnd}
 use Rattle.tuple_space.specs.declared.lease.LeaseEnd.TheVariants.{Never, At}
 use Rattle.tuple_space.specs.declared.hold.Hold.{Hold}
 use Rattle.tuple_space.specs.declared.write.Write.{Write}
-use Rattle.space_txn.specs.Content.{SameItems, ChangesContent, KeepsContent, LeavesContent, content_of, gone_of, kept_of, is_added, added_of}
+use Rattle.space_txn.specs.Content.{SameItems, KeepsContent, LeavesContent, content_of, is_added, added_of}
 use Rattle.space_txn.specs.Machine.{Step, BeginStep, AdvanceStep, Call, inp_in, rdp_in, renew_txn, commit, abort, Answer, found, nothing, done, refused, committed_space, commit_at, taken_space, read_space}
 use Rattle.space_txn.specs.Live.{abort_each, ended_at, going_at, unmarked}
 use Rattle.space_txn.specs.declared.live.Live.{Live}
@@ -33,7 +32,7 @@ use Rattle.space_txn.specs.Txn.{TxnValue}
 use Rattle.space_txn.specs.World.{World, world_of, with_space, abort_at, advance_at, begin_at, renew_at}
 
 -- a weight over what is kept of a list
-sum_of_one : {X Y : Type 0} (f : Y → ℕ) (g : X → Y) (b : Bool) (x : X) (ys : List X) → sum_by f (map g (cond b (x ∷ ys) ys)) ≡ cond b (f (g x)) 0 + sum_by f (map g ys)
+pub sum_of_one : {X Y : Type 0} (f : Y → ℕ) (g : X → Y) (b : Bool) (x : X) (ys : List X) → sum_by f (map g (cond b (x ∷ ys) ys)) ≡ cond b (f (g x)) 0 + sum_by f (map g ys)
 sum_of_one f g true x ys = sum_by-cons f (g x) (map g ys)
 sum_of_one f g false x ys = omega arith
 
@@ -59,7 +58,7 @@ sum_same f g same (x ∷ xs) =
 abbrev pub weight : (List FieldValue → ℕ) → Entry → ℕ
 weight f e = cond (is_permanent e.end) (f e.tuple) 0
 
-sum_of_permanent : (f : List FieldValue → ℕ) (es : List Entry) → sum_by f (permanent_tuples es) ≡ sum_by (weight f) es
+pub sum_of_permanent : (f : List FieldValue → ℕ) (es : List Entry) → sum_by f (permanent_tuples es) ≡ sum_by (weight f) es
 sum_of_permanent f es = sum_of_kept f (λ (e : Entry). e.tuple) (λ (e : Entry). is_permanent e.end) es
 
 -- an entry that goes with a holder's hold isn't permanent
@@ -119,7 +118,7 @@ filter_one w true e es = sum_by-cons w e es
 filter_one w false e es = omega arith
 
 -- a weight over what is kept, of entries themselves
-sum_of_filter : (w : Entry → ℕ) (p : Entry → Bool) (es : List Entry) → sum_by w (filter p es) ≡ sum_by (λ e. cond (p e) (w e) 0) es
+pub sum_of_filter : (w : Entry → ℕ) (p : Entry → Bool) (es : List Entry) → sum_by w (filter p es) ≡ sum_by (λ e. cond (p e) (w e) 0) es
 sum_of_filter w p [] = refl
 sum_of_filter w p (e ∷ es) =
     let one = filter_one w (p e) e (filter p es) in
@@ -131,7 +130,7 @@ abbrev content_entries : World → TxnValue → List Entry
 content_entries w t = (committed_space w.space t.number t.writes).entries
 
 -- the content after a commit: what wasn't taken, and what was added
-sum_after : (f : List FieldValue → ℕ) (w : World) (t : TxnValue) → sum_by f (content_of (commit_at w t)) ≡ sum_by (weight f) (without_taken t.number w.space.entries) + sum_by f (added_of t.writes)
+pub sum_after : (f : List FieldValue → ℕ) (w : World) (t : TxnValue) → sum_by f (content_of (commit_at w t)) ≡ sum_by (weight f) (without_taken t.number w.space.entries) + sum_by f (added_of t.writes)
 sum_after f w t =
     let number = t.number in
     let s = put_each w.space t.writes in
@@ -145,42 +144,6 @@ sum_after f w t =
     let back = sum_of_filter (weight f) untaken w.space.entries in
     let added = sum_of_added f t.writes in
     omega arith
-
--- what a commit does to the content
-pub commit_changes : (w : World) (t : TxnValue) → ChangesContent w (commit_at w t) t.number t.writes
-commit_changes w t =
-    let number = t.number in
-    let es = w.space.entries in
-    let left = without_taken number es in
-    let rest = permanent_tuples (filter (λ e. not (is_held_by number e)) left) in
-    record {
-      rest = rest;
-      before = λ f.
-          let parts = sum_by-append f (gone_of w number) (kept_of w number ++ rest) in
-          let others = sum_by-append f (kept_of w number) rest in
-          let all = sum_of_permanent f es in
-          let gone = sum_of_permanent f (filter (is_taken_by number) es) in
-          let kept = sum_of_permanent f (filter (is_held_by number) left) in
-          let over = sum_of_permanent f (filter (λ e. not (is_held_by number e)) left) in
-          let taken = sum_by-filter_both (is_taken_by number) (λ e. not (is_taken_by number e)) (λ e. refl) (weight f) es in
-          let held = sum_by-filter_both (is_held_by number) (λ e. not (is_held_by number e)) (λ e. refl) (weight f) left in
-          omega arith;
-      after = λ f.
-          let parts = sum_by-append f (added_of t.writes) (kept_of w number ++ rest) in
-          let others = sum_by-append f (kept_of w number) rest in
-          let new = sum_after f w t in
-          let kept = sum_of_permanent f (filter (is_held_by number) left) in
-          let over = sum_of_permanent f (filter (λ e. not (is_held_by number e)) left) in
-          let held = sum_by-filter_both (is_held_by number) (λ e. not (is_held_by number e)) (λ e. refl) (weight f) left in
-          omega arith;
-      counted = refl;
-    }
-
--- the same of a step of the machine
-pub commit_step_changes : (old new : World) (t : TxnValue) → Step old t commit done new t → ChangesContent old new t.number t.writes
-commit_step_changes old new t s =
-    let P : World → Type 0 = λ w. ChangesContent old w t.number t.writes in
-    subst P (sym s.2) (commit_changes old t)
 
 -- a change of entries that leaves their weights
 sum_of_map : (w : Entry → ℕ) (g : Entry → Entry) → ((e : Entry) → w (g e) ≡ w e) → (es : List Entry) → sum_by w (map g es) ≡ sum_by w es

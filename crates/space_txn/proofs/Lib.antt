@@ -1,3 +1,4 @@
+pub mod CommitLemmas
 pub mod ContentLemmas
 pub mod RuleLemmas
 pub mod MarkLemmas

@@ -228,7 +228,7 @@ impl TxnSpace {
     pub fn commit(&mut self, txn: Txn) -> Result<(), (TxnError, Txn)>
         ensures step { Step self.old txn commit (end_answer result) self.new txn }
         ensures handed_back { IfErr result (λ back. back.1 ≡ txn) }
-        ensures content { OnOk result (ChangesContent self.old self.new txn.number txn.writes) }
+        ensures content { OnOk result (ChangesContent self.old self.new txn) }
     {
         if let Err(error) = self.accept(&txn) {
             return Err((error, txn));
