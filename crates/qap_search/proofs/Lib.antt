@@ -1,0 +1,3 @@
+pub mod Certificates
+pub mod Replacing
+pub mod Tuples

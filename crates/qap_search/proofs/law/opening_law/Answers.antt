@@ -1,0 +1,5 @@
+use Rattle.qap_search.proofs.Replacing.{opening}
+use Rattle.qap_search.proofs.law.opening_law.Goals as goal
+
+pub returns : goal.returns
+returns c = opening

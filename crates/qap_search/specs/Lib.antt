@@ -1,0 +1,5 @@
+pub mod CutTree
+pub mod Finished
+pub mod Piece
+pub mod Replacement
+pub mod SearchTree

@@ -1,0 +1,44 @@
+//! Why the tuples of a search stay a cut tree, and why those of a finished one give a certificate.
+
+ghost use Rattle.std.specs.Prelude.{◌≡◌, ◌+◌, ◌++◌, ◌∷◌, [], ℕ, List};
+ghost use Rattle.qap_cost.specs.Instance.{Problem, IsInstance};
+ghost use Rattle.qap_cost.specs.Objective.{Permutes, cost_of};
+ghost use Rattle.qap_cost.specs.Placement.{root_of};
+ghost use Rattle.qap_cert.specs.Certificate.{Claim, Certifies};
+ghost use Rattle.qap_cert.specs.Tree.{node_count};
+ghost use Rattle.space_txn.specs.Content.{SameItems};
+ghost use Rattle.tuple_match.specs.FieldValue.{FieldValue};
+ghost use Rattle.qap_search.specs.CutTree.{IsCutTree};
+ghost use Rattle.qap_search.specs.Finished.{IsAssembled};
+ghost use Rattle.qap_search.specs.Piece.{node_tuple, best_tuple, open_count};
+ghost use Rattle.qap_search.specs.Replacement.{MayReplace};
+
+/// The open root and any permutation with its cost are a cut tree, before any commit.
+pub fn opening_law()
+    ensures { (I : Problem) (p : List ℕ) → Permutes I p →
+        IsCutTree I (node_tuple (root_of I.size) ∷ best_tuple (cost_of I p) p ∷ []) 0 }
+{}
+
+/// Whether tuples are a cut tree doesn't depend on their order.
+pub fn order_law()
+    ensures { (I : Problem) (content other : List (List FieldValue)) (commits : ℕ) →
+        SameItems content other → IsCutTree I content commits → IsCutTree I other commits }
+{}
+
+/// A cut tree in which an open node gives way to a decided one is a cut tree, of one commit more.
+pub fn replacement_law()
+    ensures { (I : Problem) (gone kept added rest content : List (List FieldValue)) (commits : ℕ) →
+        MayReplace I gone kept added → SameItems content (gone ++ (kept ++ rest)) → IsCutTree I content commits →
+        IsCutTree I (added ++ (kept ++ rest)) (commits + 1) }
+{}
+
+/// A cut tree without open nodes is that of a certificate; and a certificate whose tuples are a cut tree certifies its cost,
+/// with a node for each commit.
+pub fn certificate_law()
+    ensures there { (I : Problem) (content : List (List FieldValue)) (commits : ℕ) → IsInstance I →
+        IsCutTree I content commits → open_count content ≡ 0 → (C : Claim) × IsAssembled I.size content C }
+    ensures certifies { (I : Problem) (content : List (List FieldValue)) (commits : ℕ) (C : Claim) →
+        IsCutTree I content commits → IsAssembled I.size content C → Certifies I C }
+    ensures counted { (I : Problem) (content : List (List FieldValue)) (commits : ℕ) (C : Claim) →
+        IsCutTree I content commits → IsAssembled I.size content C → node_count C.tree ≡ commits }
+{}
