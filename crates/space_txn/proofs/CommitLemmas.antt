@@ -62,7 +62,7 @@ takes_as_held number (h ∷ hs) once =
     (λ same. takes_none number hs (λ k d lt is. once_head h hs once k d lt (eqb-true _ _ same ∙ sym is)))
     (takes_as_held number hs (once_tail h hs once))
 
-stays_as_held : (now : Bool) (number : ℕ) (hs : List Hold) → All (λ h. h.permanent ≡ true → now ≡ true) hs → Stays now (find (λ (h : Hold). eqb h.by number) hs)
+pub stays_as_held : (now : Bool) (number : ℕ) (hs : List Hold) → All (λ h. h.permanent ≡ true → now ≡ true) hs → Stays now (find (λ (h : Hold). eqb h.by number) hs)
 stays_as_held now number [] all = tt
 stays_as_held now number (h ∷ hs) all =
     let P : Hold → Type 0 = λ x. x.permanent ≡ true → now ≡ true in
@@ -140,9 +140,9 @@ sum_of_gone f number es rising entries =
     let renewed = is_permanent_at es in
     sum_of_filter (weight f) (is_taken_by number) es
     ∙ sum_alike (λ (e : Entry). cond (is_taken_by number e) (weight f e) 0) (λ (e : Entry). mark_weight f (is_gone renewed) e (hold_at number e)) es
-      (λ k d lt. let e = get_or es k d in
-      gone_at f renewed e (hold_at number e) (is_taken_by number e) (takes_as_held number e.holds (entries k d lt).once)
-      (stays_as_held (is_permanent e.end) number e.holds (entries k d lt).stays) (permanent_told es rising k d lt))
+    (λ k d lt. let e = get_or es k d in
+    gone_at f renewed e (hold_at number e) (is_taken_by number e) (takes_as_held number e.holds (entries k d lt).once)
+    (stays_as_held (is_permanent e.end) number e.holds (entries k d lt).stays) (permanent_told es rising k d lt))
     ∙ sym (sum_of_marks f (is_gone renewed) number es)
 
 -- what it read and didn't take
@@ -153,9 +153,9 @@ sum_of_kept_marks f number es entries =
     sum_of_filter (weight f) (λ e. keeps (hold_at number e)) (without_taken number es)
     ∙ sum_of_filter w (λ e. not (is_taken_by number e)) es
     ∙ sum_alike (λ (e : Entry). cond (not (is_taken_by number e)) (w e) 0) (λ (e : Entry). mark_weight f is_kept e (hold_at number e)) es
-      (λ k d lt. let e = get_or es k d in
-      kept_at f e (hold_at number e) (is_taken_by number e) (takes_as_held number e.holds (entries k d lt).once)
-      (stays_as_held (is_permanent e.end) number e.holds (entries k d lt).stays))
+    (λ k d lt. let e = get_or es k d in
+    kept_at f e (hold_at number e) (is_taken_by number e) (takes_as_held number e.holds (entries k d lt).once)
+    (stays_as_held (is_permanent e.end) number e.holds (entries k d lt).stays))
     ∙ sym (sum_of_marks f is_kept number es)
 
 -- what a commit does to the content

@@ -1,4 +1,5 @@
 pub mod CommitLemmas
 pub mod ContentLemmas
+pub mod FindingLemmas
 pub mod RuleLemmas
 pub mod MarkLemmas

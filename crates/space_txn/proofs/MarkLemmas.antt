@@ -90,14 +90,14 @@ with_mark_front m (x ∷ xs) above =
     cond-false (ltb x.entry m.entry) (x ∷ with_mark m xs) (cond (eqb x.entry m.entry) (m ∷ xs) (m ∷ x ∷ xs)) (le-ltb _ _ (omega arith))
     ∙ cond-false (eqb x.entry m.entry) (m ∷ xs) (m ∷ x ∷ xs) (ne_eqb _ _ (λ e. omega arith))
 
-with_mark_here : (m : Mark) (e : Entry) (o : Option Hold) (ys : List Mark) → e.number ≡ m.entry → All (λ x. m.entry < x.entry) ys → with_mark m (cons_option (option_map (mark_from e) o) ys) ≡ m ∷ ys
+pub with_mark_here : (m : Mark) (e : Entry) (o : Option Hold) (ys : List Mark) → e.number ≡ m.entry → All (λ x. m.entry < x.entry) ys → with_mark m (cons_option (option_map (mark_from e) o) ys) ≡ m ∷ ys
 with_mark_here m e None ys same above = with_mark_front m ys above
 with_mark_here m e (Some h) ys same above =
     let x = mark_from e h in
     cond-false (ltb e.number m.entry) (x ∷ with_mark m ys) (cond (eqb e.number m.entry) (m ∷ ys) (m ∷ x ∷ ys)) (le-ltb _ _ (omega arith))
     ∙ cond-true (eqb e.number m.entry) (m ∷ ys) (m ∷ x ∷ ys) (eq-eqb _ _ same)
 
-with_mark_later : (m : Mark) (e : Entry) (o : Option Hold) (ys : List Mark) → e.number < m.entry → with_mark m (cons_option (option_map (mark_from e) o) ys) ≡ cons_option (option_map (mark_from e) o) (with_mark m ys)
+pub with_mark_later : (m : Mark) (e : Entry) (o : Option Hold) (ys : List Mark) → e.number < m.entry → with_mark m (cons_option (option_map (mark_from e) o) ys) ≡ cons_option (option_map (mark_from e) o) (with_mark m ys)
 with_mark_later m e None ys less = refl
 with_mark_later m e (Some h) ys less =
     let x = mark_from e h in
@@ -107,15 +107,15 @@ above_cons : (least : ℕ) (e : Entry) (o : Option Hold) (ys : List Mark) → le
 above_cons least e None ys less all = all
 above_cons least e (Some h) ys less all = All-cons (λ (x : Mark). least < x.entry) (mark_from e h) ys less all
 
-marks_above : (least number : ℕ) (es : List Entry) → All (λ (e : Entry). least < e.number) es → All (λ (x : Mark). least < x.entry) (marks_of number es)
+pub marks_above : (least number : ℕ) (es : List Entry) → All (λ (e : Entry). least < e.number) es → All (λ (x : Mark). least < x.entry) (marks_of number es)
 marks_above least number [] h = All-nil (λ (x : Mark). least < x.entry)
 marks_above least number (e ∷ es) h =
     above_cons least e (hold_at number e) (marks_of number es) (All-head (λ (e : Entry). least < e.number) e es h) (marks_above least number es (All-tail (λ (e : Entry). least < e.number) e es h))
 
-rising_head : (x : Entry) (xs : List Entry) → IsRising (x ∷ xs) → All (λ (y : Entry). x.number < y.number) xs
+pub rising_head : (x : Entry) (xs : List Entry) → IsRising (x ∷ xs) → All (λ (y : Entry). x.number < y.number) xs
 rising_head x xs h = λ k d lt. h 0 (suc k) d (omega arith) (omega arith)
 
-rising_tail : (x : Entry) (xs : List Entry) → IsRising (x ∷ xs) → IsRising xs
+pub rising_tail : (x : Entry) (xs : List Entry) → IsRising (x ∷ xs) → IsRising xs
 rising_tail x xs h = λ i j d below within. h (suc i) (suc j) d (omega arith) (omega arith)
 
 -- the marks of a transaction after it marked an entry

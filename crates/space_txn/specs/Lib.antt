@@ -1,4 +1,5 @@
 pub mod Content
+pub mod Finding
 pub mod Live
 pub mod Machine
 pub mod Marks

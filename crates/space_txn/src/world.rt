@@ -1,9 +1,10 @@
 //! The space with transactions, and its calls.
 
-ghost use Rattle.std.specs.Prelude.{◌≡◌, ◌≤◌, IfErr, IfOk, OnOk, MatchResult};
+ghost use Rattle.std.specs.Prelude.{◌≡◌, ◌≤◌, true, false, Contains, IfErr, IfOk, IfSome, OnOk, MatchResult};
 ghost use Rattle.tuple_space.specs.Step as space;
 ghost use Rattle.tuple_space.specs.Space.{IsSpace, most};
 ghost use Rattle.space_txn.specs.Content.{ChangesContent, content_of};
+ghost use Rattle.space_txn.specs.Finding.{Finds, Shows};
 ghost use Rattle.space_txn.specs.World.{is_live_transaction, opening, with_space};
 ghost use Rattle.space_txn.specs.Machine.{IsAccepted, IsRefused, Step, BeginStep, AdvanceStep, abort, commit, end_answer, find_answer, inp_in, rdp_in, renew_answer, renew_txn};
 
@@ -162,7 +163,10 @@ impl TxnSpace {
     /// Takes for a transaction a tuple that the template asks for: one of the space, or, where none of these can be had, one
     /// that the transaction wrote. `None` where there is none of these either. Refusals: 31, 32, 50.
     pub fn inp_in(&mut self, txn: &mut Txn, template: &Template) -> Result<Option<Found>, TxnError>
-        ensures { Step self.old txn.old (inp_in template.now) (find_answer result) self.new txn.new }
+        ensures step { Step self.old txn.old (inp_in template.now) (find_answer result) self.new txn.new }
+        ensures found { IfOk result (λ found. IfSome found (Shows template.now txn.new)) }
+        ensures marks { Finds (Contains (content_of self.old)) true template.now txn.old (find_answer result) txn.new }
+        ensures content { content_of self.new ≡ content_of self.old }
     {
         self.accept(txn)?;
         let Some(entry) = self.space.search(Claim::TakeBy(txn.number), template) else {
@@ -177,7 +181,10 @@ impl TxnSpace {
     /// Reads for a transaction a tuple that the template asks for: one of the space, or, where none of these can be had, one
     /// that the transaction wrote. `None` where there is none of these either. Refusals: 31, 32, 50.
     pub fn rdp_in(&mut self, txn: &mut Txn, template: &Template) -> Result<Option<Found>, TxnError>
-        ensures { Step self.old txn.old (rdp_in template.now) (find_answer result) self.new txn.new }
+        ensures step { Step self.old txn.old (rdp_in template.now) (find_answer result) self.new txn.new }
+        ensures found { IfOk result (λ found. IfSome found (Shows template.now txn.new)) }
+        ensures marks { Finds (Contains (content_of self.old)) false template.now txn.old (find_answer result) txn.new }
+        ensures content { content_of self.new ≡ content_of self.old }
     {
         self.accept(txn)?;
         let Some(entry) = self.space.search(Claim::Read, template) else {
