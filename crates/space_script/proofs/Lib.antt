@@ -1,6 +1,8 @@
 -- Lemmas.
 mod Cases
+mod Feeds
 mod Filters
+mod Fronts
 mod Lines
 mod Numerals
 mod OneCommand

@@ -1,10 +1,12 @@
-//! The language of a script of the tuple space: its commands read, and its replies written.
+//! Scripts of the tuple space: their commands read and carried out, and their replies written.
 #![tactic(auto)]
 
+mod answering;
 mod arguments;
 mod carrying;
 mod command;
 mod error;
+mod feeding;
 mod fields;
 mod keeping;
 mod law;
@@ -12,6 +14,7 @@ mod line;
 mod lists;
 mod numbers;
 mod reply;
+mod script_error;
 mod session;
 mod verb;
 
@@ -20,6 +23,7 @@ pub use error::LineError;
 pub use law::line_law;
 pub use line::{LONGEST_LINE, read_line};
 pub use reply::{Reply, reply_line};
+pub use script_error::ScriptError;
 pub use session::Session;
 
 #[cfg(test)]

@@ -1,0 +1,89 @@
+-- A piece of a script read: the lines that end in it are answered, and what is left behind them is kept.
+use Rattle.std.specs.Prelude.{◌≡◌, ◌<◌, ◌+◌, ℕ, false, List, [], ◌∷◌, ◌++◌, All, Option, length, take}
+use Rattle.std.specs.Io.KnownBytes.{Appends}
+use Rattle.qap_io.specs.Counting.{CountedDevice, FailedBetween}
+use Rattle.space_script.specs.Command.{longest_line}
+use Rattle.space_script.specs.Run.{Answers, Runs, is_line_feed, lines_of}
+use Rattle.space_script.specs.Session.{SessionValue}
+use Rattle.space_script.specs.declared.script_error.ScriptError.{ScriptError}
+use Rattle.space_script.specs.declared.script_error.ScriptError.TheVariants.{InputTooLong, OutOfMemory, Device}
+
+abbrev pub HasNoLineFeed : List ℕ → Type 0
+HasNoLineFeed text = All (λ byte. is_line_feed byte ≡ false) text
+
+-- text up to its first line feed, and behind it
+pub record IsCut (text before behind : List ℕ) : Type 0 where
+  pub unended : HasNoLineFeed before
+  pub is : text ≡ before ++ 10 ∷ behind
+
+-- as much of a line as shows that it is too long
+abbrev pub front_of : List ℕ → List ℕ
+front_of line = take (longest_line + 1) line
+
+-- the front of a line that hasn't ended
+pub record IsUnfinished (line kept : List ℕ) : Type 0 where
+  pub unended : HasNoLineFeed line
+  pub front : kept ≡ front_of line
+
+-- Behind an unfinished line, a piece is answered so, and another unfinished line is kept.
+pub record CarriesOn (line : List ℕ) (old : SessionValue) (piece replies : List ℕ) (new : SessionValue) (kept : List ℕ) : Type 0 where
+  pub lines : List (List ℕ)
+  pub last : List ℕ
+  pub unfinished : IsUnfinished last kept
+  pub split : (more : List ℕ) → lines_of (line ++ piece ++ more) ≡ lines ++ lines_of (last ++ more)
+  pub run : Runs old lines replies new
+
+-- Behind an unfinished line, lines that end in a piece, or in more, are answered so, and lines are left.
+pub record StopsAt (line : List ℕ) (old : SessionValue) (piece replies : List ℕ) : Type 0 where
+  pub lines : List (List ℕ)
+  pub session : SessionValue
+  pub split : (more : List ℕ) → (left : List (List ℕ)) × (lines_of (line ++ piece ++ more) ≡ lines ++ left) × (0 < length left)
+  pub run : Runs old lines replies session
+
+-- Behind an unfinished line, lines that end in a piece are answered so, and then comes this answer to the next line that does.
+pub record StopsInside (line : List ℕ) (old : SessionValue) (piece replies reply : List ℕ) : Type 0 where
+  pub lines : List (List ℕ)
+  pub session : SessionValue
+  pub asked : List ℕ
+  pub after : SessionValue
+  pub split : (more : List ℕ) → (left : List (List ℕ)) × (lines_of (line ++ piece ++ more) ≡ lines ++ asked ∷ left) × (0 < length left)
+  pub run : Runs old lines replies session
+  pub answer : Answers session asked reply after
+
+-- what is carried out, kept of an unfinished line, and written to
+pub record Standing (W : Type 0) : Type 0 where
+  pub session : SessionValue
+  pub kept : List ℕ
+  pub writer : CountedDevice W
+
+abbrev pub standing : {W : Type 0} → SessionValue → List ℕ → CountedDevice W → Standing W
+standing session kept writer = record { session = session; kept = kept; writer = writer }
+
+-- a piece has been read, and its replies have gone out
+pub record Fed {W : Type 0} (contents : W → Option (List ℕ)) (old : Standing W) (piece : List ℕ) (new : Standing W) : Type 0 where
+  pub replies : List ℕ
+  pub gone_out : Appends (contents old.writer.inner) (contents new.writer.inner) replies
+  pub written : new.writer.failures ≡ old.writer.failures
+  pub carries : (line : List ℕ) → IsUnfinished line old.kept → CarriesOn line old.session piece replies new.session new.kept
+
+-- memory ran out in a piece
+pub record FedInPart {W : Type 0} (contents : W → Option (List ℕ)) (old : Standing W) (piece : List ℕ) (writer : CountedDevice W) : Type 0 where
+  pub replies : List ℕ
+  pub gone_out : Appends (contents old.writer.inner) (contents writer.inner) replies
+  pub written : writer.failures ≡ old.writer.failures
+  pub stops : (line : List ℕ) → IsUnfinished line old.kept → StopsAt line old.session piece replies
+
+-- a write failed in a piece
+pub record FedUnheard {W : Type 0} (contents : W → Option (List ℕ)) (old : Standing W) (piece : List ℕ) (writer : CountedDevice W) : Type 0 where
+  pub replies : List ℕ
+  pub reply : List ℕ
+  pub count : ℕ
+  pub gone_out : Appends (contents old.writer.inner) (contents writer.inner) (replies ++ take count reply)
+  pub failed : FailedBetween old.writer writer
+  pub stops : (line : List ℕ) → IsUnfinished line old.kept → StopsInside line old.session piece replies reply
+
+-- why a piece is not read to its end
+abbrev pub FeedFails : {W : Type 0} → (W → Option (List ℕ)) → Standing W → List ℕ → CountedDevice W → ScriptError → Type 0
+FeedFails contents old piece writer InputTooLong = ⊥
+FeedFails contents old piece writer OutOfMemory = FedInPart contents old piece writer
+FeedFails contents old piece writer Device = FedUnheard contents old piece writer

@@ -1,0 +1,163 @@
+-- A whole script: its lines, what each of them is answered, and what stands written when it ends.
+use Rattle.std.specs.Prelude.{◌≡◌, ◌⊎◌, ◌<◌, ◌≤◌, ◌^◌, ◌==◌, ℕ, Bool, List, [], ◌∷◌, ◌++◌, Option, length, take}
+use Rattle.std.specs.Io.KnownBytes.{Appends, Consumes, IsAtEnd}
+use Rattle.std.specs.List.{slice_split}
+use Rattle.qap_io.specs.Counting.{CountedDevice, FailedBetween}
+use Rattle.qap_io.specs.Writing.{BreaksOff, Sends}
+use Rattle.space_script.specs.Command.{IsBadLine, IsBlankLine, IsCommandLine}
+use Rattle.space_script.specs.Reply.{reply_text}
+use Rattle.space_script.specs.Session.{Performs, SessionValue, start}
+use Rattle.space_script.specs.declared.command.Command.{Command}
+use Rattle.space_script.specs.declared.reply.Reply.{Reply}
+use Rattle.space_script.specs.declared.reply.Reply.TheVariants.{Refused}
+use Rattle.space_script.specs.declared.script_error.ScriptError.{ScriptError}
+use Rattle.space_script.specs.declared.script_error.ScriptError.TheVariants.{InputTooLong, OutOfMemory, Device}
+
+abbrev pub is_line_feed : ℕ → Bool
+is_line_feed byte = byte == 10
+
+-- the lines of a script: what stands before, between and behind its line feeds
+abbrev pub lines_of : List ℕ → List (List ℕ)
+lines_of text = slice_split is_line_feed text
+
+-- a command is carried out, and its reply told
+pub record Obeys (old : SessionValue) (line reply : List ℕ) (new : SessionValue) : Type 0 where
+  pub command : Command
+  pub told : Reply
+  pub asked : IsCommandLine line command
+  pub done : Performs old command told new
+  pub is : reply ≡ reply_text told
+
+-- From old, a line may be answered this text and lead to new: none where it has no words, a refusal where it is bad.
+abbrev pub Answers : SessionValue → List ℕ → List ℕ → SessionValue → Type 0
+Answers old line reply new =
+    (IsBlankLine line × (reply ≡ []) × (new ≡ old)) ⊎ (Obeys old line reply new ⊎ (IsBadLine line × (reply ≡ reply_text (Refused 36)) × (new ≡ old)))
+
+-- a line is answered, and then other lines
+pub record AnswersFirst (P : SessionValue → List ℕ → Type 0) (old : SessionValue) (line replies : List ℕ) : Type 0 where
+  pub reply : List ℕ
+  pub middle : SessionValue
+  pub rest : List ℕ
+  pub first : Answers old line reply middle
+  pub others : P middle rest
+  pub is : replies ≡ reply ++ rest
+
+-- From old, lines may be answered these texts, one after another, and lead to new.
+abbrev pub Runs : SessionValue → List (List ℕ) → List ℕ → SessionValue → Type 0
+Runs old [] replies new = (replies ≡ []) × (new ≡ old)
+Runs old (line ∷ lines) replies new = AnswersFirst (λ middle rest. Runs middle lines rest new) old line replies
+
+-- From the start, the lines at the front of a text may be answered so and lead to this session; these lines are left.
+pub record RunsUpTo (text replies : List ℕ) (session : SessionValue) (left : List (List ℕ)) : Type 0 where
+  pub lines : List (List ℕ)
+  pub split : lines_of text ≡ lines ++ left
+  pub run : Runs start lines replies session
+
+-- the most bytes of a script
+abbrev pub longest_script : ℕ
+longest_script = 2 ^ 62
+
+-- a reader and a writer, as a call found them and as it left them; what is known of the bytes that the reader has left, and of
+-- those that the writer has taken
+pub record Streams (R W : Type 0) : Type 0 where
+  pub bytes_left : R → Option (List ℕ)
+  pub bytes_taken : W → Option (List ℕ)
+  pub reader : CountedDevice R
+  pub reader_after : CountedDevice R
+  pub writer : CountedDevice W
+  pub writer_after : CountedDevice W
+
+-- this text came from the reader
+abbrev pub HasCome : {R W : Type 0} → Streams R W → List ℕ → Type 0
+HasCome s text = Consumes (s.bytes_left s.reader.inner) (s.bytes_left s.reader_after.inner) text
+
+-- this text has gone out
+abbrev pub HasGoneOut : {R W : Type 0} → Streams R W → List ℕ → Type 0
+HasGoneOut s text = Appends (s.bytes_taken s.writer.inner) (s.bytes_taken s.writer_after.inner) text
+
+-- no read has failed
+abbrev pub KeepsReader : {R W : Type 0} → Streams R W → Type 0
+KeepsReader s = s.reader_after.failures ≡ s.reader.failures
+
+-- no write and no flush has failed
+abbrev pub KeepsWriter : {R W : Type 0} → Streams R W → Type 0
+KeepsWriter s = s.writer_after.failures ≡ s.writer.failures
+
+-- all that the reader had left is a script; its replies have gone out and are flushed
+pub record RunsWhole {R W : Type 0} (s : Streams R W) : Type 0 where
+  pub text : List ℕ
+  pub come : HasCome s text
+  pub at_end : IsAtEnd (s.bytes_left s.reader_after.inner)
+  pub within : length text ≤ longest_script
+  pub read : KeepsReader s
+  pub replies : List ℕ
+  pub session : SessionValue
+  pub run : Runs start (lines_of text) replies session
+  pub sent : Sends s.bytes_taken s.writer s.writer_after replies
+
+-- the lines of a text that have ended are answered, and no more; these replies have gone out
+pub record AnswersEnded {R W : Type 0} (s : Streams R W) (text : List ℕ) : Type 0 where
+  pub replies : List ℕ
+  pub session : SessionValue
+  pub last : List ℕ
+  pub run : RunsUpTo text replies session (last ∷ [])
+  pub gone_out : HasGoneOut s replies
+  pub written : KeepsWriter s
+
+-- more bytes came than a script may have; what came before the last of them was within the limit and is answered
+pub record RunsTooLong {R W : Type 0} (s : Streams R W) : Type 0 where
+  pub text : List ℕ
+  pub more : List ℕ
+  pub come : HasCome s (text ++ more)
+  pub too_long : longest_script < length (text ++ more)
+  pub within : length text ≤ longest_script
+  pub read : KeepsReader s
+  pub answered : AnswersEnded s text
+
+-- a read failed; what came before it is answered
+pub record FailsReading {R W : Type 0} (s : Streams R W) : Type 0 where
+  pub text : List ℕ
+  pub come : HasCome s text
+  pub failed : FailedBetween s.reader s.reader_after
+  pub answered : AnswersEnded s text
+
+-- a line has ended: others follow, or all has been read
+abbrev pub HasEnded : {R W : Type 0} → Streams R W → List (List ℕ) → Type 0
+HasEnded s left = (0 < length left) ⊎ IsAtEnd (s.bytes_left s.reader_after.inner)
+
+-- memory ran out at a line that has ended; the lines before it are answered
+pub record WantsMemory {R W : Type 0} (s : Streams R W) : Type 0 where
+  pub text : List ℕ
+  pub come : HasCome s text
+  pub read : KeepsReader s
+  pub replies : List ℕ
+  pub session : SessionValue
+  pub left : List (List ℕ)
+  pub run : RunsUpTo text replies session left
+  pub gone_out : HasGoneOut s replies
+  pub written : KeepsWriter s
+
+-- a write or a flush failed at the reply to a line that has ended; the lines before it are answered, and a beginning of that
+-- reply has gone out
+pub record FailsWriting {R W : Type 0} (s : Streams R W) : Type 0 where
+  pub text : List ℕ
+  pub come : HasCome s text
+  pub read : KeepsReader s
+  pub failed : FailedBetween s.writer s.writer_after
+  pub replies : List ℕ
+  pub session : SessionValue
+  pub line : List ℕ
+  pub left : List (List ℕ)
+  pub run : RunsUpTo text replies session (line ∷ left)
+  pub ended : HasEnded s left
+  pub reply : List ℕ
+  pub after : SessionValue
+  pub answer : Answers session line reply after
+  pub count : ℕ
+  pub gone_out : HasGoneOut s (replies ++ take count reply)
+
+-- why a script ends before its end
+abbrev pub BreaksDown : {R W : Type 0} → Streams R W → ScriptError → Type 0
+BreaksDown s InputTooLong = RunsTooLong s
+BreaksDown s OutOfMemory = WantsMemory s
+BreaksDown s Device = FailsReading s ⊎ FailsWriting s
