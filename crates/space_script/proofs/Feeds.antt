@@ -1,12 +1,11 @@
 -- Pieces of a script, one after another.
-use Rattle.std.proofs.Common.{◌≡◌, ℕ, ◌<◌, ◌+◌, false, true, List, [], ◌∷◌, ◌++◌, All, Option, length, take, inl, inr, refl, sym, ap, subst, ◌∙◌, arith, append_assoc, append-nil, length-append}
+use Rattle.std.proofs.Common.{◌≡◌, ℕ, ◌<◌, List, [], ◌∷◌, ◌++◌, Option, length, take, refl, sym, ap, subst, ◌∙◌, arith, append_assoc, append-nil}
 use Rattle.std.specs.Io.KnownBytes.{Appends}
 use Rattle.std.proofs.KnownBytes.{Appends-nil, Appends-trans}
-use Rattle.std.proofs.lemmas.List.Splits.{slice_split_at, slice_split_none, length-slice_split}
-use Rattle.qap_io.specs.Counting.{CountedDevice, FailedBetween, last_count}
-use Rattle.space_script.specs.Command.{IsBadLine, IsBlankLine, IsCommandLine, longest_line}
-use Rattle.space_script.specs.Feeding.{HasNoLineFeed, front_of, IsUnfinished, CarriesOn, StopsAt, StopsInside, Standing, standing, Fed, FedInPart, FedUnheard, FeedFails}
-use Rattle.space_script.specs.Run.{Answers, AnswersFirst, Obeys, Runs, is_line_feed, lines_of}
+use Rattle.std.proofs.lemmas.List.Splits.{slice_split_at, length-slice_split}
+use Rattle.qap_io.specs.Counting.{CountedDevice, last_count}
+use Rattle.space_script.specs.Feeding.{HasNoLineFeed, front_of, IsUnfinished, CarriesOn, StopsAt, StopsInside, Standing, standing, Fed, FedInPart, FeedFails}
+use Rattle.space_script.specs.Run.{Answers, Runs, is_line_feed, lines_of}
 use Rattle.space_script.specs.Session.{SessionValue}
 use Rattle.space_script.specs.declared.script_error.ScriptError.{ScriptError}
 use Rattle.space_script.specs.declared.script_error.ScriptError.TheVariants.{InputTooLong, OutOfMemory, Device}
@@ -24,7 +23,7 @@ runs_trans (x ∷ xs) ys old middle new r s first then = record {
   is = ap (λ t. t ++ s) first.is ∙ append_assoc first.reply first.rest s;
 }
 
-one_run : (line reply : List ℕ) (old new : SessionValue) → Answers old line reply new → Runs old (line ∷ []) reply new
+pub one_run : (line reply : List ℕ) (old new : SessionValue) → Answers old line reply new → Runs old (line ∷ []) reply new
 one_run line reply old new answer = record {
   reply = reply;
   middle = new;
@@ -116,7 +115,7 @@ carries_trans line p q r s kept after old middle new first next =
       last = then.last;
       unfinished = then.unfinished;
       split = λ more.
-        further line p q kept more r old middle first then.lines (lines_of (then.last ++ more)) (then.split more);
+          further line p q kept more r old middle first then.lines (lines_of (then.last ++ more)) (then.split more);
       run = runs_trans first.lines then.lines old middle new r s first.run then.run;
     }
 
@@ -128,8 +127,8 @@ stops_trans line p q r s kept old middle first next =
       lines = first.lines ++ then.lines;
       session = then.session;
       split = λ more.
-        let rest = then.split more in
-        (rest.0, further line p q kept more r old middle first then.lines rest.0 rest.1, rest.2);
+          let rest = then.split more in
+          (rest.0, further line p q kept more r old middle first then.lines rest.0 rest.1, rest.2);
       run = runs_trans first.lines then.lines old middle then.session r s first.run then.run;
     }
 
@@ -143,8 +142,8 @@ inside_trans line p q r s reply kept old middle first next =
       asked = then.asked;
       after = then.after;
       split = λ more.
-        let rest = then.split more in
-        (rest.0, further line p q kept more r old middle first then.lines (then.asked ∷ rest.0) rest.1, rest.2);
+          let rest = then.split more in
+          (rest.0, further line p q kept more r old middle first then.lines (then.asked ∷ rest.0) rest.1, rest.2);
       run = runs_trans first.lines then.lines old middle then.session r s first.run then.run;
       answer = then.answer;
     }
@@ -156,12 +155,12 @@ fed_none contents old = record {
   gone_out = Appends-nil (contents old.writer.inner);
   written = refl;
   carries = λ line unfinished. record {
-      lines = [];
-      last = line;
-      unfinished = unfinished;
-      split = λ more. ap (λ l. lines_of (l ++ more)) (append-nil line);
-      run = (refl, refl);
-    };
+    lines = [];
+    last = line;
+    unfinished = unfinished;
+    split = λ more. ap (λ l. lines_of (l ++ more)) (append-nil line);
+    run = (refl, refl);
+  };
 }
 
 pub fed_trans : {W : Type 0} (contents : W → Option (List ℕ)) (old middle new : Standing W) (p q : List ℕ) → Fed contents old p middle → Fed contents middle q new
@@ -189,8 +188,8 @@ fed_fails contents old middle p q writer Device first then = record {
   reply = then.reply;
   count = then.count;
   gone_out =
-    subst (Appends (contents old.writer.inner) (contents writer.inner)) (sym (append_assoc first.replies then.replies (take then.count then.reply)))
-    (Appends-trans _ _ _ first.replies (then.replies ++ take then.count then.reply) first.gone_out then.gone_out);
+      subst (Appends (contents old.writer.inner) (contents writer.inner)) (sym (append_assoc first.replies then.replies (take then.count then.reply)))
+      (Appends-trans _ _ _ first.replies (then.replies ++ take then.count then.reply) first.gone_out then.gone_out);
   failed = subst (λ (k : ℕ). writer.failures < last_count → k < writer.failures) first.written then.failed;
   stops = λ line unfinished.
       inside_trans line p q first.replies then.replies then.reply middle.kept old.session middle.session (first.carries line unfinished) then.stops;
@@ -210,8 +209,8 @@ fails_longer contents old p q writer OutOfMemory failed = record {
         lines = stops.lines;
         session = stops.session;
         split = λ more.
-          let rest = stops.split (q ++ more) in
-          (rest.0, ap lines_of (rejoined line p q more) ∙ rest.1, rest.2);
+            let rest = stops.split (q ++ more) in
+            (rest.0, ap lines_of (rejoined line p q more) ∙ rest.1, rest.2);
         run = stops.run;
       };
 }
@@ -229,8 +228,8 @@ fails_longer contents old p q writer Device failed = record {
         asked = stops.asked;
         after = stops.after;
         split = λ more.
-          let rest = stops.split (q ++ more) in
-          (rest.0, ap lines_of (rejoined line p q more) ∙ rest.1, rest.2);
+            let rest = stops.split (q ++ more) in
+            (rest.0, ap lines_of (rejoined line p q more) ∙ rest.1, rest.2);
         run = stops.run;
         answer = stops.answer;
       };

@@ -1,9 +1,9 @@
 -- The front of a line answers for the whole line.
-use Rattle.std.proofs.Common.{◌≡◌, ℕ, suc, zero, ◌<◌, ◌≤◌, ◌+◌, ◌-◌, false, List, [], ◌∷◌, ◌++◌, All, length, take, inl, inr, refl, sym, ap, subst, ◌∙◌, arith, length-append}
+use Rattle.std.proofs.Common.{◌≡◌, ℕ, suc, zero, ◌<◌, ◌+◌, false, List, [], ◌∷◌, ◌++◌, length, take, inl, inr, refl, ap, subst, arith}
 use Rattle.std.proofs.lemmas.Bool.{cases_lt}
 use Rattle.std.proofs.lemmas.List.{take_all, length-take-le}
 use Rattle.std.proofs.lemmas.List.Elements.{All-append}
-use Rattle.space_script.specs.Command.{IsBadLine, longest_line}
+use Rattle.space_script.specs.Command.{longest_line}
 use Rattle.space_script.specs.Feeding.{HasNoLineFeed, front_of}
 use Rattle.space_script.specs.Run.{Answers, is_line_feed}
 use Rattle.space_script.specs.Session.{SessionValue}

@@ -9,5 +9,6 @@ mod OneCommand
 mod OneField
 mod Patterns
 mod Replies
+mod Runs
 mod WordTexts
 mod Zips

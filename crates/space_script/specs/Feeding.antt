@@ -1,9 +1,9 @@
 -- A piece of a script read: the lines that end in it are answered, and what is left behind them is kept.
-use Rattle.std.specs.Prelude.{◌≡◌, ◌<◌, ◌+◌, ℕ, false, List, [], ◌∷◌, ◌++◌, All, Option, length, take}
-use Rattle.std.specs.Io.KnownBytes.{Appends}
+use Rattle.std.specs.Prelude.{◌≡◌, ◌⊎◌, ◌<◌, ◌≤◌, ◌+◌, ℕ, false, List, ◌∷◌, ◌++◌, All, Option, length, take}
+use Rattle.std.specs.Io.KnownBytes.{Appends, IsAtEnd}
 use Rattle.qap_io.specs.Counting.{CountedDevice, FailedBetween}
 use Rattle.space_script.specs.Command.{longest_line}
-use Rattle.space_script.specs.Run.{Answers, Runs, is_line_feed, lines_of}
+use Rattle.space_script.specs.Run.{Answers, HasCome, KeepsReader, Runs, Streams, is_line_feed, lines_of, longest_script}
 use Rattle.space_script.specs.Session.{SessionValue}
 use Rattle.space_script.specs.declared.script_error.ScriptError.{ScriptError}
 use Rattle.space_script.specs.declared.script_error.ScriptError.TheVariants.{InputTooLong, OutOfMemory, Device}
@@ -87,3 +87,48 @@ abbrev pub FeedFails : {W : Type 0} → (W → Option (List ℕ)) → Standing W
 FeedFails contents old piece writer InputTooLong = ⊥
 FeedFails contents old piece writer OutOfMemory = FedInPart contents old piece writer
 FeedFails contents old piece writer Device = FedUnheard contents old piece writer
+
+-- all that the reader had left has been read, within the limit
+pub record FedWhole {R W : Type 0} (s : Streams R W) (session : SessionValue) (kept : List ℕ) (session_after : SessionValue) (kept_after : List ℕ) : Type 0 where
+  pub text : List ℕ
+  pub come : HasCome s text
+  pub at_end : IsAtEnd (s.bytes_left s.reader_after.inner)
+  pub within : length text ≤ longest_script
+  pub read : KeepsReader s
+  pub fed : Fed s.bytes_taken (standing session kept s.writer) text (standing session_after kept_after s.writer_after)
+
+-- a text has been read
+pub record FedUpTo {R W : Type 0} (s : Streams R W) (session : SessionValue) (kept text : List ℕ) : Type 0 where
+  pub session_after : SessionValue
+  pub kept_after : List ℕ
+  pub fed : Fed s.bytes_taken (standing session kept s.writer) text (standing session_after kept_after s.writer_after)
+
+-- more came than a script may have
+pub record FedTooLong {R W : Type 0} (s : Streams R W) (session : SessionValue) (kept : List ℕ) : Type 0 where
+  pub text : List ℕ
+  pub more : List ℕ
+  pub come : HasCome s (text ++ more)
+  pub too_long : longest_script < length (text ++ more)
+  pub within : length text ≤ longest_script
+  pub read : KeepsReader s
+  pub fed : FedUpTo s session kept text
+
+-- a read failed
+pub record FedUnread {R W : Type 0} (s : Streams R W) (session : SessionValue) (kept : List ℕ) : Type 0 where
+  pub text : List ℕ
+  pub come : HasCome s text
+  pub failed : FailedBetween s.reader s.reader_after
+  pub fed : FedUpTo s session kept text
+
+-- what was read couldn't be answered to its end
+pub record FedUnanswered {R W : Type 0} (s : Streams R W) (session : SessionValue) (kept : List ℕ) (e : ScriptError) : Type 0 where
+  pub text : List ℕ
+  pub come : HasCome s text
+  pub read : KeepsReader s
+  pub fails : FeedFails s.bytes_taken (standing session kept s.writer) text s.writer_after e
+
+-- why a reader is not read to its end
+abbrev pub FeedingFails : {R W : Type 0} → Streams R W → SessionValue → List ℕ → ScriptError → Type 0
+FeedingFails s session kept InputTooLong = FedTooLong s session kept
+FeedingFails s session kept OutOfMemory = FedUnanswered s session kept OutOfMemory
+FeedingFails s session kept Device = FedUnread s session kept ⊎ FedUnanswered s session kept Device

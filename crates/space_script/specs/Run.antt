@@ -3,7 +3,7 @@ use Rattle.std.specs.Prelude.{◌≡◌, ◌⊎◌, ◌<◌, ◌≤◌, ◌^◌,
 use Rattle.std.specs.Io.KnownBytes.{Appends, Consumes, IsAtEnd}
 use Rattle.std.specs.List.{slice_split}
 use Rattle.qap_io.specs.Counting.{CountedDevice, FailedBetween}
-use Rattle.qap_io.specs.Writing.{BreaksOff, Sends}
+use Rattle.qap_io.specs.Writing.{Sends}
 use Rattle.space_script.specs.Command.{IsBadLine, IsBlankLine, IsCommandLine}
 use Rattle.space_script.specs.Reply.{reply_text}
 use Rattle.space_script.specs.Session.{Performs, SessionValue, start}
@@ -125,7 +125,7 @@ pub record FailsReading {R W : Type 0} (s : Streams R W) : Type 0 where
 abbrev pub HasEnded : {R W : Type 0} → Streams R W → List (List ℕ) → Type 0
 HasEnded s left = (0 < length left) ⊎ IsAtEnd (s.bytes_left s.reader_after.inner)
 
--- memory ran out at a line that has ended; the lines before it are answered
+-- memory ran out; lines that have ended are answered, and no others
 pub record WantsMemory {R W : Type 0} (s : Streams R W) : Type 0 where
   pub text : List ℕ
   pub come : HasCome s text
@@ -133,6 +133,7 @@ pub record WantsMemory {R W : Type 0} (s : Streams R W) : Type 0 where
   pub replies : List ℕ
   pub session : SessionValue
   pub left : List (List ℕ)
+  pub some : 0 < length left
   pub run : RunsUpTo text replies session left
   pub gone_out : HasGoneOut s replies
   pub written : KeepsWriter s

@@ -3,7 +3,6 @@
 ghost use Rattle.std.specs.Prelude.{◌≡◌, ◌≢◌, ◌++◌, IfOk, OnOk, MatchOption, Some, slice_get};
 ghost use Rattle.space_txn.specs.Machine.{abort as abort_call, commit as commit_call, inp_in, rdp_in, renew_txn};
 ghost use Rattle.space_txn.specs.Txn.{TxnValue};
-ghost use Rattle.space_txn.specs.World.{is_live_transaction};
 ghost use Rattle.space_script.specs.Session.{Begins, Calls, Ends, Left, NoneKept, TakesOut, Under, Writes, live_of, option_list, session_of};
 
 use crate::carrying::{abort, commit, read_under, renew, take_under, write_under};
@@ -178,9 +177,5 @@ pub(crate) fn begin_kept(
 pub(crate) fn keep_live(world: &TxnSpace, kept: &mut Vec<Txn>)
     ensures { kept.new.items ≡ live_of world.now kept.old.items }
 {
-    kept.retain(
-        |txn: &Txn| -> bool
-            ensures { result ≡ is_live_transaction world.entry.now txn.now.number }
-        { world.is_live(txn) },
-    );
+    kept.retain(|txn| world.is_live(txn));
 }

@@ -14,6 +14,7 @@ mod line;
 mod lists;
 mod numbers;
 mod reply;
+mod run;
 mod script_error;
 mod session;
 mod verb;
@@ -23,6 +24,7 @@ pub use error::LineError;
 pub use law::line_law;
 pub use line::{LONGEST_LINE, read_line};
 pub use reply::{Reply, reply_line};
+pub use run::run_script;
 pub use script_error::ScriptError;
 pub use session::Session;
 

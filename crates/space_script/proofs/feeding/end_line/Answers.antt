@@ -42,8 +42,8 @@ returns-in_err-put g c =
       gone_out = out.1;
       failed = put.failed;
       stops = λ line unfinished.
-        stops_inside_at_once line c.args.line.now.items c.args.end.now c.deref-2.result.now c.args.session.now c.answer.new.session unfinished c.requires
-        (subst (λ (r : List ℕ). Answers c.args.session.now (front_of (c.args.line.now.items ++ c.args.end.now)) r c.answer.new.session) (sym c.deref-2.ensures.value) answer);
+          stops_inside_at_once line c.args.line.now.items c.args.end.now c.deref-2.result.now c.args.session.now c.answer.new.session unfinished c.requires
+          (subst (λ (r : List ℕ). Answers c.args.session.now (front_of (c.args.line.now.items ++ c.args.end.now)) r c.answer.new.session) (sym c.deref-2.ensures.value) answer);
     })
 
 pub returns : goal.returns
@@ -57,6 +57,6 @@ returns g c =
       gone_out = put.whole;
       written = put.count;
       carries = λ line unfinished.
-        carries_end line c.args.line.now.items c.args.end.now c.deref-2.result.now c.args.session.now c.answer.new.session unfinished c.requires
-        (subst (λ (r : List ℕ). Answers c.args.session.now (front_of (c.args.line.now.items ++ c.args.end.now)) r c.answer.new.session) (sym c.deref-2.ensures.value) answer);
+          carries_end line c.args.line.now.items c.args.end.now c.deref-2.result.now c.args.session.now c.answer.new.session unfinished c.requires
+          (subst (λ (r : List ℕ). Answers c.args.session.now (front_of (c.args.line.now.items ++ c.args.end.now)) r c.answer.new.session) (sym c.deref-2.ensures.value) answer);
     })

@@ -1,5 +1,5 @@
 -- One line of the piece after another.
-use Rattle.std.proofs.Common.{◌≡◌, ℕ, List, [], ◌∷◌, ◌++◌, refl, sym, subst}
+use Rattle.std.proofs.Common.{ℕ, List, [], ◌∷◌, ◌++◌, refl, sym, subst}
 use Rattle.std.proofs.lemmas.Result.{err_from_is_err_and}
 use Rattle.space_script.specs.Feeding.{Fed, FeedFails, front_of, standing}
 use Rattle.space_script.specs.declared.script_error.ScriptError.TheVariants.{OutOfMemory}
@@ -28,8 +28,7 @@ loop-before-preserved g c =
     let before = c.in-Some.field-0.before.now in
     let behind = c.in-Some.field-0.behind.now in
     let old = standing c.args.session.now c.args.line.now.items c.args.writer.now in
-    let middle = standing c.loop-before.session c.loop-before.line.items c.loop-before.writer in
-    (
+    let middle = standing c.loop-before.session c.loop-before.line.items c.loop-before.writer in (
       stood.0 ++ (before ++ 10 ∷ []),
       line_further c.args.piece.now stood.0 c.loop-before.rest.now before behind stood.1 c.in-Some.ensures.is,
       fed_trans g.W.Write.contents old middle (standing c.end_line.new.session c.end_line.new.line.items c.end_line.new.writer) stood.0 (before ++ 10 ∷ []) stood.2 c.in_ok-end_line.ensures,

@@ -1,0 +1,80 @@
+//! A whole script, from bytes to bytes.
+
+ghost use Rattle.std.specs.Prelude.{MatchResult};
+ghost use Rattle.space_script.specs.Feeding.{FedWhole, FeedingFails};
+ghost use Rattle.space_script.specs.Run.{BreaksDown, RunsWhole, Streams};
+
+use crate::answering::answer;
+use crate::feeding::feed;
+use crate::script_error::ScriptError;
+use crate::session::Session;
+use qap_io::{Counted, read_some, send};
+use std::alloc::Global;
+use std::io::{Read, Write};
+
+/// The most bytes of a script.
+const LONGEST_SCRIPT: u64 = 1 << 62;
+
+/// How many bytes are asked for at once.
+const PIECE: usize = 32_768;
+
+/// Carries out the lines of a script on a space of its own, and writes a reply for each that has words.
+///
+/// A line is carried out once the line feed that ends it has been read, the last one at the end of the input. Where the
+/// script is broken off, the replies of the lines before stand written; where a write fails, a beginning of the next reply
+/// stands behind them. A line is kept only as far as it takes to show that it is too long.
+pub fn run_script<R: Read, W: Write>(
+    alloc: Global,
+    reader: &mut Counted<R>,
+    writer: &mut Counted<W>,
+) -> Result<(), ScriptError>
+    ensures { let s : Streams R W = record {
+      bytes_left = R.remaining;
+      bytes_taken = W.contents;
+      reader = reader.old;
+      reader_after = reader.new;
+      writer = writer.old;
+      writer_after = writer.new;
+    } in MatchResult result (λ _. RunsWhole s) (BreaksDown s) }
+{
+    let mut session = Session::new(alloc);
+    let mut line = Vec::new(alloc);
+    feed_all(alloc, reader, &mut session, &mut line, writer)?;
+    let reply = answer(alloc, &mut session, &line)?;
+    send(writer, &reply)?;
+    Ok(())
+}
+
+/// Answers the lines that end in what a reader has left, and keeps what is left behind them.
+fn feed_all<R: Read, W: Write>(
+    alloc: Global,
+    reader: &mut Counted<R>,
+    session: &mut Session,
+    line: &mut Vec<u8>,
+    writer: &mut Counted<W>,
+) -> Result<(), ScriptError>
+    ensures { let s : Streams R W = record {
+      bytes_left = R.remaining;
+      bytes_taken = W.contents;
+      reader = reader.old;
+      reader_after = reader.new;
+      writer = writer.old;
+      writer_after = writer.new;
+    } in MatchResult result
+        (λ _. FedWhole s session.old line.old.items session.new line.new.items)
+        (FeedingFails s session.old line.old.items) }
+{
+    let mut room = LONGEST_SCRIPT;
+    let mut piece = [0; PIECE];
+    loop {
+        let count = read_some(reader, &mut piece)?;
+        if count == 0 {
+            return Ok(());
+        }
+        if room < count as u64 {
+            return Err(ScriptError::InputTooLong);
+        }
+        room -= count as u64;
+        feed(alloc, session, line, &piece[..count], writer)?;
+    }
+}
