@@ -1,0 +1,53 @@
+//! Carries out scripts of the tuple space.
+#![tactic(auto)]
+
+mod command_line;
+mod refusal;
+
+use command_line::{CommandError, Request, USAGE, parse};
+use qap_io::{Counted, Status};
+use refusal::{RunError, fault_line, status};
+use space_script::run_script;
+use std::env;
+use std::process::ExitCode;
+use std::rt::Env;
+
+
+fn main(rt: HostRuntime) -> ExitCode {
+    let answered = match requested(&rt) {
+        Ok(request) => run(&rt, request),
+        Err(CommandError::OutOfMemory) => Err(RunError::OutOfMemory),
+        Err(CommandError::Usage) => return usage(&rt),
+    };
+    let code = match answered {
+        Ok(()) => Status::Done.code(),
+        Err(error) => {
+            let _ = fault_line(&error, &mut Counted::new(rt.stderr()));
+            status(&error)
+        }
+    };
+    ExitCode::from(code)
+}
+
+/// Tells how the program is used.
+fn usage(rt: &HostRuntime) -> ExitCode {
+    let _ = rt.eprintln(USAGE);
+    ExitCode::from(Status::Usage.code())
+}
+
+/// What the program's own command line asks for.
+fn requested(rt: &(impl Env + AllocGlobal)) -> Result<Request, CommandError> {
+    let words: Vec<String> = env::args(rt)?.collect(rt.alloc())?;
+    parse(rt.alloc(), &words)
+}
+
+/// Answers a request on standard output.
+fn run(rt: &HostRuntime, request: Request) -> Result<(), RunError> {
+    match request {
+        Request::Script => {
+            let mut input = Counted::new(rt.stdin());
+            let mut output = Counted::new(rt.stdout());
+            Ok(run_script(rt.alloc(), &mut input, &mut output)?)
+        }
+    }
+}

@@ -1,0 +1,71 @@
+//! Why a run is broken off, and how that is told.
+
+ghost use Rattle.std.specs.Prelude.{◌≡◌, MatchResult};
+ghost use Rattle.qap_io.specs.Refusal.{refusal_line};
+ghost use Rattle.qap_io.specs.Writing.{BreaksOff, Sends};
+ghost use Rattle.qap_solve.specs.Refusal.{refusal_of, status_of};
+
+use qap_io::{Counted, Device, Refusal, Status};
+use space_script::ScriptError;
+use std::io::Write;
+use thiserror::Error;
+
+/// Why a run is broken off.
+#[derive(Clone, Copy, Debug, PartialEq, Eq, Error)]
+pub enum RunError {
+    /// The input is too long.
+    #[error("the input is too long")]
+    InputTooLong,
+    /// There is no memory left.
+    #[error("out of memory")]
+    OutOfMemory,
+    /// The reader or the writer failed.
+    #[error("the reader or the writer failed")]
+    Device,
+}
+
+impl From<ScriptError> for RunError {
+    ghost use Rattle.qap_solve.specs.Refusal.{of_script};
+
+    ghost from_gives = { λ e f. f ≡ of_script e };
+
+    fn from(error: ScriptError) -> RunError {
+        match error {
+            ScriptError::InputTooLong => RunError::InputTooLong,
+            ScriptError::OutOfMemory => RunError::OutOfMemory,
+            ScriptError::Device => RunError::Device,
+        }
+    }
+}
+
+/// The exit status of a refusal: 3 for want of memory, else 1.
+pub fn status(error: &RunError) -> u8
+    ensures { result ≡ status_of error.now }
+{
+    let status = match error {
+        RunError::OutOfMemory => Status::OutOfMemory,
+        RunError::InputTooLong | RunError::Device => Status::Refused,
+    };
+    status.code()
+}
+
+/// Writes the line that tells a refusal, `refused` with its number and name, and flushes the writer. Where that fails, a
+/// beginning of the line has gone out.
+pub fn fault_line<W: Write>(error: &RunError, writer: &mut Counted<W>) -> Result<(), Device>
+    ensures { MatchResult result
+        (λ _. Sends W.contents writer.old writer.new (refusal_line (refusal_of error.now)))
+        (λ _. BreaksOff W.contents writer.old writer.new (refusal_line (refusal_of error.now))) }
+{
+    refusal(*error).send(writer)
+}
+
+/// The refusal that a run is told as.
+fn refusal(error: RunError) -> Refusal
+    ensures { result ≡ refusal_of error }
+{
+    match error {
+        RunError::InputTooLong => Refusal::new(24, "InputTooLong"),
+        RunError::OutOfMemory => Refusal::out_of_memory(),
+        RunError::Device => Refusal::device(),
+    }
+}
