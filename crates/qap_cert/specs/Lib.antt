@@ -2,6 +2,7 @@ pub mod Acceptance
 pub mod Certificate
 pub mod Code
 pub mod Fault
+pub mod Head
 pub mod Line
 pub mod Number
 pub mod Numeral

@@ -1,7 +1,8 @@
 //! Reads certificates.
 
-ghost use Rattle.std.specs.Prelude.{◌≡◌, ◌⊎◌, ◌++◌, ◌≤◌, [], codes, MatchResult};
-ghost use Rattle.qap_cert.specs.Certificate.{IsBoundFor};
+ghost use Rattle.std.specs.Prelude.{◌≡◌, ◌⊎◌, ◌++◌, ◌≤◌, [], ℕ, codes, length, MatchResult};
+ghost use Rattle.qap_cert.specs.Certificate.{IsBoundFor, tree_line};
+ghost use Rattle.qap_cert.specs.Head.{HasHead};
 ghost use Rattle.qap_cert.specs.Shape.{HasShape};
 ghost use Rattle.qap_cert.specs.Text.{IsCertificateText, bound_text, tree_text};
 ghost use Rattle.qap_cert.specs.TextFault.{IsTextFault, IsEndFault, IsFaultFromBound, IsFaultFromTree};
@@ -19,13 +20,26 @@ use crate::placed::Placed;
 use crate::tree::Tree;
 use crate::tree_reader::{Grammar, read_tree};
 use crate::version::Version;
+use qap_cost::Perm;
 use std::alloc::Global;
 
-/// What stands behind the first four lines of a certificate.
+/// What stands before the tree of a certificate, the number of the tree's first line, and the text from there on.
 #[derive(Drop)]
-struct Bounded {
+pub(crate) struct Head<'a> {
+    pub(crate) grammar: Grammar,
+    pub(crate) cost: i128,
+    pub(crate) bound: i128,
+    pub(crate) perm: Perm,
+    pub(crate) line: u64,
+    pub(crate) rest: &'a [u8],
+}
+
+/// The bound, which may have a line, the number of the tree's first line, and the text from there on.
+#[derive(Clone, Copy)]
+struct Bounded<'a> {
     bound: i128,
-    tree: Tree,
+    line: u64,
+    rest: &'a [u8],
 }
 
 /// The certificate that a text of either version is.
@@ -38,61 +52,69 @@ pub fn read(alloc: Global, text: &[u8]) -> Result<Certificate, CertError>
         (IsCertificateText text.now)
         (λ e. (e ≡ CertError.OutOfMemory) ⊎ IsTextFault text.now e) }
 {
+    let head = read_head(alloc, text)?;
+    let tree = read_to_end(alloc, head.rest, head.grammar, head.line)?;
+    Ok(Certificate {
+        cost: head.cost,
+        bound: head.bound,
+        perm: head.perm,
+        tree,
+    })
+}
+
+/// Reads what stands before the tree.
+pub(crate) fn read_head(alloc: Global, text: &[u8]) -> Result<Head<'_>, CertError>
+    ensures { MatchResult result
+        (λ h. HasHead text.now h.grammar.version h.cost h.bound h.perm h.line h.rest.now × (h.grammar.size ≡ length h.perm))
+        (λ e. (e ≡ CertError.OutOfMemory) ⊎ IsTextFault text.now e) }
+{
     let (version, rest) = read_header(text)?;
     let (size, rest) = read_size(rest)?;
     let (cost, rest) = read_cost(rest)?;
     let (perm, rest) = read_permutation(alloc, rest, size)?;
-    let read = read_bounded(alloc, rest, Grammar { version, size }, cost)?;
-    Ok(Certificate {
+    let bounded = read_bound(rest, version, cost)?;
+    Ok(Head {
+        grammar: Grammar { version, size },
         cost,
-        bound: read.bound,
+        bound: bounded.bound,
         perm,
-        tree: read.tree,
+        line: bounded.line,
+        rest: bounded.rest,
     })
 }
 
-/// Reads what stands behind the first four lines: in version 2 perhaps a bound, the tree, and the end.
-fn read_bounded(
-    alloc: Global,
-    text: &[u8],
-    grammar: Grammar,
-    cost: i128,
-) -> Result<Bounded, CertError>
-    requires small { grammar.size ≤ 256 }
-    requires limited { IsLimited cost }
+/// Reads the line of the bound, if there is one: in version 1 there is none.
+fn read_bound(text: &[u8], version: Version, cost: i128) -> Result<Bounded<'_>, CertError>
+    requires { IsLimited cost }
     ensures { MatchResult result
-        (λ r. MayBound grammar.version cost r.bound × IsBoundFor cost r.bound × HasShape grammar.version grammar.size [] (node_of r.tree)
-        × (text.now ≡ bound_text cost r.bound ++ (tree_text grammar.version (node_of r.tree) ++ codes "end\n")))
-        (λ e. (e ≡ CertError.OutOfMemory) ⊎ IsFaultFromBound grammar.version grammar.size cost text.now e) }
+        (λ b. MayBound version cost b.bound × IsBoundFor cost b.bound × (b.line ≡ tree_line cost b.bound) × (text.now ≡ bound_text cost b.bound ++ b.rest.now)
+        × ((n : ℕ) (e : CertError) → IsFaultFromTree version n b.line b.rest.now e → IsFaultFromBound version n cost text.now e))
+        (λ e. (n : ℕ) → IsFaultFromBound version n cost text.now e) }
 {
-    match grammar.version {
-        Version::First => read_unstated(alloc, text, grammar, cost),
+    match version {
+        Version::First => Ok(unstated(text, cost)),
         Version::Second => match stated_bound(text, cost)? {
-            None => read_unstated(alloc, text, grammar, cost),
-            Some(stated) => {
-                let tree = read_to_end(alloc, stated.rest, grammar, TREE_LINE_BEHIND_BOUND)?;
-                let bound = stated.bound;
-                Ok(Bounded { bound, tree })
-            }
+            None => Ok(unstated(text, cost)),
+            Some(stated) => Ok(Bounded {
+                bound: stated.bound,
+                line: TREE_LINE_BEHIND_BOUND,
+                rest: stated.rest,
+            }),
         },
     }
 }
 
-/// The same where no bound is stated, so that it is the cost.
-fn read_unstated(
-    alloc: Global,
-    text: &[u8],
-    grammar: Grammar,
-    cost: i128,
-) -> Result<Bounded, CertError>
-    requires { grammar.size ≤ 256 }
-    ensures { MatchResult result
-        (λ r. (r.bound ≡ cost) × HasShape grammar.version grammar.size [] (node_of r.tree)
-        × (text.now ≡ tree_text grammar.version (node_of r.tree) ++ codes "end\n"))
-        (λ e. (e ≡ CertError.OutOfMemory) ⊎ IsFaultFromTree grammar.version grammar.size 5 text.now e) }
+/// Where no bound is stated it is the cost, and the tree begins at once.
+fn unstated(text: &[u8], cost: i128) -> Bounded<'_>
+    ensures bound { result.bound ≡ cost }
+    ensures line { result.line ≡ 5 }
+    ensures rest { result.rest.now ≡ text.now }
 {
-    let tree = read_to_end(alloc, text, grammar, BOUND_LINE)?;
-    Ok(Bounded { bound: cost, tree })
+    Bounded {
+        bound: cost,
+        line: BOUND_LINE,
+        rest: text,
+    }
 }
 
 /// Reads a tree, whose first line has this number, and the last line.
