@@ -6,6 +6,7 @@ use Rattle.std.specs.Prelude.{codes, unsigned_abs}
 use Rattle.qap_cost.specs.Range.{AllLimited}
 use Rattle.qap_cert.proofs.Held.{held-all_within, AllLimited-from_held}
 use Rattle.qap_cert.proofs.Numbers.{numbers_text-is}
+use Rattle.qap_cert.specs.NodeLine.{HasDuals}
 use Rattle.qap_cert.specs.Number.{IsNamed, held}
 use Rattle.qap_cert.specs.Shape.{AreDuals}
 use Rattle.qap_cert.specs.Text.{numbers_text}
@@ -31,36 +32,40 @@ AllLimited-back xs ys h = record {
       subst (λ (z : ℤ). unsigned_abs z ≤ 10 ^ 24) at (h.each (length xs + j) (omega (arith, length-append xs ys)));
 }
 
--- what was read of a line of 2 * m numbers
-pub record HasReadDuals (m : ℕ) (line : List ℕ) (first : List ℤ) : Type 0 where
-  pub numbers : List ℤ
-  pub named : IsNamed (codes "b") line numbers
-  pub counted : length numbers ≡ 2 * m
-  pub is : first ≡ map held (take (2 * m) numbers)
+-- numbers that are in range were read as they are
+pub HasDuals-read : (m wanted : ℕ) (line : List ℕ) (first zs : List ℤ) → IsNamed (codes "b") line zs → length zs ≡ 2 * m → AllLimited zs → first ≡ map held (take wanted zs) → HasDuals m wanted line first
+HasDuals-read m wanted line first zs named counted within is = record {
+  numbers = zs;
+  named = named;
+  counted = counted;
+  limited = within;
+  is = is ∙ held-all_within (take wanted zs) (AllLimited-front (take wanted zs) (drop wanted zs) (subst AllLimited (sym (take-append-drop wanted zs)) within));
+}
 
-first_held : (m : ℕ) (line : List ℕ) (first : List ℤ) (h : HasReadDuals m line first) → first ≡ map held h.numbers
-first_held m line first h = h.is ∙ ap (map held) (take_all (2 * m) h.numbers (omega (arith, h.counted)))
-
--- where a held number is out of range, a number of the line is
-pub out_of_range : (m : ℕ) (line : List ℕ) (first : List ℤ) (h : HasReadDuals m line first) → (AllLimited first → ⊥) → AllLimited h.numbers → ⊥
-out_of_range m line first h out within = out (subst AllLimited (sym (first_held m line first h ∙ held-all_within h.numbers within)) within)
-
--- where they are in range, the two halves are duals, and the line is spelled by them
-pub AreDuals-read : (m : ℕ) (line : List ℕ) (first u v : List ℤ) → HasReadDuals m line first → AllLimited first → u ≡ take m first → v ≡ drop m first
+-- the two halves of the numbers are duals, and the line is spelled by them
+pub AreDuals-halves : (m : ℕ) (line : List ℕ) (zs u v : List ℤ) → IsNamed (codes "b") line zs → length zs ≡ 2 * m → AllLimited zs → u ≡ take m zs → v ≡ drop m zs
     → AreDuals m u v × (line ≡ codes "b" ++ numbers_text (u ++ v))
-AreDuals-read m line first u v h within u_is v_is =
-    let held_is = first_held m line first h in
-    let inside : AllLimited h.numbers = AllLimited-from_held h.numbers (subst AllLimited held_is within) in
-    let same : first ≡ h.numbers = held_is ∙ held-all_within h.numbers inside in
-    let counted : length first ≡ 2 * m = ap length same ∙ h.counted in
-    let whole : u ++ v ≡ h.numbers = ap₂ (λ a b. a ++ b) u_is v_is ∙ take-append-drop m first ∙ same in
-    let apart : AllLimited (u ++ v) = subst AllLimited (sym whole) inside in
-    let rows : length u ≡ m = omega (arith, ap length u_is, length-take m first, counted) in (
+AreDuals-halves m line zs u v named counted within u_is v_is =
+    let whole : u ++ v ≡ zs = ap₂ (λ a b. a ++ b) u_is v_is ∙ take-append-drop m zs in
+    let apart : AllLimited (u ++ v) = subst AllLimited (sym whole) within in
+    let rows : length u ≡ m = omega (arith, ap length u_is, length-take m zs, counted) in (
       record {
         rows = rows;
-        columns = omega (arith, ap length v_is, length-drop m first, counted);
+        columns = omega (arith, ap length v_is, length-drop m zs, counted);
         u_range = AllLimited-front u v apart;
         v_range = AllLimited-back u v apart;
       },
-      h.named.is ∙ ap (λ l. codes "b" ++ l) (numbers_text-is h.named.numbers h.numbers h.named.spelled inside ∙ ap numbers_text (sym whole)),
+      named.is ∙ ap (λ l. codes "b" ++ l) (numbers_text-is named.numbers zs named.spelled within ∙ ap numbers_text (sym whole)),
     )
+
+-- so it is where all are wanted
+pub AreDuals-read : (m : ℕ) (line : List ℕ) (first u v : List ℤ) → HasDuals m (2 * m) line first → u ≡ take m first → v ≡ drop m first → AreDuals m u v × (line ≡ codes "b" ++ numbers_text (u ++ v))
+AreDuals-read m line first u v h u_is v_is =
+    let all : first ≡ h.numbers = h.is ∙ take_all (2 * m) h.numbers (omega (arith, h.counted)) in
+    AreDuals-halves m line h.numbers u v h.named h.counted h.limited (u_is ∙ ap (take m) all) (v_is ∙ ap (drop m) all)
+
+-- and whichever are wanted, there are such duals
+pub duals_there : (m wanted : ℕ) (line : List ℕ) (first : List ℤ) → HasDuals m wanted line first → (u : List ℤ) × (v : List ℤ) × AreDuals m u v × (line ≡ codes "b" ++ numbers_text (u ++ v))
+duals_there m wanted line first h =
+    let halves = AreDuals-halves m line h.numbers (take m h.numbers) (drop m h.numbers) h.named h.counted h.limited refl refl in
+    (take m h.numbers, drop m h.numbers, halves.0, halves.1)

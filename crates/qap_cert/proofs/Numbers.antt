@@ -1,10 +1,10 @@
 -- Numbers one after another: there is one list of them, and one text for those in range.
-use Rattle.std.proofs.Common.{◌≡◌, ◌≢◌, ℕ, zero, suc, ◌+◌, ◌^◌, ◌<◌, ◌≤◌, List, [], ◌∷◌, ◌++◌, length, map, take, drop, get_or, ℤ, pos, negsuc, min, unsigned_abs, refl, sym, ap, ap₂, subst, ◌∙◌, inl, inr, arith, append_assoc, length-append}
-use Rattle.std.specs.Prelude.{neg_ℤ, Option, None, Some, MatchOption}
+use Rattle.std.proofs.Common.{◌≡◌, ◌≢◌, Bool, true, ℕ, zero, suc, ◌+◌, ◌^◌, ◌<◌, ◌≤◌, List, [], ◌∷◌, ◌++◌, length, map, take, drop, get_or, ℤ, pos, negsuc, min, unsigned_abs, refl, sym, ap, ap₂, subst, ◌∙◌, inl, inr, arith, append_assoc, length-append}
+use Rattle.std.specs.Prelude.{neg_ℤ, Option, None, Some, MatchOption, IsTrue, ◌↔◌}
 use Rattle.std.specs.Fmt.{signed_decimal}
-use Rattle.std.proofs.lemmas.List.{append_cancel_left, drop_at, append-nil, map-append, length-take-le, length-drop, nil_from_length, take_all, take-append-le}
+use Rattle.std.proofs.lemmas.List.{get_or_at, get_or_append_left, append_cancel_left, drop_at, append-nil, map-append, length-take-le, length-drop, nil_from_length, take_all, take-append-le}
 use Rattle.std.proofs.lemmas.Bool.{cases_lt}
-use Rattle.qap_cost.specs.Range.{AllLimited}
+use Rattle.qap_cost.specs.Range.{AllLimited, IsLimited}
 use Rattle.qap_cert.specs.Line.{HasNoLine, IsLine}
 use Rattle.qap_cert.specs.Number.{IsNumber, Spells, IsNamed, held}
 use Rattle.qap_io.specs.Digits.{IsNoDigit}
@@ -201,19 +201,38 @@ pub numbers_named : {N : Type 0} (P : N → List ℤ → Type 0) (name line text
 numbers_named P name line text None is h = λ zs a. HasNoNumbers-named name line text is zs (h zs) a
 numbers_named P name line text (Some v) is h = (h.0, record { numbers = text; is = is; spelled = h.1 }, h.2)
 
+-- numbers in range, and one more
+AllLimited-more : (xs : List ℤ) (z : ℤ) → AllLimited xs → IsLimited z → AllLimited (xs ++ z ∷ [])
+AllLimited-more xs z h small = record {
+  each = λ j below. elim (cases_lt j (length xs)) [
+    | inl front ↦ subst IsLimited (sym (get_or_append_left xs (z ∷ []) (pos 0) j front)) (h.each j front)
+    | inr past ↦ subst IsLimited (sym (get_or_at xs z [] (pos 0) j (omega (arith, length-append xs (z ∷ []))))) small
+  ];
+}
+
+AllLimited-before : (xs : List ℤ) (z : ℤ) → AllLimited (xs ++ z ∷ []) → AllLimited xs
+AllLimited-before xs z h = record {
+  each = λ j below. subst IsLimited (get_or_append_left xs (z ∷ []) (pos 0) j below) (h.each j (omega (arith, length-append xs (z ∷ []))));
+}
+
+AllLimited-last : (xs : List ℤ) (z : ℤ) → AllLimited (xs ++ z ∷ []) → IsLimited z
+AllLimited-last xs z h = subst IsLimited (get_or_at xs z [] (pos 0) (length xs) refl) (h.each (length xs) (omega (arith, length-append xs (z ∷ []))))
+
 -- what has been read of a text, and how much of it is kept
-pub record HasKept (text rest : List ℕ) (wanted count : ℕ) (first : List ℤ) : Type 0 where
+pub record HasKept (text rest : List ℕ) (wanted count : ℕ) (limited : Bool) (first : List ℤ) : Type 0 where
   pub numbers : List ℤ
   pub read : HasRead text rest numbers
   pub counted : count ≡ length numbers
+  pub judged : IsTrue limited ↔ AllLimited numbers
   pub kept : first ≡ map held (take wanted numbers)
   pub room : count + length rest ≤ length text
 
-pub HasKept-none : (text : List ℕ) (wanted : ℕ) → HasKept text text wanted 0 []
+pub HasKept-none : (text : List ℕ) (wanted : ℕ) → HasKept text text wanted 0 true []
 HasKept-none text wanted = record {
   numbers = [];
   read = HasRead-none text;
   counted = refl;
+  judged = (λ _. record { each = λ j below. absurd (omega arith) }, λ _. refl);
   kept = sym (ap (map held) (take_nil wanted));
   room = omega arith;
 }
@@ -223,12 +242,22 @@ HasKept-none text wanted = record {
     take_nil (suc n) = refl
 
 -- one number more: it is kept where there is room
-pub HasKept-more : (text rest after : List ℕ) (wanted count more : ℕ) (value : ℤ) (first new : List ℤ) → HasKept text rest wanted count first → rest ≡ 32 ∷ after → IsFrontNumber after more value
-    → (count < wanted → new ≡ first ++ value ∷ []) → (wanted ≤ count → new ≡ first) → HasKept text (drop more after) wanted (count + 1) new
-HasKept-more text rest after wanted count more value first new h is found stored full = record {
+pub HasKept-more : (text rest after : List ℕ) (wanted count more : ℕ) (value : ℤ) (first new : List ℤ) (limited still : Bool) → HasKept text rest wanted count limited first → rest ≡ 32 ∷ after → IsFrontNumber after more value
+    → (IsTrue still ↔ (IsTrue limited × IsLimited value)) → (count < wanted → new ≡ first ++ value ∷ []) → (wanted ≤ count → new ≡ first) → HasKept text (drop more after) wanted (count + 1) still new
+HasKept-more text rest after wanted count more value first new limited still h is found judged stored full = record {
   numbers = h.numbers ++ found.number ∷ [];
   read = HasRead-more text rest after h.numbers more value h.read is found;
   counted = omega (arith, h.counted, length-append h.numbers (found.number ∷ []));
+  judged = (
+    λ t.
+    let both = judged.0 t in
+    AllLimited-more h.numbers found.number (h.judged.0 both.0) (held_within-is found.number (subst IsLimited found.is both.1)),
+    λ all.
+    judged.1 (
+      h.judged.1 (AllLimited-before h.numbers found.number all),
+      subst IsLimited (sym (found.is ∙ held-within found.number (AllLimited-last h.numbers found.number all))) (AllLimited-last h.numbers found.number all),
+    ),
+  );
   kept = elim (cases_lt count wanted) [
     | inl less ↦ stored less ∙ ap₂ (λ l x. l ++ x ∷ []) (h.kept ∙ ap (map held) (take_all wanted h.numbers (omega (arith, h.counted)))) found.is
         ∙ sym (map-append held h.numbers (found.number ∷ []))

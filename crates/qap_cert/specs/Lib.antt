@@ -4,6 +4,7 @@ pub mod Code
 pub mod Fault
 pub mod Head
 pub mod Line
+pub mod NodeLine
 pub mod Number
 pub mod Numeral
 pub mod Refusal

@@ -11,6 +11,7 @@ mod head;
 mod law;
 mod line;
 mod line_number;
+mod node_line;
 mod number;
 mod placed;
 mod reader;

@@ -1,9 +1,11 @@
 //! Numbers of a line.
 
-ghost use Rattle.std.specs.Prelude.{◌≡◌, ◌≢◌, ◌<◌, ◌≤◌, ◌+◌, ◌^◌, ◌++◌, ◌∷◌, [], ℕ, ℤ, pos, neg_ℤ, List, length, map, take, min, MatchOption, IfOk, slice_index};
+ghost use Rattle.std.specs.Prelude.{◌↔◌, IsTrue, ◌≡◌, ◌≢◌, ◌<◌, ◌≤◌, ◌+◌, ◌^◌, ◌++◌, ◌∷◌, [], ℕ, ℤ, pos, neg_ℤ, List, length, map, take, min, MatchOption, IfOk, slice_index};
+ghost use Rattle.qap_cost.specs.Range.{AllLimited, IsLimited};
 ghost use Rattle.qap_cert.specs.Number.{Spells, IsNamed, held};
 ghost use Rattle.qap_cert.specs.Numeral.{IsFrontDecimal, IsFrontNumber, HasNoFrontDecimal, HasNoFrontNumber};
 
+use qap_cost::MAX_VALUE;
 use qap_io::{Digits, MAX_READ, front_digits, negated};
 use std::alloc::{AllocError, Global};
 
@@ -105,10 +107,12 @@ pub(crate) fn one_number(name: &[u8], line: &[u8]) -> Option<i128>
     }
 }
 
-/// The numbers of a line: how many they are, and the first of them, each held to -10^25 to 10^25.
+/// The numbers of a line: how many they are, whether all are within -10^24 to 10^24, and the first of them, each held to
+/// -10^25 to 10^25.
 #[derive(Drop)]
 pub(crate) struct Numbers {
     pub(crate) count: usize,
+    pub(crate) limited: bool,
     pub(crate) first: Vec<i128>,
 }
 
@@ -123,13 +127,14 @@ pub(crate) fn read_numbers(
 ) -> Result<Option<Numbers>, AllocError>
     ensures { IfOk result (λ found. MatchOption found
         ((zs : List ℤ) → IsNamed name.now line.now zs → ⊥)
-        (λ r. (zs : List ℤ) × IsNamed name.now line.now zs × (r.count ≡ length zs) × (r.first.items ≡ map held (take wanted zs)))) }
+        (λ r. (zs : List ℤ) × IsNamed name.now line.now zs × (r.count ≡ length zs) × (IsTrue r.limited ↔ AllLimited zs) × (r.first.items ≡ map held (take wanted zs)))) }
 {
     let Some(text) = behind_name(name, line) else {
         return Ok(None);
     };
     let mut first = Vec::with_capacity(alloc, wanted)?;
     let mut count = 0;
+    let mut limited = true;
     let mut rest = text;
     while let Some((space, after)) = rest.split_first() {
         if *space != b' ' {
@@ -141,8 +146,20 @@ pub(crate) fn read_numbers(
         if count < wanted {
             first.push(numeral.value)?;
         }
+        limited = still_limited(limited, numeral);
         count += 1;
         rest = &after[numeral.count..];
     }
-    Ok(Some(Numbers { count, first }))
+    Ok(Some(Numbers {
+        count,
+        limited,
+        first,
+    }))
+}
+
+/// Whether numbers are within -10^24 to 10^24, where those before were, or weren't, and one more comes.
+fn still_limited(limited: bool, numeral: Numeral) -> bool
+    ensures { IsTrue result ↔ (IsTrue limited × IsLimited numeral.value) }
+{
+    limited && numeral.value.unsigned_abs() <= MAX_VALUE
 }

@@ -8,21 +8,10 @@ ghost use Rattle.qap_cert.specs.TextFault.{IsTreeTextFault, IsFaultAmong, IsNode
 ghost use Rattle.qap_cert.specs.Tree.{node_of, nodes_of, node_count, nodes_count};
 
 use crate::error::CertError;
-use crate::line::first_line;
-use crate::number::{one_number, read_numbers};
+use crate::node_line::{Grammar, bound_numbers, node_line};
 use crate::placed::Placed;
-use crate::shape::{is_in_range, judge_facility};
 use crate::tree::Tree;
-use crate::version::Version;
-use qap_io::from_one;
 use std::alloc::Global;
-
-/// How the lines of a tree are read: in this version, for a certificate of this size.
-#[derive(Clone, Copy)]
-pub(crate) struct Grammar {
-    pub(crate) version: Version,
-    pub(crate) size: usize,
-}
 
 /// A tree, the text behind its lines, and the number of the line there.
 #[derive(Drop)]
@@ -42,9 +31,9 @@ struct ChildrenRead<'a> {
 
 /// The duals of a bound: those of the facilities, and those of the locations.
 #[derive(Drop)]
-struct Duals {
-    u: Vec<i128>,
-    v: Vec<i128>,
+pub(crate) struct Duals {
+    pub(crate) u: Vec<i128>,
+    pub(crate) v: Vec<i128>,
 }
 
 /// Reads a tree at the front of a text, whose first line has this number, where these facilities are placed.
@@ -63,11 +52,9 @@ pub(crate) fn read_tree<'a>(
         × (r.next ≡ line_after line (node_count (node_of r.tree))))
         (λ e. (e ≡ CertError.OutOfMemory) ⊎ IsTreeTextFault grammar.version grammar.size (grammar.size - length placed.now) placed.now line text.now e) }
 {
-    let Some(first) = first_line(text) else {
-        return Err(CertError::Truncated(line));
-    };
+    let first = node_line(text, grammar, placed, line)?;
     let next = line.saturating_add(1);
-    let Some(facility) = split_facility(first.bytes, grammar, placed) else {
+    let Some(facility) = first.facility else {
         let duals = read_duals(alloc, first.bytes, grammar, placed, line)?;
         let tree = Tree::Bound {
             u: duals.u,
@@ -79,7 +66,6 @@ pub(crate) fn read_tree<'a>(
             next,
         });
     };
-    judge_facility(facility, grammar.size, placed, line)?;
     let inner = placed.with(facility);
     let read = read_children(alloc, first.rest, grammar, &inner, next)?;
     Ok(TreeRead {
@@ -124,25 +110,8 @@ fn read_children<'a>(
     Ok(ChildrenRead { trees, rest, next })
 }
 
-/// The facility of a split's line; `None` where the line is none such.
-fn split_facility(line: &[u8], grammar: Grammar, placed: &Placed) -> Option<u16>
-    requires small { grammar.size ≤ 256 }
-    ensures { MatchOption result
-        ((f : ℕ) → IsSplitLine grammar.version grammar.size placed.now line.now f → ⊥)
-        (IsSplitLine grammar.version grammar.size placed.now line.now) }
-{
-    match grammar.version {
-        Version::First if line == b"s".as_slice() => Some(placed.count() as u16),
-        Version::First => None,
-        Version::Second => match one_number(b"s", line) {
-            Some(facility) => from_one(facility, grammar.size),
-            None => None,
-        },
-    }
-}
-
 /// Reads the line of a bound: `b` and a number for each free facility and each free location.
-fn read_duals(
+pub(crate) fn read_duals(
     alloc: Global,
     line: &[u8],
     grammar: Grammar,
@@ -157,16 +126,7 @@ fn read_duals(
         (λ e. (e ≡ CertError.OutOfMemory) ⊎ IsNodeFault grammar.version grammar.size placed.now number line.now e) }
 {
     let free = grammar.size - placed.count();
-    let Some(numbers) = read_numbers(alloc, b"b", line, 2 * free)? else {
-        return Err(CertError::BadLine(number));
-    };
-    if numbers.count != 2 * free {
-        return Err(CertError::DualCount(number));
-    }
-    if !is_in_range(&numbers.first) {
-        return Err(CertError::DualRange(number));
-    }
-    let mut u = numbers.first;
+    let mut u = bound_numbers(alloc, line, grammar, placed, number, 2 * free)?;
     let v = u.split_off(free)?;
     Ok(Duals { u, v })
 }

@@ -31,13 +31,13 @@ loop-space-preserved c =
     let first = c.loop-space.first.items in
     let new = c.if-count-wanted.first.items in
     let numeral = c.in-Some-front_number.numeral in
-    let more = HasKept-more text rest after c.args.wanted c.loop-space.count numeral.count numeral.value first new c.loop-space.invariant is c.in-Some-front_number.ensures in
-    let kept : HasKept text (drop numeral.count after) c.args.wanted (c.loop-space.count + 1) new =
+    let more = HasKept-more text rest after c.args.wanted c.loop-space.count numeral.count numeral.value first new c.loop-space.limited c.still_limited-limited.result c.loop-space.invariant is c.in-Some-front_number.ensures c.still_limited-limited.ensures in
+    let kept : HasKept text (drop numeral.count after) c.args.wanted (c.loop-space.count + 1) c.still_limited-limited.result new =
     elim c.if-count-wanted.branch [
       | then-count-wanted+in_ok-push w ↦ let pushed : new ≡ first ++ numeral.value ∷ [] = search rules in more (λ _. pushed) (λ many. absurd (omega arith))
       | else-count-wanted w ↦ let same : new ≡ first = ap (λ v. v.items) w.first-is in more (λ less. absurd (omega arith)) (λ _. same)
     ] in
-    subst (λ t. HasKept text t c.args.wanted (c.loop-space.count + 1) new) (sym (take_rest after numeral.count)) kept
+    subst (λ t. HasKept text t c.args.wanted (c.loop-space.count + 1) c.still_limited-limited.result new) (sym (take_rest after numeral.count)) kept
 
 pub returns : goal.returns
 returns c =
@@ -45,4 +45,4 @@ returns c =
     let rest = c.loop-space.rest.now in
     let read = c.loop-space.invariant in
     let none : length rest ≡ 0 = omega (arith, c.in_default-split_first.ensures.cases) in
-    (read.numbers, record { numbers = text; is = c.in-Some.ensures; spelled = HasRead-all text rest read.numbers read.read none }, read.counted, read.kept)
+    (read.numbers, record { numbers = text; is = c.in-Some.ensures; spelled = HasRead-all text rest read.numbers read.read none }, read.counted, read.judged, read.kept)

@@ -1,5 +1,8 @@
-use Rattle.std.proofs.Common.{◌≡◌, ℕ, ◌-◌, ◌+◌, ◌≤◌, ◌++◌, [], ◌∷◌, List, length, inl, inr, sym, ap, ◌∙◌, subst, refl, arith, rules, ⊎_elim, append_assoc, length-append}
-use Rattle.std.specs.Prelude.{codes}
+use Rattle.std.proofs.Common.{◌≡◌, ℕ, ◌-◌, ◌+◌, ◌<◌, ◌≤◌, ◌++◌, [], ◌∷◌, List, length, inl, inr, sym, ap, ◌∙◌, subst, refl, arith, rules, ⊎_elim, append_assoc, length-append}
+use Rattle.std.specs.Prelude.{codes, Option, Some}
+use Rattle.qap_cost.specs.Placement.{IsFree}
+use Rattle.qap_cert.specs.NodeLine.{IsNodeLine}
+use Rattle.qap_cert.specs.declared.version.Version.{Version}
 use Rattle.std.proofs.lemmas.Result.{err_from_is_err_and}
 use Rattle.qap_cert.proofs.Numbers.{line_text-is}
 use Rattle.qap_cert.proofs.Readings.{HaveRead-more, IsTreeTextFault-among}
@@ -8,7 +11,7 @@ use Rattle.qap_cert.proofs.Versions.{AllLimited-split_numbers}
 use Rattle.qap_cert.specs.Line.{line_after}
 use Rattle.qap_cert.specs.Shape.{AllHaveShape}
 use Rattle.qap_cert.specs.Text.{line_text, trees_text}
-use Rattle.qap_cert.specs.TextFault.{IsTreeTextFault}
+use Rattle.qap_cert.specs.TextFault.{IsSplitLine, IsTreeTextFault}
 use Rattle.qap_cert.specs.Tree.{nodes_of, nodes_count}
 use Rattle.qap_cert.specs.Version.{split_numbers}
 use Rattle.qap_cert.specs.declared.tree.Tree.TheViews.{Split}
@@ -40,20 +43,23 @@ read_children-returns-in_err-child t c =
     ))
     (c.in_err-child.ensures {u = tt}))
 
+split_of : (v : Version) (n : ℕ) (placed line : List ℕ) (o : Option ℕ) (f : ℕ) → IsNodeLine v n placed line o → o ≡ Some f → IsSplitLine v n placed line f × (length placed < n) × IsFree n placed f
+split_of v n placed line o f h is = subst (IsNodeLine v n placed line) is h
+
 pub read_tree-returns-in_err-read : goal.read_tree-returns-in_err-read
 read_tree-returns-in_err-read t c =
     let v = c.args.grammar.version in
     let n = c.args.grammar.size in
     let placed = c.args.placed.now in
-    let f = c.in-Some-split_facility.facility in
-    let named = c.in-Some-split_facility.ensures in
-    let judged = c.in_ok-judge_facility.ensures in
-    let text : c.args.text.now ≡ line_text (codes "s") (split_numbers v f) ++ c.in-Some.first.rest.now =
-    line_text-is c.args.text.now c.in-Some.first.bytes.now c.in-Some.first.rest.now (codes "s") (split_numbers v f) c.in-Some.ensures named.named
-    (AllLimited-split_numbers v n placed f c.requires.small named.allowed) in
+    let f = c.in-Some.facility in
+    let first = c.in_ok-first.first in
+    let named = split_of c.args.grammar.version c.args.grammar.size c.args.placed.now first.bytes.now first.facility f c.in_ok-first.ensures.1 c.in-Some.is in
+    let text : c.args.text.now ≡ line_text (codes "s") (split_numbers v f) ++ first.rest.now =
+    line_text-is c.args.text.now first.bytes.now first.rest.now (codes "s") (split_numbers v f) c.in_ok-first.ensures.0 named.0.named
+    (AllLimited-split_numbers v n placed f c.requires.small named.0.allowed) in
     let p = err_from_is_err_and c.from_residual-in_err-read.result c.from_residual-in_err-read.ensures.1 in
-    rw (p.1, p.2) (⊎_elim inl (λ fault. inr (IsTreeTextFault-among v n placed c.with-inner.result c.args.line c.saturating_add-next.result c.args.text.now c.in-Some.first.rest.now f c.in_err-read.field-0.0
-    judged.0 c.with-inner.ensures text named.allowed judged.1 c.saturating_add-next.ensures fault))
+    rw (p.1, p.2) (⊎_elim inl (λ fault. inr (IsTreeTextFault-among v n placed c.with-inner.result c.args.line c.saturating_add-next.result c.args.text.now first.rest.now f c.in_err-read.field-0.0
+    named.1 c.with-inner.ensures text named.0.allowed named.2 c.saturating_add-next.ensures fault))
     (c.in_err-read.ensures {u = tt}))
 
 pub read_tree-returns : goal.read_tree-returns
@@ -61,21 +67,21 @@ read_tree-returns t c =
     let v = c.args.grammar.version in
     let n = c.args.grammar.size in
     let placed = c.args.placed.now in
-    let f = c.in-Some-split_facility.facility in
-    let named = c.in-Some-split_facility.ensures in
-    let judged = c.in_ok-judge_facility.ensures in
+    let f = c.in-Some.facility in
+    let first = c.in_ok-first.first in
+    let named = split_of c.args.grammar.version c.args.grammar.size c.args.placed.now first.bytes.now first.facility f c.in_ok-first.ensures.1 c.in-Some.is in
     let trees = c.in_ok-read.read.trees in
     let read = c.in_ok-read.ensures in
     let inner = c.with-inner.ensures in
-    let text : c.args.text.now ≡ line_text (codes "s") (split_numbers v f) ++ c.in-Some.first.rest.now =
-    line_text-is c.args.text.now c.in-Some.first.bytes.now c.in-Some.first.rest.now (codes "s") (split_numbers v f) c.in-Some.ensures named.named
-    (AllLimited-split_numbers v n placed f c.requires.small named.allowed) in
+    let text : c.args.text.now ≡ line_text (codes "s") (split_numbers v f) ++ first.rest.now =
+    line_text-is c.args.text.now first.bytes.now first.rest.now (codes "s") (split_numbers v f) c.in_ok-first.ensures.0 named.0.named
+    (AllLimited-split_numbers v n placed f c.requires.small named.0.allowed) in
     rw (node_of-Split (Split f trees) f trees refl) (
       (
-        judged.0,
-        judged.1,
-        named.allowed,
-        omega (arith, read.1, ap length inner, length-append placed (f ∷ []), judged.0),
+        named.1,
+        named.2,
+        named.0.allowed,
+        omega (arith, read.1, ap length inner, length-append placed (f ∷ []), named.1),
         subst (λ (xs : List ℕ). AllHaveShape v n xs (nodes_of trees.items)) inner read.0,
       ),
       text ∙ ap (λ l. line_text (codes "s") (split_numbers v f) ++ l) read.2

@@ -2,7 +2,7 @@ use Rattle.std.proofs.Common.{◌+◌, pos, subst}
 use Rattle.qap_cert.specs.TextFault.{IsSplitLine}
 use Rattle.qap_cert.specs.declared.version.Version.{Version}
 use Rattle.qap_cert.specs.declared.version.Version.TheVariants.{Second}
-use Rattle.qap_cert.proofs.tree_reader.split_facility.Goals as goal
+use Rattle.qap_cert.proofs.node_line.split_facility.Goals as goal
 
 pub returns-in-None : goal.returns-in-None
 returns-in-None c =
