@@ -18,5 +18,6 @@ pub mod Trees
 pub mod Validity
 pub mod Verdicts
 pub mod Versions
+pub mod Walks
 pub mod Words
 pub mod WrittenTexts

@@ -14,4 +14,5 @@ pub mod TextFault
 pub mod Tree
 pub mod Valid
 pub mod Version
+pub mod Walk
 pub mod Writing

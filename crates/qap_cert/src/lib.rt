@@ -16,6 +16,7 @@ mod number;
 mod placed;
 mod reader;
 mod shape;
+mod skimming;
 mod tree;
 mod tree_reader;
 mod version;

@@ -8,6 +8,7 @@ use Rattle.qap_cert.proofs.Numbers.{line_text-is}
 use Rattle.qap_cert.proofs.Readings.{HaveRead-more, IsTreeTextFault-among}
 use Rattle.qap_cert.proofs.Trees.{node_of-Split, line_after-more}
 use Rattle.qap_cert.proofs.Versions.{AllLimited-split_numbers}
+use Rattle.qap_cert.proofs.Walks.{split_of}
 use Rattle.qap_cert.specs.Line.{line_after}
 use Rattle.qap_cert.specs.Shape.{AllHaveShape}
 use Rattle.qap_cert.specs.Text.{line_text, trees_text}
@@ -42,9 +43,6 @@ read_children-returns-in_err-child t c =
       subst (λ (k : ℕ). IsTreeTextFault v n (n - length placed) placed k c.loop.rest.now e) h.next_is fault,
     ))
     (c.in_err-child.ensures {u = tt}))
-
-split_of : (v : Version) (n : ℕ) (placed line : List ℕ) (o : Option ℕ) (f : ℕ) → IsNodeLine v n placed line o → o ≡ Some f → IsSplitLine v n placed line f × (length placed < n) × IsFree n placed f
-split_of v n placed line o f h is = subst (IsNodeLine v n placed line) is h
 
 pub read_tree-returns-in_err-read : goal.read_tree-returns-in_err-read
 read_tree-returns-in_err-read t c =

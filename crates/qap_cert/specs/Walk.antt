@@ -1,0 +1,43 @@
+-- What walking along the lines of a tree finds, where no tree is kept.
+use Rattle.std.specs.Prelude.{◌≡◌, ℕ, ◌++◌, List, ℤ, Option, Some, None}
+use Rattle.qap_cost.specs.Instance.{Problem}
+use Rattle.qap_cost.specs.Placement.{Placement}
+use Rattle.qap_cert.specs.Fault.{IsTreeFault, IsTreeFaultAmong}
+use Rattle.qap_cert.specs.Line.{line_after}
+use Rattle.qap_cert.specs.Shape.{HasShape, AllHaveShape, child_count}
+use Rattle.qap_cert.specs.Text.{tree_text, trees_text}
+use Rattle.qap_cert.specs.Tree.{Node, Nodes, node_count, nodes_count}
+use Rattle.qap_cert.specs.Valid.{Valid, AllValid}
+use Rattle.qap_cert.specs.declared.error.CertError.{CertError}
+use Rattle.qap_cert.specs.declared.version.Version.{Version}
+
+-- the text begins with the lines of a tree that has a property; behind them is the rest, from the line next on
+pub record BeginsWithTree (v : Version) (n : ℕ) (placed : List ℕ) (line : ℕ) (text rest : List ℕ) (next : ℕ) (P : Node → Type 0) : Type 0 where
+  pub tree : Node
+  pub shape : HasShape v n placed tree
+  pub is : text ≡ tree_text v tree ++ rest
+  pub next_is : next ≡ line_after line (node_count tree)
+  pub holds : P tree
+
+-- the same for so many trees one after another
+pub record BeginsWithTrees (v : Version) (n : ℕ) (placed : List ℕ) (count line : ℕ) (text rest : List ℕ) (next : ℕ) (P : Nodes → Type 0) : Type 0 where
+  pub trees : Nodes
+  pub shapes : AllHaveShape v n placed trees
+  pub counted : child_count trees ≡ count
+  pub is : text ≡ trees_text v trees ++ rest
+  pub next_is : next ≡ line_after line (nodes_count trees)
+  pub holds : P trees
+
+-- nothing is known of the node, or of the nodes
+abbrev pub Any : {X : Type 0} → X → Type 0
+Any x = Unit {0}
+
+-- whether the tree, which begins at this line, is valid at the node, and its first fault if not
+abbrev pub IsToldOf : Problem → ℤ → Placement → ℕ → Option CertError → Node → Type 0
+IsToldOf I g x line None t = Valid I g x t
+IsToldOf I g x line (Some e) t = IsTreeFault I g x line t e
+
+-- the same for the children of a split on a facility, for these locations
+abbrev pub IsToldOfAll : Problem → ℤ → Placement → ℕ → List ℕ → ℕ → Option CertError → Nodes → Type 0
+IsToldOfAll I g x f ks line None ts = AllValid I g x f ks ts
+IsToldOfAll I g x f ks line (Some e) ts = IsTreeFaultAmong I g x f ks line ts e

@@ -1,0 +1,73 @@
+//! Judges the lines of a tree by the grammar alone, and keeps nothing of them.
+
+ghost use Rattle.std.specs.Prelude.{◌≡◌, ◌⊎◌, ◌+◌, ◌-◌, ◌<◌, ◌≤◌, length, ℕ, MatchResult};
+ghost use Rattle.qap_cert.specs.TextFault.{IsTreeTextFault, IsFaultAmong};
+ghost use Rattle.qap_cert.specs.Walk.{BeginsWithTree, BeginsWithTrees, Any};
+
+use crate::error::CertError;
+use crate::node_line::{Grammar, bound_numbers, node_line};
+use crate::placed::Placed;
+use std::alloc::Global;
+
+/// The text behind some lines, and the number of its first line.
+#[derive(Clone, Copy)]
+pub(crate) struct Behind<'a> {
+    pub(crate) rest: &'a [u8],
+    pub(crate) next: u64,
+}
+
+/// What is behind the lines of a tree at the front of a text, whose first line has this number, where these facilities are
+/// placed. Takes no memory.
+#[cycle(skimming)]
+pub(crate) fn skim_tree<'a>(
+    alloc: Global,
+    text: &'a [u8],
+    grammar: Grammar,
+    placed: &Placed,
+    line: u64,
+) -> Result<Behind<'a>, CertError>
+    requires small { grammar.size ≤ 256 }
+    requires depth { length placed.now ≤ grammar.size }
+    ensures { MatchResult result
+        (λ r. BeginsWithTree grammar.version grammar.size placed.now line text.now r.rest.now r.next Any)
+        (λ e. (e ≡ CertError.OutOfMemory) ⊎ IsTreeTextFault grammar.version grammar.size (grammar.size - length placed.now) placed.now line text.now e) }
+{
+    let first = node_line(text, grammar, placed, line)?;
+    let next = line.saturating_add(1);
+    let Some(facility) = first.facility else {
+        bound_numbers(alloc, first.bytes, grammar, placed, line, 0)?;
+        let rest = first.rest;
+        return Ok(Behind { rest, next });
+    };
+    let inner = placed.with(facility);
+    let count = grammar.size - placed.count();
+    skim_trees(alloc, first.rest, grammar, &inner, next, count)
+}
+
+/// The same for so many children of a split, behind which these facilities are placed.
+#[cycle(skimming)]
+pub(crate) fn skim_trees<'a>(
+    alloc: Global,
+    text: &'a [u8],
+    grammar: Grammar,
+    placed: &Placed,
+    line: u64,
+    count: usize,
+) -> Result<Behind<'a>, CertError>
+    requires small { grammar.size ≤ 256 }
+    requires depth { length placed.now ≤ grammar.size }
+    requires few { count + length placed.now ≤ grammar.size + 1 }
+    ensures { MatchResult result
+        (λ r. BeginsWithTrees grammar.version grammar.size placed.now count line text.now r.rest.now r.next Any)
+        (λ e. (e ≡ CertError.OutOfMemory) ⊎ IsFaultAmong grammar.version grammar.size placed.now line text.now
+        (λ line rest. IsTreeTextFault grammar.version grammar.size (grammar.size - length placed.now) placed.now line rest e)) }
+{
+    let mut rest = text;
+    let mut next = line;
+    for _ in 0..count {
+        let behind = skim_tree(alloc, rest, grammar, placed, next)?;
+        rest = behind.rest;
+        next = behind.next;
+    }
+    Ok(Behind { rest, next })
+}
