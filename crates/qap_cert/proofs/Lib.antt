@@ -4,6 +4,7 @@ pub mod Duals
 pub mod Faults
 pub mod FirstFaults
 pub mod Held
+pub mod Judgements
 pub mod Lines
 pub mod Locations
 pub mod Numbers

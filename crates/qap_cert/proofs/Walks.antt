@@ -6,12 +6,13 @@ use Rattle.qap_cert.proofs.Readings.{with_last, AllHaveShape-with_last, child_co
 use Rattle.qap_cert.proofs.Trees.{line_after-more, line_after-none}
 use Rattle.qap_cert.specs.Line.{line_after, IsLine}
 use Rattle.qap_cert.specs.NodeLine.{IsNodeLine}
-use Rattle.qap_cert.specs.TextFault.{IsSplitLine}
-use Rattle.qap_cert.specs.Shape.{AreDuals, HasShape, AllHaveShape}
+use Rattle.qap_cert.specs.TextFault.{IsFaultAmong, IsSplitLine, IsTreeTextFault}
+use Rattle.qap_cert.specs.Shape.{AreDuals, HasShape, AllHaveShape, child_count}
 use Rattle.qap_cert.specs.Text.{numbers_text, line_text, tree_text, trees_text}
 use Rattle.qap_cert.specs.Tree.{Node, split, bound, Nodes, no_nodes, node, node_count, nodes_count}
 use Rattle.qap_cert.specs.Version.{MayName, split_numbers}
-use Rattle.qap_cert.specs.Walk.{BeginsWithTree, BeginsWithTrees}
+use Rattle.qap_cert.specs.Walk.{BeginsWithTree, BeginsWithTrees, IsFaultBefore}
+use Rattle.qap_cert.specs.declared.error.CertError.{CertError}
 use Rattle.qap_cert.specs.declared.version.Version.{Version}
 
 -- what follows from an answer, on either side
@@ -72,3 +73,63 @@ BeginsWithTree-split w n placed inner line count text rest behind next after f P
   next_is = h.next_is ∙ ap (λ (k : ℕ). line_after k (nodes_count h.trees)) next_is ∙ line_after-more line 1 (nodes_count h.trees);
   holds = holds;
 }
+
+-- trees in a row, and others behind them
+abbrev pub joined : Nodes → Nodes → Nodes
+joined no_nodes us = us
+joined (node t rest) us = node t (joined rest us)
+
+AllHaveShape-joined : (w : Version) (n : ℕ) (placed : List ℕ) (ts us : Nodes) → AllHaveShape w n placed ts → AllHaveShape w n placed us → AllHaveShape w n placed (joined ts us)
+AllHaveShape-joined w n placed no_nodes us h k = k
+AllHaveShape-joined w n placed (node t rest) us h k = (h.0, AllHaveShape-joined w n placed rest us h.1 k)
+
+child_count-joined : (ts us : Nodes) → child_count (joined ts us) ≡ child_count ts + child_count us
+child_count-joined no_nodes us = omega arith
+child_count-joined (node t rest) us = omega (arith, child_count-joined rest us)
+
+nodes_count-joined : (ts us : Nodes) → nodes_count (joined ts us) ≡ nodes_count ts + nodes_count us
+nodes_count-joined no_nodes us = omega arith
+nodes_count-joined (node t rest) us = omega (arith, nodes_count-joined rest us)
+
+trees_text-joined : (w : Version) (ts us : Nodes) → trees_text w (joined ts us) ≡ trees_text w ts ++ trees_text w us
+trees_text-joined w no_nodes us = refl
+trees_text-joined w (node t rest) us = ap (λ l. tree_text w t ++ l) (trees_text-joined w rest us) ∙ sym (append_assoc (tree_text w t) (trees_text w rest) (trees_text w us))
+
+pub BeginsWithTrees-joined : (w : Version) (n : ℕ) (placed : List ℕ) (count more all line : ℕ) (text rest : List ℕ) (next : ℕ) (P Q R : Nodes → Type 0) (behind : List ℕ) (after : ℕ)
+    → (h : BeginsWithTrees w n placed count line text rest next P) → (k : BeginsWithTrees w n placed more next rest behind after Q) → all ≡ count + more
+    → R (joined h.trees k.trees) → BeginsWithTrees w n placed all line text behind after R
+BeginsWithTrees-joined w n placed count more all line text rest next P Q R behind after h k all_is holds = record {
+  trees = joined h.trees k.trees;
+  shapes = AllHaveShape-joined w n placed h.trees k.trees h.shapes k.shapes;
+  counted = omega (arith, child_count-joined h.trees k.trees, h.counted, k.counted);
+  is = h.is ∙ ap (λ l. trees_text w h.trees ++ l) k.is ∙ sym (append_assoc (trees_text w h.trees) (trees_text w k.trees) behind)
+      ∙ ap (λ l. l ++ behind) (sym (trees_text-joined w h.trees k.trees));
+  next_is = k.next_is ∙ ap (λ j. line_after j (nodes_count k.trees)) h.next_is ∙ line_after-more line (nodes_count h.trees) (nodes_count k.trees)
+      ∙ ap (line_after line) (sym (nodes_count-joined h.trees k.trees));
+  holds = holds;
+}
+
+-- a fault behind some trees, but not all
+pub IsFaultBefore-at : (w : Version) (n : ℕ) (placed : List ℕ) (count all line : ℕ) (text rest : List ℕ) (next : ℕ) (P : Nodes → Type 0) (e : CertError)
+    → (h : BeginsWithTrees w n placed count line text rest next P) → count < all
+    → IsTreeTextFault w n (n - length placed) placed next rest e → IsFaultBefore w n placed all line text e
+IsFaultBefore-at w n placed count all line text rest next P e h few fault =
+    (h.trees, rest, h.is, h.shapes, omega (arith, h.counted, few), subst (λ (k : ℕ). IsTreeTextFault w n (n - length placed) placed k rest e) h.next_is fault)
+
+-- the same where the fault is among others behind the first trees
+pub IsFaultBefore-joined : (w : Version) (n : ℕ) (placed : List ℕ) (count more all line : ℕ) (text rest : List ℕ) (next : ℕ) (P : Nodes → Type 0) (e : CertError)
+    → (h : BeginsWithTrees w n placed count line text rest next P) → all ≡ count + more → IsFaultBefore w n placed more next rest e → IsFaultBefore w n placed all line text e
+IsFaultBefore-joined w n placed count more all line text rest next P e h all_is k = (
+  joined h.trees k.0,
+  k.1,
+  h.is ∙ ap (λ l. trees_text w h.trees ++ l) k.2 ∙ sym (append_assoc (trees_text w h.trees) (trees_text w k.0) k.1) ∙ ap (λ l. l ++ k.1) (sym (trees_text-joined w h.trees k.0)),
+  AllHaveShape-joined w n placed h.trees k.0 h.shapes k.3,
+  omega (arith, child_count-joined h.trees k.0, h.counted, k.4),
+  subst (λ (j : ℕ). IsTreeTextFault w n (n - length placed) placed j k.1 e)
+  (ap (λ j. line_after j (nodes_count k.0)) h.next_is ∙ line_after-more line (nodes_count h.trees) (nodes_count k.0) ∙ ap (line_after line) (sym (nodes_count-joined h.trees k.0))) k.5,
+)
+
+-- it is a fault among all the children of a split
+pub IsFaultAmong-before : (w : Version) (n : ℕ) (placed : List ℕ) (count line : ℕ) (text : List ℕ) (e : CertError) → count + length placed ≤ n + 1
+    → IsFaultBefore w n placed count line text e → IsFaultAmong w n placed line text (λ line rest. IsTreeTextFault w n (n - length placed) placed line rest e)
+IsFaultAmong-before w n placed count line text e few k = (k.0, k.1, k.2, k.3, omega (arith, k.4, few), k.5)

@@ -1,11 +1,12 @@
 -- What walking along the lines of a tree finds, where no tree is kept.
-use Rattle.std.specs.Prelude.{◌≡◌, ℕ, ◌++◌, List, ℤ, Option, Some, None}
+use Rattle.std.specs.Prelude.{◌≡◌, ℕ, ◌-◌, ◌<◌, ◌++◌, List, length, ℤ, Option, Some, None}
 use Rattle.qap_cost.specs.Instance.{Problem}
 use Rattle.qap_cost.specs.Placement.{Placement}
 use Rattle.qap_cert.specs.Fault.{IsTreeFault, IsTreeFaultAmong}
 use Rattle.qap_cert.specs.Line.{line_after}
 use Rattle.qap_cert.specs.Shape.{HasShape, AllHaveShape, child_count}
 use Rattle.qap_cert.specs.Text.{tree_text, trees_text}
+use Rattle.qap_cert.specs.TextFault.{IsTreeTextFault}
 use Rattle.qap_cert.specs.Tree.{Node, Nodes, node_count, nodes_count}
 use Rattle.qap_cert.specs.Valid.{Valid, AllValid}
 use Rattle.qap_cert.specs.declared.error.CertError.{CertError}
@@ -41,3 +42,9 @@ IsToldOf I g x line (Some e) t = IsTreeFault I g x line t e
 abbrev pub IsToldOfAll : Problem → ℤ → Placement → ℕ → List ℕ → ℕ → Option CertError → Nodes → Type 0
 IsToldOfAll I g x f ks line None ts = AllValid I g x f ks ts
 IsToldOfAll I g x f ks line (Some e) ts = IsTreeFaultAmong I g x f ks line ts e
+
+-- fewer than so many trees stand at the front, and behind them there is a fault
+abbrev pub IsFaultBefore : Version → ℕ → List ℕ → ℕ → ℕ → List ℕ → CertError → Type 0
+IsFaultBefore v n placed count line text e =
+    (before : Nodes) × (rest : List ℕ) × (text ≡ trees_text v before ++ rest) × AllHaveShape v n placed before × (child_count before < count)
+    × IsTreeTextFault v n (n - length placed) placed (line_after line (nodes_count before)) rest e

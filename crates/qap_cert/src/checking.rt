@@ -132,7 +132,7 @@ fn check_children(
 }
 
 /// Whether the duals fit the reduced matrix of the node and come, with the cost of the placed facilities, to the bound.
-fn check_bound(
+pub(crate) fn check_bound(
     workspace: &mut Workspace,
     ranked: &RankedInstance,
     bound: i128,

@@ -20,6 +20,7 @@ mod skimming;
 mod tree;
 mod tree_reader;
 mod version;
+mod walking;
 mod writing;
 
 pub use acceptance::{Verdict, accept};

@@ -1,8 +1,8 @@
 //! Judges the lines of a tree by the grammar alone, and keeps nothing of them.
 
 ghost use Rattle.std.specs.Prelude.{◌≡◌, ◌⊎◌, ◌+◌, ◌-◌, ◌<◌, ◌≤◌, length, ℕ, MatchResult};
-ghost use Rattle.qap_cert.specs.TextFault.{IsTreeTextFault, IsFaultAmong};
-ghost use Rattle.qap_cert.specs.Walk.{BeginsWithTree, BeginsWithTrees, Any};
+ghost use Rattle.qap_cert.specs.TextFault.{IsTreeTextFault};
+ghost use Rattle.qap_cert.specs.Walk.{BeginsWithTree, BeginsWithTrees, IsFaultBefore, Any};
 
 use crate::error::CertError;
 use crate::node_line::{Grammar, bound_numbers, node_line};
@@ -56,11 +56,9 @@ pub(crate) fn skim_trees<'a>(
 ) -> Result<Behind<'a>, CertError>
     requires small { grammar.size ≤ 256 }
     requires depth { length placed.now ≤ grammar.size }
-    requires few { count + length placed.now ≤ grammar.size + 1 }
     ensures { MatchResult result
         (λ r. BeginsWithTrees grammar.version grammar.size placed.now count line text.now r.rest.now r.next Any)
-        (λ e. (e ≡ CertError.OutOfMemory) ⊎ IsFaultAmong grammar.version grammar.size placed.now line text.now
-        (λ line rest. IsTreeTextFault grammar.version grammar.size (grammar.size - length placed.now) placed.now line rest e)) }
+        (λ e. (e ≡ CertError.OutOfMemory) ⊎ IsFaultBefore grammar.version grammar.size placed.now count line text.now e) }
 {
     let mut rest = text;
     let mut next = line;

@@ -1,10 +1,10 @@
-use Rattle.std.proofs.Common.{◌≡◌, ◌+◌, ◌-◌, ◌++◌, length, inl, inr, ⊎_elim, arith}
+use Rattle.std.proofs.Common.{◌≡◌, ◌+◌, ◌-◌, ◌++◌, [], ◌∷◌, length, ap, inl, inr, ⊎_elim, arith, length-append}
 use Rattle.std.specs.Prelude.{codes}
 use Rattle.qap_cert.proofs.Duals.{duals_there}
 use Rattle.qap_cert.proofs.Numbers.{line_text-is}
 use Rattle.qap_cert.proofs.Readings.{IsTreeTextFault-among}
 use Rattle.qap_cert.proofs.Versions.{AllLimited-split_numbers}
-use Rattle.qap_cert.proofs.Walks.{map_result, split_of, BeginsWithTree-bound, BeginsWithTree-split, BeginsWithTrees-none, BeginsWithTrees-more}
+use Rattle.qap_cert.proofs.Walks.{map_result, split_of, BeginsWithTree-bound, BeginsWithTree-split, BeginsWithTrees-none, BeginsWithTrees-more, IsFaultAmong-before}
 use Rattle.qap_cert.specs.Text.{line_text}
 use Rattle.qap_cert.specs.Version.{split_numbers}
 use Rattle.qap_cert.specs.Walk.{Any}
@@ -33,7 +33,8 @@ skim_tree-returns t c =
     (λ r h. BeginsWithTree-split v n placed c.with-inner.result c.args.line _ c.args.text.now first.rest.now r.rest.now c.saturating_add-next.result r.next f Any Any
     named.1 named.2 named.0.allowed c.with-inner.ensures (omega (arith, c.count.ensures.value)) text c.saturating_add-next.ensures h tt)
     (λ e. ⊎_elim inl (λ fault. inr (IsTreeTextFault-among v n placed c.with-inner.result c.args.line c.saturating_add-next.result c.args.text.now first.rest.now f e
-    named.1 c.with-inner.ensures text named.0.allowed named.2 c.saturating_add-next.ensures fault)))
+    named.1 c.with-inner.ensures text named.0.allowed named.2 c.saturating_add-next.ensures
+    (IsFaultAmong-before v n c.with-inner.result _ c.saturating_add-next.result first.rest.now e (omega (arith, c.count.ensures.value, ap length c.with-inner.ensures, length-append placed (f ∷ []), named.1)) fault))))
     c.skim_trees.ensures
 
 pub skim_trees-loop-init : goal.skim_trees-loop-init

@@ -1,0 +1,143 @@
+//! Judges a tree as its lines come, and holds none of it.
+
+ghost use Rattle.std.specs.Prelude.{◌≡◌, ◌⊎◌, ◌++◌, ◌∷◌, [], ◌+◌, ◌-◌, ◌<◌, ◌≤◌, length, slice_index, ℕ, MatchResult};
+ghost use Rattle.qap_cost.specs.Placement.{IsFreeFacility, IsFreeLocation};
+ghost use Rattle.qap_cert.specs.Shape.{AreDuals};
+ghost use Rattle.qap_cert.specs.TextFault.{IsTreeTextFault};
+ghost use Rattle.qap_cert.specs.Tree.{bound};
+ghost use Rattle.qap_cert.specs.Walk.{BeginsWithTree, BeginsWithTrees, IsFaultBefore, IsToldOf, IsToldOfAll};
+
+use crate::checking::check_bound;
+use crate::error::CertError;
+use crate::node_line::{Grammar, node_line};
+use crate::placed::Placed;
+use crate::skimming::skim_trees;
+use crate::tree_reader::read_duals;
+use gilmore_lawler::{RankedInstance, Workspace};
+use qap_cost::Partial;
+use std::alloc::Global;
+
+/// What a tree is judged by: the grammar of its lines, the instance, and the bound that it is to show.
+#[derive(Clone, Copy)]
+pub(crate) struct Task<'a> {
+    pub(crate) grammar: Grammar,
+    pub(crate) ranked: &'a RankedInstance,
+    pub(crate) bound: i128,
+}
+
+/// The text behind lines that were judged, the number of its first line, and the first bound among them that fails.
+#[derive(Clone, Copy)]
+pub(crate) struct Judged<'a> {
+    pub(crate) rest: &'a [u8],
+    pub(crate) next: u64,
+    pub(crate) fault: Option<CertError>,
+}
+
+/// Judges the tree at the front of a text, whose first line has this number, for a node at which these facilities are placed.
+/// Behind the first bound that fails, lines are judged by the grammar alone.
+#[cycle(walking)]
+pub(crate) fn judge_tree<'a>(
+    alloc: Global,
+    workspace: &mut Workspace,
+    task: &Task<'_>,
+    node: &Partial,
+    text: &'a [u8],
+    placed: &Placed,
+    line: u64,
+) -> Result<Judged<'a>, CertError>
+    requires small { task.now.grammar.size ≤ 256 }
+    requires depth { length placed.now ≤ task.now.grammar.size }
+    requires same_size { task.now.ranked.now.size ≡ node.now.size }
+    requires size { task.now.grammar.size ≡ node.now.size }
+    requires placed { placed.now ≡ node.now.facilities }
+    ensures { MatchResult result
+        (λ r. BeginsWithTree task.now.grammar.version task.now.grammar.size placed.now line text.now r.rest.now r.next (IsToldOf task.now.ranked.now task.now.bound node.now line r.fault))
+        (λ e. (e ≡ CertError.OutOfMemory) ⊎ IsTreeTextFault task.now.grammar.version task.now.grammar.size (task.now.grammar.size - length placed.now) placed.now line text.now e) }
+{
+    let first = node_line(text, task.grammar, placed, line)?;
+    let next = line.saturating_add(1);
+    let Some(facility) = first.facility else {
+        let duals = read_duals(alloc, first.bytes, task.grammar, placed, line)?;
+        let fault = bound_fault(workspace, task, node, &duals.u, &duals.v, line)?;
+        let rest = first.rest;
+        return Ok(Judged { rest, next, fault });
+    };
+    let inner = placed.with(facility);
+    let locations = node.free_locations()?;
+    judge_children(
+        alloc, workspace, task, node, facility, &locations, first.rest, &inner, next,
+    )
+}
+
+/// The same for the children of a split on a facility, one for each of these locations.
+#[cycle(walking)]
+fn judge_children<'a>(
+    alloc: Global,
+    workspace: &mut Workspace,
+    task: &Task<'_>,
+    node: &Partial,
+    facility: u16,
+    locations: &[u16],
+    text: &'a [u8],
+    placed: &Placed,
+    line: u64,
+) -> Result<Judged<'a>, CertError>
+    requires small { task.now.grammar.size ≤ 256 }
+    requires depth { length placed.now ≤ task.now.grammar.size }
+    requires same_size { task.now.ranked.now.size ≡ node.now.size }
+    requires size { task.now.grammar.size ≡ node.now.size }
+    requires placed { placed.now ≡ node.now.facilities ++ facility ∷ [] }
+    requires facility { IsFreeFacility node.now facility }
+    requires free { (i : ℕ) → i < length locations.now → IsFreeLocation node.now (slice_index locations.now i) }
+    requires few { length locations.now + length node.now.facilities ≡ node.now.size }
+    ensures { MatchResult result
+        (λ r. BeginsWithTrees task.now.grammar.version task.now.grammar.size placed.now (length locations.now) line text.now r.rest.now r.next
+        (IsToldOfAll task.now.ranked.now task.now.bound node.now facility locations.now line r.fault))
+        (λ e. (e ≡ CertError.OutOfMemory)
+        ⊎ IsFaultBefore task.now.grammar.version task.now.grammar.size placed.now (length locations.now) line text.now e) }
+{
+    let mut rest = text;
+    let mut next = line;
+    for i in 0..locations.len() {
+        let part = node.place(facility, locations[i])?;
+        let child = judge_tree(alloc, workspace, task, &part, rest, placed, next)?;
+        rest = child.rest;
+        next = child.next;
+        if let Some(fault) = child.fault {
+            let others = locations.len() - i - 1;
+            let behind = skim_trees(alloc, rest, task.grammar, placed, next, others)?;
+            return Ok(Judged {
+                rest: behind.rest,
+                next: behind.next,
+                fault: Some(fault),
+            });
+        }
+    }
+    Ok(Judged {
+        rest,
+        next,
+        fault: None,
+    })
+}
+
+/// What keeps a bound from closing its node, if something does.
+fn bound_fault(
+    workspace: &mut Workspace,
+    task: &Task<'_>,
+    node: &Partial,
+    u: &[i128],
+    v: &[i128],
+    line: u64,
+) -> Result<Option<CertError>, CertError>
+    requires same_size { task.now.ranked.now.size ≡ node.now.size }
+    requires duals { AreDuals (node.now.size - length node.now.facilities) u.now v.now }
+    ensures { MatchResult result
+        (λ fault. IsToldOf task.now.ranked.now task.now.bound node.now line fault (bound u.now v.now))
+        (λ e. e ≡ CertError.OutOfMemory) }
+{
+    match check_bound(workspace, task.ranked, task.bound, node, u, v, line) {
+        Ok(()) => Ok(None),
+        Err(CertError::OutOfMemory) => Err(CertError::OutOfMemory),
+        Err(fault) => Ok(Some(fault)),
+    }
+}
