@@ -4,7 +4,7 @@ use Rattle.std.proofs.lemmas.Bool.{cases_lt}
 use Rattle.std.proofs.lemmas.List.{get_or_append_left, get_or-append_right}
 use Rattle.std.specs.Prelude.{codes, unsigned_abs}
 use Rattle.qap_cost.specs.Range.{AllLimited}
-use Rattle.qap_cert.proofs.Held.{held-all_within, AllLimited-from_held}
+use Rattle.qap_cert.proofs.Held.{held-all_within}
 use Rattle.qap_cert.proofs.Numbers.{numbers_text-is}
 use Rattle.qap_cert.specs.NodeLine.{HasDuals}
 use Rattle.qap_cert.specs.Number.{IsNamed, held}

@@ -1,17 +1,17 @@
 -- Trees that were walked along, one behind another.
-use Rattle.std.proofs.Common.{◌≡◌, ℕ, ◌+◌, ◌-◌, ◌<◌, ◌≤◌, ◌++◌, List, [], ◌∷◌, length, ℤ, refl, sym, ◌∙◌, ap, subst, inl, inr, arith, append_assoc, length-append}
+use Rattle.std.proofs.Common.{◌≡◌, ℕ, ◌+◌, ◌-◌, ◌<◌, ◌≤◌, ◌++◌, List, [], ◌∷◌, length, ℤ, refl, sym, ◌∙◌, ap, subst, inr, arith, append_assoc}
 use Rattle.std.specs.Prelude.{codes, Option, Some, Result, Ok, Err, MatchResult}
 use Rattle.qap_cost.specs.Placement.{IsFree}
 use Rattle.qap_cert.proofs.Readings.{with_last, AllHaveShape-with_last, child_count-with_last, nodes_count-with_last, trees_text-with_last, line_text-behind}
 use Rattle.qap_cert.proofs.Trees.{line_after-more, line_after-none}
 use Rattle.qap_cert.specs.Line.{line_after, IsLine}
 use Rattle.qap_cert.specs.NodeLine.{IsNodeLine}
-use Rattle.qap_cert.specs.TextFault.{IsFaultAmong, IsSplitLine, IsTreeTextFault}
+use Rattle.qap_cert.specs.TextFault.{IsEndFault, IsFaultAmong, IsFaultFromTree, IsSplitLine, IsTreeTextFault}
 use Rattle.qap_cert.specs.Shape.{AreDuals, HasShape, AllHaveShape, child_count}
 use Rattle.qap_cert.specs.Text.{numbers_text, line_text, tree_text, trees_text}
 use Rattle.qap_cert.specs.Tree.{Node, split, bound, Nodes, no_nodes, node, node_count, nodes_count}
 use Rattle.qap_cert.specs.Version.{MayName, split_numbers}
-use Rattle.qap_cert.specs.Walk.{BeginsWithTree, BeginsWithTrees, IsFaultBefore}
+use Rattle.qap_cert.specs.Walk.{BeginsWithTree, BeginsWithTrees, EndsBehindTree, IsFaultBefore}
 use Rattle.qap_cert.specs.declared.error.CertError.{CertError}
 use Rattle.qap_cert.specs.declared.version.Version.{Version}
 
@@ -133,3 +133,22 @@ IsFaultBefore-joined w n placed count more all line text rest next P e h all_is 
 pub IsFaultAmong-before : (w : Version) (n : ℕ) (placed : List ℕ) (count line : ℕ) (text : List ℕ) (e : CertError) → count + length placed ≤ n + 1
     → IsFaultBefore w n placed count line text e → IsFaultAmong w n placed line text (λ line rest. IsTreeTextFault w n (n - length placed) placed line rest e)
 IsFaultAmong-before w n placed count line text e few k = (k.0, k.1, k.2, k.3, omega (arith, k.4, few), k.5)
+
+-- a tree, where nothing is placed above it, and the end behind it
+pub EndsBehindTree-end : (w : Version) (n : ℕ) (placed : List ℕ) (line : ℕ) (text rest : List ℕ) (next : ℕ) (P : Node → Type 0) → placed ≡ [] → BeginsWithTree w n placed line text rest next P
+    → rest ≡ codes "end\n" → EndsBehindTree w n text P
+EndsBehindTree-end w n placed line text rest next P none h is = record {
+  tree = h.tree;
+  shape = subst (λ (xs : List ℕ). HasShape w n xs h.tree) none h.shape;
+  is = h.is ∙ ap (λ l. tree_text w h.tree ++ l) is;
+  holds = h.holds;
+}
+
+-- a fault of the last line, behind such a tree
+pub IsFaultFromTree-end : (w : Version) (n : ℕ) (placed : List ℕ) (line : ℕ) (text rest : List ℕ) (next : ℕ) (P : Node → Type 0) (e : CertError) → placed ≡ [] → BeginsWithTree w n placed line text rest next P
+    → IsEndFault next rest e → IsFaultFromTree w n line text e
+IsFaultFromTree-end w n placed line text rest next P e none h fault = inr (
+  h.tree,
+  subst (λ (xs : List ℕ). HasShape w n xs h.tree) none h.shape,
+  record { rest = rest; is = h.is; holds = subst (λ (k : ℕ). IsEndFault k rest e) h.next_is fault },
+)

@@ -1,6 +1,6 @@
 -- What keeps a cost, a bound, a permutation and a tree from being a certificate, and a certificate from certifying its
 -- bound: the first fault in order of lines, where the nodes of the tree have the lines from `tree_line` on in preorder.
-use Rattle.std.specs.Prelude.{◌≡◌, ◌≢◌, ℕ, ◌-◌, ◌^◌, ◌<◌, ◌≤◌, ◌⊎◌, ◌++◌, ◌∷◌, [], List, length, ℤ, ◌+ℤ◌, ◌<ℤ◌, unsigned_abs}
+use Rattle.std.specs.Prelude.{◌≡◌, ◌≢◌, ℕ, ◌-◌, ◌<◌, ◌≤◌, ◌⊎◌, ◌++◌, ◌∷◌, [], List, length, ℤ, ◌+ℤ◌, ◌<ℤ◌, unsigned_abs}
 use Rattle.qap_cost.specs.Limits.{max_value}
 use Rattle.qap_cost.specs.Instance.{Problem}
 use Rattle.qap_cost.specs.Matrix.{dual_value}
@@ -74,6 +74,10 @@ abbrev mutual
       IsTreeFault I g (placing x f k) line t e
       ⊎ (Valid I g (placing x f k) t × IsTreeFaultAmong I g x f ks (line_after line (node_count t)) rest e)
   IsTreeFaultAmong I g x f _ line _ e = ⊥
+
+-- the permutation isn't of the instance's size; or it is, and doesn't cost what is stated
+abbrev pub IsPermMisfit : Problem → List ℕ → ℤ → CertError → Type 0
+IsPermMisfit I p c e = ((e ≡ SizeDiffers 2) × (length p ≢ I.size)) ⊎ ((e ≡ CostDiffers 3) × (length p ≡ I.size) × (cost_of I p ≢ c))
 
 -- the first fault of a certificate that doesn't certify its bound
 abbrev pub IsFault : Problem → Claim → CertError → Type 0

@@ -1,5 +1,5 @@
 -- What walking along the lines of a tree finds, where no tree is kept.
-use Rattle.std.specs.Prelude.{◌≡◌, ℕ, ◌-◌, ◌<◌, ◌++◌, List, length, ℤ, Option, Some, None}
+use Rattle.std.specs.Prelude.{◌≡◌, ℕ, ◌-◌, ◌<◌, ◌++◌, [], List, length, ℤ, codes, Option, Some, None}
 use Rattle.qap_cost.specs.Instance.{Problem}
 use Rattle.qap_cost.specs.Placement.{Placement}
 use Rattle.qap_cert.specs.Fault.{IsTreeFault, IsTreeFaultAmong}
@@ -28,6 +28,13 @@ pub record BeginsWithTrees (v : Version) (n : ℕ) (placed : List ℕ) (count li
   pub is : text ≡ trees_text v trees ++ rest
   pub next_is : next ≡ line_after line (nodes_count trees)
   pub holds : P trees
+
+-- the text is the lines of a tree that has a property, and the end
+pub record EndsBehindTree (v : Version) (n : ℕ) (text : List ℕ) (P : Node → Type 0) : Type 0 where
+  pub tree : Node
+  pub shape : HasShape v n [] tree
+  pub is : text ≡ tree_text v tree ++ codes "end\n"
+  pub holds : P tree
 
 -- nothing is known of the node, or of the nodes
 abbrev pub Any : {X : Type 0} → X → Type 0

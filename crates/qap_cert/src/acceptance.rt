@@ -1,13 +1,23 @@
 //! Judges texts of certificates.
 
-ghost use Rattle.std.specs.Prelude.{◌≡◌, ◌⊎◌, IfOk, MatchResult};
+ghost use Rattle.std.specs.Prelude.{◌≡◌, ◌≤◌, ◌⊎◌, ℕ, List, IfOk, MatchResult};
+ghost use Rattle.qap_cost.specs.Instance.{IsInstance};
+ghost use Rattle.qap_cost.specs.Placement.{root_of};
+ghost use Rattle.qap_cost.specs.Range.{IsLimited};
 ghost use Rattle.qap_cert.specs.Acceptance.{ShowsVerdict, IsVerdictOf, IsSo, IsLimitedVerdict, IsRefused};
+ghost use Rattle.qap_cert.specs.Certificate.{claim_of, IsBoundFor};
+ghost use Rattle.qap_cert.specs.TextFault.{IsFaultFromTree};
+ghost use Rattle.qap_cert.specs.Tree.{Node};
+ghost use Rattle.qap_cert.specs.Walk.{EndsBehindTree, Any, IsToldOf};
 
-use crate::certificate::Certificate;
-use crate::checking::check;
+use crate::checking::judge_perm;
 use crate::error::CertError;
-use crate::reader::read;
-use qap_cost::Instance;
+use crate::placed::Placed;
+use crate::reader::{Head, read_end, read_head};
+use crate::skimming::skim_tree;
+use crate::walking::{Task, judge_tree};
+use gilmore_lawler::{RankedInstance, Workspace};
+use qap_cost::{Instance, Partial};
 use std::alloc::Global;
 
 /// What a text shows of an instance's least cost.
@@ -29,19 +39,72 @@ pub fn accept(alloc: Global, instance: &Instance, text: &[u8]) -> Result<Verdict
     ensures bounded { IfOk result IsLimitedVerdict }
     ensures so { IfOk result (IsSo instance.now) }
 {
-    let certificate = read(alloc, text)?;
-    check(alloc, instance, &certificate)?;
-    Ok(verdict_of(&certificate))
+    let head = read_head(alloc, text)?;
+    if let Err(fault) = judge_perm(instance, &head.perm, head.cost) {
+        skim_to_end(alloc, &head)?;
+        return Err(fault);
+    }
+    match judge_to_end(alloc, instance, &head)? {
+        None => Ok(verdict_of(&head)),
+        Some(fault) => Err(fault),
+    }
 }
 
-/// What the certificate states.
-fn verdict_of(certificate: &Certificate) -> Verdict
-    ensures says { IsVerdictOf certificate.now result }
+/// Judges the tree and the last line by the grammar alone.
+fn skim_to_end(alloc: Global, head: &Head<'_>) -> Result<(), CertError>
+    requires { head.now.grammar.size ≤ 256 }
+    ensures { MatchResult result
+        (λ done. EndsBehindTree head.now.grammar.version head.now.grammar.size head.now.rest.now Any)
+        (λ e. (e ≡ CertError.OutOfMemory) ⊎ IsFaultFromTree head.now.grammar.version head.now.grammar.size head.now.line head.now.rest.now e) }
+{
+    let behind = skim_tree(alloc, head.rest, head.grammar, &Placed::none(), head.line)?;
+    read_end(behind.rest, behind.next)
+}
+
+/// Judges the tree and the last line, and tells the first bound that fails, if one does.
+fn judge_to_end(
+    alloc: Global,
+    instance: &Instance,
+    head: &Head<'_>,
+) -> Result<Option<CertError>, CertError>
+    requires { head.now.grammar.size ≡ instance.now.size }
+    ensures instance { IsInstance instance.now }
+    ensures judged { MatchResult result
+        (λ fault. EndsBehindTree head.now.grammar.version head.now.grammar.size head.now.rest.now
+        (IsToldOf instance.now head.now.bound (root_of instance.now.size) head.now.line fault))
+        (λ e. (e ≡ CertError.OutOfMemory) ⊎ IsFaultFromTree head.now.grammar.version head.now.grammar.size head.now.line head.now.rest.now e) }
+{
+    let root = Partial::root(alloc, instance.size())?;
+    let ranked = RankedInstance::new(alloc, instance)?;
+    let mut workspace = Workspace::new(alloc);
+    let task = Task {
+        grammar: head.grammar,
+        ranked: &ranked,
+        bound: head.bound,
+    };
+    let judged = judge_tree(
+        alloc,
+        &mut workspace,
+        &task,
+        &root,
+        head.rest,
+        &Placed::none(),
+        head.line,
+    )?;
+    read_end(judged.rest, judged.next)?;
+    Ok(judged.fault)
+}
+
+/// What a certificate's text states.
+fn verdict_of(head: &Head<'_>) -> Verdict
+    requires cost { IsLimited head.now.cost }
+    requires bound { IsBoundFor head.now.cost head.now.bound }
+    ensures says { (p : List ℕ) (t : Node) → IsVerdictOf (claim_of head.now.cost head.now.bound p t) result }
     ensures bounded { IsLimitedVerdict result }
 {
-    if certificate.bound() < certificate.cost() {
-        Verdict::Gap(certificate.bound(), certificate.cost())
+    if head.bound < head.cost {
+        Verdict::Gap(head.bound, head.cost)
     } else {
-        Verdict::Optimal(certificate.cost())
+        Verdict::Optimal(head.cost)
     }
 }

@@ -6,7 +6,7 @@ ghost use Rattle.qap_cost.specs.Objective.{IsLeast, NoneCostsLess, cost_of};
 ghost use Rattle.qap_cost.specs.Placement.{IsFreeFacility, IsFreeLocation};
 ghost use Rattle.qap_cost.specs.Range.{AllLimited};
 ghost use Rattle.qap_cert.specs.Certificate.{Certifies};
-ghost use Rattle.qap_cert.specs.Fault.{IsBoundFault, IsTreeFault, IsTreeFaultAmong, IsFault};
+ghost use Rattle.qap_cert.specs.Fault.{IsBoundFault, IsPermMisfit, IsTreeFault, IsTreeFaultAmong, IsFault};
 ghost use Rattle.qap_cert.specs.Line.{line_after};
 ghost use Rattle.qap_cert.specs.Shape.{AreDuals, HasShape, AllHaveShape};
 ghost use Rattle.qap_cert.specs.Tree.{node_of, nodes_of, node_count, nodes_count};
@@ -18,7 +18,7 @@ use crate::line_number::{COST_LINE, SIZE_LINE};
 use crate::tree::Tree;
 use crate::{CertError, Certificate};
 use gilmore_lawler::{RankedInstance, Workspace, fits};
-use qap_cost::{Instance, Partial, cost};
+use qap_cost::{Instance, Partial, Perm, cost};
 use std::alloc::Global;
 
 /// Whether the certificate shows, by what it says alone, that no permutation of the instance costs less than its bound. Where
@@ -35,7 +35,7 @@ pub fn check(alloc: Global, instance: &Instance, certificate: &Certificate) -> R
     ensures bound { OnOk result (NoneCostsLess instance.now certificate.now.bound) }
     ensures least { OnOk result (certificate.now.bound ≡ certificate.now.cost → IsLeast instance.now certificate.now.cost) }
 {
-    judge_perm(instance, certificate)?;
+    judge_stated(instance, certificate)?;
     let root = Partial::root(alloc, instance.size())?;
     let ranked = RankedInstance::new(alloc, instance)?;
     let mut workspace = Workspace::new(alloc);
@@ -53,16 +53,24 @@ pub fn check(alloc: Global, instance: &Instance, certificate: &Certificate) -> R
 }
 
 /// Whether the permutation is of the instance's size and has the cost.
-fn judge_perm(instance: &Instance, certificate: &Certificate) -> Result<(), CertError>
+fn judge_stated(instance: &Instance, certificate: &Certificate) -> Result<(), CertError>
     ensures { MatchResult result
         (λ done. (length certificate.now.permutation ≡ instance.now.size) × (cost_of instance.now certificate.now.permutation ≡ certificate.now.cost))
-        (λ e. IsFault instance.now certificate.now e) }
+        (IsPermMisfit instance.now certificate.now.permutation certificate.now.cost) }
 {
-    let perm = certificate.perm();
+    judge_perm(instance, certificate.perm(), certificate.cost())
+}
+
+/// Whether the permutation is of the instance's size and has this cost.
+pub(crate) fn judge_perm(instance: &Instance, perm: &Perm, stated: i128) -> Result<(), CertError>
+    ensures { MatchResult result
+        (λ done. (length perm.now ≡ instance.now.size) × (cost_of instance.now perm.now ≡ stated))
+        (IsPermMisfit instance.now perm.now stated) }
+{
     if perm.len() != instance.size() {
         return Err(CertError::SizeDiffers(SIZE_LINE));
     }
-    if cost(instance, perm) != certificate.cost() {
+    if cost(instance, perm) != stated {
         return Err(CertError::CostDiffers(COST_LINE));
     }
     Ok(())

@@ -131,7 +131,7 @@ fn read_to_end(alloc: Global, text: &[u8], grammar: Grammar, line: u64) -> Resul
 }
 
 /// Reads the last line, whose number this is.
-fn read_end(text: &[u8], line: u64) -> Result<(), CertError>
+pub(crate) fn read_end(text: &[u8], line: u64) -> Result<(), CertError>
     ensures { MatchResult result (λ _. text.now ≡ codes "end\n") (IsEndFault line text.now) }
 {
     let Some(last) = first_line(text) else {

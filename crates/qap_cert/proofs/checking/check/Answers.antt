@@ -23,7 +23,7 @@ returns-clause-bound c =
     (subst (λ (y : Placement). Valid I g y C.tree) root
     (subst (λ (t : Node). Valid I g c.in_ok-root.root t) c.tree.ensures.value
     (subst (λ (J : Problem). Valid J g c.in_ok-root.root (node_of c.tree.result.now)) c.in_ok-ranked.ensures.value c.in_ok-check_tree.ensures.0))) in
-    let certified : Certifies I C = record { same_size = c.in_ok-judge_perm.ensures.0; cost = c.in_ok-judge_perm.ensures.1; tree = valid } in
+    let certified : Certifies I C = record { same_size = c.in_ok-judge_stated.ensures.0; cost = c.in_ok-judge_stated.ensures.1; tree = valid } in
     Certifies-NoneCostsLess I C c.size.ensures.instance certified
 
 pub returns-clause-least : goal.returns-clause-least
@@ -39,5 +39,5 @@ returns-clause-least c =
     (subst (λ (y : Placement). Valid I g y C.tree) root
     (subst (λ (t : Node). Valid I g c.in_ok-root.root t) c.tree.ensures.value
     (subst (λ (J : Problem). Valid J g c.in_ok-root.root (node_of c.tree.result.now)) c.in_ok-ranked.ensures.value c.in_ok-check_tree.ensures.0))) in
-    let certified : Certifies I C = record { same_size = c.in_ok-judge_perm.ensures.0; cost = c.in_ok-judge_perm.ensures.1; tree = valid } in
+    let certified : Certifies I C = record { same_size = c.in_ok-judge_stated.ensures.0; cost = c.in_ok-judge_stated.ensures.1; tree = valid } in
     Certifies-IsLeast I C c.size.ensures.instance c.bound-bound.ensures.certificate certified

@@ -18,4 +18,4 @@ returns c =
     let some = rw c.in-Some.is at c.in_ok-numbers.ensures in
     let long : length some.0 ≡ c.args.n = sym some.2 ∙ c.if-numbers-n.false in
     let lent = c.deref.ensures.value in
-    permutation_named c.args.n c.args.line.now some.0 _ c.permutation_from_one.result long (lent ∙ some.3) some.1 c.permutation_from_one.ensures
+    permutation_named c.args.n c.args.line.now some.0 _ c.permutation_from_one.result long (lent ∙ some.4) some.1 c.permutation_from_one.ensures

@@ -1,4 +1,4 @@
-use Rattle.std.proofs.Common.{◌≡◌, ◌+◌, ◌-◌, ◌++◌, [], ◌∷◌, length, ap, inl, inr, ⊎_elim, arith, length-append}
+use Rattle.std.proofs.Common.{◌≡◌, ◌-◌, ◌++◌, [], ◌∷◌, length, ap, inl, inr, ⊎_elim, arith, length-append}
 use Rattle.std.specs.Prelude.{codes}
 use Rattle.qap_cert.proofs.Duals.{duals_there}
 use Rattle.qap_cert.proofs.Numbers.{line_text-is}
