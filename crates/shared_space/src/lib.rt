@@ -1,0 +1,13 @@
+//! A space of tuples under a law, for workers that count the commits they were told of.
+//!
+//! The law says which permanent tuples the space may hold and which commits may change them. A worker's share counts its own
+//! accepted commits; all shares of a space together count every accepted commit.
+#![tactic(auto)]
+
+mod alone;
+mod law;
+mod share;
+
+pub use alone::Alone;
+pub use law::Law;
+pub use share::Share;
