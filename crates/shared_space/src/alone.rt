@@ -1,16 +1,19 @@
 //! A space of one thread, under its law.
 
-ghost use Rattle.std.specs.Prelude.{◌≡◌, ◌+◌, OnErr, OnOk, IfErr};
+ghost use Rattle.std.specs.Prelude.{◌≡◌, ◌<◌, IfErr, IfOk, false, replicate, sum, vec_len};
 ghost use Rattle.space_txn.specs.Content.{content_of};
-ghost use Rattle.space_txn.specs.Machine.{commit, end_answer};
-ghost use Rattle.shared_space.specs.Event.{Did, answered, call};
-ghost use Rattle.shared_space.specs.Law.{MayCommit};
+ghost use Rattle.shared_space.specs.Event.{Did};
+ghost use Rattle.shared_space.specs.Place.{one_left, place_of};
 
 use crate::law::Law;
-use crate::share::Share;
-use space_txn::{Txn, TxnError, TxnSpace};
+use crate::room::Room;
+use crate::share::{Share, gathered, handed_out};
+use space_txn::{Found, Txn, TxnError, TxnSpace, content_law};
+use std::alloc::{AllocError, Global};
 use std::marker::Model;
-use std::sync::ledger::Book;
+use std::sync::ledger::{Blank, Book};
+use tuple_match::Template;
+use tuple_space::SpaceError;
 
 /// A space of one thread with the book of its commits: its content is lawful, and its shares count its commits together.
 #[derive(Drop)]
@@ -25,7 +28,7 @@ pub struct Alone<L: Law> {
 impl<L: Law> Model for Alone<L> {
     ghost use Rattle.std.specs.Prelude.{◌≡◌};
     ghost use Rattle.space_txn.specs.Content.{content_of};
-    ghost use Rattle.shared_space.specs.Event.{Place, place_of};
+    ghost use Rattle.shared_space.specs.Place.{Place, place_of};
 
     ghost Value = { Place };
 
@@ -35,6 +38,38 @@ impl<L: Law> Model for Alone<L> {
 }
 
 impl<L: Law> Alone<L> {
+    /// Puts a space whose content is lawful and that has accepted no commit under the law, with so many shares, one for each
+    /// part of the blank. Refused memory, the blank and the space come back.
+    pub fn new(
+        alloc: Global,
+        blank: Blank,
+        space: TxnSpace,
+        shares: usize,
+    ) -> Result<(Alone<L>, Vec<Share<L>>), (AllocError, Blank, TxnSpace)>
+        requires name { blank.name ≡ L.name }
+        requires parts { blank.parts ≡ L.parts }
+        requires shares { shares ≡ L.parts }
+        requires lawful { L.lawful (content_of space) space.commits }
+        requires fresh { space.commits ≡ 0 }
+        ensures space { IfOk result (λ made. made.0 ≡ place_of space shares 0 false) }
+        ensures shares { IfOk result (λ made. made.1.items ≡ replicate shares 0) }
+        ensures handed_back { IfErr result (λ back. (back.1 ≡ blank) × (back.2 ≡ space)) }
+    {
+        let Ok(room) = Vec::with_capacity(alloc, shares) else {
+            return Err((AllocError, blank, space));
+        };
+        let (book, part) = blank.open::<L>();
+        let handed = handed_out(room, part, shares);
+        let alone = Alone {
+            space,
+            book,
+            shares,
+            left: 0,
+            closed: false,
+        };
+        Ok((alone, handed))
+    }
+
     /// The space.
     pub fn space(&self) -> &TxnSpace
         ensures value { result.now ≡ self.now.world }
@@ -43,19 +78,86 @@ impl<L: Law> Alone<L> {
         &self.space
     }
 
-    /// Commits a transaction, and counts it in the share.
-    pub fn commit(&mut self, share: &mut Share<L>, txn: Txn) -> Result<(), (TxnError, Txn)>
-        requires { MayCommit L.allowed txn }
-        ensures did { Did self.old (call txn commit) (answered (end_answer result) txn) self.new }
-        ensures ok { OnOk result (share.new ≡ share.old + 1) }
-        ensures err { OnErr result (share.new ≡ share.old) }
-        ensures handed_back { IfErr result (λ back. back.1 ≡ txn) }
+    /// One worker more has left. Takes no memory.
+    pub fn leave(&mut self)
+        ensures { self.new ≡ one_left self.old }
     {
+        if self.left < self.shares {
+            self.left += 1;
+        }
+    }
+
+    /// The space back, out of its law. Takes no memory.
+    pub fn into_space(self) -> TxnSpace
+        ensures value { result ≡ self.world }
+        ensures lawful { L.lawful (content_of result) result.commits }
+    {
+        self.space
+    }
+
+    /// The space back for all its shares, with the number of commits that they counted, which is the space's own. Takes no
+    /// memory.
+    pub fn into_inner(self, shares: Vec<Share<L>>) -> (TxnSpace, u64)
+        requires all { vec_len shares ≡ L.parts }
+        requires some { 0 < vec_len shares }
+        ensures space { result.0 ≡ self.world }
+        ensures lawful { L.lawful (content_of result.0) result.0.commits }
+        ensures sum { result.1 ≡ sum shares.items }
+        ensures commits { result.1 ≡ result.0.commits }
+    {
+        let Alone {
+            space,
+            book,
+            shares: _,
+            left: _,
+            closed: _,
+        } = self;
+        let _commits = space.commits();
+        let counted = gathered(book, shares);
+        (space, counted)
+    }
+}
+
+impl<L: Law> Room<L> for Alone<L> {
+    ghost did = { Did };
+
+    fn begin(&mut self, asked: u64) -> Result<Txn, TxnError> {
+        content_law();
+        self.space.begin(asked)
+    }
+
+    fn inp_in(&mut self, txn: &mut Txn, template: &Template) -> Result<Option<Found>, TxnError> {
+        content_law();
+        self.space.inp_in(txn, template)
+    }
+
+    fn rdp_in(&mut self, txn: &mut Txn, template: &Template) -> Result<Option<Found>, TxnError> {
+        content_law();
+        self.space.rdp_in(txn, template)
+    }
+
+    fn commit(&mut self, share: &mut Share<L>, txn: Txn) -> Result<(), (TxnError, Txn)> {
         self.space.commit(txn)?;
         self.book.audit(&mut share.part);
         let _commits = self.space.commits();
         self.book.add(&mut share.part, 1);
         share.count += 1;
         Ok(())
+    }
+
+    fn abort(&mut self, txn: Txn) -> Result<(), (TxnError, Txn)> {
+        content_law();
+        self.space.abort(txn)
+    }
+
+    fn advance(&mut self, moment: u64) -> Result<(), SpaceError> {
+        content_law();
+        self.space.advance(moment)
+    }
+
+    fn close(&mut self, template: &Template) -> bool {
+        self.closed =
+            self.closed || self.left >= self.shares || self.space.count(template) == 0;
+        self.closed
     }
 }

@@ -6,8 +6,10 @@
 
 mod alone;
 mod law;
+mod room;
 mod share;
 
 pub use alone::Alone;
 pub use law::Law;
+pub use room::Room;
 pub use share::Share;

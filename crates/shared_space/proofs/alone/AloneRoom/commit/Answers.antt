@@ -1,6 +1,6 @@
 use Rattle.std.proofs.Common.{arith}
 use Rattle.shared_space.proofs.LawLemmas.{commit_lawful}
-use Rattle.shared_space.proofs.alone.Alone.commit.Goals as goal
+use Rattle.shared_space.proofs.alone.AloneRoom.commit.Goals as goal
 
 pub invariant_of-self-2 : goal.invariant_of-self-2
 invariant_of-self-2 g c =

@@ -1,0 +1,24 @@
+-- A space of one thread, with those who work on it.
+use Rattle.std.specs.Prelude.{ℕ, ◌+◌, Bool, ◌||◌, ◌==◌, nat_le, nat_lt, List, count_by, if◌then◌else◌}
+use Rattle.tuple_match.specs.PatternValue.{PatternValue}
+use Rattle.tuple_space.specs.Entry.{is_counted}
+use Rattle.space_txn.specs.World.{World}
+
+-- its world, how many shares were made with it, how many workers have left, and whether it is closed
+pub record Place : Type 0 where
+  pub world : World
+  pub shares : ℕ
+  pub left : ℕ
+  pub closed : Bool
+
+abbrev pub place_of : World → ℕ → ℕ → Bool → Place
+place_of world shares left closed = record { world = world; shares = shares; left = left; closed = closed }
+
+-- it is to be closed: it is already, or every worker has left, or no entry that is there matches
+abbrev pub is_to_close : Place → List PatternValue → Bool
+is_to_close p template =
+    p.closed || (nat_le p.shares p.left || (count_by (is_counted p.world.space.moment template) p.world.space.entries == 0))
+
+-- one worker more has left; no more leave than there are shares
+abbrev pub one_left : Place → Place
+one_left p = if nat_lt p.left p.shares then record p { left = p.left + 1 } else p
