@@ -19,9 +19,10 @@ abbrev pub IsKept : (Content → ℕ → Type 0) → (Content → Content → Co
 IsKept lawful allowed =
     (gone kept added rest : Content) (commits : ℕ) → allowed gone kept added → lawful (gone ++ (kept ++ rest)) commits → lawful (added ++ (kept ++ rest)) (commits + 1)
 
--- a law that always holds
-abbrev pub IsFree : (Content → ℕ → Type 0) → Type 0
-IsFree lawful = (xs : Content) (commits : ℕ) → lawful xs commits
+-- a law that always holds and allows every commit
+pub record IsFree (lawful : Content → ℕ → Type 0) (allowed : Content → Content → Content → Type 0) : Type 0 where
+  pub holds : (xs : Content) (commits : ℕ) → lawful xs commits
+  pub allows : (gone kept added : Content) → allowed gone kept added
 
 -- a lawful content holds the tuple
 abbrev pub InLawful : (Content → ℕ → Type 0) → List FieldValue → Type 0

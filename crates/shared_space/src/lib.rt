@@ -13,3 +13,6 @@ pub use alone::Alone;
 pub use law::Law;
 pub use room::Room;
 pub use share::Share;
+
+#[cfg(test)]
+mod tests;

@@ -1,0 +1,140 @@
+ghost use Rattle.std.specs.Prelude.{◌≡◌};
+ghost use Rattle.shared_space.specs.Law.{IsFree};
+
+use crate::alone::Alone;
+use crate::law::Law;
+use crate::room::Room;
+use crate::share::Share;
+use space_txn::{TxnError, TxnSpace};
+use std::alloc::Global;
+use std::marker::Brand;
+use std::process::Abort;
+use std::sync::ledger::Blank;
+use std::test::Fail;
+use tuple_match::{Field, Pattern, Template, Tuple};
+use tuple_space::Lease;
+
+/// What a run of two workers came to.
+#[derive(Clone, Copy, Debug, PartialEq, Eq)]
+struct Outcome {
+    /// The commits of each worker's share.
+    counts: [u64; 2],
+    /// The refusal of the commit that came too late.
+    late: Option<TxnError>,
+    /// Whether the space was closed while a job was there, and when none was left.
+    closed: [bool; 2],
+    /// All shares' commits, and the space's own.
+    total: u64,
+    commits: u64,
+}
+
+fn job(alloc: Global, number: i128) -> Result<Tuple, Fail> {
+    let mut fields = Vec::new(alloc);
+    fields.push(Field::Word(String::from_str(alloc, "job")?))?;
+    fields.push(Field::Int(number))?;
+    Ok(Tuple::new(fields)?)
+}
+
+fn any_job(alloc: Global) -> Result<Template, Fail> {
+    let mut patterns = Vec::new(alloc);
+    patterns.push(Pattern::Is(Field::Word(String::from_str(alloc, "job")?)))?;
+    patterns.push(Pattern::AnyInt)?;
+    Ok(Template::new(patterns)?)
+}
+
+/// Writes a job under a transaction of its own.
+fn write<L: Law>(alloc: Global, room: &mut Alone<L>, share: &mut Share<L>) -> Result<bool, Fail>
+    requires { IsFree L.lawful L.allowed }
+{
+    let mut txn = room.begin(1000)?;
+    if txn.out_in(job(alloc, 7)?, Lease::Forever).is_err() {
+        return Ok(false);
+    }
+    Ok(room.commit(share, txn).is_ok())
+}
+
+/// Takes a job, after so many milliseconds, and tells why the commit was refused.
+fn take<L: Law>(
+    alloc: Global,
+    room: &mut Alone<L>,
+    share: &mut Share<L>,
+    moment: u64,
+) -> Result<Option<TxnError>, Fail>
+    requires { IsFree L.lawful L.allowed }
+{
+    let mut txn = room.begin(1000)?;
+    let found = room.inp_in(&mut txn, &any_job(alloc)?)?;
+    if found.is_none() {
+        return Ok(Some(TxnError::Foreign));
+    }
+    let _ = room.advance(moment);
+    match room.commit(share, txn) {
+        Ok(()) => Ok(None),
+        Err((error, _)) => Ok(Some(error)),
+    }
+}
+
+/// Two workers on one space: the first writes a job, the second takes it too late, and then in time.
+fn work<L: Law>(alloc: Global, blank: Blank) -> Result<Outcome, Fail>
+    requires name { blank.name ≡ L.name }
+    requires parts { blank.parts ≡ L.parts }
+    requires two { blank.parts ≡ 2 }
+    requires free { IsFree L.lawful L.allowed }
+{
+    let made = Alone::<L>::new(alloc, blank, TxnSpace::new(alloc), 2);
+    let (mut room, mut shares) = made.map_err(|back| back.0)?;
+    let jobs = any_job(alloc)?;
+    write(alloc, &mut room, &mut shares[0])?;
+    let open = room.close(&jobs);
+    let late = take(alloc, &mut room, &mut shares[1], 1000)?;
+    take(alloc, &mut room, &mut shares[1], 1500)?;
+    let counts = [shares[0].commits(), shares[1].commits()];
+    let empty = room.close(&jobs);
+    let (space, total) = room.into_inner(shares);
+    Ok(Outcome {
+        counts,
+        late,
+        closed: [open, empty],
+        total,
+        commits: space.commits(),
+    })
+}
+
+/// The space on which both workers have left is closed, whatever is there.
+fn leave_all<L: Law>(alloc: Global, blank: Blank) -> Result<[bool; 3], Fail>
+    requires name { blank.name ≡ L.name }
+    requires parts { blank.parts ≡ L.parts }
+    requires two { blank.parts ≡ 2 }
+    requires free { IsFree L.lawful L.allowed }
+{
+    let made = Alone::<L>::new(alloc, blank, TxnSpace::new(alloc), 2);
+    let (mut room, mut shares) = made.map_err(|back| back.0)?;
+    let jobs = any_job(alloc)?;
+    write(alloc, &mut room, &mut shares[0])?;
+    let open = room.close(&jobs);
+    room.leave();
+    let one_left = room.close(&jobs);
+    room.leave();
+    Ok([open, one_left, room.close(&jobs)])
+}
+
+#[test]
+fn shares_count_accepted_commits(rt: HostRuntime) -> Result<(), Fail> {
+    let outcome = work::<Brand>(rt.alloc(), Blank::new(2))?;
+    let wanted = Outcome {
+        counts: [1, 1],
+        late: Some(TxnError::Expired),
+        closed: [false, true],
+        total: 2,
+        commits: 2,
+    };
+    assert!(rt; outcome == wanted);
+    Ok(())
+}
+
+#[test]
+fn a_space_that_all_have_left_is_closed(rt: HostRuntime) -> Result<(), Fail> {
+    let closed = leave_all::<Brand>(rt.alloc(), Blank::new(2))?;
+    assert!(rt; closed == [false, false, true]);
+    Ok(())
+}
