@@ -156,8 +156,7 @@ impl<L: Law> Room<L> for Alone<L> {
     }
 
     fn close(&mut self, template: &Template) -> bool {
-        self.closed =
-            self.closed || self.left >= self.shares || self.space.count(template) == 0;
+        self.closed = self.closed || self.left >= self.shares || self.space.count(template) == 0;
         self.closed
     }
 }
