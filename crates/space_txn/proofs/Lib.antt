@@ -3,3 +3,4 @@ pub mod ContentLemmas
 pub mod FindingLemmas
 pub mod RuleLemmas
 pub mod MarkLemmas
+pub mod LeaseLemmas

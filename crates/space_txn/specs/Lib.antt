@@ -1,5 +1,6 @@
 pub mod Content
 pub mod Finding
+pub mod Granting
 pub mod Live
 pub mod Machine
 pub mod Marks

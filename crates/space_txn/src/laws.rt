@@ -1,17 +1,24 @@
 //! Laws of the machine, by which a reader checks its definition.
 
-ghost use Rattle.std.specs.Prelude.{◌≡◌, ◌≢◌, ◌<◌, ◌≤◌, ℕ, true, false, All, Contains, Result};
-ghost use Rattle.tuple_space.specs.Lease.{granted, is_live};
+ghost use Rattle.std.specs.Prelude.{◌≡◌, ◌≢◌, ◌<◌, ◌≤◌, ℕ, true, false, List, All, Contains, Result};
+ghost use Rattle.tuple_match.specs.PatternValue.{PatternValue};
+ghost use Rattle.tuple_space.specs.Lease.{granted, is_live, is_permanent};
 ghost use Rattle.tuple_space.specs.Entry.{can_be_read, is_held_by, is_open, is_taken};
-ghost use Rattle.tuple_space.specs.declared.entry.Claim.TheVariants.{TakeBy};
+ghost use Rattle.tuple_space.specs.Rows.{with_end};
+ghost use Rattle.tuple_space.specs.Space.{IsSpace, stays_without};
+ghost use Rattle.tuple_space.specs.Step.{NothingHad};
+ghost use Rattle.tuple_space.specs.declared.entry.Claim.TheVariants.{Read, TakeBy};
+ghost use Rattle.tuple_space.specs.declared.lease.LeaseEnd.{LeaseEnd};
 ghost use Rattle.tuple_space.specs.declared.entry.Entry.{Entry};
 ghost use Rattle.tuple_space.specs.declared.hold.Hold.{Hold};
-ghost use Rattle.tuple_space.specs.declared.lease.Lease.TheVariants.{Ms};
+ghost use Rattle.tuple_space.specs.declared.lease.Lease.TheVariants.{Forever, Ms};
 ghost use Rattle.tuple_space.specs.Step.{done_reply};
 ghost use Rattle.tuple_space.specs.declared.error.SpaceError.{SpaceError};
 ghost use Rattle.space_txn.specs.declared.error.TxnError.{TxnError};
 ghost use Rattle.space_txn.specs.Content.{KeepsContent, LeavesContent};
-ghost use Rattle.space_txn.specs.Machine.{AdvanceStep, Answer, BeginStep, Call, Step, commit_at};
+ghost use Rattle.space_txn.specs.Machine.{AdvanceStep, Answer, BeginStep, Call, NoOpenWrite, Step, commit_at, found, inp_in, nothing, rdp_in};
+ghost use Rattle.space_txn.specs.Granting.{IsGranted};
+ghost use Rattle.space_txn.specs.declared.txn.Found.TheVariants.{Own};
 ghost use Rattle.space_txn.specs.Txn.{TxnValue};
 ghost use Rattle.space_txn.specs.World.{World, abort_at, advance_at, is_live_transaction};
 
@@ -59,4 +66,45 @@ pub fn ending_law()
 /// A lease of 0 is not live when it is granted.
 pub fn lease_law()
     ensures { (moment : ℕ) → is_live moment (granted moment (Ms 0)) ≡ false }
+{}
+
+/// Renewing moves a lease's end only later, and to the new lease's own end at least; a permanent tuple stays permanent, and
+/// forever makes one permanent.
+pub fn renewal_law()
+    ensures old { (moment : ℕ) (end : LeaseEnd) (e : Entry) →
+        is_live moment e.end ≡ true → is_live moment (with_end end e).end ≡ true }
+    ensures new { (moment : ℕ) (end : LeaseEnd) (e : Entry) →
+        is_live moment end ≡ true → is_live moment (with_end end e).end ≡ true }
+    ensures stays { (end : LeaseEnd) (e : Entry) → is_permanent e.end ≡ true → is_permanent (with_end end e).end ≡ true }
+    ensures forever { (moment : ℕ) (e : Entry) → is_permanent (with_end (granted moment Forever) e).end ≡ true }
+{}
+
+/// A call under a transaction finds nothing only where nothing can be had, in the space or among its own writes, and it finds
+/// a write of its own only where nothing of the space can be had.
+pub fn finding_law()
+    ensures nothing_taken { (old : World) (t : TxnValue) (template : List PatternValue) (new : World) (t' : TxnValue) →
+        Step old t (inp_in template) nothing new t' →
+        NothingHad old.space (TakeBy t.number) template × NoOpenWrite template t.writes }
+    ensures nothing_read { (old : World) (t : TxnValue) (template : List PatternValue) (new : World) (t' : TxnValue) →
+        Step old t (rdp_in template) nothing new t' →
+        NothingHad old.space Read template × NoOpenWrite template t.writes }
+    ensures own_taken { (old : World) (t : TxnValue) (template : List PatternValue) (place : ℕ) (new : World) (t' : TxnValue) →
+        Step old t (inp_in template) (found (Own place)) new t' → NothingHad old.space (TakeBy t.number) template }
+    ensures own_read { (old : World) (t : TxnValue) (template : List PatternValue) (place : ℕ) (new : World) (t' : TxnValue) →
+        Step old t (rdp_in template) (found (Own place)) new t' → NothingHad old.space Read template }
+{}
+
+/// Where a holder's hold ends, an entry whose lease has ended leaves if nobody else holds it, and stays if somebody does.
+pub fn leaving_law()
+    ensures leaves { (holder moment : ℕ) (e : Entry) → is_held_by holder e ≡ true → is_live moment e.end ≡ false →
+        All (λ h. h.by ≡ holder) e.holds → stays_without holder moment e ≡ false }
+    ensures stays { (holder moment : ℕ) (e : Entry) (other : Hold) →
+        Contains e.holds other → other.by ≢ holder → stays_without holder moment e ≡ true }
+{}
+
+/// What a transaction wrote gets its lease at the commit: an entry with a new number has the tuple of a write that wasn't taken
+/// again, and that write's lease, granted at the moment of the commit.
+pub fn granting_law()
+    ensures { (old : World) (t : TxnValue) → IsSpace old.space →
+        All (λ e. old.space.last < e.number → IsGranted old.space.moment t.writes e) (commit_at old t).space.entries }
 {}

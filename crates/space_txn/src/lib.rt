@@ -13,7 +13,10 @@ mod txn;
 mod world;
 
 pub use error::TxnError;
-pub use laws::{content_law, ending_law, expired_law, holding_law, lease_law, moment_law};
+pub use laws::{
+    content_law, ending_law, expired_law, finding_law, granting_law, holding_law, lease_law,
+    leaving_law, moment_law, renewal_law,
+};
 pub use mark::Mark;
 pub use txn::{Found, Txn};
 pub use world::TxnSpace;
