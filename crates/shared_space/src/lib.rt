@@ -8,11 +8,15 @@ mod alone;
 mod law;
 mod room;
 mod share;
+mod shared;
+mod via;
 
 pub use alone::Alone;
 pub use law::Law;
 pub use room::Room;
 pub use share::Share;
+pub use shared::Shared;
+pub use via::Via;
 
 #[cfg(test)]
 mod tests;

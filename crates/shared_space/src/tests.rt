@@ -1,4 +1,4 @@
-ghost use Rattle.std.specs.Prelude.{◌≡◌};
+ghost use Rattle.std.specs.Prelude.{◌≡◌, ◌+◌, IfOk, if◌then◌else◌};
 ghost use Rattle.shared_space.specs.Law.{IsFree};
 
 use crate::alone::Alone;
@@ -43,8 +43,9 @@ fn any_job(alloc: Global) -> Result<Template, Fail> {
 }
 
 /// Writes a job under a transaction of its own.
-fn write<L: Law>(alloc: Global, room: &mut Alone<L>, share: &mut Share<L>) -> Result<bool, Fail>
+fn write<L: Law, M: Room<L>>(alloc: Global, room: &mut M, share: &mut Share<L>) -> Result<bool, Fail>
     requires { IsFree L.lawful L.allowed }
+    ensures { IfOk result (λ written. share.new ≡ (if written then share.old + 1 else share.old)) }
 {
     let mut txn = room.begin(1000)?;
     if txn.out_in(job(alloc, 7)?, Lease::Forever).is_err() {
@@ -54,9 +55,9 @@ fn write<L: Law>(alloc: Global, room: &mut Alone<L>, share: &mut Share<L>) -> Re
 }
 
 /// Takes a job, after so many milliseconds, and tells why the commit was refused.
-fn take<L: Law>(
+fn take<L: Law, M: Room<L>>(
     alloc: Global,
-    room: &mut Alone<L>,
+    room: &mut M,
     share: &mut Share<L>,
     moment: u64,
 ) -> Result<Option<TxnError>, Fail>
