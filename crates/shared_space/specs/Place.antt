@@ -2,7 +2,8 @@
 use Rattle.std.specs.Prelude.{ℕ, ◌+◌, Bool, ◌||◌, ◌==◌, nat_le, nat_lt, List, count_by, if◌then◌else◌}
 use Rattle.tuple_match.specs.PatternValue.{PatternValue}
 use Rattle.tuple_space.specs.Entry.{is_counted}
-use Rattle.space_txn.specs.World.{World}
+use Rattle.tuple_space.specs.Space.{SpaceValue}
+use Rattle.space_txn.specs.World.{World, with_space}
 
 -- its world, how many shares were made with it, how many workers have left, and whether it is closed
 pub record Place : Type 0 where
@@ -22,3 +23,7 @@ is_to_close p template =
 -- one worker more has left; no more leave than there are shares
 abbrev pub one_left : Place → Place
 one_left p = if nat_lt p.left p.shares then record p { left = p.left + 1 } else p
+
+-- another space in the place of the one that stood there
+abbrev pub with_place_space : Place → SpaceValue → Place
+with_place_space p s = record p { world = with_space p.world s }

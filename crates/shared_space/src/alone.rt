@@ -1,9 +1,12 @@
 //! A space of one thread, under its law.
 
-ghost use Rattle.std.specs.Prelude.{◌≡◌, ◌<◌, IfErr, IfOk, false, replicate, sum, vec_len};
+ghost use Rattle.std.specs.Prelude.{◌≡◌, ◌<◌, IfErr, IfOk, IfSome, false, replicate, sum, vec_len};
+ghost use Rattle.tuple_match.specs.PatternValue.{Matches};
+ghost use Rattle.tuple_space.specs.Step.{Step, inp, inp_reply, out, out_reply, rdp, rdp_reply};
 ghost use Rattle.space_txn.specs.Content.{content_of};
 ghost use Rattle.shared_space.specs.Event.{Did};
-ghost use Rattle.shared_space.specs.Place.{one_left, place_of};
+ghost use Rattle.shared_space.specs.Law.{IsFree};
+ghost use Rattle.shared_space.specs.Place.{one_left, place_of, with_place_space};
 
 use crate::law::Law;
 use crate::room::Room;
@@ -12,8 +15,8 @@ use space_txn::{Found, Txn, TxnError, TxnSpace, content_law};
 use std::alloc::{AllocError, Global};
 use std::marker::Model;
 use std::sync::ledger::{Blank, Book};
-use tuple_match::Template;
-use tuple_space::SpaceError;
+use tuple_match::{Template, Tuple, does_match_law};
+use tuple_space::{EntryId, Lease, SpaceError};
 
 /// A space of one thread with the book of its commits: its content is lawful, and its shares count its commits together.
 #[derive(Drop)]
@@ -76,6 +79,47 @@ impl<L: Law> Alone<L> {
         ensures lawful { L.lawful (content_of result.now) result.now.commits }
     {
         &self.space
+    }
+
+    /// Whether the space is closed.
+    pub(crate) fn is_closed(&self) -> bool
+        ensures { result ≡ self.now.closed }
+    {
+        self.closed
+    }
+
+    /// Puts a tuple out, outside all transactions.
+    pub(crate) fn out(
+        &mut self,
+        tuple: Tuple,
+        lease: Lease,
+    ) -> Result<EntryId, (SpaceError, Tuple)>
+        requires { lease ≡ Lease.Forever → IsFree L.lawful L.allowed }
+        ensures step { Step self.old.world.space (out tuple lease) (out_reply result) self.new.world.space }
+        ensures rest { self.new ≡ with_place_space self.old self.new.world.space }
+        ensures handed_back { IfErr result (λ back. back.1 ≡ tuple) }
+    {
+        self.space.out(tuple, lease)
+    }
+
+    /// Takes a tuple, outside all transactions, or answers `None` where none can be had now.
+    pub(crate) fn inp(&mut self, template: &Template) -> Option<(EntryId, Tuple)>
+        requires { IsFree L.lawful L.allowed }
+        ensures step { Step self.old.world.space (inp template.now) (inp_reply result) self.new.world.space }
+        ensures rest { self.new ≡ with_place_space self.old self.new.world.space }
+        ensures matches { IfSome result (λ found. Matches template.now found.1) }
+    {
+        does_match_law();
+        self.space.inp(template)
+    }
+
+    /// Copies a tuple, outside all transactions, or answers `None` where none can be had now.
+    pub(crate) fn rdp(&self, template: &Template) -> Result<Option<(EntryId, Tuple)>, SpaceError>
+        ensures step { Step self.now.world.space (rdp template.now) (rdp_reply result) self.now.world.space }
+        ensures matches { IfOk result (λ found. IfSome found (λ pair. Matches template.now pair.1)) }
+    {
+        does_match_law();
+        self.space.rdp(template)
     }
 
     /// One worker more has left. Takes no memory.

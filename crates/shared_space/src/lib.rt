@@ -5,6 +5,7 @@
 #![tactic(auto)]
 
 mod alone;
+mod error;
 mod law;
 mod room;
 mod share;
@@ -12,6 +13,7 @@ mod shared;
 mod via;
 
 pub use alone::Alone;
+pub use error::SharedError;
 pub use law::Law;
 pub use room::Room;
 pub use share::Share;

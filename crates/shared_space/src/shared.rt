@@ -1,13 +1,15 @@
 //! A space of many threads, under its law.
 
 ghost use Rattle.std.specs.Prelude.{◌≡◌, ◌+◌, ◌<◌, ◌≤◌, [], true, false, IfErr, IfOk, IfSome, MatchResult, OnErr, OnOk, replicate, sum, vec_len};
+ghost use Rattle.tuple_match.specs.PatternValue.{Matches};
 ghost use Rattle.tuple_space.specs.Space.{most};
 ghost use Rattle.space_txn.specs.Content.{content_of};
 ghost use Rattle.space_txn.specs.Finding.{Finds, Shows};
 ghost use Rattle.space_txn.specs.Machine.{find_answer};
-ghost use Rattle.shared_space.specs.Law.{InLawful, MayCommit};
+ghost use Rattle.shared_space.specs.Law.{InLawful, IsFree, MayCommit};
 
 use crate::alone::Alone;
+use crate::error::SharedError;
 use crate::law::Law;
 use crate::room::Room;
 use crate::share::Share;
@@ -15,8 +17,8 @@ use space_txn::{Found, Txn, TxnError, TxnSpace};
 use std::alloc::{AllocError, Global};
 use std::sync::ledger::Blank;
 use std::sync::{Condvar, Mutex, Wait};
-use tuple_match::Template;
-use tuple_space::SpaceError;
+use tuple_match::{Template, Tuple};
+use tuple_space::{EntryId, Lease, SpaceError};
 
 /// A space under a lock. Whenever the lock is free, its content is lawful and all shares that were made with it count its
 /// commits together.
@@ -52,6 +54,79 @@ impl<L: Law> Shared<L> {
             changed: Condvar::new(),
         };
         Ok((shared, handed))
+    }
+
+    /// Puts a tuple out, outside all transactions; a permanent one only where the law always holds. Refusals: 33, 50; the tuple
+    /// comes back.
+    pub fn out<R: Wait>(
+        &self,
+        rt: &R,
+        tuple: Tuple,
+        lease: Lease,
+    ) -> Result<EntryId, (SpaceError, Tuple)>
+        requires { lease ≡ Lease.Forever → IsFree L.lawful L.allowed }
+        ensures handed_back { IfErr result (λ back. back.1 ≡ tuple) }
+    {
+        let put = self.alone.lock(rt).out(tuple, lease);
+        self.changed.notify_all();
+        put
+    }
+
+    /// Takes a tuple, outside all transactions, or answers `None` where none can be had now. Takes no memory.
+    pub fn inp<R: Wait>(&self, rt: &R, template: &Template) -> Option<(EntryId, Tuple)>
+        requires { IsFree L.lawful L.allowed }
+        ensures { IfSome result (λ found. Matches template.now found.1) }
+    {
+        self.alone.lock(rt).inp(template)
+    }
+
+    /// Copies a tuple, outside all transactions, or answers `None` where none can be had now. Refusal: 50.
+    pub fn rdp<R: Wait>(
+        &self,
+        rt: &R,
+        template: &Template,
+    ) -> Result<Option<(EntryId, Tuple)>, SpaceError>
+        ensures { IfOk result (λ found. IfSome found (λ pair. Matches template.now pair.1)) }
+    {
+        self.alone.lock(rt).rdp(template)
+    }
+
+    /// Waits until a tuple can be had, and takes it, outside all transactions. Refusal: 34 where the space is closed and none
+    /// can be had. Takes no memory.
+    pub fn in_<R: Wait>(&self, rt: &R, template: &Template) -> Result<(EntryId, Tuple), SharedError>
+        requires { IsFree L.lawful L.allowed }
+        ensures matches { IfOk result (λ found. Matches template.now found.1) }
+        ensures kind { IfErr result (λ error. error ≡ SharedError.Closed) }
+    {
+        let mut alone = self.alone.lock(rt);
+        for _ in rt.forever() {
+            if let Some(found) = alone.inp(template) {
+                return Ok(found);
+            }
+            if alone.is_closed() {
+                return Err(SharedError::Closed);
+            }
+            alone = self.changed.wait(rt, alone);
+        }
+        unreachable!()
+    }
+
+    /// Waits until a tuple can be had, and copies it, outside all transactions. Refusals: 34 where the space is closed and none
+    /// can be had, 50.
+    pub fn rd<R: Wait>(&self, rt: &R, template: &Template) -> Result<(EntryId, Tuple), SharedError>
+        ensures { IfOk result (λ found. Matches template.now found.1) }
+    {
+        let mut alone = self.alone.lock(rt);
+        for _ in rt.forever() {
+            match alone.rdp(template) {
+                Ok(Some(found)) => return Ok(found),
+                Ok(None) if alone.is_closed() => return Err(SharedError::Closed),
+                Ok(None) => {}
+                Err(_) => return Err(SharedError::OutOfMemory),
+            }
+            alone = self.changed.wait(rt, alone);
+        }
+        unreachable!()
     }
 
     /// Begins a transaction with a lease of so many milliseconds, and a day at most. Refusals: 33, 50.
