@@ -1,3 +1,4 @@
 pub mod Certificates
+pub mod Fields
 pub mod Replacing
 pub mod Tuples

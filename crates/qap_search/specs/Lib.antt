@@ -1,4 +1,5 @@
 pub mod CutTree
+pub mod Decided
 pub mod Finished
 pub mod Piece
 pub mod Replacement

@@ -1,6 +1,7 @@
 //! The search for a least permutation: what its tuples are at any moment, and the certificate that they leave.
 #![tactic(auto)]
 
+mod decided;
 mod law;
 
 pub use law::{certificate_law, opening_law, order_law, replacement_law};
