@@ -50,11 +50,11 @@ mutual
       (node first.0 others.0, ap (λ (s : SearchTree). tree s rest) first.1 ∙ ap (tree (searched first.0)) others.1)
 
 -- the children of a node are nodes
-children_placed : (y : Placement) (f : ℕ) → IsPlacement y → IsFreeFacility y f → (j : ℕ) → j < length (free_locations y) → IsPlacement (placing y f (get_or (free_locations y) j 0))
+pub children_placed : (y : Placement) (f : ℕ) → IsPlacement y → IsFreeFacility y f → (j : ℕ) → j < length (free_locations y) → IsPlacement (placing y f (get_or (free_locations y) j 0))
 children_placed y f h free j less = IsPlacement-placing y f (get_or (free_locations y) j 0) h free ((ListsFree-free_below y.size y.places h.places).each j less)
 
 -- there are as many free locations as free facilities
-free_count : (y : Placement) → IsPlacement y → length (free_locations y) ≡ y.size - length y.facilities
+pub free_count : (y : Placement) → IsPlacement y → length (free_locations y) ≡ y.size - length y.facilities
 free_count y h =
     let count = (ListsFree-free_below y.size y.places h.places).count in
     let paired = h.paired in
@@ -184,7 +184,7 @@ cost_limited I p inst h =
     let square : n * (n * (1000000000 * 1000000000)) ≤ 256 * (256 * (1000000000 * 1000000000)) = mul-le _ _ _ _ inst.small rows in
     omega arith
 
-root_placement : (n : ℕ) → 0 < n → n ≤ 256 → IsPlacement (root_of n)
+pub root_placement : (n : ℕ) → 0 < n → n ≤ 256 → IsPlacement (root_of n)
 root_placement n positive small = record {
   positive = positive;
   small = small;

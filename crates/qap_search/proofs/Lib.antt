@@ -1,3 +1,4 @@
+pub mod Assembled
 pub mod Certificates
 pub mod Fields
 pub mod Replacing

@@ -1,6 +1,9 @@
+pub mod Assembling
 pub mod CutTree
 pub mod Decided
 pub mod Finished
+pub mod InOrder
 pub mod Piece
+pub mod Pieces
 pub mod Replacement
 pub mod SearchTree

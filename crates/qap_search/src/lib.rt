@@ -2,6 +2,10 @@
 #![tactic(auto)]
 
 mod decided;
+mod error;
 mod law;
+mod ordering;
+mod pieces;
 
+pub use error::AssembleError;
 pub use law::{certificate_law, opening_law, order_law, replacement_law};

@@ -1,0 +1,13 @@
+-- Decided nodes in the order of their lists: each node stands before those below it.
+use Rattle.std.specs.Prelude.{Bool, List}
+use Rattle.std.specs.Cmp.Lexicographic.{slice_cmp}
+use Rattle.std.specs.List.Sorted.{IsSortedBy}
+use Rattle.std.specs.Ordering.{int_cmp, is_lt}
+use Rattle.qap_search.specs.declared.decided.DecidedNode.{DecidedNode}
+
+-- the first number that differs decides, and a list stands before those that begin with it
+abbrev pub is_before : DecidedNode → DecidedNode → Bool
+is_before a b = is_lt (slice_cmp int_cmp a.node.items b.node.items)
+
+abbrev pub AreInOrder : List DecidedNode → Type 0
+AreInOrder nodes = IsSortedBy is_before nodes
