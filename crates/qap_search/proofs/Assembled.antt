@@ -11,6 +11,7 @@ use Rattle.qap_cert.specs.declared.version.Version.TheVariants.{Second}
 use Rattle.space_txn.specs.Content.{SameItems}
 use Rattle.tuple_match.specs.FieldValue.{FieldValue}
 use Rattle.qap_search.specs.Assembling.{IsNoCertificate, IsTreeFault}
+use Rattle.qap_search.specs.Building.{AnyDuals}
 use Rattle.qap_search.specs.Decided.{IsNoPiece, decided_tuple, decision_tuple, found_tuple}
 use Rattle.qap_search.specs.Finished.{IsAssembled}
 use Rattle.qap_search.specs.Piece.{node_list, split_tuple, closed_tuple, best_tuple, pieces, pieces_of_all}
@@ -25,10 +26,6 @@ use Rattle.qap_search.specs.declared.error.AssembleError.TheVariants.{NotATree, 
 use Rattle.qap_search.proofs.Certificates.{children_placed, free_count, root_placement}
 use Rattle.qap_search.proofs.Replacing.{weighed}
 use Rattle.qap_search.proofs.Tuples.{found_in, is_it, is_it-found, is_it-itself, tag}
-
--- no matter which duals
-abbrev pub AnyDuals : Placement → List ℤ → List ℤ → Type 0
-AnyDuals x u v = Unit {0}
 
 mutual
   -- a tree of a certificate's shape is one at its node

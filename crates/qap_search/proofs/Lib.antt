@@ -2,5 +2,8 @@ pub mod Assembled
 pub mod Certificates
 pub mod Fields
 pub mod Keys
+pub mod OneTree
 pub mod Replacing
+pub mod Taking
 pub mod Tuples
+pub mod Turns

@@ -28,7 +28,7 @@ list_at k t = listed (get_or t k (number (pos 0)))
 abbrev pub number_at : ℕ → List FieldValue → ℤ
 number_at k t = counted (get_or t k (number (pos 0)))
 
-abbrev natural : ℤ → ℕ
+abbrev pub natural : ℤ → ℕ
 natural (pos n) = n
 natural (negsuc n) = 0
 

@@ -1,4 +1,5 @@
 pub mod Assembling
+pub mod Building
 pub mod CutTree
 pub mod Decided
 pub mod Finished

@@ -1,6 +1,7 @@
 //! The search for a least permutation: what its tuples are at any moment, and the certificate that they leave.
 #![tactic(auto)]
 
+mod building;
 mod decided;
 mod error;
 mod law;
