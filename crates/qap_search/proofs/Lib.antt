@@ -1,8 +1,10 @@
 pub mod Assembled
 pub mod Certificates
 pub mod Fields
+pub mod Finishing
 pub mod Keys
 pub mod OneTree
+pub mod Parts
 pub mod Replacing
 pub mod Taking
 pub mod Tuples

@@ -1,7 +1,8 @@
 -- A tree at the front of decided nodes in order.
 use Rattle.std.specs.Prelude.{◌≡◌, ◌⊎◌, ℕ, ◌+◌, ◌-◌, ◌*◌, ◌<◌, List, ◌++◌, length, reverse, ℤ, pos, slice_index, slice_index_or}
-use Rattle.qap_cost.specs.Placement.{Placement}
+use Rattle.qap_cost.specs.Placement.{Placement, root_of}
 use Rattle.qap_cert.specs.Tree.{Node}
+use Rattle.space_txn.specs.Content.{SameItems}
 use Rattle.tuple_match.specs.FieldValue.{FieldValue}
 use Rattle.qap_search.specs.Piece.{pieces}
 use Rattle.qap_search.specs.Pieces.{decided_tuples}
@@ -39,3 +40,8 @@ BeginsByTurns facilities places list =
 -- the last two numbers of the list
 abbrev pub EndsWith : ℕ → ℕ → List ℤ → Type 0
 EndsWith f k list = (slice_index_or list (length list - 2) (pos 0) ≡ pos f) × (slice_index_or list (length list - 1) (pos 0) ≡ pos k)
+
+-- the tuples, in any order, are those of this tree at the root of size n
+pub record AreTuplesOf (n : ℕ) (tuples : List (List FieldValue)) (s : Node) : Type 0 where
+  pub tree : IsTreeAt AnyDuals (root_of n) (searched s)
+  pub taken_apart : SameItems tuples (pieces (root_of n) (searched s))

@@ -112,7 +112,7 @@ fn is_only_word(name: &str, fields: &[Field]) -> bool
 }
 
 /// Whether the field is this word.
-fn is_word(name: &str, field: &Field) -> bool
+pub(crate) fn is_word(name: &str, field: &Field) -> bool
     ensures { IsTrue result ↔ (field_value field.now ≡ word name.now) }
 {
     match field {

@@ -1,6 +1,7 @@
 //! The search for a least permutation: what its tuples are at any moment, and the certificate that they leave.
 #![tactic(auto)]
 
+mod assembling;
 mod building;
 mod decided;
 mod error;
@@ -8,5 +9,6 @@ mod law;
 mod ordering;
 mod pieces;
 
+pub use assembling::assemble;
 pub use error::AssembleError;
 pub use law::{certificate_law, opening_law, order_law, replacement_law};
