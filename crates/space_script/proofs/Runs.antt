@@ -1,10 +1,11 @@
 -- A script read to its end, or broken off, from what its pieces come to.
-use Rattle.std.proofs.Common.{◌≡◌, ℕ, ◌<◌, List, [], ◌∷◌, ◌++◌, take, inl, inr, refl, sym, ap, subst, ◌∙◌, arith, append-nil}
-use Rattle.std.proofs.KnownBytes.{Appends-trans}
+use Rattle.std.proofs.Common.{Option, ◌≡◌, ℕ, ◌<◌, List, [], ◌∷◌, ◌++◌, take, inl, inr, refl, sym, ap, subst, ◌∙◌, arith, append-nil}
+use Rattle.std.specs.Io.KnownBytes.{Keeps}
+use Rattle.std.proofs.KnownBytes.{Appends-kept, Appends-trans}
 use Rattle.std.proofs.lemmas.List.Splits.{slice_split_none}
-use Rattle.qap_io.specs.Counting.{CountedDevice, last_count}
+use Rattle.qap_io.specs.Counting.{CountedDevice, FailedBetween, last_count}
 use Rattle.qap_io.specs.Writing.{Sends, BreaksOff}
-use Rattle.space_script.specs.Feeding.{CarriesOn, IsUnfinished, FedUpTo, FedWhole, FeedFails, FeedingFails, standing}
+use Rattle.space_script.specs.Feeding.{Standing, Fed, CarriesOn, IsUnfinished, FedUpTo, FedWhole, FeedFails, FeedingFails, standing}
 use Rattle.space_script.specs.Run.{Answers, AnswersEnded, BreaksDown, FailsWriting, HasCome, KeepsReader, Runs, RunsUpTo, RunsWhole, Streams, WantsMemory, is_line_feed, lines_of}
 use Rattle.space_script.specs.Session.{SessionValue, start}
 use Rattle.space_script.specs.declared.script_error.ScriptError.{ScriptError}
@@ -21,12 +22,38 @@ feeding_fails s session kept text OutOfMemory come read fails = record {
   read = read;
   fails = fails;
 }
-feeding_fails s session kept text Device come read fails = inr (record {
+feeding_fails s session kept text Device come read fails = inr (inl (record {
   text = text;
   come = come;
   read = read;
   fails = fails;
-})
+}))
+
+-- a piece more has been read, and then a flush fails
+pub flush_fails : {R W : Type 0} (s : Streams R W) (session : SessionValue) (kept text : List ℕ) (fed : Standing W) → HasCome s text → KeepsReader s
+    → Fed s.bytes_taken (standing session kept s.writer) text fed → Keeps (s.bytes_taken fed.writer.inner) (s.bytes_taken s.writer_after.inner)
+    → FailedBetween fed.writer s.writer_after → FeedingFails s session kept Device
+flush_fails s session kept text fed come read all keeps failed = inr (inr (record {
+  text = text;
+  come = come;
+  read = read;
+  failed = subst (λ (k : ℕ). s.writer_after.failures < last_count → k < s.writer_after.failures) all.written failed;
+  replies = all.replies;
+  gone_out = Appends-kept (s.bytes_taken s.writer.inner) (s.bytes_taken fed.writer.inner) (s.bytes_taken s.writer_after.inner) all.replies all.gone_out keeps;
+  session_after = fed.session;
+  kept_after = fed.kept;
+  carries = all.carries;
+}))
+
+-- a piece has been read, and then flushed
+pub fed_flushed : {W : Type 0} (contents : W → Option (List ℕ)) (old new : Standing W) (piece : List ℕ) (writer : CountedDevice W) → Fed contents old piece new
+    → Keeps (contents new.writer.inner) (contents writer.inner) → writer.failures ≡ new.writer.failures → Fed contents old piece (standing new.session new.kept writer)
+fed_flushed contents old new piece writer fed keeps written = record {
+  replies = fed.replies;
+  gone_out = Appends-kept (contents old.writer.inner) (contents new.writer.inner) (contents writer.inner) fed.replies fed.gone_out keeps;
+  written = written ∙ fed.written;
+  carries = fed.carries;
+}
 
 -- before the first line
 opened : IsUnfinished [] []
@@ -58,6 +85,7 @@ answered s text up =
       run = up_to text up.fed.replies up.kept_after up.session_after c;
       gone_out = up.fed.gone_out;
       written = up.fed.written;
+      flushed = up.flushed;
     }
 
 -- what breaks the reading down breaks the script down
@@ -96,10 +124,10 @@ breaks_down s Device (inl unread) = inl (record {
   failed = unread.failed;
   answered = answered s unread.text unread.fed;
 })
-breaks_down s Device (inr fails) =
+breaks_down s Device (inr (inl fails)) =
     let stops = fails.fails.stops [] opened in
     let rest = stops.split [] in
-    inr (record {
+    inr (inl (record {
       text = fails.text;
       come = fails.come;
       read = fails.read;
@@ -119,7 +147,20 @@ breaks_down s Device (inr fails) =
       answer = stops.answer;
       count = fails.fails.count;
       gone_out = fails.fails.gone_out;
-    })
+    }))
+breaks_down s Device (inr (inr unflushed)) =
+    let c = unflushed.carries [] opened in
+    inr (inr (record {
+      text = unflushed.text;
+      come = unflushed.come;
+      read = unflushed.read;
+      failed = unflushed.failed;
+      replies = unflushed.replies;
+      session = unflushed.session_after;
+      last = c.last;
+      run = up_to unflushed.text unflushed.replies unflushed.kept_after unflushed.session_after c;
+      gone_out = unflushed.gone_out;
+    }))
 
 module _ {R W : Type 0} (s : Streams R W) (session : SessionValue) (kept : List ℕ) (whole : FedWhole s start [] session kept) where
   last_line : CarriesOn [] start whole.text whole.fed.replies session kept

@@ -1,9 +1,9 @@
 -- A piece of a script read: the lines that end in it are answered, and what is left behind them is kept.
-use Rattle.std.specs.Prelude.{◌≡◌, ◌⊎◌, ◌<◌, ◌≤◌, ◌+◌, ℕ, false, List, ◌∷◌, ◌++◌, All, Option, length, take}
+use Rattle.std.specs.Prelude.{◌≡◌, ◌⊎◌, ◌<◌, ◌≤◌, ◌+◌, ℕ, false, true, List, ◌∷◌, ◌++◌, All, Option, length, take}
 use Rattle.std.specs.Io.KnownBytes.{Appends, IsAtEnd}
 use Rattle.qap_io.specs.Counting.{CountedDevice, FailedBetween}
 use Rattle.space_script.specs.Command.{longest_line}
-use Rattle.space_script.specs.Run.{Answers, HasCome, KeepsReader, Runs, Streams, is_line_feed, lines_of, longest_script}
+use Rattle.space_script.specs.Run.{Answers, HasCome, HasGoneOut, KeepsReader, Runs, Streams, is_line_feed, lines_of, longest_script}
 use Rattle.space_script.specs.Session.{SessionValue}
 use Rattle.space_script.specs.declared.script_error.ScriptError.{ScriptError}
 use Rattle.space_script.specs.declared.script_error.ScriptError.TheVariants.{InputTooLong, OutOfMemory, Device}
@@ -97,11 +97,12 @@ pub record FedWhole {R W : Type 0} (s : Streams R W) (session : SessionValue) (k
   pub read : KeepsReader s
   pub fed : Fed s.bytes_taken (standing session kept s.writer) text (standing session_after kept_after s.writer_after)
 
--- a text has been read
+-- a text has been read, and its replies are flushed
 pub record FedUpTo {R W : Type 0} (s : Streams R W) (session : SessionValue) (kept text : List ℕ) : Type 0 where
   pub session_after : SessionValue
   pub kept_after : List ℕ
   pub fed : Fed s.bytes_taken (standing session kept s.writer) text (standing session_after kept_after s.writer_after)
+  pub flushed : s.writer.flushed ≡ true → s.writer_after.flushed ≡ true
 
 -- more came than a script may have
 pub record FedTooLong {R W : Type 0} (s : Streams R W) (session : SessionValue) (kept : List ℕ) : Type 0 where
@@ -127,8 +128,20 @@ pub record FedUnanswered {R W : Type 0} (s : Streams R W) (session : SessionValu
   pub read : KeepsReader s
   pub fails : FeedFails s.bytes_taken (standing session kept s.writer) text s.writer_after e
 
+-- a flush failed; the replies to what was read have gone out
+pub record FedUnflushed {R W : Type 0} (s : Streams R W) (session : SessionValue) (kept : List ℕ) : Type 0 where
+  pub text : List ℕ
+  pub come : HasCome s text
+  pub read : KeepsReader s
+  pub failed : FailedBetween s.writer s.writer_after
+  pub replies : List ℕ
+  pub gone_out : HasGoneOut s replies
+  pub session_after : SessionValue
+  pub kept_after : List ℕ
+  pub carries : (line : List ℕ) → IsUnfinished line kept → CarriesOn line session text replies session_after kept_after
+
 -- why a reader is not read to its end
 abbrev pub FeedingFails : {R W : Type 0} → Streams R W → SessionValue → List ℕ → ScriptError → Type 0
 FeedingFails s session kept InputTooLong = FedTooLong s session kept
 FeedingFails s session kept OutOfMemory = FedUnanswered s session kept OutOfMemory
-FeedingFails s session kept Device = FedUnread s session kept ⊎ FedUnanswered s session kept Device
+FeedingFails s session kept Device = FedUnread s session kept ⊎ (FedUnanswered s session kept Device ⊎ FedUnflushed s session kept)

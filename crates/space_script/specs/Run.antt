@@ -1,5 +1,5 @@
 -- A whole script: its lines, what each of them is answered, and what stands written when it ends.
-use Rattle.std.specs.Prelude.{◌≡◌, ◌⊎◌, ◌<◌, ◌≤◌, ◌^◌, ◌==◌, ℕ, Bool, List, [], ◌∷◌, ◌++◌, Option, length, take}
+use Rattle.std.specs.Prelude.{◌≡◌, ◌⊎◌, ◌<◌, ◌≤◌, ◌^◌, ◌==◌, ℕ, Bool, true, List, [], ◌∷◌, ◌++◌, Option, length, take}
 use Rattle.std.specs.Io.KnownBytes.{Appends, Consumes, IsAtEnd}
 use Rattle.std.specs.List.{slice_split}
 use Rattle.qap_io.specs.Counting.{CountedDevice, FailedBetween}
@@ -95,7 +95,7 @@ pub record RunsWhole {R W : Type 0} (s : Streams R W) : Type 0 where
   pub run : Runs start (lines_of text) replies session
   pub sent : Sends s.bytes_taken s.writer s.writer_after replies
 
--- the lines of a text that have ended are answered, and no more; these replies have gone out
+-- the lines of a text that have ended are answered, and no more; these replies have gone out and are flushed
 pub record AnswersEnded {R W : Type 0} (s : Streams R W) (text : List ℕ) : Type 0 where
   pub replies : List ℕ
   pub session : SessionValue
@@ -103,6 +103,7 @@ pub record AnswersEnded {R W : Type 0} (s : Streams R W) (text : List ℕ) : Typ
   pub run : RunsUpTo text replies session (last ∷ [])
   pub gone_out : HasGoneOut s replies
   pub written : KeepsWriter s
+  pub flushed : s.writer.flushed ≡ true → s.writer_after.flushed ≡ true
 
 -- more bytes came than a script may have; what came before the last of them was within the limit and is answered
 pub record RunsTooLong {R W : Type 0} (s : Streams R W) : Type 0 where
@@ -138,8 +139,8 @@ pub record WantsMemory {R W : Type 0} (s : Streams R W) : Type 0 where
   pub gone_out : HasGoneOut s replies
   pub written : KeepsWriter s
 
--- a write or a flush failed at the reply to a line that has ended; the lines before it are answered, and a beginning of that
--- reply has gone out
+-- a write or the last flush failed at the reply to a line that has ended; the lines before it are answered, and a beginning of
+-- that reply has gone out
 pub record FailsWriting {R W : Type 0} (s : Streams R W) : Type 0 where
   pub text : List ℕ
   pub come : HasCome s text
@@ -157,8 +158,20 @@ pub record FailsWriting {R W : Type 0} (s : Streams R W) : Type 0 where
   pub count : ℕ
   pub gone_out : HasGoneOut s (replies ++ take count reply)
 
+-- a flush failed; what was read before it is answered
+pub record FailsFlushing {R W : Type 0} (s : Streams R W) : Type 0 where
+  pub text : List ℕ
+  pub come : HasCome s text
+  pub read : KeepsReader s
+  pub failed : FailedBetween s.writer s.writer_after
+  pub replies : List ℕ
+  pub session : SessionValue
+  pub last : List ℕ
+  pub run : RunsUpTo text replies session (last ∷ [])
+  pub gone_out : HasGoneOut s replies
+
 -- why a script ends before its end
 abbrev pub BreaksDown : {R W : Type 0} → Streams R W → ScriptError → Type 0
 BreaksDown s InputTooLong = RunsTooLong s
 BreaksDown s OutOfMemory = WantsMemory s
-BreaksDown s Device = FailsReading s ⊎ FailsWriting s
+BreaksDown s Device = FailsReading s ⊎ (FailsWriting s ⊎ FailsFlushing s)

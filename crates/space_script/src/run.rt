@@ -8,7 +8,7 @@ use crate::answering::answer;
 use crate::feeding::feed;
 use crate::script_error::ScriptError;
 use crate::session::Session;
-use qap_io::{Counted, read_some, send};
+use qap_io::{Counted, finish, read_some, send};
 use std::alloc::Global;
 use std::io::{Read, Write};
 
@@ -20,9 +20,10 @@ const PIECE: usize = 32_768;
 
 /// Carries out the lines of a script on a space of its own, and writes a reply for each that has words.
 ///
-/// A line is carried out once the line feed that ends it has been read, the last one at the end of the input. Where the
-/// script is broken off, the replies of the lines before stand written; where a write fails, a beginning of the next reply
-/// stands behind them. A line is kept only as far as it takes to show that it is too long.
+/// A line is carried out once the line feed that ends it has been read, the last one at the end of the input, and replies are
+/// flushed before more is read. Where the script is broken off, the replies of the lines before stand written; where a write
+/// fails, a beginning of the next reply stands behind them. A line is kept only as far as it takes to show that it is too
+/// long.
 pub fn run_script<R: Read, W: Write>(
     alloc: Global,
     reader: &mut Counted<R>,
@@ -45,7 +46,8 @@ pub fn run_script<R: Read, W: Write>(
     Ok(())
 }
 
-/// Answers the lines that end in what a reader has left, and keeps what is left behind them.
+/// Answers the lines that end in what a reader has left, and keeps what is left behind them. Replies are flushed before the
+/// next read.
 fn feed_all<R: Read, W: Write>(
     alloc: Global,
     reader: &mut Counted<R>,
@@ -76,5 +78,6 @@ fn feed_all<R: Read, W: Write>(
         }
         room -= count as u64;
         feed(alloc, session, line, &piece[..count], writer)?;
+        finish(writer)?;
     }
 }

@@ -1,5 +1,5 @@
 -- All pieces, and then the last line.
-use Rattle.std.proofs.Common.{ℕ, List, inr, sym, subst}
+use Rattle.std.proofs.Common.{ℕ, List, inl, inr, sym, subst}
 use Rattle.std.proofs.lemmas.Result.{err_from_is_err_and}
 use Rattle.space_script.specs.Feeding.{FedWhole, FeedingFails}
 use Rattle.space_script.specs.Run.{Answers, Streams}
@@ -58,7 +58,7 @@ returns-in_err-send g c =
     let reply = c.deref-2.result.now in
     let read = subst (λ (l : List ℕ). Answers session l c.in_ok-reply.reply.items after) c.deref.ensures.value c.in_ok-reply.ensures in
     let answer = subst (λ (r : List ℕ). Answers session kept r after) (sym c.deref-2.ensures.value) read in
-    rw (p.1, p.2) (inr (last_broken s session kept whole reply after answer c.send.new.writer c.in_err-send.ensures))
+    rw (p.1, p.2) (inr (inl (last_broken s session kept whole reply after answer c.send.new.writer c.in_err-send.ensures)))
 
 pub returns : goal.returns
 returns g c =
