@@ -5,13 +5,17 @@ mod command_line;
 mod refusal;
 
 use command_line::{CommandError, Request, USAGE, parse};
-use qap_io::{Counted, Status};
+use qap_io::{Counted, Status, finish};
 use refusal::{RunError, fault_line, status};
-use space_script::run_script;
+use space_script::{ScriptError, run_script};
 use std::env;
+use std::io::{BufWriter, Stdout};
 use std::process::ExitCode;
 use std::rt::Env;
 
+
+/// How many bytes of output are kept until they are written together.
+const BUFFER: usize = 65_536;
 
 fn main(rt: HostRuntime) -> ExitCode {
     let answered = match requested(&rt) {
@@ -44,10 +48,22 @@ fn requested(rt: &(impl Env + AllocGlobal)) -> Result<Request, CommandError> {
 /// Answers a request on standard output.
 fn run(rt: &HostRuntime, request: Request) -> Result<(), RunError> {
     match request {
-        Request::Script => {
-            let mut input = Counted::new(rt.stdin());
-            let mut output = Counted::new(rt.stdout());
-            Ok(run_script(rt.alloc(), &mut input, &mut output)?)
-        }
+        Request::Script => script(rt),
     }
+}
+
+/// Runs the script on standard input. Replies that stood written before memory ran out still go out.
+fn script(rt: &HostRuntime) -> Result<(), RunError> {
+    let mut input = Counted::new(rt.stdin());
+    let mut output = Counted::new(buffered(rt)?);
+    let ran = run_script(rt.alloc(), &mut input, &mut output);
+    if ran == Err(ScriptError::OutOfMemory) {
+        let _ = finish(&mut output);
+    }
+    Ok(ran?)
+}
+
+/// Standard output, written to in large pieces.
+fn buffered(rt: &HostRuntime) -> Result<BufWriter<Stdout>, RunError> {
+    BufWriter::with_capacity(rt.alloc(), BUFFER, rt.stdout()).map_err(|_| RunError::OutOfMemory)
 }
