@@ -14,6 +14,9 @@ use std::process::ExitCode;
 use std::rt::Env;
 
 
+#[cfg(test)]
+mod tests;
+
 /// How many bytes of output are kept until they are written together.
 const BUFFER: usize = 65_536;
 

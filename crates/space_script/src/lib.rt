@@ -29,4 +29,6 @@ pub use script_error::ScriptError;
 pub use session::Session;
 
 #[cfg(test)]
+mod run_tests;
+#[cfg(test)]
 mod tests;

@@ -1,6 +1,8 @@
 //! What no contract says: that lines are read and replies written while there is memory, and how they look.
 
+use crate::run_tests::expect_output;
 use crate::{LineError, Reply, Session, read_line, reply_line};
+use qap_io::OneByte;
 use std::alloc::Global;
 use std::test::Fail;
 use tuple_match::{Field, Tuple};
@@ -221,10 +223,17 @@ fn names_the_errors(rt: HostRuntime) -> Result<(), Fail> {
     Ok(())
 }
 
-/// Carries lines out, and compares each reply with the line that stands beside it.
+/// Carries lines out one by one, as a script, and as one that comes a byte at a time, and compares each reply with the line
+/// that stands beside it.
 fn expect_replies(alloc: Global, rows: &[(&str, &str)]) -> Result<(), Fail> {
     let mut session = Session::new(alloc);
+    let mut script = String::new(alloc);
+    let mut replies = String::new(alloc);
     for (line, want) in rows {
+        script.push_str(line)?;
+        script.push('\n')?;
+        replies.push_str(want)?;
+        replies.push('\n')?;
         let reply = match read_line(alloc, line.as_bytes()) {
             Ok(Some(command)) => session.perform(command)?,
             Ok(None) => return Err(Fail::new("a line without words")),
@@ -236,7 +245,8 @@ fn expect_replies(alloc: Global, rows: &[(&str, &str)]) -> Result<(), Fail> {
             return Err(Fail::new(format_args!("another reply to {line}")));
         }
     }
-    Ok(())
+    expect_output(alloc, script.as_bytes(), replies.as_bytes())?;
+    expect_output(alloc, OneByte::new(script.as_bytes()), replies.as_bytes())
 }
 
 #[test]
