@@ -13,7 +13,6 @@ use std::io::{BufWriter, Stdout};
 use std::process::ExitCode;
 use std::rt::Env;
 
-
 #[cfg(test)]
 mod tests;
 
