@@ -37,3 +37,5 @@ pub use writing::write;
 mod tests;
 #[cfg(test)]
 mod text_tests;
+#[cfg(test)]
+mod walking_tests;

@@ -1,0 +1,157 @@
+//! A text judged line by line comes to what reading it and then checking the certificate comes to.
+
+use crate::{CertError, Verdict, accept, check, read};
+use qap_cost::Instance;
+use std::alloc::{AllocError, Global};
+use std::test::Fail;
+
+fn instance(alloc: Global, n: usize, a: &[i64], b: &[i64]) -> Result<Option<Instance>, AllocError> {
+    Ok(Instance::new(n, Vec::from_slice(alloc, a)?, Vec::from_slice(alloc, b)?).ok())
+}
+
+/// What reading the text and then checking its certificate come to.
+fn read_and_checked(alloc: Global, instance: &Instance, text: &[u8]) -> Result<Verdict, CertError> {
+    let certificate = read(alloc, text)?;
+    check(alloc, instance, &certificate)?;
+    if certificate.bound() == certificate.cost() {
+        Ok(Verdict::Optimal(certificate.cost()))
+    } else {
+        Ok(Verdict::Gap(certificate.bound(), certificate.cost()))
+    }
+}
+
+#[test]
+fn each_byte_changed(rt: HostRuntime) -> Result<(), Fail> {
+    let alloc = rt.alloc();
+    let Some(ring) = instance(
+        alloc,
+        3,
+        &[0, 1, 0, 0, 0, 1, 1, 0, 0],
+        &[0, 1, 0, 1, 0, 0, 0, 0, 0],
+    )?
+    else {
+        panic!(rt; "an instance is refused");
+    };
+    let texts: [&[u8]; 4] = [
+        b"qapcert 1\nn 3\ncost 1\nperm 1 2 3\ns\nb 0 0 1 0\nb 0 0 1 0\nb 1 0 0 0\nend\n",
+        b"qapcert 2\nn 3\ncost 1\nperm 1 2 3\ns 2\nb 0 0 1 0\ns 1\nb 0 0\nb 1 0\nb 0 1 0 0\nend\n",
+        b"qapcert 2\nn 3\ncost 1\nperm 1 2 3\nbound -5\nb 0 0 0 0 0 0\nend\n",
+        b"qapcert 2\nn 3\ncost 1\nperm 1 2 3\nb 0 0 0 0 0 0\nend\n",
+    ];
+    for text in texts {
+        for place in 0..text.len() {
+            for byte in *b"012-s \nbe" {
+                let mut changed = Vec::from_slice(alloc, text)?;
+                if let Some(at) = changed.get_mut(place) {
+                    *at = byte;
+                }
+                assert_eq!(rt;
+                    accept(alloc, &ring, &changed),
+                    read_and_checked(alloc, &ring, &changed),
+                    "{changed:?}"
+                );
+            }
+        }
+    }
+    Ok(())
+}
+
+#[test]
+fn faults_of_the_text_come_first(rt: HostRuntime) -> Result<(), Fail> {
+    let alloc = rt.alloc();
+    let (Some(two), Some(three)) = (
+        instance(alloc, 2, &[0, 3, 1, 0], &[0, 2, 5, 0])?,
+        instance(
+            alloc,
+            3,
+            &[0, 1, 2, 1, 0, 3, 2, 3, 0],
+            &[0, 5, 2, 5, 0, 1, 2, 1, 0],
+        )?,
+    ) else {
+        panic!(rt; "an instance is refused");
+    };
+    let cases: [(&Instance, &[u8], Result<Verdict, CertError>); 6] = [
+        (
+            &three,
+            b"qapcert 1\nn 3\ncost 24\nperm 1 2 3\nb 9 10 12 0 -2 -5\nend\n",
+            Ok(Verdict::Optimal(24)),
+        ),
+        (
+            &three,
+            b"qapcert 1\nn 3\ncost 24\nperm 1 2 3\nb 9 10 13 0 -2 -5\nend\n",
+            Err(CertError::NotFeasible(5)),
+        ),
+        (
+            &three,
+            b"qapcert 1\nn 3\ncost 24\nperm 1 2 3\nb 9 10 13 0 -2 -5\n",
+            Err(CertError::Truncated(6)),
+        ),
+        (
+            &three,
+            b"qapcert 1\nn 3\ncost 23\nperm 1 2 3\nb 9 10 12 0 -2 -5\nend\nx\n",
+            Err(CertError::TrailingText(7)),
+        ),
+        (
+            &two,
+            b"qapcert 1\nn 3\ncost 24\nperm 1 2 2\nb 9 10 12 0 -2 -5\nend\n",
+            Err(CertError::PermBad(4)),
+        ),
+        (
+            &two,
+            b"qapcert 1\nn 3\ncost 24\nperm 1 2 3\nb 9 10 12 0 -2 -5\nend\n",
+            Err(CertError::SizeDiffers(2)),
+        ),
+    ];
+    for (instance, text, want) in cases {
+        assert_eq!(rt; accept(alloc, instance, text), want, "{text:?}");
+    }
+    Ok(())
+}
+
+/// The text of a certificate of size 40 whose first child of each split is a split, as deep as there are free facilities.
+fn deep(alloc: Global, version: &str, cost: &str) -> Result<Vec<u8>, AllocError> {
+    let head = format!(in alloc; "qapcert {version}\nn 40\ncost {cost}\nperm")?;
+    let mut text = Vec::from_slice(alloc, head.as_bytes())?;
+    for location in 1..41 {
+        text.extend_from_slice(format!(in alloc; " {location}")?.as_bytes())?;
+    }
+    text.extend_from_slice(b"\n")?;
+    for depth in 0..40 {
+        let line = if version == "1" {
+            format!(in alloc; "s\n")?
+        } else {
+            format!(in alloc; "s {}\n", depth + 1)?
+        };
+        text.extend_from_slice(line.as_bytes())?;
+    }
+    text.extend_from_slice(b"b\n")?;
+    for depth in 1..40usize {
+        for _ in 0..depth {
+            text.extend_from_slice(b"b")?;
+            for _ in 0..depth {
+                text.extend_from_slice(b" 0 0")?;
+            }
+            text.extend_from_slice(b"\n")?;
+        }
+    }
+    text.extend_from_slice(b"end\n")?;
+    Ok(text)
+}
+
+#[test]
+fn a_deep_tree(rt: HostRuntime) -> Result<(), Fail> {
+    let alloc = rt.alloc();
+    let zeros = [0; 1600];
+    let Some(empty) = instance(alloc, 40, &zeros, &zeros)? else {
+        panic!(rt; "an instance is refused");
+    };
+    for version in ["1", "2"] {
+        let text = deep(alloc, version, "0")?;
+        let lines = text.iter().filter(|byte| **byte == b'\n').count();
+        assert_eq!(rt; lines, 826);
+        assert_eq!(rt; accept(alloc, &empty, &text), Ok(Verdict::Optimal(0)));
+        let text = deep(alloc, version, "1")?;
+        assert_eq!(rt; accept(alloc, &empty, &text), Err(CertError::CostDiffers(3)));
+    }
+    Ok(())
+}
