@@ -12,3 +12,6 @@ mod pieces;
 pub use assembling::assemble;
 pub use error::AssembleError;
 pub use law::{certificate_law, opening_law, order_law, replacement_law};
+
+#[cfg(test)]
+mod tests;

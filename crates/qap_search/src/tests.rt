@@ -1,0 +1,189 @@
+//! What no clause says: that tuples are put together, with the certificates of worked examples, and each kind of refusal.
+
+use crate::{AssembleError, assemble};
+use Part::{Int, List, Word};
+use qap_cert::check;
+use qap_cost::Instance;
+use std::alloc::{AllocError, Global};
+use std::test::Fail;
+use tuple_match::{Field, Tuple};
+
+/// A field as a row of a table writes it.
+#[derive(Clone, Copy)]
+enum Part {
+    Int(i128),
+    Word(&'static str),
+    List(&'static [i128]),
+}
+
+/// The tuples of a search, each by its fields.
+type Row = &'static [&'static [Part]];
+
+const BEST: Part = Word("best");
+
+const NODE: Part = Word("node");
+
+const SPLIT: Part = Word("split");
+
+const CLOSED: Part = Word("closed");
+
+const IDENTITY: Part = List(&[0, 1, 2]);
+
+const ZEROS: Part = List(&[0, 0, 0]);
+
+fn field(alloc: Global, part: Part) -> Result<Field, AllocError> {
+    match part {
+        Int(number) => Ok(Field::Int(number)),
+        Word(text) => Ok(Field::Word(String::from_str(alloc, text)?)),
+        List(numbers) => Ok(Field::List(numbers.to_vec(alloc)?)),
+    }
+}
+
+fn tuple(alloc: Global, parts: &[Part]) -> Result<Tuple, Fail> {
+    let mut fields = Vec::new(alloc);
+    for part in parts {
+        fields.push(field(alloc, *part)?)?;
+    }
+    Ok(Tuple::new(fields)?)
+}
+
+fn tuples(alloc: Global, row: Row) -> Result<Vec<Tuple>, Fail> {
+    let mut tuples = Vec::new(alloc);
+    for parts in row {
+        tuples.push(tuple(alloc, parts)?)?;
+    }
+    Ok(tuples)
+}
+
+/// Three facilities: the order 0 1 2 costs 24, and none costs less.
+#[test]
+fn a_closed_root_is_a_certificate(rt: HostRuntime) -> Result<(), Fail> {
+    let a = Vec::from_slice(rt.alloc(), &[0, 1, 2, 1, 0, 3, 2, 3, 0])?;
+    let b = Vec::from_slice(rt.alloc(), &[0, 5, 2, 5, 0, 1, 2, 1, 0])?;
+    let instance = Instance::new(3, a, b)?;
+    let row: Row = &[
+        &[BEST, Int(24), IDENTITY],
+        &[CLOSED, List(&[]), List(&[9, 10, 12]), List(&[0, -2, -5])],
+    ];
+    let certificate = assemble(rt.alloc(), 3, tuples(rt.alloc(), row)?)?;
+    assert_eq!(rt; certificate.cost(), 24);
+    assert_eq!(rt; certificate.bound(), 24);
+    assert!(rt; check(rt.alloc(), &instance, &certificate).is_ok());
+    Ok(())
+}
+
+/// Three facilities: each order costs 1, and the root's reduced matrix holds zeros alone.
+#[test]
+fn nodes_are_put_together_in_any_order(rt: HostRuntime) -> Result<(), Fail> {
+    let a = Vec::from_slice(rt.alloc(), &[0, 1, 0, 0, 0, 1, 1, 0, 0])?;
+    let b = Vec::from_slice(rt.alloc(), &[0, 1, 0, 1, 0, 0, 0, 0, 0])?;
+    let instance = Instance::new(3, a, b)?;
+    let row: Row = &[
+        &[CLOSED, List(&[0, 2]), List(&[1, 0]), List(&[0, 0])],
+        &[CLOSED, List(&[0, 0]), List(&[0, 0]), List(&[1, 0])],
+        &[BEST, Int(1), IDENTITY],
+        &[SPLIT, List(&[]), Int(0)],
+        &[CLOSED, List(&[0, 1]), List(&[0, 0]), List(&[1, 0])],
+    ];
+    let certificate = assemble(rt.alloc(), 3, tuples(rt.alloc(), row)?)?;
+    assert_eq!(rt; certificate.cost(), 1);
+    assert!(rt; check(rt.alloc(), &instance, &certificate).is_ok());
+    Ok(())
+}
+
+static REFUSED: [(Row, AssembleError); 13] = [
+    (&[], AssembleError::NotATree),
+    (&[&[BEST, Int(0), IDENTITY]], AssembleError::NotATree),
+    (
+        &[&[CLOSED, List(&[]), ZEROS, ZEROS]],
+        AssembleError::NotATree,
+    ),
+    // An open node is told first.
+    (
+        &[
+            &[NODE, List(&[])],
+            &[NODE, List(&[7])],
+            &[Word("job"), Int(1)],
+        ],
+        AssembleError::Unfinished(2),
+    ),
+    (
+        &[
+            &[BEST, Int(0), IDENTITY],
+            &[CLOSED, List(&[]), ZEROS, ZEROS],
+            &[Word("job"), Int(1)],
+        ],
+        AssembleError::NotATree,
+    ),
+    (
+        &[
+            &[BEST, Int(0), IDENTITY],
+            &[BEST, Int(0), IDENTITY],
+            &[CLOSED, List(&[]), ZEROS, ZEROS],
+        ],
+        AssembleError::NotATree,
+    ),
+    // One node twice.
+    (
+        &[
+            &[BEST, Int(0), IDENTITY],
+            &[CLOSED, List(&[]), ZEROS, ZEROS],
+            &[CLOSED, List(&[]), ZEROS, ZEROS],
+        ],
+        AssembleError::NotATree,
+    ),
+    // A node below a closed one.
+    (
+        &[
+            &[BEST, Int(0), IDENTITY],
+            &[CLOSED, List(&[]), ZEROS, ZEROS],
+            &[CLOSED, List(&[0, 0]), List(&[0, 0]), List(&[0, 0])],
+        ],
+        AssembleError::NotATree,
+    ),
+    // A child is missing.
+    (
+        &[
+            &[BEST, Int(0), IDENTITY],
+            &[SPLIT, List(&[]), Int(1)],
+            &[CLOSED, List(&[1, 0]), List(&[0, 0]), List(&[0, 0])],
+            &[CLOSED, List(&[1, 2]), List(&[0, 0]), List(&[0, 0])],
+        ],
+        AssembleError::NotATree,
+    ),
+    // The facility is none of three, and a number of 17 bits.
+    (
+        &[&[BEST, Int(0), IDENTITY], &[SPLIT, List(&[]), Int(3)]],
+        AssembleError::NotATree,
+    ),
+    (
+        &[&[BEST, Int(0), IDENTITY], &[SPLIT, List(&[]), Int(65536)]],
+        AssembleError::NotATree,
+    ),
+    // A permutation of two, and a dual too few.
+    (
+        &[
+            &[BEST, Int(0), List(&[0, 1])],
+            &[CLOSED, List(&[]), ZEROS, ZEROS],
+        ],
+        AssembleError::NotATree,
+    ),
+    (
+        &[
+            &[BEST, Int(0), IDENTITY],
+            &[CLOSED, List(&[]), ZEROS, List(&[0, 0])],
+        ],
+        AssembleError::NotATree,
+    ),
+];
+
+#[test]
+fn other_tuples_are_refused(rt: HostRuntime) -> Result<(), Fail> {
+    for (number, (row, want)) in REFUSED.iter().enumerate() {
+        match assemble(rt.alloc(), 3, tuples(rt.alloc(), row)?) {
+            Ok(_) => assert!(rt; false, "row {number}"),
+            Err(error) => assert_eq!(rt; error, *want, "row {number}"),
+        }
+    }
+    Ok(())
+}
