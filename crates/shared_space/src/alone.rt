@@ -89,11 +89,7 @@ impl<L: Law> Alone<L> {
     }
 
     /// Puts a tuple out, outside all transactions.
-    pub(crate) fn out(
-        &mut self,
-        tuple: Tuple,
-        lease: Lease,
-    ) -> Result<EntryId, (SpaceError, Tuple)>
+    pub(crate) fn out(&mut self, tuple: Tuple, lease: Lease) -> Result<EntryId, (SpaceError, Tuple)>
         requires { lease ≡ Lease.Forever → IsFree L.lawful L.allowed }
         ensures step { Step self.old.world.space (out tuple lease) (out_reply result) self.new.world.space }
         ensures rest { self.new ≡ with_place_space self.old self.new.world.space }

@@ -22,3 +22,5 @@ pub use via::Via;
 
 #[cfg(test)]
 mod tests;
+#[cfg(test)]
+mod thread_tests;

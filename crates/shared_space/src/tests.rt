@@ -1,4 +1,4 @@
-ghost use Rattle.std.specs.Prelude.{◌≡◌, ◌+◌, IfOk, if◌then◌else◌};
+ghost use Rattle.std.specs.Prelude.{◌≡◌, ◌+◌, MatchOption};
 ghost use Rattle.shared_space.specs.Law.{IsFree};
 
 use crate::alone::Alone;
@@ -28,14 +28,15 @@ struct Outcome {
     commits: u64,
 }
 
-fn job(alloc: Global, number: i128) -> Result<Tuple, Fail> {
+pub(crate) fn job(alloc: Global, number: i128) -> Option<Tuple> {
     let mut fields = Vec::new(alloc);
-    fields.push(Field::Word(String::from_str(alloc, "job")?))?;
-    fields.push(Field::Int(number))?;
-    Ok(Tuple::new(fields)?)
+    let name = String::from_str(alloc, "job").ok()?;
+    fields.push(Field::Word(name)).ok()?;
+    fields.push(Field::Int(number)).ok()?;
+    Tuple::new(fields).ok()
 }
 
-fn any_job(alloc: Global) -> Result<Template, Fail> {
+pub(crate) fn any_job(alloc: Global) -> Result<Template, Fail> {
     let mut patterns = Vec::new(alloc);
     patterns.push(Pattern::Is(Field::Word(String::from_str(alloc, "job")?)))?;
     patterns.push(Pattern::AnyInt)?;
@@ -43,15 +44,17 @@ fn any_job(alloc: Global) -> Result<Template, Fail> {
 }
 
 /// Writes a job under a transaction of its own.
-fn write<L: Law, M: Room<L>>(alloc: Global, room: &mut M, share: &mut Share<L>) -> Result<bool, Fail>
+pub(crate) fn write<L: Law, M: Room<L>>(
+    alloc: Global,
+    room: &mut M,
+    share: &mut Share<L>,
+) -> Option<()>
     requires { IsFree L.lawful L.allowed }
-    ensures { IfOk result (λ written. share.new ≡ (if written then share.old + 1 else share.old)) }
+    ensures { MatchOption result (share.new ≡ share.old) (λ _. share.new ≡ share.old + 1) }
 {
-    let mut txn = room.begin(1000)?;
-    if txn.out_in(job(alloc, 7)?, Lease::Forever).is_err() {
-        return Ok(false);
-    }
-    Ok(room.commit(share, txn).is_ok())
+    let mut txn = room.begin(1000).ok()?;
+    txn.out_in(job(alloc, 7)?, Lease::Forever).ok()?;
+    room.commit(share, txn).ok()
 }
 
 /// Takes a job, after so many milliseconds, and tells why the commit was refused.
@@ -85,7 +88,9 @@ fn work<L: Law>(alloc: Global, blank: Blank) -> Result<Outcome, Fail>
     let made = Alone::<L>::new(alloc, blank, TxnSpace::new(alloc), 2);
     let (mut room, mut shares) = made.map_err(|back| back.0)?;
     let jobs = any_job(alloc)?;
-    write(alloc, &mut room, &mut shares[0])?;
+    let Some(()) = write(alloc, &mut room, &mut shares[0]) else {
+        return Err(Fail::new("a job is to be written"));
+    };
     let open = room.close(&jobs);
     let late = take(alloc, &mut room, &mut shares[1], 1000)?;
     take(alloc, &mut room, &mut shares[1], 1500)?;
@@ -111,7 +116,9 @@ fn leave_all<L: Law>(alloc: Global, blank: Blank) -> Result<[bool; 3], Fail>
     let made = Alone::<L>::new(alloc, blank, TxnSpace::new(alloc), 2);
     let (mut room, mut shares) = made.map_err(|back| back.0)?;
     let jobs = any_job(alloc)?;
-    write(alloc, &mut room, &mut shares[0])?;
+    let Some(()) = write(alloc, &mut room, &mut shares[0]) else {
+        return Err(Fail::new("a job is to be written"));
+    };
     let open = room.close(&jobs);
     room.leave();
     let one_left = room.close(&jobs);
