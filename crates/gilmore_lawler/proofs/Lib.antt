@@ -1,4 +1,5 @@
 pub mod Completions
+pub mod DotBlocks
 pub mod Dots
 pub mod FactorRows
 pub mod Lists

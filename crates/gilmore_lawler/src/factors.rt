@@ -8,7 +8,7 @@ ghost use Rattle.gilmore_lawler.specs.Ranking.{IsRankings};
 ghost use Rattle.gilmore_lawler.specs.Table.{IsTable, AllBelow, matrix_of, linear_row, IsFactorRow};
 
 use crate::ranking::{Ranked, push_others, ranking_of};
-use crate::side::{Side, entry_at, row_of};
+use crate::side::{Side, entry_at, narrow, row_of};
 use qap_cost::{Instance, marked};
 use std::alloc::AllocError;
 
@@ -22,7 +22,7 @@ pub fn factor_rows(
     rankings: &[Ranked],
     placed: &[u16],
     free: &[u16],
-    table: &mut Vec<i64>,
+    table: &mut Vec<i32>,
 ) -> Result<(), AllocError>
     requires instance { IsInstance instance.now }
     requires rankings { IsRankings instance.now side rankings.now }
@@ -51,14 +51,14 @@ fn push_linear(
     side: Side,
     placed: &[u16],
     i: u16,
-    table: &mut Vec<i64>,
+    table: &mut Vec<i32>,
 ) -> Result<(), AllocError>
     requires own { i < instance.now.size }
     requires placed { AllBelow instance.now.size placed.now }
     ensures { OnOk result (table.new.items ≡ table.old.items ++ linear_row instance.now.size (matrix_of instance.now side) placed.now i) }
 {
     let row = usize::from(i);
-    table.push(entry_at(instance, side, row, row))?;
+    table.push(narrow(entry_at(instance, side, row, row)))?;
     push_row(instance, side, row, placed, table)?;
     push_column(instance, side, placed, row, table)?;
     Ok(())
@@ -70,7 +70,7 @@ fn push_row(
     side: Side,
     i: usize,
     columns: &[u16],
-    numbers: &mut Vec<i64>,
+    numbers: &mut Vec<i32>,
 ) -> Result<(), AllocError>
     requires row { i < instance.now.size }
     requires columns { AllBelow instance.now.size columns.now }
@@ -78,7 +78,7 @@ fn push_row(
 {
     let row = row_of(instance, side, i);
     for &column in columns {
-        numbers.push(row[usize::from(column)])?;
+        numbers.push(narrow(row[usize::from(column)]))?;
     }
     Ok(())
 }
@@ -89,14 +89,14 @@ fn push_column(
     side: Side,
     rows: &[u16],
     i: usize,
-    numbers: &mut Vec<i64>,
+    numbers: &mut Vec<i32>,
 ) -> Result<(), AllocError>
     requires column { i < instance.now.size }
     requires rows { AllBelow instance.now.size rows.now }
     ensures { OnOk result (numbers.new.items ≡ numbers.old.items ++ map (λ (h : ℕ). entry instance.now.size (matrix_of instance.now side) h i) rows.now) }
 {
     for &row in rows {
-        numbers.push(entry_at(instance, side, usize::from(row), i))?;
+        numbers.push(narrow(entry_at(instance, side, usize::from(row), i)))?;
     }
     Ok(())
 }

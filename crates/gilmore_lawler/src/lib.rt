@@ -1,6 +1,7 @@
 //! The bound of Gilmore and Lawler: reduced matrices of the quadratic assignment problem.
 #![tactic(auto)]
 
+mod blocks;
 mod bound;
 mod duals;
 mod factors;

@@ -6,14 +6,14 @@ ghost use Rattle.std.specs.List.Sorted.{IsPermutation};
 ghost use Rattle.gilmore_lawler.specs.Ranking.{IsRanking, IsRankings, entry_with_column, others_in, values_of};
 ghost use Rattle.gilmore_lawler.specs.Table.{IsOrdered, matrix_of};
 
-use crate::side::{Side, row_of};
+use crate::side::{Side, narrow, row_of};
 use qap_cost::Instance;
 use std::alloc::{AllocError, Global};
 
 /// An entry of a row, with its column.
 #[derive(Clone, Copy)]
 pub struct Ranked {
-    pub value: i64,
+    pub value: i32,
     pub column: u16,
 }
 
@@ -65,7 +65,7 @@ fn push_entries(
     let entries = row_of(instance, side, i);
     for j in 0..n {
         row.push(Ranked {
-            value: entries[j],
+            value: narrow(entries[j]),
             column: j as u16,
         })?;
     }
@@ -106,7 +106,7 @@ pub fn push_others(
     row: &[Ranked],
     is_free: &[bool],
     own: u16,
-    numbers: &mut Vec<i64>,
+    numbers: &mut Vec<i32>,
 ) -> Result<(), AllocError>
     requires columns { All (λ x. x.column < length is_free.now) row.now }
     ensures { OnOk result (numbers.new.items ≡ numbers.old.items ++ others_in is_free.now own row.now) }

@@ -8,7 +8,7 @@ ghost use Rattle.gilmore_lawler.specs.ReducedMatrix.{IsReduced};
 ghost use Rattle.gilmore_lawler.specs.Table.{IsTable, IsProductRow, product_row};
 
 use crate::factors::factor_rows;
-use crate::pairing::sum_of_products;
+use crate::blocks::sum_by_eights;
 use crate::ranking::{Ranked, ranked_rows};
 use crate::side::Side;
 use qap_cost::{Instance, Matrix, Partial};
@@ -85,8 +85,8 @@ impl RankedInstance {
 /// Memory for reduced matrices, kept from one to the next. It can be used again after any answer, for any instance.
 #[derive(Drop)]
 pub struct Workspace {
-    a_rows: Vec<i64>,
-    b_rows: Vec<i64>,
+    a_rows: Vec<i32>,
+    b_rows: Vec<i32>,
 }
 
 impl Workspace {
@@ -147,8 +147,8 @@ fn reduced_from(
 /// The products of each row of the one table with each of the other: so many rows of this width each.
 fn products(
     alloc: Global,
-    a_rows: &[i64],
-    b_rows: &[i64],
+    a_rows: &[i32],
+    b_rows: &[i32],
     count: usize,
     width: usize,
 ) -> Result<Vec<i128>, AllocError>
@@ -170,8 +170,8 @@ fn products(
 
 /// Adds the products of this row with each of so many others.
 fn push_products(
-    row: &[i64],
-    others: &[i64],
+    row: &[i32],
+    others: &[i32],
     count: usize,
     entries: &mut Vec<i128>,
 ) -> Result<(), AllocError>
@@ -185,7 +185,7 @@ fn push_products(
     let width = row.len();
     for c in 0..count {
         let start = c * width;
-        entries.push(sum_of_products(row, &others[start..start + width]))?;
+        entries.push(sum_by_eights(row, &others[start..start + width]))?;
     }
     Ok(())
 }

@@ -39,3 +39,11 @@ pub fn entry_at(instance: &Instance, side: Side, i: usize, j: usize) -> i64
         Side::Distance => instance.b(i, j),
     }
 }
+
+/// An entry in 32 bits, which hold it.
+pub fn narrow(entry: i64) -> i32
+    requires { InRange entry }
+    ensures { result ≡ entry }
+{
+    entry as i32
+}

@@ -1,7 +1,7 @@
 use Rattle.std.proofs.Common.{◌≡◌, ℕ, ◌++◌, ◌∷◌, [], List, map, ap, ◌∙◌, subst}
 use Rattle.std.specs.Prelude.{ℤ}
 use Rattle.qap_cost.specs.Instance.{entry}
-use Rattle.qap_cost.proofs.Objectives.{reads_entry}
+use Rattle.gilmore_lawler.proofs.DotBlocks.{narrowed}
 use Rattle.gilmore_lawler.specs.Table.{matrix_of, linear_row}
 use Rattle.gilmore_lawler.proofs.FactorRows.{joined}
 use Rattle.gilmore_lawler.proofs.factors.push_linear.Goals as goal
@@ -13,7 +13,7 @@ returns c =
     let i = c.from-row.result in
     let own : c.push.new.self.items ≡ c.args.table.now.items ++ entry n matrix i i ∷ [] =
     c.in_ok-push.ensures.items
-    ∙ ap (λ (x : ℤ). c.args.table.now.items ++ x ∷ []) (reads_entry c.entry_at.result c.entry_at.ensures.range ∙ c.entry_at.ensures.value) in
+    ∙ ap (λ (x : ℤ). c.args.table.now.items ++ x ∷ []) (narrowed c.entry_at.result c.narrow.result c.entry_at.ensures.range c.narrow.ensures ∙ c.entry_at.ensures.value) in
     let row : c.push_row.new.numbers.items ≡ c.push.new.self.items ++ map (entry n matrix i) c.args.placed.now = c.in_ok-push_row.ensures in
     let column : c.push_column.new.numbers.items ≡ c.push_row.new.numbers.items ++ map (λ (h : ℕ). entry n matrix h i) c.args.placed.now =
     c.in_ok-push_column.ensures in

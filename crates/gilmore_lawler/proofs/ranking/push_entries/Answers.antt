@@ -1,6 +1,6 @@
 use Rattle.std.proofs.Common.{ap, ◌∙◌, arith, get_or}
 use Rattle.std.specs.Prelude.{pos}
-use Rattle.qap_cost.proofs.Objectives.{reads_entry}
+use Rattle.gilmore_lawler.proofs.DotBlocks.{narrowed}
 use Rattle.gilmore_lawler.specs.Ranking.{entry_with_column}
 use Rattle.gilmore_lawler.specs.Table.{matrix_of}
 use Rattle.gilmore_lawler.proofs.Rankings.{entries_more, with_column}
@@ -13,4 +13,4 @@ loop-j-preserved c =
     let row = c.row_of-entries.ensures.row in
     entries_more (entry_with_column c.args.instance.now.size (matrix_of c.args.instance.now c.args.side) c.args.i) _ _ _ _ j
     c.loop-j.invariant c.in_ok-push.ensures.items
-    (ap (with_column j) (reads_entry value (c.row_of-entries.ensures.range.each j (omega (arith, row.count, c.size-n.ensures.value))) ∙ row.entries j (omega (arith, c.size-n.ensures.value))))
+    (ap (with_column j) (narrowed value c.narrow.result (c.row_of-entries.ensures.range.each j (omega (arith, row.count, c.size-n.ensures.value))) c.narrow.ensures ∙ row.entries j (omega (arith, c.size-n.ensures.value))))
