@@ -1,9 +1,9 @@
 //! The rows of the two matrices, each in order of its entries.
 
-ghost use Rattle.std.specs.Prelude.{◌≡◌, ◌<◌, ◌++◌, IfOk, OnOk, length, map};
+ghost use Rattle.std.specs.Prelude.{◌≡◌, ◌+◌, ◌<◌, ◌≤◌, ◌++◌, IfOk, OnOk, length, map, take};
 ghost use Rattle.std.specs.List.{All, range_with_len};
 ghost use Rattle.std.specs.List.Sorted.{IsPermutation};
-ghost use Rattle.gilmore_lawler.specs.Ranking.{IsRanking, IsRankings, entry_with_column, others_in, values_of};
+ghost use Rattle.gilmore_lawler.specs.Ranking.{IsRanking, IsRankings, entry_with_column, is_other, others_in, values_of};
 ghost use Rattle.gilmore_lawler.specs.Table.{IsOrdered, matrix_of};
 
 use crate::side::{Side, narrow, row_of};
@@ -102,6 +102,8 @@ pub fn ranking_of<'a>(
 }
 
 /// Adds the values of a row in order, but those in column `own` and in columns that aren't free.
+///
+/// Each value is written, and the place behind it kept where it belongs there, so that no branch waits for the test.
 pub fn push_others(
     row: &[Ranked],
     is_free: &[bool],
@@ -111,10 +113,38 @@ pub fn push_others(
     requires columns { All (λ x. x.column < length is_free.now) row.now }
     ensures { OnOk result (numbers.new.items ≡ numbers.old.items ++ others_in is_free.now own row.now) }
 {
-    for entry in row {
-        if entry.column != own && is_free[usize::from(entry.column)] {
-            numbers.push(entry.value)?;
-        }
-    }
+    let start = numbers.len();
+    numbers.resize(start + row.len(), 0)?;
+    let end = pick_others(row, is_free, own, numbers, start);
+    numbers.truncate(end);
     Ok(())
+}
+
+/// Writes them from this place on, and tells the place behind them. What stands behind that is of no meaning.
+fn pick_others(
+    row: &[Ranked],
+    is_free: &[bool],
+    own: u16,
+    numbers: &mut [i32],
+    start: usize,
+) -> usize
+    requires columns { All (λ x. x.column < length is_free.now) row.now }
+    requires room { start + length row.now ≤ length numbers.old }
+    ensures within { result ≤ length numbers.new }
+    ensures picked { take result numbers.new ≡ take start numbers.old ++ others_in is_free.now own row.now }
+{
+    let mut place = start;
+    for entry in row {
+        numbers[place] = entry.value;
+        place += usize::from(is_other(entry, is_free, own));
+    }
+    place
+}
+
+/// Whether an entry stands in a free column other than this one.
+fn is_other(entry: &Ranked, is_free: &[bool], own: u16) -> bool
+    requires { entry.now.column < length is_free.now }
+    ensures { result ≡ is_other is_free.now own entry.now }
+{
+    (entry.column != own) & is_free[usize::from(entry.column)]
 }
