@@ -1,3 +1,4 @@
 pub mod Event
 pub mod Law
 pub mod Place
+pub mod Refusals

@@ -7,6 +7,7 @@ ghost use Rattle.space_txn.specs.Content.{content_of};
 ghost use Rattle.space_txn.specs.Finding.{Finds, Shows};
 ghost use Rattle.space_txn.specs.Machine.{find_answer};
 ghost use Rattle.shared_space.specs.Law.{InLawful, IsFree, MayCommit};
+ghost use Rattle.shared_space.specs.Refusals.{IsAbortError, IsBeginError, IsFindError, IsOutError};
 
 use crate::alone::Alone;
 use crate::error::SharedError;
@@ -66,6 +67,7 @@ impl<L: Law> Shared<L> {
     ) -> Result<EntryId, (SpaceError, Tuple)>
         requires { lease ≡ Lease.Forever → IsFree L.lawful L.allowed }
         ensures handed_back { IfErr result (λ back. back.1 ≡ tuple) }
+        ensures kind { IfErr result (λ back. IsOutError back.0) }
     {
         let put = self.alone.lock(rt).out(tuple, lease);
         self.changed.notify_all();
@@ -86,7 +88,8 @@ impl<L: Law> Shared<L> {
         rt: &R,
         template: &Template,
     ) -> Result<Option<(EntryId, Tuple)>, SpaceError>
-        ensures { IfOk result (λ found. IfSome found (λ pair. Matches template.now pair.1)) }
+        ensures matches { IfOk result (λ found. IfSome found (λ pair. Matches template.now pair.1)) }
+        ensures kind { IfErr result (λ error. error ≡ SpaceError.OutOfMemory) }
     {
         self.alone.lock(rt).rdp(template)
     }
@@ -132,6 +135,7 @@ impl<L: Law> Shared<L> {
     /// Begins a transaction with a lease of so many milliseconds, and a day at most. Refusals: 33, 50.
     pub fn begin<R: Wait>(&self, rt: &R, asked: u64) -> Result<Txn, TxnError>
         ensures empty { IfOk result (λ txn. (txn.marks ≡ []) × (txn.writes ≡ [])) }
+        ensures kind { IfErr result IsBeginError }
     {
         self.alone.lock(rt).begin(asked)
     }
@@ -146,6 +150,7 @@ impl<L: Law> Shared<L> {
     ) -> Result<Option<Found>, TxnError>
         ensures found { IfOk result (λ found. IfSome found (Shows template.now txn.new)) }
         ensures marks { Finds (InLawful L.lawful) true template.now txn.old (find_answer result) txn.new }
+        ensures kind { IfErr result IsFindError }
     {
         self.alone.lock(rt).inp_in(txn, template)
     }
@@ -160,6 +165,7 @@ impl<L: Law> Shared<L> {
     ) -> Result<Option<Found>, TxnError>
         ensures found { IfOk result (λ found. IfSome found (Shows template.now txn.new)) }
         ensures marks { Finds (InLawful L.lawful) false template.now txn.old (find_answer result) txn.new }
+        ensures kind { IfErr result IsFindError }
     {
         self.alone.lock(rt).rdp_in(txn, template)
     }
@@ -185,6 +191,7 @@ impl<L: Law> Shared<L> {
     /// Ends a transaction, whose marks are dropped. Refusals: 31, 32; the transaction comes back. Takes no memory.
     pub fn abort<R: Wait>(&self, rt: &R, txn: Txn) -> Result<(), (TxnError, Txn)>
         ensures handed_back { IfErr result (λ back. back.1 ≡ txn) }
+        ensures kind { IfErr result (λ back. IsAbortError back.0) }
     {
         let ended = self.alone.lock(rt).abort(txn);
         self.changed.notify_all();

@@ -106,8 +106,8 @@ fn work<L: Law>(alloc: Global, blank: Blank) -> Result<Outcome, Fail>
     })
 }
 
-/// The space on which both workers have left is closed, whatever is there.
-fn leave_all<L: Law>(alloc: Global, blank: Blank) -> Result<[bool; 3], Fail>
+/// Whether a space is closed that nobody, one worker and both workers have left, and the jobs that are there in the end.
+fn leave_all<L: Law>(alloc: Global, blank: Blank) -> Result<([bool; 3], u64), Fail>
     requires name { blank.name ≡ L.name }
     requires parts { blank.parts ≡ L.parts }
     requires two { blank.parts ≡ 2 }
@@ -119,11 +119,17 @@ fn leave_all<L: Law>(alloc: Global, blank: Blank) -> Result<[bool; 3], Fail>
     let Some(()) = write(alloc, &mut room, &mut shares[0]) else {
         return Err(Fail::new("a job is to be written"));
     };
+    let mut txn = room.begin(1000)?;
+    room.rdp_in(&mut txn, &jobs)?;
+    if room.abort(txn).is_err() || room.space().commits() != 1 {
+        return Err(Fail::new("a transaction is to be ended after one commit"));
+    }
     let open = room.close(&jobs);
     room.leave();
     let one_left = room.close(&jobs);
     room.leave();
-    Ok([open, one_left, room.close(&jobs)])
+    let left = room.close(&jobs);
+    Ok(([open, one_left, left], room.into_space().count(&jobs)))
 }
 
 #[test]
@@ -142,7 +148,7 @@ fn shares_count_accepted_commits(rt: HostRuntime) -> Result<(), Fail> {
 
 #[test]
 fn a_space_that_all_have_left_is_closed(rt: HostRuntime) -> Result<(), Fail> {
-    let closed = leave_all::<Brand>(rt.alloc(), Blank::new(2))?;
-    assert!(rt; closed == [false, false, true]);
+    let told = leave_all::<Brand>(rt.alloc(), Blank::new(2))?;
+    assert!(rt; told == ([false, false, true], 1));
     Ok(())
 }

@@ -200,6 +200,11 @@ fn close_in<L: Law, R: Wait>(
     };
     let _ = shared.out(rt, first, Lease::Forever);
     let with_job = shared.close(rt, &jobs);
+    let mut reader = shared.begin(rt, 1000)?;
+    shared.rdp_in(rt, &mut reader, &jobs)?;
+    if shared.abort(rt, reader).is_err() || shared.advance(rt, 1).is_err() {
+        return Err(Fail::new("a transaction is to be ended and the moment moved on"));
+    }
     let mut txn = shared.begin(rt, 1000)?;
     shared.inp_in(rt, &mut txn, &jobs)?;
     let while_taken = shared.close(rt, &jobs);

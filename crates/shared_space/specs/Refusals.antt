@@ -1,0 +1,32 @@
+-- The refusals that each call may meet, whatever other threads did.
+use Rattle.tuple_space.specs.declared.error.SpaceError.{SpaceError}
+use Rattle.tuple_space.specs.declared.error.SpaceError.TheVariants.{Exhausted as numbers_used_up, NotThere, OutOfMemory as memory_used_up}
+use Rattle.space_txn.specs.declared.error.TxnError.{TxnError}
+use Rattle.space_txn.specs.declared.error.TxnError.TheVariants.{Expired, Foreign, Exhausted, OutOfMemory}
+
+-- a transaction's begin: 33, 50
+abbrev pub IsBeginError : TxnError → Type 0
+IsBeginError Exhausted = Unit {0}
+IsBeginError OutOfMemory = Unit {0}
+IsBeginError Expired = ⊥
+IsBeginError Foreign = ⊥
+
+-- a call that finds for a transaction: 31, 32, 50
+abbrev pub IsFindError : TxnError → Type 0
+IsFindError Expired = Unit {0}
+IsFindError Foreign = Unit {0}
+IsFindError OutOfMemory = Unit {0}
+IsFindError Exhausted = ⊥
+
+-- a transaction's end without a commit: 31, 32
+abbrev pub IsAbortError : TxnError → Type 0
+IsAbortError Expired = Unit {0}
+IsAbortError Foreign = Unit {0}
+IsAbortError Exhausted = ⊥
+IsAbortError OutOfMemory = ⊥
+
+-- a put outside all transactions: 33, 50
+abbrev pub IsOutError : SpaceError → Type 0
+IsOutError numbers_used_up = Unit {0}
+IsOutError memory_used_up = Unit {0}
+IsOutError NotThere = ⊥
