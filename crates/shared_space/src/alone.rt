@@ -152,12 +152,14 @@ impl<L: Law> Alone<L> {
             left: _,
             closed: _,
         } = self;
+        // Its clause says that the commits are few, so that their sum fits.
         let _commits = space.commits();
         let counted = gathered(book, shares);
         (space, counted)
     }
 }
 
+// The law that each call but a commit cites says that it leaves the content and the count of commits.
 impl<L: Law> Room<L> for Alone<L> {
     ghost did = { Did };
 
@@ -179,6 +181,7 @@ impl<L: Law> Room<L> for Alone<L> {
     fn commit(&mut self, share: &mut Share<L>, txn: Txn) -> Result<(), (TxnError, Txn)> {
         self.space.commit(txn)?;
         self.book.audit(&mut share.part);
+        // Its clause says that the commits are few, so that the share can count one more.
         let _commits = self.space.commits();
         self.book.add(&mut share.part, 1);
         share.count += 1;
