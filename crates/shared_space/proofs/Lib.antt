@@ -1,1 +1,3 @@
 pub mod LawLemmas
+pub mod MarkLemmas
+pub mod WriteLemmas

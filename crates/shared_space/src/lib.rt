@@ -7,6 +7,7 @@
 mod alone;
 mod error;
 mod law;
+mod laws;
 mod room;
 mod share;
 mod shared;
@@ -15,6 +16,7 @@ mod via;
 pub use alone::Alone;
 pub use error::SharedError;
 pub use law::Law;
+pub use laws::{two_marks_law, writing_law};
 pub use room::Room;
 pub use share::Share;
 pub use shared::Shared;

@@ -1,0 +1,27 @@
+//! What a transaction's commit takes out of the content and puts in.
+
+ghost use Rattle.std.specs.Prelude.{◌≡◌, List, [], ◌∷◌, ◌++◌, true, false, Bool};
+ghost use Rattle.tuple_match.specs.FieldValue.{FieldValue};
+ghost use Rattle.tuple_space.specs.declared.lease.Lease.TheVariants.{Forever};
+ghost use Rattle.tuple_space.specs.declared.write.Write.{Write};
+ghost use Rattle.space_txn.specs.Content.{SameItems, added_of, gone_of, kept_of};
+ghost use Rattle.space_txn.specs.Finding.{IsUntaken};
+ghost use Rattle.space_txn.specs.Marks.{with_mark};
+ghost use Rattle.space_txn.specs.declared.mark.Mark.{Mark};
+
+/// Where a transaction took one permanent entry and found another one, what it took is gone, and what it read stays, whatever
+/// has been renewed since.
+pub fn two_marks_law()
+    ensures taken { (m b : Mark) (renewed : Mark → Bool) →
+        m.taken ≡ true → m.permanent ≡ true → b.taken ≡ true → b.permanent ≡ true → IsUntaken b.entry (m ∷ []) →
+        SameItems (gone_of renewed (with_mark b (m ∷ []))) (m.tuple ∷ b.tuple ∷ []) × SameItems (kept_of (with_mark b (m ∷ []))) [] }
+    ensures read { (m b : Mark) (renewed : Mark → Bool) →
+        m.taken ≡ true → m.permanent ≡ true → b.taken ≡ false → b.permanent ≡ true → IsUntaken b.entry (m ∷ []) →
+        SameItems (gone_of renewed (with_mark b (m ∷ []))) (m.tuple ∷ []) × SameItems (kept_of (with_mark b (m ∷ []))) (b.tuple ∷ []) }
+{}
+
+/// A tuple that is written to stay forever is added.
+pub fn writing_law()
+    ensures { (writes : List Write) (tuple : List FieldValue) →
+        added_of (writes ++ record { tuple = tuple; lease = Forever; taken = false } ∷ []) ≡ added_of writes ++ tuple ∷ [] }
+{}
