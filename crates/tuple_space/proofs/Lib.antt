@@ -1,5 +1,6 @@
 pub mod EntryLemmas
 pub mod HoldLemmas
+pub mod PartLemmas
 pub mod RowLemmas
 pub mod SpaceLemmas
 pub mod WriteLemmas

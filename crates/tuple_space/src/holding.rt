@@ -1,8 +1,8 @@
 //! What holding entries does to rows of them.
 
-ghost use Rattle.std.specs.Prelude.{◌≡◌, ◌+◌, ◌≤◌, ◌^◌, ◌==◌, true, not, filter, map, reverse, OnErr, OnOk, vec_capacity, vec_len};
-ghost use Rattle.std.specs.List.{list_any};
-ghost use Rattle.tuple_space.specs.Entry.{is_taken_by, unheld};
+ghost use Rattle.std.specs.Prelude.{◌≡◌, ◌+◌, ◌<◌, ◌≤◌, ◌^◌, ◌==◌, true, false, [], ◌∷◌, ◌++◌, List, length, not, filter, map, reverse, OnErr, OnOk, vec_capacity, vec_len};
+ghost use Rattle.std.specs.List.{AllWithin, list_any};
+ghost use Rattle.tuple_space.specs.Entry.{is_held, is_taken_by, unheld};
 ghost use Rattle.tuple_space.specs.Rows.{IsRising, changed};
 ghost use Rattle.tuple_space.specs.Space.{held_by, released, space_of, stays_without, without_taken};
 ghost use Rattle.tuple_space.specs.Writes.{put_count, put_each};
@@ -48,27 +48,56 @@ fn stays_without(entry: &Entry, holder: u64, moment: u64) -> bool
     entry.end.is_live(moment) || entry.holds.is_held_besides(holder)
 }
 
-/// Ends the holds of a holder, and drops the entries that go with them.
-pub(crate) fn release_all(entries: &mut Vec<Entry>, holder: u64, moment: u64)
-    ensures { entries.new.items ≡ released holder moment entries.old.items }
+/// Ends the holds of a holder from a place on, before which nobody holds an entry, and drops the entries that go with them.
+pub(crate) fn release_all(entries: &mut Vec<Entry>, start: usize, holder: u64, moment: u64)
+    requires within { start ≤ vec_len entries.old }
+    requires before { AllWithin (λ e. is_held e ≡ false) entries.old.items 0 start }
+    ensures value { entries.new.items ≡ released holder moment entries.old.items }
+    ensures before { AllWithin (λ e. is_held e ≡ false) entries.new.items 0 start }
 {
-    entries.retain(|entry| stays_without(entry, holder, moment));
-    end_holds(entries, holder);
-}
-
-fn end_holds(entries: &mut [Entry], holder: u64)
-    ensures { entries.new ≡ map (unheld holder) entries.old }
-{
-    for entry in entries.iter_mut() {
-        entry.holds.release(holder);
+    let mut place = entries.len();
+    while place > start {
+        place -= 1;
+        release_at(entries, place, holder, moment);
     }
 }
 
-/// Drops the entries that a holder took.
-pub(crate) fn drop_taken(entries: &mut Vec<Entry>, holder: u64)
+/// Ends a holder's hold of the entry at a place, and drops the entry where it goes with it.
+fn release_at(entries: &mut Vec<Entry>, place: usize, holder: u64, moment: u64)
+    requires { place < vec_len entries.old }
+    ensures { (front : List Entry) (e : Entry) (behind : List Entry) → entries.old.items ≡ front ++ e ∷ behind → length front ≡ place
+        → entries.new.items ≡ front ++ (released holder moment (e ∷ []) ++ behind) }
+{
+    if !stays_without(&entries[place], holder, moment) {
+        entries.remove(place);
+        return;
+    }
+    let entry = &mut entries[place];
+    entry.holds.release(holder);
+}
+
+/// Drops the entries that a holder took, from a place on before which nobody holds one.
+pub(crate) fn drop_taken(entries: &mut Vec<Entry>, start: usize, holder: u64)
+    requires within { start ≤ vec_len entries.old }
+    requires before { AllWithin (λ e. is_held e ≡ false) entries.old.items 0 start }
     ensures { entries.new.items ≡ without_taken holder entries.old.items }
 {
-    entries.retain(|entry| !entry.holds.is_taken_by(holder));
+    let mut place = entries.len();
+    while place > start {
+        place -= 1;
+        drop_taken_at(entries, place, holder);
+    }
+}
+
+/// Drops the entry at a place where a holder took it.
+fn drop_taken_at(entries: &mut Vec<Entry>, place: usize, holder: u64)
+    requires { place < vec_len entries.old }
+    ensures { (front : List Entry) (e : Entry) (behind : List Entry) → entries.old.items ≡ front ++ e ∷ behind → length front ≡ place
+        → entries.new.items ≡ front ++ (without_taken holder (e ∷ []) ++ behind) }
+{
+    if entries[place].holds.is_taken_by(holder) {
+        entries.remove(place);
+    }
 }
 
 /// How many writes are put out.

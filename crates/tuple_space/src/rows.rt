@@ -1,11 +1,11 @@
 //! Rows of entries in rising order of number.
 
-ghost use Rattle.std.specs.Prelude.{◌≡◌, ◌<◌, ◌≢◌, ◌==◌, ◌&&◌, true, false, All, Contains, IfNone, IfSome, MatchBool, count_by, filter, find, length, slice_index_or, vec_len};
-ghost use Rattle.std.specs.List.{HoldsAt, list_any};
+ghost use Rattle.std.specs.Prelude.{◌≡◌, ◌<◌, ◌≤◌, ◌≢◌, ◌==◌, ◌&&◌, true, false, All, Contains, IfNone, IfSome, MatchBool, count_by, filter, find, length, slice_index_or, vec_len};
+ghost use Rattle.std.specs.List.{AllWithin, HoldsAt, list_any};
 ghost use Rattle.std.specs.Option.{option_copied};
 ghost use Rattle.tuple_space.specs.Lease.{is_live, later};
-ghost use Rattle.tuple_space.specs.Entry.{can_be_had, is_counted, is_there};
-ghost use Rattle.tuple_space.specs.Rows.{IsRising, changed, with_end, without};
+ghost use Rattle.tuple_space.specs.Entry.{can_be_had, is_counted, is_held, is_there};
+ghost use Rattle.tuple_space.specs.Rows.{IsRising, IsUnheldBelow, changed, with_end, without};
 
 use crate::admission::{can_be_had, is_counted, is_there};
 use crate::entry::{Claim, Entry};
@@ -48,12 +48,12 @@ pub(crate) fn newest_entry<'a>(
     }
 }
 
-/// The place of the entry of a number.
-pub(crate) fn place_of(entries: &[Entry], number: u64) -> Option<usize>
+/// The place of the first entry of a number or a greater one; where there is none, how many entries there are.
+pub(crate) fn place_from(entries: &[Entry], number: u64) -> usize
     requires { IsRising entries.now }
-    ensures none { IfNone result (All (λ e. e.number ≢ number) entries.now) }
-    ensures place { IfSome result (λ i. i < length entries.now) }
-    ensures found { IfSome result (HoldsAt (λ e. e.number ≡ number) entries.now) }
+    ensures within { result ≤ length entries.now }
+    ensures below { AllWithin (λ e. e.number < number) entries.now 0 result }
+    ensures above { AllWithin (λ e. number ≤ e.number) entries.now result (length entries.now) }
 {
     let mut low = 0;
     let mut high = entries.len();
@@ -65,11 +65,36 @@ pub(crate) fn place_of(entries: &[Entry], number: u64) -> Option<usize>
             high = middle;
         }
     }
-    if low < entries.len() && entries[low].number == number {
-        Some(low)
+    low
+}
+
+/// The place of the entry of a number.
+pub(crate) fn place_of(entries: &[Entry], number: u64) -> Option<usize>
+    requires { IsRising entries.now }
+    ensures none { IfNone result (All (λ e. e.number ≢ number) entries.now) }
+    ensures place { IfSome result (λ i. i < length entries.now) }
+    ensures found { IfSome result (HoldsAt (λ e. e.number ≡ number) entries.now) }
+{
+    let place = place_from(entries, number);
+    if place < entries.len() && entries[place].number == number {
+        Some(place)
     } else {
         None
     }
+}
+
+/// A number below which nobody holds an entry, where nobody holds one before a place.
+pub(crate) fn oldest_held(entries: &[Entry], start: usize) -> u64
+    requires rising { IsRising entries.now }
+    requires before { AllWithin (λ e. is_held e ≡ false) entries.now 0 start }
+    ensures { IsUnheldBelow result entries.now }
+{
+    for place in start..entries.len() {
+        if entries[place].holds.is_held() {
+            return entries[place].number;
+        }
+    }
+    u64::MAX
 }
 
 /// The entry of a number.

@@ -4,7 +4,7 @@ ghost use Rattle.std.specs.Prelude.{◌≡◌, ◌≤◌, ◌+◌, ◌^◌, ◌=
 ghost use Rattle.std.specs.Option.{option_copied};
 ghost use Rattle.tuple_space.specs.Space.{IsSpace, held_by, opening, released, with_entries, without_taken};
 ghost use Rattle.std.specs.List.{list_any};
-ghost use Rattle.tuple_space.specs.Rows.{changed, permanent_tuples, without};
+ghost use Rattle.tuple_space.specs.Rows.{HasUnheldFront, changed, permanent_tuples, without};
 ghost use Rattle.tuple_space.specs.Writes.{IsPutRefusal, put_count, put_each};
 ghost use Rattle.tuple_space.specs.Step.{IsHad, NothingHad, Step, advance, count, done_reply, inp, inp_reply, now, out, out_reply, rdp, rdp_reply, renew, told};
 
@@ -15,7 +15,8 @@ use crate::holding::{count_puts, drop_taken, hold_entry, put_rows, release_all};
 use crate::lease::Lease;
 use crate::permanent::permanent_of;
 use crate::rows::{
-    change_end, count_of, entry_of, keep_there, newest_entry, newest_place, take_at, take_number,
+    change_end, count_of, entry_of, keep_there, newest_entry, newest_place, oldest_held,
+    place_from, take_at, take_number,
 };
 use crate::write::Writes;
 use std::alloc::{AllocError, Global};
@@ -29,18 +30,21 @@ pub const MOST: u64 = 1 << 62;
 #[derive(Debug, Drop)]
 pub struct Space {
     entries: Vec<Entry>,
+    /// Nobody holds an entry whose number is below this one.
+    held_from: u64,
     moment: u64,
     last: u64,
 }
 
 impl Model for Space {
+    ghost use Rattle.tuple_space.specs.Rows.{IsUnheldBelow};
     ghost use Rattle.tuple_space.specs.Space.{IsSpace, SpaceValue, space_of};
 
     ghost Value = { SpaceValue };
 
     ghost view = { λ s. space_of s.entries.items s.moment s.last };
 
-    ghost invariant = { λ s. IsSpace (space_of s.entries.items s.moment s.last) };
+    ghost invariant = { λ s. IsSpace (space_of s.entries.items s.moment s.last) × IsUnheldBelow s.held_from s.entries.items };
 }
 
 impl Space {
@@ -50,6 +54,7 @@ impl Space {
     {
         Space {
             entries: Vec::new(alloc),
+            held_from: 0,
             moment: 0,
             last: 0,
         }
@@ -164,6 +169,14 @@ impl Space {
         &self.entries
     }
 
+    /// The entries, but for those at the front that nobody holds: a part that holds each entry that somebody holds.
+    pub fn held_part(&self) -> &[Entry]
+        ensures { HasUnheldFront self.now.entries result.now }
+    {
+        let start = place_from(&self.entries, self.held_from);
+        &self.entries[start..]
+    }
+
     /// The tuple of the entry of a number.
     pub fn tuple(&self, id: EntryId) -> Option<&Tuple>
         ensures { option_copied result ≡ option_map (λ e. e.tuple) (find (λ e. e.number == id) self.now.entries) }
@@ -181,6 +194,7 @@ impl Space {
         ensures err { OnErr result (self.new ≡ self.old) }
     {
         hold_entry(&mut self.entries, id.number(), holder, taken)?;
+        self.held_from = self.held_from.min(id.number());
         Ok(())
     }
 
@@ -188,14 +202,17 @@ impl Space {
     pub fn unpin(&mut self, holder: u64)
         ensures { self.new ≡ with_entries self.old (released holder self.old.moment self.old.entries) }
     {
-        release_all(&mut self.entries, holder, self.moment);
+        let start = place_from(&self.entries, self.held_from);
+        release_all(&mut self.entries, start, holder, self.moment);
+        self.held_from = oldest_held(&self.entries, start);
     }
 
     /// Drops the entries that a holder took. Takes no memory.
     pub fn remove_taken(&mut self, holder: u64)
         ensures { self.new ≡ with_entries self.old (without_taken holder self.old.entries) }
     {
-        drop_taken(&mut self.entries, holder);
+        let start = place_from(&self.entries, self.held_from);
+        drop_taken(&mut self.entries, start, holder);
     }
 
     /// Takes out the entry of a number, whoever holds it, or answers `None` where there is none. Takes no memory.
@@ -245,6 +262,7 @@ impl Space {
         };
         let Space {
             entries,
+            held_from: _,
             moment: _,
             last: _,
         } = self;

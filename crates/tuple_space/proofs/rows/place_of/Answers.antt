@@ -1,53 +1,23 @@
-use Rattle.std.proofs.Common.{◌<◌, ◌≤◌, ◌+◌, ◌-◌, ◌/◌, length, ap, sym, ◌∙◌, arith}
+use Rattle.std.proofs.Common.{◌≤◌, ap, sym, ◌∙◌, arith}
 use Rattle.std.specs.Prelude.{◌≢◌}
 use Rattle.std.proofs.lemmas.List.Elements.{at_read}
 use Rattle.tuple_space.specs.declared.entry.Entry.{Entry}
-use Rattle.tuple_space.proofs.RowLemmas.{below_place, above_place, none_from_search}
+use Rattle.tuple_space.proofs.RowLemmas.{none_from_search}
 use Rattle.tuple_space.proofs.rows.place_of.Goals as goal
-use Rattle.tuple_space.proofs.rows.place_of.Goals.{else-low-entries-via-then-low-entries+else-entries-low, else-low-entries-via-else-low-entries}
+use Rattle.tuple_space.proofs.rows.place_of.Goals.{else-place-entries-via-then-place-entries+else-entries-place, else-place-entries-via-else-place-entries}
 
-pub loop-low-preserved-then-entries-middle : goal.loop-low-preserved-then-entries-middle
-loop-low-preserved-then-entries-middle c =
+pub returns-else-place-entries-clause-none : goal.returns-else-place-entries-clause-none
+returns-else-place-entries-clause-none c =
     let es = c.args.entries.now in
     let n = c.args.number in
-    let middle = c.loop-low.low + (c.loop-low.high - c.loop-low.low) / 2 in
-    let x = c.index-entries-middle.result in
-    let read = ap (λ (e : Entry). e.number) c.index-entries-middle.is in
-    let within : middle < length es = omega arith in
-    let here = at_read es (λ e. e.number < n) middle x within c.index-entries-middle.is (omega arith) in
-    record {
-      ordered = omega arith;
-      within = omega arith;
-      below = below_place n es middle c.requires within here;
-      above = c.loop-low.invariant.above;
-    }
-
-pub loop-low-preserved : goal.loop-low-preserved
-loop-low-preserved c =
-    let es = c.args.entries.now in
-    let n = c.args.number in
-    let middle = c.loop-low.low + (c.loop-low.high - c.loop-low.low) / 2 in
-    let x = c.index-entries-middle.result in
-    let read = ap (λ (e : Entry). e.number) c.index-entries-middle.is in
-    let within : middle < length es = omega arith in
-    let here = at_read es (λ e. n ≤ e.number) middle x within c.index-entries-middle.is (omega arith) in
-    record {
-      ordered = omega arith;
-      within = omega arith;
-      below = c.loop-low.invariant.below;
-      above = above_place n es middle c.requires within here;
-    }
-
-pub returns-else-low-entries-clause-none : goal.returns-else-low-entries-clause-none
-returns-else-low-entries-clause-none c =
-    let es = c.args.entries.now in
-    let n = c.args.number in
-    elim c.else-low-entries.branch [
-      | else-low-entries-via-then-low-entries+else-entries-low w ↦
-          none_from_search n es c.loop-low.low c.loop-low.high c.requires c.loop-low-test.false c.loop-low.invariant.below c.loop-low.invariant.above
-          (λ lt. at_read es (λ e. e.number ≢ n) c.loop-low.low w.index-entries-low.result lt w.index-entries-low.is
-          (λ same. w.if-entries-low.false (sym (ap (λ (e : Entry). e.number) w.index-entries-low.is) ∙ same)))
-      | else-low-entries-via-else-low-entries w ↦
-          none_from_search n es c.loop-low.low c.loop-low.high c.requires c.loop-low-test.false c.loop-low.invariant.below c.loop-low.invariant.above
-          (λ lt. absurd (omega arith))
+    let place = c.place_from-place.result in
+    let from = c.place_from-place.ensures in
+    let met : place ≤ place = omega arith in
+    elim c.else-place-entries.branch [
+      | else-place-entries-via-then-place-entries+else-entries-place w ↦
+          none_from_search n es place place c.requires met from.below from.above
+          (λ lt. at_read es (λ e. e.number ≢ n) place w.index-entries-place.result lt w.index-entries-place.is
+          (λ same. w.if-entries-place.false (sym (ap (λ (e : Entry). e.number) w.index-entries-place.is) ∙ same)))
+      | else-place-entries-via-else-place-entries w ↦
+          none_from_search n es place place c.requires met from.below from.above (λ lt. absurd (omega arith))
     ]
