@@ -1,10 +1,12 @@
-use Rattle.std.proofs.Common.{◌≡◌, Bool, ⊎_elim, subst, ℕ, zero, suc, ◌+◌, ◌<◌, ◌≤◌, List, [], ◌∷◌, length, get_or, drop, Option, Some, None, ap, ◌∙◌, sym, refl, cond, eqb, ltb, arith}
+use Rattle.std.proofs.Common.{◌≡◌, Bool, ⊎_elim, subst, ℕ, zero, suc, ◌+◌, ◌<◌, ◌≤◌, List, [], ◌∷◌, ◌++◌, false, length, get_or, drop, Option, Some, None, ap, ◌∙◌, sym, refl, cond, eqb, ltb, arith}
 use Rattle.std.specs.Prelude.{find, insert, All}
 use Rattle.std.proofs.lemmas.List.Elements.{All-head, All-tail, All-cons, All-nil}
 use Rattle.tuple_space.specs.Holds.{holds_with}
 use Rattle.tuple_space.specs.Lease.{is_permanent}
-use Rattle.tuple_space.specs.Rows.{IsRising, changed}
+use Rattle.tuple_space.specs.Entry.{is_held}
+use Rattle.tuple_space.specs.Rows.{HasUnheldFront, IsRising, changed}
 use Rattle.tuple_space.specs.Space.{held_by}
+use Rattle.tuple_space.proofs.PartLemmas.{unheld_as}
 use Rattle.tuple_space.proofs.RowLemmas.{HasNone, changed_none}
 use Rattle.std.proofs.Math.ListN.{set}
 use Rattle.std.specs.List.{AllWithin, HoldsAt, cons_option}
@@ -141,3 +143,13 @@ marks_after number taken (x ∷ xs) (suc i) e rising lt is =
     with_mark_later (new_mark e taken) x (hold_at number x) (marks_of number xs) less
     ∙ ap (λ (l : List Mark). cons_option (mark_of number x) l) (marks_after number taken xs i e (rising_tail x xs rising) within is)
     ∙ sym (ap (λ (y : Entry). marks_of number (y ∷ changed e.number (held_by number taken) xs)) other)
+
+-- nobody has marks on entries that nobody holds
+marks_quiet : (number : ℕ) (front part : List Entry) → All (λ e. is_held e ≡ false) front → marks_of number (front ++ part) ≡ marks_of number part
+marks_quiet number [] part h = refl
+marks_quiet number (x ∷ xs) part h =
+    unheld_as (λ (e : Entry). marks_of number (e ∷ (xs ++ part)) ≡ marks_of number (xs ++ part)) x (All-head (λ (e : Entry). is_held e ≡ false) x xs h) refl
+    ∙ marks_quiet number xs part (All-tail (λ (e : Entry). is_held e ≡ false) x xs h)
+
+pub marks_part : (number : ℕ) (es part : List Entry) → HasUnheldFront es part → marks_of number es ≡ marks_of number part
+marks_part number es part h = ap (marks_of number) h.is ∙ marks_quiet number h.front part h.unheld

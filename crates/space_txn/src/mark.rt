@@ -6,7 +6,7 @@ ghost use Rattle.std.specs.Option.{option_copied};
 ghost use Rattle.space_txn.specs.Marks.{IsMarkOf, mark_of, marks_of, with_mark};
 
 use tuple_match::Tuple;
-use tuple_space::{Entry, Hold};
+use tuple_space::{Entry, Hold, Space};
 
 /// A transaction's mark on an entry: that it took or read it.
 #[derive(Debug, Drop)]
@@ -49,7 +49,7 @@ fn marks_behind<'a>(rest: &'a [Mark], entry: &Entry, number: u64) -> Option<&'a 
 }
 
 /// Whether these are the marks that a transaction has put on entries.
-pub(crate) fn are_marks_of(marks: &[Mark], entries: &[Entry], number: u64) -> bool
+fn are_marks_of(marks: &[Mark], entries: &[Entry], number: u64) -> bool
     ensures { IsTrue result ↔ (marks.now ≡ marks_of number entries.now) }
 {
     let mut rest = marks;
@@ -60,6 +60,13 @@ pub(crate) fn are_marks_of(marks: &[Mark], entries: &[Entry], number: u64) -> bo
         rest = behind;
     }
     rest.is_empty()
+}
+
+/// Whether these are the marks that a transaction has put on the entries of a space.
+pub(crate) fn are_marks_in(space: &Space, marks: &[Mark], number: u64) -> bool
+    ensures { IsTrue result ↔ (marks.now ≡ marks_of number space.now.entries) }
+{
+    are_marks_of(marks, space.held_part(), number)
 }
 
 /// The mark on the entry of this number.

@@ -11,7 +11,7 @@ ghost use Rattle.space_txn.specs.Machine.{IsAccepted, IsRefused, Step, BeginStep
 use crate::error::{TxnError, refusal_of};
 use crate::finding::{find_own, mark_for, put_mark_on, take_own};
 use crate::live::{Live, abort_ended, drop_ended, drop_row, granted_end, is_live_in, renew_row};
-use crate::mark::{are_marks_of, has_mark_on};
+use crate::mark::{are_marks_in, has_mark_on};
 use crate::txn::{Found, Txn};
 use std::alloc::{AllocError, Global};
 use std::marker::Model;
@@ -154,7 +154,7 @@ impl TxnSpace {
         if !is_live_in(&self.live, self.space.now(), txn.number) {
             return Err(TxnError::Expired);
         }
-        if !are_marks_of(&txn.marks, self.space.entries(), txn.number) {
+        if !are_marks_in(&self.space, &txn.marks, txn.number) {
             return Err(TxnError::Foreign);
         }
         Ok(())
