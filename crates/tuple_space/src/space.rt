@@ -54,7 +54,7 @@ impl Space {
     {
         Space {
             entries: Vec::new(alloc),
-            held_from: 0,
+            held_from: u64::MAX,
             moment: 0,
             last: 0,
         }
