@@ -1,11 +1,13 @@
 pub mod Assembled
 pub mod Certificates
+pub mod Completions
 pub mod Fields
 pub mod Finishing
 pub mod Keys
 pub mod OneTree
 pub mod Parts
 pub mod Replacing
+pub mod Scatter
 pub mod Taking
 pub mod Tuples
 pub mod Turns

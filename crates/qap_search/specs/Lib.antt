@@ -1,5 +1,6 @@
 pub mod Assembling
 pub mod Building
+pub mod Completion
 pub mod CutTree
 pub mod Decided
 pub mod Finished

@@ -3,6 +3,7 @@
 
 mod assembling;
 mod building;
+mod completion;
 mod decided;
 mod error;
 mod law;
