@@ -8,7 +8,7 @@ use Rattle.qap_cost.proofs.Placements.{ListsFree-free_below, IsPlacement-placing
 use Rattle.qap_cost.proofs.Sums.{sum_to-bound}
 use Rattle.qap_cost.specs.Instance.{Problem, IsInstance, entry}
 use Rattle.qap_cost.specs.Objective.{Permutes, cost_of, pair_cost, row_cost}
-use Rattle.qap_cost.specs.Placement.{Placement, IsPlacement, IsFreeFacility, free_locations, placing, root_of}
+use Rattle.qap_cost.specs.Placement.{Placement, IsPlacement, IsFreeFacility, free_facilities, free_locations, placing, root_of}
 use Rattle.qap_cost.specs.Range.{IsLimited}
 use Rattle.qap_cert.specs.Certificate.{Claim, Certifies, claim_of}
 use Rattle.qap_cert.specs.Shape.{AllHaveShape, HasShape, child_count}
@@ -52,6 +52,12 @@ mutual
 -- the children of a node are nodes
 pub children_placed : (y : Placement) (f : ℕ) → IsPlacement y → IsFreeFacility y f → (j : ℕ) → j < length (free_locations y) → IsPlacement (placing y f (get_or (free_locations y) j 0))
 children_placed y f h free j less = IsPlacement-placing y f (get_or (free_locations y) j 0) h free ((ListsFree-free_below y.size y.places h.places).each j less)
+
+-- the free facilities are those that aren't placed
+pub free_facility_count : (y : Placement) → IsPlacement y → length (free_facilities y) ≡ y.size - length y.facilities
+free_facility_count y h =
+    let count = (ListsFree-free_below y.size y.facilities h.facilities).count in
+    omega arith
 
 -- there are as many free locations as free facilities
 pub free_count : (y : Placement) → IsPlacement y → length (free_locations y) ≡ y.size - length y.facilities

@@ -9,5 +9,6 @@ pub mod Parts
 pub mod Replacing
 pub mod Scatter
 pub mod Taking
+pub mod Thoughts
 pub mod Tuples
 pub mod Turns

@@ -9,3 +9,4 @@ pub mod Piece
 pub mod Pieces
 pub mod Replacement
 pub mod SearchTree
+pub mod Thought

@@ -2,6 +2,7 @@
 
 ghost use Rattle.std.specs.Prelude.{◌≡◌, ◌<◌, ℕ, IfOk, length, map, slice_index, vec_len};
 ghost use Rattle.qap_cost.specs.Bijection.{AreDifferent, IsPerm};
+ghost use Rattle.qap_cost.specs.Placement.{IsPlacement};
 ghost use Rattle.qap_search.specs.Completion.{IsCompletion, IsMatching, Puts};
 
 use qap_cost::{Partial, Perm};
@@ -13,6 +14,7 @@ pub(crate) fn completed(alloc: Global, node: &Partial, matching: &[u16]) -> Resu
     requires { IsMatching node.now matching.now }
     ensures completion { IfOk result (IsCompletion node.now matching.now) }
     ensures permutation { IfOk result IsPerm }
+    ensures placement { IfOk result (λ _. IsPlacement node.now) }
 {
     let locations = completion(alloc, node, matching)?;
     Ok(Perm::new(locations).unwrap())
@@ -23,6 +25,7 @@ fn completion(alloc: Global, node: &Partial, matching: &[u16]) -> Result<Vec<u16
     requires { IsMatching node.now matching.now }
     ensures completion { IfOk result (λ v. IsCompletion node.now matching.now v.items) }
     ensures permutation { IfOk result (λ v. IsPerm v.items) }
+    ensures placement { IfOk result (λ _. IsPlacement node.now) }
 {
     let facilities = node.free_facilities()?;
     let locations = node.free_locations()?;

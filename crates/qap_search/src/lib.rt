@@ -9,10 +9,12 @@ mod error;
 mod law;
 mod ordering;
 mod pieces;
+mod thought;
 
 pub use assembling::assemble;
 pub use error::AssembleError;
 pub use law::{certificate_law, opening_law, order_law, replacement_law};
+pub use thought::Thought;
 
 #[cfg(test)]
 mod tests;
