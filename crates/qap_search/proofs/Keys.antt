@@ -127,7 +127,7 @@ parted_before p r q f k l less =
     ∙ ap (λ (o : Ordering). ordering_then o (slice_cmp int_cmp r q)) (int_less k l less))
 
 -- a child's list is its parent's, with facility and location behind it
-by_turns-push : (fs ks : List ℕ) (f k : ℕ) → length ks ≡ length fs → by_turns (fs ++ f ∷ []) (ks ++ k ∷ []) ≡ by_turns fs ks ++ (pos f ∷ pos k ∷ [])
+pub by_turns-push : (fs ks : List ℕ) (f k : ℕ) → length ks ≡ length fs → by_turns (fs ++ f ∷ []) (ks ++ k ∷ []) ≡ by_turns fs ks ++ (pos f ∷ pos k ∷ [])
 by_turns-push [] [] f k h = refl
 by_turns-push [] (l ∷ ks) f k h = absurd (omega arith)
 by_turns-push (g ∷ fs) [] f k h = absurd (omega arith)

@@ -12,3 +12,4 @@ pub mod Taking
 pub mod Thoughts
 pub mod Tuples
 pub mod Turns
+pub mod Written

@@ -56,3 +56,12 @@ abbrev mutual
   pub searched_all : Nodes → SearchTrees
   searched_all no_nodes = no_trees
   searched_all (node t rest) = tree (searched t) (searched_all rest)
+
+-- an open node for each of these locations
+abbrev pub open_row : List ℕ → SearchTrees
+open_row [] = no_trees
+open_row (k ∷ ks) = tree open_node (open_row ks)
+
+-- x split on facility f, with all children open
+abbrev pub split_open : Placement → ℕ → SearchTree
+split_open x f = split_node f (open_row (free_locations x))

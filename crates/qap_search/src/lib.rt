@@ -10,6 +10,7 @@ mod law;
 mod ordering;
 mod pieces;
 mod thought;
+mod writing;
 
 pub use assembling::assemble;
 pub use error::AssembleError;

@@ -1,0 +1,44 @@
+-- Lists of nodes and tuples of open nodes, as they are written one after another.
+use Rattle.std.proofs.Common.{◌≡◌, ℕ, ◌+◌, ◌*◌, ◌≤◌, ◌<◌, List, [], ◌∷◌, ◌++◌, length, get_or, take, map, ℤ, pos, refl, sym, ap, ap₂, ◌∙◌, arith, append_assoc, length-append, length-take-le}
+use Rattle.std.proofs.lemmas.List.{take_all, take_more}
+use Rattle.std.proofs.lemmas.List.Elements.{All-from_recursion}
+use Rattle.qap_cost.specs.Placement.{Placement, free_locations, placing}
+use Rattle.tuple_match.specs.FieldValue.{FieldValue, IsField}
+use Rattle.tuple_match.specs.Tuple.{IsTuple}
+use Rattle.qap_search.specs.Piece.{by_turns, node_tuple, pieces, pieces_of_all, split_tuple}
+use Rattle.qap_search.specs.SearchTree.{open_row, split_open}
+use Rattle.qap_search.proofs.Keys.{by_turns-push}
+
+-- one facility and one location more
+pub by_turns-more : (fs ks : List ℕ) (t : ℕ) → t < length fs → length ks ≡ length fs → by_turns (take (t + 1) fs) (take (t + 1) ks) ≡ by_turns (take t fs) (take t ks) ++ (pos (get_or fs t 0) ∷ pos (get_or ks t 0) ∷ [])
+by_turns-more fs ks t less paired =
+    let left : length (take t fs) ≡ t = length-take-le t fs (omega arith) in
+    let right : length (take t ks) ≡ t = length-take-le t ks (omega arith) in
+    ap₂ by_turns (take_more fs t 0 less) (take_more ks t 0 (omega arith))
+    ∙ by_turns-push (take t fs) (take t ks) (get_or fs t 0) (get_or ks t 0) (right ∙ sym left)
+
+-- two numbers behind a list
+pub two_pushed : (old one two : List ℤ) (a b : ℤ) → one ≡ old ++ a ∷ [] → two ≡ one ++ b ∷ [] → two ≡ old ++ (a ∷ b ∷ [])
+two_pushed old one two a b first second = second ∙ ap (λ (xs : List ℤ). xs ++ b ∷ []) first ∙ append_assoc old (a ∷ []) (b ∷ [])
+
+-- the tuples of a row of open nodes
+pub open_row-pieces : (x : Placement) (f : ℕ) (ks : List ℕ) → map (λ (k : ℕ). node_tuple (placing x f k)) ks ≡ pieces_of_all x f ks (open_row ks)
+open_row-pieces x f [] = refl
+open_row-pieces x f (k ∷ ks) = ap (λ (ts : List (List FieldValue)). node_tuple (placing x f k) ∷ ts) (open_row-pieces x f ks)
+
+pub two_more : (old new : List ℤ) (a b : ℤ) (t : ℕ) → new ≡ old ++ (a ∷ b ∷ []) → length old ≡ 2 * t → length new ≡ 2 * (t + 1)
+two_more old new a b t is long =
+    let count = ap length is in
+    let both = length-append old (a ∷ b ∷ []) in
+    omega arith
+
+-- all of a row of open nodes has been written behind the split
+pub all_open : (x : Placement) (f n : ℕ) (tuples : List (List FieldValue)) (ks : List ℕ) → tuples ≡ split_tuple x f ∷ map (λ (k : ℕ). node_tuple (placing x f k)) (take n ks) → length ks ≤ n → ks ≡ free_locations x → tuples ≡ pieces x (split_open x f)
+all_open x f n tuples ks is all listed =
+    is
+    ∙ ap (λ (js : List ℕ). split_tuple x f ∷ map (λ (k : ℕ). node_tuple (placing x f k)) js) (take_all n ks all ∙ listed)
+    ∙ ap (λ (ts : List (List FieldValue)). split_tuple x f ∷ ts) (open_row-pieces x f (free_locations x))
+
+-- four fields within their limits are a tuple
+pub four_fields : (a b c d : FieldValue) → IsField a → IsField b → IsField c → IsField d → IsTuple (a ∷ b ∷ c ∷ d ∷ [])
+four_fields a b c d ha hb hc hd = record { some = omega arith; few = omega arith; each = All-from_recursion IsField (a ∷ b ∷ c ∷ d ∷ []) (ha, (hb, (hc, (hd, tt)))) }
