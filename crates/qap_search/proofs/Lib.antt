@@ -1,6 +1,7 @@
 pub mod Assembled
 pub mod Certificates
 pub mod Completions
+pub mod Deciding
 pub mod Fields
 pub mod Finishing
 pub mod Keys

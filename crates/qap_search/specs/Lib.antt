@@ -3,6 +3,7 @@ pub mod Building
 pub mod Completion
 pub mod CutTree
 pub mod Decided
+pub mod Decision
 pub mod Finished
 pub mod InOrder
 pub mod Piece

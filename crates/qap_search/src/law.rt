@@ -3,15 +3,16 @@
 ghost use Rattle.std.specs.Prelude.{◌≡◌, ◌+◌, ◌++◌, ◌∷◌, [], ℕ, List};
 ghost use Rattle.qap_cost.specs.Instance.{Problem, IsInstance};
 ghost use Rattle.qap_cost.specs.Objective.{Permutes, cost_of};
-ghost use Rattle.qap_cost.specs.Placement.{root_of};
+ghost use Rattle.qap_cost.specs.Placement.{IsPlacement, Placement, root_of};
 ghost use Rattle.qap_cert.specs.Certificate.{Claim, Certifies};
 ghost use Rattle.qap_cert.specs.Tree.{node_count};
 ghost use Rattle.space_txn.specs.Content.{SameItems};
 ghost use Rattle.tuple_match.specs.FieldValue.{FieldValue};
 ghost use Rattle.qap_search.specs.CutTree.{IsCutTree};
+ghost use Rattle.qap_search.specs.Decision.{Decides};
 ghost use Rattle.qap_search.specs.Finished.{IsAssembled};
 ghost use Rattle.qap_search.specs.Piece.{node_tuple, best_tuple, open_count};
-ghost use Rattle.qap_search.specs.Replacement.{MayReplace};
+ghost use Rattle.qap_search.specs.Replacement.{Best, IsAsGood, MayReplace, tuple_of};
 
 /// The open root and any permutation with its cost are a cut tree, before any commit.
 pub fn opening_law()
@@ -30,6 +31,19 @@ pub fn replacement_law()
     ensures { (I : Problem) (gone kept added rest content : List (List FieldValue)) (commits : ℕ) →
         MayReplace I gone kept added → SameItems content (gone ++ (kept ++ rest)) → IsCutTree I content commits →
         IsCutTree I (added ++ (kept ++ rest)) (commits + 1) }
+{}
+
+/// A decided node may take the place of an open one: beside the best permutation that was read, or with one that is as good in
+/// the place of the one that was taken.
+pub fn replacing_law()
+    ensures read { (I : Problem) (x : Placement) (b : Best) (gone kept added tuples : List (List FieldValue)) →
+        IsPlacement x → x.size ≡ I.size → Decides I b.cost x tuples →
+        SameItems gone (node_tuple x ∷ []) → SameItems kept (tuple_of b ∷ []) → SameItems added tuples →
+        MayReplace I gone kept added }
+    ensures taken { (I : Problem) (x : Placement) (old new : Best) (gone kept added tuples : List (List FieldValue)) →
+        IsPlacement x → x.size ≡ I.size → Decides I new.cost x tuples → IsAsGood I old new →
+        SameItems gone (node_tuple x ∷ tuple_of old ∷ []) → SameItems kept [] → SameItems added (tuple_of new ∷ tuples) →
+        MayReplace I gone kept added }
 {}
 
 /// A cut tree without open nodes is that of a certificate; and a certificate whose tuples are a cut tree certifies its cost,

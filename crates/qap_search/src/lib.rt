@@ -5,6 +5,7 @@ mod assembling;
 mod building;
 mod completion;
 mod decided;
+mod decision;
 mod error;
 mod law;
 mod ordering;
@@ -13,8 +14,9 @@ mod thought;
 mod writing;
 
 pub use assembling::assemble;
+pub use decision::decide;
 pub use error::AssembleError;
-pub use law::{certificate_law, opening_law, order_law, replacement_law};
+pub use law::{certificate_law, opening_law, order_law, replacement_law, replacing_law};
 pub use thought::Thought;
 
 #[cfg(test)]

@@ -18,7 +18,8 @@ pub(crate) fn split_tuples(
     node: &Partial,
     facility: u16,
 ) -> Result<Vec<Tuple>, AllocError>
-    ensures { IfOk result (λ v. v.items ≡ pieces node.now (split_open node.now facility)) }
+    ensures value { IfOk result (λ v. v.items ≡ pieces node.now (split_open node.now facility)) }
+    ensures placement { IfOk result (λ _. IsPlacement node.now) }
 {
     let locations = node.free_locations()?;
     let mut tuples = Vec::with_capacity(alloc, locations.len() + 1)?;

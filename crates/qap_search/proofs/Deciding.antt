@@ -1,0 +1,74 @@
+-- A node that is decided by a thought, and what may be replaced by it.
+use Rattle.std.proofs.Common.{◌≡◌, ℕ, List, [], ◌∷◌, ℤ, ◌≤ℤ◌, ◌+ℤ◌, refl, inl, inr, subst, arith}
+use Rattle.std.proofs.lemmas.Int.{ints}
+use Rattle.qap_cost.specs.Instance.{Problem}
+use Rattle.qap_cost.specs.Matrix.{dual_value}
+use Rattle.qap_cost.specs.Placement.{Placement, IsPlacement, IsFreeFacility, fixed_cost_of, free_locations}
+use Rattle.qap_cert.specs.Valid.{Closes}
+use Rattle.space_txn.specs.Content.{SameItems}
+use Rattle.tuple_match.specs.FieldValue.{FieldValue}
+use Rattle.qap_search.specs.Decision.{Decides}
+use Rattle.qap_search.specs.Piece.{closed_tuple, node_tuple, pieces}
+use Rattle.qap_search.specs.Replacement.{Best, IsAsGood, MayReplace, tuple_of}
+use Rattle.qap_search.specs.SearchTree.{AreOpen, AreTreesAt, closed_node, open_row, split_open}
+use Rattle.qap_search.specs.Thought.{IsThought}
+use Rattle.qap_search.specs.declared.thought.Thought.{Thought}
+use Rattle.qap_search.proofs.Taking.{free_depth}
+
+open_row-open : (ks : List ℕ) → AreOpen (open_row ks)
+open_row-open [] = tt
+open_row-open (k ∷ ks) = open_row-open ks
+
+open_row-trees : (P : Placement → List ℤ → List ℤ → Type 0) (x : Placement) (f : ℕ) (ks : List ℕ) → AreTreesAt P x f ks (open_row ks)
+open_row-trees P x f [] = tt
+open_row-trees P x f (k ∷ ks) = (tt, open_row-trees P x f ks)
+
+-- a split into open nodes
+pub decides_split : (I : Problem) (c : ℤ) (x : Placement) (f : ℕ) (tuples : List (List FieldValue)) → IsPlacement x → IsFreeFacility x f → tuples ≡ pieces x (split_open x f) → Decides I c x tuples
+decides_split I c x f tuples placed free is = record {
+  decided = split_open x f;
+  one = open_row-open (free_locations x);
+  valid = (free_depth x f placed free, free, open_row-trees (Closes I c) x f (free_locations x));
+  are = is;
+}
+
+-- a node that the thought's duals close
+pub decides_closed : (I : Problem) (c : ℤ) (x : Placement) (t : Thought) (tuples : List (List FieldValue)) → IsThought I x t → c ≤ℤ t.value → tuples ≡ closed_tuple x t.u.items t.v.items ∷ [] → Decides I c x tuples
+decides_closed I c x t tuples h enough is =
+    let value : t.value ≡ fixed_cost_of I x +ℤ dual_value t.u.items t.v.items = h.value in
+    record {
+      decided = closed_node t.u.items t.v.items;
+      one = tt;
+      valid = record { duals = h.duals; fits = record { matrix = h.matrix; square = h.square; reduced = h.reduced; fits = h.fits }; enough = omega (arith, ints) };
+      are = is;
+    }
+
+pub replaces_read : (I : Problem) (x : Placement) (b : Best) (gone kept added tuples : List (List FieldValue)) → IsPlacement x → x.size ≡ I.size → Decides I b.cost x tuples → SameItems gone (node_tuple x ∷ []) → SameItems kept (tuple_of b ∷ []) → SameItems added tuples → MayReplace I gone kept added
+replaces_read I x b gone kept added tuples placed size d takes reads adds =
+    let P : List (List FieldValue) → Type 0 = SameItems added in
+    record {
+      at = x;
+      placement = placed;
+      same_size = size;
+      old = b;
+      new = b;
+      decided = d.decided;
+      one = d.one;
+      valid = d.valid;
+      tuples = inl (record { same = refl; takes = takes; reads = reads; adds = subst P d.are adds });
+    }
+
+pub replaces_taken : (I : Problem) (x : Placement) (old new : Best) (gone kept added tuples : List (List FieldValue)) → IsPlacement x → x.size ≡ I.size → Decides I new.cost x tuples → IsAsGood I old new → SameItems gone (node_tuple x ∷ tuple_of old ∷ []) → SameItems kept [] → SameItems added (tuple_of new ∷ tuples) → MayReplace I gone kept added
+replaces_taken I x old new gone kept added tuples placed size d good takes reads adds =
+    let P : List (List FieldValue) → Type 0 = λ ts. SameItems added (tuple_of new ∷ ts) in
+    record {
+      at = x;
+      placement = placed;
+      same_size = size;
+      old = old;
+      new = new;
+      decided = d.decided;
+      one = d.one;
+      valid = d.valid;
+      tuples = inr (record { as_good = good; takes = takes; reads = reads; adds = subst P d.are adds });
+    }

@@ -1,0 +1,22 @@
+-- What one commit writes of a node: duals that close it under the cost of the best permutation, or its split into open nodes.
+use Rattle.std.specs.Prelude.{◌≡◌, List, ℤ}
+use Rattle.qap_cost.specs.Instance.{Problem}
+use Rattle.qap_cost.specs.Placement.{Placement}
+use Rattle.qap_cert.specs.Valid.{Closes}
+use Rattle.tuple_match.specs.FieldValue.{FieldValue}
+use Rattle.qap_search.specs.Piece.{pieces}
+use Rattle.qap_search.specs.Replacement.{IsOneNode}
+use Rattle.qap_search.specs.SearchTree.{SearchTree, IsTreeAt}
+use Rattle.qap_search.specs.Thought.{IsThought}
+use Rattle.qap_search.specs.declared.thought.Thought.{Thought}
+
+-- the tuples are those of one decided node at x, closed only where nothing below costs less than c
+pub record Decides (I : Problem) (c : ℤ) (x : Placement) (tuples : List (List FieldValue)) : Type 0 where
+  pub decided : SearchTree
+  pub one : IsOneNode decided
+  pub valid : IsTreeAt (Closes I c) x decided
+  pub are : tuples ≡ pieces x decided
+
+-- the thought is one on x, for some instance
+abbrev pub IsOn : Placement → Thought → Type 0
+IsOn x t = (I : Problem) × IsThought I x t

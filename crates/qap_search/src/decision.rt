@@ -1,0 +1,37 @@
+//! What is decided at a node, once the cost of the best permutation is known.
+
+ghost use Rattle.std.specs.Prelude.{◌≡◌, ◌<ℤ◌, IfOk, MatchOption, length};
+ghost use Rattle.qap_cost.specs.Instance.{Problem};
+ghost use Rattle.qap_search.specs.Decision.{Decides, IsOn};
+ghost use Rattle.qap_search.specs.Thought.{IsThought};
+
+use crate::thought::Thought;
+use crate::writing::{split_tuples, tuple_of_closed};
+use qap_cost::Partial;
+use std::alloc::{AllocError, Global};
+use tuple_match::Tuple;
+
+/// The tuples that take the place of the open node: where the thought's value is at least the best cost, that of the node
+/// closed by its duals; else those of its split, all of whose children are open. `None` where no facility is free to split on.
+pub fn decide(
+    alloc: Global,
+    node: &Partial,
+    thought: &Thought,
+    best: i128,
+) -> Result<Option<Vec<Tuple>>, AllocError>
+    requires { IsOn node.now thought.now }
+    ensures { IfOk result (λ written. MatchOption written
+        ((length node.now.facilities ≡ node.now.size) × (thought.now.value <ℤ best))
+        (λ tuples. (I : Problem) → IsThought I node.now thought.now → Decides I best node.now tuples.items)) }
+{
+    if thought.value >= best {
+        let u = Vec::from_slice(alloc, &thought.u)?;
+        let v = Vec::from_slice(alloc, &thought.v)?;
+        let tuple = tuple_of_closed(alloc, node, u, v)?;
+        return Ok(Some(vec![in alloc; tuple]?));
+    }
+    let Some(facility) = thought.branch else {
+        return Ok(None);
+    };
+    Ok(Some(split_tuples(alloc, node, facility)?))
+}
