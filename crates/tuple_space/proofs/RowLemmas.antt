@@ -1,5 +1,5 @@
-use Rattle.std.proofs.Common.{◌≡◌, ℕ, zero, suc, ◌+◌, ◌-◌, ◌<◌, ◌≤◌, Bool, true, false, List, [], ◌∷◌, length, take, drop, get_or, subst, ap, ◌∙◌, sym, refl, cond, eqb, Some, None, ⊎_elim, arith}
-use Rattle.std.specs.Prelude.{not, ◌≢◌, ◌&&◌, ◌||◌, ◌++◌, All, filter, find, map, remove}
+use Rattle.std.proofs.Common.{◌≡◌, ℕ, zero, suc, ◌+◌, ◌-◌, ◌<◌, ◌≤◌, Bool, true, false, List, [], ◌∷◌, length, take, drop, get_or, subst, ap, ◌∙◌, sym, refl, cond, eqb, Option, Some, None, ⊎_elim, arith}
+use Rattle.std.specs.Prelude.{not, ◌≢◌, ◌&&◌, ◌||◌, is_some, ◌++◌, All, filter, find, map, remove}
 use Rattle.std.proofs.Math.ListN.{set}
 use Rattle.std.specs.List.{list_any, HoldsAt, AllWithin}
 use Rattle.std.proofs.lemmas.Bool.{cond-true, cond-false, cond_both, eq-eqb, ne_eqb, cases_lt, false≢true, or_from}
@@ -199,3 +199,12 @@ unheld_front number es start unheld within below =
           let inside : k < start = omega (arith, lt, length-take-le start es within) in
           subst (λ (e : Entry). is_held e ≡ false) (sym (get_or-take start es k d inside)) (before k d (omega arith) inside);
     }
+
+either : (b : Bool) (x : Entry) (o : Option Entry) (rest : Bool) → is_some o ≡ rest → is_some (cond b (Some x) o) ≡ (b || rest)
+either true x o rest h = refl
+either false x o rest h = h
+
+-- an entry passes a test just where one is found
+pub found_any : (test : Entry → Bool) (es : List Entry) → is_some (find test es) ≡ list_any test es
+found_any test [] = refl
+found_any test (x ∷ xs) = either (test x) x (find test xs) (list_any test xs) (found_any test xs)

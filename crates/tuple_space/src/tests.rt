@@ -55,3 +55,37 @@ fn leases_end(rt: HostRuntime) -> Result<(), Fail> {
     assert_eq!(rt; read(&space, &jobs)?, None);
     Ok(())
 }
+
+/// Holds an entry.
+fn hold(space: &mut Space, id: EntryId, holder: u64, taken: bool) -> Result<(), Fail> {
+    match space.entry(id) {
+        Some(_) => Ok(space.pin(id, holder, taken)?),
+        None => Err(Fail::new("an entry isn't there")),
+    }
+}
+
+// The part that may be held begins with the oldest entry that is.
+#[test]
+fn holds_begin_somewhere(rt: HostRuntime) -> Result<(), Fail> {
+    let alloc = rt.alloc();
+    let mut space = Space::new(alloc);
+    let mut ids = Vec::new(alloc);
+    for number in 0..5u64 {
+        ids.push(space.out(job(alloc, i128::from(number))?, Lease::Forever)?)?;
+    }
+    let [_, second, _, fourth, fifth] = ids.as_slice() else {
+        return Err(Fail::new("five tuples were put out"));
+    };
+    let (second, fourth, fifth) = (*second, *fourth, *fifth);
+    hold(&mut space, fourth, 7, true)?;
+    hold(&mut space, second, 8, false)?;
+    hold(&mut space, fifth, 8, true)?;
+    assert_eq!(rt; space.held_part().len(), 4);
+    space.remove_taken(8);
+    space.unpin(8);
+    assert_eq!(rt; space.held_part().len(), 1);
+    space.unpin(7);
+    assert_eq!(rt; space.held_part().len(), 0);
+    assert_eq!(rt; space.count(&any_job(alloc)?), 4);
+    Ok(())
+}
