@@ -4,6 +4,7 @@ pub mod Completions
 pub mod Deciding
 pub mod Fields
 pub mod Finishing
+pub mod Found
 pub mod Keys
 pub mod OneTree
 pub mod Parts

@@ -5,6 +5,7 @@ pub mod CutTree
 pub mod Decided
 pub mod Decision
 pub mod Finished
+pub mod Found
 pub mod InOrder
 pub mod Piece
 pub mod Pieces

@@ -1,6 +1,6 @@
 //! Why the tuples of a search stay a cut tree, and why those of a finished one give a certificate.
 
-ghost use Rattle.std.specs.Prelude.{◌≡◌, ◌+◌, ◌++◌, ◌∷◌, [], ℕ, List};
+ghost use Rattle.std.specs.Prelude.{◌≡◌, ◌+◌, ◌++◌, ◌∷◌, [], ℕ, List, Contains, true};
 ghost use Rattle.qap_cost.specs.Instance.{Problem, IsInstance};
 ghost use Rattle.qap_cost.specs.Objective.{Permutes, cost_of};
 ghost use Rattle.qap_cost.specs.Placement.{IsPlacement, Placement, root_of};
@@ -11,7 +11,8 @@ ghost use Rattle.tuple_match.specs.FieldValue.{FieldValue};
 ghost use Rattle.qap_search.specs.CutTree.{IsCutTree};
 ghost use Rattle.qap_search.specs.Decision.{Decides};
 ghost use Rattle.qap_search.specs.Finished.{IsAssembled};
-ghost use Rattle.qap_search.specs.Piece.{node_tuple, best_tuple, open_count};
+ghost use Rattle.qap_search.specs.Found.{IsBestFound, IsOpenNode, is_best};
+ghost use Rattle.qap_search.specs.Piece.{node_tuple, best_tuple, is_open, open_count};
 ghost use Rattle.qap_search.specs.Replacement.{Best, IsAsGood, MayReplace, tuple_of};
 
 /// The open root and any permutation with its cost are a cut tree, before any commit.
@@ -31,6 +32,15 @@ pub fn replacement_law()
     ensures { (I : Problem) (gone kept added rest content : List (List FieldValue)) (commits : ℕ) →
         MayReplace I gone kept added → SameItems content (gone ++ (kept ++ rest)) → IsCutTree I content commits →
         IsCutTree I (added ++ (kept ++ rest)) (commits + 1) }
+{}
+
+/// What a cut tree holds and an open node's template asks for is a node of the instance's size; and what the best permutation's
+/// template asks for is a permutation of the instance, with its cost.
+pub fn found_law()
+    ensures node { (I : Problem) (content : List (List FieldValue)) (commits : ℕ) (tuple : List FieldValue) → IsInstance I →
+        IsCutTree I content commits → Contains content tuple → is_open tuple ≡ true → IsOpenNode I.size tuple }
+    ensures best { (I : Problem) (content : List (List FieldValue)) (commits : ℕ) (tuple : List FieldValue) → IsInstance I →
+        IsCutTree I content commits → Contains content tuple → is_best tuple ≡ true → IsBestFound I tuple }
 {}
 
 /// A decided node may take the place of an open one: beside the best permutation that was read, or with one that is as good in

@@ -16,7 +16,7 @@ mod writing;
 pub use assembling::assemble;
 pub use decision::decide;
 pub use error::AssembleError;
-pub use law::{certificate_law, opening_law, order_law, replacement_law, replacing_law};
+pub use law::{certificate_law, found_law, opening_law, order_law, replacement_law, replacing_law};
 pub use thought::Thought;
 
 #[cfg(test)]
