@@ -6,6 +6,7 @@ pub mod Fields
 pub mod Finishing
 pub mod Found
 pub mod Keys
+pub mod NodeLists
 pub mod OneTree
 pub mod Parts
 pub mod Replacing

@@ -12,3 +12,4 @@ pub mod Pieces
 pub mod Replacement
 pub mod SearchTree
 pub mod Thought
+pub mod Reading

@@ -136,7 +136,7 @@ fn decision_at_child(
 }
 
 /// The free facility of this number.
-fn free_facility(node: &Partial, number: i128) -> Option<u16>
+pub(crate) fn free_facility(node: &Partial, number: i128) -> Option<u16>
     ensures { MatchOption result
         ((f : ℕ) → IsFreeFacility node.now f → number ≢ pos f)
         (λ f. IsFreeFacility node.now f × (number ≡ pos f)) }

@@ -10,6 +10,7 @@ mod error;
 mod law;
 mod ordering;
 mod pieces;
+mod reading;
 mod thought;
 mod writing;
 
@@ -17,6 +18,7 @@ pub use assembling::assemble;
 pub use decision::decide;
 pub use error::AssembleError;
 pub use law::{certificate_law, found_law, opening_law, order_law, replacement_law, replacing_law};
+pub use reading::read_node;
 pub use thought::Thought;
 
 #[cfg(test)]
