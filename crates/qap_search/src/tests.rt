@@ -1,7 +1,8 @@
 //! What no clause says: that tuples are put together, with the certificates of worked examples, and each kind of refusal.
 
-use crate::{AssembleError, assemble};
+use crate::{AssembleError, Thought, assemble, decide, read_node};
 use Part::{Int, List, Word};
+use gilmore_lawler::reduced;
 use qap_cert::check;
 use qap_cost::Instance;
 use std::alloc::{AllocError, Global};
@@ -55,12 +56,17 @@ fn tuples(alloc: Global, row: Row) -> Result<Vec<Tuple>, Fail> {
     Ok(tuples)
 }
 
-/// Three facilities: the order 0 1 2 costs 24, and none costs less.
+/// Three facilities: the order 0 1 2 costs 24, and none costs less. The root's reduced matrix has the rows 9 7 4, 11 8 5 and
+/// 16 13 7, whose least assignment takes 9, 8 and 7.
+fn three(alloc: Global) -> Result<Instance, Fail> {
+    let a = Vec::from_slice(alloc, &[0, 1, 2, 1, 0, 3, 2, 3, 0])?;
+    let b = Vec::from_slice(alloc, &[0, 5, 2, 5, 0, 1, 2, 1, 0])?;
+    Ok(Instance::new(3, a, b)?)
+}
+
 #[test]
 fn a_closed_root_is_a_certificate(rt: HostRuntime) -> Result<(), Fail> {
-    let a = Vec::from_slice(rt.alloc(), &[0, 1, 2, 1, 0, 3, 2, 3, 0])?;
-    let b = Vec::from_slice(rt.alloc(), &[0, 5, 2, 5, 0, 1, 2, 1, 0])?;
-    let instance = Instance::new(3, a, b)?;
+    let instance = three(rt.alloc())?;
     let row: Row = &[
         &[BEST, Int(24), IDENTITY],
         &[CLOSED, List(&[]), List(&[9, 10, 12]), List(&[0, -2, -5])],
@@ -184,6 +190,43 @@ fn other_tuples_are_refused(rt: HostRuntime) -> Result<(), Fail> {
             Ok(_) => assert!(rt; false, "row {number}"),
             Err(error) => assert_eq!(rt; error, *want, "row {number}"),
         }
+    }
+    Ok(())
+}
+
+#[test]
+fn a_node_is_worked_out_and_decided(rt: HostRuntime) -> Result<(), Fail> {
+    let instance = three(rt.alloc())?;
+    let Some(root) = read_node(rt.alloc(), 3, &[])? else {
+        return Err(Fail::from("the root is a node"));
+    };
+    let matrix = reduced(rt.alloc(), &instance, &root)?;
+    let thought = Thought::new(rt.alloc(), &instance, &root, &matrix)?;
+    assert_eq!(rt; thought.value, 24);
+    assert_eq!(rt; thought.cost, 24);
+    assert_eq!(rt; thought.branch, Some(0));
+    for (best, want) in [(24, 1), (25, 4)] {
+        let written = decide(rt.alloc(), &root, &thought, best)?;
+        assert_eq!(rt; written.map_or(0, |tuples| tuples.len()), want);
+    }
+    Ok(())
+}
+
+static LISTS: [(&[i128], bool); 7] = [
+    (&[], true),
+    (&[1, 2], true),
+    (&[2, 0, 0, 1, 1, 2], true),
+    (&[1], false),
+    (&[1, 2, 1, 0], false),
+    (&[1, 2, 0, 2], false),
+    (&[3, 0], false),
+];
+
+#[test]
+fn nodes_are_read_from_their_lists(rt: HostRuntime) -> Result<(), Fail> {
+    for (row, (list, want)) in LISTS.iter().enumerate() {
+        let node = read_node(rt.alloc(), 3, list)?;
+        assert_eq!(rt; node.is_some(), *want, "row {row}");
     }
     Ok(())
 }
