@@ -200,6 +200,7 @@ fn a_node_is_worked_out_and_decided(rt: HostRuntime) -> Result<(), Fail> {
     let Some(root) = read_node(rt.alloc(), 3, &[])? else {
         return Err(Fail::from("the root is a node"));
     };
+    assert_eq!(rt; instance.size(), root.size());
     let matrix = reduced(rt.alloc(), &instance, &root)?;
     let thought = Thought::new(rt.alloc(), &instance, &root, &matrix)?;
     assert_eq!(rt; thought.value, 24);
