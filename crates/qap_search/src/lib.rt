@@ -11,6 +11,7 @@ mod law;
 mod ordering;
 mod pieces;
 mod reading;
+mod templates;
 mod thought;
 mod writing;
 
@@ -19,7 +20,9 @@ pub use decision::decide;
 pub use error::AssembleError;
 pub use law::{certificate_law, found_law, opening_law, order_law, replacement_law, replacing_law};
 pub use reading::read_node;
+pub use templates::{best_template, node_template};
 pub use thought::Thought;
+pub use writing::tuple_of_best;
 
 #[cfg(test)]
 mod tests;

@@ -1,13 +1,13 @@
 //! The tuples of nodes and of the best permutation.
 
-ghost use Rattle.std.specs.Prelude.{◌≡◌, ◌≤◌, IfOk, length};
+ghost use Rattle.std.specs.Prelude.{◌≡◌, ◌≤◌, IfOk, length, map, pos};
 ghost use Rattle.qap_cost.specs.Placement.{IsPlacement, placing};
 ghost use Rattle.tuple_match.specs.Field.{field_value};
 ghost use Rattle.tuple_match.specs.FieldValue.{word};
-ghost use Rattle.qap_search.specs.Piece.{by_turns, closed_tuple, node_list, node_tuple, pieces, split_tuple};
+ghost use Rattle.qap_search.specs.Piece.{best_tuple, by_turns, closed_tuple, node_list, node_tuple, pieces, split_tuple};
 ghost use Rattle.qap_search.specs.SearchTree.{split_open};
 
-use qap_cost::Partial;
+use qap_cost::{Partial, Perm};
 use std::alloc::{AllocError, Global};
 use tuple_match::{Field, Tuple};
 
@@ -88,8 +88,30 @@ fn child_numbers(
     Ok(numbers)
 }
 
+/// The tuple of the best permutation found, with its cost.
+pub fn tuple_of_best(alloc: Global, cost: i128, perm: &Perm) -> Result<Tuple, AllocError>
+    ensures { IfOk result (λ t. t ≡ best_tuple cost perm.now) }
+{
+    let name = word_field(alloc, "best")?;
+    let list = Field::List(locations_of(alloc, perm)?);
+    let fields = vec![in alloc; name, Field::Int(cost), list]?;
+    Ok(Tuple::new(fields).unwrap())
+}
+
+/// The locations of the permutation, as numbers of a tuple.
+fn locations_of(alloc: Global, perm: &Perm) -> Result<Vec<i128>, AllocError>
+    ensures list { IfOk result (λ v. v.items ≡ map pos perm.now) }
+    ensures short { IfOk result (λ v. length v.items ≤ 256) }
+{
+    let mut numbers = Vec::with_capacity(alloc, perm.len())?;
+    for i in 0..perm.len() {
+        numbers.push(i128::from(perm.at(i)))?;
+    }
+    Ok(numbers)
+}
+
 /// The word as a field.
-fn word_field(alloc: Global, name: &str) -> Result<Field, AllocError>
+pub(crate) fn word_field(alloc: Global, name: &str) -> Result<Field, AllocError>
     ensures { IfOk result (λ field. field_value field ≡ word name.now) }
 {
     Ok(Field::Word(String::from_str(alloc, name)?))
