@@ -9,6 +9,7 @@ pub mod Found
 pub mod InOrder
 pub mod Piece
 pub mod Pieces
+pub mod Putting
 pub mod Replacement
 pub mod SearchTree
 pub mod Thought

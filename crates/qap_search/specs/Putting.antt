@@ -1,0 +1,12 @@
+-- A tuple that is written under a transaction to stay forever.
+use Rattle.std.specs.Prelude.{◌≡◌, false, List, [], ◌∷◌, ◌++◌}
+use Rattle.tuple_match.specs.FieldValue.{FieldValue}
+use Rattle.tuple_space.specs.declared.lease.Lease.TheVariants.{Forever}
+use Rattle.tuple_space.specs.declared.write.Write.{Write}
+
+abbrev pub forever : List FieldValue → Write
+forever tuple = record { tuple = tuple; lease = Forever; taken = false }
+
+-- one write more, of this tuple
+abbrev pub WritesForever : List FieldValue → List Write → List Write → Type 0
+WritesForever tuple old new = new ≡ old ++ forever tuple ∷ []
