@@ -1,14 +1,16 @@
 -- A node that is decided by a thought, and what may be replaced by it.
-use Rattle.std.proofs.Common.{◌≡◌, ℕ, List, [], ◌∷◌, ℤ, ◌≤ℤ◌, ◌+ℤ◌, refl, inl, inr, subst, arith}
+use Rattle.std.proofs.Common.{◌≡◌, ℕ, List, [], ◌∷◌, ◌++◌, ℤ, ap, ◌≤ℤ◌, ◌+ℤ◌, refl, inl, inr, subst, arith}
 use Rattle.std.proofs.lemmas.Int.{ints}
+use Rattle.std.proofs.lemmas.List.Sums.{sum_by-append, sum_by-cons}
+use Rattle.std.specs.List.{sum_by}
 use Rattle.qap_cost.specs.Instance.{Problem}
 use Rattle.qap_cost.specs.Matrix.{dual_value}
 use Rattle.qap_cost.specs.Placement.{Placement, IsPlacement, IsFreeFacility, fixed_cost_of, free_locations}
 use Rattle.qap_cert.specs.Valid.{Closes}
 use Rattle.space_txn.specs.Content.{SameItems}
 use Rattle.tuple_match.specs.FieldValue.{FieldValue}
-use Rattle.qap_search.specs.Decision.{Decides}
-use Rattle.qap_search.specs.Piece.{closed_tuple, node_tuple, pieces}
+use Rattle.qap_search.specs.Decision.{Decides, DecidesBeside}
+use Rattle.qap_search.specs.Piece.{best_tuple, closed_tuple, node_tuple, pieces}
 use Rattle.qap_search.specs.Replacement.{Best, IsAsGood, MayReplace, tuple_of}
 use Rattle.qap_search.specs.SearchTree.{AreOpen, AreTreesAt, closed_node, open_row, split_open}
 use Rattle.qap_search.specs.Thought.{IsThought}
@@ -72,3 +74,16 @@ replaces_taken I x old new gone kept added tuples placed size d good takes reads
       valid = d.valid;
       tuples = inr (record { as_good = good; takes = takes; reads = reads; adds = subst P d.are adds });
     }
+
+-- a decided node's tuples, and then that of the best permutation
+pub decides_beside : (I : Problem) (c : ℤ) (p : List ℕ) (x : Placement) (rest tuples : List (List FieldValue)) (best : List FieldValue) → Decides I c x rest → tuples ≡ rest ++ best ∷ [] → best ≡ best_tuple c p → DecidesBeside I c p x tuples
+decides_beside I c p x rest tuples best d is best_is = record {
+  rest = rest;
+  decides = d;
+  with_best = λ f.
+      let all = ap (sum_by f) is in
+      let parts = sum_by-append f rest (best ∷ []) in
+      let one = ap f best_is in
+      let cons = sum_by-cons f (best_tuple c p) rest in
+      omega arith;
+}

@@ -1,10 +1,11 @@
 -- What one commit writes of a node: duals that close it under the cost of the best permutation, or its split into open nodes.
-use Rattle.std.specs.Prelude.{◌≡◌, List, ℤ}
+use Rattle.std.specs.Prelude.{◌≡◌, ℕ, List, ◌∷◌, ℤ}
 use Rattle.qap_cost.specs.Instance.{Problem}
 use Rattle.qap_cost.specs.Placement.{Placement}
 use Rattle.qap_cert.specs.Valid.{Closes}
+use Rattle.space_txn.specs.Content.{SameItems}
 use Rattle.tuple_match.specs.FieldValue.{FieldValue}
-use Rattle.qap_search.specs.Piece.{pieces}
+use Rattle.qap_search.specs.Piece.{best_tuple, pieces}
 use Rattle.qap_search.specs.Replacement.{IsOneNode}
 use Rattle.qap_search.specs.SearchTree.{SearchTree, IsTreeAt}
 use Rattle.qap_search.specs.Thought.{IsThought}
@@ -20,3 +21,9 @@ pub record Decides (I : Problem) (c : ℤ) (x : Placement) (tuples : List (List 
 -- the thought is one on x, for some instance
 abbrev pub IsOn : Placement → Thought → Type 0
 IsOn x t = (I : Problem) × IsThought I x t
+
+-- the tuples are those of one decided node at x, as before, and of a permutation of cost c
+pub record DecidesBeside (I : Problem) (c : ℤ) (p : List ℕ) (x : Placement) (tuples : List (List FieldValue)) : Type 0 where
+  pub rest : List (List FieldValue)
+  pub decides : Decides I c x rest
+  pub with_best : SameItems tuples (best_tuple c p ∷ rest)

@@ -2,12 +2,12 @@
 
 ghost use Rattle.std.specs.Prelude.{◌≡◌, ◌<ℤ◌, IfOk, MatchOption, length};
 ghost use Rattle.qap_cost.specs.Instance.{Problem};
-ghost use Rattle.qap_search.specs.Decision.{Decides, IsOn};
+ghost use Rattle.qap_search.specs.Decision.{Decides, DecidesBeside, IsOn};
 ghost use Rattle.qap_search.specs.Thought.{IsThought};
 
 use crate::thought::Thought;
-use crate::writing::{split_tuples, tuple_of_closed};
-use qap_cost::Partial;
+use crate::writing::{split_tuples, tuple_of_best, tuple_of_closed};
+use qap_cost::{Partial, Perm};
 use std::alloc::{AllocError, Global};
 use tuple_match::Tuple;
 
@@ -34,4 +34,24 @@ pub fn decide(
         return Ok(None);
     };
     Ok(Some(split_tuples(alloc, node, facility)?))
+}
+
+/// The same, beside the tuple of the best permutation that then stands, of this cost.
+pub fn decide_beside(
+    alloc: Global,
+    node: &Partial,
+    thought: &Thought,
+    cost: i128,
+    perm: &Perm,
+) -> Result<Option<Vec<Tuple>>, AllocError>
+    requires { IsOn node.now thought.now }
+    ensures { IfOk result (λ written. MatchOption written
+        ((length node.now.facilities ≡ node.now.size) × (thought.now.value <ℤ cost))
+        (λ tuples. (I : Problem) → IsThought I node.now thought.now → DecidesBeside I cost perm.now node.now tuples.items)) }
+{
+    let Some(mut tuples) = decide(alloc, node, thought, cost)? else {
+        return Ok(None);
+    };
+    tuples.push(tuple_of_best(alloc, cost, perm)?)?;
+    Ok(Some(tuples))
 }
