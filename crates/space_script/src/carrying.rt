@@ -1,6 +1,7 @@
 //! The calls of the space that commands ask for, and how their answers are told.
 
-ghost use Rattle.std.specs.Prelude.{◌≡◌, IfOk};
+ghost use Rattle.std.specs.Prelude.{◌≡◌, IfOk, IfSome};
+ghost use Rattle.space_txn.specs.Finding.{Shows};
 ghost use Rattle.tuple_space.specs.Step as space;
 ghost use Rattle.space_txn.specs.Machine.{abort as abort_call, commit as commit_call, end_answer, find_answer, inp_in, rdp_in, refused, renew_answer, renew_txn};
 ghost use Rattle.space_txn.specs.Txn.{TxnValue};
@@ -110,7 +111,7 @@ pub(crate) fn take_under(
     ensures { IfOk result (λ reply. Calls world.old txn.old (inp_in template.now) reply world.new txn.new) }
 {
     let answered = world.inp_in(txn, template);
-    told_found(txn, answered)
+    told_found(txn, template, answered)
 }
 
 /// Copies a tuple under a transaction.
@@ -122,16 +123,21 @@ pub(crate) fn read_under(
     ensures { IfOk result (λ reply. Calls world.old txn.old (rdp_in template.now) reply world.new txn.new) }
 {
     let answered = world.rdp_in(txn, template);
-    told_found(txn, answered)
+    told_found(txn, template, answered)
 }
 
-fn told_found(txn: &Txn, answered: Result<Option<Found>, TxnError>) -> Result<Reply, AllocError>
+fn told_found(
+    txn: &Txn,
+    template: &Template,
+    answered: Result<Option<Found>, TxnError>,
+) -> Result<Reply, AllocError>
+    requires { IfOk answered (λ what. IfSome what (Shows template.now txn.now)) }
     ensures { IfOk result (λ reply. TellsAnswer txn.now (find_answer answered) reply) }
 {
     match answered {
         Ok(Some(found)) => match txn.found(&found) {
             Some(tuple) => Ok(Reply::Got(tuple.copy()?)),
-            None => Err(AllocError),
+            None => unreachable!(),
         },
         Ok(None) => Ok(Reply::Nothing),
         Err(error) => told_refusal(error),
