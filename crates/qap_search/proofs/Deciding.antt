@@ -3,13 +3,14 @@ use Rattle.std.proofs.Common.{◌≡◌, ℕ, List, [], ◌∷◌, ◌++◌, ℤ
 use Rattle.std.proofs.lemmas.Int.{ints}
 use Rattle.std.proofs.lemmas.List.Sums.{sum_by-append, sum_by-cons}
 use Rattle.std.specs.List.{sum_by}
+use Rattle.std.specs.Prelude.{IfOk, MatchOption, Result, Option, Ok, Err, Some, None, ◌<ℤ◌}
 use Rattle.qap_cost.specs.Instance.{Problem}
 use Rattle.qap_cost.specs.Matrix.{dual_value}
 use Rattle.qap_cost.specs.Placement.{Placement, IsPlacement, IsFreeFacility, fixed_cost_of, free_locations}
 use Rattle.qap_cert.specs.Valid.{Closes}
 use Rattle.space_txn.specs.Content.{SameItems}
 use Rattle.tuple_match.specs.FieldValue.{FieldValue}
-use Rattle.qap_search.specs.Decision.{Decides, DecidesBeside}
+use Rattle.qap_search.specs.Decision.{Decides, DecidesAnew, DecidesBeside}
 use Rattle.qap_search.specs.Piece.{best_tuple, closed_tuple, node_tuple, pieces}
 use Rattle.qap_search.specs.Replacement.{Best, IsAsGood, MayReplace, tuple_of}
 use Rattle.qap_search.specs.SearchTree.{AreOpen, AreTreesAt, closed_node, open_row, split_open}
@@ -86,4 +87,26 @@ decides_beside I c p x rest tuples best d is best_is = record {
       let one = ap f best_is in
       let cons = sum_by-cons f (best_tuple c p) rest in
       omega arith;
+}
+
+-- what holds of tuples that were made gives more of them
+pub made_then : {V E : Type 0} (r : Result (Option V) E) (A B : Type 0) (P Q : V → Type 0) → (A → B) → ((v : V) → P v → Q v) → IfOk r (λ w. MatchOption w A P) → IfOk r (λ w. MatchOption w B Q)
+made_then (Ok None) A B P Q none some h = none h
+made_then (Ok (Some v)) A B P Q none some h = some v h
+made_then (Err e) A B P Q none some h = h
+
+-- beside the candidate, which costs less
+pub decides_better : (I : Problem) (old : Best) (x : Placement) (t : Thought) (stated : ℤ) (tuples : List (List FieldValue)) → IsThought I x t → stated ≡ t.cost → t.cost <ℤ old.cost → DecidesBeside I stated t.candidate x tuples → DecidesAnew I old x tuples
+decides_better I old x t stated tuples h is less d = record {
+  new = record { cost = t.cost; permutation = t.candidate };
+  as_good = inr (h.permutes, h.costs, less);
+  decides = subst (λ (c : ℤ). DecidesBeside I c t.candidate x tuples) is d;
+}
+
+-- beside the one that was taken
+pub decides_again : (I : Problem) (old : Best) (x : Placement) (stated : ℤ) (tuples : List (List FieldValue)) → stated ≡ old.cost → DecidesBeside I stated old.permutation x tuples → DecidesAnew I old x tuples
+decides_again I old x stated tuples is d = record {
+  new = old;
+  as_good = inl refl;
+  decides = subst (λ (c : ℤ). DecidesBeside I c old.permutation x tuples) is d;
 }

@@ -2,7 +2,7 @@
 
 ghost use Rattle.std.specs.Prelude.{◌≡◌, ◌<ℤ◌, IfOk, MatchOption, length};
 ghost use Rattle.qap_cost.specs.Instance.{Problem};
-ghost use Rattle.qap_search.specs.Decision.{Decides, DecidesBeside, IsOn};
+ghost use Rattle.qap_search.specs.Decision.{Decides, DecidesAnew, DecidesBeside, IsOn};
 ghost use Rattle.qap_search.specs.Thought.{IsThought};
 
 use crate::thought::Thought;
@@ -54,4 +54,25 @@ pub fn decide_beside(
     };
     tuples.push(tuple_of_best(alloc, cost, perm)?)?;
     Ok(Some(tuples))
+}
+
+/// The same where the best permutation of this cost was taken: beside the thought's candidate, where that costs less, and else
+/// beside the one that was taken. `None` where no facility is free to split on and the node isn't closed.
+pub fn decide_anew(
+    alloc: Global,
+    node: &Partial,
+    thought: &Thought,
+    cost: i128,
+    perm: &Perm,
+) -> Result<Option<Vec<Tuple>>, AllocError>
+    requires { IsOn node.now thought.now }
+    ensures { IfOk result (λ written. MatchOption written
+        ((length node.now.facilities ≡ node.now.size) × (thought.now.value <ℤ cost))
+        (λ tuples. (I : Problem) → IsThought I node.now thought.now → DecidesAnew I (record { cost = cost; permutation = perm.now }) node.now tuples.items)) }
+{
+    if thought.cost < cost {
+        decide_beside(alloc, node, thought, thought.cost, &thought.candidate)
+    } else {
+        decide_beside(alloc, node, thought, cost, perm)
+    }
 }

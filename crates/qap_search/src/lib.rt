@@ -17,7 +17,7 @@ mod thought;
 mod writing;
 
 pub use assembling::assemble;
-pub use decision::{decide, decide_beside};
+pub use decision::{decide, decide_anew, decide_beside};
 pub use error::AssembleError;
 pub use law::{certificate_law, found_law, opening_law, order_law, replacement_law, replacing_law};
 pub use putting::put_forever;
