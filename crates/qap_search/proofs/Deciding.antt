@@ -1,5 +1,5 @@
 -- A node that is decided by a thought, and what may be replaced by it.
-use Rattle.std.proofs.Common.{◌≡◌, ℕ, List, [], ◌∷◌, ◌++◌, ℤ, ap, ◌≤ℤ◌, ◌+ℤ◌, refl, inl, inr, subst, arith}
+use Rattle.std.proofs.Common.{◌≡◌, ℕ, List, [], ◌∷◌, ◌++◌, ℤ, ap, ◌≤ℤ◌, ◌+ℤ◌, refl, inl, inr, subst, ◌∙◌, arith}
 use Rattle.std.proofs.lemmas.Int.{ints}
 use Rattle.std.proofs.lemmas.List.Sums.{sum_by-append, sum_by-cons}
 use Rattle.std.specs.List.{sum_by}
@@ -110,3 +110,8 @@ decides_again I old x stated tuples is d = record {
   as_good = inl refl;
   decides = subst (λ (c : ℤ). DecidesBeside I c old.permutation x tuples) is d;
 }
+
+-- where the best permutation was taken, and a node is decided beside one that is as good
+pub replaces_anew : (I : Problem) (x : Placement) (old : Best) (gone kept added tuples : List (List FieldValue)) → IsPlacement x → x.size ≡ I.size → DecidesAnew I old x tuples → SameItems gone (node_tuple x ∷ tuple_of old ∷ []) → SameItems kept [] → SameItems added tuples → MayReplace I gone kept added
+replaces_anew I x old gone kept added tuples placed size d takes reads adds =
+    replaces_taken I x old d.new gone kept added d.decides.rest placed size d.decides.decides d.as_good takes reads (λ f. adds f ∙ d.decides.with_best f)

@@ -1,0 +1,48 @@
+//! What a worker's next step is, and who is asked before it.
+
+ghost use Rattle.std.specs.Prelude.{IsTrue};
+
+/// The kinds of a worker's steps.
+#[derive(Clone, Copy, Debug, PartialEq, Eq)]
+pub enum Kind {
+    /// Begins a transaction.
+    Begin,
+    /// Takes the tuple of an open node.
+    TakeNode,
+    /// Reads the tuple of the best permutation.
+    ReadBest,
+    /// Takes the tuple of the best permutation.
+    TakeBest,
+    /// Commits the transaction.
+    Commit,
+    /// Ends the transaction without a commit.
+    Abort,
+}
+
+/// Is asked before each step of a worker, and told after it; both outside the space's lock.
+pub trait Gate {
+    /// Whether the worker may go on; `false` ends it, and its transaction is dropped.
+    fn pass(&self, worker: u16, kind: Kind) -> bool;
+
+    /// The step was made; whether it was answered without a refusal.
+    fn after(&self, worker: u16, kind: Kind, accepted: bool);
+
+    /// The worker has a node's reduced matrix and works out its duals.
+    fn thinking(&self, worker: u16);
+}
+
+/// Lets each worker pass, and does nothing.
+#[derive(Clone, Copy, Debug)]
+pub struct Always;
+
+impl Gate for Always {
+    fn pass(&self, _worker: u16, _kind: Kind) -> bool
+        ensures { IsTrue result }
+    {
+        true
+    }
+
+    fn after(&self, _worker: u16, _kind: Kind, _accepted: bool) {}
+
+    fn thinking(&self, _worker: u16) {}
+}
