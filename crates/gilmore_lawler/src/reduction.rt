@@ -7,8 +7,8 @@ ghost use Rattle.gilmore_lawler.specs.Ranking.{HasRankings};
 ghost use Rattle.gilmore_lawler.specs.ReducedMatrix.{IsReduced};
 ghost use Rattle.gilmore_lawler.specs.Table.{IsTable, IsProductRow, product_row};
 
-use crate::factors::factor_rows;
 use crate::blocks::sum_by_eights;
+use crate::factors::factor_rows;
 use crate::ranking::{Ranked, ranked_rows};
 use crate::side::Side;
 use qap_cost::{Instance, Matrix, Partial};

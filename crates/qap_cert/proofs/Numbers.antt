@@ -250,13 +250,13 @@ HasKept-more text rest after wanted count more value first new limited still h i
   counted = omega (arith, h.counted, length-append h.numbers (found.number ∷ []));
   judged = (
     λ t.
-    let both = judged.0 t in
-    AllLimited-more h.numbers found.number (h.judged.0 both.0) (held_within-is found.number (subst IsLimited found.is both.1)),
+        let both = judged.0 t in
+        AllLimited-more h.numbers found.number (h.judged.0 both.0) (held_within-is found.number (subst IsLimited found.is both.1)),
     λ all.
-    judged.1 (
-      h.judged.1 (AllLimited-before h.numbers found.number all),
-      subst IsLimited (sym (found.is ∙ held-within found.number (AllLimited-last h.numbers found.number all))) (AllLimited-last h.numbers found.number all),
-    ),
+        judged.1 (
+          h.judged.1 (AllLimited-before h.numbers found.number all),
+          subst IsLimited (sym (found.is ∙ held-within found.number (AllLimited-last h.numbers found.number all))) (AllLimited-last h.numbers found.number all),
+        ),
   );
   kept = elim (cases_lt count wanted) [
     | inl less ↦ stored less ∙ ap₂ (λ l x. l ++ x ∷ []) (h.kept ∙ ap (map held) (take_all wanted h.numbers (omega (arith, h.counted)))) found.is

@@ -126,7 +126,7 @@ IsFaultBefore-joined w n placed count more all line text rest next P e h all_is 
   AllHaveShape-joined w n placed h.trees k.0 h.shapes k.3,
   omega (arith, child_count-joined h.trees k.0, h.counted, k.4),
   subst (λ (j : ℕ). IsTreeTextFault w n (n - length placed) placed j k.1 e)
-  (ap (λ j. line_after j (nodes_count k.0)) h.next_is ∙ line_after-more line (nodes_count h.trees) (nodes_count k.0) ∙ ap (line_after line) (sym (nodes_count-joined h.trees k.0))) k.5,
+      (ap (λ j. line_after j (nodes_count k.0)) h.next_is ∙ line_after-more line (nodes_count h.trees) (nodes_count k.0) ∙ ap (line_after line) (sym (nodes_count-joined h.trees k.0))) k.5,
 )
 
 -- it is a fault among all the children of a split

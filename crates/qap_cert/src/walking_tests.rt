@@ -151,7 +151,10 @@ fn a_deep_tree(rt: HostRuntime) -> Result<(), Fail> {
         assert_eq!(rt; lines, 826);
         assert_eq!(rt; accept(alloc, &empty, &text), Ok(Verdict::Optimal(0)));
         let text = deep(alloc, version, "1")?;
-        assert_eq!(rt; accept(alloc, &empty, &text), Err(CertError::CostDiffers(3)));
+        assert_eq!(rt;
+            accept(alloc, &empty, &text),
+            Err(CertError::CostDiffers(3))
+        );
     }
     Ok(())
 }

@@ -12,7 +12,7 @@ loop-start-preserved c =
     let long : length (take 8 (drop s xs)) ≡ 8 = omega (arith, length-take 8 (drop s xs), length-drop s xs, c.loop-start-test.true) in (
       c.loop-start-test.true,
       added xs c.args.ys.now _ c.few_products.result c.from-total.result s 8 _ c.loop-start.invariant.1 (omega (arith, c.loop-start-test.true, c.requires.small)) (omega arith) (omega arith) long
-      c.few_products.ensures.value c.few_products.ensures.bounded c.from-total.ensures,
+          c.few_products.ensures.value c.few_products.ensures.bounded c.from-total.ensures,
     )
 
 pub returns-clause-value : goal.returns-clause-value
