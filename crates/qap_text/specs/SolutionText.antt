@@ -1,5 +1,5 @@
 -- Texts of solutions, as the library QAPLIB (Burkard, Karisch and Rendl 1997) writes them, and their faults.
-use Rattle.std.specs.Prelude.{◌≡◌, ◌≢◌, ℕ, ◌+◌, ◌^◌, ◌<◌, ◌≤◌, ◌⊎◌, List, [], ◌∷◌, length, ℤ, pos, ◌≤ℤ◌, ◌<ℤ◌, unsigned_abs, slice_index}
+use Rattle.std.specs.Prelude.{◌≡◌, ◌≢◌, ℕ, ◌+◌, ◌<◌, ◌≤◌, ◌⊎◌, List, [], ◌∷◌, length, ℤ, pos, ◌≤ℤ◌, ◌<ℤ◌, unsigned_abs, slice_index}
 use Rattle.qap_cost.specs.Limits.{max_value}
 use Rattle.qap_cost.specs.Bijection.{AreDifferent, IsPerm}
 use Rattle.qap_io.specs.Number.{from_one}
