@@ -6,11 +6,13 @@ pub mod Decided
 pub mod Decision
 pub mod Finished
 pub mod Found
+pub mod Hand
 pub mod InOrder
 pub mod Piece
 pub mod Pieces
 pub mod Putting
 pub mod Replacement
 pub mod SearchTree
+pub mod SearchLaw
 pub mod Thought
 pub mod Reading
