@@ -5,12 +5,14 @@ pub mod Deciding
 pub mod Fields
 pub mod Finishing
 pub mod Found
+pub mod Identities
 pub mod Keys
 pub mod NodeLists
 pub mod OneTree
 pub mod Parts
 pub mod Replacing
 pub mod Scatter
+pub mod SearchLaws
 pub mod Taking
 pub mod Thoughts
 pub mod Tuples

@@ -1,3 +1,4 @@
+pub mod Answer
 pub mod Assembling
 pub mod Building
 pub mod Completion
@@ -8,6 +9,7 @@ pub mod Finished
 pub mod Found
 pub mod Hand
 pub mod InOrder
+pub mod Opening
 pub mod Piece
 pub mod Pieces
 pub mod Putting

@@ -1,6 +1,7 @@
 //! The search for a least permutation: what its tuples are at any moment, and the certificate that they leave.
 #![tactic(auto)]
 
+mod answer;
 mod assembling;
 mod building;
 mod completion;
@@ -10,15 +11,18 @@ mod error;
 mod gate;
 mod hand;
 mod law;
+mod opening;
 mod ordering;
 mod pieces;
 mod putting;
 mod reading;
 mod report;
+mod solving;
 mod templates;
 mod thought;
 mod writing;
 
+pub use answer::{Answer, SolveError};
 pub use assembling::assemble;
 pub use decision::{decide, decide_anew, decide_beside};
 pub use error::AssembleError;
@@ -28,6 +32,7 @@ pub use law::{certificate_law, found_law, opening_law, order_law, replacement_la
 pub use putting::put_forever;
 pub use reading::read_node;
 pub use report::{Ended, Report};
+pub use solving::solve_alone;
 pub use templates::{best_template, node_template};
 pub use thought::Thought;
 pub use writing::tuple_of_best;

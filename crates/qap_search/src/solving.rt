@@ -1,0 +1,153 @@
+//! A search by one worker, on a space of its own.
+
+ghost use Rattle.std.specs.Prelude.{◌≡◌, ◌+◌, ◌∷◌, [], IfOk, MatchResult};
+ghost use Rattle.std.specs.Arc.{arc_value};
+ghost use Rattle.space_txn.specs.Content.{content_of};
+ghost use Rattle.qap_search.specs.Answer.{CertifiesLeast, IsAnswer, IsSolveFault};
+ghost use Rattle.qap_search.specs.CutTree.{IsCutTree};
+ghost use Rattle.qap_search.specs.Opening.{IsOpening};
+ghost use Rattle.qap_search.specs.SearchLaw.{IsSearchLaw};
+
+use crate::answer::{Answer, SolveError};
+use crate::assembling::assemble;
+use crate::error::AssembleError;
+use crate::gate::{Always, Kind};
+use crate::hand::Hand;
+use crate::law::certificate_law;
+use crate::opening::opening_space;
+use crate::report::{Ended, Report};
+use crate::templates::node_template;
+use gilmore_lawler::RankedInstance;
+use qap_cert::Certificate;
+use qap_cost::Instance;
+use shared_space::{Alone, Law, Room, Share};
+use space_txn::TxnSpace;
+use std::alloc::{AllocError, Global};
+use std::marker::Brand;
+use std::sync::ledger::Blank;
+use std::sync::{Arc, Wait};
+use tuple_match::Template;
+
+/// The certificate of an instance's least cost, from one worker whose transactions begin with leases of so many milliseconds.
+///
+/// `Unfinished` comes where the worker found no memory and nodes are open, with their number. With a lease of 0 ms no commit is
+/// ever accepted, and the call doesn't return.
+pub fn solve_alone<R: Wait>(
+    rt: &R,
+    alloc: Global,
+    instance: &Instance,
+    lease_ms: u64,
+) -> Result<Answer, SolveError>
+    ensures { MatchResult result (IsAnswer instance.now 1) IsSolveFault }
+{
+    let space = opening_space(alloc, instance)?;
+    search::<Brand, R>(rt, alloc, instance, space, Blank::new(1), lease_ms)
+}
+
+/// The same, on a space that stands at the opening, under a law that is the search's.
+fn search<L: Law, R: Wait>(
+    rt: &R,
+    alloc: Global,
+    instance: &Instance,
+    space: TxnSpace,
+    blank: Blank,
+    lease_ms: u64,
+) -> Result<Answer, SolveError>
+    requires name { blank.name ≡ L.name }
+    requires parts { blank.parts ≡ L.parts }
+    requires one { blank.parts ≡ 1 }
+    requires law { IsSearchLaw instance.now L.lawful L.allowed }
+    requires opening { IsOpening instance.now space }
+    ensures { MatchResult result (IsAnswer instance.now 1) IsSolveFault }
+{
+    let mut hand = Hand::new(alloc, 0, shared_rows(alloc, instance)?, lease_ms)?;
+    let nodes = node_template(alloc)?;
+    let Ok((mut room, mut shares)) = Alone::<L>::new(alloc, blank, space, 1) else {
+        return Err(SolveError::OutOfMemory);
+    };
+    let ended = work(rt, &mut hand, &mut room, &mut shares[0], &nodes);
+    let (space, _) = room.into_inner(shares);
+    let certificate = certificate_of(alloc, instance, space)?;
+    let report = Report {
+        ended,
+        ..hand.report()
+    };
+    let reports = only_report(alloc, report)?;
+    Ok(Answer {
+        certificate,
+        reports,
+    })
+}
+
+/// The reports of the only worker.
+fn only_report(alloc: Global, report: Report) -> Result<Vec<Report>, AllocError>
+    ensures { IfOk result (λ reports. reports.items ≡ report ∷ []) }
+{
+    Ok(vec![in alloc; report]?)
+}
+
+/// The instance with the rows of its matrices in order, to be shared by workers.
+pub(crate) fn shared_rows(
+    alloc: Global,
+    instance: &Instance,
+) -> Result<Arc<RankedInstance>, AllocError>
+    ensures { IfOk result (λ shared. arc_value shared ≡ instance.now) }
+{
+    match Arc::new(alloc, RankedInstance::new(alloc, instance)?) {
+        Ok(shared) => Ok(shared),
+        Err(_) => Err(AllocError),
+    }
+}
+
+/// Steps the worker until the space is closed or there is no memory. Whether the space is to be closed is asked only where the
+/// worker gives its transaction up.
+fn work<L: Law, M: Room<L>, R: Wait>(
+    rt: &R,
+    hand: &mut Hand,
+    room: &mut M,
+    share: &mut Share<L>,
+    nodes: &Template,
+) -> Ended
+    requires { IsSearchLaw hand.old.instance L.lawful L.allowed }
+    ensures { share.new + hand.old.accepted ≡ share.old + hand.new.accepted }
+{
+    for _ in rt.forever() {
+        if hand.thinks() {
+            if hand.think(&Always).is_err() {
+                return Ended::Memory;
+            }
+        } else if hand.step(room, share).is_err() {
+            return Ended::Memory;
+        } else if gives_up(hand) && room.close(nodes) {
+            return Ended::Done;
+        }
+    }
+    unreachable!()
+}
+
+/// Whether the worker's coming step gives its transaction up.
+fn gives_up(hand: &Hand) -> bool {
+    !hand.thinks() && hand.next() == Kind::Abort
+}
+
+/// The certificate that a space holds whose tuples are a cut tree.
+pub(crate) fn certificate_of(
+    alloc: Global,
+    instance: &Instance,
+    space: TxnSpace,
+) -> Result<Certificate, SolveError>
+    requires { IsCutTree instance.now (content_of space) space.commits }
+    ensures { MatchResult result (CertifiesLeast instance.now space.commits) IsSolveFault }
+{
+    certificate_law();
+    let size = instance.size();
+    let Ok(tuples) = space.into_tuples() else {
+        return Err(SolveError::OutOfMemory);
+    };
+    match assemble(alloc, size, tuples) {
+        Ok(certificate) => Ok(certificate),
+        Err(AssembleError::Unfinished(open)) => Err(SolveError::Unfinished(open)),
+        Err(AssembleError::NotATree) => unreachable!(),
+        Err(AssembleError::OutOfMemory) => Err(SolveError::OutOfMemory),
+    }
+}
