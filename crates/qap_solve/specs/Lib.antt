@@ -1,1 +1,3 @@
 pub mod Refusal
+pub mod Solution
+pub mod Solving

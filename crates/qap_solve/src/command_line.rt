@@ -1,16 +1,20 @@
 //! What the command line asks for.
 
-use clap::Command;
+use crate::options::Options;
 use clap::error::ErrorKind;
+use clap::{Arg, ArgAction, ArgMatches, Command, value_parser};
 use std::alloc::{AllocError, Global};
 use std::io;
 
 /// The line that tells how the program is used.
-pub const USAGE: &str = "usage: qapsolve script";
+pub const USAGE: &str =
+    "usage: qapsolve solve [--workers K] [--lease MS] [--cert] | qapsolve script";
 
 /// What is asked for.
 #[derive(Clone, Copy, Debug, PartialEq, Eq)]
 pub enum Request {
+    /// To solve an instance.
+    Solve(Options),
     /// To carry out a script of the tuple space.
     Script,
 }
@@ -52,10 +56,44 @@ impl From<clap::Error> for CommandError {
 pub fn parse(alloc: Global, words: &[String]) -> Result<Request, CommandError> {
     let command = Command::new(alloc, "qapsolve")
         .subcommand_required(true)
+        .subcommand(solve_command(alloc)?)?
         .subcommand(Command::new(alloc, "script"))?;
     let matches = command.try_get_matches_from(words)?;
     match matches.subcommand() {
+        Some(("solve", found)) => Ok(Request::Solve(options_of(found)?)),
         Some(("script", _)) => Ok(Request::Script),
         _ => Err(CommandError::Usage),
     }
+}
+
+/// The subcommand that solves an instance.
+fn solve_command<'a>(alloc: Global) -> Result<Command<'a>, AllocError> {
+    let workers = Arg::new(alloc, "workers")
+        .long("workers")
+        .value_parser(value_parser!(u16).range(1..=64))
+        .default_value("4");
+    let lease = Arg::new(alloc, "lease")
+        .long("lease")
+        .value_parser(value_parser!(u64).range(1..=86_400_000))
+        .default_value("600000");
+    let cert = Arg::new(alloc, "cert")
+        .long("cert")
+        .action(ArgAction::SetTrue);
+    Command::new(alloc, "solve")
+        .arg(workers)?
+        .arg(lease)?
+        .arg(cert)
+}
+
+/// The options that were found, each of which has a default.
+fn options_of(found: &ArgMatches<'_>) -> Result<Options, CommandError> {
+    let (Some(workers), Some(lease_ms)) = (found.get_one("workers"), found.get_one("lease")) else {
+        return Err(CommandError::Usage);
+    };
+    let cert = found.get_flag("cert");
+    Ok(Options {
+        workers,
+        lease_ms,
+        cert,
+    })
 }

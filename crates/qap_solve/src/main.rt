@@ -1,17 +1,22 @@
-//! Carries out scripts of the tuple space.
+//! Solves instances of the quadratic assignment problem, and carries out scripts of the tuple space.
 #![tactic(auto)]
 
 mod command_line;
+mod options;
 mod refusal;
+mod solving;
 
 use command_line::{CommandError, Request, USAGE, parse};
+use options::Options;
 use qap_io::{Counted, Status, finish};
 use refusal::{RunError, fault_line, status};
+use solving::solve_stream;
 use space_script::{ScriptError, run_script};
 use std::env;
 use std::io::{BufWriter, Stdout};
 use std::process::ExitCode;
 use std::rt::Env;
+use std::sync::Wait;
 
 #[cfg(test)]
 mod tests;
@@ -21,7 +26,7 @@ const BUFFER: usize = 65_536;
 
 fn main(rt: HostRuntime) -> ExitCode {
     let answered = match requested(&rt) {
-        Ok(request) => run(&rt, request),
+        Ok(request) => run(&rt, &rt, request),
         Err(CommandError::OutOfMemory) => Err(RunError::OutOfMemory),
         Err(CommandError::Usage) => return usage(&rt),
     };
@@ -47,11 +52,19 @@ fn requested(rt: &(impl Env + AllocGlobal)) -> Result<Request, CommandError> {
     parse(rt.alloc(), &words)
 }
 
-/// Answers a request on standard output.
-fn run(rt: &HostRuntime, request: Request) -> Result<(), RunError> {
+/// Answers a request on standard output. Solving may wait, which `wait` is the leave for.
+fn run<T: Wait>(wait: &T, rt: &HostRuntime, request: Request) -> Result<(), RunError> {
     match request {
+        Request::Solve(options) => solve(wait, rt, &options),
         Request::Script => script(rt),
     }
+}
+
+/// Solves the instance on standard input.
+fn solve<T: Wait>(wait: &T, rt: &HostRuntime, options: &Options) -> Result<(), RunError> {
+    let mut input = Counted::new(rt.stdin());
+    let mut output = Counted::new(buffered(rt)?);
+    solve_stream(wait, rt.alloc(), &mut input, &mut output, options)
 }
 
 /// Runs the script on standard input. Replies that stood written before memory ran out still go out.

@@ -6,6 +6,8 @@ ghost use Rattle.qap_io.specs.Writing.{BreaksOff, Sends};
 ghost use Rattle.qap_solve.specs.Refusal.{refusal_of, status_of};
 
 use qap_io::{Counted, Device, Refusal, Status};
+use qap_search::SolveError;
+use qap_text::TextError;
 use space_script::ScriptError;
 use std::io::Write;
 use thiserror::Error;
@@ -13,15 +15,32 @@ use thiserror::Error;
 /// Why a run is broken off.
 #[derive(Clone, Copy, Debug, PartialEq, Eq, Error)]
 pub enum RunError {
-    /// The input is too long.
-    #[error("the input is too long")]
-    InputTooLong,
+    /// The input is too long, or is no instance's text.
+    #[error("{0}")]
+    Text(TextError),
+    /// The search ended with so many open nodes.
+    #[error("{0} nodes are open")]
+    Unfinished(u64),
     /// There is no memory left.
     #[error("out of memory")]
     OutOfMemory,
     /// The reader or the writer failed.
     #[error("the reader or the writer failed")]
     Device,
+}
+
+impl From<TextError> for RunError {
+    ghost use Rattle.qap_solve.specs.Refusal.{of_text};
+
+    ghost from_gives = { λ e f. f ≡ of_text e };
+
+    fn from(error: TextError) -> RunError {
+        match error {
+            TextError::OutOfMemory => RunError::OutOfMemory,
+            TextError::Device => RunError::Device,
+            _ => RunError::Text(error),
+        }
+    }
 }
 
 impl From<ScriptError> for RunError {
@@ -31,26 +50,40 @@ impl From<ScriptError> for RunError {
 
     fn from(error: ScriptError) -> RunError {
         match error {
-            ScriptError::InputTooLong => RunError::InputTooLong,
+            ScriptError::InputTooLong => RunError::Text(TextError::InputTooLong),
             ScriptError::OutOfMemory => RunError::OutOfMemory,
             ScriptError::Device => RunError::Device,
         }
     }
 }
 
-/// The exit status of a refusal: 3 for want of memory, else 1.
+impl From<SolveError> for RunError {
+    ghost use Rattle.qap_solve.specs.Refusal.{of_search};
+
+    ghost from_gives = { λ e f. f ≡ of_search e };
+
+    fn from(error: SolveError) -> RunError {
+        match error {
+            SolveError::Unfinished(open) => RunError::Unfinished(open),
+            SolveError::OutOfMemory => RunError::OutOfMemory,
+        }
+    }
+}
+
+/// The exit status of a refusal: 3 for want of memory, 4 where nodes are open, else 1.
 pub fn status(error: &RunError) -> u8
     ensures { result ≡ status_of error.now }
 {
     let status = match error {
         RunError::OutOfMemory => Status::OutOfMemory,
-        RunError::InputTooLong | RunError::Device => Status::Refused,
+        RunError::Unfinished(_) => Status::Unfinished,
+        RunError::Text(_) | RunError::Device => Status::Refused,
     };
     status.code()
 }
 
-/// Writes the line that tells a refusal, `refused` with its number and name, and flushes the writer. Where that fails, a
-/// beginning of the line has gone out.
+/// Writes the line that tells a refusal: `refused`, its number and name, and `at` with its place or the number of open nodes
+/// where it carries one; and flushes the writer. Where that fails, a beginning of the line has gone out.
 pub fn fault_line<W: Write>(error: &RunError, writer: &mut Counted<W>) -> Result<(), Device>
     ensures { MatchResult result
         (λ _. Sends W.contents writer.old writer.new (refusal_line (refusal_of error.now)))
@@ -64,7 +97,8 @@ fn refusal(error: RunError) -> Refusal
     ensures { result ≡ refusal_of error }
 {
     match error {
-        RunError::InputTooLong => Refusal::new(24, "InputTooLong"),
+        RunError::Text(fault) => fault.refusal(),
+        RunError::Unfinished(open) => Refusal::at(41, "Unfinished", open),
         RunError::OutOfMemory => Refusal::out_of_memory(),
         RunError::Device => Refusal::device(),
     }

@@ -1,11 +1,165 @@
-//! The command line, and how a run that is broken off is told.
+//! Runs over memory: what is written, what is told, and the exit status; and the command line.
 
 use crate::command_line::{CommandError, Request, USAGE, parse};
+use crate::options::Options;
 use crate::refusal::{RunError, fault_line, status};
+use crate::solving::solve_stream;
+use qap_cert::{Verdict, accept, read, write};
 use qap_io::{Counted, FailAt, OneByte};
+use qap_text::{TextError, read_instance};
 use space_script::ScriptError;
 use std::alloc::{AllocError, Global};
+use std::sync::Wait;
 use std::test::Fail;
+
+/// Two facilities, of which the order 1 2 costs 11 and the other 17.
+const TWO: &[u8] = b"2 0 3 1 0 0 2 5 0";
+/// Three facilities, of which no order costs less than 24.
+const THREE: &[u8] = b"3 0 1 2 1 0 3 2 3 0 0 5 2 5 0 1 2 1 0";
+/// Three facilities whose root isn't closed by its bound.
+const SPLIT: &[u8] = b"3 0 1 0 0 5 1 1 0 0 1 1 0 1 1 0 0 0 1";
+
+/// What a run over memory writes to its standard output and its standard error, and its exit status.
+#[derive(Drop)]
+struct Outcome {
+    output: Vec<u8>,
+    errors: Vec<u8>,
+    status: u8,
+}
+
+/// One worker, with leases of ten minutes.
+fn options(cert: bool) -> Options {
+    Options {
+        workers: 1,
+        lease_ms: 600_000,
+        cert,
+    }
+}
+
+/// A run on a text.
+fn run<T: Wait>(wait: &T, alloc: Global, text: &[u8], cert: bool) -> Outcome {
+    let mut reader = Counted::new(text);
+    let mut output = Counted::new(Vec::new(alloc));
+    let mut errors = Counted::new(Vec::new(alloc));
+    let solved = solve_stream(wait, alloc, &mut reader, &mut output, &options(cert));
+    let status = match solved {
+        Ok(()) => 0,
+        Err(error) => {
+            let _ = fault_line(&error, &mut errors);
+            status(&error)
+        }
+    };
+    Outcome {
+        output: output.into_inner(),
+        errors: errors.into_inner(),
+        status,
+    }
+}
+
+#[test]
+fn least_permutations(rt: HostRuntime) {
+    let cases: [(&[u8], &[u8]); 5] = [
+        (b"1 5 7", b"1 35\n1\n"),
+        (b"1 1000000000 -1000000000", b"1 -1000000000000000000\n1\n"),
+        (TWO, b"2 11\n1 2\n"),
+        (THREE, b"3 24\n1 2 3\n"),
+        (b"2 0 -1 2 0 0 3 -4 0 and more", b"2 -11\n1 2\n"),
+    ];
+    for (text, want) in cases {
+        let run = run(&rt, rt.alloc(), text, false);
+        assert_eq!(rt; run.output.as_slice(), want);
+        assert_eq!(rt; run.errors.as_slice(), b"".as_slice());
+        assert_eq!(rt; run.status, 0);
+    }
+}
+
+// Any permutation will do, where all entries are zero.
+#[test]
+fn nothing_costs_anything(rt: HostRuntime) {
+    let zeros = b"4 0 0 0 0 0 0 0 0 0 0 0 0 0 0 0 0 0 0 0 0 0 0 0 0 0 0 0 0 0 0 0 0";
+    let run = run(&rt, rt.alloc(), zeros, false);
+    assert!(rt; run.output.starts_with(b"4 0\n"));
+    assert_eq!(rt; (run.output.len(), run.status), (12, 0));
+}
+
+#[test]
+fn certificates(rt: HostRuntime) -> Result<(), Fail> {
+    let alloc = rt.alloc();
+    let cases: [(&[u8], i128); 3] = [(THREE, 24), (SPLIT, 6), (TWO, 11)];
+    for (text, cost) in cases {
+        let run = run(&rt, alloc, text, true);
+        let (instance, _) = read_instance(alloc, text)?;
+        assert_eq!(rt;
+            accept(alloc, &instance, &run.output),
+            Ok(Verdict::Optimal(cost))
+        );
+        let certificate = read(alloc, &run.output)?;
+        let mut again = Counted::new(Vec::new(alloc));
+        write(alloc, &mut again, &certificate)?;
+        assert_eq!(rt; again.into_inner().as_slice(), run.output.as_slice());
+        assert_eq!(rt; run.status, 0);
+    }
+    Ok(())
+}
+
+// The root is split on its second facility, and each of its three children is closed.
+#[test]
+fn a_split_is_told(rt: HostRuntime) -> Result<(), Fail> {
+    let run = run(&rt, rt.alloc(), SPLIT, true);
+    let mut lines = run.output.split(|byte| *byte == b'\n');
+    assert_eq!(rt; lines.nth(2), Some(b"cost 6".as_slice()));
+    assert_eq!(rt; lines.nth(1), Some(b"s 2".as_slice()));
+    assert_eq!(rt; lines.nth(3), Some(b"end".as_slice()));
+    Ok(())
+}
+
+#[test]
+fn refused_instances(rt: HostRuntime) {
+    let cases: [(&[u8], &[u8]); 7] = [
+        (b"", b"refused 1 Empty\n"),
+        (b"2 0 x", b"refused 2 NotANumber at 4\n"),
+        (b"0", b"refused 3 SizeZero at 0\n"),
+        (b"257", b"refused 4 SizeTooLarge at 0\n"),
+        (b"1 1000000001 7", b"refused 5 EntryRange at 2\n"),
+        (b"2 0 3", b"refused 6 CountDiffers\n"),
+        (b", ,", b"refused 1 Empty\n"),
+    ];
+    for (text, want) in cases {
+        let run = run(&rt, rt.alloc(), text, false);
+        assert_eq!(rt; run.errors.as_slice(), want);
+        assert_eq!(rt; run.output.as_slice(), b"".as_slice());
+        assert_eq!(rt; run.status, 1);
+    }
+}
+
+// Each read of the input, a byte at a time, fails in turn.
+#[test]
+fn reads_fail(rt: HostRuntime) {
+    for call in 1..=TWO.len() + 1 {
+        let mut reader = Counted::new(OneByte::new(FailAt::new(TWO, call as u64)));
+        let mut output = Counted::new(Vec::new(rt.alloc()));
+        let solved = solve_stream(&rt, rt.alloc(), &mut reader, &mut output, &options(false));
+        assert_eq!(rt; solved, Err(RunError::Device));
+        assert_eq!(rt; reader.failed(), 1);
+        assert_eq!(rt; output.into_inner().as_slice(), b"".as_slice());
+    }
+}
+
+// Each write of the solution, a byte at a time, and the flush fail in turn.
+#[test]
+fn writes_fail(rt: HostRuntime) {
+    let solution = b"2 11\n1 2\n".as_slice();
+    for call in 1..=solution.len() + 1 {
+        let failing = OneByte::new(FailAt::new(Vec::new(rt.alloc()), call as u64));
+        let mut output = Counted::new(failing);
+        let mut reader = Counted::new(TWO);
+        let solved = solve_stream(&rt, rt.alloc(), &mut reader, &mut output, &options(false));
+        assert_eq!(rt; solved, Err(RunError::Device));
+        assert_eq!(rt; (output.failed(), output.is_flushed()), (1, false));
+        let written = output.into_inner().into_inner().into_inner();
+        assert_eq!(rt; solution.get(..call - 1), Some(written.as_slice()));
+    }
+}
 
 /// The words of a command line, the program's name being the first.
 fn words(alloc: Global, line: &[&str]) -> Result<Vec<String>, AllocError> {
@@ -17,23 +171,51 @@ fn words(alloc: Global, line: &[&str]) -> Result<Vec<String>, AllocError> {
     Ok(words)
 }
 
+/// A request to solve.
+fn solving(workers: u16, lease_ms: u64, cert: bool) -> Result<Request, CommandError> {
+    Ok(Request::Solve(Options {
+        workers,
+        lease_ms,
+        cert,
+    }))
+}
+
 #[test]
 fn command_lines(rt: HostRuntime) -> Result<(), Fail> {
     let alloc = rt.alloc();
-    let cases: [(&[&str], Result<Request, CommandError>); 7] = [
+    let cases: [(&[&str], Result<Request, CommandError>); 17] = [
         (&["script"], Ok(Request::Script)),
+        (&["solve"], solving(4, 600_000, false)),
+        (&["solve", "--workers", "1"], solving(1, 600_000, false)),
+        (
+            &["solve", "--cert", "--workers=64"],
+            solving(64, 600_000, true),
+        ),
+        (
+            &["solve", "--lease", "86400000"],
+            solving(4, 86_400_000, false),
+        ),
+        (&["solve", "--lease", "1"], solving(4, 1, false)),
+        (&["solve", "--workers", "0"], Err(CommandError::Usage)),
+        (&["solve", "--workers", "65"], Err(CommandError::Usage)),
+        (&["solve", "--lease", "0"], Err(CommandError::Usage)),
+        (&["solve", "--lease", "86400001"], Err(CommandError::Usage)),
+        (&["solve", "--lease", "x"], Err(CommandError::Usage)),
+        (&["solve", "a.dat"], Err(CommandError::Usage)),
         (&[], Err(CommandError::Usage)),
         (&["--help"], Err(CommandError::Usage)),
         (&["script", "--help"], Err(CommandError::Usage)),
         (&["script", "jobs"], Err(CommandError::Usage)),
-        (&["solve"], Err(CommandError::Usage)),
         (&[""], Err(CommandError::Usage)),
     ];
     for (line, want) in cases {
         let words = words(alloc, line)?;
         assert_eq!(rt; parse(alloc, &words), want, "{line:?}");
     }
-    assert_eq!(rt; USAGE, "usage: qapsolve script");
+    assert_eq!(rt;
+        USAGE,
+        "usage: qapsolve solve [--workers K] [--lease MS] [--cert] | qapsolve script"
+    );
     Ok(())
 }
 
@@ -42,26 +224,37 @@ fn refusals(rt: HostRuntime) -> Result<(), Fail> {
     let alloc = rt.alloc();
     let cases = [
         (
-            ScriptError::InputTooLong,
+            RunError::from(ScriptError::InputTooLong),
             "refused 24 InputTooLong\n",
             1,
             "the input is too long",
         ),
         (
-            ScriptError::OutOfMemory,
+            RunError::from(ScriptError::OutOfMemory),
             "refused 50 OutOfMemory\n",
             3,
             "out of memory",
         ),
         (
-            ScriptError::Device,
+            RunError::from(ScriptError::Device),
             "refused 51 Device\n",
             1,
             "the reader or the writer failed",
         ),
+        (
+            RunError::Text(TextError::NotANumber(4)),
+            "refused 2 NotANumber at 4\n",
+            1,
+            "the word at 4 is no whole number",
+        ),
+        (
+            RunError::Unfinished(3),
+            "refused 41 Unfinished at 3\n",
+            4,
+            "3 nodes are open",
+        ),
     ];
-    for (fault, line, want, message) in cases {
-        let error = RunError::from(fault);
+    for (error, line, want, message) in cases {
         let mut errors = Counted::new(Vec::new(alloc));
         fault_line(&error, &mut errors)?;
         assert!(rt; errors.is_flushed());
