@@ -1,6 +1,6 @@
 //! A worker of a search.
 
-ghost use Rattle.std.specs.Prelude.{◌≡◌, ◌+◌, IfOk, OnOk, OnErr, true, false};
+ghost use Rattle.std.specs.Prelude.{◌≡◌, ◌≤◌, ◌+◌, IfOk, OnOk, OnErr, true, false};
 ghost use Rattle.std.specs.Arc.{arc_value};
 ghost use Rattle.qap_search.specs.SearchLaw.{IsSearchLaw};
 
@@ -69,11 +69,12 @@ impl Hand {
         _share: &mut Share<L>,
     ) -> Result<bool, AllocError>
         requires law { IsSearchLaw self.old.instance L.lawful L.allowed }
-        requires due { self.old.due ≡ false }
+        requires not_due { self.old.due ≡ false }
+        requires counted { self.old.accepted ≤ _share.old }
         ensures counted { _share.new + self.old.accepted ≡ _share.old + self.new.accepted }
         ensures instance { self.new.instance ≡ self.old.instance }
     {
-        Ok(false)
+        Err(AllocError)
     }
 
     /// One thought.
