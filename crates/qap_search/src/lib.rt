@@ -38,4 +38,6 @@ pub use thought::Thought;
 pub use writing::tuple_of_best;
 
 #[cfg(test)]
+mod solving_tests;
+#[cfg(test)]
 mod tests;

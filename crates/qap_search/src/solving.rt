@@ -1,6 +1,6 @@
 //! A search by one worker, on a space of its own.
 
-ghost use Rattle.std.specs.Prelude.{◌≡◌, ◌+◌, ◌∷◌, [], IfOk, MatchResult};
+ghost use Rattle.std.specs.Prelude.{◌≡◌, ◌∷◌, [], IfOk, MatchResult};
 ghost use Rattle.std.specs.Arc.{arc_value};
 ghost use Rattle.space_txn.specs.Content.{content_of};
 ghost use Rattle.qap_search.specs.Answer.{CertifiesLeast, IsAnswer, IsSolveFault};
@@ -108,8 +108,9 @@ fn work<L: Law, M: Room<L>, R: Wait>(
     share: &mut Share<L>,
     nodes: &Template,
 ) -> Ended
-    requires { IsSearchLaw hand.old.instance L.lawful L.allowed }
-    ensures { share.new + hand.old.accepted ≡ share.old + hand.new.accepted }
+    requires law { IsSearchLaw hand.old.instance L.lawful L.allowed }
+    requires counted { hand.old.accepted ≡ share.old }
+    ensures { hand.new.accepted ≡ share.new }
 {
     for _ in rt.forever() {
         if hand.thinks() {
