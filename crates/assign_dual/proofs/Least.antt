@@ -9,14 +9,15 @@ use Rattle.qap_cost.specs.Matrix.{Square, Assigns, DualsFit, assigned, assignmen
 use Rattle.qap_cost.proofs.Sums.{sum_to-same, sum_to-add}
 use Rattle.qap_cost.proofs.Bijections.{sum_to-in_order}
 use Rattle.qap_cost.proofs.Matrices.{dual_value-le}
-use Rattle.assign_dual.specs.Partial.{IsPartial, owner_of, dual}
+use Rattle.assign_dual.specs.Partial.{IsPartial, owner_of}
+use Rattle.assign_dual.specs.Number.{number_at}
 
 -- before the first row is placed, all duals are 0 and no column has a row
 pub IsPartial-none : (M : Square) (matching : List ℕ) (row_of : List (Option ℕ)) (u v : List ℤ) →
     length matching ≡ M.size → row_of ≡ replicate M.size None → u ≡ replicate M.size (pos 0) → v ≡ replicate M.size (pos 0) → IsPartial M 0 matching row_of u v
 IsPartial-none M matching row_of u v count none u_zero v_zero =
-    let u_at : (i : ℕ) → i < M.size → dual u i ≡ pos 0 = λ i h. ap (λ xs. dual xs i) u_zero ∙ get_or-replicate M.size i (pos 0) (pos 0) h in
-    let v_at : (k : ℕ) → k < M.size → dual v k ≡ pos 0 = λ k h. ap (λ xs. dual xs k) v_zero ∙ get_or-replicate M.size k (pos 0) (pos 0) h in
+    let u_at : (i : ℕ) → i < M.size → number_at u i ≡ pos 0 = λ i h. ap (λ xs. number_at xs i) u_zero ∙ get_or-replicate M.size i (pos 0) (pos 0) h in
+    let v_at : (k : ℕ) → k < M.size → number_at v k ≡ pos 0 = λ k h. ap (λ xs. number_at xs k) v_zero ∙ get_or-replicate M.size k (pos 0) (pos 0) h in
     let free : (k : ℕ) → k < M.size → owner_of row_of k ≡ None = λ k h. ap (λ os. owner_of os k) none ∙ get_or-replicate M.size k None None h in
     record {
       fits = record {
@@ -78,13 +79,13 @@ DualsFit-partial M matching row_of u v is = record {
 pub dual_value-is : (M : Square) (matching : List ℕ) (row_of : List (Option ℕ)) (u v : List ℤ) → IsPartial M M.size matching row_of u v → dual_value u v ≡ assignment_cost M matching
 dual_value-is M matching row_of u v is =
     let n = M.size in
-    let row : ℕ → ℤ = λ i. dual u i in
-    let column : ℕ → ℤ = λ i. dual v (get_or matching i 0) in
+    let row : ℕ → ℤ = λ i. number_at u i in
+    let column : ℕ → ℤ = λ i. number_at v (get_or matching i 0) in
     let assigns = Assigns-partial M matching row_of u v is in
     let rows : total u ≡ sum_to row n = ap (sum_to row) is.fits.u_count in
     let columns : total v ≡ sum_to column n =
-    ap (sum_to (λ k. dual v k)) (is.fits.v_count ∙ sym assigns.same_size)
-    ∙ sym (sum_to-in_order (λ k. dual v k) matching assigns.bijection)
+    ap (sum_to (λ k. number_at v k)) (is.fits.v_count ∙ sym assigns.same_size)
+    ∙ sym (sum_to-in_order (λ k. number_at v k) matching assigns.bijection)
     ∙ ap (sum_to column) assigns.same_size in
     let sums : sum_to (λ i. row i +ℤ column i) n ≡ sum_to row n +ℤ sum_to column n = sum_to-add row column n in
     let same : sum_to (λ i. row i +ℤ column i) n ≡ assignment_cost M matching =

@@ -6,9 +6,10 @@ use Rattle.std.proofs.lemmas.Bool.{cases_eq, cases_lt}
 use Rattle.qap_cost.specs.Matrix.{Square, entry_of}
 use Rattle.qap_cost.proofs.Bijections.{each_reached}
 use Rattle.qap_cost.specs.Range.{AllWithin}
-use Rattle.assign_dual.specs.Partial.{FitsRows, IsMatching, IsPartial, IsTight, OwnersDiffer, owner_of, dual}
-use Rattle.assign_dual.specs.Tree.{IsTree, IsNext, reduced_cost, far}
+use Rattle.assign_dual.specs.Partial.{FitsRows, IsMatching, IsPartial, IsTight, OwnersDiffer, owner_of}
+use Rattle.assign_dual.specs.Tree.{IsTree, IsNext, reduced_cost}
 use Rattle.assign_dual.specs.Steps.{RaisesRows, LowersColumns, Augments, TakesEdge, IsPath}
+use Rattle.assign_dual.specs.Number.{number_at}
 
 -- some place below n has the number i, or none has
 find_place : (xs : List ℕ) (i n : ℕ) → ((p : ℕ) × (p < n) × (get_or xs p 0 ≡ i)) ⊎ ((p : ℕ) → p < n → get_or xs p 0 ≢ i)
@@ -85,14 +86,14 @@ tree_rows-differ M root row_of u v columns tree_rows row_distances distances ori
 -- a tree's rows are no further away than its columns
 pub row_distances-within : (M : Square) (root : ℕ) (row_of : List (Option ℕ)) (u v : List ℤ) (columns tree_rows : List ℕ) (row_distances distances : List ℤ) (origins : List ℕ) (done m : ℕ) →
     IsTree M root row_of u v columns tree_rows row_distances distances origins done → done < M.size → AllWithin m distances →
-    (p : ℕ) → p < done + 1 → unsigned_abs (far row_distances p) ≤ m
+    (p : ℕ) → p < done + 1 → unsigned_abs (number_at row_distances p) ≤ m
 row_distances-within M root row_of u v columns tree_rows row_distances distances origins done m tree left range p h =
     elim (cases_eq p 0) [
-      | inl e ↦ let at = ap (λ t. far row_distances t) e ∙ tree.root_distance in omega (arith, ints, at)
+      | inl e ↦ let at = ap (λ t. number_at row_distances t) e ∙ tree.root_distance in omega (arith, ints, at)
       | inr ne ↦
           let q = p - 1 in
           let at : q + 1 ≡ p = omega arith in
-          let same : far row_distances p ≡ far distances (get_or columns q 0) = ap (λ t. far row_distances t) (sym at) ∙ tree.reached q (omega arith) in
+          let same : number_at row_distances p ≡ number_at distances (get_or columns q 0) = ap (λ t. number_at row_distances t) (sym at) ∙ tree.reached q (omega arith) in
           subst (λ (x : ℤ). unsigned_abs x ≤ m) (sym same)
           (range.each (get_or columns q 0) (omega (arith, tree.order.within q, tree.columns_count, tree.distances_count)))
     ]
@@ -118,9 +119,9 @@ IsPath-tree M root row_of u v columns tree_rows row_distances distances origins 
 
 -- the dual of a column before and after the shift: a scanned column's falls, another's stays
 data Lowered (row_of : List (Option ℕ)) (columns tree_rows : List ℕ) (row_distances distances : List ℤ) (done : ℕ) (path : ℤ) (v new : List ℤ) (k : ℕ) : Type 0 where
-  scanned : (q : ℕ) → q < done → get_or columns q 0 ≡ k → owner_of row_of k ≡ Some (get_or tree_rows (q + 1) 0) → far row_distances (q + 1) ≡ far distances k →
-      far distances k ≤ℤ path → dual new k ≡ dual v k -ℤ (path -ℤ far distances k) → Lowered row_of columns tree_rows row_distances distances done path v new k
-  open_column : (q : ℕ) → done ≤ q → q < length columns → get_or columns q 0 ≡ k → path ≤ℤ far distances k → dual new k ≡ dual v k → Lowered row_of columns tree_rows row_distances distances done path v new k
+  scanned : (q : ℕ) → q < done → get_or columns q 0 ≡ k → owner_of row_of k ≡ Some (get_or tree_rows (q + 1) 0) → number_at row_distances (q + 1) ≡ number_at distances k →
+      number_at distances k ≤ℤ path → number_at new k ≡ number_at v k -ℤ (path -ℤ number_at distances k) → Lowered row_of columns tree_rows row_distances distances done path v new k
+  open_column : (q : ℕ) → done ≤ q → q < length columns → get_or columns q 0 ≡ k → path ≤ℤ number_at distances k → number_at new k ≡ number_at v k → Lowered row_of columns tree_rows row_distances distances done path v new k
 
 -- everything about one phase, once the duals are shifted
 pub record Phase (M : Square) (root : ℕ) (matching : List ℕ) (row_of : List (Option ℕ)) (u v : List ℤ) (columns tree_rows : List ℕ) (row_distances distances : List ℤ) (origins : List ℕ) (done : ℕ) (path : ℤ) (new_u new_v : List ℤ) : Type 0 where
@@ -130,7 +131,7 @@ pub record Phase (M : Square) (root : ℕ) (matching : List ℕ) (row_of : List 
   pub tree : IsTree M root row_of u v columns tree_rows row_distances distances origins done
   pub next : IsNext columns distances done
   pub free : owner_of row_of (get_or columns done 0) ≡ None
-  pub path_is : path ≡ far distances (get_or columns done 0)
+  pub path_is : path ≡ number_at distances (get_or columns done 0)
   pub u_count : length new_u ≡ M.size
   pub v_count : length new_v ≡ M.size
   pub raises : RaisesRows tree_rows row_distances (done + 1) path u new_u
@@ -143,30 +144,30 @@ lowered M root matching row_of u v columns tree_rows row_distances distances ori
     let tree = h.tree in
     let place = each_reached columns k tree.order (omega (arith, tree.columns_count)) in
     let q = place.0 in
-    let at = ap (λ j. far distances j) place.2 in
+    let at = ap (λ j. number_at distances j) place.2 in
     let path_is = h.path_is in
     elim (cases_lt q done) [
       | inl before ↦
           let asc = tree.ascending q done before (omega arith) h.left in
           scanned q before place.2 (ap (λ j. owner_of row_of j) (sym place.2) ∙ tree.joined q before) (tree.reached q before ∙ at)
           (omega (arith, ints, at, path_is, asc))
-          (subst (λ (j : ℕ). dual new_v j ≡ dual v j -ℤ (path -ℤ far distances j)) place.2 (h.lowers.scanned q before))
+          (subst (λ (j : ℕ). number_at new_v j ≡ number_at v j -ℤ (path -ℤ number_at distances j)) place.2 (h.lowers.scanned q before))
       | inr after ↦
           let near = h.next.nearest q after place.1 in
           open_column q after place.1 place.2 (omega (arith, ints, at, path_is, near))
-          (subst (λ (j : ℕ). dual new_v j ≡ dual v j) place.2 (h.lowers.others q after place.1))
+          (subst (λ (j : ℕ). number_at new_v j ≡ number_at v j) place.2 (h.lowers.others q after place.1))
     ]
 
 -- the dual of a tree's row rises, another's stays
 row_raised : (M : Square) (root : ℕ) (matching : List ℕ) (row_of : List (Option ℕ)) (u v : List ℤ) (columns tree_rows : List ℕ) (row_distances distances : List ℤ) (origins : List ℕ) (done : ℕ) (path : ℤ) (new_u new_v : List ℤ) →
     Phase M root matching row_of u v columns tree_rows row_distances distances origins done path new_u new_v → (p i : ℕ) → p < done + 1 → get_or tree_rows p 0 ≡ i →
-    dual new_u i ≡ dual u i +ℤ (path -ℤ far row_distances p)
+    number_at new_u i ≡ number_at u i +ℤ (path -ℤ number_at row_distances p)
 row_raised M root matching row_of u v columns tree_rows row_distances distances origins done path new_u new_v h p i hp e =
-    subst (λ (j : ℕ). dual new_u j ≡ dual u j +ℤ (path -ℤ far row_distances p)) e (h.raises.tree p hp)
+    subst (λ (j : ℕ). number_at new_u j ≡ number_at u j +ℤ (path -ℤ number_at row_distances p)) e (h.raises.tree p hp)
 
 -- no dual of a column rises
 v_falls : (M : Square) (root : ℕ) (matching : List ℕ) (row_of : List (Option ℕ)) (u v : List ℤ) (columns tree_rows : List ℕ) (row_distances distances : List ℤ) (origins : List ℕ) (done : ℕ) (path : ℤ) (new_u new_v : List ℤ) →
-    Phase M root matching row_of u v columns tree_rows row_distances distances origins done path new_u new_v → (k : ℕ) → k < M.size → dual new_v k ≤ℤ dual v k
+    Phase M root matching row_of u v columns tree_rows row_distances distances origins done path new_u new_v → (k : ℕ) → k < M.size → number_at new_v k ≤ℤ number_at v k
 v_falls M root matching row_of u v columns tree_rows row_distances distances origins done path new_u new_v h k hk =
     elim (lowered M root matching row_of u v columns tree_rows row_distances distances origins done path new_u new_v h k hk) [
       | scanned q before at owner reach near is ↦ omega (arith, ints, near, is)
@@ -176,15 +177,15 @@ v_falls M root matching row_of u v columns tree_rows row_distances distances ori
 -- the shifted duals fit one row more
 new_below : (M : Square) (root : ℕ) (matching : List ℕ) (row_of : List (Option ℕ)) (u v : List ℤ) (columns tree_rows : List ℕ) (row_distances distances : List ℤ) (origins : List ℕ) (done : ℕ) (path : ℤ) (new_u new_v : List ℤ) →
     Phase M root matching row_of u v columns tree_rows row_distances distances origins done path new_u new_v → (i k : ℕ) → i < root + 1 → k < M.size →
-    (dual new_u i +ℤ dual new_v k) ≤ℤ entry_of M i k
+    (number_at new_u i +ℤ number_at new_v k) ≤ℤ entry_of M i k
 new_below M root matching row_of u v columns tree_rows row_distances distances origins done path new_u new_v h i k hi hk =
     elim (find_place tree_rows i (done + 1)) [
       | inl found ↦
           let p = found.0 in
           let raised = row_raised M root matching row_of u v columns tree_rows row_distances distances origins done path new_u new_v h p i found.1 found.2 in
           let p_done : p < done + 1 = found.1 in
-          let relaxed : far distances k ≤ℤ (far row_distances p +ℤ reduced_cost M u v i k) =
-          subst (λ (j : ℕ). far distances k ≤ℤ (far row_distances p +ℤ reduced_cost M u v j k)) found.2 (h.tree.relaxed p k (omega arith) hk) in
+          let relaxed : number_at distances k ≤ℤ (number_at row_distances p +ℤ reduced_cost M u v i k) =
+          subst (λ (j : ℕ). number_at distances k ≤ℤ (number_at row_distances p +ℤ reduced_cost M u v j k)) found.2 (h.tree.relaxed p k (omega arith) hk) in
           elim (lowered M root matching row_of u v columns tree_rows row_distances distances origins done path new_u new_v h k hk) [
             | scanned q before at owner reach near is ↦ omega (arith, ints, raised, relaxed, is)
             | open_column q after within at near is ↦ omega (arith, ints, raised, relaxed, near, is)
@@ -261,14 +262,14 @@ tight_edge M root matching row_of u v columns tree_rows row_distances distances 
     let o = get_or origins k 0 in
     let o_done : o ≤ done = h.tree.origin k hk in
     let raised = row_raised M root matching row_of u v columns tree_rows row_distances distances origins done path new_u new_v h o i (omega arith) e.row in
-    let edge : far distances k ≡ far row_distances o +ℤ reduced_cost M u v i k =
-    subst (λ (j : ℕ). far distances k ≡ far row_distances o +ℤ reduced_cost M u v j k) e.row (h.tree.edge k hk) in
+    let edge : number_at distances k ≡ number_at row_distances o +ℤ reduced_cost M u v i k =
+    subst (λ (j : ℕ). number_at distances k ≡ number_at row_distances o +ℤ reduced_cost M u v j k) e.row (h.tree.edge k hk) in
     elim (lowered M root matching row_of u v columns tree_rows row_distances distances origins done path new_u new_v h k hk) [
       | scanned q before at owner reach near is ↦ omega (arith, ints, raised, edge, is)
       | open_column q after within at near is ↦
           let same = h.tree.order.distinct e.at q (omega (arith, h.tree.columns_count)) within (e.is ∙ sym at) in
           let last : e.at ≡ done = omega (arith, same, at_done, after) in
-          let path_at : path ≡ far distances k = h.path_is ∙ ap (λ j. far distances j) (ap (λ t. get_or columns t 0) (sym last) ∙ e.is) in
+          let path_at : path ≡ number_at distances k = h.path_is ∙ ap (λ j. number_at distances j) (ap (λ t. get_or columns t 0) (sym last) ∙ e.is) in
           omega (arith, ints, raised, edge, is, path_at)
     ]
 

@@ -6,7 +6,8 @@ use Rattle.std.proofs.lemmas.Bool.{cases_lt}
 use Rattle.qap_cost.specs.Matrix.{Square, entry_of}
 use Rattle.assign_dual.specs.Range.{NoneAbove}
 use Rattle.qap_cost.specs.Range.{AllWithin}
-use Rattle.assign_dual.specs.Partial.{IsPartial, IsMatching, OwnersDiffer, owner_of, dual}
+use Rattle.assign_dual.specs.Partial.{IsPartial, IsMatching, OwnersDiffer, owner_of}
+use Rattle.assign_dual.specs.Number.{number_at}
 
 past_end : (xs : List ℤ) (i : ℕ) → length xs ≤ i → get_or xs i (pos 0) ≡ pos 0
 past_end [] i h = refl
@@ -65,9 +66,9 @@ v_within M rows matching row_of u v m few is range = record {
             let i = owned.0 in
             let at = is.matches.owned k i hk owned.1 in
             let placed : i < rows = at.0 in
-            let tight : (dual u i +ℤ dual v k) ≡ entry_of M i k = subst (λ (j : ℕ). (dual u i +ℤ dual v j) ≡ entry_of M i j) at.1 (is.tight i placed) in
+            let tight : (number_at u i +ℤ number_at v k) ≡ entry_of M i k = subst (λ (j : ℕ). (number_at u i +ℤ number_at v j) ≡ entry_of M i j) at.1 (is.tight i placed) in
             let entry : unsigned_abs (entry_of M i k) ≤ m = entry-within M m range i k in
-            let row : unsigned_abs (dual u i) ≤ m = (u_within M rows matching row_of u v m is range).each i (omega (arith, is.fits.u_count)) in
+            let row : unsigned_abs (number_at u i) ≤ m = (u_within M rows matching row_of u v m is range).each i (omega (arith, is.fits.u_count)) in
             omega (arith, ints)
         | inr free ↦ let zero = is.free k hk free in omega (arith, ints, zero)
       ];

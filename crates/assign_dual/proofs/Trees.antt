@@ -9,10 +9,11 @@ use Rattle.qap_cost.specs.Matrix.{Square}
 use Rattle.qap_cost.specs.Row.{IsRow}
 use Rattle.qap_cost.proofs.Bijections.{each_reached}
 use Rattle.qap_cost.specs.Range.{AllWithin}
-use Rattle.assign_dual.specs.Partial.{FitsRows, OwnersDiffer, owner_of, dual}
-use Rattle.assign_dual.specs.Tree.{IsTree, IsNext, reduced_cost, far}
+use Rattle.assign_dual.specs.Partial.{FitsRows, OwnersDiffer, owner_of}
+use Rattle.assign_dual.specs.Tree.{IsTree, IsNext, reduced_cost}
 use Rattle.assign_dual.specs.Steps.{StartsRow, KeepsScanned, Relaxes, TakesShorter}
 use Rattle.assign_dual.proofs.Ranges.{entry-within}
+use Rattle.assign_dual.specs.Number.{number_at}
 
 -- fewer rows than columns leave a column without a row
 no_room : (n r : ℕ) (row_of : List (Option ℕ)) → OwnersDiffer n r row_of → r < n → length row_of ≡ n →
@@ -70,7 +71,7 @@ IsTree-chosen M root row_of u v columns tree_rows row_distances distances origin
   root_row = tree.root_row;
   root_distance = tree.root_distance;
   joined = λ q h. ap (λ k. owner_of row_of k) (keeps.same q h) ∙ tree.joined q h;
-  reached = λ q h. tree.reached q h ∙ ap (λ k. far distances k) (sym (keeps.same q h));
+  reached = λ q h. tree.reached q h ∙ ap (λ k. number_at distances k) (sym (keeps.same q h));
   relaxed = tree.relaxed;
   origin = tree.origin;
   edge = tree.edge;
@@ -79,15 +80,15 @@ IsTree-chosen M root row_of u v columns tree_rows row_distances distances origin
       let old = tree.earlier q h in
       omega (arith, e, old);
   ascending = λ p q hp le hq.
-      let first = ap (λ k. far distances k) (keeps.same p hp) in
+      let first = ap (λ k. number_at distances k) (keeps.same p hp) in
       elim (cases_lt q done) [
         | inl scanned ↦
-            let second = ap (λ k. far distances k) (keeps.same q scanned) in
+            let second = ap (λ k. number_at distances k) (keeps.same q scanned) in
             let old = tree.ascending p q hp le hq in
             omega (arith, ints, first, second, old)
         | inr after ↦
             let place = keeps.later q after (omega (arith, tree.columns_count)) in
-            let second = ap (λ k. far distances k) place.3 in
+            let second = ap (λ k. number_at distances k) place.3 in
             let old = tree.ascending p place.0 hp (omega (arith, place.1)) (omega (arith, place.2, tree.columns_count)) in
             omega (arith, ints, first, second, old)
       ];
@@ -100,8 +101,8 @@ pub IsTree-start : (M : Square) (root : ℕ) (row_of : List (Option ℕ)) (u v :
     IsTree M root row_of u v columns (set tree_rows 0 root) (set row_distances 0 (pos 0)) distances origins 0
 IsTree-start M root row_of u v columns tree_rows row_distances distances origins row order columns_count tree_rows_count row_distances_count distances_count origins_count below fits is_row starts =
     let root_row : get_or (set tree_rows 0 root) 0 0 ≡ root = get_or-set_same tree_rows 0 root 0 (omega arith) in
-    let root_distance : far (set row_distances 0 (pos 0)) 0 ≡ pos 0 = get_or-set_same row_distances 0 (pos 0) (pos 0) (omega arith) in
-    let edge : (k : ℕ) → k < M.size → far distances k ≡ far (set row_distances 0 (pos 0)) 0 +ℤ reduced_cost M u v (get_or (set tree_rows 0 root) 0 0) k =
+    let root_distance : number_at (set row_distances 0 (pos 0)) 0 ≡ pos 0 = get_or-set_same row_distances 0 (pos 0) (pos 0) (omega arith) in
+    let edge : (k : ℕ) → k < M.size → number_at distances k ≡ number_at (set row_distances 0 (pos 0)) 0 +ℤ reduced_cost M u v (get_or (set tree_rows 0 root) 0 0) k =
     λ k hk.
     let is = starts.distance k (omega (arith, is_row.count)) in
     let entry = is_row.entries k hk in
@@ -122,12 +123,12 @@ IsTree-start M root row_of u v columns tree_rows row_distances distances origins
       relaxed = λ p k h hk.
           let at_zero : 0 ≡ p = omega arith in
           let e = edge k hk in
-          let first : far distances k ≤ℤ (far (set row_distances 0 (pos 0)) 0 +ℤ reduced_cost M u v (get_or (set tree_rows 0 root) 0 0) k) = omega (arith, ints, e) in
-          subst (λ (t : ℕ). far distances k ≤ℤ (far (set row_distances 0 (pos 0)) t +ℤ reduced_cost M u v (get_or (set tree_rows 0 root) t 0) k)) at_zero first;
+          let first : number_at distances k ≤ℤ (number_at (set row_distances 0 (pos 0)) 0 +ℤ reduced_cost M u v (get_or (set tree_rows 0 root) 0 0) k) = omega (arith, ints, e) in
+          subst (λ (t : ℕ). number_at distances k ≤ℤ (number_at (set row_distances 0 (pos 0)) t +ℤ reduced_cost M u v (get_or (set tree_rows 0 root) t 0) k)) at_zero first;
       origin = λ k hk. omega (arith, starts.origin k (omega (arith, is_row.count)));
       edge = λ k hk.
           let o = starts.origin k (omega (arith, is_row.count)) in
-          edge k hk ∙ ap (λ t. far (set row_distances 0 (pos 0)) t +ℤ reduced_cost M u v (get_or (set tree_rows 0 root) t 0) k) (sym o);
+          edge k hk ∙ ap (λ t. number_at (set row_distances 0 (pos 0)) t +ℤ reduced_cost M u v (get_or (set tree_rows 0 root) t 0) k) (sym o);
       earlier = λ q h. absurd (omega arith);
       ascending = λ p q h le hq. absurd (omega arith);
     }
@@ -154,28 +155,28 @@ StartsRow-within row v distances origins starts distances_count v_count row_rang
 -- what the relaxation of the next column's row does to every column, the scanned ones included
 relaxes_each : (M : Square) (root : ℕ) (row_of : List (Option ℕ)) (u v : List ℤ) (columns tree_rows : List ℕ) (row_distances distances : List ℤ) (origins : List ℕ) (done row : ℕ) (entries : List ℤ) (base : ℤ) (new_distances : List ℤ) (new_origins : List ℕ) →
     IsTree M root row_of u v columns tree_rows row_distances distances origins done → IsNext columns distances done → FitsRows M root u v →
-    done < M.size → row < root → IsRow M.size M.entries row entries → base ≡ far distances (get_or columns done 0) -ℤ dual u row →
+    done < M.size → row < root → IsRow M.size M.entries row entries → base ≡ number_at distances (get_or columns done 0) -ℤ number_at u row →
     Relaxes entries v base (done + 1) columns distances origins new_distances new_origins →
     (k : ℕ) → k < M.size →
-    TakesShorter (far distances k) (far new_distances k) (far distances (get_or columns done 0) +ℤ reduced_cost M u v row k) (get_or origins k 0) (get_or new_origins k 0) (done + 1)
+    TakesShorter (number_at distances k) (number_at new_distances k) (number_at distances (get_or columns done 0) +ℤ reduced_cost M u v row k) (get_or origins k 0) (get_or new_origins k 0) (done + 1)
 relaxes_each M root row_of u v columns tree_rows row_distances distances origins done row entries base new_distances new_origins tree next fits left less is_row base_is relaxes k hk =
     let place = each_reached columns k tree.order (omega (arith, tree.columns_count)) in
     let q = place.0 in
-    let near = far distances (get_or columns done 0) in
+    let near = number_at distances (get_or columns done 0) in
     let entry = is_row.entries k hk in
     let below = fits.below row k less hk in
     elim (cases_lt q (done + 1)) [
       | inl scanned ↦
           let same = relaxes.before q scanned place.1 in
-          let d : far new_distances k ≡ far distances k = subst (λ (j : ℕ). far new_distances j ≡ far distances j) place.2 same.0 in
+          let d : number_at new_distances k ≡ number_at distances k = subst (λ (j : ℕ). number_at new_distances j ≡ number_at distances j) place.2 same.0 in
           let o : get_or new_origins k 0 ≡ get_or origins k 0 = subst (λ (j : ℕ). get_or new_origins j 0 ≡ get_or origins j 0) place.2 same.1 in
-          let at : far distances (get_or columns q 0) ≡ far distances k = ap (λ j. far distances j) place.2 in
-          let bound : far distances k ≤ℤ near =
+          let at : number_at distances (get_or columns q 0) ≡ number_at distances k = ap (λ j. number_at distances j) place.2 in
+          let bound : number_at distances k ≤ℤ near =
           elim (cases_lt q done) [
             | inl before ↦ let a = tree.ascending q done before (omega arith) left in omega (arith, ints, a, at)
             | inr last ↦
                 let same_place : q ≡ done = omega (arith, scanned, last) in
-                let e = ap (λ t. far distances (get_or columns t 0)) same_place in
+                let e = ap (λ t. number_at distances (get_or columns t 0)) same_place in
                 omega (arith, ints, e, at)
           ] in
           record {
@@ -184,32 +185,32 @@ relaxes_each M root row_of u v columns tree_rows row_distances distances origins
             either = inl (d, o);
           }
       | inr after ↦
-          let shorter : TakesShorter (far distances k) (far new_distances k) ((base +ℤ far entries k) -ℤ dual v k) (get_or origins k 0) (get_or new_origins k 0) (done + 1) =
-          subst (λ (j : ℕ). TakesShorter (far distances j) (far new_distances j) ((base +ℤ far entries j) -ℤ dual v j) (get_or origins j 0) (get_or new_origins j 0) (done + 1)) place.2 (relaxes.from_place q after place.1) in
-          let candidate_is : ((base +ℤ far entries k) -ℤ dual v k) ≡ near +ℤ reduced_cost M u v row k = omega (arith, ints, entry, base_is) in
-          subst (λ (x : ℤ). TakesShorter (far distances k) (far new_distances k) x (get_or origins k 0) (get_or new_origins k 0) (done + 1)) candidate_is shorter
+          let shorter : TakesShorter (number_at distances k) (number_at new_distances k) ((base +ℤ number_at entries k) -ℤ number_at v k) (get_or origins k 0) (get_or new_origins k 0) (done + 1) =
+          subst (λ (j : ℕ). TakesShorter (number_at distances j) (number_at new_distances j) ((base +ℤ number_at entries j) -ℤ number_at v j) (get_or origins j 0) (get_or new_origins j 0) (done + 1)) place.2 (relaxes.from_place q after place.1) in
+          let candidate_is : ((base +ℤ number_at entries k) -ℤ number_at v k) ≡ near +ℤ reduced_cost M u v row k = omega (arith, ints, entry, base_is) in
+          subst (λ (x : ℤ). TakesShorter (number_at distances k) (number_at new_distances k) x (get_or origins k 0) (get_or new_origins k 0) (done + 1)) candidate_is shorter
     ]
 
 -- the next column's row joins the tree
 pub IsTree-joined : (M : Square) (root : ℕ) (row_of : List (Option ℕ)) (u v : List ℤ) (columns tree_rows : List ℕ) (row_distances distances : List ℤ) (origins : List ℕ) (done row : ℕ) (entries : List ℤ) (base value : ℤ) (new_distances : List ℤ) (new_origins : List ℕ) →
     IsTree M root row_of u v columns tree_rows row_distances distances origins done → IsNext columns distances done → FitsRows M root u v →
     done + 1 < M.size → owner_of row_of (get_or columns done 0) ≡ Some row → row < root → IsRow M.size M.entries row entries →
-    value ≡ far distances (get_or columns done 0) → base ≡ far distances (get_or columns done 0) -ℤ dual u row →
+    value ≡ number_at distances (get_or columns done 0) → base ≡ number_at distances (get_or columns done 0) -ℤ number_at u row →
     length new_distances ≡ M.size → length new_origins ≡ M.size →
     Relaxes entries v base (done + 1) columns distances origins new_distances new_origins →
     IsTree M root row_of u v columns (set tree_rows (done + 1) row) (set row_distances (done + 1) value) new_distances new_origins (done + 1)
 IsTree-joined M root row_of u v columns tree_rows row_distances distances origins done row entries base value new_distances new_origins tree next fits left owner less is_row value_is base_is new_distances_count new_origins_count relaxes =
     let n = M.size in
-    let near = far distances (get_or columns done 0) in
+    let near = number_at distances (get_or columns done 0) in
     let rows = set tree_rows (done + 1) row in
     let reach = set row_distances (done + 1) value in
     let each = relaxes_each M root row_of u v columns tree_rows row_distances distances origins done row entries base new_distances new_origins tree next fits (omega arith) less is_row base_is relaxes in
     let rows_old : (p : ℕ) → p ≤ done → get_or rows p 0 ≡ get_or tree_rows p 0 = λ p h. get_or-set_other tree_rows (done + 1) p row 0 (λ e. omega arith) in
     let rows_new : get_or rows (done + 1) 0 ≡ row = get_or-set_same tree_rows (done + 1) row 0 (omega (arith, tree.tree_rows_count)) in
-    let reach_old : (p : ℕ) → p ≤ done → far reach p ≡ far row_distances p = λ p h. get_or-set_other row_distances (done + 1) p value (pos 0) (λ e. omega arith) in
-    let reach_new : far reach (done + 1) ≡ near = get_or-set_same row_distances (done + 1) value (pos 0) (omega (arith, tree.row_distances_count)) ∙ value_is in
-    let way : ℕ → ℕ → ℤ = λ p k. far reach p +ℤ reduced_cost M u v (get_or rows p 0) k in
-    let way_old : (p k : ℕ) → p ≤ done → way p k ≡ far row_distances p +ℤ reduced_cost M u v (get_or tree_rows p 0) k =
+    let reach_old : (p : ℕ) → p ≤ done → number_at reach p ≡ number_at row_distances p = λ p h. get_or-set_other row_distances (done + 1) p value (pos 0) (λ e. omega arith) in
+    let reach_new : number_at reach (done + 1) ≡ near = get_or-set_same row_distances (done + 1) value (pos 0) (omega (arith, tree.row_distances_count)) ∙ value_is in
+    let way : ℕ → ℕ → ℤ = λ p k. number_at reach p +ℤ reduced_cost M u v (get_or rows p 0) k in
+    let way_old : (p k : ℕ) → p ≤ done → way p k ≡ number_at row_distances p +ℤ reduced_cost M u v (get_or tree_rows p 0) k =
     λ p k h.
     let a = reach_old p h in
     let b = ap (λ i. reduced_cost M u v i k) (rows_old p h) in
@@ -218,7 +219,7 @@ IsTree-joined M root row_of u v columns tree_rows row_distances distances origin
     λ k.
     let b = ap (λ i. reduced_cost M u v i k) rows_new in
     omega (arith, ints, reach_new, b) in
-    let stays : (q : ℕ) → q < done + 1 → (far new_distances (get_or columns q 0) ≡ far distances (get_or columns q 0)) × (get_or new_origins (get_or columns q 0) 0 ≡ get_or origins (get_or columns q 0) 0) =
+    let stays : (q : ℕ) → q < done + 1 → (number_at new_distances (get_or columns q 0) ≡ number_at distances (get_or columns q 0)) × (get_or new_origins (get_or columns q 0) 0 ≡ get_or origins (get_or columns q 0) 0) =
     λ q h. relaxes.before q h (omega (arith, tree.columns_count)) in
     record {
       order = tree.order;
@@ -241,7 +242,7 @@ IsTree-joined M root row_of u v columns tree_rows row_distances distances origin
             | inl before ↦ reach_old (q + 1) (omega arith) ∙ tree.reached q before ∙ sym (stays q h).0
             | inr last ↦
                 let same : done ≡ q = omega arith in
-                subst (λ (t : ℕ). far reach (t + 1) ≡ far new_distances (get_or columns t 0)) same (reach_new ∙ sym (stays done (omega arith)).0)
+                subst (λ (t : ℕ). number_at reach (t + 1) ≡ number_at new_distances (get_or columns t 0)) same (reach_new ∙ sym (stays done (omega arith)).0)
           ];
       relaxed = λ p k h hk.
           let s = each k hk in
@@ -255,8 +256,8 @@ IsTree-joined M root row_of u v columns tree_rows row_distances distances origin
                 let same : done + 1 ≡ p = omega arith in
                 let a = s.at_most_candidate in
                 let w = way_new k in
-                let now : far new_distances k ≤ℤ way (done + 1) k = omega (arith, ints, w, a) in
-                subst (λ (t : ℕ). far new_distances k ≤ℤ way t k) same now
+                let now : number_at new_distances k ≤ℤ way (done + 1) k = omega (arith, ints, w, a) in
+                subst (λ (t : ℕ). number_at new_distances k ≤ℤ way t k) same now
           ];
       origin = λ k hk.
           elim (each k hk).either [
@@ -279,22 +280,22 @@ IsTree-joined M root row_of u v columns tree_rows row_distances distances origin
           ];
       ascending = λ p q hp le hq.
           let first = (stays p hp).0 in
-          let at_most_near : far distances (get_or columns p 0) ≤ℤ near =
+          let at_most_near : number_at distances (get_or columns p 0) ≤ℤ near =
           elim (cases_lt p done) [
             | inl before ↦ tree.ascending p done before (omega arith) (omega arith)
             | inr last ↦
                 let same : p ≡ done = omega arith in
-                let e = ap (λ t. far distances (get_or columns t 0)) same in
+                let e = ap (λ t. number_at distances (get_or columns t 0)) same in
                 omega (arith, ints, e)
           ] in
           let k = get_or columns q 0 in
           let hk : k < n = omega (arith, tree.order.within q, tree.columns_count) in
-          let old : far distances (get_or columns p 0) ≤ℤ far distances k =
+          let old : number_at distances (get_or columns p 0) ≤ℤ number_at distances k =
           elim (cases_lt p done) [
             | inl before ↦ tree.ascending p q before le hq
             | inr last ↦
                 let same : p ≡ done = omega arith in
-                let e = ap (λ t. far distances (get_or columns t 0)) same in
+                let e = ap (λ t. number_at distances (get_or columns t 0)) same in
                 let a = next.nearest q (omega arith) (omega (arith, tree.columns_count)) in
                 omega (arith, ints, e, a)
           ] in
@@ -308,15 +309,15 @@ IsTree-joined M root row_of u v columns tree_rows row_distances distances origin
 -- the new distances are no further from 0 than the old ones
 pub Relaxes-within : (M : Square) (root : ℕ) (row_of : List (Option ℕ)) (u v : List ℤ) (columns tree_rows : List ℕ) (row_distances distances : List ℤ) (origins : List ℕ) (done row : ℕ) (entries : List ℤ) (base : ℤ) (new_distances : List ℤ) (new_origins : List ℕ) →
     IsTree M root row_of u v columns tree_rows row_distances distances origins done → IsNext columns distances done → FitsRows M root u v →
-    done < M.size → row < root → IsRow M.size M.entries row entries → base ≡ far distances (get_or columns done 0) -ℤ dual u row →
+    done < M.size → row < root → IsRow M.size M.entries row entries → base ≡ number_at distances (get_or columns done 0) -ℤ number_at u row →
     length new_distances ≡ M.size → Relaxes entries v base (done + 1) columns distances origins new_distances new_origins →
     AllWithin (3 * 10 ^ 21) distances → AllWithin (3 * 10 ^ 21) new_distances
 Relaxes-within M root row_of u v columns tree_rows row_distances distances origins done row entries base new_distances new_origins tree next fits left less is_row base_is count relaxes range = record {
   each = λ k h.
       let hk : k < M.size = omega (arith, count) in
       let s = relaxes_each M root row_of u v columns tree_rows row_distances distances origins done row entries base new_distances new_origins tree next fits left less is_row base_is relaxes k hk in
-      let old : unsigned_abs (far distances k) ≤ 3 * 10 ^ 21 = range.each k (omega (arith, tree.distances_count)) in
-      let near : unsigned_abs (far distances (get_or columns done 0)) ≤ 3 * 10 ^ 21 =
+      let old : unsigned_abs (number_at distances k) ≤ 3 * 10 ^ 21 = range.each k (omega (arith, tree.distances_count)) in
+      let near : unsigned_abs (number_at distances (get_or columns done 0)) ≤ 3 * 10 ^ 21 =
       range.each (get_or columns done 0) (omega (arith, tree.distances_count, tree.columns_count, tree.order.within done)) in
       let at_most = s.at_most_old in
       let below = fits.below row k less hk in

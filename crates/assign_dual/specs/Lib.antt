@@ -1,3 +1,4 @@
+pub mod Number
 pub mod Partial
 pub mod Range
 pub mod Steps

@@ -2,10 +2,7 @@
 -- placed (Kuhn 1955; Burkard, Dell'Amico and Martello, Assignment Problems, 2009, section 4.2).
 use Rattle.std.specs.Prelude.{◌≡◌, ℕ, ◌<◌, ◌≤◌, List, length, ℤ, pos, ◌+ℤ◌, ◌≤ℤ◌, slice_index, slice_index_or, Option, Some, None}
 use Rattle.qap_cost.specs.Matrix.{Square, entry_of}
-
--- the dual of row i, or of column i
-abbrev pub dual : List ℤ → ℕ → ℤ
-dual xs i = slice_index_or xs i (pos 0)
+use Rattle.assign_dual.specs.Number.{number_at}
 
 -- the row that has column k, if one has it
 abbrev pub owner_of : List (Option ℕ) → ℕ → Option ℕ
@@ -15,10 +12,10 @@ owner_of row_of k = slice_index_or row_of k None
 pub record FitsRows (M : Square) (rows : ℕ) (u v : List ℤ) : Type 0 where
   pub u_count : length u ≡ M.size
   pub v_count : length v ≡ M.size
-  pub below : (i k : ℕ) → i < rows → k < M.size → (dual u i +ℤ dual v k) ≤ℤ entry_of M i k
-  pub rest : (i : ℕ) → rows ≤ i → i < M.size → dual u i ≡ pos 0
-  pub falls : (k : ℕ) → k < M.size → dual v k ≤ℤ pos 0
-  pub level : 0 < M.size → (z : ℕ) × (z < M.size) × (dual v z ≡ pos 0)
+  pub below : (i k : ℕ) → i < rows → k < M.size → (number_at u i +ℤ number_at v k) ≤ℤ entry_of M i k
+  pub rest : (i : ℕ) → rows ≤ i → i < M.size → number_at u i ≡ pos 0
+  pub falls : (k : ℕ) → k < M.size → number_at v k ≤ℤ pos 0
+  pub level : 0 < M.size → (z : ℕ) × (z < M.size) × (number_at v z ≡ pos 0)
 
 -- each of the first rows has a column of its own, and each column knows its row
 pub record IsMatching (n rows : ℕ) (matching : List ℕ) (row_of : List (Option ℕ)) : Type 0 where
@@ -30,13 +27,13 @@ pub record IsMatching (n rows : ℕ) (matching : List ℕ) (row_of : List (Optio
 
 -- row i takes column k at no reduced cost
 abbrev pub IsTight : Square → List ℤ → List ℤ → ℕ → ℕ → Type 0
-IsTight M u v i k = (dual u i +ℤ dual v k) ≡ entry_of M i k
+IsTight M u v i k = (number_at u i +ℤ number_at v k) ≡ entry_of M i k
 
 pub record IsPartial (M : Square) (rows : ℕ) (matching : List ℕ) (row_of : List (Option ℕ)) (u v : List ℤ) : Type 0 where
   pub fits : FitsRows M rows u v
   pub matches : IsMatching M.size rows matching row_of
   pub tight : (i : ℕ) → i < rows → IsTight M u v i (slice_index matching i)
-  pub free : (k : ℕ) → k < M.size → owner_of row_of k ≡ None → dual v k ≡ pos 0
+  pub free : (k : ℕ) → k < M.size → owner_of row_of k ≡ None → number_at v k ≡ pos 0
 
 -- each column that has a row has one of the first rows, and no two have the same
 pub record OwnersDiffer (n rows : ℕ) (row_of : List (Option ℕ)) : Type 0 where

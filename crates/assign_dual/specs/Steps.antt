@@ -1,12 +1,12 @@
 -- What the steps of placing one row change.
 use Rattle.std.specs.Prelude.{◌≡◌, ◌≢◌, ◌⊎◌, ℕ, ◌+◌, ◌<◌, ◌≤◌, List, length, ℤ, ◌+ℤ◌, ◌-ℤ◌, ◌≤ℤ◌, slice_index, Option, Some, None}
 use Rattle.qap_cost.specs.Bijection.{IsBijection}
-use Rattle.assign_dual.specs.Partial.{dual, owner_of}
-use Rattle.assign_dual.specs.Tree.{far}
+use Rattle.assign_dual.specs.Partial.{owner_of}
+use Rattle.assign_dual.specs.Number.{number_at}
 
 -- the tree has the root alone: each column is reached from place 0
 pub record StartsRow (row v distances : List ℤ) (origins : List ℕ) : Type 0 where
-  pub distance : (k : ℕ) → k < length row → far distances k ≡ far row k -ℤ dual v k
+  pub distance : (k : ℕ) → k < length row → number_at distances k ≡ number_at row k -ℤ number_at v k
   pub origin : (k : ℕ) → k < length row → slice_index origins k ≡ 0
 
 -- the columns before `done` stay, the others change places among themselves
@@ -23,19 +23,19 @@ pub record TakesShorter (old_distance distance candidate : ℤ) (old_origin orig
 -- each column from the place on takes the shorter way, and those before it stay
 pub record Relaxes (row v : List ℤ) (base : ℤ) (place : ℕ) (columns : List ℕ) (distances : List ℤ) (origins : List ℕ) (new_distances : List ℤ) (new_origins : List ℕ) : Type 0 where
   pub before : (q : ℕ) → q < place → q < length columns →
-      (far new_distances (slice_index columns q) ≡ far distances (slice_index columns q)) × (slice_index new_origins (slice_index columns q) ≡ slice_index origins (slice_index columns q))
+      (number_at new_distances (slice_index columns q) ≡ number_at distances (slice_index columns q)) × (slice_index new_origins (slice_index columns q) ≡ slice_index origins (slice_index columns q))
   pub from_place : (q : ℕ) → place ≤ q → q < length columns →
-      TakesShorter (far distances (slice_index columns q)) (far new_distances (slice_index columns q)) ((base +ℤ far row (slice_index columns q)) -ℤ dual v (slice_index columns q)) (slice_index origins (slice_index columns q)) (slice_index new_origins (slice_index columns q)) place
+      TakesShorter (number_at distances (slice_index columns q)) (number_at new_distances (slice_index columns q)) ((base +ℤ number_at row (slice_index columns q)) -ℤ number_at v (slice_index columns q)) (slice_index origins (slice_index columns q)) (slice_index new_origins (slice_index columns q)) place
 
 -- the duals of the tree's rows rise by what their places lack of the shortest path's length; the others stay
 pub record RaisesRows (tree_rows : List ℕ) (row_distances : List ℤ) (count : ℕ) (length_of_path : ℤ) (u new : List ℤ) : Type 0 where
-  pub tree : (p : ℕ) → p < count → dual new (slice_index tree_rows p) ≡ dual u (slice_index tree_rows p) +ℤ (length_of_path -ℤ far row_distances p)
-  pub others : (i : ℕ) → ((p : ℕ) → p < count → slice_index tree_rows p ≢ i) → dual new i ≡ dual u i
+  pub tree : (p : ℕ) → p < count → number_at new (slice_index tree_rows p) ≡ number_at u (slice_index tree_rows p) +ℤ (length_of_path -ℤ number_at row_distances p)
+  pub others : (i : ℕ) → ((p : ℕ) → p < count → slice_index tree_rows p ≢ i) → number_at new i ≡ number_at u i
 
 -- the duals of the scanned columns fall by as much; the others stay
 pub record LowersColumns (columns : List ℕ) (distances : List ℤ) (done : ℕ) (length_of_path : ℤ) (v new : List ℤ) : Type 0 where
-  pub scanned : (q : ℕ) → q < done → dual new (slice_index columns q) ≡ dual v (slice_index columns q) -ℤ (length_of_path -ℤ far distances (slice_index columns q))
-  pub others : (q : ℕ) → done ≤ q → q < length columns → dual new (slice_index columns q) ≡ dual v (slice_index columns q)
+  pub scanned : (q : ℕ) → q < done → number_at new (slice_index columns q) ≡ number_at v (slice_index columns q) -ℤ (length_of_path -ℤ number_at distances (slice_index columns q))
+  pub others : (q : ℕ) → done ≤ q → q < length columns → number_at new (slice_index columns q) ≡ number_at v (slice_index columns q)
 
 -- column k is scanned or comes next, and the tree reaches it from row i
 pub record TakesEdge (columns tree_rows origins : List ℕ) (done i k : ℕ) : Type 0 where

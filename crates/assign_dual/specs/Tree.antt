@@ -1,16 +1,13 @@
 -- The tree of shortest alternating paths from a row that is being placed (Jonker and Volgenant 1987).
-use Rattle.std.specs.Prelude.{◌≡◌, ℕ, ◌+◌, ◌<◌, ◌≤◌, List, length, ℤ, pos, ◌+ℤ◌, ◌-ℤ◌, ◌≤ℤ◌, slice_index, slice_index_or, Option, Some}
+use Rattle.std.specs.Prelude.{◌≡◌, ℕ, ◌+◌, ◌<◌, ◌≤◌, List, length, ℤ, pos, ◌+ℤ◌, ◌-ℤ◌, ◌≤ℤ◌, slice_index, Option, Some}
 use Rattle.qap_cost.specs.Matrix.{Square, entry_of}
 use Rattle.qap_cost.specs.Bijection.{IsBijection}
-use Rattle.assign_dual.specs.Partial.{dual, owner_of}
+use Rattle.assign_dual.specs.Partial.{owner_of}
+use Rattle.assign_dual.specs.Number.{number_at}
 
 -- what is left of an entry once the duals of its row and its column are taken off
 abbrev pub reduced_cost : Square → List ℤ → List ℤ → ℕ → ℕ → ℤ
-reduced_cost M u v i k = (entry_of M i k -ℤ dual u i) -ℤ dual v k
-
--- how far the place lies from the row at the root
-abbrev pub far : List ℤ → ℕ → ℤ
-far xs k = slice_index_or xs k (pos 0)
+reduced_cost M u v i k = (entry_of M i k -ℤ number_at u i) -ℤ number_at v k
 
 -- The first `done` of the columns are scanned, each with its row at the next place of the tree; place 0 has the root.
 -- A distance is the length of the shortest path found so far, and the origin the place that it comes from.
@@ -22,19 +19,19 @@ pub record IsTree (M : Square) (root : ℕ) (row_of : List (Option ℕ)) (u v : 
   pub distances_count : length distances ≡ M.size
   pub origins_count : length origins ≡ M.size
   pub root_row : slice_index tree_rows 0 ≡ root
-  pub root_distance : far row_distances 0 ≡ pos 0
+  pub root_distance : number_at row_distances 0 ≡ pos 0
   pub joined : (q : ℕ) → q < done → owner_of row_of (slice_index columns q) ≡ Some (slice_index tree_rows (q + 1))
-  pub reached : (q : ℕ) → q < done → far row_distances (q + 1) ≡ far distances (slice_index columns q)
+  pub reached : (q : ℕ) → q < done → number_at row_distances (q + 1) ≡ number_at distances (slice_index columns q)
   pub relaxed : (p k : ℕ) → p ≤ done → k < M.size →
-      far distances k ≤ℤ (far row_distances p +ℤ reduced_cost M u v (slice_index tree_rows p) k)
+      number_at distances k ≤ℤ (number_at row_distances p +ℤ reduced_cost M u v (slice_index tree_rows p) k)
   pub origin : (k : ℕ) → k < M.size → slice_index origins k ≤ done
   pub edge : (k : ℕ) → k < M.size →
-      far distances k ≡ far row_distances (slice_index origins k) +ℤ reduced_cost M u v (slice_index tree_rows (slice_index origins k)) k
+      number_at distances k ≡ number_at row_distances (slice_index origins k) +ℤ reduced_cost M u v (slice_index tree_rows (slice_index origins k)) k
   pub earlier : (q : ℕ) → q < done → slice_index origins (slice_index columns q) ≤ q
   pub ascending : (p q : ℕ) → p < done → p ≤ q → q < M.size →
-      far distances (slice_index columns p) ≤ℤ far distances (slice_index columns q)
+      number_at distances (slice_index columns p) ≤ℤ number_at distances (slice_index columns q)
 
 -- no column that isn't scanned is nearer than the next one
 pub record IsNext (columns : List ℕ) (distances : List ℤ) (done : ℕ) : Type 0 where
   pub nearest : (q : ℕ) → done ≤ q → q < length columns →
-      far distances (slice_index columns done) ≤ℤ far distances (slice_index columns q)
+      number_at distances (slice_index columns done) ≤ℤ number_at distances (slice_index columns q)

@@ -3,8 +3,8 @@
 ghost use Rattle.std.specs.Prelude.{◌≡◌, ℕ, ◌+◌, ◌*◌, ◌^◌, ◌<◌, ◌≤◌, List, length, ℤ, slice_index, unsigned_abs};
 ghost use Rattle.qap_cost.specs.Bijection.{IsBijection};
 ghost use Rattle.qap_cost.specs.Range.{AllWithin};
-ghost use Rattle.assign_dual.specs.Tree.{far};
 ghost use Rattle.assign_dual.specs.Steps.{RaisesRows, LowersColumns};
+ghost use Rattle.assign_dual.specs.Number.{number_at};
 
 /// Raises the duals of the tree's first `count` rows by what they lack of the path's length.
 pub fn raise_rows(
@@ -19,7 +19,7 @@ pub fn raise_rows(
     requires within { (p : ℕ) → p < count → slice_index tree_rows.now p < length u.old }
     requires distinct { (p q : ℕ) → p < count → q < count → slice_index tree_rows.now p ≡ slice_index tree_rows.now q → p ≡ q }
     requires u_range { AllWithin (10 ^ 21) u.old }
-    requires row_distances_range { (p : ℕ) → p < count → unsigned_abs (far row_distances.now p) ≤ 3 * 10 ^ 21 }
+    requires row_distances_range { (p : ℕ) → p < count → unsigned_abs (number_at row_distances.now p) ≤ 3 * 10 ^ 21 }
     requires path_range { unsigned_abs path_length ≤ 3 * 10 ^ 21 }
     ensures { RaisesRows tree_rows.now row_distances.now count path_length u.old u.new }
 {

@@ -5,8 +5,9 @@ ghost use Rattle.qap_cost.specs.Bijection.{IsBijection};
 ghost use Rattle.qap_cost.specs.Matrix.{IsMatrix};
 ghost use Rattle.qap_cost.specs.Range.{AllWithin};
 ghost use Rattle.assign_dual.specs.Partial.{FitsRows, OwnersDiffer, owner_of};
-ghost use Rattle.assign_dual.specs.Tree.{IsTree, IsNext, far};
+ghost use Rattle.assign_dual.specs.Tree.{IsTree, IsNext};
 ghost use Rattle.assign_dual.specs.Steps.{StartsRow, KeepsScanned, Relaxes};
+ghost use Rattle.assign_dual.specs.Number.{number_at};
 
 use qap_cost::Matrix;
 
@@ -33,7 +34,7 @@ fn nearest(columns: &[usize], distances: &[i128], done: usize) -> usize
     ensures from_done { done ≤ result }
     ensures within { result < length columns.now }
     ensures nearest { (q : ℕ) → done ≤ q → q < length columns.now →
-        far distances.now (slice_index columns.now result) ≤ℤ far distances.now (slice_index columns.now q) }
+        number_at distances.now (slice_index columns.now result) ≤ℤ number_at distances.now (slice_index columns.now q) }
 {
     let mut best = done;
     for q in done + 1..columns.len() {
