@@ -1,6 +1,6 @@
 //! A node of a search: some facilities stand at locations of their own, the others are free.
 
-ghost use Rattle.std.specs.Prelude.{◌≡◌, ◌*◌, ◌^◌, ◌<◌, ◌≤◌, ◌↔◌, ◌++◌, ◌∷◌, [], IfOk, IsOk, IsTrue, MatchOption, length, slice_index, unsigned_abs, ℕ};
+ghost use Rattle.std.specs.Prelude.{◌≡◌, ◌*◌, ◌^◌, ◌<◌, ◌≤◌, ◌↔◌, ◌++◌, ◌∷◌, [], IfOk, IsOk, IsTrue, MatchOption, OnErr, OnOk, length, slice_index, unsigned_abs, ℕ};
 ghost use Rattle.qap_cost.specs.Bijection.{AreDifferent};
 ghost use Rattle.qap_cost.specs.Placement.{Placement, IsPlacement, IsFreeFacility, IsFreeLocation, ListsFree, StandsAt, root_of, placing, free_below, free_facilities, free_locations, fixed_cost_of};
 ghost use Rattle.qap_cost.specs.Range.{AllInRange};
@@ -137,6 +137,21 @@ impl Partial {
             facilities,
             places,
         })
+    }
+
+    /// Puts the free facility `f` at the free location `k` too. Refused memory, the node is as it was.
+    pub fn put(&mut self, f: u16, k: u16) -> Result<(), AllocError>
+        requires facility { IsFreeFacility self.old f }
+        requires location { IsFreeLocation self.old k }
+        ensures ok { OnOk result (self.new ≡ placing self.old f k) }
+        ensures err { OnErr result (self.new ≡ self.old) }
+        ensures placement { IsPlacement self.new }
+    {
+        self.facilities.reserve(1)?;
+        self.places.reserve(1)?;
+        self.facilities.push(f).unwrap();
+        self.places.push(k).unwrap();
+        Ok(())
     }
 
     /// What the placed facilities cost among themselves: the sum over all placed `i` and `j`, equal ones included, of

@@ -18,7 +18,7 @@ fn node(alloc: Global, n: usize, pairs: &[(u16, u16)]) -> Result<Option<Partial>
         if usize::from(f) >= node.size() || node.is_placed(f) || !node.is_free(k) {
             return Ok(None);
         }
-        node = node.place(f, k)?;
+        node.put(f, k)?;
     }
     Ok(Some(node))
 }

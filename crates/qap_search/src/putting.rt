@@ -8,18 +8,27 @@ use space_txn::{Txn, TxnError};
 use tuple_match::Tuple;
 use tuple_space::Lease;
 
-/// Writes the tuples under the transaction, each to stay forever. The only error is want of memory; some of them may have been
+/// Writes the tuples under the transaction, in order, each to stay forever. The only error is want of memory; some of them may have been
 /// written then.
-pub fn put_forever(txn: &mut Txn, mut tuples: Vec<Tuple>) -> Result<(), TxnError>
+pub fn put_forever(txn: &mut Txn, tuples: Vec<Tuple>) -> Result<(), TxnError>
     ensures number { txn.new.number ≡ txn.old.number }
     ensures marks { txn.new.marks ≡ txn.old.marks }
     ensures written { OnOk result (SameItems (added_of txn.new.writes) (added_of txn.old.writes ++ tuples.items)) }
     ensures kind { IfErr result (λ e. e ≡ TxnError.OutOfMemory) }
 {
-    while let Some(tuple) = tuples.pop() {
+    let mut rest = turned_round(tuples);
+    while let Some(tuple) = rest.pop() {
         put_one(txn, tuple)?;
     }
     Ok(())
+}
+
+/// The tuples, the last one first.
+fn turned_round(mut tuples: Vec<Tuple>) -> Vec<Tuple>
+    ensures { SameItems result.items tuples.items }
+{
+    tuples.reverse();
+    tuples
 }
 
 /// Writes one tuple under the transaction, to stay forever.

@@ -1,6 +1,6 @@
 //! Reads a node from its list.
 
-ghost use Rattle.std.specs.Prelude.{◌≡◌, ◌≢◌, ◌<◌, ◌≤◌, ℕ, IfOk, MatchOption, pos};
+ghost use Rattle.std.specs.Prelude.{◌≡◌, ◌≢◌, ◌<◌, ◌≤◌, ℕ, IfOk, MatchBool, MatchOption, pos};
 ghost use Rattle.qap_cost.specs.Placement.{IsFreeFacility, IsFreeLocation, IsPlacement, Placement};
 ghost use Rattle.qap_search.specs.Reading.{IsNextOf, IsReadFrom};
 ghost use Rattle.qap_search.specs.Piece.{node_list};
@@ -23,31 +23,27 @@ pub fn read_node(alloc: Global, n: usize, list: &[i128]) -> Result<Option<Partia
     }
     let mut node = Partial::root(alloc, n)?;
     for t in 0..list.len() / 2 {
-        let Some(next) = placed_next(&node, list[2 * t], list[2 * t + 1])? else {
+        if !put_next(&mut node, list[2 * t], list[2 * t + 1])? {
             return Ok(None);
-        };
-        node = next;
+        }
     }
     Ok(Some(node))
 }
 
-/// The node with the facility and the location of these numbers too, where both are free.
-fn placed_next(
-    node: &Partial,
-    facility: i128,
-    location: i128,
-) -> Result<Option<Partial>, AllocError>
-    ensures { IfOk result (λ found. MatchOption found
-        ((f k : ℕ) → IsFreeFacility node.now f → IsFreeLocation node.now k → facility ≡ pos f → location ≢ pos k)
-        (IsNextOf node.now facility location)) }
+/// Puts the facility of this number at the location of that number too; answers whether both are free.
+fn put_next(node: &mut Partial, facility: i128, location: i128) -> Result<bool, AllocError>
+    ensures { IfOk result (λ put. MatchBool put
+        (IsNextOf node.old facility location node.new)
+        ((f k : ℕ) → IsFreeFacility node.old f → IsFreeLocation node.old k → facility ≡ pos f → location ≢ pos k)) }
 {
     let Some(f) = free_facility(node, facility) else {
-        return Ok(None);
+        return Ok(false);
     };
     let Some(k) = free_location(node, location) else {
-        return Ok(None);
+        return Ok(false);
     };
-    Ok(Some(node.place(f, k)?))
+    node.put(f, k)?;
+    Ok(true)
 }
 
 /// The free location of this number.

@@ -42,7 +42,7 @@ pub(crate) fn tuple_of_closed(
     ensures { IfOk result (λ t. t ≡ closed_tuple node.now u.items v.items) }
 {
     let name = word_field(alloc, "closed")?;
-    let list = Field::List(node_numbers(alloc, node)?);
+    let list = Field::List(node_numbers(alloc, node, 0)?);
     let fields = vec![in alloc; name, list, Field::List(u), Field::List(v)]?;
     Ok(Tuple::new(fields).unwrap())
 }
@@ -52,7 +52,7 @@ fn tuple_of_split(alloc: Global, node: &Partial, facility: u16) -> Result<Tuple,
     ensures { IfOk result (λ t. t ≡ split_tuple node.now facility) }
 {
     let name = word_field(alloc, "split")?;
-    let list = Field::List(node_numbers(alloc, node)?);
+    let list = Field::List(node_numbers(alloc, node, 0)?);
     let fields = vec![in alloc; name, list, Field::Int(i128::from(facility))]?;
     Ok(Tuple::new(fields).unwrap())
 }
@@ -82,7 +82,7 @@ fn child_numbers(
     ensures list { IfOk result (λ v. v.items ≡ node_list (placing node.now facility location)) }
     ensures short { IfOk result (λ v. length v.items ≤ 514) }
 {
-    let mut numbers = node_numbers(alloc, node)?;
+    let mut numbers = node_numbers(alloc, node, 2)?;
     numbers.push(i128::from(facility))?;
     numbers.push(i128::from(location))?;
     Ok(numbers)
@@ -117,24 +117,31 @@ pub(crate) fn word_field(alloc: Global, name: &str) -> Result<Field, AllocError>
     Ok(Field::Word(String::from_str(alloc, name)?))
 }
 
-/// The node as a list: facility and location by turns, in the order of placing.
-fn node_numbers(alloc: Global, node: &Partial) -> Result<Vec<i128>, AllocError>
+/// The node as a list, with room for so many numbers more: facility and location by turns, in the order of placing.
+fn node_numbers(alloc: Global, node: &Partial, room: usize) -> Result<Vec<i128>, AllocError>
+    requires small { room ≤ 2 }
     ensures list { IfOk result (λ v. v.items ≡ node_list node.now) }
     ensures short { IfOk result (λ v. length v.items ≤ 512) }
     ensures placement { IsPlacement node.now }
 {
     let (facilities, places) = (node.facilities(), node.places());
-    by_turns(alloc, facilities, places)
+    by_turns(alloc, facilities, places, room)
 }
 
-/// The numbers of both rows by turns.
-fn by_turns(alloc: Global, facilities: &[u16], places: &[u16]) -> Result<Vec<i128>, AllocError>
+/// The numbers of both rows by turns, with room for so many more.
+fn by_turns(
+    alloc: Global,
+    facilities: &[u16],
+    places: &[u16],
+    room: usize,
+) -> Result<Vec<i128>, AllocError>
+    requires room { room ≤ 2 }
     requires paired { length places.now ≡ length facilities.now }
     requires small { length facilities.now ≤ 256 }
     ensures list { IfOk result (λ v. v.items ≡ by_turns facilities.now places.now) }
     ensures short { IfOk result (λ v. length v.items ≤ 512) }
 {
-    let mut numbers = Vec::with_capacity(alloc, 2 * facilities.len())?;
+    let mut numbers = Vec::with_capacity(alloc, 2 * facilities.len() + room)?;
     for t in 0..facilities.len() {
         numbers.push(i128::from(facilities[t]))?;
         numbers.push(i128::from(places[t]))?;

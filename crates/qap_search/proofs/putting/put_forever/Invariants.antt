@@ -6,8 +6,8 @@ abbrev pub invariant-loop-tuple : goal.invariant-loop-tuple
 invariant-loop-tuple l = record {
   number : l.txn.number ≡ l.fn.txn.number;
   marks : l.txn.marks ≡ l.fn.txn.marks;
-  written : SameItems (added_of l.txn.writes ++ l.tuples.items) (added_of l.fn.txn.writes ++ l.fn.tuples.items);
+  written : SameItems (added_of l.txn.writes ++ l.rest.items) (added_of l.fn.txn.writes ++ l.fn.tuples.items);
 }
 
 abbrev pub decreases-loop-tuple : goal.decreases-loop-tuple
-decreases-loop-tuple l = vec_len l.tuples
+decreases-loop-tuple l = vec_len l.rest

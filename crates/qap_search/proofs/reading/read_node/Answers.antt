@@ -9,12 +9,12 @@ returns-then-list-ne0 c =
     let other = c.if-list-ne0.true in
     none_odd c.args.n c.args.list.now (λ m e. other (omega arith))
 
-pub returns-in_default : goal.returns-in_default
-returns-in_default c =
+pub returns-then-not-branch : goal.returns-then-not-branch
+returns-then-not-branch c =
     let list = c.args.list.now in
     let t = c.loop-t.t in
     let less : 2 * t + 1 < length list = (let test = c.loop-t-test.true in let end = c.loop-t.auto.t-end in omega arith) in
-    let none = rw c.in_default.is at c.in_ok-next.ensures in
+    let none = rw c.if-not-branch.true at c.in_ok-put_next.ensures in
     let a = get_or list (2 * t) (pos 0) in
     let b = get_or list (2 * t + 1) (pos 0) in
     let same_a : to_z w128 (of_z w128 a) ≡ a = search rules in
@@ -26,10 +26,10 @@ loop-t-preserved c =
     let list = c.args.list.now in
     let t = c.loop-t.t in
     let less : 2 * t + 1 < length list = (let test = c.loop-t-test.true in let end = c.loop-t.auto.t-end in omega arith) in
-    let some = rw c.in-Some.is at c.in_ok-next.ensures in
+    let some = rw c.if-not-branch.false at c.in_ok-put_next.ensures in
     let a = get_or list (2 * t) (pos 0) in
     let b = get_or list (2 * t + 1) (pos 0) in
     let same_a : to_z w128 (of_z w128 a) ≡ a = search rules in
     let same_b : to_z w128 (of_z w128 b) ≡ b = search rules in
-    HasPlaced-more c.args.n list c.loop-t.node c.in-Some.next t c.loop-t.invariant less
-    (subst (λ (z : ℤ). IsNextOf c.loop-t.node a z c.in-Some.next) same_b (subst (λ (z : ℤ). IsNextOf c.loop-t.node z (to_z w128 (of_z w128 b)) c.in-Some.next) same_a some))
+    HasPlaced-more c.args.n list c.loop-t.node c.put_next.new.node t c.loop-t.invariant less
+    (subst (λ (z : ℤ). IsNextOf c.loop-t.node a z c.put_next.new.node) same_b (subst (λ (z : ℤ). IsNextOf c.loop-t.node z (to_z w128 (of_z w128 b)) c.put_next.new.node) same_a some))
