@@ -4,6 +4,7 @@
 mod answer;
 mod assembling;
 mod building;
+mod clock;
 mod completion;
 mod decided;
 mod decision;
@@ -17,13 +18,16 @@ mod pieces;
 mod putting;
 mod reading;
 mod report;
+mod seat;
 mod solving;
 mod templates;
 mod thought;
+mod workers;
 mod writing;
 
 pub use answer::{Answer, SolveError};
 pub use assembling::assemble;
+pub use clock::Clock;
 pub use decision::{decide, decide_anew, decide_beside};
 pub use error::AssembleError;
 pub use gate::{Always, Gate, Kind};
@@ -35,6 +39,7 @@ pub use report::{Ended, Report};
 pub use solving::solve_alone;
 pub use templates::{best_template, node_template};
 pub use thought::Thought;
+pub use workers::solve;
 pub use writing::tuple_of_best;
 
 #[cfg(test)]

@@ -93,10 +93,7 @@ pub(crate) fn shared_rows(
 ) -> Result<Arc<RankedInstance>, AllocError>
     ensures { IfOk result (λ shared. arc_value shared ≡ instance.now) }
 {
-    match Arc::new(alloc, RankedInstance::new(alloc, instance)?) {
-        Ok(shared) => Ok(shared),
-        Err(_) => Err(AllocError),
-    }
+    Ok(Arc::new(alloc, RankedInstance::new(alloc, instance)?)?)
 }
 
 /// Steps the worker until the space is closed or there is no memory. Whether the space is to be closed is asked only where the

@@ -1,0 +1,233 @@
+//! A search by many workers, each a thread of its own.
+
+ghost use Rattle.std.specs.Prelude.{◌≡◌, ◌<◌, ◌≤◌, [], All, IfOk, MatchResult, ℕ, length, replicate, sum, vec_capacity, vec_len};
+ghost use Rattle.std.specs.List.{sum_by};
+ghost use Rattle.qap_search.specs.Answer.{IsAnswer, IsSolveFault};
+ghost use Rattle.qap_search.specs.Opening.{IsOpening};
+ghost use Rattle.qap_search.specs.SearchLaw.{IsSearchLaw};
+ghost use Rattle.space_txn.specs.Content.{SameItems};
+ghost use Rattle.std.specs.Arc.{arc_value};
+
+use crate::answer::{Answer, SolveError};
+use crate::clock::Clock;
+use crate::gate::Gate;
+use crate::hand::Hand;
+use crate::opening::opening_space;
+use crate::report::Report;
+use crate::seat::{Seat, Workplace};
+use crate::solving::{certificate_of, shared_rows};
+use crate::templates::node_template;
+use gilmore_lawler::RankedInstance;
+use qap_cost::Instance;
+use shared_space::{Law, Share, Shared};
+use space_txn::TxnSpace;
+use std::alloc::{AllocError, Global};
+use std::marker::Brand;
+use std::sync::ledger::Blank;
+use std::sync::{Arc, Mutex, Wait};
+use std::thread::Threads;
+use std::time::Duration;
+use std::{thread, time};
+
+/// How many milliseconds the keeper pauses before it looks again.
+const PAUSE_MS: u64 = 1;
+
+/// The certificate of an instance's least cost, from so many workers, each a thread, whose transactions begin with leases of
+/// so many milliseconds.
+///
+/// The calling thread keeps the space: it moves the moment on by the clock, and closes the space when no node is left or every
+/// worker has left. The gate is asked before each step of a worker and told after it. `Unfinished` comes where nodes are left,
+/// with their number: where workers were ended by the gate or found no memory. With a lease of 0 ms no commit is ever accepted.
+pub fn solve<R, C, G>(
+    rt: &R,
+    alloc: Global,
+    instance: &Instance,
+    workers: u16,
+    lease_ms: u64,
+    clock: &C,
+    gate: &G,
+) -> Result<Answer, SolveError>
+where
+    R: Threads + Wait + time::Clock + Sync,
+    C: Clock,
+    G: Gate + Sync,
+    requires some { 0 < workers }
+    requires few { workers ≤ 64 }
+    ensures { MatchResult result (IsAnswer instance.now workers) IsSolveFault }
+{
+    let space = opening_space(alloc, instance)?;
+    let blank = Blank::new(u64::from(workers));
+    search::<Brand, R, C, G>(
+        rt, alloc, instance, space, blank, workers, lease_ms, clock, gate,
+    )
+}
+
+/// The same, on a space that stands at the opening, under a law that is the search's.
+fn search<L, R, C, G>(
+    rt: &R,
+    alloc: Global,
+    instance: &Instance,
+    space: TxnSpace,
+    blank: Blank,
+    workers: u16,
+    lease_ms: u64,
+    clock: &C,
+    gate: &G,
+) -> Result<Answer, SolveError>
+where
+    L: Law + Send + Sync,
+    R: Threads + Wait + time::Clock + Sync,
+    C: Clock,
+    G: Gate + Sync,
+    requires some { 0 < workers }
+    requires name { blank.name ≡ L.name }
+    requires parts { blank.parts ≡ L.parts }
+    requires one_each { blank.parts ≡ workers }
+    requires few { workers ≤ 64 }
+    requires law { IsSearchLaw instance.now L.lawful L.allowed }
+    requires opening { IsOpening instance.now space }
+    ensures { MatchResult result (IsAnswer instance.now workers) IsSolveFault }
+{
+    let ranked = shared_rows(alloc, instance)?;
+    let nodes = node_template(alloc)?;
+    let count = usize::from(workers);
+    let room = Left::with_capacity(alloc, count)?;
+    let Ok((shared, shares)) = Shared::<L>::new(alloc, blank, space, count) else {
+        return Err(SolveError::OutOfMemory);
+    };
+    let seats = seats_for(alloc, &ranked, lease_ms, shares)?;
+    let place = Workplace {
+        rt,
+        shared: &shared,
+        nodes: &nodes,
+        gate,
+    };
+    work_all(&place, &seats, clock);
+    let Left { shares, reports } = left_by(room, seats);
+    let (space, _) = shared.into_inner(shares);
+    let certificate = certificate_of(alloc, instance, space)?;
+    Ok(Answer {
+        certificate,
+        reports,
+    })
+}
+
+/// A seat for each share, the workers numbered from 0.
+fn seats_for<L: Law>(
+    alloc: Global,
+    ranked: &Arc<RankedInstance>,
+    lease_ms: u64,
+    shares: Vec<Share<L>>,
+) -> Result<Vec<Mutex<Seat<L>>>, AllocError>
+    requires law { IsSearchLaw (arc_value ranked.now) L.lawful L.allowed }
+    requires fresh { All (λ (n : ℕ). n ≡ 0) shares.items }
+    requires few { vec_len shares ≤ 64 }
+    ensures { IfOk result (λ seats. vec_len seats ≡ vec_len shares) }
+{
+    let mut seats = Vec::with_capacity(alloc, shares.len())?;
+    let mut rest = shares;
+    let mut worker = 0;
+    while let Some(share) = rest.pop() {
+        let hand = Hand::new(alloc, worker, ranked.clone()?, lease_ms)?;
+        seats.push(Mutex::new(Seat::new(worker, hand, share)))?;
+        worker += 1;
+    }
+    Ok(seats)
+}
+
+/// Lets each worker work in a thread of its own, and keeps the space until it is closed. A worker whose thread can't be started
+/// has left.
+fn work_all<R, L, C, G>(place: &Workplace<'_, R, L, G>, seats: &[Mutex<Seat<L>>], clock: &C)
+where
+    R: Threads + Wait + time::Clock + Sync,
+    L: Law + Send + Sync,
+    C: Clock,
+    G: Gate + Sync,
+{
+    thread::scope(thread::scope_env(), place.rt, |scope| {
+        for seat in seats {
+            if scope.spawn(move || work(place, seat)).is_err() {
+                place.shared.leave(place.rt);
+            }
+        }
+        keep(place, clock);
+    });
+}
+
+/// Lets the worker of a seat work, which it leaves then.
+fn work<R: Wait, L: Law, G: Gate>(place: &Workplace<'_, R, L, G>, seat: &Mutex<Seat<L>>) {
+    seat.lock(place.rt).work(place);
+    place.shared.leave(place.rt);
+}
+
+/// Moves the moment on by the clock, until the space is closed.
+fn keep<R, L, C, G>(place: &Workplace<'_, R, L, G>, clock: &C)
+where
+    R: Wait + time::Clock,
+    L: Law,
+    C: Clock,
+    G: Gate,
+{
+    for _ in place.rt.forever() {
+        if place.shared.close(place.rt, place.nodes) {
+            return;
+        }
+        // A moment that is too late changes nothing.
+        let _ = place.shared.advance(place.rt, clock.now());
+        thread::sleep(place.rt, Duration::from_millis(PAUSE_MS));
+    }
+}
+
+/// What the workers leave: their shares and reports, in their order.
+#[derive(Drop)]
+struct Left<L: Law> {
+    shares: Vec<Share<L>>,
+    reports: Vec<Report>,
+}
+
+impl<L: Law> Left<L> {
+    /// Room for what so many workers leave.
+    fn with_capacity(alloc: Global, workers: usize) -> Result<Left<L>, AllocError>
+        ensures empty { IfOk result (λ left. (left.shares.items ≡ []) × (left.reports.items ≡ [])) }
+        ensures shares { IfOk result (λ left. workers ≤ vec_capacity left.shares) }
+        ensures reports { IfOk result (λ left. workers ≤ vec_capacity left.reports) }
+    {
+        Ok(Left {
+            shares: Vec::with_capacity(alloc, workers)?,
+            reports: Vec::with_capacity(alloc, workers)?,
+        })
+    }
+}
+
+/// What the workers leave, in the room that was made for it.
+fn left_by<L: Law>(room: Left<L>, seats: Vec<Mutex<Seat<L>>>) -> Left<L>
+    requires no_shares { room.shares.items ≡ [] }
+    requires no_reports { room.reports.items ≡ [] }
+    requires room_for_shares { vec_len seats ≤ vec_capacity room.shares }
+    requires room_for_reports { vec_len seats ≤ vec_capacity room.reports }
+    ensures shares { vec_len result.shares ≡ vec_len seats }
+    ensures reports { length result.reports.items ≡ vec_len seats }
+    ensures counted { sum_by (λ r. r.accepted) result.reports.items ≡ sum result.shares.items }
+{
+    let Left {
+        mut shares,
+        mut reports,
+    } = room;
+    let mut rest = seats;
+    while let Some(seat) = rest.pop() {
+        let (share, report) = seat.into_inner().left();
+        shares.push(share).unwrap();
+        reports.push(report).unwrap();
+    }
+    let reports = turned_round(reports);
+    Left { shares, reports }
+}
+
+/// The reports, the last one first.
+fn turned_round(mut reports: Vec<Report>) -> Vec<Report>
+    ensures same { SameItems result.items reports.items }
+    ensures count { length result.items ≡ length reports.items }
+{
+    reports.reverse();
+    reports
+}
