@@ -46,3 +46,5 @@ pub use writing::tuple_of_best;
 mod solving_tests;
 #[cfg(test)]
 mod tests;
+#[cfg(test)]
+mod worker_tests;
