@@ -1,6 +1,6 @@
 //! A worker with its share, and its run on a shared space.
 
-ghost use Rattle.std.specs.Prelude.{◌≡◌, ◌+◌};
+ghost use Rattle.std.specs.Prelude.{◌≡◌};
 ghost use Rattle.qap_search.specs.SearchLaw.{IsSearchLaw};
 
 use crate::gate::{Gate, Kind};
@@ -86,8 +86,9 @@ fn run<R: Wait, L: Law, G: Gate>(
     hand: &mut Hand,
     share: &mut Share<L>,
 ) -> Ended
-    requires { IsSearchLaw hand.old.instance L.lawful L.allowed }
-    ensures counted { share.new + hand.old.accepted ≡ share.old + hand.new.accepted }
+    requires law { IsSearchLaw hand.old.instance L.lawful L.allowed }
+    requires before { hand.old.accepted ≡ share.old }
+    ensures counted { hand.new.accepted ≡ share.new }
     ensures instance { hand.new.instance ≡ hand.old.instance }
 {
     for _ in place.rt.forever() {
@@ -106,8 +107,9 @@ fn turn<R: Wait, L: Law, G: Gate>(
     hand: &mut Hand,
     share: &mut Share<L>,
 ) -> Result<(), Ended>
-    requires { IsSearchLaw hand.old.instance L.lawful L.allowed }
-    ensures counted { share.new + hand.old.accepted ≡ share.old + hand.new.accepted }
+    requires law { IsSearchLaw hand.old.instance L.lawful L.allowed }
+    requires before { hand.old.accepted ≡ share.old }
+    ensures counted { hand.new.accepted ≡ share.new }
     ensures instance { hand.new.instance ≡ hand.old.instance }
 {
     if hand.thinks() {
