@@ -10,7 +10,7 @@ use Rattle.qap_cost.specs.Placement.{Placement, IsPlacement, IsFreeFacility, fix
 use Rattle.qap_cert.specs.Valid.{Closes}
 use Rattle.space_txn.specs.Content.{SameItems}
 use Rattle.tuple_match.specs.FieldValue.{FieldValue}
-use Rattle.qap_search.specs.Decision.{Decides, DecidesAnew, DecidesBeside}
+use Rattle.qap_search.specs.Decision.{Decides, DecidesAnew, DecidesBeside, DecidesBetter, candidate_of}
 use Rattle.qap_search.specs.Piece.{best_tuple, closed_tuple, node_tuple, pieces}
 use Rattle.qap_search.specs.Replacement.{Best, IsAsGood, MayReplace, tuple_of}
 use Rattle.qap_search.specs.SearchTree.{AreOpen, AreTreesAt, closed_node, open_row, split_open}
@@ -108,6 +108,21 @@ pub decides_again : (I : Problem) (old : Best) (x : Placement) (stated : ℤ) (t
 decides_again I old x stated tuples is d = record {
   new = old;
   as_good = inl refl;
+  decides = subst (λ (c : ℤ). DecidesBeside I c old.permutation x tuples) is d;
+}
+
+-- the candidate stands where it costs less, and else the one that was taken
+pub better_candidate : (I : Problem) (old : Best) (x : Placement) (t : Thought) (stated : ℤ) (tuples : List (List FieldValue)) → stated ≡ t.cost → t.cost <ℤ old.cost → DecidesBeside I stated t.candidate x tuples → DecidesBetter I (candidate_of t) old x tuples
+better_candidate I old x t stated tuples is less d = record {
+  new = candidate_of t;
+  better = inl (less, refl);
+  decides = subst (λ (c : ℤ). DecidesBeside I c t.candidate x tuples) is d;
+}
+
+pub better_old : (I : Problem) (candidate old : Best) (x : Placement) (stated : ℤ) (tuples : List (List FieldValue)) → stated ≡ old.cost → old.cost ≤ℤ candidate.cost → DecidesBeside I stated old.permutation x tuples → DecidesBetter I candidate old x tuples
+better_old I candidate old x stated tuples is more d = record {
+  new = old;
+  better = inr (more, refl);
   decides = subst (λ (c : ℤ). DecidesBeside I c old.permutation x tuples) is d;
 }
 

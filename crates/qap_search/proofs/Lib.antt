@@ -1,4 +1,5 @@
 pub mod Assembled
+pub mod BestFacts
 pub mod Certificates
 pub mod Completions
 pub mod Deciding
@@ -13,7 +14,9 @@ pub mod Parts
 pub mod Replacing
 pub mod Scatter
 pub mod SearchLaws
+pub mod Standings
 pub mod Taking
+pub mod Thinkings
 pub mod Thoughts
 pub mod Tuples
 pub mod Turns

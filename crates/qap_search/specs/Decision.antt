@@ -1,5 +1,5 @@
 -- What one commit writes of a node: duals that close it under the cost of the best permutation, or its split into open nodes.
-use Rattle.std.specs.Prelude.{◌≡◌, ℕ, List, ◌∷◌, ℤ}
+use Rattle.std.specs.Prelude.{◌≡◌, ◌⊎◌, ℕ, List, ◌∷◌, ℤ, ◌<ℤ◌, ◌≤ℤ◌}
 use Rattle.qap_cost.specs.Instance.{Problem}
 use Rattle.qap_cost.specs.Placement.{Placement}
 use Rattle.qap_cert.specs.Valid.{Closes}
@@ -32,4 +32,17 @@ pub record DecidesBeside (I : Problem) (c : ℤ) (p : List ℕ) (x : Placement) 
 pub record DecidesAnew (I : Problem) (old : Best) (x : Placement) (tuples : List (List FieldValue)) : Type 0 where
   pub new : Best
   pub as_good : IsAsGood I old new
+  pub decides : DecidesBeside I new.cost new.permutation x tuples
+
+-- of a candidate and the best permutation that was taken, the one that stands then: the candidate only where it costs less
+abbrev pub IsBetterOf : Best → Best → Best → Type 0
+IsBetterOf candidate old new = ((candidate.cost <ℤ old.cost) × (new ≡ candidate)) ⊎ ((old.cost ≤ℤ candidate.cost) × (new ≡ old))
+
+abbrev pub candidate_of : Thought → Best
+candidate_of t = record { cost = t.cost; permutation = t.candidate }
+
+-- the tuples are those of a decided node at x and of the one that stands
+pub record DecidesBetter (I : Problem) (candidate old : Best) (x : Placement) (tuples : List (List FieldValue)) : Type 0 where
+  pub new : Best
+  pub better : IsBetterOf candidate old new
   pub decides : DecidesBeside I new.cost new.permutation x tuples

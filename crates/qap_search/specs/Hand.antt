@@ -1,8 +1,63 @@
--- A worker of a search.
-use Rattle.std.specs.Prelude.{ℕ, Bool}
+-- What callers know of a worker of the search: where it stands in its turn, what it thought on last, and what it counted.
+use Rattle.std.specs.Prelude.{ℕ, Bool, true, false, ℤ, int_lt, Option, Some, None}
 use Rattle.qap_cost.specs.Instance.{Problem}
+use Rattle.qap_cost.specs.Placement.{Placement}
+use Rattle.qap_search.specs.Decision.{candidate_of}
+use Rattle.qap_search.specs.Replacement.{Best}
+use Rattle.qap_search.specs.declared.gate.Kind.{Kind}
+use Rattle.qap_search.specs.declared.gate.Kind.TheVariants as kinds
+use Rattle.qap_search.specs.declared.stage.LastThought.{LastThought}
+use Rattle.qap_search.specs.declared.stage.Stage.{Stage}
+use Rattle.qap_search.specs.declared.stage.Stage.TheVariants.{Idle, Begun, Taken, Considered, Ready, GivingUp}
+use Rattle.qap_search.specs.declared.stage.Tally.{Tally}
 
+-- a node that was thought on: the bound on what its completions cost, and one of them with its cost
+pub record ThoughtValue : Type 0 where
+  pub node : Placement
+  pub value : ℤ
+  pub candidate : Best
+
+-- best is the cost of the best permutation that the worker knows of
 pub record HandValue : Type 0 where
   pub instance : Problem
-  pub due : Bool
+  pub lease : ℕ
+  pub last : Option ThoughtValue
+  pub stage : Stage
+  pub best : Option ℤ
   pub accepted : ℕ
+  pub refused : ℕ
+
+abbrev pub thought_of : LastThought → ThoughtValue
+thought_of l = record { node = l.node; value = l.thought.value; candidate = candidate_of l.thought }
+
+abbrev pub last_of : Option LastThought → Option ThoughtValue
+last_of None = None
+last_of (Some l) = Some (thought_of l)
+
+abbrev pub hand_of : Problem → ℕ → Option ThoughtValue → Stage → Tally → HandValue
+hand_of I lease last stage tally =
+    record { instance = I; lease = lease; last = last; stage = stage; best = tally.best; accepted = tally.accepted; refused = tally.refused }
+
+-- a thought is due: an open node's entry was taken
+abbrev pub is_due : Stage → Bool
+is_due (Taken t number) = true
+is_due _ = false
+
+-- no cost of a best permutation is known, or the candidate of the last thought costs less than that
+abbrev pub is_hopeful : Option ℤ → Option ThoughtValue → Bool
+is_hopeful None last = true
+is_hopeful (Some best) None = false
+is_hopeful (Some best) (Some last) = int_lt last.candidate.cost best
+
+-- the kind of the coming step, where no thought is due
+abbrev pub kind_at : Stage → Bool → Kind
+kind_at Idle hopeful = kinds.Begin
+kind_at (Begun t) hopeful = kinds.TakeNode
+kind_at (Taken t number) hopeful = kinds.TakeNode
+kind_at (Considered t) true = kinds.TakeBest
+kind_at (Considered t) false = kinds.ReadBest
+kind_at (Ready t cost) hopeful = kinds.Commit
+kind_at (GivingUp t) hopeful = kinds.Abort
+
+abbrev pub kind_of : HandValue → Kind
+kind_of h = kind_at h.stage (is_hopeful h.best h.last)

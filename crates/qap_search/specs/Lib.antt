@@ -1,7 +1,9 @@
 pub mod Answer
 pub mod Assembling
+pub mod Best
 pub mod Building
 pub mod Completion
+pub mod Considering
 pub mod CutTree
 pub mod Decided
 pub mod Decision
@@ -13,8 +15,11 @@ pub mod Opening
 pub mod Piece
 pub mod Pieces
 pub mod Putting
-pub mod Replacement
-pub mod SearchTree
-pub mod SearchLaw
-pub mod Thought
 pub mod Reading
+pub mod Replacement
+pub mod SearchLaw
+pub mod SearchTree
+pub mod Standing
+pub mod Thinking
+pub mod Thought
+pub mod Turn

@@ -103,7 +103,7 @@ fn tree_of(alloc: Global, n: usize, mut nodes: Vec<DecidedNode>) -> Result<Tree,
 }
 
 /// The permutation of these locations; `None` where they are none.
-fn permutation_of(alloc: Global, locations: &[i128]) -> Result<Option<Perm>, AllocError>
+pub(crate) fn permutation_of(alloc: Global, locations: &[i128]) -> Result<Option<Perm>, AllocError>
     ensures { IfOk result (λ found. MatchOption found
         ((p : List ℕ) → IsPerm p → map pos p ≢ locations.now)
         (λ p. IsPerm p × (map pos p ≡ locations.now))) }

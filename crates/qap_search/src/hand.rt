@@ -1,100 +1,165 @@
-//! A worker of a search.
+//! A worker of the search.
 
-ghost use Rattle.std.specs.Prelude.{◌≡◌, ◌≤◌, ◌+◌, IfOk, OnOk, OnErr, true, false};
+ghost use Rattle.std.specs.Prelude.{◌≡◌, ◌+◌, ◌≤◌, None, true, false, IfOk, OnErr, OnOk};
 ghost use Rattle.std.specs.Arc.{arc_value};
+ghost use Rattle.qap_search.specs.Hand.{is_due, kind_of};
 ghost use Rattle.qap_search.specs.SearchLaw.{IsSearchLaw};
+ghost use Rattle.qap_search.specs.Thinking.{Thinks};
+ghost use Rattle.qap_search.specs.Turn.{Turn};
+ghost use Rattle.qap_search.specs.declared.stage.Stage.TheVariants.{Idle};
+ghost use Rattle.qap_search.specs.declared.report.Ended.TheVariants.{Done};
 
 use crate::gate::{Gate, Kind};
 use crate::report::{Ended, Report};
-use gilmore_lawler::RankedInstance;
+use crate::stage::{LastThought, Stage, Tally, Tools};
+use crate::templates::{best_template, node_template};
+use crate::thinking::{stage_thought, think_in};
+use crate::turn::{is_hopeful, turn};
+use gilmore_lawler::{RankedInstance, Workspace};
 use shared_space::{Law, Room, Share};
 use std::alloc::{AllocError, Global};
 use std::marker::Model;
 use std::sync::Arc;
 
-/// A worker of a search.
+/// A worker of the search: it takes an open node and the best permutation, and commits what it decides of them, one call on the
+/// room a step.
 #[derive(Drop)]
 pub struct Hand {
-    instance: Arc<RankedInstance, Global>,
-    due: bool,
-    accepted: u64,
+    worker: u16,
+    instance: Arc<RankedInstance>,
+    tools: Tools,
+    workspace: Workspace,
+    last: Option<LastThought>,
+    stage: Stage,
+    tally: Tally,
 }
 
 impl Model for Hand {
-    ghost use Rattle.qap_search.specs.Hand.{HandValue};
     ghost use Rattle.std.specs.Arc.{arc_value};
+    ghost use Rattle.qap_search.specs.Hand.{HandValue, hand_of, last_of};
+    ghost use Rattle.qap_search.specs.Standing.{IsHand};
 
     ghost Value = { HandValue };
 
-    ghost view = { λ h. record { instance = arc_value h.instance; due = h.due; accepted = h.accepted } };
+    ghost view = { λ h. hand_of (arc_value h.instance) h.tools.lease_ms (last_of h.last) h.stage h.tally };
+
+    ghost invariant = { λ h. IsHand (arc_value h.instance) h.tools h.last h.stage };
 }
 
 impl Hand {
-    /// A worker of this number.
+    /// A worker of this number, which begins its transactions with leases of so many milliseconds.
     pub fn new(
-        _alloc: Global,
-        _worker: u16,
-        instance: Arc<RankedInstance, Global>,
-        _lease_ms: u64,
+        alloc: Global,
+        worker: u16,
+        instance: Arc<RankedInstance>,
+        lease_ms: u64,
     ) -> Result<Hand, AllocError>
         ensures instance { IfOk result (λ hand. hand.instance ≡ arc_value instance) }
+        ensures lease { IfOk result (λ hand. hand.lease ≡ lease_ms) }
+        ensures idle { IfOk result (λ hand. hand.stage ≡ Idle) }
+        ensures knows_nothing { IfOk result (λ hand. (hand.last ≡ None) × (hand.best ≡ None)) }
         ensures accepted { IfOk result (λ hand. hand.accepted ≡ 0) }
-        ensures due { IfOk result (λ hand. hand.due ≡ false) }
+        ensures refused { IfOk result (λ hand. hand.refused ≡ 0) }
     {
+        let _instance = instance.instance();
+        let tools = Tools {
+            alloc,
+            lease_ms,
+            node: node_template(alloc)?,
+            best: best_template(alloc)?,
+        };
+        let workspace = Workspace::new(alloc);
         Ok(Hand {
+            worker,
             instance,
-            due: false,
-            accepted: 0,
+            tools,
+            workspace,
+            last: None,
+            stage: Stage::Idle,
+            tally: Tally::new(),
         })
     }
 
-    /// The coming step.
-    pub fn next(&self) -> Kind
-        requires { self.now.due ≡ false }
-    {
-        Kind::Abort
-    }
-
-    /// Whether a thought is due.
+    /// Whether a thought is due: it comes before the next step.
     pub fn thinks(&self) -> bool
-        ensures { result ≡ self.now.due }
+        ensures { result ≡ is_due self.now.stage }
     {
-        self.due
+        matches!(self.stage, Stage::Taken(..))
     }
 
-    /// One step.
+    /// The kind of the next step.
+    pub fn next(&self) -> Kind
+        requires { is_due self.now.stage ≡ false }
+        ensures { result ≡ kind_of self.now }
+    {
+        match &self.stage {
+            Stage::Idle => Kind::Begin,
+            Stage::Begun(_) | Stage::Taken(..) => Kind::TakeNode,
+            Stage::Considered(_) => {
+                if is_hopeful(&self.tally, &self.last) {
+                    Kind::TakeBest
+                } else {
+                    Kind::ReadBest
+                }
+            }
+            Stage::Ready(..) => Kind::Commit,
+            Stage::GivingUp(_) => Kind::Abort,
+        }
+    }
+
+    /// Makes the next step, one call on the room, and tells whether it met no refusal. Refused since its transaction has ended
+    /// the worker begins anew; after another refusal its next turn tries the same step. At an error there was no memory, for the
+    /// call or for what it was to write.
     pub fn step<L: Law, M: Room<L>>(
         &mut self,
-        _room: &mut M,
-        _share: &mut Share<L>,
+        room: &mut M,
+        share: &mut Share<L>,
     ) -> Result<bool, AllocError>
         requires law { IsSearchLaw self.old.instance L.lawful L.allowed }
-        requires not_due { self.old.due ≡ false }
-        requires counted { self.old.accepted ≤ _share.old }
-        ensures counted { _share.new + self.old.accepted ≡ _share.old + self.new.accepted }
+        requires not_due { is_due self.old.stage ≡ false }
+        requires counted { self.old.accepted ≤ share.old }
+        ensures turn { Turn M.did self.old room.old result self.new room.new }
+        ensures counted { share.new + self.old.accepted ≡ share.old + self.new.accepted }
         ensures instance { self.new.instance ≡ self.old.instance }
+        ensures lease { self.new.lease ≡ self.old.lease }
     {
-        Err(AllocError)
+        let stage = std::mem::replace(&mut self.stage, Stage::Idle);
+        let outcome = turn(&self.tools, room, share, &self.last, stage, self.tally);
+        self.stage = outcome.stage;
+        self.tally = outcome.tally;
+        outcome.told
     }
 
-    /// One thought.
-    pub fn think<G: Gate>(&mut self, _gate: &G) -> Result<(), AllocError>
-        requires { self.old.due ≡ true }
-        ensures due { OnOk result (self.new.due ≡ false) }
+    /// Thinks on the node that was taken, outside the space's lock; where that is the node of the last thought, the thought is
+    /// kept. At an error nothing changed, and the thought is still due.
+    pub fn think<G: Gate>(&mut self, gate: &G) -> Result<(), AllocError>
+        requires { is_due self.old.stage ≡ true }
+        ensures thought { OnOk result (Thinks self.old self.new) }
+        ensures unchanged { OnErr result (self.new ≡ self.old) }
         ensures accepted { self.new.accepted ≡ self.old.accepted }
         ensures instance { self.new.instance ≡ self.old.instance }
     {
-        self.due = false;
+        let considered = think_in(
+            self.tools.alloc,
+            gate,
+            self.worker,
+            &self.instance,
+            &mut self.workspace,
+            &self.stage,
+            &mut self.last,
+        )?;
+        let stage = std::mem::replace(&mut self.stage, Stage::Idle);
+        self.stage = stage_thought(stage, considered);
         Ok(())
     }
 
-    /// What it tells.
+    /// What it did so far.
     pub fn report(&self) -> Report
-        ensures { result.accepted ≡ self.now.accepted }
+        ensures { result ≡ record { accepted = self.now.accepted; refused = self.now.refused; ended = Done } }
     {
         Report {
-            accepted: self.accepted,
-            refused: 0,
+            accepted: self.tally.accepted,
+            refused: self.tally.refused,
             ended: Ended::Done,
         }
     }

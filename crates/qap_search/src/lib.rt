@@ -3,6 +3,7 @@
 
 mod answer;
 mod assembling;
+mod best;
 mod building;
 mod clock;
 mod completion;
@@ -20,8 +21,11 @@ mod reading;
 mod report;
 mod seat;
 mod solving;
+mod stage;
 mod templates;
+mod thinking;
 mod thought;
+mod turn;
 mod workers;
 mod writing;
 

@@ -1,0 +1,133 @@
+//! A worker's thought on the node that it took.
+
+ghost use Rattle.std.specs.Prelude.{◌≡◌, ◌≢◌, ◌↔◌, ◌<◌, ◌≤◌, ◌∷◌, [], ℕ, ℤ, List, codes, IfOk, IsTrue, MatchOption, OnErr, OnOk};
+ghost use Rattle.qap_cost.specs.Placement.{IsPlacement};
+ghost use Rattle.tuple_match.specs.FieldValue.{numbers, word};
+ghost use Rattle.space_txn.specs.Txn.{TxnValue};
+ghost use Rattle.qap_search.specs.Considering.{Considers, HasNoNode, IsNodeAt, IsOnNode, IsThoughtOn, stage_after};
+ghost use Rattle.qap_search.specs.declared.stage.Stage.TheVariants.{Taken};
+
+use crate::decided::is_word;
+use crate::gate::Gate;
+use crate::reading::read_node;
+use crate::stage::{LastThought, Stage};
+use crate::thought::Thought;
+use gilmore_lawler::{RankedInstance, Workspace};
+use qap_cost::Partial;
+use space_txn::Txn;
+use std::alloc::{AllocError, Global};
+use tuple_match::{Field, Tuple};
+use tuple_space::EntryId;
+
+/// Thinks on the node that was taken; `false` where its entry's lease ends. At an error nothing changed.
+pub(crate) fn think_in<G: Gate>(
+    alloc: Global,
+    gate: &G,
+    worker: u16,
+    instance: &RankedInstance,
+    workspace: &mut Workspace,
+    stage: &Stage,
+    last: &mut Option<LastThought>,
+) -> Result<bool, AllocError>
+    ensures { Considers instance.now stage.now last.old result last.new }
+{
+    let Stage::Taken(txn, id) = stage else {
+        return Ok(false);
+    };
+    let size = instance.instance().size();
+    let Some(node) = node_at(alloc, size, txn, *id)? else {
+        return Ok(false);
+    };
+    think_on(alloc, gate, worker, instance, workspace, node, last)?;
+    Ok(true)
+}
+
+/// Thinks on the node, where that isn't the one of the last thought. At an error nothing changed.
+fn think_on<G: Gate>(
+    alloc: Global,
+    gate: &G,
+    worker: u16,
+    instance: &RankedInstance,
+    workspace: &mut Workspace,
+    node: Partial,
+    last: &mut Option<LastThought>,
+) -> Result<(), AllocError>
+    requires size { node.size ≡ instance.now.size }
+    requires placement { IsPlacement node }
+    ensures thought { OnOk result (IsThoughtOn instance.now node last.old last.new) }
+    ensures unchanged { OnErr result (last.new ≡ last.old) }
+{
+    if is_on(last, &node) {
+        return Ok(());
+    }
+    let matrix = instance.reduced(workspace, &node)?;
+    gate.thinking(worker);
+    let thought = Thought::new(alloc, instance.instance(), &node, &matrix)?;
+    *last = Some(LastThought { node, thought });
+    Ok(())
+}
+
+/// Whether the last thought is on the node.
+fn is_on(last: &Option<LastThought>, node: &Partial) -> bool
+    ensures { IsTrue result ↔ IsOnNode last.now node.now }
+{
+    match last {
+        Some(last) => is_same(&last.node, node),
+        None => false,
+    }
+}
+
+/// Whether the nodes are the same.
+fn is_same(node: &Partial, other: &Partial) -> bool
+    ensures { IsTrue result ↔ (node.now ≡ other.now) }
+{
+    node.size() == other.size()
+        && *node.facilities() == *other.facilities()
+        && *node.places() == *other.places()
+}
+
+/// The node of size `n` whose tuple the entry has, where that is there to stay.
+fn node_at(alloc: Global, n: usize, txn: &Txn, id: EntryId) -> Result<Option<Partial>, AllocError>
+    requires positive { 0 < n }
+    requires small { n ≤ 256 }
+    ensures { IfOk result (λ found. MatchOption found (HasNoNode n id txn.now) (IsNodeAt n id txn.now)) }
+{
+    if txn.permanent(id) != Some(true) {
+        return Ok(None);
+    }
+    let Some(tuple) = txn.tuple(id) else {
+        return Ok(None);
+    };
+    let Some(list) = node_fields(tuple) else {
+        return Ok(None);
+    };
+    read_node(alloc, n, list)
+}
+
+/// The list of an open node's tuple.
+fn node_fields(tuple: &Tuple) -> Option<&[i128]>
+    ensures { MatchOption result
+        ((xs : List ℤ) → tuple.now ≢ word (codes "node") ∷ numbers xs ∷ [])
+        (λ list. tuple.now ≡ word (codes "node") ∷ numbers list.now ∷ []) }
+{
+    match tuple.fields() {
+        [name, Field::List(list)] if is_word("node", name) => Some(list.as_slice()),
+        _ => None,
+    }
+}
+
+/// Where a worker stands after a thought that was due: whether the node was thought on.
+pub(crate) fn stage_thought(stage: Stage, considered: bool) -> Stage
+    ensures { (t : TxnValue) (number : ℕ) → stage ≡ Taken t number → result ≡ stage_after considered t }
+{
+    match stage {
+        Stage::Taken(txn, _) => {
+            if considered {
+                Stage::Considered(txn)
+            } else {
+                Stage::GivingUp(txn)
+            }
+        }
+        stage => stage,
+    }
+}
