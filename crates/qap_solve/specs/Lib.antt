@@ -1,3 +1,4 @@
+pub mod Options
 pub mod Refusal
 pub mod Solution
 pub mod Solving

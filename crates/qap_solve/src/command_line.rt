@@ -1,6 +1,9 @@
 //! What the command line asks for.
 
-use crate::options::Options;
+ghost use Rattle.std.specs.Prelude.{IfOk};
+ghost use Rattle.qap_solve.specs.Options.{AreLimited, MayRun};
+
+use crate::options::{MAX_LEASE_MS, MAX_WORKERS, Options};
 use clap::error::ErrorKind;
 use clap::{Arg, ArgAction, ArgMatches, Command, value_parser};
 use std::alloc::{AllocError, Global};
@@ -53,7 +56,9 @@ impl From<clap::Error> for CommandError {
 }
 
 /// What the words of a command line ask for, the program's name being the first.
-pub fn parse(alloc: Global, words: &[String]) -> Result<Request, CommandError> {
+pub fn parse(alloc: Global, words: &[String]) -> Result<Request, CommandError>
+    ensures { IfOk result MayRun }
+{
     let command = Command::new(alloc, "qapsolve")
         .subcommand_required(true)
         .subcommand(solve_command(alloc)?)?
@@ -70,11 +75,11 @@ pub fn parse(alloc: Global, words: &[String]) -> Result<Request, CommandError> {
 fn solve_command<'a>(alloc: Global) -> Result<Command<'a>, AllocError> {
     let workers = Arg::new(alloc, "workers")
         .long("workers")
-        .value_parser(value_parser!(u16).range(1..=64))
+        .value_parser(value_parser!(u16).range(1..=i64::from(MAX_WORKERS)))
         .default_value("4");
     let lease = Arg::new(alloc, "lease")
         .long("lease")
-        .value_parser(value_parser!(u64).range(1..=86_400_000))
+        .value_parser(value_parser!(u64).range(1..=MAX_LEASE_MS as i64))
         .default_value("600000");
     let cert = Arg::new(alloc, "cert")
         .long("cert")
@@ -85,15 +90,12 @@ fn solve_command<'a>(alloc: Global) -> Result<Command<'a>, AllocError> {
         .arg(cert)
 }
 
-/// The options that were found, each of which has a default.
-fn options_of(found: &ArgMatches<'_>) -> Result<Options, CommandError> {
+/// The options that were found: each has a default.
+fn options_of(found: &ArgMatches<'_>) -> Result<Options, CommandError>
+    ensures { IfOk result AreLimited }
+{
     let (Some(workers), Some(lease_ms)) = (found.get_one("workers"), found.get_one("lease")) else {
         return Err(CommandError::Usage);
     };
-    let cert = found.get_flag("cert");
-    Ok(Options {
-        workers,
-        lease_ms,
-        cert,
-    })
+    Options::new(workers, lease_ms, found.get_flag("cert")).ok_or(CommandError::Usage)
 }

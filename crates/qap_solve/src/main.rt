@@ -2,13 +2,19 @@
 #![tactic(auto)]
 
 mod command_line;
+mod elapsed;
 mod options;
 mod refusal;
 mod solving;
 
+ghost use Rattle.std.specs.Prelude.{IfOk};
+ghost use Rattle.qap_solve.specs.Options.{AreLimited, MayRun};
+
 use command_line::{CommandError, Request, USAGE, parse};
+use elapsed::Elapsed;
 use options::Options;
 use qap_io::{Counted, Status, finish};
+use qap_search::Always;
 use refusal::{RunError, fault_line, status};
 use solving::solve_stream;
 use space_script::{ScriptError, run_script};
@@ -17,6 +23,8 @@ use std::io::{BufWriter, Stdout};
 use std::process::ExitCode;
 use std::rt::Env;
 use std::sync::Wait;
+use std::thread::Threads;
+use std::time::Clock;
 
 #[cfg(test)]
 mod tests;
@@ -47,24 +55,43 @@ fn usage(rt: &HostRuntime) -> ExitCode {
 }
 
 /// What the program's own command line asks for.
-fn requested(rt: &(impl Env + AllocGlobal)) -> Result<Request, CommandError> {
+fn requested(rt: &(impl Env + AllocGlobal)) -> Result<Request, CommandError>
+    ensures { IfOk result MayRun }
+{
     let words: Vec<String> = env::args(rt)?.collect(rt.alloc())?;
     parse(rt.alloc(), &words)
 }
 
-/// Answers a request on standard output. Solving may wait, which `wait` is the leave for.
-fn run<T: Wait>(wait: &T, rt: &HostRuntime, request: Request) -> Result<(), RunError> {
+/// Answers a request on standard output. `system` is what threads, waiting and the time are asked of.
+fn run<T>(system: &T, rt: &HostRuntime, request: Request) -> Result<(), RunError>
+where
+    T: Threads + Wait + Clock + Sync,
+    requires { MayRun request }
+{
     match request {
-        Request::Solve(options) => solve(wait, rt, &options),
+        Request::Solve(options) => solve(system, rt, &options),
         Request::Script => script(rt),
     }
 }
 
 /// Solves the instance on standard input.
-fn solve<T: Wait>(wait: &T, rt: &HostRuntime, options: &Options) -> Result<(), RunError> {
+fn solve<T>(system: &T, rt: &HostRuntime, options: &Options) -> Result<(), RunError>
+where
+    T: Threads + Wait + Clock + Sync,
+    requires { AreLimited options.now }
+{
     let mut input = Counted::new(rt.stdin());
     let mut output = Counted::new(buffered(rt)?);
-    solve_stream(wait, rt.alloc(), &mut input, &mut output, options)
+    let clock = Elapsed::new(system);
+    solve_stream(
+        system,
+        rt.alloc(),
+        &mut input,
+        &mut output,
+        options,
+        &clock,
+        &Always,
+    )
 }
 
 /// Runs the script on standard input. Replies that stood written before memory ran out still go out.

@@ -1,12 +1,39 @@
 //! How an instance is to be solved.
 
+ghost use Rattle.std.specs.Prelude.{◌≡◌, MatchOption};
+ghost use Rattle.qap_solve.specs.Options.{AreLimited};
+
+/// The most workers.
+pub const MAX_WORKERS: u16 = 64;
+
+/// The longest lease, in milliseconds: a day.
+pub const MAX_LEASE_MS: u64 = 86_400_000;
+
 /// How an instance is to be solved.
 #[derive(Clone, Copy, Debug, PartialEq, Eq)]
 pub struct Options {
-    /// How many workers search, from 1 to 64. One does, whatever stands here.
+    /// How many workers search, each in a thread of its own: from 1 to 64.
     pub workers: u16,
-    /// For how many milliseconds a worker's transaction is leased, from 1 to 86,400,000.
+    /// For how many milliseconds a worker's transaction is leased: from 1 to 86,400,000.
     pub lease_ms: u64,
     /// Whether the certificate is written in place of the solution.
     pub cert: bool,
+}
+
+impl Options {
+    /// The options of these values; `None` where the workers or the lease lie outside their limits.
+    pub fn new(workers: u16, lease_ms: u64, cert: bool) -> Option<Options>
+        ensures { MatchOption result
+            (AreLimited (record { workers = workers; lease_ms = lease_ms; cert = cert }) → ⊥)
+            (λ options. (options ≡ record { workers = workers; lease_ms = lease_ms; cert = cert }) × AreLimited options) }
+    {
+        if workers == 0 || workers > MAX_WORKERS || lease_ms == 0 || lease_ms > MAX_LEASE_MS {
+            return None;
+        }
+        Some(Options {
+            workers,
+            lease_ms,
+            cert,
+        })
+    }
 }

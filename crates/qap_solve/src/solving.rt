@@ -4,6 +4,7 @@ ghost use Rattle.std.specs.Prelude.{◌≡◌, ◌⊎◌, ◌<◌, ℕ, List, Ma
 ghost use Rattle.qap_cert.specs.Certificate.{Certifies, IsCertificate};
 ghost use Rattle.qap_cost.specs.Instance.{IsInstance, Problem};
 ghost use Rattle.qap_io.specs.Writing.{Sends};
+ghost use Rattle.qap_solve.specs.Options.{AreLimited};
 ghost use Rattle.qap_solve.specs.Solution.{IsLeastText, IsOutput, IsProofText};
 ghost use Rattle.qap_solve.specs.Solving.{HasInstance, Input, IsUnsolved, Solves, Stops};
 ghost use Rattle.qap_solve.specs.declared.refusal.RunError.TheVariants.{OutOfMemory, Unfinished};
@@ -13,11 +14,13 @@ use crate::refusal::RunError;
 use qap_cert::{CertError, Certificate, certified_law, write};
 use qap_cost::Instance;
 use qap_io::Counted;
-use qap_search::{Answer, solve_alone};
+use qap_search::{Clock, Gate, solve};
 use qap_text::{TextError, read_all, read_instance, write_solution};
 use std::alloc::Global;
 use std::io::{Read, Write};
 use std::sync::Wait;
+use std::thread::Threads;
+use std::time;
 
 /// The most bytes that are read of an instance's input.
 pub const MAX_INPUT: usize = 1_073_741_824;
@@ -27,20 +30,29 @@ pub const MAX_INPUT: usize = 1_073_741_824;
 ///
 /// All of the input is read; what follows the instance means nothing. Where there is no answer, nothing is written. Where
 /// memory runs out in writing, or the writer fails, a beginning of the right text has gone out.
-pub fn solve_stream<T: Wait, R: Read, W: Write>(
+pub fn solve_stream<T, R, W, C, G>(
     rt: &T,
     alloc: Global,
     reader: &mut Counted<R>,
     writer: &mut Counted<W>,
     options: &Options,
+    clock: &C,
+    gate: &G,
 ) -> Result<(), RunError>
+where
+    T: Threads + Wait + time::Clock + Sync,
+    R: Read,
+    W: Write,
+    C: Clock,
+    G: Gate + Sync,
+    requires { AreLimited options.now }
     ensures { let s : Input R = record { bytes = R.remaining; limit = MAX_INPUT; before = reader.old; after = reader.new } in MatchResult result
         (λ _. (text : List ℕ) × Solves s options.now.cert text × Sends W.contents writer.old writer.new text)
         (λ e. (IsUnsolved s e × (writer.new ≡ writer.old))
         ⊎ ((text : List ℕ) × Solves s options.now.cert text × Stops W.contents writer.old writer.new text e)) }
 {
     let instance = read_problem(alloc, reader)?;
-    let certificate = solved(rt, alloc, &instance, options.lease_ms)?;
+    let certificate = solved(rt, alloc, &instance, options, clock, gate)?;
     put_answer(alloc, writer, options.cert, &instance, &certificate)
 }
 
@@ -55,17 +67,29 @@ fn read_problem<R: Read>(alloc: Global, reader: &mut Counted<R>) -> Result<Insta
 }
 
 /// A certificate of the instance's least cost.
-fn solved<T: Wait>(
+fn solved<T, C, G>(
     rt: &T,
     alloc: Global,
     instance: &Instance,
-    lease_ms: u64,
+    options: &Options,
+    clock: &C,
+    gate: &G,
 ) -> Result<Certificate, RunError>
+where
+    T: Threads + Wait + time::Clock + Sync,
+    C: Clock,
+    G: Gate + Sync,
+    requires { AreLimited options.now }
     ensures { MatchResult result
         (λ c. IsCertificate c × Certifies instance.now c × (c.bound ≡ c.cost))
         (λ e. ((count : ℕ) × (0 < count) × (e ≡ Unfinished count)) ⊎ (e ≡ OutOfMemory)) }
 {
-    let answer = solve_alone(rt, alloc, instance, lease_ms)?;
+    let Options {
+        workers,
+        lease_ms,
+        ..
+    } = *options;
+    let answer = solve(rt, alloc, instance, workers, lease_ms, clock, gate)?;
     Ok(answer.certificate)
 }
 

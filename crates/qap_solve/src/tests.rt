@@ -1,16 +1,21 @@
 //! Runs over memory: what is written, what is told, and the exit status; and the command line.
 
+ghost use Rattle.qap_solve.specs.Options.{AreLimited};
+
 use crate::command_line::{CommandError, Request, USAGE, parse};
 use crate::options::Options;
 use crate::refusal::{RunError, fault_line, status};
 use crate::solving::solve_stream;
 use qap_cert::{Verdict, accept, read, write};
 use qap_io::{Counted, FailAt, OneByte};
+use qap_search::{Always, Clock};
 use qap_text::{TextError, read_instance};
 use space_script::ScriptError;
 use std::alloc::{AllocError, Global};
 use std::sync::Wait;
 use std::test::Fail;
+use std::thread::Threads;
+use std::time;
 
 /// Two facilities, of which the order 1 2 costs 11 and the other 17.
 const TWO: &[u8] = b"2 0 3 1 0 0 2 5 0";
@@ -27,21 +32,47 @@ struct Outcome {
     status: u8,
 }
 
-/// One worker, with leases of ten minutes.
-fn options(cert: bool) -> Options {
-    Options {
-        workers: 1,
-        lease_ms: 600_000,
-        cert,
+/// A clock that stands.
+struct Stopped;
+
+impl Clock for Stopped {
+    fn now(&self) -> u64 {
+        0
     }
 }
 
+/// One worker, with leases of ten minutes.
+const ONE: Options = Options {
+    workers: 1,
+    lease_ms: 600_000,
+    cert: false,
+};
+
+/// The same, where the certificate is asked for.
+const PROVING: Options = Options {
+    workers: 1,
+    lease_ms: 600_000,
+    cert: true,
+};
+
 /// A run on a text.
-fn run<T: Wait>(wait: &T, alloc: Global, text: &[u8], cert: bool) -> Outcome {
+fn run<T>(system: &T, alloc: Global, text: &[u8], options: &Options) -> Outcome
+where
+    T: Threads + Wait + time::Clock + Sync,
+    requires { AreLimited options.now }
+{
     let mut reader = Counted::new(text);
     let mut output = Counted::new(Vec::new(alloc));
     let mut errors = Counted::new(Vec::new(alloc));
-    let solved = solve_stream(wait, alloc, &mut reader, &mut output, &options(cert));
+    let solved = solve_stream(
+        system,
+        alloc,
+        &mut reader,
+        &mut output,
+        options,
+        &Stopped,
+        &Always,
+    );
     let status = match solved {
         Ok(()) => 0,
         Err(error) => {
@@ -66,9 +97,19 @@ fn least_permutations(rt: HostRuntime) {
         (b"2 0 -1 2 0 0 3 -4 0 and more", b"2 -11\n1 2\n"),
     ];
     for (text, want) in cases {
-        let run = run(&rt, rt.alloc(), text, false);
+        let run = run(&rt, rt.alloc(), text, &ONE);
         assert_eq!(rt; run.output.as_slice(), want);
         assert_eq!(rt; run.errors.as_slice(), b"".as_slice());
+        assert_eq!(rt; run.status, 0);
+    }
+}
+
+#[test]
+fn many_workers(rt: HostRuntime) {
+    for workers in [1, 2, 8] {
+        let options = Options { workers, ..ONE };
+        let run = run(&rt, rt.alloc(), THREE, &options);
+        assert_eq!(rt; run.output.as_slice(), b"3 24\n1 2 3\n".as_slice());
         assert_eq!(rt; run.status, 0);
     }
 }
@@ -77,7 +118,7 @@ fn least_permutations(rt: HostRuntime) {
 #[test]
 fn nothing_costs_anything(rt: HostRuntime) {
     let zeros = b"4 0 0 0 0 0 0 0 0 0 0 0 0 0 0 0 0 0 0 0 0 0 0 0 0 0 0 0 0 0 0 0 0";
-    let run = run(&rt, rt.alloc(), zeros, false);
+    let run = run(&rt, rt.alloc(), zeros, &ONE);
     assert!(rt; run.output.starts_with(b"4 0\n"));
     assert_eq!(rt; (run.output.len(), run.status), (12, 0));
 }
@@ -87,7 +128,7 @@ fn certificates(rt: HostRuntime) -> Result<(), Fail> {
     let alloc = rt.alloc();
     let cases: [(&[u8], i128); 3] = [(THREE, 24), (SPLIT, 6), (TWO, 11)];
     for (text, cost) in cases {
-        let run = run(&rt, alloc, text, true);
+        let run = run(&rt, alloc, text, &PROVING);
         let (instance, _) = read_instance(alloc, text)?;
         assert_eq!(rt;
             accept(alloc, &instance, &run.output),
@@ -105,7 +146,7 @@ fn certificates(rt: HostRuntime) -> Result<(), Fail> {
 // The root is split on its second facility, and each of its three children is closed.
 #[test]
 fn a_split_is_told(rt: HostRuntime) -> Result<(), Fail> {
-    let run = run(&rt, rt.alloc(), SPLIT, true);
+    let run = run(&rt, rt.alloc(), SPLIT, &PROVING);
     let mut lines = run.output.split(|byte| *byte == b'\n');
     assert_eq!(rt; lines.nth(2), Some(b"cost 6".as_slice()));
     assert_eq!(rt; lines.nth(1), Some(b"s 2".as_slice()));
@@ -125,7 +166,7 @@ fn refused_instances(rt: HostRuntime) {
         (b", ,", b"refused 1 Empty\n"),
     ];
     for (text, want) in cases {
-        let run = run(&rt, rt.alloc(), text, false);
+        let run = run(&rt, rt.alloc(), text, &ONE);
         assert_eq!(rt; run.errors.as_slice(), want);
         assert_eq!(rt; run.output.as_slice(), b"".as_slice());
         assert_eq!(rt; run.status, 1);
@@ -138,7 +179,15 @@ fn reads_fail(rt: HostRuntime) {
     for call in 1..=TWO.len() + 1 {
         let mut reader = Counted::new(OneByte::new(FailAt::new(TWO, call as u64)));
         let mut output = Counted::new(Vec::new(rt.alloc()));
-        let solved = solve_stream(&rt, rt.alloc(), &mut reader, &mut output, &options(false));
+        let solved = solve_stream(
+            &rt,
+            rt.alloc(),
+            &mut reader,
+            &mut output,
+            &ONE,
+            &Stopped,
+            &Always,
+        );
         assert_eq!(rt; solved, Err(RunError::Device));
         assert_eq!(rt; reader.failed(), 1);
         assert_eq!(rt; output.into_inner().as_slice(), b"".as_slice());
@@ -153,7 +202,15 @@ fn writes_fail(rt: HostRuntime) {
         let failing = OneByte::new(FailAt::new(Vec::new(rt.alloc()), call as u64));
         let mut output = Counted::new(failing);
         let mut reader = Counted::new(TWO);
-        let solved = solve_stream(&rt, rt.alloc(), &mut reader, &mut output, &options(false));
+        let solved = solve_stream(
+            &rt,
+            rt.alloc(),
+            &mut reader,
+            &mut output,
+            &ONE,
+            &Stopped,
+            &Always,
+        );
         assert_eq!(rt; solved, Err(RunError::Device));
         assert_eq!(rt; (output.failed(), output.is_flushed()), (1, false));
         let written = output.into_inner().into_inner().into_inner();

@@ -1,0 +1,17 @@
+-- Within which limits an instance may be asked to be solved.
+use Rattle.std.specs.Prelude.{◌<◌, ◌≤◌}
+use Rattle.qap_solve.specs.declared.command_line.Request.{Request}
+use Rattle.qap_solve.specs.declared.command_line.Request.TheVariants.{Solve, Script}
+use Rattle.qap_solve.specs.declared.options.Options.{Options}
+
+-- 1 to 64 workers, and leases of 1 ms to a day
+pub record AreLimited (o : Options) : Type 0 where
+  pub some : 0 < o.workers
+  pub few : o.workers ≤ 64
+  pub leased : 0 < o.lease_ms
+  pub short : o.lease_ms ≤ 86400000
+
+-- what is asked for may be done
+abbrev pub MayRun : Request → Type 0
+MayRun (Solve options) = AreLimited options
+MayRun Script = Unit {0}
