@@ -28,7 +28,8 @@ use Rattle.space_txn.specs.declared.mark.Mark.{Mark}
 use Rattle.space_txn.specs.declared.txn.Found.{Found}
 use Rattle.space_txn.specs.declared.txn.Found.TheVariants.{Entry as Stored, Own}
 use Rattle.space_txn.proofs.CommitLemmas.{Stays, stays_as_held}
-use Rattle.space_txn.proofs.MarkLemmas.{hold_at, marks_above, marks_after, rising_head, rising_tail, with_mark_here, with_mark_later}
+use Rattle.tuple_space.proofs.RowLemmas.{rising_head, rising_tail}
+use Rattle.space_txn.proofs.MarkLemmas.{hold_at, marks_above, marks_after, with_mark_here, with_mark_later}
 
 both_true : (a b : Bool) → (a && b) ≡ true → (a ≡ true) × (b ≡ true)
 both_true true b e = (refl, e)

@@ -1,52 +1,53 @@
-use Rattle.std.proofs.Common.{◌≡◌, Bool, ⊎_elim, subst, ℕ, zero, suc, ◌+◌, ◌<◌, ◌≤◌, List, [], ◌∷◌, ◌++◌, false, length, get_or, drop, Option, Some, None, ap, ◌∙◌, sym, refl, cond, eqb, ltb, arith}
-use Rattle.std.specs.Prelude.{find, insert, All}
+use Rattle.std.proofs.Common.{◌≡◌, Bool, ⊎_elim, subst, ℕ, zero, suc, ◌+◌, ◌<◌, ◌≤◌, List, [], ◌∷◌, true, false, length, get_or, drop, Option, Some, None, ap, ◌∙◌, sym, refl, cond, eqb, ltb, arith}
+use Rattle.std.specs.Prelude.{find, filter, insert, All}
 use Rattle.std.proofs.lemmas.List.Elements.{All-head, All-tail, All-cons, All-nil}
 use Rattle.tuple_space.specs.Holds.{holds_with}
 use Rattle.tuple_space.specs.Lease.{is_permanent}
 use Rattle.tuple_space.specs.Entry.{is_held}
-use Rattle.tuple_space.specs.Rows.{HasUnheldFront, IsRising, changed}
+use Rattle.tuple_space.specs.Rows.{IsRising, changed}
+use Rattle.tuple_space.specs.Held.{AreRising, HasHeld, is_among}
 use Rattle.tuple_space.specs.Space.{held_by}
 use Rattle.tuple_space.proofs.PartLemmas.{unheld_as}
-use Rattle.tuple_space.proofs.RowLemmas.{HasNone, changed_none}
+use Rattle.tuple_space.proofs.RowLemmas.{HasNone, changed_none, find_none, rising_head, rising_tail}
 use Rattle.std.proofs.Math.ListN.{set}
-use Rattle.std.specs.List.{AllWithin, HoldsAt, cons_option}
-use Rattle.std.specs.Option.{option_map}
+use Rattle.std.specs.List.{AllWithin, HoldsAt, cons_option, filter_map}
+use Rattle.std.specs.Option.{option_and_then, option_map}
 use Rattle.std.proofs.lemmas.List.{drop_more}
-use Rattle.std.proofs.lemmas.Bool.{cond-true, cond-false, eq-eqb, ne_eqb, lt-ltb, le-ltb, cases_Bool}
+use Rattle.std.proofs.lemmas.Bool.{cond-true, cond-false, eq-eqb, eqb-true, false≢true, ne_eqb, lt-ltb, le-ltb, cases_Bool, or_cases, or_from, or_left, or_right}
 use Rattle.tuple_space.specs.declared.entry.Entry.{Entry}
 use Rattle.tuple_space.specs.declared.hold.Hold.{Hold}
 use Rattle.space_txn.specs.declared.mark.Mark.{Mark}
-use Rattle.space_txn.specs.Marks.{mark_from, mark_of, marks_of, new_mark, with_mark}
+use Rattle.space_txn.specs.Marks.{mark_at, mark_from, mark_of, marks_of, new_mark, with_mark}
 
--- the rest of the marks is that of the entries from a place on, just where all are those of all entries
-pub record Tracks (number : ℕ) (marks : List Mark) (es : List Entry) (rest : List Mark) (i : ℕ) : Type 0 where
-  pub forth : rest ≡ marks_of number (drop i es) → marks ≡ marks_of number es
-  pub back : marks ≡ marks_of number es → rest ≡ marks_of number (drop i es)
+-- the rest of the marks is that of the things from a place on, just where all are those of all things
+pub record Tracks {X : Type 0} (mark : X → Option Mark) (marks : List Mark) (xs : List X) (rest : List Mark) (i : ℕ) : Type 0 where
+  pub forth : rest ≡ filter_map mark (drop i xs) → marks ≡ filter_map mark xs
+  pub back : marks ≡ filter_map mark xs → rest ≡ filter_map mark (drop i xs)
 
 -- the hold that a transaction has of an entry
 abbrev pub hold_at : ℕ → Entry → Option Hold
 hold_at number e = find (λ (h : Hold). eqb h.by number) e.holds
 
-marks_at : (number : ℕ) (es : List Entry) (i : ℕ) (e : Entry) → i < length es → e ≡ get_or es i e → marks_of number (drop i es) ≡ cons_option (mark_of number e) (marks_of number (drop (i + 1) es))
-marks_at number es i e lt is =
-    ap (marks_of number) (drop_more es i e lt) ∙ ap (λ (x : Entry). cons_option (mark_of number x) (marks_of number (drop (i + 1) es))) (sym is)
+marks_from : {X : Type 0} (mark : X → Option Mark) (xs : List X) (i : ℕ) (x : X) → i < length xs → x ≡ get_or xs i x → filter_map mark (drop i xs) ≡ cons_option (mark x) (filter_map mark (drop (i + 1) xs))
+marks_from mark xs i x lt is =
+    ap (filter_map mark) (drop_more xs i x lt) ∙ ap (λ y. cons_option (mark y) (filter_map mark (drop (i + 1) xs))) (sym is)
 
 cons_same : {X : Type 0} (o : Option X) (xs ys : List X) → cons_option o xs ≡ cons_option o ys → xs ≡ ys
 cons_same None xs ys e = e
 cons_same (Some x) xs ys e = cc
 
-pub Tracks-more : (number : ℕ) (marks : List Mark) (es : List Entry) (rest behind : List Mark) (i : ℕ) (e : Entry) → i < length es → e ≡ get_or es i e → rest ≡ cons_option (mark_of number e) behind → Tracks number marks es rest i → Tracks number marks es behind (i + 1)
-Tracks-more number marks es rest behind i e lt is parts h =
-    let all = marks_of number (drop (i + 1) es) in
-    let same = marks_at number es i e lt is in
+pub Tracks-more : {X : Type 0} (mark : X → Option Mark) (marks : List Mark) (xs : List X) (rest behind : List Mark) (i : ℕ) (x : X) → i < length xs → x ≡ get_or xs i x → rest ≡ cons_option (mark x) behind → Tracks mark marks xs rest i → Tracks mark marks xs behind (i + 1)
+Tracks-more mark marks xs rest behind i x lt is parts h =
+    let all = filter_map mark (drop (i + 1) xs) in
+    let same = marks_from mark xs i x lt is in
     record {
-      forth = λ x. h.forth (parts ∙ ap (λ (l : List Mark). cons_option (mark_of number e) l) x ∙ sym same);
-      back = λ y. cons_same (mark_of number e) behind all (sym parts ∙ h.back y ∙ same);
+      forth = λ e. h.forth (parts ∙ ap (λ (l : List Mark). cons_option (mark x) l) e ∙ sym same);
+      back = λ e. cons_same (mark x) behind all (sym parts ∙ h.back e ∙ same);
     }
 
--- where the rest doesn't begin with the mark on the next entry, the marks aren't the transaction's
-pub marks_differ : (number : ℕ) (marks : List Mark) (es : List Entry) (rest : List Mark) (i : ℕ) (e : Entry) → i < length es → e ≡ get_or es i e → ((behind : List Mark) → rest ≡ cons_option (mark_of number e) behind → ⊥) → Tracks number marks es rest i → marks ≡ marks_of number es → ⊥
-marks_differ number marks es rest i e lt is other h y = other (marks_of number (drop (i + 1) es)) (h.back y ∙ marks_at number es i e lt is)
+-- where the rest doesn't begin with the next mark, the marks aren't these
+pub marks_differ : {X : Type 0} (mark : X → Option Mark) (marks : List Mark) (xs : List X) (rest : List Mark) (i : ℕ) (x : X) → i < length xs → x ≡ get_or xs i x → ((behind : List Mark) → rest ≡ cons_option (mark x) behind → ⊥) → Tracks mark marks xs rest i → marks ≡ filter_map mark xs → ⊥
+marks_differ mark marks xs rest i x lt is other h e = other (filter_map mark (drop (i + 1) xs)) (h.back e ∙ marks_from mark xs i x lt is)
 
 -- a mark written over the one on the same entry
 pub with_mark_set : (m : Mark) (xs : List Mark) (i : ℕ) → i < length xs → AllWithin (λ x. x.entry < m.entry) xs 0 i → HoldsAt (λ x. x.entry ≡ m.entry) xs i → set xs i m ≡ with_mark m xs
@@ -114,12 +115,6 @@ marks_above least number [] h = All-nil (λ (x : Mark). least < x.entry)
 marks_above least number (e ∷ es) h =
     above_cons least e (hold_at number e) (marks_of number es) (All-head (λ (e : Entry). least < e.number) e es h) (marks_above least number es (All-tail (λ (e : Entry). least < e.number) e es h))
 
-pub rising_head : (x : Entry) (xs : List Entry) → IsRising (x ∷ xs) → All (λ (y : Entry). x.number < y.number) xs
-rising_head x xs h = λ k d lt. h 0 (suc k) d (omega arith) (omega arith)
-
-pub rising_tail : (x : Entry) (xs : List Entry) → IsRising (x ∷ xs) → IsRising xs
-rising_tail x xs h = λ i j d below within. h (suc i) (suc j) d (omega arith) (omega arith)
-
 -- the marks of a transaction after it marked an entry
 pub marks_after : (number : ℕ) (taken : Bool) (es : List Entry) (i : ℕ) (e : Entry) → IsRising es → i < length es → get_or es i e ≡ e → with_mark (new_mark e taken) (marks_of number es) ≡ marks_of number (changed e.number (held_by number taken) es)
 marks_after number taken [] i e rising lt is = absurd (omega arith)
@@ -144,12 +139,95 @@ marks_after number taken (x ∷ xs) (suc i) e rising lt is =
     ∙ ap (λ (l : List Mark). cons_option (mark_of number x) l) (marks_after number taken xs i e (rising_tail x xs rising) within is)
     ∙ sym (ap (λ (y : Entry). marks_of number (y ∷ changed e.number (held_by number taken) xs)) other)
 
--- nobody has marks on entries that nobody holds
-marks_quiet : (number : ℕ) (front part : List Entry) → All (λ e. is_held e ≡ false) front → marks_of number (front ++ part) ≡ marks_of number part
-marks_quiet number [] part h = refl
-marks_quiet number (x ∷ xs) part h =
-    unheld_as (λ (e : Entry). marks_of number (e ∷ (xs ++ part)) ≡ marks_of number (xs ++ part)) x (All-head (λ (e : Entry). is_held e ≡ false) x xs h) refl
-    ∙ marks_quiet number xs part (All-tail (λ (e : Entry). is_held e ≡ false) x xs h)
+-- the entries that have one of some numbers
+abbrev numbered : List ℕ → List Entry → List Entry
+numbered ns es = filter (λ e. is_among e.number ns) es
 
-pub marks_part : (number : ℕ) (es part : List Entry) → HasUnheldFront es part → marks_of number es ≡ marks_of number part
-marks_part number es part h = ap (marks_of number) h.is ∙ marks_quiet number h.front part h.unheld
+unmarked : (held among : Bool) → (held ≡ true → among ≡ true) → among ≡ false → held ≡ false
+unmarked true among has none = absurd (false≢true (sym none ∙ has refl))
+unmarked false among has none = refl
+
+not_both : (b : Bool) → (b ≡ true → ⊥) → b ≡ false
+not_both true none = absurd (none refl)
+not_both false none = refl
+
+-- nobody has marks on entries that nobody holds
+marks_noted : (number : ℕ) (ns : List ℕ) (es : List Entry) → All (λ e. is_held e ≡ true → is_among e.number ns ≡ true) es → marks_of number es ≡ marks_of number (numbered ns es)
+marks_noted number ns [] h = refl
+marks_noted number ns (x ∷ xs) h =
+    let P : Entry → Type 0 = λ e. is_held e ≡ true → is_among e.number ns ≡ true in
+    let rest = marks_noted number ns xs (All-tail P x xs h) in
+    ⊎_elim
+    (λ noted. ap (λ l. cons_option (mark_of number x) l) rest ∙ sym (ap (marks_of number) (cond-true (is_among x.number ns) (x ∷ numbered ns xs) (numbered ns xs) noted)))
+    (λ other. unheld_as (λ (e : Entry). marks_of number (e ∷ xs) ≡ marks_of number xs) x (unmarked (is_held x) (is_among x.number ns) (All-head P x xs h) other) refl
+    ∙ rest ∙ sym (ap (marks_of number) (cond-false (is_among x.number ns) (x ∷ numbered ns xs) (numbered ns xs) other)))
+    (cases_Bool (is_among x.number ns))
+
+-- a number that is among some isn't below all of them
+above_least : (n m : ℕ) (ns : List ℕ) → All (λ k. n < k) ns → is_among m ns ≡ true → n < m
+above_least n m [] h among = absurd (false≢true among)
+above_least n m (k ∷ ks) h among = ⊎_elim
+    (λ same. let is = eqb-true m k same in let less : n < k = All-head (λ (k : ℕ). n < k) k ks h in omega arith)
+    (λ behind. above_least n m ks (All-tail (λ (k : ℕ). n < k) k ks h) behind)
+    (or_cases (eqb m k) (is_among m ks) among)
+
+numbers_head : (n : ℕ) (ns : List ℕ) → AreRising (n ∷ ns) → All (λ k. n < k) ns
+numbers_head n ns h = λ k d lt. h 0 (suc k) d (omega arith) (omega arith)
+
+numbers_tail : (n : ℕ) (ns : List ℕ) → AreRising (n ∷ ns) → AreRising ns
+numbers_tail n ns h = λ i j d below within. h (suc i) (suc j) d (omega arith) (omega arith)
+
+none_above : (n : ℕ) (x : Entry) (xs : List Entry) → IsRising (x ∷ xs) → n ≤ x.number → find (λ (e : Entry). eqb e.number n) xs ≡ None
+none_above n x xs rising le = sym (find_none n xs (λ k d lt same. (let less = rising_head x xs rising k d lt in omega arith)))
+
+-- the entries that have one of some numbers: that of the first number, and those of the others
+numbered_more : (n : ℕ) (ns : List ℕ) (es : List Entry) → AreRising (n ∷ ns) → IsRising es
+    → numbered (n ∷ ns) es ≡ cons_option (find (λ (e : Entry). eqb e.number n) es) (numbered ns es)
+numbered_more n ns [] h rising = refl
+numbered_more n ns (x ∷ xs) h rising =
+    let found = find (λ (e : Entry). eqb e.number n) xs in
+    let more = numbered (n ∷ ns) xs in
+    let less = numbered ns xs in
+    let rest : more ≡ cons_option found less = numbered_more n ns xs h (rising_tail x xs rising) in
+    ⊎_elim
+    (λ same.
+    let is : x.number ≡ n = eqb-true x.number n same in
+    let alone = none_above n x xs rising (omega arith) in
+    let far = not_both (is_among x.number ns) (λ among. (let below : n < x.number = above_least n x.number ns (numbers_head n ns h) among in absurd (omega arith))) in
+    cond-true (is_among x.number (n ∷ ns)) (x ∷ more) more (or_left (eqb x.number n) (is_among x.number ns) same)
+    ∙ ap (λ l. x ∷ l) (rest ∙ ap (λ (o : Option Entry). cons_option o less) alone)
+    ∙ sym (ap (λ (o : Option Entry). cons_option o (numbered ns (x ∷ xs))) (cond-true (eqb x.number n) (Some x) found same)
+    ∙ ap (λ l. x ∷ l) (cond-false (is_among x.number ns) (x ∷ less) less far)))
+    (λ other. ⊎_elim
+    (λ among.
+    let below : n < x.number = above_least n x.number ns (numbers_head n ns h) among in
+    let alone = none_above n x xs rising (omega arith) in
+    cond-true (is_among x.number (n ∷ ns)) (x ∷ more) more (or_right (eqb x.number n) (is_among x.number ns) among)
+    ∙ ap (λ l. x ∷ l) (rest ∙ ap (λ (o : Option Entry). cons_option o less) alone)
+    ∙ sym (ap (λ (o : Option Entry). cons_option o (numbered ns (x ∷ xs))) (cond-false (eqb x.number n) (Some x) found other ∙ alone)
+    ∙ cond-true (is_among x.number ns) (x ∷ less) less among))
+    (λ far.
+    cond-false (is_among x.number (n ∷ ns)) (x ∷ more) more (or_from (eqb x.number n) (is_among x.number ns) other far) ∙ rest
+    ∙ sym (ap (λ (o : Option Entry). cons_option o (numbered ns (x ∷ xs))) (cond-false (eqb x.number n) (Some x) found other)
+    ∙ ap (λ l. cons_option found l) (cond-false (is_among x.number ns) (x ∷ less) less far)))
+    (cases_Bool (is_among x.number ns)))
+    (cases_Bool (eqb x.number n))
+
+mark_first : (number : ℕ) (o : Option Entry) (es : List Entry) → marks_of number (cons_option o es) ≡ cons_option (option_and_then (mark_of number) o) (marks_of number es)
+mark_first number None es = refl
+mark_first number (Some e) es = refl
+
+none_numbered : (es : List Entry) → numbered [] es ≡ []
+none_numbered [] = refl
+none_numbered (x ∷ xs) = none_numbered xs
+
+marks_numbered : (number : ℕ) (ns : List ℕ) (es : List Entry) → AreRising ns → IsRising es → marks_of number (numbered ns es) ≡ filter_map (mark_at number es) ns
+marks_numbered number [] es h rising = ap (marks_of number) (none_numbered es)
+marks_numbered number (n ∷ ns) es h rising =
+    ap (marks_of number) (numbered_more n ns es h rising)
+    ∙ mark_first number (find (λ (e : Entry). eqb e.number n) es) (numbered ns es)
+    ∙ ap (λ l. cons_option (mark_at number es n) l) (marks_numbered number ns es (numbers_tail n ns h) rising)
+
+-- the marks of a transaction, by the numbers of the entries that somebody holds
+pub marks_held : (number : ℕ) (ns : List ℕ) (es : List Entry) → IsRising es → HasHeld ns es → marks_of number es ≡ filter_map (mark_at number es) ns
+marks_held number ns es rising h = marks_noted number ns es h.each ∙ marks_numbered number ns es h.rising rising

@@ -1,7 +1,7 @@
 -- The marks that a transaction has put on entries.
 use Rattle.std.specs.Prelude.{◌≡◌, ℕ, ◌==◌, nat_lt, Bool, List, [], ◌∷◌, find, Contains, Option, if◌then◌else◌}
 use Rattle.std.specs.List.{filter_map}
-use Rattle.std.specs.Option.{option_map}
+use Rattle.std.specs.Option.{option_and_then, option_map}
 use Rattle.tuple_space.specs.Lease.{is_permanent}
 use Rattle.tuple_space.specs.declared.entry.Entry.{Entry}
 use Rattle.tuple_space.specs.declared.hold.Hold.{Hold}
@@ -21,6 +21,10 @@ mark_of number e = option_map (mark_from e) (find (λ h. h.by == number) e.holds
 -- the marks of a transaction, in rising order of the entries' numbers: what it took, and what it read and didn't take
 abbrev pub marks_of : ℕ → List Entry → List Mark
 marks_of number entries = filter_map (mark_of number) entries
+
+-- a transaction's mark on the entry of a number, if there is such an entry
+abbrev pub mark_at : ℕ → List Entry → ℕ → Option Mark
+mark_at number entries entry = option_and_then (mark_of number) (find (λ e. e.number == entry) entries)
 
 -- the mark that a transaction puts on an entry now
 abbrev pub new_mark : Entry → Bool → Mark

@@ -1,9 +1,9 @@
 //! The marks that a transaction has put on entries.
 
 ghost use Rattle.std.specs.Prelude.{◌≡◌, ◌+◌, ◌≤◌, ◌<◌, ◌≢◌, ◌↔◌, ◌==◌, IsTrue, is_some, find, List, MatchBool, MatchOption, length, vec_capacity, vec_len};
-ghost use Rattle.std.specs.List.{AllWithin, HoldsAt, cons_option};
+ghost use Rattle.std.specs.List.{AllWithin, HoldsAt, cons_option, filter_map};
 ghost use Rattle.std.specs.Option.{option_copied};
-ghost use Rattle.space_txn.specs.Marks.{IsMarkOf, mark_of, marks_of, with_mark};
+ghost use Rattle.space_txn.specs.Marks.{IsMarkOf, mark_at, mark_of, marks_of, with_mark};
 
 use tuple_match::Tuple;
 use tuple_space::{Entry, Hold, Space};
@@ -48,13 +48,31 @@ fn marks_behind<'a>(rest: &'a [Mark], entry: &Entry, number: u64) -> Option<&'a 
     None
 }
 
-/// Whether these are the marks that a transaction has put on entries.
-fn are_marks_of(marks: &[Mark], entries: &[Entry], number: u64) -> bool
-    ensures { IsTrue result ↔ (marks.now ≡ marks_of number entries.now) }
+/// What of the marks is left behind a transaction's mark on the entry of a number, if there is one and it has one there, or
+/// `None` where the first mark is another one.
+fn marks_behind_at<'a>(
+    rest: &'a [Mark],
+    space: &Space,
+    entry: u64,
+    number: u64,
+) -> Option<&'a [Mark]>
+    ensures { MatchOption result
+        ((behind : List Mark) → rest.now ≢ cons_option (mark_at number space.now.entries entry) behind)
+        (λ behind. rest.now ≡ cons_option (mark_at number space.now.entries entry) behind.now) }
+{
+    match space.entry_numbered(entry) {
+        Some(entry) => marks_behind(rest, entry, number),
+        None => Some(rest),
+    }
+}
+
+/// Whether these are the marks that a transaction has put on the entries of some numbers.
+fn are_marks_at(marks: &[Mark], space: &Space, entries: &[u64], number: u64) -> bool
+    ensures { IsTrue result ↔ (marks.now ≡ filter_map (mark_at number space.now.entries) entries.now) }
 {
     let mut rest = marks;
     for entry in entries {
-        let Some(behind) = marks_behind(rest, entry, number) else {
+        let Some(behind) = marks_behind_at(rest, space, *entry, number) else {
             return false;
         };
         rest = behind;
@@ -66,7 +84,7 @@ fn are_marks_of(marks: &[Mark], entries: &[Entry], number: u64) -> bool
 pub(crate) fn are_marks_in(space: &Space, marks: &[Mark], number: u64) -> bool
     ensures { IsTrue result ↔ (marks.now ≡ marks_of number space.now.entries) }
 {
-    are_marks_of(marks, space.held_part(), number)
+    are_marks_at(marks, space, space.held(), number)
 }
 
 /// The mark on the entry of this number.

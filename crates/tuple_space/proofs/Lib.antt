@@ -1,4 +1,5 @@
 pub mod EntryLemmas
+pub mod HeldLemmas
 pub mod HoldLemmas
 pub mod PartLemmas
 pub mod RowLemmas

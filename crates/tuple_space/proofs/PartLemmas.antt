@@ -1,26 +1,21 @@
--- Rows of entries edited from their end down to a place before which nobody holds one.
-use Rattle.std.proofs.Common.{◌≡◌, ℕ, zero, suc, ◌+◌, ◌<◌, Bool, true, false, List, [], ◌∷◌, ◌++◌, length, get_or, refl, sym, ap, subst, ◌∙◌, cond, arith, append_assoc, append-nil}
-use Rattle.std.specs.Prelude.{not, All, filter, map, remove}
-use Rattle.std.specs.List.{AllWithin, list_any}
+-- Rows of entries edited at the numbers of those that somebody holds.
+use Rattle.std.proofs.Common.{◌≡◌, ℕ, zero, suc, ◌<◌, Bool, true, false, List, [], ◌∷◌, ◌++◌, length, get_or, refl, sym, ap, subst, ◌∙◌, cond, eqb, inl, inr, ⊎_elim, arith, append_assoc}
+use Rattle.std.specs.Prelude.{◌⊎◌, not, All, filter, map, remove}
+use Rattle.std.specs.List.{list_any}
 use Rattle.std.proofs.Math.ListN.{set}
 use Rattle.std.proofs.Math.Seq.{get_or-append_seam, set-append_seam}
-use Rattle.std.proofs.lemmas.Bool.{false≢true}
-use Rattle.std.proofs.lemmas.List.{get_or_append_left}
-use Rattle.std.proofs.lemmas.List.Elements.{All-head, All-tail}
-use Rattle.tuple_space.specs.Entry.{is_held, is_taken_by, unheld}
+use Rattle.std.proofs.lemmas.Bool.{cond-true, cond-false, cond_both, false≢true, or_from, or_left}
+use Rattle.std.proofs.lemmas.List.Elements.{All-cons, All-head, All-nil, All-tail, filter_passes}
+use Rattle.std.proofs.lemmas.List.Kept.{AllPairs-cons}
+use Rattle.std.proofs.lemmas.Map.Views.{any-filter_same}
+use Rattle.tuple_space.specs.Entry.{is_held, is_held_by, is_taken_by, unheld}
+use Rattle.tuple_space.specs.Held.{HasHeld, is_among}
+use Rattle.tuple_space.specs.Holds.{holds_without}
+use Rattle.tuple_space.specs.Rows.{IsRising, edited_at}
 use Rattle.tuple_space.specs.Space.{released, stays_without, without_taken}
 use Rattle.tuple_space.specs.declared.entry.Entry.{Entry}
 use Rattle.tuple_space.specs.declared.hold.Hold.{Hold}
-
--- the last of a list
-last_of : {A : Type 0} (xs : List A) (n : ℕ) → length xs ≡ n + 1 → (ys : List A) × (y : A) × (xs ≡ ys ++ y ∷ []) × (length ys ≡ n)
-last_of [] n is = absurd (omega arith)
-last_of (x ∷ []) zero is = ([], x, refl, refl)
-last_of (x ∷ []) (suc n) is = absurd (omega arith)
-last_of (x ∷ y ∷ l) zero is = absurd (omega arith)
-last_of (x ∷ y ∷ l) (suc n) is =
-    let rest = last_of (y ∷ l) n (omega arith) in
-    (x ∷ rest.0, rest.1, ap (λ k. x ∷ k) rest.2, ap (λ k. suc k) rest.3)
+use Rattle.tuple_space.proofs.RowLemmas.{HasNone, IsOnlyAt, none_behind, none_head, none_tail, only_tail, other_head, rising_head, rising_tail, same_head}
 
 pub remove_seam : (front : List Entry) (e : Entry) (behind : List Entry) → remove (front ++ e ∷ behind) (length front) ≡ front ++ behind
 remove_seam [] e behind = refl
@@ -34,11 +29,16 @@ none_hold (h ∷ hs) none = absurd (false≢true (sym none))
 pub unheld_as : (P : Entry → Type 0) (e : Entry) → is_held e ≡ false → P (record e { holds = [] }) → P e
 unheld_as P e none shown = subst P (ap (λ (hs : List Hold). record e { holds = hs }) (sym (none_hold e.holds none))) shown
 
+-- an edit drops an entry, or leaves one of its number that it would leave again
+abbrev pub EditsOne : (List Entry → List Entry) → Entry → Type 0
+EditsOne edit x = (edit (x ∷ []) ≡ []) ⊎ ((y : Entry) × (edit (x ∷ []) ≡ y ∷ []) × (y.number ≡ x.number) × (edit (y ∷ []) ≡ y ∷ []))
+
 -- an edit that takes entries one by one, and leaves those that nobody holds as they are
 pub record IsEdit (edit : List Entry → List Entry) : Type 0 where
   pub none : edit [] ≡ []
   pub each : (x : Entry) (xs : List Entry) → edit (x ∷ xs) ≡ edit (x ∷ []) ++ edit xs
   pub quiet : (x : Entry) → is_held x ≡ false → edit (x ∷ []) ≡ x ∷ []
+  pub one : (x : Entry) → EditsOne edit x
 
 each_kept : {A : Type 0} (b : Bool) (f : Entry → A) (x : Entry) (xs : List Entry)
     → map f (cond b (x ∷ xs) xs) ≡ map f (cond b (x ∷ []) []) ++ map f xs
@@ -49,11 +49,47 @@ each_left : (b : Bool) (x : Entry) (xs : List Entry) → cond b (x ∷ xs) xs �
 each_left true x xs = refl
 each_left false x xs = refl
 
+-- an entry that goes, and one that stays
+pub released_gone : (holder moment : ℕ) (e : Entry) → stays_without holder moment e ≡ false → released holder moment (e ∷ []) ≡ []
+released_gone holder moment e gone = ap (λ b. map (unheld holder) (cond b (e ∷ []) [])) gone
+
+pub released_stays : (holder moment : ℕ) (e : Entry) → stays_without holder moment e ≡ true → released holder moment (e ∷ []) ≡ unheld holder e ∷ []
+released_stays holder moment e stays = ap (λ b. map (unheld holder) (cond b (e ∷ []) [])) stays
+
+pub taken_gone : (holder : ℕ) (e : Entry) → is_taken_by holder e ≡ true → without_taken holder (e ∷ []) ≡ []
+taken_gone holder e taken = ap (λ b. cond (not b) (e ∷ []) []) taken
+
+pub taken_stays : (holder : ℕ) (e : Entry) → is_taken_by holder e ≡ false → without_taken holder (e ∷ []) ≡ e ∷ []
+taken_stays holder e stays = ap (λ b. cond (not b) (e ∷ []) []) stays
+
+filter_passed : {X : Type 0} (p : X → Bool) (xs : List X) → All (λ x. p x ≡ true) xs → filter p xs ≡ xs
+filter_passed p [] h = refl
+filter_passed {X} p (x ∷ xs) h =
+    let P : X → Type 0 = λ y. p y ≡ true in
+    cond-true (p x) (x ∷ filter p xs) (filter p xs) (All-head P x xs h) ∙ ap (λ l. x ∷ l) (filter_passed p xs (All-tail P x xs h))
+
+-- a holder that lets go holds no more
+gone_by : (holder : ℕ) (holds : List Hold) → list_any (λ (h : Hold). eqb h.by holder) (holds_without holder holds) ≡ false
+gone_by holder holds = any-filter_same (λ (h : Hold). eqb h.by holder) (λ (h : Hold). not (eqb h.by holder)) false (λ h e. ap not e) holds
+
+released_one : (holder moment : ℕ) (x : Entry) (b : Bool) → stays_without holder moment x ≡ b → EditsOne (released holder moment) x
+released_one holder moment x false gone = inl (released_gone holder moment x gone)
+released_one holder moment x true stays =
+    let y = unheld holder x in
+    let free : stays_without holder moment y ≡ true = or_left (not (is_held_by holder y)) _ (ap not (gone_by holder x.holds)) in
+    let twice : unheld holder y ≡ y = ap (λ (hs : List Hold). record x { holds = hs }) (filter_passed (λ (h : Hold). not (eqb h.by holder)) (holds_without holder x.holds) (filter_passes _ x.holds)) in
+    inr (y, released_stays holder moment x stays, refl, released_stays holder moment y free ∙ ap (λ (z : Entry). z ∷ []) twice)
+
+taken_one : (holder : ℕ) (x : Entry) (b : Bool) → is_taken_by holder x ≡ b → EditsOne (without_taken holder) x
+taken_one holder x true taken = inl (taken_gone holder x taken)
+taken_one holder x false stays = inr (x, taken_stays holder x stays, refl, taken_stays holder x stays)
+
 pub release_edits : (holder moment : ℕ) → IsEdit (released holder moment)
 release_edits holder moment = record {
   none = refl;
   each = λ x xs. each_kept (stays_without holder moment x) (unheld holder) x (filter (stays_without holder moment) xs);
   quiet = λ x none. unheld_as (λ e. released holder moment (e ∷ []) ≡ e ∷ []) x none refl;
+  one = λ x. released_one holder moment x _ refl;
 }
 
 pub taking_edits : (holder : ℕ) → IsEdit (without_taken holder)
@@ -61,72 +97,155 @@ taking_edits holder = record {
   none = refl;
   each = λ x xs. each_left (not (is_taken_by holder x)) x (without_taken holder xs);
   quiet = λ x none. unheld_as (λ e. without_taken holder (e ∷ []) ≡ e ∷ []) x none refl;
+  one = λ x. taken_one holder x _ refl;
 }
 
--- from a place on the entries have been edited
-pub record EditedFrom (edit : List Entry → List Entry) (old new : List Entry) (place : ℕ) : Type 0 where
+-- the entry of a number, between those before it and behind it
+pub record IsEditedAt (edit : List Entry → List Entry) (number : ℕ) (es : List Entry) (i : ℕ) : Type 0 where
   pub front : List Entry
+  pub entry : Entry
   pub behind : List Entry
-  pub is : old ≡ front ++ behind
-  pub at : length front ≡ place
-  pub edited : new ≡ front ++ edit behind
+  pub is : es ≡ front ++ entry ∷ behind
+  pub at : length front ≡ i
+  pub edited : edited_at number edit es ≡ front ++ (edit (entry ∷ []) ++ behind)
+
+-- an edit made at all entries but those of these numbers, which are still to come
+pub record IsEditedBut (edit : List Entry → List Entry) (rest : List ℕ) (old now : List Entry) : Type 0 where
+  pub rising : IsRising now
+  pub left : All (λ e. is_among e.number rest ≡ false → edit (e ∷ []) ≡ e ∷ []) now
+  pub same : edit now ≡ edit old
+
+free : (held among : Bool) → (held ≡ true → among ≡ true) → among ≡ false → held ≡ false
+free true among has none = absurd (false≢true (sym none ∙ has refl))
+free false among has none = refl
 
 module _ (edit : List Entry → List Entry) (edits : IsEdit edit) where
-  pub edit_none : (es : List Entry) → EditedFrom edit es es (length es)
-  edit_none es = record {
-    front = es;
-    behind = [];
-    is = sym (append-nil es);
-    at = refl;
-    edited = sym (append-nil es) ∙ ap (λ l. es ++ l) (sym edits.none);
-  }
-
-  pub edit_more : (old now new : List Entry) (place : ℕ) → EditedFrom edit old now (place + 1)
-      → ((front : List Entry) (e : Entry) (behind : List Entry) → now ≡ front ++ e ∷ behind → length front ≡ place → new ≡ front ++ (edit (e ∷ []) ++ behind))
-      → EditedFrom edit old new place
-  edit_more old now new place done one =
-      let last = last_of done.front place done.at in
-      let x = last.1 in
-      let stood : now ≡ last.0 ++ x ∷ edit done.behind = done.edited ∙ ap (λ l. l ++ edit done.behind) last.2 ∙ append_assoc last.0 (x ∷ []) (edit done.behind) in
-      record {
-        front = last.0;
-        behind = x ∷ done.behind;
-        is = done.is ∙ ap (λ l. l ++ done.behind) last.2 ∙ append_assoc last.0 (x ∷ []) done.behind;
-        at = last.3;
-        edited = one last.0 x (edit done.behind) stood last.3 ∙ ap (λ l. last.0 ++ l) (sym (edits.each x done.behind));
-      }
-
   edit_append : (xs ys : List Entry) → edit (xs ++ ys) ≡ edit xs ++ edit ys
   edit_append [] ys = ap (λ l. l ++ edit ys) (sym edits.none)
   edit_append (x ∷ xs) ys =
       edits.each x (xs ++ ys) ∙ ap (λ l. edit (x ∷ []) ++ l) (edit_append xs ys) ∙ sym (append_assoc (edit (x ∷ [])) (edit xs) (edit ys))
       ∙ ap (λ l. l ++ edit ys) (sym (edits.each x xs))
 
-  edit_quiet : (es : List Entry) → All (λ e. is_held e ≡ false) es → edit es ≡ es
+  edited_none : (number : ℕ) (es : List Entry) → HasNone number es → edited_at number edit es ≡ es
+  edited_none number [] h = refl
+  edited_none number (x ∷ xs) h =
+      ap (λ l. l ++ edited_at number edit xs) (cond-false (eqb x.number number) (edit (x ∷ [])) (x ∷ []) (none_head number x xs h))
+      ∙ ap (λ l. x ∷ l) (edited_none number xs (none_tail number x xs h))
+
+  edited_split : (number : ℕ) (es : List Entry) (i : ℕ) → IsOnlyAt number es i → IsEditedAt edit number es i
+  edited_split number [] i h = let w = h.within in absurd (omega arith)
+  edited_split number (x ∷ xs) zero h = record {
+    front = [];
+    entry = x;
+    behind = xs;
+    is = refl;
+    at = refl;
+    edited = ap (λ l. l ++ edited_at number edit xs) (cond-true (eqb x.number number) (edit (x ∷ [])) (x ∷ []) (same_head number x xs h))
+        ∙ ap (λ l. edit (x ∷ []) ++ l) (edited_none number xs (none_behind number x xs h));
+  }
+  edited_split number (x ∷ xs) (suc i) h =
+      let rest = edited_split number xs i (only_tail number x xs i h) in
+      record {
+        front = x ∷ rest.front;
+        entry = rest.entry;
+        behind = rest.behind;
+        is = ap (λ l. x ∷ l) rest.is;
+        at = ap (λ k. suc k) rest.at;
+        edited = ap (λ l. l ++ edited_at number edit xs) (cond-false (eqb x.number number) (edit (x ∷ [])) (x ∷ []) (other_head number x xs i h))
+            ∙ ap (λ l. x ∷ l) rest.edited;
+      }
+
+  -- an edit at a place is one at the number of the entry there
+  pub edited_place : (number : ℕ) (es new : List Entry) (i : ℕ) → IsOnlyAt number es i
+      → ((front : List Entry) (e : Entry) (behind : List Entry) → es ≡ front ++ e ∷ behind → length front ≡ i → new ≡ front ++ (edit (e ∷ []) ++ behind))
+      → new ≡ edited_at number edit es
+  edited_place number es new i only one =
+      let s = edited_split number es i only in
+      one s.front s.entry s.behind s.is s.at ∙ sym s.edited
+
+  -- and there is none where no entry has the number
+  pub edited_nowhere : (number : ℕ) (es : List Entry) → HasNone number es → es ≡ edited_at number edit es
+  edited_nowhere number es none = sym (edited_none number es none)
+
+  again : (x : Entry) → edit (edit (x ∷ [])) ≡ edit (x ∷ [])
+  again x = ⊎_elim (λ d. ap edit d ∙ edits.none ∙ sym d) (λ l. ap edit l.1 ∙ l.3 ∙ sym l.1) (edits.one x)
+
+  edited_same : (number : ℕ) (es : List Entry) → edit (edited_at number edit es) ≡ edit es
+  edited_same number [] = refl
+  edited_same number (x ∷ xs) =
+      let head = cond (eqb x.number number) (edit (x ∷ [])) (x ∷ []) in
+      edit_append head (edited_at number edit xs) ∙ ap (λ l. edit head ++ l) (edited_same number xs)
+      ∙ ap (λ l. l ++ edit xs) (cond_both (eqb x.number number) (edit (x ∷ [])) (x ∷ []) (λ (l : List Entry). edit l ≡ edit (x ∷ [])) (λ t. again x) (λ t. refl))
+      ∙ sym (edits.each x xs)
+
+  -- what holds of the numbers of entries holds of those that an edit leaves
+  edited_numbers : (P : ℕ → Type 0) (number : ℕ) (es : List Entry) → All (λ e. P e.number) es → All (λ e. P e.number) (edited_at number edit es)
+  edited_numbers P number [] h = h
+  edited_numbers P number (x ∷ xs) h =
+      let Q : Entry → Type 0 = λ e. P e.number in
+      let rest = edited_numbers P number xs (All-tail Q x xs h) in
+      let here = All-head Q x xs h in
+      cond_both (eqb x.number number) (edit (x ∷ [])) (x ∷ []) (λ (l : List Entry). All Q (l ++ edited_at number edit xs))
+      (λ t. ⊎_elim
+      (λ d. subst (λ (l : List Entry). All Q (l ++ edited_at number edit xs)) (sym d) rest)
+      (λ y. subst (λ (l : List Entry). All Q (l ++ edited_at number edit xs)) (sym y.1) (All-cons Q y.0 (edited_at number edit xs) (subst P (sym y.2) here) rest))
+      (edits.one x))
+      (λ f. All-cons Q x (edited_at number edit xs) here rest)
+
+  edited_rising : (number : ℕ) (es : List Entry) → IsRising es → IsRising (edited_at number edit es)
+  edited_rising number [] h = h
+  edited_rising number (x ∷ xs) h =
+      let R : Entry → Entry → Type 0 = λ a b. a.number < b.number in
+      let more = edited_at number edit xs in
+      let rest = edited_rising number xs (rising_tail x xs h) in
+      let above = edited_numbers (λ n. x.number < n) number xs (rising_head x xs h) in
+      cond_both (eqb x.number number) (edit (x ∷ [])) (x ∷ []) (λ (l : List Entry). IsRising (l ++ more))
+      (λ t. ⊎_elim
+      (λ d. subst (λ (l : List Entry). IsRising (l ++ more)) (sym d) rest)
+      (λ y. subst (λ (l : List Entry). IsRising (l ++ more)) (sym y.1)
+      (AllPairs-cons R y.0 more (subst (λ (n : ℕ). All (λ (e : Entry). n < e.number) more) (sym y.2) above) rest))
+      (edits.one x))
+      (λ f. AllPairs-cons R x more above rest)
+
+  edited_left : (number : ℕ) (numbers : List ℕ) (es : List Entry) → All (λ e. is_among e.number (number ∷ numbers) ≡ false → edit (e ∷ []) ≡ e ∷ []) es
+      → All (λ e. is_among e.number numbers ≡ false → edit (e ∷ []) ≡ e ∷ []) (edited_at number edit es)
+  edited_left number numbers [] h = All-nil (λ (e : Entry). is_among e.number numbers ≡ false → edit (e ∷ []) ≡ e ∷ [])
+  edited_left number numbers (x ∷ xs) h =
+      let Old : Entry → Type 0 = λ e. is_among e.number (number ∷ numbers) ≡ false → edit (e ∷ []) ≡ e ∷ [] in
+      let New : Entry → Type 0 = λ e. is_among e.number numbers ≡ false → edit (e ∷ []) ≡ e ∷ [] in
+      let more = edited_at number edit xs in
+      let rest = edited_left number numbers xs (All-tail Old x xs h) in
+      cond_both (eqb x.number number) (edit (x ∷ [])) (x ∷ []) (λ (l : List Entry). All New (l ++ more))
+      (λ t. ⊎_elim
+      (λ d. subst (λ (l : List Entry). All New (l ++ more)) (sym d) rest)
+      (λ y. subst (λ (l : List Entry). All New (l ++ more)) (sym y.1) (All-cons New y.0 more (λ none. y.3) rest))
+      (edits.one x))
+      (λ f. All-cons New x more (λ none. All-head Old x xs h (or_from _ _ f none)) rest)
+
+  -- before the edit all numbers of held entries are still to come
+  pub edited_begin : (held : List ℕ) (es : List Entry) → IsRising es → HasHeld held es → IsEditedBut edit held es es
+  edited_begin held es rising h = record {
+    rising = rising;
+    left = λ k d lt none. edits.quiet (get_or es k d) (free (is_held (get_or es k d)) _ (h.each k d lt) none);
+    same = refl;
+  }
+
+  pub edited_more : (number : ℕ) (rest : List ℕ) (old now : List Entry) → IsEditedBut edit (number ∷ rest) old now → IsEditedBut edit rest old (edited_at number edit now)
+  edited_more number rest old now h = record {
+    rising = edited_rising number now h.rising;
+    left = edited_left number rest now h.left;
+    same = edited_same number now ∙ h.same;
+  }
+
+  edit_quiet : (es : List Entry) → All (λ e. edit (e ∷ []) ≡ e ∷ []) es → edit es ≡ es
   edit_quiet [] h = edits.none
   edit_quiet (x ∷ xs) h =
-      edits.each x xs ∙ ap (λ l. l ++ edit xs) (edits.quiet x (All-head (λ (e : Entry). is_held e ≡ false) x xs h))
-      ∙ ap (λ l. x ∷ l) (edit_quiet xs (All-tail (λ (e : Entry). is_held e ≡ false) x xs h))
+      let Q : Entry → Type 0 = λ e. edit (e ∷ []) ≡ e ∷ [] in
+      edits.each x xs ∙ ap (λ l. l ++ edit xs) (All-head Q x xs h) ∙ ap (λ l. x ∷ l) (edit_quiet xs (All-tail Q x xs h))
 
-  front_unheld : (old new : List Entry) (place : ℕ) (done : EditedFrom edit old new place) → AllWithin (λ e. is_held e ≡ false) old 0 place
-      → All (λ e. is_held e ≡ false) done.front
-  front_unheld old new place done before = λ k d below.
-      let same = ap (λ l. get_or l k d) done.is ∙ get_or_append_left done.front done.behind d k below in
-      subst (λ (e : Entry). is_held e ≡ false) same (before k d (omega arith) (omega (arith, done.at, below)))
-
-  -- what is edited from a place on, before which nobody holds an entry, is edited
-  pub edited_all : (old new : List Entry) (place : ℕ) → EditedFrom edit old new place → AllWithin (λ e. is_held e ≡ false) old 0 place → new ≡ edit old
-  edited_all old new place done before =
-      done.edited ∙ ap (λ l. l ++ edit done.behind) (sym (edit_quiet done.front (front_unheld old new place done before)))
-      ∙ sym (edit_append done.front done.behind) ∙ ap edit (sym done.is)
-
-  -- and nobody holds one there afterwards
-  pub edited_before : (old new : List Entry) (place : ℕ) → EditedFrom edit old new place → AllWithin (λ e. is_held e ≡ false) old 0 place
-      → AllWithin (λ e. is_held e ≡ false) new 0 place
-  edited_before old new place done before = λ k d from to.
-      let below : k < length done.front = omega (arith, done.at, to) in
-      let same = ap (λ l. get_or l k d) done.edited ∙ get_or_append_left done.front (edit done.behind) d k below in
-      subst (λ (e : Entry). is_held e ≡ false) (sym same) (front_unheld old new place done before k d below)
+  -- and in the end the edit has been made
+  pub edited_all : (old now : List Entry) → IsEditedBut edit [] old now → now ≡ edit old
+  edited_all old now h = sym (edit_quiet now (λ k d lt. h.left k d lt refl)) ∙ h.same
 
 -- the entry at a place
 pub entry_at : (es front behind : List Entry) (e x : Entry) (place : ℕ) → es ≡ front ++ e ∷ behind → length front ≡ place → x ≡ get_or es place x → x ≡ e
@@ -142,16 +261,3 @@ pub set_at : (es new front behind : List Entry) (e x : Entry) (place : ℕ) → 
     → new ≡ front ++ x ∷ behind
 set_at es new front behind e x place is at changed =
     changed ∙ ap (λ l. set l place x) is ∙ ap (λ k. set (front ++ e ∷ behind) k x) (sym at) ∙ set-append_seam front e behind x
-
--- an entry that goes, and one that stays
-pub released_gone : (holder moment : ℕ) (e : Entry) → stays_without holder moment e ≡ false → released holder moment (e ∷ []) ≡ []
-released_gone holder moment e gone = ap (λ b. map (unheld holder) (cond b (e ∷ []) [])) gone
-
-pub released_stays : (holder moment : ℕ) (e : Entry) → stays_without holder moment e ≡ true → released holder moment (e ∷ []) ≡ unheld holder e ∷ []
-released_stays holder moment e stays = ap (λ b. map (unheld holder) (cond b (e ∷ []) [])) stays
-
-pub taken_gone : (holder : ℕ) (e : Entry) → is_taken_by holder e ≡ true → without_taken holder (e ∷ []) ≡ []
-taken_gone holder e taken = ap (λ b. cond (not b) (e ∷ []) []) taken
-
-pub taken_stays : (holder : ℕ) (e : Entry) → is_taken_by holder e ≡ false → without_taken holder (e ∷ []) ≡ e ∷ []
-taken_stays holder e stays = ap (λ b. cond (not b) (e ∷ []) []) stays

@@ -1,13 +1,12 @@
-use Rattle.std.proofs.Common.{◌≡◌, ℕ, zero, suc, ◌+◌, ◌-◌, ◌<◌, ◌≤◌, Bool, true, false, List, [], ◌∷◌, length, take, drop, get_or, subst, ap, ◌∙◌, sym, refl, cond, eqb, Option, Some, None, ⊎_elim, arith}
-use Rattle.std.specs.Prelude.{not, ◌≢◌, ◌&&◌, ◌||◌, is_some, ◌++◌, All, filter, find, map, remove}
+use Rattle.std.proofs.Common.{◌≡◌, ℕ, zero, suc, ◌+◌, ◌<◌, ◌≤◌, Bool, true, false, List, [], ◌∷◌, length, get_or, ap, ◌∙◌, sym, refl, cond, eqb, Option, Some, None, ⊎_elim, arith}
+use Rattle.std.specs.Prelude.{not, ◌≢◌, ◌&&◌, ◌||◌, is_some, All, filter, find, map, remove}
 use Rattle.std.proofs.Math.ListN.{set}
 use Rattle.std.specs.List.{list_any, HoldsAt, AllWithin}
 use Rattle.std.proofs.lemmas.Bool.{cond-true, cond-false, cond_both, eq-eqb, ne_eqb, cases_lt, false≢true, or_from}
-use Rattle.std.proofs.lemmas.List.{get_or-map, get_or-take, get_or_default, length-drop, length-map, length-take-le, take-append-drop, take_all}
+use Rattle.std.proofs.lemmas.List.{get_or-map, length-map}
 use Rattle.std.proofs.lemmas.List.Elements.{All-head, All-tail}
 use Rattle.std.proofs.lemmas.List.Kept.{AllPairs-filter}
-use Rattle.tuple_space.specs.Entry.{is_held}
-use Rattle.tuple_space.specs.Rows.{HasUnheldFront, IsRising, IsUnheldBelow, without, changed}
+use Rattle.tuple_space.specs.Rows.{IsRising, without, changed}
 use Rattle.tuple_space.specs.declared.entry.Entry.{Entry}
 
 -- the entry of a number stands at one place alone
@@ -54,26 +53,26 @@ none_from_search number es low high rising met below above not_here = λ k d lt 
     (cases_lt low k))
     (cases_lt k low)
 
-only_tail : (number : ℕ) (x : Entry) (xs : List Entry) (i : ℕ) → IsOnlyAt number (x ∷ xs) (suc i) → IsOnlyAt number xs i
+pub only_tail : (number : ℕ) (x : Entry) (xs : List Entry) (i : ℕ) → IsOnlyAt number (x ∷ xs) (suc i) → IsOnlyAt number xs i
 only_tail number x xs i h = record {
   within = let w = h.within in omega arith;
   here = λ d. h.here d;
   others = λ k d lt ne. h.others (suc k) d (omega arith) (λ e. ne (omega arith));
 }
 
-none_behind : (number : ℕ) (x : Entry) (xs : List Entry) → IsOnlyAt number (x ∷ xs) zero → HasNone number xs
+pub none_behind : (number : ℕ) (x : Entry) (xs : List Entry) → IsOnlyAt number (x ∷ xs) zero → HasNone number xs
 none_behind number x xs h = λ k d lt. h.others (suc k) d (omega arith) (λ e. omega arith)
 
-other_head : (number : ℕ) (x : Entry) (xs : List Entry) (i : ℕ) → IsOnlyAt number (x ∷ xs) (suc i) → eqb x.number number ≡ false
+pub other_head : (number : ℕ) (x : Entry) (xs : List Entry) (i : ℕ) → IsOnlyAt number (x ∷ xs) (suc i) → eqb x.number number ≡ false
 other_head number x xs i h = ne_eqb _ _ (h.others zero x (omega arith) (λ e. omega arith))
 
-same_head : (number : ℕ) (x : Entry) (xs : List Entry) → IsOnlyAt number (x ∷ xs) zero → eqb x.number number ≡ true
+pub same_head : (number : ℕ) (x : Entry) (xs : List Entry) → IsOnlyAt number (x ∷ xs) zero → eqb x.number number ≡ true
 same_head number x xs h = eq-eqb _ _ (h.here x)
 
-none_head : (number : ℕ) (x : Entry) (xs : List Entry) → HasNone number (x ∷ xs) → eqb x.number number ≡ false
+pub none_head : (number : ℕ) (x : Entry) (xs : List Entry) → HasNone number (x ∷ xs) → eqb x.number number ≡ false
 none_head number x xs h = ne_eqb _ _ (All-head (λ (e : Entry). e.number ≢ number) x xs h)
 
-none_tail : (number : ℕ) (x : Entry) (xs : List Entry) → HasNone number (x ∷ xs) → HasNone number xs
+pub none_tail : (number : ℕ) (x : Entry) (xs : List Entry) → HasNone number (x ∷ xs) → HasNone number xs
 none_tail number x xs h = All-tail (λ (e : Entry). e.number ≢ number) x xs h
 
 pub without_none : (number : ℕ) (es : List Entry) → HasNone number es → without number es ≡ es
@@ -141,6 +140,12 @@ any_place number test (y ∷ ys) zero x h is =
 any_place number test (y ∷ ys) (suc i) x h is =
     by_tail (eqb y.number number) (test y) (passes_at number test ys) (other_head number y ys i h) ∙ any_place number test ys i x (only_tail number y ys i h) is
 
+pub rising_head : (x : Entry) (xs : List Entry) → IsRising (x ∷ xs) → All (λ (y : Entry). x.number < y.number) xs
+rising_head x xs h = λ k d lt. h 0 (suc k) d (omega arith) (omega arith)
+
+pub rising_tail : (x : Entry) (xs : List Entry) → IsRising (x ∷ xs) → IsRising xs
+rising_tail x xs h = λ i j d below within. h (suc i) (suc j) d (omega arith) (omega arith)
+
 -- entries that are kept still rise
 pub rising_filter : (test : Entry → Bool) (es : List Entry) → IsRising es → IsRising (filter test es)
 rising_filter test es h = AllPairs-filter (λ (x y : Entry). x.number < y.number) test es h
@@ -162,43 +167,6 @@ changed_number number change keeps e = cond_both (eqb e.number number) (change e
 pub number_none : (number : ℕ) (es : List Entry) → HasNone number es → list_any (λ (e : Entry). eqb e.number number) es ≡ false
 number_none number [] h = refl
 number_none number (x ∷ xs) h = or_from _ _ (none_head number x xs h) (number_none number xs (none_tail number x xs h))
-
--- nobody holds an entry before a place, so nobody holds one below the number of the entry there
-pub unheld_below : (es : List Entry) (i : ℕ) (x : Entry) → IsRising es → i < length es → x ≡ get_or es i x → AllWithin (λ e. is_held e ≡ false) es 0 i
-    → IsUnheldBelow x.number es
-unheld_below es i x rising within is before = λ k d lt less. ⊎_elim
-    (λ earlier. before k d (omega arith) earlier)
-    (λ later. ⊎_elim
-    (λ behind.
-    let far : (get_or es i d).number < (get_or es k d).number = rising i k d behind lt in
-    let same = ap (λ (e : Entry). e.number) (is ∙ get_or_default es i x d within) in
-    absurd (omega arith))
-    (λ near.
-    let at : k ≡ i = omega arith in
-    let same = ap (λ (e : Entry). e.number) (is ∙ get_or_default es i x d within) in
-    let here = ap (λ j. (get_or es j d).number) at in
-    absurd (omega arith))
-    (cases_lt i k))
-    (cases_lt k i)
-
--- below a number that nobody holds an entry below, nobody holds one before the place where that number begins
-pub unheld_before : (number : ℕ) (es : List Entry) (i : ℕ) → IsUnheldBelow number es → i ≤ length es → AllWithin (λ e. e.number < number) es 0 i
-    → AllWithin (λ e. is_held e ≡ false) es 0 i
-unheld_before number es i unheld within below = λ k d from to. unheld k d (omega arith) (below k d from to)
-
--- the part from that place on
-pub unheld_front : (number : ℕ) (es : List Entry) (start : ℕ) → IsUnheldBelow number es → start ≤ length es → AllWithin (λ e. e.number < number) es 0 start
-    → HasUnheldFront es (take (length es - start) (drop start es))
-unheld_front number es start unheld within below =
-    let before = unheld_before number es start unheld within below in
-    let long = length-drop start es in
-    record {
-      front = take start es;
-      is = sym (ap (λ l. take start es ++ l) (take_all (length es - start) (drop start es) (omega arith)) ∙ take-append-drop start es);
-      unheld = λ k d lt.
-          let inside : k < start = omega (arith, lt, length-take-le start es within) in
-          subst (λ (e : Entry). is_held e ≡ false) (sym (get_or-take start es k d inside)) (before k d (omega arith) inside);
-    }
 
 either : (b : Bool) (x : Entry) (o : Option Entry) (rest : Bool) → is_some o ≡ rest → is_some (cond b (Some x) o) ≡ (b || rest)
 either true x o rest h = refl

@@ -1,13 +1,12 @@
-use Rattle.std.proofs.Common.{◌≡◌, ℕ, ◌≤◌, ◌<◌, ◌+◌, List, [], ◌∷◌, Bool, true, false, cond, eqb, get_or, not, sym, refl, arith}
+use Rattle.std.proofs.Common.{◌≡◌, ℕ, ◌≤◌, ◌<◌, ◌+◌, List, [], ◌∷◌, Bool, true, false, cond, get_or, not, sym, refl, arith}
 use Rattle.std.specs.Prelude.{filter, map}
 use Rattle.std.proofs.lemmas.List.Elements.{All-filter, All-map, All-push}
 use Rattle.std.proofs.lemmas.List.Quantifiers.{all_pairs_push}
-use Rattle.std.proofs.lemmas.Bool.{cond_both, eqb-true, false≢true}
+use Rattle.std.proofs.lemmas.Bool.{cond_both, false≢true}
 use Rattle.std.proofs.lemmas.List.Sums.{sum_by-cons}
 use Rattle.tuple_match.specs.FieldValue.{FieldValue}
 use Rattle.tuple_space.specs.declared.entry.Entry.{Entry}
-use Rattle.tuple_space.specs.Entry.{IsEntry, is_held}
-use Rattle.tuple_space.specs.Rows.{IsUnheldBelow}
+use Rattle.tuple_space.specs.Entry.{IsEntry}
 use Rattle.tuple_space.proofs.EntryLemmas.{IsEntry-new}
 use Rattle.tuple_space.specs.Space.{SpaceValue, IsSpace, most, put, space_of}
 use Rattle.tuple_space.specs.Writes.{put_count, put_each}
@@ -67,39 +66,3 @@ IsSpace-put_each w (x ∷ xs) room h =
     (λ t. IsSpace-put_each w xs (omega arith) h)
     (λ f. let one : cond {A = ℕ} (not x.taken) 1 0 ≡ 1 = one_of x.taken f in
     IsSpace-put_each (put w x.tuple x.lease) xs (omega arith) (IsSpace-put w x.tuple x.lease (omega arith) h))
-
--- nobody holds what is below a number, and this stays so where entries go
-pub unheld_filter : (number : ℕ) (test : Entry → Bool) (es : List Entry) → IsUnheldBelow number es → IsUnheldBelow number (filter test es)
-unheld_filter number test es h = All-filter test (λ (e : Entry). e.number < number → is_held e ≡ false) es h
-
--- where they change in other things than their numbers, and nobody comes to hold one
-pub unheld_map : (number : ℕ) (change : Entry → Entry) → ((e : Entry) → (change e).number ≡ e.number) → ((e : Entry) → is_held e ≡ false → is_held (change e) ≡ false)
-    → (es : List Entry) → IsUnheldBelow number es → IsUnheldBelow number (map change es)
-unheld_map number change keeps quiet es h = All-map (λ (e : Entry). e.number < number → is_held e ≡ false) change es (λ k d lt less.
-    let same = keeps (get_or es k d) in
-    quiet (get_or es k d) (h k d lt (omega arith)))
-
--- where an entry of a number that isn't below a lower number changes
-pub unheld_changed : (number low id : ℕ) (change : Entry → Entry) → ((e : Entry) → (change e).number ≡ e.number) → low ≤ number → low ≤ id
-    → (es : List Entry) → IsUnheldBelow number es → IsUnheldBelow low (map (λ (e : Entry). cond (eqb e.number id) (change e) e) es)
-unheld_changed number low id change keeps under under_id es h = All-map (λ (e : Entry). e.number < low → is_held e ≡ false) (λ (e : Entry). cond (eqb e.number id) (change e) e) es (λ k d lt.
-    let e = get_or es k d in
-    let own = keeps e in
-    cond_both (eqb e.number id) (change e) e (λ (x : Entry). x.number < low → is_held x ≡ false)
-    (λ same. λ less. let named = eqb-true _ _ same in absurd (omega arith))
-    (λ other. λ less. h k d lt (omega arith)))
-
--- where a tuple is put out
-pub unheld_put : (number : ℕ) (w : SpaceValue) (tuple : List FieldValue) (lease : Lease) → IsUnheldBelow number w.entries → IsUnheldBelow number (put w tuple lease).entries
-unheld_put number w tuple lease h =
-    let new : Entry = record { number = w.last + 1; tuple = tuple; end = granted w.moment lease; holds = [] } in
-    All-push (λ (e : Entry). e.number < number → is_held e ≡ false) w.entries new h (λ less. refl)
-
--- and where several are
-pub unheld_put_each : (number : ℕ) (w : SpaceValue) (writes : List Write) → IsUnheldBelow number w.entries → IsUnheldBelow number (put_each w writes).entries
-unheld_put_each number w [] h = h
-unheld_put_each number w (x ∷ xs) h =
-    let P : SpaceValue → Type 0 = λ v. IsUnheldBelow number (put_each v xs).entries in
-    cond_both x.taken w (put w x.tuple x.lease) P
-    (λ t. unheld_put_each number w xs h)
-    (λ f. unheld_put_each number (put w x.tuple x.lease) xs (unheld_put number w x.tuple x.lease h))

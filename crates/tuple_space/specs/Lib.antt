@@ -1,4 +1,5 @@
 pub mod Entry
+pub mod Held
 pub mod Holds
 pub mod Lease
 pub mod Rows

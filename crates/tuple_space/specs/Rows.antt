@@ -1,24 +1,13 @@
 -- Rows of entries.
-use Rattle.std.specs.Prelude.{◌≡◌, ℕ, ◌<◌, ◌==◌, false, not, List, ◌++◌, All, AllPairs, filter, map, if◌then◌else◌}
+use Rattle.std.specs.Prelude.{ℕ, ◌<◌, ◌==◌, not, List, [], ◌∷◌, ◌++◌, AllPairs, filter, map, if◌then◌else◌}
 use Rattle.tuple_match.specs.FieldValue.{FieldValue}
 use Rattle.tuple_space.specs.Lease.{is_permanent, later}
-use Rattle.tuple_space.specs.Entry.{is_held}
 use Rattle.tuple_space.specs.declared.lease.LeaseEnd.{LeaseEnd}
 use Rattle.tuple_space.specs.declared.entry.Entry.{Entry}
 
 -- each number is below those behind it
 abbrev pub IsRising : List Entry → Type 0
 IsRising entries = AllPairs (λ x y. x.number < y.number) entries
-
--- nobody holds an entry whose number is below this one
-abbrev pub IsUnheldBelow : ℕ → List Entry → Type 0
-IsUnheldBelow number entries = All (λ e. e.number < number → is_held e ≡ false) entries
-
--- the entries are some that nobody holds, and this part behind them
-pub record HasUnheldFront (entries part : List Entry) : Type 0 where
-  pub front : List Entry
-  pub is : entries ≡ front ++ part
-  pub unheld : All (λ e. is_held e ≡ false) front
 
 -- all entries but that of a number
 abbrev pub without : ℕ → List Entry → List Entry
@@ -27,6 +16,11 @@ without number entries = filter (λ e. not (e.number == number)) entries
 -- the entry of a number changed
 abbrev pub changed : ℕ → (Entry → Entry) → List Entry → List Entry
 changed number change entries = map (λ e. if e.number == number then change e else e) entries
+
+-- an edit of rows made at the entry of a number alone
+abbrev pub edited_at : ℕ → (List Entry → List Entry) → List Entry → List Entry
+edited_at number edit [] = []
+edited_at number edit (x ∷ xs) = (if x.number == number then edit (x ∷ []) else x ∷ []) ++ edited_at number edit xs
 
 -- an entry whose lease ends at the later of its end and another
 abbrev pub with_end : LeaseEnd → Entry → Entry

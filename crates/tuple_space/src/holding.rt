@@ -2,8 +2,9 @@
 
 ghost use Rattle.std.specs.Prelude.{◌≡◌, ◌+◌, ◌<◌, ◌≤◌, ◌^◌, ◌==◌, true, false, [], ◌∷◌, ◌++◌, List, length, not, filter, map, reverse, OnErr, OnOk, vec_capacity, vec_len};
 ghost use Rattle.std.specs.List.{AllWithin, list_any};
-ghost use Rattle.tuple_space.specs.Entry.{is_held, is_taken_by, unheld};
-ghost use Rattle.tuple_space.specs.Rows.{IsRising, changed};
+ghost use Rattle.tuple_space.specs.Entry.{is_taken_by, unheld};
+ghost use Rattle.tuple_space.specs.Held.{HasHeld};
+ghost use Rattle.tuple_space.specs.Rows.{IsRising, changed, edited_at};
 ghost use Rattle.tuple_space.specs.Space.{held_by, released, space_of, stays_without, without_taken};
 ghost use Rattle.tuple_space.specs.Writes.{put_count, put_each};
 
@@ -48,16 +49,24 @@ fn stays_without(entry: &Entry, holder: u64, moment: u64) -> bool
     entry.end.is_live(moment) || entry.holds.is_held_besides(holder)
 }
 
-/// Ends the holds of a holder from a place on, before which nobody holds an entry, and drops the entries that go with them.
-pub(crate) fn release_all(entries: &mut Vec<Entry>, start: usize, holder: u64, moment: u64)
-    requires within { start ≤ vec_len entries.old }
-    requires before { AllWithin (λ e. is_held e ≡ false) entries.old.items 0 start }
-    ensures value { entries.new.items ≡ released holder moment entries.old.items }
-    ensures before { AllWithin (λ e. is_held e ≡ false) entries.new.items 0 start }
+/// Ends the holds of a holder, and drops the entries that go with them, where these are the numbers of entries that somebody
+/// holds.
+pub(crate) fn release_all(entries: &mut Vec<Entry>, held: &[u64], holder: u64, moment: u64)
+    requires rising { IsRising entries.old.items }
+    requires held { HasHeld held.now entries.old.items }
+    ensures { entries.new.items ≡ released holder moment entries.old.items }
 {
-    let mut place = entries.len();
-    while place > start {
-        place -= 1;
+    for number in held {
+        release_number(entries, *number, holder, moment);
+    }
+}
+
+/// Ends a holder's hold of the entry of a number, and drops the entry where it goes with it.
+fn release_number(entries: &mut Vec<Entry>, number: u64, holder: u64, moment: u64)
+    requires { IsRising entries.old.items }
+    ensures { entries.new.items ≡ edited_at number (released holder moment) entries.old.items }
+{
+    if let Some(place) = place_of(entries, number) {
         release_at(entries, place, holder, moment);
     }
 }
@@ -76,15 +85,23 @@ fn release_at(entries: &mut Vec<Entry>, place: usize, holder: u64, moment: u64)
     entry.holds.release(holder);
 }
 
-/// Drops the entries that a holder took, from a place on before which nobody holds one.
-pub(crate) fn drop_taken(entries: &mut Vec<Entry>, start: usize, holder: u64)
-    requires within { start ≤ vec_len entries.old }
-    requires before { AllWithin (λ e. is_held e ≡ false) entries.old.items 0 start }
+/// Drops the entries that a holder took, where these are the numbers of entries that somebody holds.
+pub(crate) fn drop_taken(entries: &mut Vec<Entry>, held: &[u64], holder: u64)
+    requires rising { IsRising entries.old.items }
+    requires held { HasHeld held.now entries.old.items }
     ensures { entries.new.items ≡ without_taken holder entries.old.items }
 {
-    let mut place = entries.len();
-    while place > start {
-        place -= 1;
+    for number in held {
+        drop_taken_number(entries, *number, holder);
+    }
+}
+
+/// Drops the entry of a number where a holder took it.
+fn drop_taken_number(entries: &mut Vec<Entry>, number: u64, holder: u64)
+    requires { IsRising entries.old.items }
+    ensures { entries.new.items ≡ edited_at number (without_taken holder) entries.old.items }
+{
+    if let Some(place) = place_of(entries, number) {
         drop_taken_at(entries, place, holder);
     }
 }

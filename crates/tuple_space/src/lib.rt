@@ -7,6 +7,7 @@
 mod admission;
 mod entry;
 mod error;
+mod held;
 mod hold;
 mod holding;
 mod lease;

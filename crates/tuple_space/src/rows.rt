@@ -4,8 +4,8 @@ ghost use Rattle.std.specs.Prelude.{◌≡◌, ◌<◌, ◌≤◌, ◌≢◌, �
 ghost use Rattle.std.specs.List.{AllWithin, HoldsAt, list_any};
 ghost use Rattle.std.specs.Option.{option_copied};
 ghost use Rattle.tuple_space.specs.Lease.{is_live, later};
-ghost use Rattle.tuple_space.specs.Entry.{can_be_had, is_counted, is_held, is_there};
-ghost use Rattle.tuple_space.specs.Rows.{IsRising, IsUnheldBelow, changed, with_end, without};
+ghost use Rattle.tuple_space.specs.Entry.{can_be_had, is_counted, is_there};
+ghost use Rattle.tuple_space.specs.Rows.{IsRising, changed, with_end, without};
 
 use crate::admission::{can_be_had, is_counted, is_there};
 use crate::entry::{Claim, Entry};
@@ -81,20 +81,6 @@ pub(crate) fn place_of(entries: &[Entry], number: u64) -> Option<usize>
     } else {
         None
     }
-}
-
-/// A number below which nobody holds an entry, where nobody holds one before a place.
-pub(crate) fn oldest_held(entries: &[Entry], start: usize) -> u64
-    requires rising { IsRising entries.now }
-    requires before { AllWithin (λ e. is_held e ≡ false) entries.now 0 start }
-    ensures { IsUnheldBelow result entries.now }
-{
-    for place in start..entries.len() {
-        if entries[place].holds.is_held() {
-            return entries[place].number;
-        }
-    }
-    u64::MAX
 }
 
 /// The entry of a number.

@@ -4,19 +4,20 @@ ghost use Rattle.std.specs.Prelude.{◌≡◌, ◌≤◌, ◌+◌, ◌^◌, ◌=
 ghost use Rattle.std.specs.Option.{option_copied};
 ghost use Rattle.tuple_space.specs.Space.{IsSpace, held_by, opening, released, with_entries, without_taken};
 ghost use Rattle.std.specs.List.{list_any};
-ghost use Rattle.tuple_space.specs.Rows.{HasUnheldFront, changed, permanent_tuples, without};
+ghost use Rattle.tuple_space.specs.Held.{HasHeld};
+ghost use Rattle.tuple_space.specs.Rows.{IsRising, changed, permanent_tuples, without};
 ghost use Rattle.tuple_space.specs.Writes.{IsPutRefusal, put_count, put_each};
 ghost use Rattle.tuple_space.specs.Step.{IsHad, NothingHad, Step, advance, count, done_reply, inp, inp_reply, now, out, out_reply, rdp, rdp_reply, renew, told};
 
 use crate::entry::{Claim, Entry, EntryId};
 use crate::error::SpaceError;
+use crate::held::{add_number, keep_held};
 use crate::hold::Holds;
 use crate::holding::{count_puts, drop_taken, hold_entry, put_rows, release_all};
 use crate::lease::Lease;
 use crate::permanent::permanent_of;
 use crate::rows::{
-    change_end, count_of, entry_of, keep_there, newest_entry, newest_place, oldest_held,
-    place_from, take_at, take_number,
+    change_end, count_of, entry_of, keep_there, newest_entry, newest_place, take_at, take_number,
 };
 use crate::write::Writes;
 use std::alloc::{AllocError, Global};
@@ -30,21 +31,21 @@ pub const MOST: u64 = 1 << 62;
 #[derive(Debug, Drop)]
 pub struct Space {
     entries: Vec<Entry>,
-    /// Nobody holds an entry whose number is below this one.
-    held_from: u64,
+    /// The numbers of the entries that somebody holds, in rising order.
+    held: Vec<u64>,
     moment: u64,
     last: u64,
 }
 
 impl Model for Space {
-    ghost use Rattle.tuple_space.specs.Rows.{IsUnheldBelow};
+    ghost use Rattle.tuple_space.specs.Held.{HasHeld};
     ghost use Rattle.tuple_space.specs.Space.{IsSpace, SpaceValue, space_of};
 
     ghost Value = { SpaceValue };
 
     ghost view = { λ s. space_of s.entries.items s.moment s.last };
 
-    ghost invariant = { λ s. IsSpace (space_of s.entries.items s.moment s.last) × IsUnheldBelow s.held_from s.entries.items };
+    ghost invariant = { λ s. IsSpace (space_of s.entries.items s.moment s.last) × HasHeld s.held.items s.entries.items };
 }
 
 impl Space {
@@ -54,7 +55,7 @@ impl Space {
     {
         Space {
             entries: Vec::new(alloc),
-            held_from: u64::MAX,
+            held: Vec::new(alloc),
             moment: 0,
             last: 0,
         }
@@ -169,12 +170,19 @@ impl Space {
         &self.entries
     }
 
-    /// The entries, but for those at the front that nobody holds: a part that holds each entry that somebody holds.
-    pub fn held_part(&self) -> &[Entry]
-        ensures { HasUnheldFront self.now.entries result.now }
+    /// Numbers in rising order, among which is that of each entry that somebody holds.
+    pub fn held(&self) -> &[u64]
+        ensures held { HasHeld result.now self.now.entries }
+        ensures rising { IsRising self.now.entries }
     {
-        let start = place_from(&self.entries, self.held_from);
-        &self.entries[start..]
+        &self.held
+    }
+
+    /// The entry of a number, as `held` tells it.
+    pub fn entry_numbered(&self, number: u64) -> Option<&Entry>
+        ensures { option_copied result ≡ find (λ e. e.number == number) self.now.entries }
+    {
+        entry_of(&self.entries, number)
     }
 
     /// The tuple of the entry of a number.
@@ -193,8 +201,10 @@ impl Space {
         ensures ok { OnOk result (self.new ≡ with_entries self.old (changed id (held_by holder taken) self.old.entries)) }
         ensures err { OnErr result (self.new ≡ self.old) }
     {
-        hold_entry(&mut self.entries, id.number(), holder, taken)?;
-        self.held_from = self.held_from.min(id.number());
+        let number = id.number();
+        self.held.reserve(1)?;
+        hold_entry(&mut self.entries, number, holder, taken)?;
+        add_number(&mut self.held, number);
         Ok(())
     }
 
@@ -202,17 +212,16 @@ impl Space {
     pub fn unpin(&mut self, holder: u64)
         ensures { self.new ≡ with_entries self.old (released holder self.old.moment self.old.entries) }
     {
-        let start = place_from(&self.entries, self.held_from);
-        release_all(&mut self.entries, start, holder, self.moment);
-        self.held_from = oldest_held(&self.entries, start);
+        release_all(&mut self.entries, &self.held, holder, self.moment);
+        keep_held(&mut self.held, &self.entries);
     }
 
     /// Drops the entries that a holder took. Takes no memory.
     pub fn remove_taken(&mut self, holder: u64)
         ensures { self.new ≡ with_entries self.old (without_taken holder self.old.entries) }
     {
-        let start = place_from(&self.entries, self.held_from);
-        drop_taken(&mut self.entries, start, holder);
+        drop_taken(&mut self.entries, &self.held, holder);
+        keep_held(&mut self.held, &self.entries);
     }
 
     /// Takes out the entry of a number, whoever holds it, or answers `None` where there is none. Takes no memory.
@@ -220,10 +229,9 @@ impl Space {
         ensures value { result ≡ option_map (λ e. e.tuple) (find (λ e. e.number == id) self.old.entries) }
         ensures rest { self.new ≡ with_entries self.old (without id self.old.entries) }
     {
-        match take_number(&mut self.entries, id.number()) {
-            Some(entry) => Some(entry.tuple),
-            None => None,
-        }
+        let entry = take_number(&mut self.entries, id.number())?;
+        keep_held(&mut self.held, &self.entries);
+        Some(entry.tuple)
     }
 
     /// Puts out tuples in order, but for those that were taken again: all of them, or none. Refusals: 33 where too few
@@ -262,7 +270,7 @@ impl Space {
         };
         let Space {
             entries,
-            held_from: _,
+            held: _,
             moment: _,
             last: _,
         } = self;

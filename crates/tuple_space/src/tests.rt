@@ -64,9 +64,9 @@ fn hold(space: &mut Space, id: EntryId, holder: u64, taken: bool) -> Result<(), 
     }
 }
 
-// The part that may be held begins with the oldest entry that is.
+// The numbers of held entries are kept to those that somebody holds, and an entry with two holders keeps its number.
 #[test]
-fn holds_begin_somewhere(rt: HostRuntime) -> Result<(), Fail> {
+fn held_numbers_come_and_go(rt: HostRuntime) -> Result<(), Fail> {
     let alloc = rt.alloc();
     let mut space = Space::new(alloc);
     let mut ids = Vec::new(alloc);
@@ -79,13 +79,15 @@ fn holds_begin_somewhere(rt: HostRuntime) -> Result<(), Fail> {
     let (second, fourth, fifth) = (*second, *fourth, *fifth);
     hold(&mut space, fourth, 7, true)?;
     hold(&mut space, second, 8, false)?;
+    hold(&mut space, second, 7, false)?;
     hold(&mut space, fifth, 8, true)?;
-    assert_eq!(rt; space.held_part().len(), 4);
+    assert_eq!(rt; space.held(), [2, 4, 5].as_slice());
     space.remove_taken(8);
+    assert_eq!(rt; space.held(), [2, 4].as_slice());
     space.unpin(8);
-    assert_eq!(rt; space.held_part().len(), 1);
+    assert_eq!(rt; space.held(), [2, 4].as_slice());
     space.unpin(7);
-    assert_eq!(rt; space.held_part().len(), 0);
+    assert!(rt; space.held().is_empty());
     assert_eq!(rt; space.count(&any_job(alloc)?), 4);
     Ok(())
 }

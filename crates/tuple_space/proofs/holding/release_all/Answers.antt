@@ -1,32 +1,26 @@
-use Rattle.std.proofs.Common.{◌≡◌, ℕ, ◌+◌, ◌-◌, subst, arith}
+use Rattle.std.proofs.Common.{◌+◌, List, ℕ, arith, drop, subst}
+use Rattle.std.proofs.lemmas.List.{drop_all, drop_more}
 use Rattle.tuple_space.specs.Space.{released}
-use Rattle.tuple_space.proofs.PartLemmas.{EditedFrom, edit_more, edited_all, edited_before, release_edits}
+use Rattle.tuple_space.proofs.PartLemmas.{IsEditedBut, edited_all, edited_begin, edited_more, release_edits}
 use Rattle.tuple_space.proofs.holding.release_all.Goals as goal
 
-pub loop-place-preserved : goal.loop-place-preserved
-loop-place-preserved c =
-    let edit = released c.args.holder c.args.moment in
-    let old = c.args.entries.now.items in
-    let now = c.loop-place.entries.items in
-    let place = c.loop-place.place - 1 in
-    let same : c.loop-place.place ≡ place + 1 = omega arith in
-    let done = subst (λ (k : ℕ). EditedFrom edit old now k) same c.loop-place.invariant.0 in
-    (edit_more edit (release_edits c.args.holder c.args.moment) old now c.release_at.new.entries.items place done c.release_at.ensures, omega arith)
+pub loop-number-init : goal.loop-number-init
+loop-number-init c =
+    edited_begin (released c.args.holder c.args.moment) (release_edits c.args.holder c.args.moment) c.args.held.now c.args.entries.now.items c.requires.rising c.requires.held
 
-pub returns-clause-value : goal.returns-clause-value
-returns-clause-value c =
+pub loop-number-preserved : goal.loop-number-preserved
+loop-number-preserved c =
     let edit = released c.args.holder c.args.moment in
+    let i = c.loop-number.number-index in
     let old = c.args.entries.now.items in
-    let now = c.loop-place.entries.items in
-    let same : c.loop-place.place ≡ c.args.start = omega (arith, c.loop-place.invariant.1) in
-    let done = subst (λ (k : ℕ). EditedFrom edit old now k) same c.loop-place.invariant.0 in
-    edited_all edit (release_edits c.args.holder c.args.moment) old now c.args.start done c.requires.before
+    let now = c.loop-number.entries.items in
+    rw c.release_number.ensures (edited_more edit (release_edits c.args.holder c.args.moment) _ (drop (i + 1) c.args.held.now) old now
+    (subst (λ (l : List ℕ). IsEditedBut edit l old now) (drop_more c.args.held.now i _ (omega arith)) c.loop-number.invariant))
 
-pub returns-clause-before : goal.returns-clause-before
-returns-clause-before c =
+pub returns : goal.returns
+returns c =
     let edit = released c.args.holder c.args.moment in
     let old = c.args.entries.now.items in
-    let now = c.loop-place.entries.items in
-    let same : c.loop-place.place ≡ c.args.start = omega (arith, c.loop-place.invariant.1) in
-    let done = subst (λ (k : ℕ). EditedFrom edit old now k) same c.loop-place.invariant.0 in
-    edited_before edit (release_edits c.args.holder c.args.moment) old now c.args.start done c.requires.before
+    let now = c.loop-number.entries.items in
+    edited_all edit (release_edits c.args.holder c.args.moment) old now
+    (subst (λ (l : List ℕ). IsEditedBut edit l old now) (drop_all c.loop-number.number-index c.args.held.now (omega arith)) c.loop-number.invariant)

@@ -1,6 +1,7 @@
 use Rattle.std.proofs.Common.{arith}
 use Rattle.tuple_space.specs.Entry.{is_there}
-use Rattle.tuple_space.proofs.SpaceLemmas.{IsSpace-filter, unheld_filter}
+use Rattle.tuple_space.proofs.HeldLemmas.{held_filter}
+use Rattle.tuple_space.proofs.SpaceLemmas.{IsSpace-filter}
 use Rattle.tuple_space.proofs.space.Space.advance.Goals as goal
 
 pub invariant_of-self : goal.invariant_of-self
@@ -8,5 +9,5 @@ invariant_of-self c =
     let s = c.self.inside in
     rw c.keep_there.ensures (
       IsSpace-filter (is_there c.args.moment) s.entries.items s.moment s.last c.args.moment (omega arith) c.self.invariant.0,
-      unheld_filter s.held_from (is_there c.args.moment) s.entries.items c.self.invariant.1,
+      held_filter (is_there c.args.moment) s.held.items s.entries.items c.self.invariant.1,
     )

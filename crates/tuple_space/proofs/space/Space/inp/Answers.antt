@@ -1,7 +1,8 @@
 use Rattle.std.proofs.Common.{eqb}
 use Rattle.std.specs.Prelude.{not}
 use Rattle.tuple_space.specs.declared.entry.Entry.{Entry}
-use Rattle.tuple_space.proofs.SpaceLemmas.{IsSpace-filter, unheld_filter}
+use Rattle.tuple_space.proofs.HeldLemmas.{held_filter}
+use Rattle.tuple_space.proofs.SpaceLemmas.{IsSpace-filter}
 use Rattle.tuple_space.proofs.space.Space.inp.Goals as goal
 
 pub invariant_of-self : goal.invariant_of-self
@@ -9,5 +10,5 @@ invariant_of-self c =
     let s = c.self.inside in
     rw c.take_at-entry.ensures.rest (
       IsSpace-filter (λ (e : Entry). not (eqb e.number c.take_at-entry.result.number)) s.entries.items s.moment s.last s.moment c.self.invariant.0.early c.self.invariant.0,
-      unheld_filter s.held_from (λ (e : Entry). not (eqb e.number c.take_at-entry.result.number)) s.entries.items c.self.invariant.1,
+      held_filter (λ (e : Entry). not (eqb e.number c.take_at-entry.result.number)) s.held.items s.entries.items c.self.invariant.1,
     )

@@ -1,11 +1,12 @@
-use Rattle.std.proofs.Common.{◌≡◌, false, cond, eqb, refl}
+use Rattle.std.proofs.Common.{◌≡◌, true, cond, eqb, refl}
 use Rattle.std.proofs.lemmas.Bool.{cond_both}
 use Rattle.tuple_space.specs.Entry.{is_held}
 use Rattle.tuple_space.specs.declared.entry.Entry.{Entry}
 use Rattle.tuple_space.specs.Rows.{with_end}
 use Rattle.tuple_space.proofs.RowLemmas.{changed_number}
 use Rattle.tuple_space.proofs.EntryLemmas.{IsEntry-changed, IsEntry-end}
-use Rattle.tuple_space.proofs.SpaceLemmas.{IsSpace-map, unheld_map}
+use Rattle.tuple_space.proofs.HeldLemmas.{held_map}
+use Rattle.tuple_space.proofs.SpaceLemmas.{IsSpace-map}
 use Rattle.tuple_space.proofs.space.Space.renew.Goals as goal
 
 pub invariant_of-self : goal.invariant_of-self
@@ -15,6 +16,6 @@ invariant_of-self c =
     let n = c.number.result in
     rw c.if-change_end.ensures.changed (
       IsSpace-map (λ (e : Entry). cond (eqb e.number n) (change e) e) (changed_number n change (λ e. refl)) (IsEntry-changed n change (IsEntry-end c.granted-end.result)) s.entries.items s.moment s.last c.self.invariant.0,
-      unheld_map s.held_from (λ (e : Entry). cond (eqb e.number n) (change e) e) (changed_number n change (λ e. refl))
-          (λ e none. cond_both (eqb e.number n) (change e) e (λ (x : Entry). is_held x ≡ false) (λ t. none) (λ t. none)) s.entries.items c.self.invariant.1,
+      held_map (λ (e : Entry). cond (eqb e.number n) (change e) e) (changed_number n change (λ e. refl))
+          (λ e held. cond_both (eqb e.number n) (change e) e (λ (x : Entry). is_held x ≡ true → is_held e ≡ true) (λ t h. h) (λ t h. h) held) s.held.items s.entries.items c.self.invariant.1,
     )
