@@ -1,6 +1,7 @@
 pub mod Entry
 pub mod Held
 pub mod Holds
+pub mod Index
 pub mod Lease
 pub mod Rows
 pub mod Space

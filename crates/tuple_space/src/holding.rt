@@ -40,7 +40,7 @@ pub(crate) fn hold_entry(
 }
 
 /// Whether an entry stays where a holder's hold of it ends.
-fn stays_without(entry: &Entry, holder: u64, moment: u64) -> bool
+pub(crate) fn stays_without(entry: &Entry, holder: u64, moment: u64) -> bool
     ensures { result ≡ stays_without holder moment entry.now }
 {
     if !entry.holds.is_held_by(holder) {

@@ -10,9 +10,12 @@ mod error;
 mod held;
 mod hold;
 mod holding;
+mod index;
+mod indexing;
 mod lease;
 mod permanent;
 mod rows;
+mod search;
 mod space;
 mod write;
 

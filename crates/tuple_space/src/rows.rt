@@ -4,49 +4,13 @@ ghost use Rattle.std.specs.Prelude.{◌≡◌, ◌<◌, ◌≤◌, ◌≢◌, �
 ghost use Rattle.std.specs.List.{AllWithin, HoldsAt, list_any};
 ghost use Rattle.std.specs.Option.{option_copied};
 ghost use Rattle.tuple_space.specs.Lease.{is_live, later};
-ghost use Rattle.tuple_space.specs.Entry.{can_be_had, is_counted, is_there};
+ghost use Rattle.tuple_space.specs.Entry.{is_counted, is_there};
 ghost use Rattle.tuple_space.specs.Rows.{IsRising, changed, with_end, without};
 
-use crate::admission::{can_be_had, is_counted, is_there};
-use crate::entry::{Claim, Entry};
+use crate::admission::{is_counted, is_there};
+use crate::entry::Entry;
 use crate::lease::LeaseEnd;
 use tuple_match::Template;
-
-/// The place of the newest entry that can be had.
-pub(crate) fn newest_place(
-    entries: &[Entry],
-    claim: Claim,
-    moment: u64,
-    template: &Template,
-) -> Option<usize>
-    ensures none { IfNone result (All (λ e. can_be_had claim moment template.now e ≡ false) entries.now) }
-    ensures place { IfSome result (λ i. i < length entries.now) }
-    ensures can { IfSome result (HoldsAt (λ e. can_be_had claim moment template.now e ≡ true) entries.now) }
-{
-    for place in (0..entries.len()).rev() {
-        if can_be_had(&entries[place], claim, moment, template) {
-            return Some(place);
-        }
-    }
-    None
-}
-
-/// The newest entry that can be had.
-pub(crate) fn newest_entry<'a>(
-    entries: &'a [Entry],
-    claim: Claim,
-    moment: u64,
-    template: &Template,
-) -> Option<&'a Entry>
-    ensures none { IfNone result (All (λ e. can_be_had claim moment template.now e ≡ false) entries.now) }
-    ensures stands { IfSome result (λ e. Contains entries.now e.now) }
-    ensures can { IfSome result (λ e. can_be_had claim moment template.now e.now ≡ true) }
-{
-    match newest_place(entries, claim, moment, template) {
-        Some(place) => Some(&entries[place]),
-        None => None,
-    }
-}
 
 /// The place of the first entry of a number or a greater one; where there is none, how many entries there are.
 pub(crate) fn place_from(entries: &[Entry], number: u64) -> usize

@@ -14,11 +14,12 @@ use crate::error::SpaceError;
 use crate::held::{add_number, keep_held};
 use crate::hold::Holds;
 use crate::holding::{count_puts, drop_taken, hold_entry, put_rows, release_all};
+use crate::index::{Bucket, add_entry, drop_entry};
+use crate::indexing::{add_writes, drop_all_taken, drop_gone, drop_leaving, drop_writes};
 use crate::lease::Lease;
 use crate::permanent::permanent_of;
-use crate::rows::{
-    change_end, count_of, entry_of, keep_there, newest_entry, newest_place, take_at, take_number,
-};
+use crate::rows::{change_end, count_of, entry_of, keep_there, take_at, take_number};
+use crate::search::place_had;
 use crate::write::Writes;
 use std::alloc::{AllocError, Global};
 use std::marker::Model;
@@ -33,19 +34,22 @@ pub struct Space {
     entries: Vec<Entry>,
     /// The numbers of the entries that somebody holds, in rising order.
     held: Vec<u64>,
+    /// The numbers of the entries whose tuples begin with a word, by that word and how many fields they have.
+    buckets: Vec<Bucket>,
     moment: u64,
     last: u64,
 }
 
 impl Model for Space {
     ghost use Rattle.tuple_space.specs.Held.{HasHeld};
+    ghost use Rattle.tuple_space.specs.Index.{AreIndexed};
     ghost use Rattle.tuple_space.specs.Space.{IsSpace, SpaceValue, space_of};
 
     ghost Value = { SpaceValue };
 
     ghost view = { λ s. space_of s.entries.items s.moment s.last };
 
-    ghost invariant = { λ s. IsSpace (space_of s.entries.items s.moment s.last) × HasHeld s.held.items s.entries.items };
+    ghost invariant = { λ s. IsSpace (space_of s.entries.items s.moment s.last) × HasHeld s.held.items s.entries.items × AreIndexed s.buckets.items s.entries.items };
 }
 
 impl Space {
@@ -56,6 +60,7 @@ impl Space {
         Space {
             entries: Vec::new(alloc),
             held: Vec::new(alloc),
+            buckets: Vec::new(alloc),
             moment: 0,
             last: 0,
         }
@@ -79,28 +84,39 @@ impl Space {
             return Err((SpaceError::Exhausted, tuple));
         }
         let number = self.last + 1;
+        if self.entries.reserve(1).is_err() {
+            return Err((SpaceError::OutOfMemory, tuple));
+        }
+        if add_entry(&mut self.buckets, &tuple, number).is_err() {
+            return Err((SpaceError::OutOfMemory, tuple));
+        }
         let holds = Holds::new(*self.entries.allocator());
         let end = lease.granted(self.moment);
-        match self.entries.push(Entry {
-            number,
-            tuple,
-            end,
-            holds,
-        }) {
-            Ok(()) => {
-                self.last = number;
-                Ok(EntryId::new(number))
-            }
-            Err(failed) => Err((SpaceError::OutOfMemory, failed.value.tuple)),
-        }
+        self.entries
+            .push(Entry {
+                number,
+                tuple,
+                end,
+                holds,
+            })
+            .unwrap();
+        self.last = number;
+        Ok(EntryId::new(number))
     }
 
     /// Takes a tuple that the template asks for, or answers `None` where none can be had now. Takes no memory.
     pub fn inp(&mut self, template: &Template) -> Option<(EntryId, Tuple)>
         ensures step { Step self.old (inp template.now) (inp_reply result) self.new }
     {
-        let place = newest_place(&self.entries, Claim::Take, self.moment, template)?;
+        let place = place_had(
+            &self.entries,
+            &self.buckets,
+            Claim::Take,
+            self.moment,
+            template,
+        )?;
         let entry = take_at(&mut self.entries, place);
+        drop_entry(&mut self.buckets, &entry.tuple, entry.number);
         Some((EntryId::new(entry.number), entry.tuple))
     }
 
@@ -136,6 +152,7 @@ impl Space {
         }
         if moment >= self.moment {
             self.moment = moment;
+            drop_gone(&mut self.buckets, &self.entries, moment);
             keep_there(&mut self.entries, moment);
         }
         Ok(())
@@ -148,12 +165,14 @@ impl Space {
         count_of(&self.entries, self.moment, template)
     }
 
-    /// The newest entry that can be had under a claim.
+    /// An entry that can be had under a claim. Where the template asks for a word first, it is one with the longest list as its
+    /// second field, and the newest of these; else the newest.
     pub fn search(&self, claim: Claim, template: &Template) -> Option<&Entry>
         ensures found { IfSome result (λ e. IsHad self.now claim template.now e.now) }
         ensures none { IfNone result (NothingHad self.now claim template.now) }
     {
-        newest_entry(&self.entries, claim, self.moment, template)
+        let place = place_had(&self.entries, &self.buckets, claim, self.moment, template)?;
+        Some(&self.entries[place])
     }
 
     /// The entry of a number.
@@ -212,6 +231,13 @@ impl Space {
     pub fn unpin(&mut self, holder: u64)
         ensures { self.new ≡ with_entries self.old (released holder self.old.moment self.old.entries) }
     {
+        drop_leaving(
+            &mut self.buckets,
+            &self.entries,
+            &self.held,
+            holder,
+            self.moment,
+        );
         release_all(&mut self.entries, &self.held, holder, self.moment);
         keep_held(&mut self.held, &self.entries);
     }
@@ -220,6 +246,7 @@ impl Space {
     pub fn remove_taken(&mut self, holder: u64)
         ensures { self.new ≡ with_entries self.old (without_taken holder self.old.entries) }
     {
+        drop_all_taken(&mut self.buckets, &self.entries, &self.held, holder);
         drop_taken(&mut self.entries, &self.held, holder);
         keep_held(&mut self.held, &self.entries);
     }
@@ -229,8 +256,10 @@ impl Space {
         ensures value { result ≡ option_map (λ e. e.tuple) (find (λ e. e.number == id) self.old.entries) }
         ensures rest { self.new ≡ with_entries self.old (without id self.old.entries) }
     {
-        let entry = take_number(&mut self.entries, id.number())?;
+        let number = id.number();
+        let entry = take_number(&mut self.entries, number)?;
         keep_held(&mut self.held, &self.entries);
+        drop_entry(&mut self.buckets, &entry.tuple, number);
         Some(entry.tuple)
     }
 
@@ -247,6 +276,10 @@ impl Space {
             return Err((SpaceError::Exhausted, writes));
         }
         if self.entries.reserve(count).is_err() {
+            return Err((SpaceError::OutOfMemory, writes));
+        }
+        if add_writes(&mut self.buckets, writes.as_slice(), self.last).is_err() {
+            drop_writes(&mut self.buckets, writes.as_slice(), self.last);
             return Err((SpaceError::OutOfMemory, writes));
         }
         self.last = put_rows(
@@ -271,6 +304,7 @@ impl Space {
         let Space {
             entries,
             held: _,
+            buckets: _,
             moment: _,
             last: _,
         } = self;

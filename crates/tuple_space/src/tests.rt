@@ -91,3 +91,68 @@ fn held_numbers_come_and_go(rt: HostRuntime) -> Result<(), Fail> {
     assert_eq!(rt; space.count(&any_job(alloc)?), 4);
     Ok(())
 }
+
+/// The tuple of a word and a list of numbers.
+fn listed(alloc: Global, word: &str, numbers: &[i128]) -> Result<Tuple, Fail> {
+    let mut fields = Vec::new(alloc);
+    fields.push(Field::Word(String::from_str(alloc, word)?))?;
+    fields.push(Field::List(Vec::from_slice(alloc, numbers)?))?;
+    Ok(Tuple::new(fields)?)
+}
+
+/// The template of a word, or of any, and any list.
+fn any_listed(alloc: Global, word: Option<&str>) -> Result<Template, Fail> {
+    let mut patterns = Vec::new(alloc);
+    patterns.push(match word {
+        Some(word) => Pattern::Is(Field::Word(String::from_str(alloc, word)?)),
+        None => Pattern::AnyWord,
+    })?;
+    patterns.push(Pattern::AnyList)?;
+    Ok(Template::new(patterns)?)
+}
+
+/// The number of the entry that a call took.
+fn taken(space: &mut Space, template: &Template) -> Option<u64> {
+    let (id, _) = space.inp(template)?;
+    Some(id.number())
+}
+
+// The tuple with the longest list is taken first, and of equal lengths the newest; with a formal first the newest of all.
+#[test]
+fn longest_lists_come_first(rt: HostRuntime) -> Result<(), Fail> {
+    let alloc = rt.alloc();
+    let mut space = Space::new(alloc);
+    for numbers in [[1].as_slice(), &[], &[1, 2], &[2]] {
+        space.out(listed(alloc, "node", numbers)?, Lease::Forever)?;
+    }
+    space.out(listed(alloc, "done", &[1])?, Lease::Forever)?;
+    space.out(job(alloc, 7)?, Lease::Forever)?;
+    let nodes = any_listed(alloc, Some("node"))?;
+    assert_eq!(rt; taken(&mut space, &nodes), Some(3));
+    assert_eq!(rt; taken(&mut space, &nodes), Some(4));
+    assert_eq!(rt; taken(&mut space, &any_listed(alloc, None)?), Some(5));
+    assert_eq!(rt; taken(&mut space, &nodes), Some(1));
+    assert_eq!(rt; taken(&mut space, &any_listed(alloc, None)?), Some(2));
+    assert_eq!(rt; taken(&mut space, &nodes), None);
+    assert_eq!(rt; taken(&mut space, &any_job(alloc)?), Some(6));
+    Ok(())
+}
+
+// What a holder lets go is found again, and what it took and kept is not.
+#[test]
+fn holders_leave_and_take(rt: HostRuntime) -> Result<(), Fail> {
+    let alloc = rt.alloc();
+    let mut space = Space::new(alloc);
+    let jobs = any_job(alloc)?;
+    let id = space.out(job(alloc, 5)?, Lease::Forever)?;
+    hold(&mut space, id, 7, true)?;
+    assert_eq!(rt; read(&space, &jobs)?, None);
+    space.unpin(7);
+    assert_eq!(rt; read(&space, &jobs)?, Some(5));
+    hold(&mut space, id, 8, true)?;
+    space.remove_taken(8);
+    space.unpin(8);
+    assert_eq!(rt; read(&space, &jobs)?, None);
+    assert_eq!(rt; space.count(&jobs), 0);
+    Ok(())
+}

@@ -4,6 +4,9 @@ use Rattle.tuple_space.specs.Space.{SpaceValue, IsSpace, most, space_of}
 use Rattle.tuple_space.specs.Held.{HasHeld}
 use Rattle.tuple_space.specs.Writes.{put_count, put_each}
 use Rattle.tuple_space.proofs.HeldLemmas.{held_put_each}
+use Rattle.tuple_space.specs.declared.write.Write.{Write}
+use Rattle.tuple_space.specs.Index.{AreIndexed, AreWritesIndexed}
+use Rattle.tuple_space.proofs.IndexLemmas.{indexed_more, indexed_put_each, of_ok}
 use Rattle.tuple_space.proofs.SpaceLemmas.{IsSpace-put_each}
 use Rattle.tuple_space.proofs.space.Space.put_all.Goals as goal
 
@@ -14,7 +17,12 @@ invariant_of-self-2 c =
     let rows = c.into_rows.result.items in
     let counted = c.count_puts-count.ensures ∙ ap put_count c.as_slice.ensures in
     let room : s.last + put_count c.args.writes ≤ most = omega arith in
+    let seen = c.as_slice-2.ensures in
+    let there = subst (λ (l : List Write). AreWritesIndexed c.add_writes.new.buckets.items s.last l) seen
+    (of_ok (AreWritesIndexed c.add_writes.new.buckets.items s.last c.as_slice-2.result.now) c.add_writes.result c.add_writes.ensures.put (sym c.is_err-2.ensures.value ∙ c.if-is_err-2.false)) in
     let same = c.put_rows-self-inside.ensures ∙ ap (λ (es : List Entry). put_each (space_of es s.moment s.last) rows) c.reserve.ensures.items ∙ ap (put_each w) c.into_rows.ensures in (
       subst IsSpace (sym same) (IsSpace-put_each w c.args.writes room c.self.invariant.0),
       subst (λ (v : SpaceValue). HasHeld s.held.items v.entries) (sym same) (held_put_each s.held.items w c.args.writes c.self.invariant.1),
+      subst (λ (v : SpaceValue). AreIndexed c.add_writes.new.buckets.items v.entries) (sym same) (indexed_put_each c.add_writes.new.buckets.items w c.args.writes there
+          (indexed_more s.buckets.items c.add_writes.new.buckets.items s.entries.items c.add_writes.ensures.stays c.self.invariant.2)),
     )

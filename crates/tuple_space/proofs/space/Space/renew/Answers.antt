@@ -6,6 +6,7 @@ use Rattle.tuple_space.specs.Rows.{with_end}
 use Rattle.tuple_space.proofs.RowLemmas.{changed_number}
 use Rattle.tuple_space.proofs.EntryLemmas.{IsEntry-changed, IsEntry-end}
 use Rattle.tuple_space.proofs.HeldLemmas.{held_map}
+use Rattle.tuple_space.proofs.IndexLemmas.{changed_tuple, indexed_map}
 use Rattle.tuple_space.proofs.SpaceLemmas.{IsSpace-map}
 use Rattle.tuple_space.proofs.space.Space.renew.Goals as goal
 
@@ -18,4 +19,5 @@ invariant_of-self c =
       IsSpace-map (λ (e : Entry). cond (eqb e.number n) (change e) e) (changed_number n change (λ e. refl)) (IsEntry-changed n change (IsEntry-end c.granted-end.result)) s.entries.items s.moment s.last c.self.invariant.0,
       held_map (λ (e : Entry). cond (eqb e.number n) (change e) e) (changed_number n change (λ e. refl))
           (λ e held. cond_both (eqb e.number n) (change e) e (λ (x : Entry). is_held x ≡ true → is_held e ≡ true) (λ t h. h) (λ t h. h) held) s.held.items s.entries.items c.self.invariant.1,
+      indexed_map (λ (e : Entry). cond (eqb e.number n) (change e) e) (changed_number n change (λ e. refl)) (changed_tuple n change (λ e. refl)) s.buckets.items s.entries.items c.self.invariant.2,
     )

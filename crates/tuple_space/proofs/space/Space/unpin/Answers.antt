@@ -6,6 +6,7 @@ use Rattle.tuple_space.specs.Space.{stays_without}
 use Rattle.tuple_space.proofs.EntryLemmas.{IsEntry-unheld}
 use Rattle.tuple_space.proofs.HeldLemmas.{held_released, held_settled}
 use Rattle.tuple_space.proofs.RowLemmas.{rising_filter, rising_map}
+use Rattle.tuple_space.proofs.IndexLemmas.{indexed_filter, indexed_map}
 use Rattle.tuple_space.proofs.SpaceLemmas.{IsSpace-filter, IsSpace-map}
 use Rattle.tuple_space.proofs.space.Space.unpin.Goals as goal
 
@@ -13,7 +14,7 @@ pub keep_held-requires : goal.keep_held-requires
 keep_held-requires c =
     let s = c.self.inside in
     let stays = stays_without c.args.holder s.moment in
-    subst IsRising (sym (c.deref-2.ensures.value ∙ c.release_all.ensures))
+    subst IsRising (sym (c.deref-4.ensures.value ∙ c.release_all.ensures))
     (rising_map (unheld c.args.holder) (λ e. refl) (filter stays s.entries.items) (rising_filter stays s.entries.items c.self.invariant.0.rising))
 
 pub invariant_of-self : goal.invariant_of-self
@@ -23,5 +24,7 @@ invariant_of-self c =
     rw c.release_all.ensures (
       IsSpace-map (unheld c.args.holder) (λ e. refl) (IsEntry-unheld c.args.holder) (filter stays s.entries.items) s.moment s.last
           (IsSpace-filter stays s.entries.items s.moment s.last s.moment c.self.invariant.0.early c.self.invariant.0),
-      held_settled s.held.items _ _ c.deref-2.result.now (c.deref-2.ensures.value ∙ c.release_all.ensures) c.keep_held.ensures (held_released c.args.holder s.moment s.held.items s.entries.items c.self.invariant.1),
+      held_settled s.held.items _ _ c.deref-4.result.now (c.deref-4.ensures.value ∙ c.release_all.ensures) c.keep_held.ensures (held_released c.args.holder s.moment s.held.items s.entries.items c.self.invariant.1),
+      indexed_map (unheld c.args.holder) (λ e. refl) (λ e. refl) _ (filter stays s.entries.items)
+          (indexed_filter stays s.entries.items s.buckets.items _ c.self.invariant.2 (rw c.deref.ensures.value at c.drop_leaving.ensures)),
     )
