@@ -1,6 +1,7 @@
 //! The space with transactions, and its calls.
 
-ghost use Rattle.std.specs.Prelude.{◌≡◌, ◌≤◌, true, false, Contains, IfErr, IfOk, IfSome, OnOk, MatchResult};
+ghost use Rattle.std.specs.Prelude.{◌≡◌, ◌≤◌, ◌==◌, count_by, true, false, Contains, IfErr, IfOk, IfSome, OnOk, MatchResult};
+ghost use Rattle.tuple_space.specs.Entry.{is_counted};
 ghost use Rattle.tuple_space.specs.Step as space;
 ghost use Rattle.tuple_space.specs.Space.{IsSpace, most};
 ghost use Rattle.space_txn.specs.Content.{ChangesContent, content_of};
@@ -106,6 +107,13 @@ impl TxnSpace {
         ensures { space.Step self.now.space (space.count template.now) (space.told result) self.now.space }
     {
         self.space.count(template)
+    }
+
+    /// Whether no entry is there whose tuple the template asks for, held ones included. Takes no memory.
+    pub fn lacks(&self, template: &Template) -> bool
+        ensures { result ≡ (count_by (is_counted self.now.space.moment template.now) self.now.space.entries == 0) }
+    {
+        self.space.lacks(template)
     }
 
     /// Moves the moment on, which ends first the transactions whose lease has ended and drops then what is not there; an

@@ -1,11 +1,11 @@
 -- The buckets in which the numbers of entries stand.
 use Rattle.std.proofs.Common.{◌≡◌, ℕ, zero, suc, ◌+◌, ◌<◌, ◌≤◌, Bool, true, false, List, [], ◌∷◌, ◌++◌, length, get_or, refl, sym, ap, subst, ◌∙◌, cond, eqb, ⊎_elim, arith}
-use Rattle.std.specs.Prelude.{◌≢◌, ◌&&◌, not, All, Option, Some, None, OnOk, Result, Ok, Err, filter, map, remove}
+use Rattle.std.specs.Prelude.{◌≢◌, ◌&&◌, not, All, count_by, Option, Some, None, OnOk, Result, Ok, Err, filter, map, remove}
 use Rattle.std.specs.Global.{Vec}
 use Rattle.std.specs.Result.{is_err}
 use Rattle.std.specs.List.{AllZip, HoldsAt, list_any}
 use Rattle.std.proofs.Math.ListN.{set}
-use Rattle.std.proofs.lemmas.Bool.{cases_lt, cond-false, cond-true, cond_both, eq-eqb, eqb-true, false≢true, or_cases, or_left, or_right}
+use Rattle.std.proofs.lemmas.Bool.{cases_lt, cond-false, cond-true, cond_both, eq-eqb, eqb-false, eqb-true, ne_eqb, false≢true, or_cases, or_left, or_right}
 use Rattle.std.proofs.lemmas.List.{get_or_default}
 use Rattle.std.proofs.lemmas.List.Elements.{All-cons, All-head, All-map, All-nil, All-push, All-tail}
 use Rattle.std.proofs.lemmas.List.Folds.{list_any-append}
@@ -14,15 +14,15 @@ use Rattle.tuple_match.specs.FieldValue.{FieldValue, number, word, numbers}
 use Rattle.tuple_match.specs.Matching.{does_match}
 use Rattle.tuple_match.specs.PatternValue.{FieldMatches, Matches, PatternValue, actual, any_number, any_word, any_numbers}
 use Rattle.tuple_match.proofs.Deciding.{Decides-does_match}
-use Rattle.tuple_space.specs.Entry.{can_be_had, is_open}
+use Rattle.tuple_space.specs.Wanted.{is_free, is_wanted}
 use Rattle.tuple_space.specs.Held.{is_among}
-use Rattle.tuple_space.specs.Index.{AreIndexed, AreWritesIndexed, HasNoneHad, IsNotHad, StayIndexed, StaysIndexed, StaysIndexedBut, StaysIndexedTo, first_word, is_in, is_indexed, is_of, is_put, is_put_by, last_after, sought_word}
+use Rattle.tuple_space.specs.Index.{AreIndexed, AreWritesIndexed, HasNoneWanted, IsUnwanted, StayIndexed, StaysIndexed, StaysIndexedBut, StaysIndexedTo, first_word, is_in, is_indexed, is_of, is_put, is_put_by, last_after, sought_word}
 use Rattle.tuple_space.proofs.RowLemmas.{only_at}
 use Rattle.tuple_space.specs.Lease.{granted}
 use Rattle.tuple_space.specs.Rows.{IsRising}
 use Rattle.tuple_space.specs.Space.{SpaceValue, put}
 use Rattle.tuple_space.specs.Writes.{put_count, put_each}
-use Rattle.tuple_space.specs.declared.entry.Claim.{Claim}
+use Rattle.tuple_space.specs.declared.search.Wanted.{Wanted}
 use Rattle.tuple_space.specs.declared.entry.Entry.{Entry}
 use Rattle.tuple_space.specs.declared.index.Bucket.{Bucket}
 use Rattle.tuple_space.specs.declared.lease.Lease.{Lease}
@@ -244,34 +244,34 @@ first_of (any_number ∷ patterns) tuple bytes sought m = absurd (none_some soug
 first_of (any_word ∷ patterns) tuple bytes sought m = absurd (none_some sought)
 first_of (any_numbers ∷ patterns) tuple bytes sought m = absurd (none_some sought)
 
-not_had : (free matches : Bool) → (matches ≡ true → (free && matches) ≡ false) → (free && matches) ≡ false
-not_had true true h = h refl
-not_had true false h = refl
-not_had false matches h = refl
+not_both : (free matches : Bool) → (matches ≡ true → (free && matches) ≡ false) → (free && matches) ≡ false
+not_both true true h = h refl
+not_both true false h = refl
+not_both false matches h = refl
 
--- where nothing in the bucket of a word can be had, nothing can
-pub none_had : (bytes : List ℕ) (claim : Claim) (moment : ℕ) (template : List PatternValue) (es : List Entry) (buckets : List Bucket) → Some bytes ≡ sought_word template
-    → AreIndexed buckets es → All (HasNoneHad bytes claim moment template es) buckets → All (λ (e : Entry). can_be_had claim moment template e ≡ false) es
-none_had bytes claim moment template es buckets sought indexed none = λ k d lt.
+-- where nothing in the bucket of a word is wanted, nothing is
+pub none_wanted : (bytes : List ℕ) (wanted : Wanted) (moment : ℕ) (template : List PatternValue) (es : List Entry) (buckets : List Bucket) → Some bytes ≡ sought_word template
+    → AreIndexed buckets es → All (HasNoneWanted bytes wanted moment template es) buckets → All (λ (e : Entry). is_wanted wanted moment template e ≡ false) es
+none_wanted bytes wanted moment template es buckets sought indexed none = λ k d lt.
     let e = get_or es k d in
-    not_had (is_open claim moment e) (does_match template e.tuple) (λ matched.
+    not_both (is_free wanted moment e) (does_match template e.tuple) (λ matched.
     let first = first_of template e.tuple bytes sought ((Decides-does_match template e.tuple).0 matched) in
     let there : is_put bytes (length template) e.number buckets ≡ true = rw (sym first.1) (subst (λ o. is_put_by o (length e.tuple) e.number buckets ≡ true) first.0 (indexed k d lt)) in
-    of_put (IsNotHad claim moment template es) bytes (length template) buckets e.number none there k d lt refl)
+    of_put (IsUnwanted wanted moment template es) bytes (length template) buckets e.number none there k d lt refl)
 
--- the entry of a number can't be had where the one at its place can't
-pub not_had_at : (claim : Claim) (moment : ℕ) (template : List PatternValue) (es : List Entry) (n i : ℕ) (x : Entry) → IsRising es → i < length es → HoldsAt (λ (e : Entry). e.number ≡ n) es i
-    → x ≡ get_or es i x → can_be_had claim moment template x ≡ false → IsNotHad claim moment template es n
-not_had_at claim moment template es n i x rising within here is none = λ k d lt same.
+-- the entry of a number isn't wanted where the one at its place isn't
+pub unwanted_at : (wanted : Wanted) (moment : ℕ) (template : List PatternValue) (es : List Entry) (n i : ℕ) (x : Entry) → IsRising es → i < length es → HoldsAt (λ (e : Entry). e.number ≡ n) es i
+    → x ≡ get_or es i x → is_wanted wanted moment template x ≡ false → IsUnwanted wanted moment template es n
+unwanted_at wanted moment template es n i x rising within here is none = λ k d lt same.
     let only = only_at n es i rising within here in
-    let differs : k ≢ i → can_be_had claim moment template (get_or es k d) ≡ false = λ ne. absurd (only.others k d lt ne same) in
+    let differs : k ≢ i → is_wanted wanted moment template (get_or es k d) ≡ false = λ ne. absurd (only.others k d lt ne same) in
     ⊎_elim
     (λ before. differs (λ at. omega arith))
     (λ after. ⊎_elim
     (λ behind. differs (λ at. omega arith))
     (λ both_ways.
     let at : k ≡ i = omega arith in
-    ap (λ j. can_be_had claim moment template (get_or es j d)) at ∙ ap (can_be_had claim moment template) (sym (is ∙ get_or_default es i x d within)) ∙ none)
+    ap (λ j. is_wanted wanted moment template (get_or es j d)) at ∙ ap (is_wanted wanted moment template) (sym (is ∙ get_or_default es i x d within)) ∙ none)
     (cases_lt i k))
     (cases_lt k i)
 
@@ -289,3 +289,24 @@ few_more last limit x xs h =
 pub of_ok : {A E : Type 0} (P : Type 0) (r : Result A E) → OnOk r P → is_err r ≡ false → P
 of_ok P (Ok x) h e = h
 of_ok P (Err x) h e = absurd (false≢true (sym e))
+
+-- none is counted where none passes, and not none where one does
+pub count_none : (test : Entry → Bool) (es : List Entry) → All (λ (e : Entry). test e ≡ false) es → eqb (count_by test es) 0 ≡ true
+count_none test [] h = refl
+count_none test (x ∷ xs) h =
+    let P : Entry → Type 0 = λ e. test e ≡ false in
+    let counted = sum_by-cons (λ (y : Entry). cond {A = ℕ} (test y) 1 0) x xs in
+    let head = cond-false {A = ℕ} (test x) 1 0 (All-head P x xs h) in
+    let rest = eqb-true (count_by test xs) 0 (count_none test xs (All-tail P x xs h)) in
+    eq-eqb (count_by test (x ∷ xs)) 0 (omega (arith, counted, head, rest))
+
+pub count_some : (test : Entry → Bool) (es : List Entry) (i : ℕ) → i < length es → HoldsAt (λ (e : Entry). test e ≡ true) es i → eqb (count_by test es) 0 ≡ false
+count_some test [] i lt here = absurd (omega arith)
+count_some test (x ∷ xs) zero lt here =
+    let counted = sum_by-cons (λ (y : Entry). cond {A = ℕ} (test y) 1 0) x xs in
+    let one = cond-true {A = ℕ} (test x) 1 0 (here x) in
+    ne_eqb (count_by test (x ∷ xs)) 0 (λ e. omega (arith, counted, one))
+count_some test (x ∷ xs) (suc i) lt here =
+    let counted = sum_by-cons (λ (y : Entry). cond {A = ℕ} (test y) 1 0) x xs in
+    let rest = eqb-false (count_by test xs) 0 (count_some test xs i (omega arith) (λ d. here d)) in
+    ne_eqb (count_by test (x ∷ xs)) 0 (λ e. rest (omega (arith, counted)))

@@ -5,9 +5,9 @@ use Rattle.std.specs.List.{list_any}
 use Rattle.std.specs.Str.{bytes_eq}
 use Rattle.tuple_match.specs.FieldValue.{FieldValue, word, numbers}
 use Rattle.tuple_match.specs.PatternValue.{PatternValue, actual}
-use Rattle.tuple_space.specs.Entry.{can_be_had}
 use Rattle.tuple_space.specs.Held.{is_among}
-use Rattle.tuple_space.specs.declared.entry.Claim.{Claim}
+use Rattle.tuple_space.specs.Wanted.{is_wanted}
+use Rattle.tuple_space.specs.declared.search.Wanted.{Wanted}
 use Rattle.tuple_space.specs.declared.entry.Entry.{Entry}
 use Rattle.tuple_space.specs.declared.index.Bucket.{Bucket}
 use Rattle.tuple_space.specs.declared.write.Write.{Write}
@@ -78,11 +78,11 @@ AreWritesIndexed buckets last (x ∷ xs) =
 abbrev pub StayIndexed : (Entry → Bool) → List Entry → List Bucket → List Bucket → Type 0
 StayIndexed test entries old new = All (λ e. test e ≡ true → is_indexed old e.tuple e.number ≡ true → is_indexed new e.tuple e.number ≡ true) entries
 
--- the entry of a number can't be had
-abbrev pub IsNotHad : Claim → ℕ → List PatternValue → List Entry → ℕ → Type 0
-IsNotHad claim moment template entries number = All (λ e. e.number ≡ number → can_be_had claim moment template e ≡ false) entries
+-- the entry of a number isn't wanted
+abbrev pub IsUnwanted : Wanted → ℕ → List PatternValue → List Entry → ℕ → Type 0
+IsUnwanted wanted moment template entries number = All (λ e. e.number ≡ number → is_wanted wanted moment template e ≡ false) entries
 
--- where a bucket is that of a word and of the template's length, no entry whose number is in it can be had
-abbrev pub HasNoneHad : List ℕ → Claim → ℕ → List PatternValue → List Entry → Bucket → Type 0
-HasNoneHad bytes claim moment template entries bucket =
-    is_of bytes (length template) bucket ≡ true → All (λ (l : Vec ℕ). All (IsNotHad claim moment template entries) l.items) bucket.by_length.items
+-- where a bucket is that of a word and of the template's length, no entry whose number is in it is wanted
+abbrev pub HasNoneWanted : List ℕ → Wanted → ℕ → List PatternValue → List Entry → Bucket → Type 0
+HasNoneWanted bytes wanted moment template entries bucket =
+    is_of bytes (length template) bucket ≡ true → All (λ (l : Vec ℕ). All (IsUnwanted wanted moment template entries) l.items) bucket.by_length.items

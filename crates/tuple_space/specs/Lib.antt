@@ -6,4 +6,5 @@ pub mod Lease
 pub mod Rows
 pub mod Space
 pub mod Step
+pub mod Wanted
 pub mod Writes

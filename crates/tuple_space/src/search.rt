@@ -1,154 +1,203 @@
 //! Which entry a template finds: the order in which entries are tried.
 
-ghost use Rattle.std.specs.Prelude.{◌≡◌, ◌<◌, true, false, All, IfNone, IfSome, length};
+ghost use Rattle.std.specs.Prelude.{◌≡◌, ◌<◌, ◌==◌, true, false, All, IfNone, IfSome, count_by, length};
 ghost use Rattle.std.specs.List.{AllWithin, HoldsAt};
-ghost use Rattle.tuple_space.specs.Entry.{can_be_had};
-ghost use Rattle.tuple_space.specs.Index.{AreIndexed, HasNoneHad, IsNotHad};
+ghost use Rattle.tuple_space.specs.Entry.{is_counted};
+ghost use Rattle.tuple_space.specs.Index.{AreIndexed, HasNoneWanted, IsUnwanted};
+ghost use Rattle.tuple_space.specs.Wanted.{is_free, is_wanted};
 ghost use Rattle.tuple_space.specs.Rows.{IsRising};
 
-use crate::admission::can_be_had;
+use crate::admission::{is_open, is_there};
 use crate::entry::{Claim, Entry};
 use crate::index::{Bucket, is_of, sought_word};
 use crate::rows::place_of;
-use tuple_match::Template;
+use tuple_match::{Template, matches};
 
-/// The place of the newest entry that can be had.
-fn newest_place(entries: &[Entry], claim: Claim, moment: u64, template: &Template) -> Option<usize>
-    ensures none { IfNone result (All (λ e. can_be_had claim moment template.now e ≡ false) entries.now) }
+/// Which entries are wanted, of those whose tuples a template asks for.
+#[derive(Clone, Copy, Debug, PartialEq, Eq)]
+pub(crate) enum Wanted {
+    /// Those that a claim allows.
+    Allowed(Claim),
+    /// Those that are there.
+    There,
+}
+
+/// Whether the entry is wanted, if the template asks for its tuple.
+fn is_free(entry: &Entry, wanted: Wanted, moment: u64) -> bool
+    ensures { result ≡ is_free wanted moment entry.now }
+{
+    match wanted {
+        Wanted::Allowed(claim) => is_open(entry, claim, moment),
+        Wanted::There => is_there(entry, moment),
+    }
+}
+
+/// Whether the entry is wanted, and the template asks for its tuple.
+fn is_wanted(entry: &Entry, wanted: Wanted, moment: u64, template: &Template) -> bool
+    ensures { result ≡ is_wanted wanted moment template.now entry.now }
+{
+    is_free(entry, wanted, moment) && matches(template, &entry.tuple)
+}
+
+/// The place of the newest entry that is wanted.
+fn newest_place(
+    entries: &[Entry],
+    wanted: Wanted,
+    moment: u64,
+    template: &Template,
+) -> Option<usize>
+    ensures none { IfNone result (All (λ e. is_wanted wanted moment template.now e ≡ false) entries.now) }
     ensures place { IfSome result (λ i. i < length entries.now) }
-    ensures can { IfSome result (HoldsAt (λ e. can_be_had claim moment template.now e ≡ true) entries.now) }
+    ensures can { IfSome result (HoldsAt (λ e. is_wanted wanted moment template.now e ≡ true) entries.now) }
 {
     for place in (0..entries.len()).rev() {
-        if can_be_had(&entries[place], claim, moment, template) {
+        if is_wanted(&entries[place], wanted, moment, template) {
             return Some(place);
         }
     }
     None
 }
 
-/// The place of the entry of a number, where it can be had.
-fn place_if_had(
+/// The place of the entry of a number, where it is wanted.
+fn place_if_wanted(
     entries: &[Entry],
     number: u64,
-    claim: Claim,
+    wanted: Wanted,
     moment: u64,
     template: &Template,
 ) -> Option<usize>
     requires { IsRising entries.now }
-    ensures none { IfNone result (IsNotHad claim moment template.now entries.now number) }
+    ensures none { IfNone result (IsUnwanted wanted moment template.now entries.now number) }
     ensures place { IfSome result (λ i. i < length entries.now) }
-    ensures can { IfSome result (HoldsAt (λ e. can_be_had claim moment template.now e ≡ true) entries.now) }
+    ensures can { IfSome result (HoldsAt (λ e. is_wanted wanted moment template.now e ≡ true) entries.now) }
 {
     let place = place_of(entries, number)?;
-    if !can_be_had(&entries[place], claim, moment, template) {
+    if !is_wanted(&entries[place], wanted, moment, template) {
         return None;
     }
     Some(place)
 }
 
-/// The place of the entry that can be had whose number stands last among these.
+/// The place of the entry that is wanted whose number stands last among these.
 fn last_place(
     entries: &[Entry],
     numbers: &[u64],
-    claim: Claim,
+    wanted: Wanted,
     moment: u64,
     template: &Template,
 ) -> Option<usize>
     requires { IsRising entries.now }
-    ensures none { IfNone result (All (IsNotHad claim moment template.now entries.now) numbers.now) }
+    ensures none { IfNone result (All (IsUnwanted wanted moment template.now entries.now) numbers.now) }
     ensures place { IfSome result (λ i. i < length entries.now) }
-    ensures can { IfSome result (HoldsAt (λ e. can_be_had claim moment template.now e ≡ true) entries.now) }
+    ensures can { IfSome result (HoldsAt (λ e. is_wanted wanted moment template.now e ≡ true) entries.now) }
 {
     for i in (0..numbers.len()).rev() {
-        if let Some(place) = place_if_had(entries, numbers[i], claim, moment, template) {
+        if let Some(place) = place_if_wanted(entries, numbers[i], wanted, moment, template) {
             return Some(place);
         }
     }
     None
 }
 
-/// The place of the entry that can be had whose number stands last in the last list that has one.
+/// The place of the entry that is wanted whose number stands last in the last list that has one.
 fn longest_place(
     entries: &[Entry],
     lists: &[Vec<u64>],
-    claim: Claim,
+    wanted: Wanted,
     moment: u64,
     template: &Template,
 ) -> Option<usize>
     requires { IsRising entries.now }
-    ensures none { IfNone result (All (λ l. All (IsNotHad claim moment template.now entries.now) l.items) lists.now) }
+    ensures none { IfNone result (All (λ l. All (IsUnwanted wanted moment template.now entries.now) l.items) lists.now) }
     ensures place { IfSome result (λ i. i < length entries.now) }
-    ensures can { IfSome result (HoldsAt (λ e. can_be_had claim moment template.now e ≡ true) entries.now) }
+    ensures can { IfSome result (HoldsAt (λ e. is_wanted wanted moment template.now e ≡ true) entries.now) }
 {
     for i in (0..lists.len()).rev() {
-        if let Some(place) = last_place(entries, &lists[i], claim, moment, template) {
+        if let Some(place) = last_place(entries, &lists[i], wanted, moment, template) {
             return Some(place);
         }
     }
     None
 }
 
-/// The place of the entry that can be had whose number stands so in a bucket, where the bucket is that of a word and of the
+/// The place of the entry that is wanted whose number stands so in a bucket, where the bucket is that of a word and of the
 /// template's length.
 fn place_in_bucket(
     entries: &[Entry],
     bucket: &Bucket,
     word: &str,
-    claim: Claim,
+    wanted: Wanted,
     moment: u64,
     template: &Template,
 ) -> Option<usize>
     requires { IsRising entries.now }
-    ensures none { IfNone result (HasNoneHad word.now claim moment template.now entries.now bucket.now) }
+    ensures none { IfNone result (HasNoneWanted word.now wanted moment template.now entries.now bucket.now) }
     ensures place { IfSome result (λ i. i < length entries.now) }
-    ensures can { IfSome result (HoldsAt (λ e. can_be_had claim moment template.now e ≡ true) entries.now) }
+    ensures can { IfSome result (HoldsAt (λ e. is_wanted wanted moment template.now e ≡ true) entries.now) }
 {
     if !is_of(bucket, word, template.patterns().len()) {
         return None;
     }
-    longest_place(entries, &bucket.by_length, claim, moment, template)
+    longest_place(entries, &bucket.by_length, wanted, moment, template)
 }
 
-/// The place of the entry that can be had whose number stands so in the bucket of a word and of the template's length.
+/// The place of the entry that is wanted whose number stands so in the bucket of a word and of the template's length.
 fn place_of_word(
     entries: &[Entry],
     buckets: &[Bucket],
     word: &str,
-    claim: Claim,
+    wanted: Wanted,
     moment: u64,
     template: &Template,
 ) -> Option<usize>
     requires { IsRising entries.now }
-    ensures none { IfNone result (All (HasNoneHad word.now claim moment template.now entries.now) buckets.now) }
+    ensures none { IfNone result (All (HasNoneWanted word.now wanted moment template.now entries.now) buckets.now) }
     ensures place { IfSome result (λ i. i < length entries.now) }
-    ensures can { IfSome result (HoldsAt (λ e. can_be_had claim moment template.now e ≡ true) entries.now) }
+    ensures can { IfSome result (HoldsAt (λ e. is_wanted wanted moment template.now e ≡ true) entries.now) }
 {
     for i in 0..buckets.len() {
-        if let Some(place) = place_in_bucket(entries, &buckets[i], word, claim, moment, template) {
+        if let Some(place) = place_in_bucket(entries, &buckets[i], word, wanted, moment, template) {
             return Some(place);
         }
     }
     None
 }
 
-/// The place of an entry that can be had. Where the template asks for a word first, that is one with the longest list as its
+/// The place of an entry that is wanted. Where the template asks for a word first, that is one with the longest list as its
 /// second field, and the newest of these; else the newest.
-pub(crate) fn place_had(
+pub(crate) fn place_wanted(
     entries: &[Entry],
     buckets: &[Bucket],
-    claim: Claim,
+    wanted: Wanted,
     moment: u64,
     template: &Template,
 ) -> Option<usize>
     requires rising { IsRising entries.now }
     requires indexed { AreIndexed buckets.now entries.now }
-    ensures none { IfNone result (All (λ e. can_be_had claim moment template.now e ≡ false) entries.now) }
+    ensures none { IfNone result (All (λ e. is_wanted wanted moment template.now e ≡ false) entries.now) }
     ensures place { IfSome result (λ i. i < length entries.now) }
-    ensures can { IfSome result (HoldsAt (λ e. can_be_had claim moment template.now e ≡ true) entries.now) }
+    ensures can { IfSome result (HoldsAt (λ e. is_wanted wanted moment template.now e ≡ true) entries.now) }
 {
     let Some(word) = sought_word(template) else {
-        return newest_place(entries, claim, moment, template);
+        return newest_place(entries, wanted, moment, template);
     };
-    let place = place_of_word(entries, buckets, word, claim, moment, template)?;
+    let place = place_of_word(entries, buckets, word, wanted, moment, template)?;
     Some(place)
+}
+
+/// Whether no entry is there whose tuple the template asks for.
+pub(crate) fn is_lacking(
+    entries: &[Entry],
+    buckets: &[Bucket],
+    moment: u64,
+    template: &Template,
+) -> bool
+    requires rising { IsRising entries.now }
+    requires indexed { AreIndexed buckets.now entries.now }
+    ensures { result ≡ (count_by (is_counted moment template.now) entries.now == 0) }
+{
+    match place_wanted(entries, buckets, Wanted::There, moment, template) {
+        Some(_) => false,
+        None => true,
+    }
 }

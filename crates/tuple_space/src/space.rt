@@ -1,7 +1,8 @@
 //! The space and its calls.
 
-ghost use Rattle.std.specs.Prelude.{◌≡◌, ◌≤◌, ◌+◌, ◌^◌, ◌==◌, true, IfErr, IfSome, IfNone, IfOk, OnErr, OnOk, find, option_map};
+ghost use Rattle.std.specs.Prelude.{◌≡◌, ◌≤◌, ◌+◌, ◌^◌, ◌==◌, true, IfErr, IfSome, IfNone, IfOk, OnErr, OnOk, count_by, find, option_map};
 ghost use Rattle.std.specs.Option.{option_copied};
+ghost use Rattle.tuple_space.specs.Entry.{is_counted};
 ghost use Rattle.tuple_space.specs.Space.{IsSpace, held_by, opening, released, with_entries, without_taken};
 ghost use Rattle.std.specs.List.{list_any};
 ghost use Rattle.tuple_space.specs.Held.{HasHeld};
@@ -19,7 +20,7 @@ use crate::indexing::{add_writes, drop_all_taken, drop_gone, drop_leaving, drop_
 use crate::lease::Lease;
 use crate::permanent::permanent_of;
 use crate::rows::{change_end, count_of, entry_of, keep_there, take_at, take_number};
-use crate::search::place_had;
+use crate::search::{Wanted, is_lacking, place_wanted};
 use crate::write::Writes;
 use std::alloc::{AllocError, Global};
 use std::marker::Model;
@@ -108,10 +109,10 @@ impl Space {
     pub fn inp(&mut self, template: &Template) -> Option<(EntryId, Tuple)>
         ensures step { Step self.old (inp template.now) (inp_reply result) self.new }
     {
-        let place = place_had(
+        let place = place_wanted(
             &self.entries,
             &self.buckets,
-            Claim::Take,
+            Wanted::Allowed(Claim::Take),
             self.moment,
             template,
         )?;
@@ -165,13 +166,26 @@ impl Space {
         count_of(&self.entries, self.moment, template)
     }
 
+    /// Whether no entry is there whose tuple the template asks for, held ones included. Takes no memory.
+    pub fn lacks(&self, template: &Template) -> bool
+        ensures { result ≡ (count_by (is_counted self.now.moment template.now) self.now.entries == 0) }
+    {
+        is_lacking(&self.entries, &self.buckets, self.moment, template)
+    }
+
     /// An entry that can be had under a claim. Where the template asks for a word first, it is one with the longest list as its
     /// second field, and the newest of these; else the newest.
     pub fn search(&self, claim: Claim, template: &Template) -> Option<&Entry>
         ensures found { IfSome result (λ e. IsHad self.now claim template.now e.now) }
         ensures none { IfNone result (NothingHad self.now claim template.now) }
     {
-        let place = place_had(&self.entries, &self.buckets, claim, self.moment, template)?;
+        let place = place_wanted(
+            &self.entries,
+            &self.buckets,
+            Wanted::Allowed(claim),
+            self.moment,
+            template,
+        )?;
         Some(&self.entries[place])
     }
 

@@ -147,12 +147,13 @@ fn holders_leave_and_take(rt: HostRuntime) -> Result<(), Fail> {
     let id = space.out(job(alloc, 5)?, Lease::Forever)?;
     hold(&mut space, id, 7, true)?;
     assert_eq!(rt; read(&space, &jobs)?, None);
+    assert!(rt; !space.lacks(&jobs));
     space.unpin(7);
     assert_eq!(rt; read(&space, &jobs)?, Some(5));
     hold(&mut space, id, 8, true)?;
     space.remove_taken(8);
     space.unpin(8);
     assert_eq!(rt; read(&space, &jobs)?, None);
-    assert_eq!(rt; space.count(&jobs), 0);
+    assert!(rt; space.lacks(&jobs));
     Ok(())
 }

@@ -1,7 +1,7 @@
 use Rattle.std.proofs.Common.{length}
 use Rattle.std.specs.List.{AllWithin}
-use Rattle.tuple_space.specs.Index.{IsNotHad}
+use Rattle.tuple_space.specs.Index.{IsUnwanted}
 use Rattle.tuple_space.proofs.search.last_place.Given as goal
 
 abbrev pub invariant-loop-i : goal.invariant-loop-i
-invariant-loop-i l = AllWithin (IsNotHad l.claim l.moment l.template l.entries) l.numbers l.i (length l.numbers)
+invariant-loop-i l = AllWithin (IsUnwanted l.wanted l.moment l.template l.entries) l.numbers l.i (length l.numbers)
