@@ -1,3 +1,4 @@
+pub mod EndLemmas
 pub mod EntryLemmas
 pub mod HeldLemmas
 pub mod HoldLemmas

@@ -1,3 +1,4 @@
+pub mod Ends
 pub mod Entry
 pub mod Held
 pub mod Holds

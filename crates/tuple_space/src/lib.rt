@@ -5,6 +5,7 @@
 #![tactic(auto)]
 
 mod admission;
+mod ends;
 mod entry;
 mod error;
 mod held;

@@ -10,6 +10,7 @@ ghost use Rattle.tuple_space.specs.Rows.{IsRising, changed, permanent_tuples, wi
 ghost use Rattle.tuple_space.specs.Writes.{IsPutRefusal, put_count, put_each};
 ghost use Rattle.tuple_space.specs.Step.{IsHad, NothingHad, Step, advance, count, done_reply, inp, inp_reply, now, out, out_reply, rdp, rdp_reply, renew, told};
 
+use crate::ends::{end_with, end_with_all, first_end};
 use crate::entry::{Claim, Entry, EntryId};
 use crate::error::SpaceError;
 use crate::held::{add_number, keep_held};
@@ -37,11 +38,14 @@ pub struct Space {
     held: Vec<u64>,
     /// The numbers of the entries whose tuples begin with a word, by that word and how many fields they have.
     buckets: Vec<Bucket>,
+    /// No lease ends before this moment.
+    first_end: u64,
     moment: u64,
     last: u64,
 }
 
 impl Model for Space {
+    ghost use Rattle.tuple_space.specs.Ends.{AreLiveBefore};
     ghost use Rattle.tuple_space.specs.Held.{HasHeld};
     ghost use Rattle.tuple_space.specs.Index.{AreIndexed};
     ghost use Rattle.tuple_space.specs.Space.{IsSpace, SpaceValue, space_of};
@@ -50,7 +54,7 @@ impl Model for Space {
 
     ghost view = { λ s. space_of s.entries.items s.moment s.last };
 
-    ghost invariant = { λ s. IsSpace (space_of s.entries.items s.moment s.last) × HasHeld s.held.items s.entries.items × AreIndexed s.buckets.items s.entries.items };
+    ghost invariant = { λ s. IsSpace (space_of s.entries.items s.moment s.last) × HasHeld s.held.items s.entries.items × AreIndexed s.buckets.items s.entries.items × AreLiveBefore s.first_end s.entries.items };
 }
 
 impl Space {
@@ -62,6 +66,7 @@ impl Space {
             entries: Vec::new(alloc),
             held: Vec::new(alloc),
             buckets: Vec::new(alloc),
+            first_end: u64::MAX,
             moment: 0,
             last: 0,
         }
@@ -101,6 +106,7 @@ impl Space {
                 holds,
             })
             .unwrap();
+        self.first_end = end_with(self.first_end, lease, self.moment);
         self.last = number;
         Ok(EntryId::new(number))
     }
@@ -151,11 +157,16 @@ impl Space {
         if moment > MOST {
             return Err(SpaceError::Exhausted);
         }
-        if moment >= self.moment {
-            self.moment = moment;
-            drop_gone(&mut self.buckets, &self.entries, moment);
-            keep_there(&mut self.entries, moment);
+        if moment < self.moment {
+            return Ok(());
         }
+        self.moment = moment;
+        if moment < self.first_end {
+            return Ok(());
+        }
+        drop_gone(&mut self.buckets, &self.entries, moment);
+        keep_there(&mut self.entries, moment);
+        self.first_end = first_end(&self.entries);
         Ok(())
     }
 
@@ -296,6 +307,7 @@ impl Space {
             drop_writes(&mut self.buckets, writes.as_slice(), self.last);
             return Err((SpaceError::OutOfMemory, writes));
         }
+        self.first_end = end_with_all(self.first_end, writes.as_slice(), self.moment);
         self.last = put_rows(
             &mut self.entries,
             writes.into_rows(),
@@ -319,6 +331,7 @@ impl Space {
             entries,
             held: _,
             buckets: _,
+            first_end: _,
             moment: _,
             last: _,
         } = self;

@@ -7,6 +7,10 @@ use Rattle.tuple_space.proofs.HeldLemmas.{held_put_each}
 use Rattle.tuple_space.specs.declared.write.Write.{Write}
 use Rattle.tuple_space.specs.Index.{AreIndexed, AreWritesIndexed}
 use Rattle.tuple_space.proofs.IndexLemmas.{indexed_more, indexed_put_each, of_ok}
+use Rattle.std.specs.Prelude.{All}
+use Rattle.tuple_space.specs.Ends.{AreLiveBefore, IsLiveBefore}
+use Rattle.tuple_space.specs.Lease.{granted}
+use Rattle.tuple_space.proofs.EndLemmas.{live_less, live_put_each}
 use Rattle.tuple_space.proofs.SpaceLemmas.{IsSpace-put_each}
 use Rattle.tuple_space.proofs.space.Space.put_all.Goals as goal
 
@@ -25,4 +29,7 @@ invariant_of-self-2 c =
       subst (λ (v : SpaceValue). HasHeld s.held.items v.entries) (sym same) (held_put_each s.held.items w c.args.writes c.self.invariant.1),
       subst (λ (v : SpaceValue). AreIndexed c.add_writes.new.buckets.items v.entries) (sym same) (indexed_put_each c.add_writes.new.buckets.items w c.args.writes there
           (indexed_more s.buckets.items c.add_writes.new.buckets.items s.entries.items c.add_writes.ensures.stays c.self.invariant.2)),
+      subst (λ (v : SpaceValue). AreLiveBefore c.end_with_all-self-inside.result v.entries) (sym same) (live_put_each c.end_with_all-self-inside.result w c.args.writes
+          (subst (λ (l : List Write). All (λ (x : Write). IsLiveBefore c.end_with_all-self-inside.result (granted s.moment x.lease)) l) c.as_slice-3.ensures c.end_with_all-self-inside.ensures.live)
+          (live_less c.end_with_all-self-inside.result s.first_end s.entries.items c.end_with_all-self-inside.ensures.less c.self.invariant.3)),
     )

@@ -5,6 +5,8 @@ use Rattle.tuple_space.specs.Rows.{IsRising}
 use Rattle.tuple_space.proofs.HeldLemmas.{held_filter, held_settled}
 use Rattle.tuple_space.proofs.RowLemmas.{rising_filter}
 use Rattle.tuple_space.proofs.IndexLemmas.{indexed_filter, stay_without}
+use Rattle.tuple_space.proofs.EndLemmas.{live_filter}
+use Rattle.tuple_space.proofs.EndLemmas.{live_filter}
 use Rattle.tuple_space.proofs.SpaceLemmas.{IsSpace-filter}
 use Rattle.tuple_space.proofs.space.Space.remove.Goals as goal
 
@@ -21,6 +23,7 @@ invariant_of-self c =
       IsSpace-filter stays s.entries.items s.moment s.last s.moment c.self.invariant.0.early c.self.invariant.0,
       held_filter stays s.held.items s.entries.items c.self.invariant.1,
       indexed_filter stays s.entries.items s.buckets.items s.buckets.items c.self.invariant.2 (λ k d lt passes put. put),
+      live_filter s.first_end stays s.entries.items c.self.invariant.3,
     )
 
 pub invariant_of-self-2 : goal.invariant_of-self-2
@@ -31,4 +34,5 @@ invariant_of-self-2 c =
       IsSpace-filter stays s.entries.items s.moment s.last s.moment c.self.invariant.0.early c.self.invariant.0,
       held_settled s.held.items _ _ c.deref.result.now (c.deref.ensures.value ∙ c.take_number.ensures.rest) c.keep_held.ensures (held_filter stays s.held.items s.entries.items c.self.invariant.1),
       indexed_filter stays s.entries.items s.buckets.items _ c.self.invariant.2 (stay_without c.number-number.result s.entries.items s.buckets.items _ c.drop_entry.ensures),
+      live_filter s.first_end stays s.entries.items c.self.invariant.3,
     )

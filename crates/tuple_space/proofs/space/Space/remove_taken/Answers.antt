@@ -6,6 +6,7 @@ use Rattle.tuple_space.specs.Rows.{IsRising}
 use Rattle.tuple_space.proofs.HeldLemmas.{held_filter, held_settled}
 use Rattle.tuple_space.proofs.RowLemmas.{rising_filter}
 use Rattle.tuple_space.proofs.IndexLemmas.{indexed_filter}
+use Rattle.tuple_space.proofs.EndLemmas.{live_filter}
 use Rattle.tuple_space.proofs.SpaceLemmas.{IsSpace-filter}
 use Rattle.tuple_space.proofs.space.Space.remove_taken.Goals as goal
 
@@ -22,4 +23,5 @@ invariant_of-self c =
       IsSpace-filter stays s.entries.items s.moment s.last s.moment c.self.invariant.0.early c.self.invariant.0,
       held_settled s.held.items _ _ c.deref-4.result.now (c.deref-4.ensures.value ∙ c.drop_taken.ensures) c.keep_held.ensures (held_filter stays s.held.items s.entries.items c.self.invariant.1),
       indexed_filter stays s.entries.items s.buckets.items _ c.self.invariant.2 (rw c.deref.ensures.value at c.drop_all_taken.ensures),
+      live_filter s.first_end stays s.entries.items c.self.invariant.3,
     )

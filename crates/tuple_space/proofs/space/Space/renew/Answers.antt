@@ -7,6 +7,7 @@ use Rattle.tuple_space.proofs.RowLemmas.{changed_number}
 use Rattle.tuple_space.proofs.EntryLemmas.{IsEntry-changed, IsEntry-end}
 use Rattle.tuple_space.proofs.HeldLemmas.{held_map}
 use Rattle.tuple_space.proofs.IndexLemmas.{changed_tuple, indexed_map}
+use Rattle.tuple_space.proofs.EndLemmas.{live_changed, live_later, live_map}
 use Rattle.tuple_space.proofs.SpaceLemmas.{IsSpace-map}
 use Rattle.tuple_space.proofs.space.Space.renew.Goals as goal
 
@@ -20,4 +21,5 @@ invariant_of-self c =
       held_map (λ (e : Entry). cond (eqb e.number n) (change e) e) (changed_number n change (λ e. refl))
           (λ e held. cond_both (eqb e.number n) (change e) e (λ (x : Entry). is_held x ≡ true → is_held e ≡ true) (λ t h. h) (λ t h. h) held) s.held.items s.entries.items c.self.invariant.1,
       indexed_map (λ (e : Entry). cond (eqb e.number n) (change e) e) (changed_number n change (λ e. refl)) (changed_tuple n change (λ e. refl)) s.buckets.items s.entries.items c.self.invariant.2,
+      live_map s.first_end (λ (e : Entry). cond (eqb e.number n) (change e) e) (live_changed s.first_end n change (λ e live. live_later s.first_end e.end c.granted-end.result live)) s.entries.items c.self.invariant.3,
     )

@@ -7,6 +7,7 @@ use Rattle.tuple_space.proofs.EntryLemmas.{IsEntry-unheld}
 use Rattle.tuple_space.proofs.HeldLemmas.{held_released, held_settled}
 use Rattle.tuple_space.proofs.RowLemmas.{rising_filter, rising_map}
 use Rattle.tuple_space.proofs.IndexLemmas.{indexed_filter, indexed_map}
+use Rattle.tuple_space.proofs.EndLemmas.{live_filter, live_map}
 use Rattle.tuple_space.proofs.SpaceLemmas.{IsSpace-filter, IsSpace-map}
 use Rattle.tuple_space.proofs.space.Space.unpin.Goals as goal
 
@@ -27,4 +28,5 @@ invariant_of-self c =
       held_settled s.held.items _ _ c.deref-4.result.now (c.deref-4.ensures.value ∙ c.release_all.ensures) c.keep_held.ensures (held_released c.args.holder s.moment s.held.items s.entries.items c.self.invariant.1),
       indexed_map (unheld c.args.holder) (λ e. refl) (λ e. refl) _ (filter stays s.entries.items)
           (indexed_filter stays s.entries.items s.buckets.items _ c.self.invariant.2 (rw c.deref.ensures.value at c.drop_leaving.ensures)),
+      live_map s.first_end (unheld c.args.holder) (λ e live. live) (filter stays s.entries.items) (live_filter s.first_end stays s.entries.items c.self.invariant.3),
     )

@@ -1,0 +1,61 @@
+//! When the first lease of several ends.
+
+ghost use Rattle.std.specs.Prelude.{◌≤◌, ◌^◌, All};
+ghost use Rattle.tuple_space.specs.Ends.{AreLiveBefore, IsLiveBefore};
+ghost use Rattle.tuple_space.specs.Lease.{granted};
+
+use crate::entry::Entry;
+use crate::lease::{Lease, LeaseEnd};
+use crate::write::Write;
+
+/// The moment at which a lease ends; the last one where it never does.
+fn moment_of(end: LeaseEnd) -> u64
+    ensures { IsLiveBefore result end }
+{
+    match end {
+        LeaseEnd::Never => u64::MAX,
+        LeaseEnd::At(moment) => moment,
+    }
+}
+
+/// The earlier of a moment and the end of a lease.
+fn earlier(first: u64, end: LeaseEnd) -> u64
+    ensures less { result ≤ first }
+    ensures live { IsLiveBefore result end }
+{
+    let ends = moment_of(end);
+    if ends < first { ends } else { first }
+}
+
+/// The moment at which the first of the entries' leases ends.
+pub(crate) fn first_end(entries: &[Entry]) -> u64
+    ensures { AreLiveBefore result entries.now }
+{
+    let mut first = u64::MAX;
+    for entry in entries {
+        first = earlier(first, entry.end);
+    }
+    first
+}
+
+/// The earlier of a moment and the end of a lease that is granted now.
+pub(crate) fn end_with(first: u64, lease: Lease, moment: u64) -> u64
+    requires { moment ≤ 2 ^ 62 }
+    ensures less { result ≤ first }
+    ensures live { IsLiveBefore result (granted moment lease) }
+{
+    earlier(first, lease.granted(moment))
+}
+
+/// The earliest of a moment and the ends of leases that are granted now.
+pub(crate) fn end_with_all(first: u64, writes: &[Write], moment: u64) -> u64
+    requires { moment ≤ 2 ^ 62 }
+    ensures less { result ≤ first }
+    ensures live { All (λ x. IsLiveBefore result (granted moment x.lease)) writes.now }
+{
+    let mut earliest = first;
+    for write in writes {
+        earliest = end_with(earliest, write.lease, moment);
+    }
+    earliest
+}
