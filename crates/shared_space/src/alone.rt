@@ -199,7 +199,7 @@ impl<L: Law> Room<L> for Alone<L> {
     }
 
     fn close(&mut self, template: &Template) -> bool {
-        self.closed = self.closed || self.left >= self.shares || self.space.count(template) == 0;
+        self.closed = self.closed || self.left >= self.shares || self.space.lacks(template);
         self.closed
     }
 }
