@@ -137,3 +137,13 @@ thinks I lease tools old new (Begun t) next tally b hand due c goes = absurd (fa
 thinks I lease tools old new (Considered t) next tally b hand due c goes = absurd (false≢true due)
 thinks I lease tools old new (Ready t cost) next tally b hand due c goes = absurd (false≢true due)
 thinks I lease tools old new (GivingUp t) next tally b hand due c goes = absurd (false≢true due)
+
+-- no thought is due then
+pub not_due_after : (stage next : Stage) (b : Bool) → is_due stage ≡ true → ((t : TxnValue) (number : ℕ) → stage ≡ Taken t number → next ≡ stage_after b t) → is_due next ≡ false
+not_due_after (Taken t number) next true due goes = ap is_due (goes t number refl)
+not_due_after (Taken t number) next false due goes = ap is_due (goes t number refl)
+not_due_after Idle next b due goes = absurd (false≢true due)
+not_due_after (Begun t) next b due goes = absurd (false≢true due)
+not_due_after (Considered t) next b due goes = absurd (false≢true due)
+not_due_after (Ready t cost) next b due goes = absurd (false≢true due)
+not_due_after (GivingUp t) next b due goes = absurd (false≢true due)

@@ -135,6 +135,7 @@ impl Hand {
     pub fn think<G: Gate>(&mut self, gate: &G) -> Result<(), AllocError>
         requires { is_due self.old.stage ≡ true }
         ensures thought { OnOk result (Thinks self.old self.new) }
+        ensures not_due { OnOk result (is_due self.new.stage ≡ false) }
         ensures unchanged { OnErr result (self.new ≡ self.old) }
         ensures accepted { self.new.accepted ≡ self.old.accepted }
         ensures instance { self.new.instance ≡ self.old.instance }

@@ -47,6 +47,8 @@ pub use workers::solve;
 pub use writing::tuple_of_best;
 
 #[cfg(test)]
+mod hand_tests;
+#[cfg(test)]
 mod solving_tests;
 #[cfg(test)]
 mod tests;

@@ -58,7 +58,7 @@ fn tuples(alloc: Global, row: Row) -> Result<Vec<Tuple>, Fail> {
 
 /// Three facilities: the order 0 1 2 costs 24, and none costs less. The root's reduced matrix has the rows 9 7 4, 11 8 5 and
 /// 16 13 7, whose least assignment takes 9, 8 and 7.
-fn three(alloc: Global) -> Result<Instance, Fail> {
+pub(crate) fn three(alloc: Global) -> Result<Instance, Fail> {
     let a = Vec::from_slice(alloc, &[0, 1, 2, 1, 0, 3, 2, 3, 0])?;
     let b = Vec::from_slice(alloc, &[0, 5, 2, 5, 0, 1, 2, 1, 0])?;
     Ok(Instance::new(3, a, b)?)
