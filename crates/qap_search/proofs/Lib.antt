@@ -1,3 +1,4 @@
+mod Runs
 pub mod Assembled
 pub mod BestFacts
 pub mod Certificates

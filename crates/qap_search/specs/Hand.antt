@@ -38,6 +38,10 @@ abbrev pub hand_of : Problem → ℕ → Option ThoughtValue → Stage → Tally
 hand_of I lease last stage tally =
     record { instance = I; lease = lease; last = last; stage = stage; best = tally.best; accepted = tally.accepted; refused = tally.refused }
 
+-- a worker who has done nothing yet
+abbrev pub new_hand : Problem → ℕ → HandValue
+new_hand I lease = record { instance = I; lease = lease; last = None; stage = Idle; best = None; accepted = 0; refused = 0 }
+
 -- a thought is due: an open node's entry was taken
 abbrev pub is_due : Stage → Bool
 is_due (Taken t number) = true

@@ -11,6 +11,7 @@ pub mod Finished
 pub mod Found
 pub mod Hand
 pub mod InOrder
+pub mod Interleaving
 pub mod Opening
 pub mod Piece
 pub mod Pieces

@@ -1,12 +1,11 @@
 //! A worker of the search.
 
-ghost use Rattle.std.specs.Prelude.{◌≡◌, ◌+◌, ◌≤◌, None, true, false, IfOk, OnErr, OnOk};
+ghost use Rattle.std.specs.Prelude.{◌≡◌, ◌+◌, ◌≤◌, true, false, IfOk, OnErr, OnOk};
 ghost use Rattle.std.specs.Arc.{arc_value};
-ghost use Rattle.qap_search.specs.Hand.{is_due, kind_of};
+ghost use Rattle.qap_search.specs.Hand.{is_due, kind_of, new_hand};
 ghost use Rattle.qap_search.specs.SearchLaw.{IsSearchLaw};
 ghost use Rattle.qap_search.specs.Thinking.{Thinks};
 ghost use Rattle.qap_search.specs.Turn.{Turn};
-ghost use Rattle.qap_search.specs.declared.stage.Stage.TheVariants.{Idle};
 ghost use Rattle.qap_search.specs.declared.report.Ended.TheVariants.{Done};
 
 use crate::gate::{Gate, Kind};
@@ -55,11 +54,8 @@ impl Hand {
         lease_ms: u64,
     ) -> Result<Hand, AllocError>
         ensures instance { IfOk result (λ hand. hand.instance ≡ arc_value instance) }
-        ensures lease { IfOk result (λ hand. hand.lease ≡ lease_ms) }
-        ensures idle { IfOk result (λ hand. hand.stage ≡ Idle) }
-        ensures knows_nothing { IfOk result (λ hand. (hand.last ≡ None) × (hand.best ≡ None)) }
         ensures accepted { IfOk result (λ hand. hand.accepted ≡ 0) }
-        ensures refused { IfOk result (λ hand. hand.refused ≡ 0) }
+        ensures value { IfOk result (λ hand. hand ≡ new_hand (arc_value instance) lease_ms) }
     {
         let _instance = instance.instance();
         let tools = Tools {

@@ -16,9 +16,11 @@ mod law;
 mod opening;
 mod ordering;
 mod pieces;
+mod post;
 mod putting;
 mod reading;
 mod report;
+mod schedule;
 mod seat;
 mod solving;
 mod stage;
@@ -40,6 +42,7 @@ pub use law::{certificate_law, found_law, opening_law, order_law, replacement_la
 pub use putting::put_forever;
 pub use reading::read_node;
 pub use report::{Ended, Report};
+pub use schedule::{Run, Step, play};
 pub use solving::solve_alone;
 pub use templates::{best_template, node_template};
 pub use thought::Thought;
@@ -48,6 +51,8 @@ pub use writing::tuple_of_best;
 
 #[cfg(test)]
 mod hand_tests;
+#[cfg(test)]
+mod schedule_tests;
 #[cfg(test)]
 mod solving_tests;
 #[cfg(test)]
