@@ -86,7 +86,9 @@ fn work<L: Law>(alloc: Global, blank: Blank) -> Result<Outcome, Fail>
     requires free { IsFree L.lawful L.allowed }
 {
     let made = Alone::<L>::new(alloc, blank, TxnSpace::new(alloc), 2);
-    let (mut room, mut shares) = made.map_err(|back| back.0)?;
+    let Ok((mut room, mut shares)) = made else {
+        return Err(Fail::new("memory for a space is wanted"));
+    };
     let jobs = any_job(alloc)?;
     let Some(()) = write(alloc, &mut room, &mut shares[0]) else {
         return Err(Fail::new("a job is to be written"));
@@ -114,7 +116,9 @@ fn leave_all<L: Law>(alloc: Global, blank: Blank) -> Result<([bool; 3], u64), Fa
     requires free { IsFree L.lawful L.allowed }
 {
     let made = Alone::<L>::new(alloc, blank, TxnSpace::new(alloc), 2);
-    let (mut room, mut shares) = made.map_err(|back| back.0)?;
+    let Ok((mut room, mut shares)) = made else {
+        return Err(Fail::new("memory for a space is wanted"));
+    };
     let jobs = any_job(alloc)?;
     let Some(()) = write(alloc, &mut room, &mut shares[0]) else {
         return Err(Fail::new("a job is to be written"));

@@ -78,7 +78,9 @@ fn count_in_four<L: Law + Send + Sync, R: Threads + Wait + Sync>(
     requires free { IsFree L.lawful L.allowed }
 {
     let made = Shared::<L>::new(alloc, blank, TxnSpace::new(alloc), 4);
-    let (shared, mut shares) = made.map_err(|back| back.0)?;
+    let Ok((shared, mut shares)) = made else {
+        return Err(Fail::new("memory for a space is wanted"));
+    };
     let (Some(first), Some(second)) = (shares.pop(), shares.pop()) else {
         return Err(Fail::new("four shares are wanted"));
     };
@@ -115,7 +117,9 @@ fn wait_for_job<L: Law + Send + Sync, R: Threads + Wait + Sync>(
     requires free { IsFree L.lawful L.allowed }
 {
     let made = Shared::<L>::new(alloc, blank, TxnSpace::new(alloc), 1);
-    let (shared, _shares) = made.map_err(|back| back.0)?;
+    let Ok((shared, _shares)) = made else {
+        return Err(Fail::new("memory for a space is wanted"));
+    };
     let jobs = any_job(alloc)?;
     let Some(first) = job(alloc, 1) else {
         return Err(Fail::new("a job is to be made"));
@@ -154,7 +158,9 @@ fn read_back_in<L: Law, R: Wait>(
     requires free { IsFree L.lawful L.allowed }
 {
     let made = Shared::<L>::new(alloc, blank, TxnSpace::new(alloc), 1);
-    let (shared, _shares) = made.map_err(|back| back.0)?;
+    let Ok((shared, _shares)) = made else {
+        return Err(Fail::new("memory for a space is wanted"));
+    };
     let jobs = any_job(alloc)?;
     let Some(first) = job(alloc, 1) else {
         return Err(Fail::new("a job is to be made"));
@@ -190,7 +196,9 @@ fn close_in<L: Law, R: Wait>(
     requires free { IsFree L.lawful L.allowed }
 {
     let made = Shared::<L>::new(alloc, blank, TxnSpace::new(alloc), 1);
-    let (shared, mut shares) = made.map_err(|back| back.0)?;
+    let Ok((shared, mut shares)) = made else {
+        return Err(Fail::new("memory for a space is wanted"));
+    };
     let Some(mut share) = shares.pop() else {
         return Err(Fail::new("a share is wanted"));
     };
