@@ -1,5 +1,5 @@
 -- A node that is decided by a thought, and what may be replaced by it.
-use Rattle.std.proofs.Common.{◌≡◌, ℕ, List, [], ◌∷◌, ◌++◌, ℤ, ap, ◌≤ℤ◌, ◌+ℤ◌, refl, inl, inr, subst, ◌∙◌, arith}
+use Rattle.std.proofs.Common.{◌≡◌, ℕ, List, [], ◌∷◌, ◌++◌, ℤ, ap, ◌≤ℤ◌, ◌+ℤ◌, refl, inl, inr, subst, arith}
 use Rattle.std.proofs.lemmas.Int.{ints}
 use Rattle.std.proofs.lemmas.List.Sums.{sum_by-append, sum_by-cons}
 use Rattle.std.specs.List.{sum_by}
@@ -10,7 +10,7 @@ use Rattle.qap_cost.specs.Placement.{Placement, IsPlacement, IsFreeFacility, fix
 use Rattle.qap_cert.specs.Valid.{Closes}
 use Rattle.space_txn.specs.Content.{SameItems}
 use Rattle.tuple_match.specs.FieldValue.{FieldValue}
-use Rattle.qap_search.specs.Decision.{Decides, DecidesAnew, DecidesBeside, DecidesBetter, candidate_of}
+use Rattle.qap_search.specs.Decision.{Decides, DecidesBeside, DecidesBetter, candidate_of}
 use Rattle.qap_search.specs.Piece.{best_tuple, closed_tuple, node_tuple, pieces}
 use Rattle.qap_search.specs.Replacement.{Best, IsAsGood, MayReplace, tuple_of}
 use Rattle.qap_search.specs.SearchTree.{AreOpen, AreTreesAt, closed_node, open_row, split_open}
@@ -95,22 +95,6 @@ made_then (Ok None) A B P Q none some h = none h
 made_then (Ok (Some v)) A B P Q none some h = some v h
 made_then (Err e) A B P Q none some h = h
 
--- beside the candidate, which costs less
-pub decides_better : (I : Problem) (old : Best) (x : Placement) (t : Thought) (stated : ℤ) (tuples : List (List FieldValue)) → IsThought I x t → stated ≡ t.cost → t.cost <ℤ old.cost → DecidesBeside I stated t.candidate x tuples → DecidesAnew I old x tuples
-decides_better I old x t stated tuples h is less d = record {
-  new = record { cost = t.cost; permutation = t.candidate };
-  as_good = inr (h.permutes, h.costs, less);
-  decides = subst (λ (c : ℤ). DecidesBeside I c t.candidate x tuples) is d;
-}
-
--- beside the one that was taken
-pub decides_again : (I : Problem) (old : Best) (x : Placement) (stated : ℤ) (tuples : List (List FieldValue)) → stated ≡ old.cost → DecidesBeside I stated old.permutation x tuples → DecidesAnew I old x tuples
-decides_again I old x stated tuples is d = record {
-  new = old;
-  as_good = inl refl;
-  decides = subst (λ (c : ℤ). DecidesBeside I c old.permutation x tuples) is d;
-}
-
 -- the candidate stands where it costs less, and else the one that was taken
 pub better_candidate : (I : Problem) (old : Best) (x : Placement) (t : Thought) (stated : ℤ) (tuples : List (List FieldValue)) → stated ≡ t.cost → t.cost <ℤ old.cost → DecidesBeside I stated t.candidate x tuples → DecidesBetter I (candidate_of t) old x tuples
 better_candidate I old x t stated tuples is less d = record {
@@ -125,8 +109,3 @@ better_old I candidate old x stated tuples is more d = record {
   better = inr (more, refl);
   decides = subst (λ (c : ℤ). DecidesBeside I c old.permutation x tuples) is d;
 }
-
--- where the best permutation was taken, and a node is decided beside one that is as good
-pub replaces_anew : (I : Problem) (x : Placement) (old : Best) (gone kept added tuples : List (List FieldValue)) → IsPlacement x → x.size ≡ I.size → DecidesAnew I old x tuples → SameItems gone (node_tuple x ∷ tuple_of old ∷ []) → SameItems kept [] → SameItems added tuples → MayReplace I gone kept added
-replaces_anew I x old gone kept added tuples placed size d takes reads adds =
-    replaces_taken I x old d.new gone kept added d.decides.rest placed size d.decides.decides d.as_good takes reads (λ f. adds f ∙ d.decides.with_best f)

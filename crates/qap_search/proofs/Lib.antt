@@ -7,6 +7,7 @@ pub mod Deciding
 pub mod Fields
 pub mod Finishing
 pub mod Found
+pub mod Fronts
 pub mod Identities
 pub mod Keys
 pub mod NodeLists

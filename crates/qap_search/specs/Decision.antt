@@ -6,7 +6,7 @@ use Rattle.qap_cert.specs.Valid.{Closes}
 use Rattle.space_txn.specs.Content.{SameItems}
 use Rattle.tuple_match.specs.FieldValue.{FieldValue}
 use Rattle.qap_search.specs.Piece.{best_tuple, pieces}
-use Rattle.qap_search.specs.Replacement.{Best, IsAsGood, IsOneNode}
+use Rattle.qap_search.specs.Replacement.{Best, IsOneNode}
 use Rattle.qap_search.specs.SearchTree.{SearchTree, IsTreeAt}
 use Rattle.qap_search.specs.Thought.{IsThought}
 use Rattle.qap_search.specs.declared.thought.Thought.{Thought}
@@ -27,12 +27,6 @@ pub record DecidesBeside (I : Problem) (c : ℤ) (p : List ℕ) (x : Placement) 
   pub rest : List (List FieldValue)
   pub decides : Decides I c x rest
   pub with_best : SameItems tuples (best_tuple c p ∷ rest)
-
--- the tuples are those of a decided node at x and of a permutation that is as good as the one that was taken
-pub record DecidesAnew (I : Problem) (old : Best) (x : Placement) (tuples : List (List FieldValue)) : Type 0 where
-  pub new : Best
-  pub as_good : IsAsGood I old new
-  pub decides : DecidesBeside I new.cost new.permutation x tuples
 
 -- of a candidate and the best permutation that was taken, the one that stands then: the candidate only where it costs less
 abbrev pub IsBetterOf : Best → Best → Best → Type 0

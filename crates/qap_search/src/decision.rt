@@ -2,7 +2,7 @@
 
 ghost use Rattle.std.specs.Prelude.{◌≡◌, ◌<ℤ◌, IfOk, MatchOption, length};
 ghost use Rattle.qap_cost.specs.Instance.{Problem};
-ghost use Rattle.qap_search.specs.Decision.{Decides, DecidesAnew, DecidesBeside, DecidesBetter, IsBetterOf, IsOn, candidate_of};
+ghost use Rattle.qap_search.specs.Decision.{Decides, DecidesBeside, DecidesBetter, IsBetterOf, IsOn, candidate_of};
 ghost use Rattle.qap_search.specs.Replacement.{Best};
 ghost use Rattle.qap_search.specs.Thought.{IsThought};
 
@@ -67,14 +67,11 @@ pub fn decide_anew(
     perm: &Perm,
 ) -> Result<Option<Vec<Tuple>>, AllocError>
     requires { IsOn node.now thought.now }
-    ensures better { IfOk result (λ written. MatchOption written
+    ensures { IfOk result (λ written. MatchOption written
         ((new : Best) × IsBetterOf (candidate_of thought.now) (record { cost = cost; permutation = perm.now }) new
         × (length node.now.facilities ≡ node.now.size) × (thought.now.value <ℤ new.cost))
         (λ tuples. (I : Problem) → IsThought I node.now thought.now →
         DecidesBetter I (candidate_of thought.now) (record { cost = cost; permutation = perm.now }) node.now tuples.items)) }
-    ensures anew { IfOk result (λ written. MatchOption written
-        ((length node.now.facilities ≡ node.now.size) × (thought.now.value <ℤ cost))
-        (λ tuples. (I : Problem) → IsThought I node.now thought.now → DecidesAnew I (record { cost = cost; permutation = perm.now }) node.now tuples.items)) }
 {
     if thought.cost < cost {
         decide_beside(alloc, node, thought, thought.cost, &thought.candidate)

@@ -5,13 +5,13 @@ ghost use Rattle.qap_search.specs.Opening.{IsOpening};
 ghost use Rattle.qap_search.specs.SearchLaw.{IsSearchLaw};
 
 use crate::assemble;
+use crate::examples::{FIRST, three};
 use crate::gate::{Always, Kind};
 use crate::hand::Hand;
 use crate::opening::opening_space;
 use crate::report::{Ended, Report};
 use crate::solving::shared_rows;
 use crate::templates::node_template;
-use crate::tests::three;
 use qap_cert::check;
 use qap_cost::Instance;
 use shared_space::{Alone, Law, Room, Share};
@@ -97,7 +97,7 @@ fn one_worker<L: Law>(
 #[test]
 fn a_worker_closes_the_root(rt: HostRuntime) -> Result<(), Fail> {
     let alloc = rt.alloc();
-    let instance = three(alloc)?;
+    let instance = three(alloc, &FIRST)?;
     let space = opening_space(alloc, &instance)?;
     let (steps, commit, report, space) = one_worker::<Brand>(
         alloc,
@@ -164,7 +164,7 @@ fn two_workers<L: Law>(
 #[test]
 fn a_late_commit_is_refused(rt: HostRuntime) -> Result<(), Fail> {
     let alloc = rt.alloc();
-    let instance = three(alloc)?;
+    let instance = three(alloc, &FIRST)?;
     let space = opening_space(alloc, &instance)?;
     let (steps, commits, reports, accepted) = two_workers::<Brand>(
         alloc,

@@ -9,7 +9,7 @@ ghost use Rattle.qap_cert.specs.Tree.{node_count};
 ghost use Rattle.space_txn.specs.Content.{SameItems};
 ghost use Rattle.tuple_match.specs.FieldValue.{FieldValue};
 ghost use Rattle.qap_search.specs.CutTree.{IsCutTree};
-ghost use Rattle.qap_search.specs.Decision.{Decides, DecidesAnew};
+ghost use Rattle.qap_search.specs.Decision.{Decides};
 ghost use Rattle.qap_search.specs.Finished.{IsAssembled};
 ghost use Rattle.qap_search.specs.Found.{IsBestFound, IsOpenNode, is_best};
 ghost use Rattle.qap_search.specs.Piece.{node_tuple, best_tuple, is_open, open_count};
@@ -53,10 +53,6 @@ pub fn replacing_law()
     ensures taken { (I : Problem) (x : Placement) (old new : Best) (gone kept added tuples : List (List FieldValue)) →
         IsPlacement x → x.size ≡ I.size → Decides I new.cost x tuples → IsAsGood I old new →
         SameItems gone (node_tuple x ∷ tuple_of old ∷ []) → SameItems kept [] → SameItems added (tuple_of new ∷ tuples) →
-        MayReplace I gone kept added }
-    ensures anew { (I : Problem) (x : Placement) (old : Best) (gone kept added tuples : List (List FieldValue)) →
-        IsPlacement x → x.size ≡ I.size → DecidesAnew I old x tuples →
-        SameItems gone (node_tuple x ∷ tuple_of old ∷ []) → SameItems kept [] → SameItems added tuples →
         MayReplace I gone kept added }
 {}
 

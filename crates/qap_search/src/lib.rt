@@ -50,6 +50,8 @@ pub use workers::solve;
 pub use writing::tuple_of_best;
 
 #[cfg(test)]
+mod examples;
+#[cfg(test)]
 mod hand_tests;
 #[cfg(test)]
 mod schedule_tests;

@@ -1,7 +1,8 @@
-//! Decided nodes in order.
+//! Lists in another order.
 
-ghost use Rattle.std.specs.Prelude.{reverse};
+ghost use Rattle.std.specs.Prelude.{◌≡◌, length, reverse};
 ghost use Rattle.std.specs.List.Sorted.{IsPermutation};
+ghost use Rattle.space_txn.specs.Content.{SameItems};
 ghost use Rattle.qap_search.specs.InOrder.{AreInOrder};
 
 use crate::decided::DecidedNode;
@@ -13,4 +14,13 @@ pub(crate) fn put_in_order(nodes: &mut Vec<DecidedNode>)
 {
     nodes.sort_unstable_by(|a, b| a.node.cmp(&b.node));
     nodes.reverse();
+}
+
+/// The items, the last one first.
+pub(crate) fn turned_round<T>(mut items: Vec<T>) -> Vec<T>
+    ensures same { SameItems result.items items.items }
+    ensures count { length result.items ≡ length items.items }
+{
+    items.reverse();
+    items
 }

@@ -4,6 +4,7 @@ ghost use Rattle.std.specs.Prelude.{◌≡◌, ◌++◌, IfErr, OnOk};
 ghost use Rattle.space_txn.specs.Content.{SameItems, added_of};
 ghost use Rattle.qap_search.specs.Putting.{WritesForever};
 
+use crate::ordering::turned_round;
 use space_txn::{Txn, TxnError};
 use tuple_match::Tuple;
 use tuple_space::Lease;
@@ -21,14 +22,6 @@ pub fn put_forever(txn: &mut Txn, tuples: Vec<Tuple>) -> Result<(), TxnError>
         put_one(txn, tuple)?;
     }
     Ok(())
-}
-
-/// The tuples, the last one first.
-fn turned_round(mut tuples: Vec<Tuple>) -> Vec<Tuple>
-    ensures { SameItems result.items tuples.items }
-{
-    tuples.reverse();
-    tuples
 }
 
 /// Writes one tuple under the transaction, to stay forever.

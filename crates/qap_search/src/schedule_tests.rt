@@ -1,22 +1,16 @@
-//! Runs by schedules: late commits, lost workers, and a worker who finds the best permutation taken.
+//! Runs by schedules: late commits, a worker who finds the best permutation taken, workers lost at each step, and schedules by a
+//! formula, whose ends are judged against the listing of all permutations.
 
-use crate::{AssembleError, Run, Step, assemble, best_template, node_template, play};
+ghost use Rattle.std.specs.Prelude.{◌<◌, ◌≤◌};
+
+use crate::examples::{FIRST, SECOND, patterned, three};
+use crate::{AssembleError, Report, Run, Step, assemble, best_template, node_template, play};
 use Step::{Advance, Lose, Turn};
-use qap_cost::Instance;
+use qap_cert::{Certificate, check};
+use qap_cost::{Instance, least_by_listing};
+use space_txn::TxnSpace;
 use std::alloc::Global;
 use std::test::Fail;
-
-/// Three facilities: the order 0 1 2 costs 24, and none costs less. The root closes at once.
-const FIRST: ([i64; 9], [i64; 9]) = ([0, 1, 2, 1, 0, 3, 2, 3, 0], [0, 5, 2, 5, 0, 1, 2, 1, 0]);
-
-/// Three facilities: each order costs 1, and the root's bound is 0.
-const SECOND: ([i64; 9], [i64; 9]) = ([0, 1, 0, 0, 0, 1, 1, 0, 0], [0, 1, 0, 1, 0, 0, 0, 0, 0]);
-
-fn instance(alloc: Global, matrices: ([i64; 9], [i64; 9])) -> Result<Instance, Fail> {
-    let a = Vec::from_slice(alloc, &matrices.0)?;
-    let b = Vec::from_slice(alloc, &matrices.1)?;
-    Instance::new(3, a, b).or_else(|_| Err(Fail::new("an instance")))
-}
 
 /// How many nodes are open, how many best permutations there are, how many commits were accepted, and what each worker's commits
 /// came to: accepted, and too late.
@@ -82,22 +76,27 @@ fn schedules(rt: HostRuntime) -> Result<(), Fail> {
         (SECOND, 2, &taken, [2, 1, 2], [(2, 0), (0, 0)]),
     ];
     for (matrices, workers, steps, tuples, counts) in cases {
-        let run = play(alloc, &instance(alloc, matrices)?, workers, steps)?;
+        let run = play(alloc, &three(alloc, &matrices)?, workers, steps)?;
         assert_eq!(rt; outcome(alloc, &run)?, (tuples, counts), "{steps:?}");
     }
     Ok(())
 }
 
+/// The certificate of the tuples that a space holds.
+fn assembled(alloc: Global, n: usize, space: TxnSpace) -> Result<Certificate, Fail>
+    requires some { 0 < n }
+    requires few { n ≤ 256 }
+{
+    let tuples = space.into_tuples().or_else(|_| Err(Fail::new("memory")))?;
+    Ok(assemble(alloc, n, tuples)?)
+}
+
 #[test]
 fn what_is_left_is_assembled(rt: HostRuntime) -> Result<(), Fail> {
     let alloc = rt.alloc();
-    let instance = instance(alloc, SECOND)?;
+    let instance = three(alloc, &SECOND)?;
     let run = play(alloc, &instance, 1, [Turn(0); 16].as_slice())?;
-    let tuples = run
-        .space
-        .into_tuples()
-        .or_else(|_| Err(Fail::new("memory")))?;
-    let certificate = assemble(alloc, 3, tuples)?;
+    let certificate = assembled(alloc, 3, run.space)?;
     assert_eq!(rt; (certificate.cost(), certificate.bound()), (1, 1));
     let run = play(alloc, &instance, 1, [Turn(0); 4].as_slice())?;
     let tuples = run
@@ -108,5 +107,147 @@ fn what_is_left_is_assembled(rt: HostRuntime) -> Result<(), Fail> {
         assemble(alloc, 3, tuples).err(),
         Some(AssembleError::Unfinished(3))
     );
+    Ok(())
+}
+
+/// How many commits of all workers were accepted.
+fn all_accepted(reports: &[Report]) -> u64 {
+    let mut accepted = 0u64;
+    for report in reports {
+        accepted = accepted.saturating_add(report.accepted);
+    }
+    accepted
+}
+
+#[test]
+fn losses_at_each_step(rt: HostRuntime) -> Result<(), Fail> {
+    let alloc = rt.alloc();
+    let instance = three(alloc, &SECOND)?;
+    for turns in 0..=16 {
+        let mut steps = vec![in alloc; Turn(0); turns]?;
+        steps.push(Lose(0))?;
+        steps.push(Advance(1000))?;
+        for _ in 0..16 {
+            steps.push(Turn(1))?;
+        }
+        let run = play(alloc, &instance, 2, &steps)?;
+        let (tuples, [first, second]) = outcome(alloc, &run)?;
+        assert_eq!(rt; tuples, [0, 1, 4], "lost after {turns} turns");
+        assert_eq!(rt; all_accepted(&run.reports), 4, "lost after {turns} turns");
+        assert_eq!(rt; (first.1, second.1), (0, 0), "lost after {turns} turns");
+    }
+    Ok(())
+}
+
+#[test]
+fn leases_end_at_each_step(rt: HostRuntime) -> Result<(), Fail> {
+    let alloc = rt.alloc();
+    let instance = three(alloc, &SECOND)?;
+    for turns in 0..=16 {
+        let mut steps = vec![in alloc; Turn(0); turns]?;
+        steps.push(Advance(1000))?;
+        for _ in 0..17 {
+            steps.push(Turn(0))?;
+        }
+        let run = play(alloc, &instance, 1, &steps)?;
+        let late = u64::from(turns % 4 == 3);
+        assert_eq!(rt;
+            outcome(alloc, &run)?,
+            ([0, 1, 4], [(4, late), (0, 0)]),
+            "a lease ends after {turns} turns"
+        );
+    }
+    Ok(())
+}
+
+#[test]
+fn steps_of_nobody_change_nothing(rt: HostRuntime) -> Result<(), Fail> {
+    let alloc = rt.alloc();
+    let instance = three(alloc, &SECOND)?;
+    let past_all = (1 << 62) + 1;
+    let nothing = [Turn(9), Lose(9), Advance(past_all)];
+    let (mut plain, mut mixed) = (Vec::new(alloc), Vec::new(alloc));
+    for turn in 0..12u16 {
+        let step = Turn(turn % 2);
+        plain.push(step)?;
+        mixed.push(nothing[usize::from(turn % 3)])?;
+        mixed.push(step)?;
+    }
+    let plain = outcome(alloc, &play(alloc, &instance, 2, &plain)?)?;
+    let mixed = outcome(alloc, &play(alloc, &instance, 2, &mixed)?)?;
+    assert_eq!(rt; mixed, plain);
+    Ok(())
+}
+
+/// The number that follows one of those by which schedules are made: 75 times it and 74 more, modulo the prime 65537.
+fn following(number: u32) -> u32 {
+    (75 * (number % 65_537) + 74) % 65_537
+}
+
+/// Sixty steps of two or three workers by a formula, and then, with all leases ended, as many turns of the first worker as finish
+/// a search of four facilities.
+fn by_formula(alloc: Global, first: u32) -> Result<Vec<Step>, Fail> {
+    let mut steps = Vec::new(alloc);
+    let mut number = first;
+    let mut moment = 0u64;
+    for _ in 0..60 {
+        number = following(number);
+        let worker = u16::from(number % 16 > 7) + u16::from(number % 32 > 23);
+        match number / 32 % 8 {
+            0 => {
+                moment = moment.saturating_add(400);
+                steps.push(Advance(moment))?;
+            }
+            1 => steps.push(Lose(worker))?,
+            _ => steps.push(Turn(worker))?,
+        }
+    }
+    steps.push(Advance(moment.saturating_add(1000)))?;
+    for _ in 0..200 {
+        steps.push(Turn(0))?;
+    }
+    Ok(steps)
+}
+
+/// The instance of size 4 with `a(i, j) = (7i + 3j) mod 11 - 5` and `b(k, l) = (5k + 2l²) mod 7 - 3`.
+fn signed(alloc: Global) -> Result<Instance, Fail> {
+    let a = [-5, -2, 1, 4, 2, 5, -3, 0, -2, 1, 4, -4, 5, -3, 0, 3];
+    let b = [-3, -1, -2, 1, 2, -3, 3, -1, 0, 2, 1, -3, -2, 0, -1, 2];
+    let a = Vec::from_slice(alloc, &a)?;
+    let b = Vec::from_slice(alloc, &b)?;
+    Ok(Instance::new(4, a, b)?)
+}
+
+/// Fifty schedules by the formula on an instance: at the end of each no node is open, and what stands is a certificate of the
+/// least cost.
+fn fifty_schedules(alloc: Global, instance: &Instance) -> Result<(), Fail>
+    requires { instance.now.size ≤ 6 }
+{
+    let (least, _) = least_by_listing(alloc, instance)?;
+    for schedule in 0..50 {
+        let steps = by_formula(alloc, 1000 * schedule)?;
+        let run = play(alloc, instance, 3, &steps)?;
+        let commits = run.space.commits();
+        if all_accepted(&run.reports) != commits {
+            return Err(Fail::new("the reports tell other commits"));
+        }
+        let certificate = assembled(alloc, instance.size(), run.space)?;
+        if certificate.cost() != least || certificate.bound() != least {
+            return Err(Fail::new("another cost"));
+        }
+        check(alloc, instance, &certificate)?;
+    }
+    Ok(())
+}
+
+#[test]
+fn schedules_by_a_formula(rt: HostRuntime) -> Result<(), Fail> {
+    let alloc = rt.alloc();
+    fifty_schedules(alloc, &three(alloc, &SECOND)?)?;
+    fifty_schedules(alloc, &patterned(alloc, 3)?)?;
+    fifty_schedules(alloc, &patterned(alloc, 4)?)?;
+    let signed = signed(alloc)?;
+    assert_eq!(rt; signed.size(), 4);
+    fifty_schedules(alloc, &signed)?;
     Ok(())
 }

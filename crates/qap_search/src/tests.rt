@@ -1,10 +1,10 @@
 //! What no clause says: that tuples are put together, with the certificates of worked examples, and each kind of refusal.
 
+use crate::examples::{FIRST, SECOND, three};
 use crate::{AssembleError, Thought, assemble, decide, read_node};
 use Part::{Int, List, Word};
 use gilmore_lawler::reduced;
 use qap_cert::check;
-use qap_cost::Instance;
 use std::alloc::{AllocError, Global};
 use std::test::Fail;
 use tuple_match::{Field, Tuple};
@@ -56,17 +56,9 @@ fn tuples(alloc: Global, row: Row) -> Result<Vec<Tuple>, Fail> {
     Ok(tuples)
 }
 
-/// Three facilities: the order 0 1 2 costs 24, and none costs less. The root's reduced matrix has the rows 9 7 4, 11 8 5 and
-/// 16 13 7, whose least assignment takes 9, 8 and 7.
-pub(crate) fn three(alloc: Global) -> Result<Instance, Fail> {
-    let a = Vec::from_slice(alloc, &[0, 1, 2, 1, 0, 3, 2, 3, 0])?;
-    let b = Vec::from_slice(alloc, &[0, 5, 2, 5, 0, 1, 2, 1, 0])?;
-    Ok(Instance::new(3, a, b)?)
-}
-
 #[test]
 fn a_closed_root_is_a_certificate(rt: HostRuntime) -> Result<(), Fail> {
-    let instance = three(rt.alloc())?;
+    let instance = three(rt.alloc(), &FIRST)?;
     let row: Row = &[
         &[BEST, Int(24), IDENTITY],
         &[CLOSED, List(&[]), List(&[9, 10, 12]), List(&[0, -2, -5])],
@@ -78,12 +70,9 @@ fn a_closed_root_is_a_certificate(rt: HostRuntime) -> Result<(), Fail> {
     Ok(())
 }
 
-/// Three facilities: each order costs 1, and the root's reduced matrix holds zeros alone.
 #[test]
 fn nodes_are_put_together_in_any_order(rt: HostRuntime) -> Result<(), Fail> {
-    let a = Vec::from_slice(rt.alloc(), &[0, 1, 0, 0, 0, 1, 1, 0, 0])?;
-    let b = Vec::from_slice(rt.alloc(), &[0, 1, 0, 1, 0, 0, 0, 0, 0])?;
-    let instance = Instance::new(3, a, b)?;
+    let instance = three(rt.alloc(), &SECOND)?;
     let row: Row = &[
         &[CLOSED, List(&[0, 2]), List(&[1, 0]), List(&[0, 0])],
         &[CLOSED, List(&[0, 0]), List(&[0, 0]), List(&[1, 0])],
@@ -196,7 +185,7 @@ fn other_tuples_are_refused(rt: HostRuntime) -> Result<(), Fail> {
 
 #[test]
 fn a_node_is_worked_out_and_decided(rt: HostRuntime) -> Result<(), Fail> {
-    let instance = three(rt.alloc())?;
+    let instance = three(rt.alloc(), &FIRST)?;
     let Some(root) = read_node(rt.alloc(), 3, &[])? else {
         return Err(Fail::from("the root is a node"));
     };

@@ -3,9 +3,9 @@
 //!
 //! Each wait has a limit of turns, past which the test fails.
 
+use crate::examples::{FIRST, SECOND, patterned, three};
 use crate::{Always, Answer, Clock, Ended, Gate, Kind, SolveError, solve};
-use qap_cost::{Instance, least_by_listing};
-use std::alloc::Global;
+use qap_cost::least_by_listing;
 use std::sync::atomic::{AtomicBool, AtomicU64, Ordering};
 use std::test::Fail;
 use std::thread;
@@ -15,18 +15,6 @@ const LEASE_MS: u64 = 1000;
 
 /// How many turns a wait may take.
 const TURNS: u64 = 10_000_000;
-
-/// Three facilities: the order 0 1 2 costs 24, and none costs less. The root closes at once.
-const FIRST: ([i64; 9], [i64; 9]) = ([0, 1, 2, 1, 0, 3, 2, 3, 0], [0, 5, 2, 5, 0, 1, 2, 1, 0]);
-
-/// Three facilities: each order costs 1, and the root's bound is 0.
-const SECOND: ([i64; 9], [i64; 9]) = ([0, 1, 0, 0, 0, 1, 1, 0, 0], [0, 1, 0, 1, 0, 0, 0, 0, 0]);
-
-fn instance(alloc: Global, n: usize, a: &[i64], b: &[i64]) -> Result<Instance, Fail> {
-    let a = Vec::from_slice(alloc, a)?;
-    let b = Vec::from_slice(alloc, b)?;
-    Instance::new(n, a, b).or_else(|_| Err(Fail::new("an instance")))
-}
 
 /// A clock that stands.
 struct Stopped;
@@ -106,7 +94,7 @@ impl Gate for Meeting {
 #[test]
 fn gate_meet(rt: HostRuntime) -> Result<(), Fail> {
     let alloc = rt.alloc();
-    let instance = instance(alloc, 3, &FIRST.0, &FIRST.1)?;
+    let instance = three(alloc, &FIRST)?;
     let gate = Meeting {
         first: Signal::new(),
         second: Signal::new(),
@@ -158,7 +146,7 @@ impl Clock for Late {
 #[test]
 fn gate_late(rt: HostRuntime) -> Result<(), Fail> {
     let alloc = rt.alloc();
-    let instance = instance(alloc, 3, &FIRST.0, &FIRST.1)?;
+    let instance = three(alloc, &FIRST)?;
     let gate = Late {
         held: Signal::new(),
         accepted: Signal::new(),
@@ -208,7 +196,7 @@ impl Gate for Thinking {
 #[test]
 fn gate_think(rt: HostRuntime) -> Result<(), Fail> {
     let alloc = rt.alloc();
-    let instance = instance(alloc, 3, &SECOND.0, &SECOND.1)?;
+    let instance = three(alloc, &SECOND)?;
     let gate = Thinking {
         begun: AtomicU64::new(0),
         third: Signal::new(),
@@ -220,12 +208,13 @@ fn gate_think(rt: HostRuntime) -> Result<(), Fail> {
     Ok(())
 }
 
-/// Ends each worker at its first commit.
-struct NoCommit;
+/// Ends each worker at its first step of this kind.
+#[derive(Drop)]
+struct Without(Kind);
 
-impl Gate for NoCommit {
+impl Gate for Without {
     fn pass(&self, _worker: u16, kind: Kind) -> bool {
-        kind != Kind::Commit
+        kind != self.0
     }
 
     fn after(&self, _worker: u16, _kind: Kind, _accepted: bool) {}
@@ -236,9 +225,81 @@ impl Gate for NoCommit {
 #[test]
 fn ended_workers_leave_open_nodes(rt: HostRuntime) -> Result<(), Fail> {
     let alloc = rt.alloc();
-    let instance = instance(alloc, 3, &FIRST.0, &FIRST.1)?;
-    let ended = solve(&rt, alloc, &instance, 1, LEASE_MS, &Stopped, &NoCommit);
-    assert_eq!(rt; ended.err(), Some(SolveError::Unfinished(1)));
+    let instance = three(alloc, &SECOND)?;
+    // A node that an ended worker took stays its own until its lease ends, which this clock doesn't come to.
+    let cases = [
+        (1, Kind::Commit),
+        (1, Kind::TakeNode),
+        (2, Kind::TakeNode),
+        (8, Kind::TakeNode),
+    ];
+    for (workers, kind) in cases {
+        let gate = Without(kind);
+        let ended = solve(&rt, alloc, &instance, workers, LEASE_MS, &Stopped, &gate);
+        assert_eq!(rt;
+            ended.err(),
+            Some(SolveError::Unfinished(1)),
+            "{workers} workers without {kind:?}"
+        );
+    }
+    Ok(())
+}
+
+/// Ends the first worker at its step of this number, when the moment moves on by a lease.
+#[derive(Drop)]
+struct Ending {
+    step: u64,
+    steps: AtomicU64,
+    ended: Signal,
+}
+
+impl Gate for Ending {
+    fn pass(&self, worker: u16, _kind: Kind) -> bool {
+        if worker == 0 && self.steps.fetch_add(1, Ordering::SeqCst) == self.step {
+            self.ended.give();
+            return false;
+        }
+        true
+    }
+
+    fn after(&self, _worker: u16, _kind: Kind, _accepted: bool) {}
+
+    fn thinking(&self, _worker: u16) {}
+}
+
+impl Clock for Ending {
+    fn now(&self) -> u64 {
+        if self.ended.is_given() { LEASE_MS } else { 0 }
+    }
+}
+
+#[test]
+fn another_worker_ends_the_search(rt: HostRuntime) -> Result<(), Fail> {
+    let alloc = rt.alloc();
+    let instance = three(alloc, &SECOND)?;
+    for step in 0..8 {
+        let gate = Ending {
+            step,
+            steps: AtomicU64::new(0),
+            ended: Signal::new(),
+        };
+        let answer = solve(&rt, alloc, &instance, 2, LEASE_MS, &gate, &gate)?;
+        assert_eq!(rt; answer.certificate.cost(), 1, "ended at step {step}");
+        assert_eq!(rt; counts(&answer).0, 4, "ended at step {step}");
+        let first = if gate.ended.is_given() {
+            Ended::ByGate
+        } else {
+            Ended::Done
+        };
+        let [one, other] = answer.reports.as_slice() else {
+            return Err(Fail::new("two workers have two reports"));
+        };
+        assert_eq!(rt;
+            (one.ended, other.ended),
+            (first, Ended::Done),
+            "ended at step {step}"
+        );
+    }
     Ok(())
 }
 
@@ -247,7 +308,7 @@ fn worked_examples(rt: HostRuntime) -> Result<(), Fail> {
     let alloc = rt.alloc();
     for workers in [1, 2, 8] {
         for (matrices, cost, nodes) in [(FIRST, 24, 1), (SECOND, 1, 4)] {
-            let instance = instance(alloc, 3, &matrices.0, &matrices.1)?;
+            let instance = three(alloc, &matrices)?;
             let answer = solve(&rt, alloc, &instance, workers, LEASE_MS, &Stopped, &Always)?;
             assert_eq!(rt; answer.certificate.cost(), cost);
             assert_eq!(rt; answer.certificate.perm().locations(), [0, 1, 2].as_slice());
@@ -264,35 +325,11 @@ fn worked_examples(rt: HostRuntime) -> Result<(), Fail> {
     Ok(())
 }
 
-/// The flow from i to j of an instance by a formula: (3i + 5j) mod 7.
-fn flow(i: u16, j: u16) -> i64 {
-    i64::from((3 * u32::from(i) + 5 * u32::from(j)) % 7)
-}
-
-/// The distance from k to l: (2k + 3l^2) mod 5.
-fn distance(k: u16, l: u16) -> i64 {
-    let square = u32::from(l).wrapping_mul(u32::from(l)) % 5;
-    i64::from((2 * u32::from(k) + 3 * square) % 5)
-}
-
-/// The instance of size n by these formulas.
-fn by_formula(alloc: Global, n: u16) -> Result<Instance, Fail> {
-    let (mut a, mut b) = (Vec::new(alloc), Vec::new(alloc));
-    for row in 0..n {
-        for column in 0..n {
-            a.push(flow(row, column))?;
-            b.push(distance(row, column))?;
-        }
-    }
-    Instance::new(usize::from(n), a, b).or_else(|_| Err(Fail::new("an instance")))
-}
-
 #[test]
 fn answers(rt: HostRuntime) -> Result<(), Fail> {
     let alloc = rt.alloc();
     for n in 1..=6 {
-        let instance = by_formula(alloc, n)?;
-        assert!(rt; instance.size() <= 6);
+        let instance = patterned(alloc, n)?;
         let (least, _) = least_by_listing(alloc, &instance)?;
         for workers in [1, 2, 8] {
             for _ in 0..10 {

@@ -5,7 +5,6 @@ ghost use Rattle.std.specs.List.{sum_by};
 ghost use Rattle.qap_search.specs.Answer.{IsAnswer, IsSolveFault};
 ghost use Rattle.qap_search.specs.Opening.{IsOpening};
 ghost use Rattle.qap_search.specs.SearchLaw.{IsSearchLaw};
-ghost use Rattle.space_txn.specs.Content.{SameItems};
 ghost use Rattle.std.specs.Arc.{arc_value};
 
 use crate::answer::{Answer, SolveError};
@@ -13,6 +12,7 @@ use crate::clock::Clock;
 use crate::gate::Gate;
 use crate::hand::Hand;
 use crate::opening::opening_space;
+use crate::ordering::turned_round;
 use crate::report::Report;
 use crate::seat::{Seat, Workplace};
 use crate::solving::{certificate_of, shared_rows};
@@ -178,7 +178,7 @@ where
     }
 }
 
-/// What the workers leave: their shares and reports, in their order.
+/// What the workers leave: their shares, and their reports in the order of the workers.
 #[derive(Drop)]
 struct Left<L: Law> {
     shares: Vec<Share<L>>,
@@ -221,13 +221,4 @@ fn left_by<L: Law>(room: Left<L>, seats: Vec<Mutex<Seat<L>>>) -> Left<L>
     }
     let reports = turned_round(reports);
     Left { shares, reports }
-}
-
-/// The reports, the last one first.
-fn turned_round(mut reports: Vec<Report>) -> Vec<Report>
-    ensures same { SameItems result.items reports.items }
-    ensures count { length result.items ≡ length reports.items }
-{
-    reports.reverse();
-    reports
 }

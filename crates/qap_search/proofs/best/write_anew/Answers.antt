@@ -19,7 +19,7 @@ returns c = λ I best thought there costs.
     let make : ℤ → List ℕ → Best = λ z p. record { cost = z; permutation = p } in
     let perm = (rw c.in-Some.is at c.in_ok-perm.ensures) best there in
     let is : best ≡ old = ap₂ make (costs ∙ sym cost_same) perm in
-    let decided = (rw c.in-Some-2.is at c.in_ok-tuples.ensures.better) I thought in
+    let decided = (rw c.in-Some-2.is at c.in_ok-tuples.ensures) I thought in
     let either = least_either l.thought.cost (to_z w128 (of_z w128 c.args.cost)) c.min.result (rw thought_same at c.min.ensures.value) in
     rw least_same (written_anew I l best old c.min.result c.in-Some-2.tuples.items c.args.txn.now c.put.new.txn is decided
     (λ new better. standing_cost (candidate_of l.thought) old new c.min.result better (rw thought_same at c.min.ensures.self_bound) c.min.ensures.other_bound either)

@@ -1,4 +1,4 @@
-use Rattle.qap_search.proofs.Deciding.{replaces_anew, replaces_read, replaces_taken}
+use Rattle.qap_search.proofs.Deciding.{replaces_read, replaces_taken}
 use Rattle.qap_search.proofs.law.replacing_law.Goals as goal
 
 pub returns-clause-read : goal.returns-clause-read
@@ -6,6 +6,3 @@ returns-clause-read c = replaces_read
 
 pub returns-clause-taken : goal.returns-clause-taken
 returns-clause-taken c = replaces_taken
-
-pub returns-clause-anew : goal.returns-clause-anew
-returns-clause-anew c = replaces_anew

@@ -1,15 +1,9 @@
-use Rattle.std.proofs.Common.{◌≡◌, ◌+◌, ◌++◌, ◌∷◌, [], ap, sym, subst, ◌∙◌, arith, replicate}
-use Rattle.std.specs.Prelude.{ℕ, All, List, vec_len}
-use Rattle.std.proofs.lemmas.List.{replicate-append-replicate, get_or_append_left, length-append}
+use Rattle.std.proofs.Common.{◌≡◌, ◌+◌, ◌++◌, ◌∷◌, [], ap, sym, ◌∙◌, arith, replicate}
+use Rattle.std.specs.Prelude.{ℕ, List, vec_len}
+use Rattle.std.proofs.lemmas.List.{replicate-append-replicate}
 use Rattle.qap_search.specs.Interleaving.{PostValue}
+use Rattle.qap_search.proofs.Fronts.{All-front}
 use Rattle.qap_search.proofs.schedule.posts_for.Goals as goal
-
--- what holds of all but the last
-All-front : (xs ys : List ℕ) (x : ℕ) → ys ≡ xs ++ x ∷ [] → All (λ (n : ℕ). n ≡ 0) ys → All (λ (n : ℕ). n ≡ 0) xs
-All-front xs ys x is h = λ k d below.
-    let all = subst (All (λ (n : ℕ). n ≡ 0)) is h in
-    let long = length-append xs (x ∷ []) in
-    sym (get_or_append_left xs (x ∷ []) d k below) ∙ all k d (omega arith)
 
 -- one place more, where a worker stands who has done nothing yet
 posts-more : (xs ys : List PostValue) (p one : PostValue) (n m : ℕ) → ys ≡ xs ++ p ∷ [] → p ≡ one → xs ≡ replicate n one → m ≡ n + 1 → ys ≡ replicate m one
@@ -23,6 +17,6 @@ loop-share-preserved g c =
     record {
       posts = posts-more c.loop-share.posts.items c.push.new.self.items c.in_ok-new.field-0 _ (vec_len c.loop-share.posts) _ c.in_ok-push.ensures.items c.in_ok-new.ensures c.loop-share.invariant.posts count;
       count = (let a = c.loop-share.invariant.count in let b = c.in-Some.ensures.len in omega arith);
-      fresh = All-front c.pop.new.self.items c.loop-share.rest.items c.in-Some.share c.in-Some.ensures.items c.loop-share.invariant.fresh;
+      fresh = All-front (λ (n : ℕ). n ≡ 0) c.pop.new.self.items c.loop-share.rest.items c.in-Some.share c.in-Some.ensures.items c.loop-share.invariant.fresh;
       worker = omega (arith, c.loop-share.invariant.worker, count);
     }
