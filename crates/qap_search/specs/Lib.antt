@@ -2,6 +2,7 @@ pub mod Answer
 pub mod Assembling
 pub mod Best
 pub mod Building
+pub mod ClosedTuples
 pub mod Closing
 pub mod Completion
 pub mod Considering
