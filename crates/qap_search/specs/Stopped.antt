@@ -1,18 +1,18 @@
 -- The certificate of a search that was stopped, and the bound that its tree shows.
-use Rattle.std.specs.Prelude.{◌≡◌, ℕ, ◌-◌, List, [], ◌∷◌, ◌++◌, length, ℤ, ◌+ℤ◌, ◌≤ℤ◌, All, Contains}
+use Rattle.std.specs.Prelude.{◌≡◌, ℕ, ◌+◌, ◌-◌, ◌<◌, List, [], ◌∷◌, ◌++◌, length, ℤ, ◌+ℤ◌, ◌≤ℤ◌, All, Contains}
 use Rattle.qap_cost.specs.Bijection.{IsPerm}
 use Rattle.qap_cost.specs.Instance.{Problem}
 use Rattle.qap_cost.specs.Matrix.{dual_value}
 use Rattle.qap_cost.specs.Placement.{Placement, fixed_cost_of, free_locations, placing, root_of}
 use Rattle.qap_cost.specs.Range.{IsLimited}
-use Rattle.qap_cert.specs.Certificate.{Claim, IsCertificate}
+use Rattle.qap_cert.specs.Certificate.{Claim, Certifies, IsCertificate}
 use Rattle.qap_cert.specs.Shape.{AreDuals}
 use Rattle.qap_cert.specs.Tree.{Node, split, bound, Nodes, node}
 use Rattle.space_txn.specs.Content.{SameItems}
 use Rattle.tuple_match.specs.FieldValue.{FieldValue}
-use Rattle.qap_search.specs.Closing.{ClosedTo}
+use Rattle.qap_search.specs.Closing.{ClosedTo, undecided_count}
 use Rattle.qap_search.specs.Piece.{best_tuple, pieces}
-use Rattle.qap_search.specs.SearchTree.{SearchTree, IsTreeAt}
+use Rattle.qap_search.specs.SearchTree.{SearchTree, IsTreeAt, decided_count}
 use Rattle.qap_search.specs.declared.error.AssembleError.{AssembleError}
 use Rattle.qap_search.specs.declared.error.AssembleError.TheVariants.{Unfinished, NotATree, OutOfMemory}
 
@@ -78,3 +78,12 @@ abbrev pub IsStoppedFault : Problem → List (List FieldValue) → AssembleError
 IsStoppedFault I tuples (Unfinished count) = ⊥
 IsStoppedFault I tuples NotATree = IsNotStopped I tuples
 IsStoppedFault I tuples OutOfMemory = Unit {0}
+
+-- the certificate is that of a search that was stopped when it had decided so many nodes, and had others open
+pub record CertifiesStopped (I : Problem) (nodes : ℕ) (C : Claim) : Type 0 where
+  pub certified : Certifies I C
+  pub tree : SearchTree
+  pub closes : IsClosedTo I tree C
+  pub decided : decided_count tree ≡ nodes
+  pub left : 0 < undecided_count tree
+  pub counted : node_count C.tree ≡ nodes + undecided_count tree
