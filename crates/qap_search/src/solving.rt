@@ -1,6 +1,6 @@
 //! A search by one worker, on a space of its own.
 
-ghost use Rattle.std.specs.Prelude.{◌≡◌, ◌∷◌, [], IfOk, MatchResult};
+ghost use Rattle.std.specs.Prelude.{◌≡◌, ◌∷◌, [], IfOk, MatchResult, None};
 ghost use Rattle.std.specs.Arc.{arc_value};
 ghost use Rattle.space_txn.specs.Content.{content_of};
 ghost use Rattle.qap_search.specs.Answer.{CertifiesLeast, IsAnswer, IsSolveFault};
@@ -38,7 +38,7 @@ pub fn solve_alone<R: Wait>(
     instance: &Instance,
     lease_ms: u64,
 ) -> Result<Answer, SolveError>
-    ensures { MatchResult result (IsAnswer instance.now 1) IsSolveFault }
+    ensures { MatchResult result (IsAnswer instance.now 1 None) IsSolveFault }
 {
     let space = opening_space(alloc, instance)?;
     search::<Brand, R>(rt, alloc, instance, space, Blank::new(1), lease_ms)
@@ -58,7 +58,7 @@ fn search<L: Law, R: Wait>(
     requires one { blank.parts ≡ 1 }
     requires law { IsSearchLaw instance.now L.lawful L.allowed }
     requires opening { IsOpening instance.now space }
-    ensures { MatchResult result (IsAnswer instance.now 1) IsSolveFault }
+    ensures { MatchResult result (IsAnswer instance.now 1 None) IsSolveFault }
 {
     let mut hand = Hand::new(alloc, 0, shared_rows(alloc, instance)?, lease_ms)?;
     let nodes = node_template(alloc)?;

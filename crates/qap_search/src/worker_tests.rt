@@ -99,7 +99,7 @@ fn gate_meet(rt: HostRuntime) -> Result<(), Fail> {
         first: Signal::new(),
         second: Signal::new(),
     };
-    let answer = solve(&rt, alloc, &instance, 2, LEASE_MS, &Stopped, &gate)?;
+    let answer = solve(&rt, alloc, &instance, 2, LEASE_MS, None, &Stopped, &gate)?;
     assert!(rt; !gate.first.is_late() && !gate.second.is_late());
     assert!(rt; gate.first.is_given() && gate.second.is_given());
     assert_eq!(rt; answer.certificate.cost(), 24);
@@ -152,7 +152,7 @@ fn gate_late(rt: HostRuntime) -> Result<(), Fail> {
         accepted: Signal::new(),
         refused: AtomicU64::new(0),
     };
-    let answer = solve(&rt, alloc, &instance, 2, LEASE_MS, &gate, &gate)?;
+    let answer = solve(&rt, alloc, &instance, 2, LEASE_MS, None, &gate, &gate)?;
     assert!(rt; !gate.accepted.is_late());
     assert_eq!(rt; gate.refused.load(Ordering::SeqCst), 1);
     assert_eq!(rt; answer.certificate.cost(), 24);
@@ -201,7 +201,7 @@ fn gate_think(rt: HostRuntime) -> Result<(), Fail> {
         begun: AtomicU64::new(0),
         third: Signal::new(),
     };
-    let answer = solve(&rt, alloc, &instance, 2, LEASE_MS, &Stopped, &gate)?;
+    let answer = solve(&rt, alloc, &instance, 2, LEASE_MS, None, &Stopped, &gate)?;
     assert!(rt; gate.third.is_given() && !gate.third.is_late());
     assert_eq!(rt; answer.certificate.cost(), 1);
     assert_eq!(rt; counts(&answer), (4, 0));
@@ -235,7 +235,9 @@ fn ended_workers_leave_open_nodes(rt: HostRuntime) -> Result<(), Fail> {
     ];
     for (workers, kind) in cases {
         let gate = Without(kind);
-        let ended = solve(&rt, alloc, &instance, workers, LEASE_MS, &Stopped, &gate);
+        let ended = solve(
+            &rt, alloc, &instance, workers, LEASE_MS, None, &Stopped, &gate,
+        );
         assert_eq!(rt;
             ended.err(),
             Some(SolveError::Unfinished(1)),
@@ -283,7 +285,7 @@ fn another_worker_ends_the_search(rt: HostRuntime) -> Result<(), Fail> {
             steps: AtomicU64::new(0),
             ended: Signal::new(),
         };
-        let answer = solve(&rt, alloc, &instance, 2, LEASE_MS, &gate, &gate)?;
+        let answer = solve(&rt, alloc, &instance, 2, LEASE_MS, None, &gate, &gate)?;
         assert_eq!(rt; answer.certificate.cost(), 1, "ended at step {step}");
         assert_eq!(rt; counts(&answer).0, 4, "ended at step {step}");
         let first = if gate.ended.is_given() {
@@ -309,7 +311,9 @@ fn worked_examples(rt: HostRuntime) -> Result<(), Fail> {
     for workers in [1, 2, 8] {
         for (matrices, cost, nodes) in [(FIRST, 24, 1), (SECOND, 1, 4)] {
             let instance = three(alloc, &matrices)?;
-            let answer = solve(&rt, alloc, &instance, workers, LEASE_MS, &Stopped, &Always)?;
+            let answer = solve(
+                &rt, alloc, &instance, workers, LEASE_MS, None, &Stopped, &Always,
+            )?;
             assert_eq!(rt; answer.certificate.cost(), cost);
             assert_eq!(rt; answer.certificate.perm().locations(), [0, 1, 2].as_slice());
             assert_eq!(rt; counts(&answer).0, nodes);
@@ -333,7 +337,9 @@ fn answers(rt: HostRuntime) -> Result<(), Fail> {
         let (least, _) = least_by_listing(alloc, &instance)?;
         for workers in [1, 2, 8] {
             for _ in 0..10 {
-                let answer = solve(&rt, alloc, &instance, workers, LEASE_MS, &Stopped, &Always)?;
+                let answer = solve(
+                    &rt, alloc, &instance, workers, LEASE_MS, None, &Stopped, &Always,
+                )?;
                 assert_eq!(rt;
                     answer.certificate.cost(),
                     least,
