@@ -10,6 +10,7 @@ mod closing;
 mod completion;
 mod decided;
 mod decision;
+mod ending;
 mod error;
 mod gate;
 mod hand;

@@ -5,6 +5,7 @@
 
 use crate::examples::{FIRST, SECOND, patterned, three};
 use crate::{Always, Answer, Clock, Ended, Gate, Kind, SolveError, solve};
+use qap_cert::check;
 use qap_cost::least_by_listing;
 use std::sync::atomic::{AtomicBool, AtomicU64, Ordering};
 use std::test::Fail;
@@ -238,9 +239,8 @@ fn ended_workers_leave_open_nodes(rt: HostRuntime) -> Result<(), Fail> {
         let ended = solve(
             &rt, alloc, &instance, workers, LEASE_MS, None, &Stopped, &gate,
         );
-        assert_eq!(rt;
-            ended.err(),
-            Some(SolveError::Unfinished(1)),
+        assert!(rt;
+            matches!(ended, Err(SolveError::Unfinished(1))),
             "{workers} workers without {kind:?}"
         );
     }
@@ -348,5 +348,51 @@ fn answers(rt: HostRuntime) -> Result<(), Fail> {
             }
         }
     }
+    Ok(())
+}
+
+/// A search of four nodes: its root shows 0, and each child the least cost, which is 1.
+#[test]
+fn a_limit_stops_the_search(rt: HostRuntime) -> Result<(), Fail> {
+    let alloc = rt.alloc();
+    let instance = three(alloc, &SECOND)?;
+    for workers in [1, 8] {
+        for limit in 0..=5 {
+            let nodes = Some(limit);
+            let ended = solve(
+                &rt, alloc, &instance, workers, LEASE_MS, nodes, &Stopped, &Always,
+            );
+            let (is_stopped, answer) = match ended {
+                Ok(answer) => (false, answer),
+                Err(SolveError::Stopped(answer)) => (true, answer),
+                Err(error) => return Err(Fail::from(error)),
+            };
+            assert_eq!(rt; is_stopped, limit < 4, "{workers} workers, limit {limit}");
+            assert_eq!(rt;
+                counts(&answer).0,
+                limit.min(4),
+                "{workers} workers, limit {limit}"
+            );
+            let bound = if limit == 0 { 0 } else { 1 };
+            assert_eq!(rt;
+                answer.certificate.bound(),
+                bound,
+                "{workers} workers, limit {limit}"
+            );
+            assert_eq!(rt; answer.certificate.cost(), 1);
+            assert!(rt; check(alloc, &instance, &answer.certificate).is_ok());
+        }
+    }
+    Ok(())
+}
+
+/// Workers that end below the limit leave open nodes, and no answer.
+#[test]
+fn a_limit_that_is_not_reached(rt: HostRuntime) -> Result<(), Fail> {
+    let alloc = rt.alloc();
+    let instance = three(alloc, &SECOND)?;
+    let gate = Without(Kind::Commit);
+    let ended = solve(&rt, alloc, &instance, 1, LEASE_MS, Some(1), &Stopped, &gate);
+    assert!(rt; matches!(ended, Err(SolveError::Unfinished(1))));
     Ok(())
 }

@@ -10,13 +10,14 @@ ghost use Rattle.std.specs.Arc.{arc_value};
 
 use crate::answer::{Answer, SolveError};
 use crate::clock::Clock;
+use crate::ending::answer_of;
 use crate::gate::Gate;
 use crate::hand::Hand;
 use crate::opening::opening_space;
 use crate::ordering::turned_round;
 use crate::report::Report;
 use crate::seat::{Seat, Workplace};
-use crate::solving::{certificate_of, shared_rows};
+use crate::solving::shared_rows;
 use crate::templates::node_template;
 use gilmore_lawler::RankedInstance;
 use qap_cost::Instance;
@@ -39,7 +40,8 @@ const PAUSE_MS: u64 = 1;
 /// The calling thread keeps the space: it moves the moment on by the clock, and closes the space when no node is left or every
 /// worker has left. The gate is asked before each step of a worker and told after it. `Unfinished` comes where nodes are left,
 /// with their number: where workers were ended by the gate or found no memory. With a lease of 0 ms no commit is ever accepted.
-/// With a limit no more commits are accepted than that.
+/// With a limit no more commits are accepted than that: where it is reached while nodes are left, `Stopped` comes with a
+/// certificate in which these nodes are closed.
 pub fn solve<R, C, G>(
     rt: &R,
     alloc: Global,
@@ -56,7 +58,7 @@ where
     G: Gate + Sync,
     requires some { 0 < workers }
     requires few { workers ≤ 64 }
-    ensures { MatchResult result (IsAnswer instance.now workers limit) IsSolveFault }
+    ensures { MatchResult result (IsAnswer instance.now workers limit) (IsSolveFault instance.now workers limit) }
 {
     let space = opening_space(alloc, instance)?;
     let blank = Blank::new(u64::from(workers));
@@ -91,7 +93,7 @@ where
     requires law { IsSearchLaw instance.now L.lawful L.allowed }
     requires limit { L.limit ≡ limit }
     requires opening { IsOpening instance.now space }
-    ensures { MatchResult result (IsAnswer instance.now workers limit) IsSolveFault }
+    ensures { MatchResult result (IsAnswer instance.now workers limit) (IsSolveFault instance.now workers limit) }
 {
     let ranked = shared_rows(alloc, instance)?;
     let nodes = node_template(alloc)?;
@@ -108,11 +110,7 @@ where
     work_all(&place, &seats, clock);
     let Left { shares, reports } = left_by(room, seats);
     let (space, _) = shared.into_inner(shares);
-    let certificate = certificate_of(alloc, instance, space)?;
-    Ok(Answer {
-        certificate,
-        reports,
-    })
+    answer_of(alloc, instance, limit, space, reports)
 }
 
 /// The space with its lock and its limit, if there is one, and so many shares.
