@@ -100,6 +100,24 @@ impl Certificate {
         &self.tree
     }
 
+    /// The same certificate with this bound. One that is above the cost or outside -10^24 to 10^24 is refused, and the
+    /// certificate comes back.
+    pub fn with_bound(self, bound: i128) -> Result<Certificate, Certificate>
+        ensures { MatchResult result
+            (λ c. (c ≡ claim_of self.cost bound self.permutation self.tree) × IsCertificate c)
+            (λ same. (same ≡ self) × IsCertificate self × (IsBoundFor self.cost bound → ⊥)) }
+    {
+        if !is_bound_for(self.cost, bound) {
+            return Err(self);
+        }
+        Ok(Certificate {
+            cost: self.cost,
+            bound,
+            perm: self.perm,
+            tree: self.tree,
+        })
+    }
+
     /// The line of the tree's first node.
     pub(crate) fn tree_line(&self) -> u64
         ensures { result ≡ tree_line self.now.cost self.now.bound }

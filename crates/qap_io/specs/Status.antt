@@ -1,7 +1,7 @@
 -- How programs end.
 use Rattle.std.specs.Prelude.{ℕ}
 use Rattle.qap_io.specs.declared.status.Status.{Status}
-use Rattle.qap_io.specs.declared.status.Status.TheVariants.{Done, Refused, Usage, OutOfMemory, Unfinished}
+use Rattle.qap_io.specs.declared.status.Status.TheVariants.{Done, Refused, Usage, OutOfMemory, Unfinished, Stopped}
 
 abbrev pub exit_code : Status → ℕ
 exit_code Done = 0
@@ -9,3 +9,4 @@ exit_code Refused = 1
 exit_code Usage = 2
 exit_code OutOfMemory = 3
 exit_code Unfinished = 4
+exit_code Stopped = 5

@@ -13,13 +13,15 @@ pub enum Status {
     OutOfMemory,
     /// It has stopped before its end.
     Unfinished,
+    /// It has stopped at the limit that it was given, with an answer for what it had done by then.
+    Stopped,
 }
 
 impl Status {
     ghost use Rattle.std.specs.Prelude.{◌≡◌};
     ghost use Rattle.qap_io.specs.Status.{exit_code};
 
-    /// The exit status, from 0 to 4.
+    /// The exit status, from 0 to 5.
     pub fn code(self) -> u8
         ensures { result ≡ exit_code self }
     {
@@ -29,6 +31,7 @@ impl Status {
             Status::Usage => 2,
             Status::OutOfMemory => 3,
             Status::Unfinished => 4,
+            Status::Stopped => 5,
         }
     }
 }

@@ -187,6 +187,7 @@ fn statuses(rt: HostRuntime) {
         (Status::Usage, 2),
         (Status::OutOfMemory, 3),
         (Status::Unfinished, 4),
+        (Status::Stopped, 5),
     ];
     for (status, code) in cases {
         assert_eq!(rt; status.code(), code, "{status:?}");

@@ -22,11 +22,12 @@ use Rattle.qap_search.specs.Finished.{IsAssembled}
 use Rattle.qap_search.specs.Piece.{node_tuple, split_tuple, closed_tuple, best_tuple, is_open, open_count, pieces, pieces_of_all}
 use Rattle.qap_search.specs.Replacement.{Best, tuple_of}
 use Rattle.qap_search.specs.SearchTree.{SearchTree, open_node, split_node, closed_node, SearchTrees, no_trees, tree, IsTreeAt, AreTreesAt, decided_count, decided_counts, searched, searched_all}
-use Rattle.qap_search.proofs.Replacing.{best_found, weighed}
+use Rattle.qap_search.specs.Stopped.{HasDuals}
+use Rattle.qap_search.proofs.Replacing.{best_found, trees_by, weighed}
 use Rattle.qap_search.proofs.Tuples.{IsNode, IsNode-placing, found_in, is_it, is_it-found, is_it-itself, is_it-other, list_at, same_node, tag}
 
 -- 1 at the tuple of an open node
-abbrev open_weight : List FieldValue → ℕ
+abbrev pub open_weight : List FieldValue → ℕ
 open_weight t = cond (is_open t) 1 0
 
 mutual
@@ -67,20 +68,20 @@ free_count y h =
     omega arith
 
 mutual
-  -- a tree that closes nodes by duals has the shape of a certificate's
-  tree_shape : (I : Problem) (c : ℤ) (s : Node) (y : Placement) → IsPlacement y → IsTreeAt (Closes I c) y (searched s) → HasShape Second y.size y.facilities s
-  tree_shape I c (bound u v) y placed h = h.duals
-  tree_shape I c (split f children) y placed h =
-      let inner = trees_shape I c children y f (free_locations y) (children_placed y f placed h.1) h.2 in
+  -- a tree whose leaves have a dual for each free facility and location has the shape of a certificate's
+  pub tree_shape : (s : Node) (y : Placement) → IsPlacement y → IsTreeAt HasDuals y (searched s) → HasShape Second y.size y.facilities s
+  tree_shape (bound u v) y placed h = h
+  tree_shape (split f children) y placed h =
+      let inner = trees_shape children y f (free_locations y) (children_placed y f placed h.1) h.2 in
       (h.0, h.1, h.1.within, inner.0 ∙ free_count y placed, inner.1)
 
-  trees_shape : (I : Problem) (c : ℤ) (ss : Nodes) (y : Placement) (f : ℕ) (ks : List ℕ) → ((j : ℕ) → j < length ks → IsPlacement (placing y f (get_or ks j 0))) → AreTreesAt (Closes I c) y f ks (searched_all ss) → (child_count ss ≡ length ks) × AllHaveShape Second y.size (y.facilities ++ f ∷ []) ss
-  trees_shape I c no_nodes y f [] placed h = (refl, tt)
-  trees_shape I c no_nodes y f (k ∷ ks) placed h = absurd h
-  trees_shape I c (node s rest) y f [] placed h = absurd h
-  trees_shape I c (node s rest) y f (k ∷ ks) placed h =
-      let first = tree_shape I c s (placing y f k) (placed 0 (omega arith)) h.0 in
-      let others = trees_shape I c rest y f ks (λ j less. placed (suc j) (omega arith)) h.1 in
+  trees_shape : (ss : Nodes) (y : Placement) (f : ℕ) (ks : List ℕ) → ((j : ℕ) → j < length ks → IsPlacement (placing y f (get_or ks j 0))) → AreTreesAt HasDuals y f ks (searched_all ss) → (child_count ss ≡ length ks) × AllHaveShape Second y.size (y.facilities ++ f ∷ []) ss
+  trees_shape no_nodes y f [] placed h = (refl, tt)
+  trees_shape no_nodes y f (k ∷ ks) placed h = absurd h
+  trees_shape (node s rest) y f [] placed h = absurd h
+  trees_shape (node s rest) y f (k ∷ ks) placed h =
+      let first = tree_shape s (placing y f k) (placed 0 (omega arith)) h.0 in
+      let others = trees_shape rest y f ks (λ j less. placed (suc j) (omega arith)) h.1 in
       let count = others.0 in
       (omega arith, (first, others.1))
 
@@ -115,7 +116,7 @@ mutual
       ]
 
 -- which tuples of closed nodes are found shows that their duals close them
-abbrev FoundClose : Problem → ℤ → ℕ → List (List FieldValue) → Type 0
+abbrev pub FoundClose : Problem → ℤ → ℕ → List (List FieldValue) → Type 0
 FoundClose I c n tuples = (x : Placement) (u v : List ℤ) → IsNode n x → 1 ≤ sum_by (is_it (closed_tuple x u v)) tuples → Closes I c x u v
 
 mutual
@@ -181,7 +182,7 @@ pair_bound I p inst h i j hi hj =
     subst (λ (m : ℕ). m ≤ 1000000000 * 1000000000) (sym (unsigned_abs-mul (entry I.size I.a i j) (entry I.size I.b (get_or p i 0) (get_or p j 0))))
     (mul-le _ _ _ _ (inst.a_range (i * I.size + j) (entry_below I.size i j hi hj)) (inst.b_range (get_or p i 0 * I.size + get_or p j 0) (entry_below I.size (get_or p i 0) (get_or p j 0) at_i at_j)))
 
-cost_limited : (I : Problem) (p : List ℕ) → IsInstance I → Permutes I p → IsLimited (cost_of I p)
+pub cost_limited : (I : Problem) (p : List ℕ) → IsInstance I → Permutes I p → IsLimited (cost_of I p)
 cost_limited I p inst h =
     let n = I.size in
     let row : (i : ℕ) → i < n → unsigned_abs (row_cost I p i) ≤ n * (1000000000 * 1000000000) = λ i hi. sum_to-bound (pair_cost I p i) n (1000000000 * 1000000000) (λ j hj. pair_bound I p inst h i j hi hj) in
@@ -207,7 +208,7 @@ certificate_there I content commits i h none =
     let parts = sum_by-cons open_weight (best_tuple h.cost h.permutation) (pieces root h.tree) in
     let done = finished (Closes I h.cost) h.tree root h.valid (omega arith) in
     let limited = subst IsLimited h.costs (cost_limited I h.permutation i h.permutes) in
-    let valid = subst (IsTreeAt (Closes I h.cost) root) done.1 h.valid in
+    let valid = subst (IsTreeAt HasDuals root) done.1 (trees_by (Closes I h.cost) HasDuals (λ x u v closes. closes.duals) h.tree root h.valid) in
     let same = h.permutes.same_size in
     let positive = i.positive in
     let small = i.small in (
@@ -217,7 +218,7 @@ certificate_there I content commits i h none =
           cost = limited;
           bound = record { limited = limited; at_most = omega (arith, ints) };
           permutation = record { bijection = h.permutes.bijection; positive = omega arith; small = omega arith };
-          tree = subst (λ (n : ℕ). HasShape Second n [] done.0) (sym same) (tree_shape I h.cost done.0 root (root_placement I.size i.positive i.small) valid);
+          tree = subst (λ (n : ℕ). HasShape Second n [] done.0) (sym same) (tree_shape done.0 root (root_placement I.size i.positive i.small) valid);
         };
         same_size = same;
         closed = refl;
@@ -225,35 +226,35 @@ certificate_there I content commits i h none =
       },
     )
 
-abbrev best_of : Claim → Best
+abbrev pub best_of : Claim → Best
 best_of C = record { cost = C.cost; permutation = C.permutation }
 
--- a certificate whose tuples are a cut tree has its best permutation
-best_is : (I : Problem) (content : List (List FieldValue)) (commits : ℕ) (C : Claim) (h : IsCutTree I content commits) → IsAssembled I.size content C → record { cost = h.cost; permutation = h.permutation } ≡ best_of C
-best_is I content commits C h a =
+-- where the tuples of a cut tree are those of a search tree and a permutation, that is the best permutation
+pub best_is : (I : Problem) (content : List (List FieldValue)) (commits : ℕ) (best : Best) (t : SearchTree) (h : IsCutTree I content commits) → SameItems content (tuple_of best ∷ pieces (root_of I.size) t) → record { cost = h.cost; permutation = h.permutation } ≡ best
+best_is I content commits best t h same =
     let root = root_of I.size in
-    let best : Best = record { cost = h.cost; permutation = h.permutation } in
-    let w = is_it (tuple_of (best_of C)) in
-    let parts = sum_by-cons w (tuple_of (best_of C)) (pieces root (searched C.tree)) in
-    let itself = is_it-itself (tuple_of (best_of C)) in
+    let found : Best = record { cost = h.cost; permutation = h.permutation } in
+    let w = is_it (tuple_of best) in
+    let parts = sum_by-cons w (tuple_of best) (pieces root t) in
+    let itself = is_it-itself (tuple_of best) in
     let apart = h.taken_apart w in
-    let assembled = a.taken_apart w in
-    best_found (best_of C) best h.tree root (Closes I h.cost) h.valid (omega arith)
+    let there = same w in
+    best_found best found h.tree root (Closes I h.cost) h.valid (omega arith)
 
--- a tuple of a certificate's closed node is one of the search tree's
-closed_in_both : (I : Problem) (content : List (List FieldValue)) (commits : ℕ) (C : Claim) (h : IsCutTree I content commits) → IsAssembled I.size content C → FoundClose I h.cost I.size (pieces (root_of I.size) (searched C.tree))
-closed_in_both I content commits C h a x u v hx found =
+-- and a tuple of that tree's closed node is one of the cut tree's
+pub closed_in_both : (I : Problem) (content : List (List FieldValue)) (commits : ℕ) (best : Best) (t : SearchTree) (h : IsCutTree I content commits) → SameItems content (tuple_of best ∷ pieces (root_of I.size) t) → FoundClose I h.cost I.size (pieces (root_of I.size) t)
+closed_in_both I content commits best t h same x u v hx found =
     let root = root_of I.size in
-    let best : Best = record { cost = h.cost; permutation = h.permutation } in
+    let old : Best = record { cost = h.cost; permutation = h.permutation } in
     let w = is_it (closed_tuple x u v) in
     let apart = h.taken_apart w in
-    let assembled = a.taken_apart w in
-    let left = sum_by-cons w (tuple_of best) (pieces root h.tree) in
-    let right = sum_by-cons w (tuple_of (best_of C)) (pieces root (searched C.tree)) in
-    let other = is_it-other (closed_tuple x u v) (tuple_of best) (λ (d : 98 ≡ 99). omega arith) in
+    let there = same w in
+    let left = sum_by-cons w (tuple_of old) (pieces root h.tree) in
+    let right = sum_by-cons w (tuple_of best) (pieces root t) in
+    let other = is_it-other (closed_tuple x u v) (tuple_of old) (λ (d : 98 ≡ 99). omega arith) in
     closed_found (Closes I h.cost) I.size x u v hx h.tree root (record { size = refl; paired = refl }) h.valid (omega arith)
 
--- and its bounds close their nodes
+-- the bounds of a certificate whose tuples are a cut tree close their nodes
 certificate_valid : (I : Problem) (content : List (List FieldValue)) (commits : ℕ) (C : Claim) → IsCutTree I content commits → IsAssembled I.size content C → Valid I C.cost (root_of I.size) C.tree
 certificate_valid I content commits C h a =
     let n = I.size in
@@ -262,13 +263,13 @@ certificate_valid I content commits C h a =
     let positive = perm.positive in
     let small = perm.small in
     let shape = subst (λ (m : ℕ). HasShape Second m [] C.tree) a.same_size a.certificate.tree in
-    let costs = ap (λ (b : Best). b.cost) (best_is I content commits C h a) in
+    let costs = ap (λ (b : Best). b.cost) (best_is I content commits (best_of C) (searched C.tree) h a.taken_apart) in
     subst (λ (c : ℤ). Valid I c (root_of n) C.tree) costs
-    (valid_from I h.cost n C.tree (root_of n) (root_placement n (omega arith) (omega arith)) (record { size = refl; paired = refl }) shape (closed_in_both I content commits C h a))
+    (valid_from I h.cost n C.tree (root_of n) (root_placement n (omega arith) (omega arith)) (record { size = refl; paired = refl }) shape (closed_in_both I content commits (best_of C) (searched C.tree) h a.taken_apart))
 
 pub certificate_certifies : (I : Problem) (content : List (List FieldValue)) (commits : ℕ) (C : Claim) → IsCutTree I content commits → IsAssembled I.size content C → Certifies I C
 certificate_certifies I content commits C h a =
-    let same = best_is I content commits C h a in
+    let same = best_is I content commits (best_of C) (searched C.tree) h a.taken_apart in
     record {
       same_size = a.same_size;
       cost = subst (λ (b : Best). cost_of I b.permutation ≡ b.cost) same h.costs;
@@ -276,7 +277,7 @@ certificate_certifies I content commits C h a =
     }
 
 -- 1 at the tuple of a split or closed node
-abbrev decided_weight : List FieldValue → ℕ
+abbrev pub decided_weight : List FieldValue → ℕ
 decided_weight t = cond (eqb (tag t) 115 || eqb (tag t) 99) 1 0
 
 -- it has a node for each commit

@@ -28,12 +28,12 @@ found_from_Contains (x ∷ xs) t (suc k) below is =
     omega arith
 
 -- the tuple is that of a split or a closed node
-abbrev IsDecidedTuple : List FieldValue → Type 0
+abbrev pub IsDecidedTuple : List FieldValue → Type 0
 IsDecidedTuple w = ((x : Placement) × (f : ℕ) × (w ≡ split_tuple x f)) ⊎ ((x : Placement) × (u : List ℤ) × (v : List ℤ) × (w ≡ closed_tuple x u v))
 
 mutual
   -- a tuple of a tree is that of an open node, or of a decided one
-  piece_found : (P : Placement → List ℤ → List ℤ → Type 0) (n : ℕ) (w : List FieldValue) (t : SearchTree) (y : Placement) → IsPlacement y → y.size ≡ n → IsTreeAt P y t → 1 ≤ sum_by (is_it w) (pieces y t) → IsOpenNode n w ⊎ IsDecidedTuple w
+  pub piece_found : (P : Placement → List ℤ → List ℤ → Type 0) (n : ℕ) (w : List FieldValue) (t : SearchTree) (y : Placement) → IsPlacement y → y.size ≡ n → IsTreeAt P y t → 1 ≤ sum_by (is_it w) (pieces y t) → IsOpenNode n w ⊎ IsDecidedTuple w
   piece_found P n w open_node y placed size h found =
       inl (record { node = y; placement = placed; size = size; is = sym (is_it-found w (node_tuple y) (omega arith)) })
   piece_found P n w (closed_node u v) y placed size h found = inr (inr (y, u, v, sym (is_it-found w (closed_tuple y u v) (omega arith))))
@@ -55,7 +55,7 @@ mutual
         | inr there ↦ piece_found_among P n w rest y f ks (λ j less. placed (suc j) (omega arith)) size h.1 there
       ]
 
-not_open : (w : List FieldValue) → IsDecidedTuple w → is_open w ≡ true → ⊥
+pub not_open : (w : List FieldValue) → IsDecidedTuple w → is_open w ≡ true → ⊥
 not_open w (inl split) h = false≢true (sym (ap is_open split.2) ∙ h)
 not_open w (inr closed) h = false≢true (sym (ap is_open closed.3) ∙ h)
 

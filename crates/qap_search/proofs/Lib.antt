@@ -2,6 +2,7 @@ mod Runs
 pub mod Assembled
 pub mod BestFacts
 pub mod Certificates
+pub mod Closings
 pub mod Completions
 pub mod Deciding
 pub mod Fields
@@ -10,13 +11,18 @@ pub mod Found
 pub mod Fronts
 pub mod Identities
 pub mod Keys
+pub mod LeastDuals
 pub mod NodeLists
 pub mod OneTree
 pub mod Parts
+pub mod Reorderings
 pub mod Replacing
 pub mod Scatter
 pub mod SearchLaws
+pub mod Showings
 pub mod Standings
+pub mod StoppedLaws
+pub mod Stoppings
 pub mod Taking
 pub mod Thinkings
 pub mod Thoughts

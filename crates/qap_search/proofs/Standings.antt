@@ -1,5 +1,5 @@
 -- What a worker's transaction holds after a call that finds.
-use Rattle.std.proofs.Common.{◌≡◌, ◌↔◌, ◌⊎◌, inl, inr, ℕ, ℤ, IsTrue, true, List, [], ◌∷◌, Result, Ok, Err, IfErr, refl, sym, ap, subst, ◌∙◌}
+use Rattle.std.proofs.Common.{◌≡◌, ◌↔◌, ◌⊎◌, inl, inr, ℕ, ℤ, IsTrue, true, List, [], ◌∷◌, Ok, Err, IfErr, refl, sym, ap, subst, ◌∙◌}
 use Rattle.qap_cost.specs.Instance.{Problem, IsInstance}
 use Rattle.tuple_match.specs.FieldValue.{FieldValue}
 use Rattle.tuple_match.specs.Matching.{does_match}
@@ -15,7 +15,8 @@ use Rattle.qap_search.specs.Replacement.{MayReplace}
 use Rattle.qap_search.specs.SearchLaw.{IsSearchLaw}
 use Rattle.qap_search.specs.Standing.{IsFoundNode}
 use Rattle.qap_search.specs.Hand.{HandValue}
-use Rattle.qap_search.specs.Turn.{AfterCommit, AfterRefusal, Told}
+use Rattle.qap_search.specs.Turn.{AfterNoCommit, AfterRefusal, Committed, Told}
+use Rattle.shared_space.specs.declared.error.CommitError.TheVariants.{Txn}
 use Rattle.space_txn.specs.declared.error.TxnError.{TxnError}
 use Rattle.space_txn.specs.declared.error.TxnError.TheVariants.{Expired, Foreign, Exhausted, OutOfMemory}
 use Rattle.qap_search.specs.declared.stage.Stage.TheVariants.{Ready}
@@ -30,7 +31,7 @@ not_expired e (inr (inl p)) q = cc
 not_expired e (inr (inr p)) q = cc
 
 -- after a commit that was refused, and not since the transaction has ended, the worker stands where it stood
-pub not_committed_after : (h new : HandValue) (t : TxnValue) (cost : ℤ) (e : TxnError) (told : Told) → (e ≡ Expired → ⊥) → AfterRefusal h (Ready t cost) e told new → AfterCommit h t cost (refused e) told new
+pub not_committed_after : (h new : HandValue) (t : TxnValue) (cost : ℤ) (e : TxnError) (told : Told) → (e ≡ Expired → ⊥) → AfterRefusal h (Ready t cost) e told new → AfterNoCommit h t cost (Txn e) told new
 not_committed_after h new t cost Expired told other f = absurd (other refl)
 not_committed_after h new t cost Foreign told other f = f
 not_committed_after h new t cost Exhausted told other f = f
@@ -56,6 +57,6 @@ found_node I lawful allowed t t' (refused error) test instance law no_marks no_w
 found_node I lawful allowed t t' done test instance law no_marks no_writes f = tt
 
 -- the transaction that came back is the one that was to be committed
-pub handed_on : (I : Problem) (t : TxnValue) (committed : Result (Unit {0}) (TxnError × TxnValue)) → MayCommit (MayReplace I) t → IfErr committed (λ back. back.1 ≡ t) → IfErr committed (λ back. MayCommit (MayReplace I) back.1)
+pub handed_on : (I : Problem) (t : TxnValue) (committed : Committed) → MayCommit (MayReplace I) t → IfErr committed (λ back. back.1 ≡ t) → IfErr committed (λ back. MayCommit (MayReplace I) back.1)
 handed_on I t (Ok u) may back = tt
 handed_on I t (Err e) may back = subst (MayCommit (MayReplace I)) (sym back) may

@@ -1,12 +1,15 @@
 -- What a search comes to.
-use Rattle.std.specs.Prelude.{◌≡◌, ℕ, ◌<◌, length}
+use Rattle.std.specs.Prelude.{◌≡◌, ℕ, ◌<◌, List, length, Option, Some}
 use Rattle.std.specs.List.{sum_by}
 use Rattle.qap_cost.specs.Instance.{Problem}
 use Rattle.qap_cert.specs.Certificate.{Claim, IsCertificate, Certifies}
 use Rattle.qap_cert.specs.Tree.{node_count}
+use Rattle.shared_space.specs.Limit.{IsWithin}
+use Rattle.qap_search.specs.Stopped.{CertifiesStopped}
 use Rattle.qap_search.specs.declared.answer.Answer.{Answer}
+use Rattle.qap_search.specs.declared.report.Report.{Report}
 use Rattle.qap_search.specs.declared.answer.SolveError.{SolveError}
-use Rattle.qap_search.specs.declared.answer.SolveError.TheVariants.{Unfinished, OutOfMemory}
+use Rattle.qap_search.specs.declared.answer.SolveError.TheVariants.{Unfinished, Stopped, OutOfMemory}
 
 -- the certificate certifies its cost as the least one of the instance, by a tree of so many nodes
 pub record CertifiesLeast (I : Problem) (nodes : ℕ) (C : Claim) : Type 0 where
@@ -15,13 +18,26 @@ pub record CertifiesLeast (I : Problem) (nodes : ℕ) (C : Claim) : Type 0 where
   pub closed : C.bound ≡ C.cost
   pub nodes_are : node_count C.tree ≡ nodes
 
--- a certificate of the instance's least cost, and a report for each of so many workers, whose accepted commits are together
--- the nodes of the certificate's tree
-pub record IsAnswer (I : Problem) (workers : ℕ) (a : Answer) : Type 0 where
-  pub least : CertifiesLeast I (sum_by (λ r. r.accepted) a.reports.items) a.certificate
-  pub one_each : length a.reports.items ≡ workers
+-- the accepted commits that the reports tell of, together
+abbrev pub accepted_of : List Report → ℕ
+accepted_of reports = sum_by (λ r. r.accepted) reports
 
--- why there is no answer: some nodes are open, so many; or memory ran out
-abbrev pub IsSolveFault : SolveError → Type 0
-IsSolveFault (Unfinished count) = 0 < count
-IsSolveFault OutOfMemory = Unit {0}
+-- a certificate of the instance's least cost, and a report for each of so many workers, whose accepted commits are together
+-- the nodes of the certificate's tree, and at most the limit
+pub record IsAnswer (I : Problem) (workers : ℕ) (limit : Option ℕ) (a : Answer) : Type 0 where
+  pub least : CertifiesLeast I (accepted_of a.reports.items) a.certificate
+  pub one_each : length a.reports.items ≡ workers
+  pub within : IsWithin limit (accepted_of a.reports.items)
+
+-- what is left where the limit of commits was reached while nodes were open: a certificate with these nodes closed, and a report
+-- for each of so many workers, whose accepted commits are together the limit
+pub record IsStoppedAnswer (I : Problem) (workers : ℕ) (limit : Option ℕ) (a : Answer) : Type 0 where
+  pub reached : limit ≡ Some (accepted_of a.reports.items)
+  pub one_each : length a.reports.items ≡ workers
+  pub stopped : CertifiesStopped I (accepted_of a.reports.items) a.certificate
+
+-- why there is no answer: some nodes are open, so many; the limit of commits was reached before; or memory ran out
+abbrev pub IsSolveFault : Problem → ℕ → Option ℕ → SolveError → Type 0
+IsSolveFault I workers limit (Unfinished count) = 0 < count
+IsSolveFault I workers limit (Stopped a) = IsStoppedAnswer I workers limit a
+IsSolveFault I workers limit OutOfMemory = Unit {0}

@@ -2,6 +2,8 @@ pub mod Answer
 pub mod Assembling
 pub mod Best
 pub mod Building
+pub mod ClosedTuples
+pub mod Closing
 pub mod Completion
 pub mod Considering
 pub mod CutTree
@@ -21,6 +23,7 @@ pub mod Replacement
 pub mod SearchLaw
 pub mod SearchTree
 pub mod Standing
+pub mod Stopped
 pub mod Thinking
 pub mod Thought
 pub mod Turn

@@ -8,7 +8,9 @@ use Rattle.space_txn.specs.declared.error.TxnError.{TxnError}
 use Rattle.space_txn.specs.declared.error.TxnError.TheVariants.{Expired, Foreign, Exhausted, OutOfMemory}
 use Rattle.space_txn.specs.declared.mark.Mark.{Mark}
 use Rattle.space_txn.specs.declared.txn.Found.TheVariants.{Entry as Stored, Own}
-use Rattle.shared_space.specs.Event.{Event, Reply, begin, begun, call, answered}
+use Rattle.shared_space.specs.Event.{Event, Reply, begin, begun, call, answered, commit_reply}
+use Rattle.shared_space.specs.declared.error.CommitError.{CommitError}
+use Rattle.shared_space.specs.declared.error.CommitError.TheVariants.{Limit, Txn}
 use Rattle.qap_cost.specs.Instance.{Problem}
 use Rattle.qap_cost.specs.Placement.{Placement}
 use Rattle.tuple_match.specs.FieldValue.{FieldValue}
@@ -23,6 +25,10 @@ use Rattle.qap_search.specs.declared.stage.Stage.TheVariants.{Idle, Begun, Taken
 -- what a step tells: whether it met no refusal, or that there was no memory
 abbrev pub Told : Type 0
 Told = Result Bool AllocError
+
+-- what a commit comes to; a transaction that is refused it comes back
+abbrev pub Committed : Type 0
+Committed = Result (Unit {0}) (CommitError × TxnValue)
 
 -- the worker stands elsewhere, and is else as it was
 abbrev pub moved : HandValue → Stage → HandValue
@@ -118,12 +124,16 @@ AfterBest taking old done t told new = ⊥
 abbrev pub one_more : ℕ → ℕ
 one_more n = min (n + 1) (2 ^ 64 - 1)
 
-abbrev pub AfterCommit : HandValue → TxnValue → ℤ → Answer → Told → HandValue → Type 0
-AfterCommit old t cost done told new =
+-- Where the limit of commits is reached, the transaction is given up; a commit that came too late is counted.
+abbrev pub AfterNoCommit : HandValue → TxnValue → ℤ → CommitError → Told → HandValue → Type 0
+AfterNoCommit old t cost Limit told new = (told ≡ Ok false) × (new ≡ moved old (GivingUp t))
+AfterNoCommit old t cost (Txn Expired) told new = (told ≡ Ok false) × (new ≡ record old { stage = Idle; refused = one_more old.refused })
+AfterNoCommit old t cost (Txn error) told new = AfterRefusal old (Ready t cost) error told new
+
+abbrev pub AfterCommit : HandValue → TxnValue → ℤ → Committed → Told → HandValue → Type 0
+AfterCommit old t cost (Ok _) told new =
     (told ≡ Ok true) × (new ≡ record old { stage = Idle; best = Some cost; accepted = old.accepted + 1 })
-AfterCommit old t cost (refused Expired) told new = (told ≡ Ok false) × (new ≡ record old { stage = Idle; refused = one_more old.refused })
-AfterCommit old t cost (refused error) told new = AfterRefusal old (Ready t cost) error told new
-AfterCommit old t cost _ told new = ⊥
+AfterCommit old t cost (Err back) told new = AfterNoCommit old t cost back.0 told new
 
 abbrev pub AfterAbort : HandValue → TxnValue → Answer → Told → HandValue → Type 0
 AfterAbort old t done told new = (told ≡ Ok true) × (new ≡ moved old Idle)
@@ -145,7 +155,7 @@ TurnAt did old (Considered t) before told new after =
     (answer : Answer) × (t' : TxnValue) × did before (call t (best_call (is_hopeful old.best old.last))) (answered answer t') after
     × AfterBest (is_hopeful old.best old.last) old answer t' told new
 TurnAt did old (Ready t cost) before told new after =
-    (answer : Answer) × did before (call t commit) (answered answer t) after × AfterCommit old t cost answer told new
+    (committed : Committed) × did before (call t commit) (commit_reply t committed) after × AfterCommit old t cost committed told new
 TurnAt did old (GivingUp t) before told new after =
     (answer : Answer) × did before (call t abort) (answered answer t) after × AfterAbort old t answer told new
 -- no step comes before the thought that is due

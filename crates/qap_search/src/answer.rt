@@ -3,14 +3,19 @@
 use crate::report::Report;
 use qap_cert::Certificate;
 use std::alloc::AllocError;
+use std::fmt;
 use thiserror::Error;
 
 /// Why a search ends without an answer.
-#[derive(Clone, Copy, Debug, PartialEq, Eq, Error)]
+#[derive(Drop, Debug, Error)]
 pub enum SolveError {
     /// Refusal 41: so many nodes are open.
     #[error("{0} nodes are open")]
     Unfinished(u64),
+    /// Refusal 43: the limit of commits was reached while nodes were open. The certificate bounds the least cost from below, and
+    /// has a permutation that costs so much.
+    #[error("the limit of nodes is reached")]
+    Stopped(Answer),
     /// Refusal 50: there is no memory left.
     #[error("out of memory")]
     OutOfMemory,
@@ -27,10 +32,16 @@ impl From<AllocError> for SolveError {
     }
 }
 
-/// A certificate of an instance's least cost, and what each worker tells of the search.
+/// A certificate of an instance's cost, and what each worker tells of the search.
 #[derive(Drop)]
 pub struct Answer {
     pub certificate: Certificate,
     /// One for each worker, in their order.
     pub reports: Vec<Report>,
+}
+
+impl fmt::Debug for Answer {
+    fn fmt<W: fmt::Write>(&self, f: &mut fmt::Formatter<W>) -> fmt::Result {
+        f.write_str("Answer")
+    }
 }

@@ -42,7 +42,7 @@ pub fn assemble(alloc: Global, n: usize, tuples: Vec<Tuple>) -> Result<Certifica
 }
 
 /// How many of the tuples are of open nodes.
-fn open_nodes(tuples: &[Tuple]) -> u64
+pub(crate) fn open_nodes(tuples: &[Tuple]) -> u64
     ensures { result ≡ open_count tuples.now }
 {
     let mut count = 0;

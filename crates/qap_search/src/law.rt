@@ -1,4 +1,4 @@
-//! Why the tuples of a search stay a cut tree, and why those of a finished one give a certificate.
+//! Why the tuples of a search stay a cut tree, and why those of a finished or a stopped one give a certificate.
 
 ghost use Rattle.std.specs.Prelude.{◌≡◌, ◌+◌, ◌++◌, ◌∷◌, [], ℕ, List, Contains, true};
 ghost use Rattle.qap_cost.specs.Instance.{Problem, IsInstance};
@@ -8,12 +8,15 @@ ghost use Rattle.qap_cert.specs.Certificate.{Claim, Certifies};
 ghost use Rattle.qap_cert.specs.Tree.{node_count};
 ghost use Rattle.space_txn.specs.Content.{SameItems};
 ghost use Rattle.tuple_match.specs.FieldValue.{FieldValue};
+ghost use Rattle.qap_search.specs.Closing.{undecided_count};
 ghost use Rattle.qap_search.specs.CutTree.{IsCutTree};
 ghost use Rattle.qap_search.specs.Decision.{Decides};
 ghost use Rattle.qap_search.specs.Finished.{IsAssembled};
 ghost use Rattle.qap_search.specs.Found.{IsBestFound, IsOpenNode, is_best};
 ghost use Rattle.qap_search.specs.Piece.{node_tuple, best_tuple, is_open, open_count};
 ghost use Rattle.qap_search.specs.Replacement.{Best, IsAsGood, MayReplace, tuple_of};
+ghost use Rattle.qap_search.specs.SearchTree.{decided_count};
+ghost use Rattle.qap_search.specs.Stopped.{IsNotStopped, IsStopped};
 
 /// The open root and any permutation with its cost are a cut tree, before any commit.
 pub fn opening_law()
@@ -65,4 +68,17 @@ pub fn certificate_law()
         IsCutTree I content commits → IsAssembled I.size content C → Certifies I C }
     ensures counted { (I : Problem) (content : List (List FieldValue)) (commits : ℕ) (C : Claim) →
         IsCutTree I content commits → IsAssembled I.size content C → node_count C.tree ≡ commits }
+{}
+
+/// A certificate that a cut tree gives where its open nodes are closed certifies its bound; the cut tree has a decided node for
+/// each commit, and the certificate's tree one for each of these and for each open node. No cut tree is refused.
+pub fn stopped_law()
+    ensures certifies { (I : Problem) (content : List (List FieldValue)) (commits : ℕ) (C : Claim) →
+        IsCutTree I content commits → IsStopped I content C → Certifies I C }
+    ensures counted { (I : Problem) (content : List (List FieldValue)) (commits : ℕ) (C : Claim) →
+        IsCutTree I content commits → (s : IsStopped I content C) →
+        (decided_count s.tree ≡ commits) × (undecided_count s.tree ≡ open_count content)
+        × (node_count C.tree ≡ commits + open_count content) }
+    ensures not_refused { (I : Problem) (content : List (List FieldValue)) (commits : ℕ) → IsInstance I →
+        IsCutTree I content commits → IsNotStopped I content → ⊥ }
 {}

@@ -99,8 +99,8 @@ fn run<R: Wait, L: Law, G: Gate>(
     unreachable!()
 }
 
-/// One turn: a thought where one is due, else a step that the gate lets pass. A worker that gave its transaction up waits for
-/// a node then. The error tells how the worker ends.
+/// One turn: a thought where one is due, else a step that the gate lets pass. No transaction begins on a closed space, and a worker
+/// that gave its transaction up waits for a node. The error tells how the worker ends.
 fn turn<R: Wait, L: Law, G: Gate>(
     place: &Workplace<'_, R, L, G>,
     worker: u16,
@@ -116,6 +116,9 @@ fn turn<R: Wait, L: Law, G: Gate>(
         return hand.think(place.gate).map_err(|_| Ended::Memory);
     }
     let kind = hand.next();
+    if kind == Kind::Begin && place.shared.closed(place.rt) {
+        return Err(Ended::Done);
+    }
     if !place.gate.pass(worker, kind) {
         return Err(Ended::ByGate);
     }

@@ -1,24 +1,19 @@
 //! A search by one worker, on a space of its own.
 
-ghost use Rattle.std.specs.Prelude.{◌≡◌, ◌∷◌, [], IfOk, MatchResult};
+ghost use Rattle.std.specs.Prelude.{◌≡◌, ◌∷◌, [], IfOk, MatchResult, None};
 ghost use Rattle.std.specs.Arc.{arc_value};
-ghost use Rattle.space_txn.specs.Content.{content_of};
-ghost use Rattle.qap_search.specs.Answer.{CertifiesLeast, IsAnswer, IsSolveFault};
-ghost use Rattle.qap_search.specs.CutTree.{IsCutTree};
+ghost use Rattle.qap_search.specs.Answer.{IsAnswer, IsSolveFault};
 ghost use Rattle.qap_search.specs.Opening.{IsOpening};
 ghost use Rattle.qap_search.specs.SearchLaw.{IsSearchLaw};
 
 use crate::answer::{Answer, SolveError};
-use crate::assembling::assemble;
-use crate::error::AssembleError;
+use crate::ending::answer_of;
 use crate::gate::{Always, Kind};
 use crate::hand::Hand;
-use crate::law::certificate_law;
 use crate::opening::opening_space;
 use crate::report::{Ended, Report};
 use crate::templates::node_template;
 use gilmore_lawler::RankedInstance;
-use qap_cert::Certificate;
 use qap_cost::Instance;
 use shared_space::{Alone, Law, Room, Share};
 use space_txn::TxnSpace;
@@ -38,7 +33,7 @@ pub fn solve_alone<R: Wait>(
     instance: &Instance,
     lease_ms: u64,
 ) -> Result<Answer, SolveError>
-    ensures { MatchResult result (IsAnswer instance.now 1) IsSolveFault }
+    ensures { MatchResult result (IsAnswer instance.now 1 None) (IsSolveFault instance.now 1 None) }
 {
     let space = opening_space(alloc, instance)?;
     search::<Brand, R>(rt, alloc, instance, space, Blank::new(1), lease_ms)
@@ -58,7 +53,7 @@ fn search<L: Law, R: Wait>(
     requires one { blank.parts ≡ 1 }
     requires law { IsSearchLaw instance.now L.lawful L.allowed }
     requires opening { IsOpening instance.now space }
-    ensures { MatchResult result (IsAnswer instance.now 1) IsSolveFault }
+    ensures { MatchResult result (IsAnswer instance.now 1 None) (IsSolveFault instance.now 1 None) }
 {
     let mut hand = Hand::new(alloc, 0, shared_rows(alloc, instance)?, lease_ms)?;
     let nodes = node_template(alloc)?;
@@ -67,16 +62,12 @@ fn search<L: Law, R: Wait>(
     };
     let ended = work(rt, &mut hand, &mut room, &mut shares[0], &nodes);
     let (space, _) = room.into_inner(shares);
-    let certificate = certificate_of(alloc, instance, space)?;
     let report = Report {
         ended,
         ..hand.report()
     };
     let reports = only_report(alloc, report)?;
-    Ok(Answer {
-        certificate,
-        reports,
-    })
+    answer_of(alloc, instance, None, space, reports)
 }
 
 /// The reports of the only worker.
@@ -126,26 +117,4 @@ fn work<L: Law, M: Room<L>, R: Wait>(
 /// Whether the worker's coming step gives its transaction up.
 fn gives_up(hand: &Hand) -> bool {
     !hand.thinks() && hand.next() == Kind::Abort
-}
-
-/// The certificate that a space holds whose tuples are a cut tree.
-pub(crate) fn certificate_of(
-    alloc: Global,
-    instance: &Instance,
-    space: TxnSpace,
-) -> Result<Certificate, SolveError>
-    requires { IsCutTree instance.now (content_of space) space.commits }
-    ensures { MatchResult result (CertifiesLeast instance.now space.commits) IsSolveFault }
-{
-    certificate_law();
-    let size = instance.size();
-    let Ok(tuples) = space.into_tuples() else {
-        return Err(SolveError::OutOfMemory);
-    };
-    match assemble(alloc, size, tuples) {
-        Ok(certificate) => Ok(certificate),
-        Err(AssembleError::Unfinished(open)) => Err(SolveError::Unfinished(open)),
-        Err(AssembleError::NotATree) => unreachable!(),
-        Err(AssembleError::OutOfMemory) => Err(SolveError::OutOfMemory),
-    }
 }

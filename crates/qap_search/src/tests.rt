@@ -1,7 +1,7 @@
 //! What no clause says: that tuples are put together, with the certificates of worked examples, and each kind of refusal.
 
-use crate::examples::{FIRST, SECOND, three};
-use crate::{AssembleError, Thought, assemble, decide, read_node};
+use crate::examples::{FIRST, Matrices, SECOND, three};
+use crate::{AssembleError, Thought, assemble, assemble_stopped, decide, read_node};
 use Part::{Int, List, Word};
 use gilmore_lawler::reduced;
 use qap_cert::check;
@@ -178,6 +178,97 @@ fn other_tuples_are_refused(rt: HostRuntime) -> Result<(), Fail> {
         match assemble(rt.alloc(), 3, tuples(rt.alloc(), row)?) {
             Ok(_) => assert!(rt; false, "row {number}"),
             Err(error) => assert_eq!(rt; error, *want, "row {number}"),
+        }
+    }
+    Ok(())
+}
+
+/// Searches that were stopped: the instance, the tuples, and the cost and the bound of what they come to.
+static STOPPED: [(Matrices, Row, (i128, i128)); 4] = [
+    (
+        FIRST,
+        &[&[BEST, Int(24), IDENTITY], &[NODE, List(&[])]],
+        (24, 24),
+    ),
+    (
+        SECOND,
+        &[&[BEST, Int(1), IDENTITY], &[NODE, List(&[])]],
+        (1, 0),
+    ),
+    // Two children are open.
+    (
+        SECOND,
+        &[
+            &[NODE, List(&[0, 2])],
+            &[NODE, List(&[0, 0])],
+            &[BEST, Int(1), IDENTITY],
+            &[SPLIT, List(&[]), Int(0)],
+            &[CLOSED, List(&[0, 1]), List(&[0, 0]), List(&[1, 0])],
+        ],
+        (1, 1),
+    ),
+    // No node is open, and the duals show less than the cost.
+    (
+        FIRST,
+        &[
+            &[BEST, Int(24), IDENTITY],
+            &[CLOSED, List(&[]), List(&[9, 10, 11]), List(&[0, -2, -5])],
+        ],
+        (24, 23),
+    ),
+];
+
+#[test]
+fn stopped_searches_show_a_bound(rt: HostRuntime) -> Result<(), Fail> {
+    for (number, (matrices, row, want)) in STOPPED.iter().enumerate() {
+        let instance = three(rt.alloc(), matrices)?;
+        let certificate = assemble_stopped(rt.alloc(), &instance, tuples(rt.alloc(), row)?)?;
+        assert_eq!(rt;
+            (certificate.cost(), certificate.bound()),
+            *want,
+            "row {number}"
+        );
+        assert!(rt;
+            check(rt.alloc(), &instance, &certificate).is_ok(),
+            "row {number}"
+        );
+    }
+    Ok(())
+}
+
+/// Tuples of no search that could have been stopped, and of one that shows less than -10^24.
+static NOT_STOPPED: [Row; 6] = [
+    &[],
+    &[&[NODE, List(&[])]],
+    &[
+        &[BEST, Int(0), IDENTITY],
+        &[NODE, List(&[])],
+        &[NODE, List(&[])],
+    ],
+    &[&[BEST, Int(0), IDENTITY], &[NODE, List(&[0, 0])]],
+    &[
+        &[BEST, Int(0), IDENTITY],
+        &[NODE, List(&[])],
+        &[NODE, List(&[7])],
+    ],
+    &[
+        &[BEST, Int(0), IDENTITY],
+        &[
+            CLOSED,
+            List(&[]),
+            List(&[-1_000_000_000_000_000_000_000_000, -1, 0]),
+            ZEROS,
+        ],
+    ],
+];
+
+#[test]
+fn other_tuples_are_no_stopped_search(rt: HostRuntime) -> Result<(), Fail> {
+    let instance = three(rt.alloc(), &FIRST)?;
+    for (number, row) in NOT_STOPPED.iter().enumerate() {
+        match assemble_stopped(rt.alloc(), &instance, tuples(rt.alloc(), row)?) {
+            Ok(_) => assert!(rt; false, "row {number}"),
+            Err(error) => assert_eq!(rt; error, AssembleError::NotATree, "row {number}"),
         }
     }
     Ok(())

@@ -105,7 +105,7 @@ fn node_at(alloc: Global, n: usize, txn: &Txn, id: EntryId) -> Result<Option<Par
 }
 
 /// The list of an open node's tuple.
-fn node_fields(tuple: &Tuple) -> Option<&[i128]>
+pub(crate) fn node_fields(tuple: &Tuple) -> Option<&[i128]>
     ensures { MatchOption result
         ((xs : List ℤ) → tuple.now ≢ word (codes "node") ∷ numbers xs ∷ [])
         (λ list. tuple.now ≡ word (codes "node") ∷ numbers list.now ∷ []) }

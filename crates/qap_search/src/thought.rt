@@ -106,7 +106,7 @@ fn greatest_row(matching: &[u16], u: &[i128], v: &[i128]) -> usize
 }
 
 /// The sum of the duals of the rows and of the columns.
-fn dual_sum(u: &[i128], v: &[i128]) -> i128
+pub(crate) fn dual_sum(u: &[i128], v: &[i128]) -> i128
     requires u_count { length u.now ≤ 256 }
     requires v_count { length v.now ≤ 256 }
     requires u_range { AllLimited u.now }

@@ -10,13 +10,13 @@ ghost use Rattle.qap_search.specs.Piece.{node_template};
 ghost use Rattle.qap_search.specs.Replacement.{MayReplace};
 ghost use Rattle.qap_search.specs.SearchLaw.{IsSearchLaw};
 ghost use Rattle.qap_search.specs.Standing.{IsFoundNode, IsHand, IsSearchHand, IsStage};
-ghost use Rattle.qap_search.specs.Turn.{AfterAbort, AfterBegin, AfterCommit, AfterNode, AfterRefusal, Turn};
+ghost use Rattle.qap_search.specs.Turn.{AfterAbort, AfterBegin, AfterCommit, AfterNoCommit, AfterNode, AfterRefusal, Turn};
 ghost use Rattle.qap_search.specs.declared.stage.Stage.{Stage};
 ghost use Rattle.qap_search.specs.declared.stage.Stage.TheVariants.{Begun, Considered, GivingUp, Idle, Ready};
 
 use crate::best::{read_best, take_best};
 use crate::stage::{LastThought, Outcome, Stage, Tally, Tools};
-use shared_space::{Law, Room, Share};
+use shared_space::{CommitError, Law, Room, Share};
 use space_txn::{Found, Txn, TxnError};
 use std::alloc::AllocError;
 use tuple_match::{Template, does_match_law};
@@ -181,30 +181,36 @@ pub(crate) fn commit<L: Law, M: Room<L>>(
     told_commit(committed, shared, cost, tally)
 }
 
-/// A commit that is accepted is counted, and the share has so many then.
+/// A commit that is accepted is counted, and the share has so many then. Where the limit of commits is reached, the transaction is
+/// given up.
 fn told_commit(
-    committed: Result<(), (TxnError, Txn)>,
+    committed: Result<(), (CommitError, Txn)>,
     shared: u64,
     cost: i128,
     tally: Tally,
 ) -> Outcome
     requires { OnOk committed (tally.accepted < shared) }
     ensures turn { (I : Problem) (lease : ℕ) (last : Option ThoughtValue) (txn : TxnValue) → IfErr committed (λ back. back.1 ≡ txn) →
-        AfterCommit (hand_of I lease last (Ready txn cost) tally) txn cost (end_answer committed) result.told (hand_of I lease last result.stage result.tally) }
+        AfterCommit (hand_of I lease last (Ready txn cost) tally) txn cost committed result.told (hand_of I lease last result.stage result.tally) }
     ensures stage { (I : Problem) (last : Option ThoughtValue) → IfErr committed (λ back. MayCommit (MayReplace I) back.1) → IsStage I last result.stage }
     ensures accepted { OnOk committed (result.tally.accepted ≡ tally.accepted + 1) }
     ensures uncounted { OnErr committed (result.tally.accepted ≡ tally.accepted) }
 {
     match committed {
         Ok(()) => went_on(Stage::Idle, tally.with_commit(cost)),
-        Err((error, txn)) => not_committed(error, Stage::Ready(txn, cost), tally),
+        Err((CommitError::Limit, txn)) => Outcome {
+            stage: Stage::GivingUp(txn),
+            tally,
+            told: Ok(false),
+        },
+        Err((CommitError::Txn(error), txn)) => not_committed(error, Stage::Ready(txn, cost), tally),
     }
 }
 
 /// A commit that was refused since its transaction has ended is counted.
 fn not_committed(error: TxnError, stage: Stage, tally: Tally) -> Outcome
     ensures turn { (I : Problem) (lease : ℕ) (last : Option ThoughtValue) (old : Stage) (txn : TxnValue) (cost : ℤ) → stage ≡ Ready txn cost →
-        AfterCommit (hand_of I lease last old tally) txn cost (refused error) result.told (hand_of I lease last result.stage result.tally) }
+        AfterNoCommit (hand_of I lease last old tally) txn cost (CommitError.Txn error) result.told (hand_of I lease last result.stage result.tally) }
     ensures stage { (I : Problem) (last : Option ThoughtValue) → IsStage I last stage → IsStage I last result.stage }
     ensures accepted { result.tally.accepted ≡ tally.accepted }
 {

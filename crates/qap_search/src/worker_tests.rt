@@ -5,6 +5,7 @@
 
 use crate::examples::{FIRST, SECOND, patterned, three};
 use crate::{Always, Answer, Clock, Ended, Gate, Kind, SolveError, solve};
+use qap_cert::check;
 use qap_cost::least_by_listing;
 use std::sync::atomic::{AtomicBool, AtomicU64, Ordering};
 use std::test::Fail;
@@ -99,7 +100,7 @@ fn gate_meet(rt: HostRuntime) -> Result<(), Fail> {
         first: Signal::new(),
         second: Signal::new(),
     };
-    let answer = solve(&rt, alloc, &instance, 2, LEASE_MS, &Stopped, &gate)?;
+    let answer = solve(&rt, alloc, &instance, 2, LEASE_MS, None, &Stopped, &gate)?;
     assert!(rt; !gate.first.is_late() && !gate.second.is_late());
     assert!(rt; gate.first.is_given() && gate.second.is_given());
     assert_eq!(rt; answer.certificate.cost(), 24);
@@ -152,7 +153,7 @@ fn gate_late(rt: HostRuntime) -> Result<(), Fail> {
         accepted: Signal::new(),
         refused: AtomicU64::new(0),
     };
-    let answer = solve(&rt, alloc, &instance, 2, LEASE_MS, &gate, &gate)?;
+    let answer = solve(&rt, alloc, &instance, 2, LEASE_MS, None, &gate, &gate)?;
     assert!(rt; !gate.accepted.is_late());
     assert_eq!(rt; gate.refused.load(Ordering::SeqCst), 1);
     assert_eq!(rt; answer.certificate.cost(), 24);
@@ -201,7 +202,7 @@ fn gate_think(rt: HostRuntime) -> Result<(), Fail> {
         begun: AtomicU64::new(0),
         third: Signal::new(),
     };
-    let answer = solve(&rt, alloc, &instance, 2, LEASE_MS, &Stopped, &gate)?;
+    let answer = solve(&rt, alloc, &instance, 2, LEASE_MS, None, &Stopped, &gate)?;
     assert!(rt; gate.third.is_given() && !gate.third.is_late());
     assert_eq!(rt; answer.certificate.cost(), 1);
     assert_eq!(rt; counts(&answer), (4, 0));
@@ -235,10 +236,11 @@ fn ended_workers_leave_open_nodes(rt: HostRuntime) -> Result<(), Fail> {
     ];
     for (workers, kind) in cases {
         let gate = Without(kind);
-        let ended = solve(&rt, alloc, &instance, workers, LEASE_MS, &Stopped, &gate);
-        assert_eq!(rt;
-            ended.err(),
-            Some(SolveError::Unfinished(1)),
+        let ended = solve(
+            &rt, alloc, &instance, workers, LEASE_MS, None, &Stopped, &gate,
+        );
+        assert!(rt;
+            matches!(ended, Err(SolveError::Unfinished(1))),
             "{workers} workers without {kind:?}"
         );
     }
@@ -283,7 +285,7 @@ fn another_worker_ends_the_search(rt: HostRuntime) -> Result<(), Fail> {
             steps: AtomicU64::new(0),
             ended: Signal::new(),
         };
-        let answer = solve(&rt, alloc, &instance, 2, LEASE_MS, &gate, &gate)?;
+        let answer = solve(&rt, alloc, &instance, 2, LEASE_MS, None, &gate, &gate)?;
         assert_eq!(rt; answer.certificate.cost(), 1, "ended at step {step}");
         assert_eq!(rt; counts(&answer).0, 4, "ended at step {step}");
         let first = if gate.ended.is_given() {
@@ -309,7 +311,9 @@ fn worked_examples(rt: HostRuntime) -> Result<(), Fail> {
     for workers in [1, 2, 8] {
         for (matrices, cost, nodes) in [(FIRST, 24, 1), (SECOND, 1, 4)] {
             let instance = three(alloc, &matrices)?;
-            let answer = solve(&rt, alloc, &instance, workers, LEASE_MS, &Stopped, &Always)?;
+            let answer = solve(
+                &rt, alloc, &instance, workers, LEASE_MS, None, &Stopped, &Always,
+            )?;
             assert_eq!(rt; answer.certificate.cost(), cost);
             assert_eq!(rt; answer.certificate.perm().locations(), [0, 1, 2].as_slice());
             assert_eq!(rt; counts(&answer).0, nodes);
@@ -333,7 +337,9 @@ fn answers(rt: HostRuntime) -> Result<(), Fail> {
         let (least, _) = least_by_listing(alloc, &instance)?;
         for workers in [1, 2, 8] {
             for _ in 0..10 {
-                let answer = solve(&rt, alloc, &instance, workers, LEASE_MS, &Stopped, &Always)?;
+                let answer = solve(
+                    &rt, alloc, &instance, workers, LEASE_MS, None, &Stopped, &Always,
+                )?;
                 assert_eq!(rt;
                     answer.certificate.cost(),
                     least,
@@ -342,5 +348,51 @@ fn answers(rt: HostRuntime) -> Result<(), Fail> {
             }
         }
     }
+    Ok(())
+}
+
+/// A search of four nodes: its root shows 0, and each child the least cost, which is 1.
+#[test]
+fn a_limit_stops_the_search(rt: HostRuntime) -> Result<(), Fail> {
+    let alloc = rt.alloc();
+    let instance = three(alloc, &SECOND)?;
+    for workers in [1, 8] {
+        for limit in 0..=5 {
+            let nodes = Some(limit);
+            let ended = solve(
+                &rt, alloc, &instance, workers, LEASE_MS, nodes, &Stopped, &Always,
+            );
+            let (is_stopped, answer) = match ended {
+                Ok(answer) => (false, answer),
+                Err(SolveError::Stopped(answer)) => (true, answer),
+                Err(error) => return Err(Fail::from(error)),
+            };
+            assert_eq!(rt; is_stopped, limit < 4, "{workers} workers, limit {limit}");
+            assert_eq!(rt;
+                counts(&answer).0,
+                limit.min(4),
+                "{workers} workers, limit {limit}"
+            );
+            let bound = if limit == 0 { 0 } else { 1 };
+            assert_eq!(rt;
+                answer.certificate.bound(),
+                bound,
+                "{workers} workers, limit {limit}"
+            );
+            assert_eq!(rt; answer.certificate.cost(), 1);
+            assert!(rt; check(alloc, &instance, &answer.certificate).is_ok());
+        }
+    }
+    Ok(())
+}
+
+/// Workers that end below the limit leave open nodes, and no answer.
+#[test]
+fn a_limit_that_is_not_reached(rt: HostRuntime) -> Result<(), Fail> {
+    let alloc = rt.alloc();
+    let instance = three(alloc, &SECOND)?;
+    let gate = Without(Kind::Commit);
+    let ended = solve(&rt, alloc, &instance, 1, LEASE_MS, Some(1), &Stopped, &gate);
+    assert!(rt; matches!(ended, Err(SolveError::Unfinished(1))));
     Ok(())
 }

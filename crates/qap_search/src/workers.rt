@@ -1,21 +1,23 @@
 //! A search by many workers, each a thread of its own.
 
-ghost use Rattle.std.specs.Prelude.{◌≡◌, ◌<◌, ◌≤◌, [], All, IfOk, MatchResult, ℕ, length, replicate, sum, vec_capacity, vec_len};
+ghost use Rattle.std.specs.Prelude.{◌≡◌, ◌<◌, ◌≤◌, [], All, IfErr, IfOk, MatchResult, ℕ, length, replicate, sum, vec_capacity, vec_len};
 ghost use Rattle.std.specs.List.{sum_by};
 ghost use Rattle.qap_search.specs.Answer.{IsAnswer, IsSolveFault};
 ghost use Rattle.qap_search.specs.Opening.{IsOpening};
 ghost use Rattle.qap_search.specs.SearchLaw.{IsSearchLaw};
+ghost use Rattle.space_txn.specs.Content.{content_of};
 ghost use Rattle.std.specs.Arc.{arc_value};
 
 use crate::answer::{Answer, SolveError};
 use crate::clock::Clock;
+use crate::ending::answer_of;
 use crate::gate::Gate;
 use crate::hand::Hand;
 use crate::opening::opening_space;
 use crate::ordering::turned_round;
 use crate::report::Report;
 use crate::seat::{Seat, Workplace};
-use crate::solving::{certificate_of, shared_rows};
+use crate::solving::shared_rows;
 use crate::templates::node_template;
 use gilmore_lawler::RankedInstance;
 use qap_cost::Instance;
@@ -38,12 +40,15 @@ const PAUSE_MS: u64 = 1;
 /// The calling thread keeps the space: it moves the moment on by the clock, and closes the space when no node is left or every
 /// worker has left. The gate is asked before each step of a worker and told after it. `Unfinished` comes where nodes are left,
 /// with their number: where workers were ended by the gate or found no memory. With a lease of 0 ms no commit is ever accepted.
+/// With a limit no more commits are accepted than that: where it is reached while nodes are left, `Stopped` comes with a
+/// certificate in which these nodes are closed.
 pub fn solve<R, C, G>(
     rt: &R,
     alloc: Global,
     instance: &Instance,
     workers: u16,
     lease_ms: u64,
+    limit: Option<u64>,
     clock: &C,
     gate: &G,
 ) -> Result<Answer, SolveError>
@@ -53,12 +58,12 @@ where
     G: Gate + Sync,
     requires some { 0 < workers }
     requires few { workers ≤ 64 }
-    ensures { MatchResult result (IsAnswer instance.now workers) IsSolveFault }
+    ensures { MatchResult result (IsAnswer instance.now workers limit) (IsSolveFault instance.now workers limit) }
 {
     let space = opening_space(alloc, instance)?;
     let blank = Blank::new(u64::from(workers));
     search::<Brand, R, C, G>(
-        rt, alloc, instance, space, blank, workers, lease_ms, clock, gate,
+        rt, alloc, instance, space, blank, workers, lease_ms, limit, clock, gate,
     )
 }
 
@@ -71,6 +76,7 @@ fn search<L, R, C, G>(
     blank: Blank,
     workers: u16,
     lease_ms: u64,
+    limit: Option<u64>,
     clock: &C,
     gate: &G,
 ) -> Result<Answer, SolveError>
@@ -85,16 +91,15 @@ where
     requires one_each { blank.parts ≡ workers }
     requires few { workers ≤ 64 }
     requires law { IsSearchLaw instance.now L.lawful L.allowed }
+    requires limit { L.limit ≡ limit }
     requires opening { IsOpening instance.now space }
-    ensures { MatchResult result (IsAnswer instance.now workers) IsSolveFault }
+    ensures { MatchResult result (IsAnswer instance.now workers limit) (IsSolveFault instance.now workers limit) }
 {
     let ranked = shared_rows(alloc, instance)?;
     let nodes = node_template(alloc)?;
     let count = usize::from(workers);
     let room = Left::with_capacity(alloc, count)?;
-    let Ok((shared, shares)) = Shared::<L>::new(alloc, blank, space, count) else {
-        return Err(SolveError::OutOfMemory);
-    };
+    let (shared, shares) = shared_under::<L>(alloc, blank, space, count, limit)?;
     let seats = seats_for(alloc, &ranked, lease_ms, shares)?;
     let place = Workplace {
         rt,
@@ -105,11 +110,34 @@ where
     work_all(&place, &seats, clock);
     let Left { shares, reports } = left_by(room, seats);
     let (space, _) = shared.into_inner(shares);
-    let certificate = certificate_of(alloc, instance, space)?;
-    Ok(Answer {
-        certificate,
-        reports,
-    })
+    answer_of(alloc, instance, limit, space, reports)
+}
+
+/// The space with its lock and its limit, if there is one, and so many shares.
+fn shared_under<L: Law>(
+    alloc: Global,
+    blank: Blank,
+    space: TxnSpace,
+    shares: usize,
+    limit: Option<u64>,
+) -> Result<(Shared<L>, Vec<Share<L>>), SolveError>
+    requires name { blank.name ≡ L.name }
+    requires parts { blank.parts ≡ L.parts }
+    requires shares { shares ≡ L.parts }
+    requires lawful { L.lawful (content_of space) space.commits }
+    requires fresh { space.commits ≡ 0 }
+    requires limit { L.limit ≡ limit }
+    ensures shares { IfOk result (λ made. made.1.items ≡ replicate shares 0) }
+    ensures kind { IfErr result (λ error. error ≡ SolveError.OutOfMemory) }
+{
+    let made = match limit {
+        Some(limit) => Shared::<L>::with_limit(alloc, blank, space, shares, limit),
+        None => Shared::<L>::new(alloc, blank, space, shares),
+    };
+    match made {
+        Ok(made) => Ok(made),
+        Err(_) => Err(SolveError::OutOfMemory),
+    }
 }
 
 /// A seat for each share, the workers numbered from 0.

@@ -89,7 +89,7 @@ where
         lease_ms,
         ..
     } = *options;
-    let answer = solve(rt, alloc, instance, workers, lease_ms, clock, gate)?;
+    let answer = solve(rt, alloc, instance, workers, lease_ms, None, clock, gate)?;
     Ok(answer.certificate)
 }
 

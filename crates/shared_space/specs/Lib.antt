@@ -1,4 +1,5 @@
 pub mod Event
 pub mod Law
+pub mod Limit
 pub mod Place
 pub mod Refusals

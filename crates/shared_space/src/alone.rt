@@ -1,6 +1,6 @@
 //! A space of one thread, under its law.
 
-ghost use Rattle.std.specs.Prelude.{◌≡◌, ◌<◌, IfErr, IfOk, IfSome, false, replicate, sum, vec_len};
+ghost use Rattle.std.specs.Prelude.{◌≡◌, ◌<◌, IfErr, IfOk, IfSome, false, true, replicate, sum, vec_len};
 ghost use Rattle.tuple_match.specs.PatternValue.{Matches};
 ghost use Rattle.tuple_space.specs.Step.{Step, inp, inp_reply, out, out_reply, rdp, rdp_reply};
 ghost use Rattle.space_txn.specs.Content.{content_of};
@@ -8,6 +8,7 @@ ghost use Rattle.shared_space.specs.Event.{Did};
 ghost use Rattle.shared_space.specs.Law.{IsFree};
 ghost use Rattle.shared_space.specs.Place.{one_left, place_of, with_place_space};
 
+use crate::error::CommitError;
 use crate::law::Law;
 use crate::room::Room;
 use crate::share::{Share, gathered, handed_out};
@@ -86,6 +87,13 @@ impl<L: Law> Alone<L> {
         ensures { result ≡ self.now.closed }
     {
         self.closed
+    }
+
+    /// Closes the space.
+    pub(crate) fn shut(&mut self)
+        ensures { self.new ≡ record self.old { closed = true } }
+    {
+        self.closed = true;
     }
 
     /// Puts a tuple out, outside all transactions.
@@ -178,8 +186,10 @@ impl<L: Law> Room<L> for Alone<L> {
         self.space.rdp_in(txn, template)
     }
 
-    fn commit(&mut self, share: &mut Share<L>, txn: Txn) -> Result<(), (TxnError, Txn)> {
-        self.space.commit(txn)?;
+    fn commit(&mut self, share: &mut Share<L>, txn: Txn) -> Result<(), (CommitError, Txn)> {
+        if let Err((error, txn)) = self.space.commit(txn) {
+            return Err((CommitError::Txn(error), txn));
+        }
         self.book.audit(&mut share.part);
         // Its clause says that the commits are few, so that the share can count one more.
         let _commits = self.space.commits();

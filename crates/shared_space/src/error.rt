@@ -1,5 +1,6 @@
-//! Why a wait for a tuple ends without one.
+//! Why a wait for a tuple ends without one, and why a commit is refused.
 
+use space_txn::TxnError;
 use thiserror::Error;
 
 /// Why a wait for a tuple ends without one.
@@ -11,4 +12,15 @@ pub enum SharedError {
     /// Refusal 50: there is no memory.
     #[error("out of memory")]
     OutOfMemory,
+}
+
+/// Why a commit is refused.
+#[derive(Clone, Copy, Debug, PartialEq, Eq, Error)]
+pub enum CommitError {
+    /// Refusal 37: the limit of commits is reached.
+    #[error("the limit of commits is reached")]
+    Limit,
+    /// The transaction's own refusal: 31, 32, 33 or 50.
+    #[error("{0}")]
+    Txn(TxnError),
 }

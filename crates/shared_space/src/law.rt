@@ -1,6 +1,6 @@
 //! The law of a space.
 
-ghost use Rattle.std.specs.Prelude.{ℕ};
+ghost use Rattle.std.specs.Prelude.{ℕ, None, Option};
 ghost use Rattle.shared_space.specs.Law.{Content, IsKept, IsUnordered};
 
 use std::marker::Brand;
@@ -9,13 +9,16 @@ use std::sync::ledger::Ledger;
 /// The name of one space and its ledger, with the law of what the space may hold.
 ///
 /// A function over `L: Law` makes a space and uses it, and is called at `Brand`, where its caller picks the law. With no pick
-/// the law always holds.
+/// the law always holds and sets no limit.
 pub trait Law: Ledger {
     /// Which permanent tuples are lawful, held ones included, after so many accepted commits.
     ghost lawful: { Content → ℕ → Type 0 };
 
     /// Which commits are allowed: of what goes, of what is read and stays, and of what is added.
     ghost allowed: { Content → Content → Content → Type 0 };
+
+    /// How many commits are allowed in all, where there is a limit.
+    ghost limit: { Option ℕ };
 
     /// The law doesn't see the order of the tuples.
     ghost unordered: { IsUnordered lawful };
@@ -28,6 +31,8 @@ impl Law for Brand {
     ghost lawful = { λ _ _. Unit {0} };
 
     ghost allowed = { λ _ _ _. Unit {0} };
+
+    ghost limit = { None };
 
     ghost unordered = { λ _ _ _ _ _. tt };
 

@@ -8,13 +8,14 @@ mod alone;
 mod error;
 mod law;
 mod laws;
+mod limited;
 mod room;
 mod share;
 mod shared;
 mod via;
 
 pub use alone::Alone;
-pub use error::SharedError;
+pub use error::{CommitError, SharedError};
 pub use law::Law;
 pub use laws::{two_marks_law, writing_law};
 pub use room::Room;
@@ -22,6 +23,8 @@ pub use share::Share;
 pub use shared::Shared;
 pub use via::Via;
 
+#[cfg(test)]
+mod limit_tests;
 #[cfg(test)]
 mod tests;
 #[cfg(test)]

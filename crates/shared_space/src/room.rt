@@ -4,9 +4,10 @@ ghost use Rattle.std.specs.Prelude.{◌≡◌, ◌+◌, [], true, false, IfErr, 
 ghost use Rattle.tuple_space.specs.Step.{done_reply};
 ghost use Rattle.space_txn.specs.Finding.{Finds, Shows};
 ghost use Rattle.space_txn.specs.Machine.{abort, commit, end_answer, find_answer, inp_in, rdp_in};
-ghost use Rattle.shared_space.specs.Event.{Event, Reply, advance, answered, begin, begun, call, close, moved, told};
+ghost use Rattle.shared_space.specs.Event.{Event, Reply, advance, answered, begin, begun, call, close, commit_reply, moved, told};
 ghost use Rattle.shared_space.specs.Law.{InLawful, MayCommit};
 
+use crate::error::CommitError;
 use crate::law::Law;
 use crate::share::Share;
 use space_txn::{Found, Txn, TxnError};
@@ -38,10 +39,11 @@ pub trait Room<L: Law> {
         ensures marks { Finds (InLawful L.lawful) false template.now txn.old (find_answer result) txn.new };
 
     /// Commits a transaction, and counts that in the share. What the transaction took, read and wrote must be allowed.
-    /// Refusals: 31, 32, 33, 50; the transaction comes back and the share counts nothing.
-    fn commit(&mut self, share: &mut Share<L>, txn: Txn) -> Result<(), (TxnError, Txn)>
+    /// Refusals: 37 where there is a limit and it is reached, which is judged first; 31, 32, 33, 50. The transaction comes back
+    /// and the share counts nothing.
+    fn commit(&mut self, share: &mut Share<L>, txn: Txn) -> Result<(), (CommitError, Txn)>
         requires { MayCommit L.allowed txn }
-        ensures did { did self.old (call txn commit) (answered (end_answer result) txn) self.new }
+        ensures did { did self.old (call txn commit) (commit_reply txn result) self.new }
         ensures counted { OnOk result (share.new ≡ share.old + 1) }
         ensures uncounted { OnErr result (share.new ≡ share.old) }
         ensures handed_back { IfErr result (λ back. back.1 ≡ txn) };

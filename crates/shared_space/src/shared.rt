@@ -1,17 +1,18 @@
 //! A space of many threads, under its law.
 
-ghost use Rattle.std.specs.Prelude.{◌≡◌, ◌+◌, ◌<◌, ◌≤◌, [], true, false, IfErr, IfOk, IfSome, MatchResult, OnErr, OnOk, replicate, sum, vec_len};
+ghost use Rattle.std.specs.Prelude.{◌≡◌, ◌+◌, ◌<◌, ◌≤◌, [], true, false, None, Some, IfErr, IfOk, IfSome, MatchResult, OnErr, OnOk, replicate, sum, vec_len};
 ghost use Rattle.tuple_match.specs.PatternValue.{Matches};
 ghost use Rattle.tuple_space.specs.Space.{most};
 ghost use Rattle.space_txn.specs.Content.{content_of};
 ghost use Rattle.space_txn.specs.Finding.{Finds, Shows};
 ghost use Rattle.space_txn.specs.Machine.{find_answer};
 ghost use Rattle.shared_space.specs.Law.{InLawful, IsFree, MayCommit};
-ghost use Rattle.shared_space.specs.Refusals.{IsAbortError, IsBeginError, IsFindError, IsOutError};
+ghost use Rattle.shared_space.specs.Limit.{IsWithin};
+ghost use Rattle.shared_space.specs.Refusals.{IsAbortError, IsBeginError, IsCommitError, IsFindError, IsOutError};
 
-use crate::alone::Alone;
-use crate::error::SharedError;
+use crate::error::{CommitError, SharedError};
 use crate::law::Law;
+use crate::limited::Limited;
 use crate::room::Room;
 use crate::share::Share;
 use space_txn::{Found, Txn, TxnError, TxnSpace};
@@ -21,20 +22,20 @@ use std::sync::{Condvar, Mutex, Wait};
 use tuple_match::{Template, Tuple};
 use tuple_space::{EntryId, Lease, SpaceError};
 
-/// A space under a lock. Whenever the lock is free, its content is lawful and all shares that were made with it count its
-/// commits together.
+/// A space under a lock. Whenever the lock is free, its content is lawful, all shares that were made with it count its commits
+/// together, and these are at most the limit of its law, where it sets one.
 ///
 /// Each call takes the lock, makes one call on the space and lets the lock go. A call may wait for the lock; what it says holds
 /// if it returns.
 #[derive(Drop)]
 pub struct Shared<L: Law> {
-    alone: Mutex<Alone<L>>,
+    limited: Mutex<Limited<L>>,
     changed: Condvar,
 }
 
 impl<L: Law> Shared<L> {
     /// Puts a space whose content is lawful and that has accepted no commit under the law and a lock, with so many shares, one
-    /// for each part of the blank. Refused memory, the blank and the space come back.
+    /// for each part of the blank. The law sets no limit of commits. Refused memory, the blank and the space come back.
     pub fn new(
         alloc: Global,
         blank: Blank,
@@ -46,12 +47,53 @@ impl<L: Law> Shared<L> {
         requires shares { shares ≡ L.parts }
         requires lawful { L.lawful (content_of space) space.commits }
         requires fresh { space.commits ≡ 0 }
+        requires limit { L.limit ≡ None }
         ensures shares { IfOk result (λ made. made.1.items ≡ replicate shares 0) }
         ensures handed_back { IfErr result (λ back. (back.1 ≡ blank) × (back.2 ≡ space)) }
     {
-        let (alone, handed) = Alone::new(alloc, blank, space, shares)?;
+        Self::under_limit(alloc, blank, space, shares, None)
+    }
+
+    /// The same under a law that sets a limit of commits. The commit that reaches it closes the space in the same step, and none
+    /// is accepted after it; with a limit of 0 the space is closed from the start.
+    pub fn with_limit(
+        alloc: Global,
+        blank: Blank,
+        space: TxnSpace,
+        shares: usize,
+        limit: u64,
+    ) -> Result<(Shared<L>, Vec<Share<L>>), (AllocError, Blank, TxnSpace)>
+        requires name { blank.name ≡ L.name }
+        requires parts { blank.parts ≡ L.parts }
+        requires shares { shares ≡ L.parts }
+        requires lawful { L.lawful (content_of space) space.commits }
+        requires fresh { space.commits ≡ 0 }
+        requires limit { L.limit ≡ Some limit }
+        ensures shares { IfOk result (λ made. made.1.items ≡ replicate shares 0) }
+        ensures handed_back { IfErr result (λ back. (back.1 ≡ blank) × (back.2 ≡ space)) }
+    {
+        Self::under_limit(alloc, blank, space, shares, Some(limit))
+    }
+
+    fn under_limit(
+        alloc: Global,
+        blank: Blank,
+        space: TxnSpace,
+        shares: usize,
+        limit: Option<u64>,
+    ) -> Result<(Shared<L>, Vec<Share<L>>), (AllocError, Blank, TxnSpace)>
+        requires name { blank.name ≡ L.name }
+        requires parts { blank.parts ≡ L.parts }
+        requires shares { shares ≡ L.parts }
+        requires lawful { L.lawful (content_of space) space.commits }
+        requires fresh { space.commits ≡ 0 }
+        requires limit { limit ≡ L.limit }
+        ensures shares { IfOk result (λ made. made.1.items ≡ replicate shares 0) }
+        ensures handed_back { IfErr result (λ back. (back.1 ≡ blank) × (back.2 ≡ space)) }
+    {
+        let (limited, handed) = Limited::new(alloc, blank, space, shares, limit)?;
         let shared = Shared {
-            alone: Mutex::new(alone),
+            limited: Mutex::new(limited),
             changed: Condvar::new(),
         };
         Ok((shared, handed))
@@ -69,7 +111,7 @@ impl<L: Law> Shared<L> {
         ensures handed_back { IfErr result (λ back. back.1 ≡ tuple) }
         ensures kind { IfErr result (λ back. IsOutError back.0) }
     {
-        let put = self.alone.lock(rt).out(tuple, lease);
+        let put = self.limited.lock(rt).out(tuple, lease);
         self.changed.notify_all();
         put
     }
@@ -79,7 +121,7 @@ impl<L: Law> Shared<L> {
         requires { IsFree L.lawful L.allowed }
         ensures { IfSome result (λ found. Matches template.now found.1) }
     {
-        self.alone.lock(rt).inp(template)
+        self.limited.lock(rt).inp(template)
     }
 
     /// Copies a tuple, outside all transactions, or answers `None` where none can be had now. Refusal: 50.
@@ -91,7 +133,7 @@ impl<L: Law> Shared<L> {
         ensures matches { IfOk result (λ found. IfSome found (λ pair. Matches template.now pair.1)) }
         ensures kind { IfErr result (λ error. error ≡ SpaceError.OutOfMemory) }
     {
-        self.alone.lock(rt).rdp(template)
+        self.limited.lock(rt).rdp(template)
     }
 
     /// Waits until a tuple can be had, and takes it, outside all transactions. Refusal: 34 where the space is closed and none
@@ -101,15 +143,15 @@ impl<L: Law> Shared<L> {
         ensures matches { IfOk result (λ found. Matches template.now found.1) }
         ensures kind { IfErr result (λ error. error ≡ SharedError.Closed) }
     {
-        let mut alone = self.alone.lock(rt);
+        let mut limited = self.limited.lock(rt);
         for _ in rt.forever() {
-            if let Some(found) = alone.inp(template) {
+            if let Some(found) = limited.inp(template) {
                 return Ok(found);
             }
-            if alone.is_closed() {
+            if limited.is_closed() {
                 return Err(SharedError::Closed);
             }
-            alone = self.changed.wait(rt, alone);
+            limited = self.changed.wait(rt, limited);
         }
         unreachable!()
     }
@@ -119,15 +161,15 @@ impl<L: Law> Shared<L> {
     pub fn rd<R: Wait>(&self, rt: &R, template: &Template) -> Result<(EntryId, Tuple), SharedError>
         ensures { IfOk result (λ found. Matches template.now found.1) }
     {
-        let mut alone = self.alone.lock(rt);
+        let mut limited = self.limited.lock(rt);
         for _ in rt.forever() {
-            match alone.rdp(template) {
+            match limited.rdp(template) {
                 Ok(Some(found)) => return Ok(found),
-                Ok(None) if alone.is_closed() => return Err(SharedError::Closed),
+                Ok(None) if limited.is_closed() => return Err(SharedError::Closed),
                 Ok(None) => {}
                 Err(_) => return Err(SharedError::OutOfMemory),
             }
-            alone = self.changed.wait(rt, alone);
+            limited = self.changed.wait(rt, limited);
         }
         unreachable!()
     }
@@ -137,7 +179,7 @@ impl<L: Law> Shared<L> {
         ensures empty { IfOk result (λ txn. (txn.marks ≡ []) × (txn.writes ≡ [])) }
         ensures kind { IfErr result IsBeginError }
     {
-        self.alone.lock(rt).begin(asked)
+        self.limited.lock(rt).begin(asked)
     }
 
     /// Takes for a transaction a tuple that the template asks for, or answers `None` where none can be had now. Refusals: 31,
@@ -152,7 +194,7 @@ impl<L: Law> Shared<L> {
         ensures marks { Finds (InLawful L.lawful) true template.now txn.old (find_answer result) txn.new }
         ensures kind { IfErr result IsFindError }
     {
-        self.alone.lock(rt).inp_in(txn, template)
+        self.limited.lock(rt).inp_in(txn, template)
     }
 
     /// Reads for a transaction a tuple that the template asks for, or answers `None` where none can be had now. Refusals: 31,
@@ -167,23 +209,25 @@ impl<L: Law> Shared<L> {
         ensures marks { Finds (InLawful L.lawful) false template.now txn.old (find_answer result) txn.new }
         ensures kind { IfErr result IsFindError }
     {
-        self.alone.lock(rt).rdp_in(txn, template)
+        self.limited.lock(rt).rdp_in(txn, template)
     }
 
     /// Commits a transaction, and counts that in the share. What the transaction took, read and wrote must be allowed.
-    /// Refusals: 31, 32, 33, 50; the transaction comes back and the share counts nothing.
+    /// Refusals: 37 where the limit is reached, which is judged first; 31, 32, 33, 50. The transaction comes back and the share
+    /// counts nothing.
     pub fn commit<R: Wait>(
         &self,
         rt: &R,
         share: &mut Share<L>,
         txn: Txn,
-    ) -> Result<(), (TxnError, Txn)>
+    ) -> Result<(), (CommitError, Txn)>
         requires { MayCommit L.allowed txn }
         ensures counted { OnOk result (share.new ≡ share.old + 1) }
         ensures uncounted { OnErr result (share.new ≡ share.old) }
         ensures handed_back { IfErr result (λ back. back.1 ≡ txn) }
+        ensures kind { IfErr result (λ back. IsCommitError L.limit back.0) }
     {
-        let ended = self.alone.lock(rt).commit(share, txn);
+        let ended = self.limited.lock(rt).commit(share, txn);
         self.changed.notify_all();
         ended
     }
@@ -193,7 +237,7 @@ impl<L: Law> Shared<L> {
         ensures handed_back { IfErr result (λ back. back.1 ≡ txn) }
         ensures kind { IfErr result (λ back. IsAbortError back.0) }
     {
-        let ended = self.alone.lock(rt).abort(txn);
+        let ended = self.limited.lock(rt).abort(txn);
         self.changed.notify_all();
         ended
     }
@@ -202,7 +246,7 @@ impl<L: Law> Shared<L> {
     pub fn advance<R: Wait>(&self, rt: &R, moment: u64) -> Result<(), SpaceError>
         ensures { MatchResult result (λ _. moment ≤ most) (λ error. (most < moment) × (error ≡ SpaceError.Exhausted)) }
     {
-        let moved = self.alone.lock(rt).advance(moment);
+        let moved = self.limited.lock(rt).advance(moment);
         self.changed.notify_all();
         moved
     }
@@ -210,27 +254,36 @@ impl<L: Law> Shared<L> {
     /// Closes the space where no entry is there whose tuple the template asks for, or every worker has left, and tells whether
     /// it is closed. A closed space stays closed. Takes no memory.
     pub fn close<R: Wait>(&self, rt: &R, template: &Template) -> bool {
-        let closed = self.alone.lock(rt).close(template);
+        let closed = self.limited.lock(rt).close(template);
         self.changed.notify_all();
         closed
     }
 
+    /// Whether the space is closed, by `close` or since its limit of commits is reached. It changes nothing.
+    pub fn closed<R: Wait>(&self, rt: &R) -> bool {
+        self.limited.lock(rt).is_closed()
+    }
+
     /// One worker more has left. Takes no memory.
     pub fn leave<R: Wait>(&self, rt: &R) {
-        self.alone.lock(rt).leave();
+        self.limited.lock(rt).leave();
         self.changed.notify_all();
     }
 
-    /// The space back for all its shares, with the number of commits that they counted, which is the space's own. Takes no
-    /// memory.
+    /// The space back for all its shares, with the number of commits that they counted, which is the space's own and at
+    /// most the limit. Takes no memory.
     pub fn into_inner(self, shares: Vec<Share<L>>) -> (TxnSpace, u64)
         requires all { vec_len shares ≡ L.parts }
         requires some { 0 < vec_len shares }
         ensures lawful { L.lawful (content_of result.0) result.0.commits }
         ensures sum { result.1 ≡ sum shares.items }
         ensures commits { result.1 ≡ result.0.commits }
+        ensures within { IsWithin L.limit result.0.commits }
     {
-        let Shared { alone, changed: _ } = self;
-        alone.into_inner().into_inner(shares)
+        let Shared {
+            limited,
+            changed: _,
+        } = self;
+        limited.into_inner().into_inner(shares)
     }
 }

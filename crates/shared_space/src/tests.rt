@@ -2,6 +2,7 @@ ghost use Rattle.std.specs.Prelude.{◌≡◌, ◌+◌, MatchOption};
 ghost use Rattle.shared_space.specs.Law.{IsFree};
 
 use crate::alone::Alone;
+use crate::error::CommitError;
 use crate::law::Law;
 use crate::room::Room;
 use crate::share::Share;
@@ -74,7 +75,8 @@ fn take<L: Law, M: Room<L>>(
     let _ = room.advance(moment);
     match room.commit(share, txn) {
         Ok(()) => Ok(None),
-        Err((error, _)) => Ok(Some(error)),
+        Err((CommitError::Txn(error), _)) => Ok(Some(error)),
+        Err((CommitError::Limit, _)) => Err(Fail::new("no limit was set")),
     }
 }
 

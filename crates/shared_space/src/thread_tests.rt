@@ -1,4 +1,4 @@
-ghost use Rattle.std.specs.Prelude.{◌≡◌};
+ghost use Rattle.std.specs.Prelude.{◌≡◌, None};
 ghost use Rattle.shared_space.specs.Law.{IsFree};
 
 use crate::error::SharedError;
@@ -46,7 +46,7 @@ fn write_hundred<L: Law, R: Wait>(
 }
 
 /// Two workers at a time.
-fn write_in_two<L: Law + Send + Sync, R: Threads + Wait + Sync>(
+pub(crate) fn write_in_two<L: Law + Send + Sync, R: Threads + Wait + Sync>(
     rt: &R,
     alloc: Global,
     shared: &Shared<L>,
@@ -74,6 +74,7 @@ fn count_in_four<L: Law + Send + Sync, R: Threads + Wait + Sync>(
 ) -> Result<[u64; 3], Fail>
     requires name { blank.name ≡ L.name }
     requires parts { blank.parts ≡ L.parts }
+    requires limit { L.limit ≡ None }
     requires four { blank.parts ≡ 4 }
     requires free { IsFree L.lawful L.allowed }
 {
@@ -113,6 +114,7 @@ fn wait_for_job<L: Law + Send + Sync, R: Threads + Wait + Sync>(
 ) -> Result<(Option<i128>, Option<SharedError>), Fail>
     requires name { blank.name ≡ L.name }
     requires parts { blank.parts ≡ L.parts }
+    requires limit { L.limit ≡ None }
     requires one { blank.parts ≡ 1 }
     requires free { IsFree L.lawful L.allowed }
 {
@@ -154,6 +156,7 @@ fn read_back_in<L: Law, R: Wait>(
 ) -> Result<(Option<i128>, Option<i128>, bool), Fail>
     requires name { blank.name ≡ L.name }
     requires parts { blank.parts ≡ L.parts }
+    requires limit { L.limit ≡ None }
     requires one { blank.parts ≡ 1 }
     requires free { IsFree L.lawful L.allowed }
 {
@@ -192,6 +195,7 @@ fn close_in<L: Law, R: Wait>(
 ) -> Result<([bool; 3], Option<SharedError>, Option<i128>), Fail>
     requires name { blank.name ≡ L.name }
     requires parts { blank.parts ≡ L.parts }
+    requires limit { L.limit ≡ None }
     requires one { blank.parts ≡ 1 }
     requires free { IsFree L.lawful L.allowed }
 {

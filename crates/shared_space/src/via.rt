@@ -2,6 +2,7 @@
 
 ghost use Rattle.shared_space.specs.Event.{Event, Reply};
 
+use crate::error::CommitError;
 use crate::law::Law;
 use crate::room::Room;
 use crate::share::Share;
@@ -41,7 +42,7 @@ impl<'a, R: Wait, L: Law> Room<L> for Via<'a, R, L> {
         self.shared.rdp_in(self.rt, txn, template)
     }
 
-    fn commit(&mut self, share: &mut Share<L>, txn: Txn) -> Result<(), (TxnError, Txn)> {
+    fn commit(&mut self, share: &mut Share<L>, txn: Txn) -> Result<(), (CommitError, Txn)> {
         self.shared.commit(self.rt, share, txn)
     }
 

@@ -1,3 +1,4 @@
+use Rattle.std.specs.Prelude.{None}
 use Rattle.qap_search.specs.CutTree.{IsCutTree}
 use Rattle.qap_search.specs.Replacement.{MayReplace}
 use Rattle.qap_search.proofs.SearchLaws.{cut_trees_kept, cut_trees_unordered}
@@ -11,6 +12,7 @@ abbrev pub ghosts-follow-L-Law : goal.ghosts-follow-L-Law
 ghosts-follow-L-Law a = record {
   lawful = IsCutTree a.instance.now;
   allowed = MayReplace a.instance.now;
+  limit = None;
   unordered = cut_trees_unordered a.instance.now;
   keeps = cut_trees_kept a.instance.now;
 }

@@ -11,6 +11,7 @@ abbrev pub ghosts-search-L-Law : goal.ghosts-search-L-Law
 ghosts-search-L-Law g a = record {
   lawful = IsCutTree a.instance.now;
   allowed = MayReplace a.instance.now;
+  limit = a.limit;
   unordered = cut_trees_unordered a.instance.now;
   keeps = cut_trees_kept a.instance.now;
 }

@@ -1,0 +1,27 @@
+use Rattle.std.proofs.Common.{arith, subst}
+use Rattle.qap_search.specs.Stopped.{IsNotStopped, IsStopped, IsStoppedFault}
+use Rattle.qap_search.proofs.ending.closed.Goals as goal
+
+pub unreachable-requires-in-Err-NotATree : goal.unreachable-requires-in-Err-NotATree
+unreachable-requires-in-Err-NotATree c =
+    let I = c.args.instance.now in
+    let tuples = c.args.tuples.items in
+    let fault : IsNotStopped I tuples = subst (IsStoppedFault I tuples) c.in-Err-NotATree.field-0-is (c.in-Err-NotATree.ensures {u = tt}) in
+    let tree = c.requires.tree in
+    c.stopped_law.ensures.not_refused I tuples tree.0 c.size-size.ensures.instance tree.1 fault
+
+pub returns-in-Ok : goal.returns-in-Ok
+returns-in-Ok c = λ commits tree.
+    let I = c.args.instance.now in
+    let tuples = c.args.tuples.items in
+    let C = c.in-Ok.certificate in
+    let s : IsStopped I tuples C = c.in-Ok.ensures {u = tt} in
+    let counted = c.stopped_law.ensures.counted I tuples commits C tree s in
+    record {
+      certified = c.stopped_law.ensures.certifies I tuples commits C tree s;
+      tree = s.tree;
+      closes = s.closes;
+      decided = counted.0;
+      left = omega (arith, counted.1, c.requires.open);
+      counted = omega (arith, counted.1, counted.2);
+    }

@@ -1,0 +1,11 @@
+use Rattle.qap_search.proofs.StoppedLaws.{stopped_certifies, stopped_counted, stopped_not_refused}
+use Rattle.qap_search.proofs.law.stopped_law.Goals as goal
+
+pub returns-clause-certifies : goal.returns-clause-certifies
+returns-clause-certifies c = stopped_certifies
+
+pub returns-clause-counted : goal.returns-clause-counted
+returns-clause-counted c = stopped_counted
+
+pub returns-clause-not_refused : goal.returns-clause-not_refused
+returns-clause-not_refused c = stopped_not_refused

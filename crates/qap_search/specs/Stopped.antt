@@ -1,0 +1,89 @@
+-- The certificate of a search that was stopped, and the bound that its tree shows.
+use Rattle.std.specs.Prelude.{◌≡◌, ℕ, ◌+◌, ◌-◌, ◌<◌, List, [], ◌∷◌, ◌++◌, length, ℤ, ◌+ℤ◌, ◌≤ℤ◌, All, Contains}
+use Rattle.qap_cost.specs.Bijection.{IsPerm}
+use Rattle.qap_cost.specs.Instance.{Problem}
+use Rattle.qap_cost.specs.Matrix.{dual_value}
+use Rattle.qap_cost.specs.Placement.{Placement, fixed_cost_of, free_locations, placing, root_of}
+use Rattle.qap_cost.specs.Range.{IsLimited}
+use Rattle.qap_cert.specs.Certificate.{Claim, Certifies, IsCertificate}
+use Rattle.qap_cert.specs.Shape.{AreDuals}
+use Rattle.qap_cert.specs.Tree.{Node, split, bound, Nodes, node, node_count}
+use Rattle.space_txn.specs.Content.{SameItems}
+use Rattle.tuple_match.specs.FieldValue.{FieldValue}
+use Rattle.qap_search.specs.Closing.{ClosedTo, undecided_count}
+use Rattle.qap_search.specs.Piece.{best_tuple, pieces}
+use Rattle.qap_search.specs.SearchTree.{SearchTree, IsTreeAt, decided_count}
+use Rattle.qap_search.specs.declared.error.AssembleError.{AssembleError}
+use Rattle.qap_search.specs.declared.error.AssembleError.TheVariants.{Unfinished, NotATree, OutOfMemory}
+
+abbrev mutual
+  -- what each leaf of the tree at x shows: the cost of the placed facilities among themselves, and the sum of its duals
+  pub shown : Problem → Placement → Node → List ℤ
+  shown I x (bound u v) = (fixed_cost_of I x +ℤ dual_value u v) ∷ []
+  shown I x (split f children) = shown_by_all I x f (free_locations x) children
+
+  -- the children, one for each of these locations of the facility
+  pub shown_by_all : Problem → Placement → ℕ → List ℕ → Nodes → List ℤ
+  shown_by_all I x f (k ∷ ks) (node t rest) = shown I (placing x f k) t ++ shown_by_all I x f ks rest
+  shown_by_all I x f _ _ = []
+
+pub record IsLeastOf (xs : List ℤ) (g : ℤ) : Type 0 where
+  pub one : Contains xs g
+  pub least : All (λ x. g ≤ℤ x) xs
+
+-- the least of the cost c and of what the leaves of the tree show
+abbrev pub IsBoundOf : Problem → ℤ → Node → ℤ → Type 0
+IsBoundOf I c t g = IsLeastOf (c ∷ shown I (root_of I.size) t) g
+
+-- the certificate has this tree with each open node closed, and the bound that it shows
+pub record IsClosedTo (I : Problem) (s : SearchTree) (C : Claim) : Type 0 where
+  pub certificate : IsCertificate C
+  pub same_size : length C.permutation ≡ I.size
+  pub closed : ClosedTo I (root_of I.size) s C.tree
+  pub least : IsBoundOf I C.cost C.tree C.bound
+
+-- the tuples, in any order, are those of a search tree and of the permutation of this certificate, which has that tree with
+-- each open node closed
+pub record IsStopped (I : Problem) (tuples : List (List FieldValue)) (C : Claim) : Type 0 where
+  pub tree : SearchTree
+  pub taken_apart : SameItems tuples (best_tuple C.cost C.permutation ∷ pieces (root_of I.size) tree)
+  pub closes : IsClosedTo I tree C
+
+-- a dual for each free facility and each free location
+abbrev pub HasDuals : Placement → List ℤ → List ℤ → Type 0
+HasDuals x u v = AreDuals (x.size - length x.facilities) u v
+
+-- the tuples, in any order, are those of this search tree of size n and of a permutation of this cost
+pub record IsUnfinished (n : ℕ) (tuples : List (List FieldValue)) (c : ℤ) (p : List ℕ) (s : SearchTree) : Type 0 where
+  pub cost : IsLimited c
+  pub permutation : IsPerm p
+  pub same_size : length p ≡ n
+  pub tree : IsTreeAt HasDuals (root_of n) s
+  pub taken_apart : SameItems tuples (best_tuple c p ∷ pieces (root_of n) s)
+
+-- with its open nodes closed, the search tree shows a bound below -10^24
+pub record ShowsTooLow (I : Problem) (c : ℤ) (s : SearchTree) : Type 0 where
+  pub tree : Node
+  pub closed : ClosedTo I (root_of I.size) s tree
+  pub bound : ℤ
+  pub least : IsBoundOf I c tree bound
+  pub too_low : IsLimited bound → ⊥
+
+-- the tuples are those of no search tree and permutation, or of one that shows too low a bound
+abbrev pub IsNotStopped : Problem → List (List FieldValue) → Type 0
+IsNotStopped I tuples = (c : ℤ) (p : List ℕ) (s : SearchTree) → IsUnfinished I.size tuples c p s → ShowsTooLow I c s
+
+-- why the tuples are not put together
+abbrev pub IsStoppedFault : Problem → List (List FieldValue) → AssembleError → Type 0
+IsStoppedFault I tuples (Unfinished count) = ⊥
+IsStoppedFault I tuples NotATree = IsNotStopped I tuples
+IsStoppedFault I tuples OutOfMemory = Unit {0}
+
+-- the certificate is that of a search that was stopped when it had decided so many nodes, and had others open
+pub record CertifiesStopped (I : Problem) (nodes : ℕ) (C : Claim) : Type 0 where
+  pub certified : Certifies I C
+  pub tree : SearchTree
+  pub closes : IsClosedTo I tree C
+  pub decided : decided_count tree ≡ nodes
+  pub left : 0 < undecided_count tree
+  pub counted : node_count C.tree ≡ nodes + undecided_count tree
