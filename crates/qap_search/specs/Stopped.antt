@@ -7,7 +7,7 @@ use Rattle.qap_cost.specs.Placement.{Placement, fixed_cost_of, free_locations, p
 use Rattle.qap_cost.specs.Range.{IsLimited}
 use Rattle.qap_cert.specs.Certificate.{Claim, Certifies, IsCertificate}
 use Rattle.qap_cert.specs.Shape.{AreDuals}
-use Rattle.qap_cert.specs.Tree.{Node, split, bound, Nodes, node}
+use Rattle.qap_cert.specs.Tree.{Node, split, bound, Nodes, node, node_count}
 use Rattle.space_txn.specs.Content.{SameItems}
 use Rattle.tuple_match.specs.FieldValue.{FieldValue}
 use Rattle.qap_search.specs.Closing.{ClosedTo, undecided_count}
