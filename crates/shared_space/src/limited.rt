@@ -1,6 +1,6 @@
 //! A space of one thread with the limit of its law.
 
-ghost use Rattle.std.specs.Prelude.{◌≡◌, ◌<◌, ◌||◌, IfErr, IfOk, IfSome, Option, Some, false, replicate, sum, vec_len};
+ghost use Rattle.std.specs.Prelude.{◌≡◌, ◌<◌, ◌||◌, IfErr, IfOk, IfSome, Option, Some, false, true, replicate, sum, vec_len};
 ghost use Rattle.tuple_match.specs.PatternValue.{Matches};
 ghost use Rattle.space_txn.specs.Content.{content_of};
 ghost use Rattle.shared_space.specs.Law.{IsFree};
@@ -67,9 +67,10 @@ impl<L: Law> Limited<L> {
         Ok((Limited { alone, limit }, handed))
     }
 
-    /// Whether the space is closed.
+    /// Whether the space is closed. With a limit of 0 it always is.
     pub(crate) fn is_closed(&self) -> bool
-        ensures { result ≡ self.now.closed }
+        ensures value { result ≡ self.now.closed }
+        ensures at_0 { L.limit ≡ Some 0 → result ≡ true }
     {
         self.alone.is_closed()
     }

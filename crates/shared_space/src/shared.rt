@@ -259,8 +259,11 @@ impl<L: Law> Shared<L> {
         closed
     }
 
-    /// Whether the space is closed, by `close` or since its limit of commits is reached. It changes nothing.
-    pub fn closed<R: Wait>(&self, rt: &R) -> bool {
+    /// Whether the space is closed, by `close` or since its limit of commits is reached. It changes nothing. With a limit of 0 the
+    /// space always is.
+    pub fn closed<R: Wait>(&self, rt: &R) -> bool
+        ensures { L.limit ≡ Some 0 → result ≡ true }
+    {
         self.limited.lock(rt).is_closed()
     }
 
