@@ -1,4 +1,5 @@
 pub mod Options
+pub mod Outcome
 pub mod Refusal
 pub mod Solution
 pub mod Solving

@@ -1,15 +1,15 @@
 -- Why a run is broken off, and how that is told.
-use Rattle.std.specs.Prelude.{ℕ, Some, codes}
+use Rattle.std.specs.Prelude.{ℕ, Some, None, codes}
 use Rattle.qap_io.specs.Refusal.{RefusalText, memory_refusal, device_refusal}
 use Rattle.qap_search.specs.declared.answer.SolveError.{SolveError}
-use Rattle.qap_search.specs.declared.answer.SolveError.TheVariants.{Unfinished as SearchUnfinished, OutOfMemory as SearchMemory}
+use Rattle.qap_search.specs.declared.answer.SolveError.TheVariants.{Unfinished as SearchUnfinished, Stopped as SearchStopped, OutOfMemory as SearchMemory}
 use Rattle.qap_text.specs.Refusal.{text_refusal}
 use Rattle.qap_text.specs.declared.error.TextError.{TextError}
 use Rattle.qap_text.specs.declared.error.TextError.TheVariants.{InputTooLong, OutOfMemory as TextMemory, Device as TextDevice}
 use Rattle.space_script.specs.declared.script_error.ScriptError.{ScriptError}
 use Rattle.space_script.specs.declared.script_error.ScriptError.TheVariants.{InputTooLong as ScriptTooLong, OutOfMemory as ScriptMemory, Device as ScriptDevice}
 use Rattle.qap_solve.specs.declared.refusal.RunError.{RunError}
-use Rattle.qap_solve.specs.declared.refusal.RunError.TheVariants.{Text, Unfinished, OutOfMemory, Device}
+use Rattle.qap_solve.specs.declared.refusal.RunError.TheVariants.{Text, Unfinished, Stopped, OutOfMemory, Device}
 
 -- what a fault of a text, of a script or of a search is for the run: want of memory and a failed device are the run's own
 abbrev pub of_text : TextError → RunError
@@ -24,17 +24,20 @@ of_script ScriptDevice = Device
 
 abbrev pub of_search : SolveError → RunError
 of_search (SearchUnfinished count) = Unfinished count
+of_search (SearchStopped answer) = Stopped
 of_search SearchMemory = OutOfMemory
 
 -- the refusal that a run is told as
 abbrev pub refusal_of : RunError → RefusalText
 refusal_of (Text e) = text_refusal e
 refusal_of (Unfinished count) = record { number = 41; name = codes "Unfinished"; at = Some count }
+refusal_of Stopped = record { number = 43; name = codes "Stopped"; at = None }
 refusal_of OutOfMemory = memory_refusal
 refusal_of Device = device_refusal
 
--- the exit status of a refusal: 3 for want of memory, 4 where nodes are open, else 1
+-- the exit status of a refusal: 3 for want of memory, 4 where nodes are open, 5 where the search was stopped, else 1
 abbrev pub status_of : RunError → ℕ
 status_of OutOfMemory = 3
 status_of (Unfinished count) = 4
+status_of Stopped = 5
 status_of _ = 1

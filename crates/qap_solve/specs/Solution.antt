@@ -1,12 +1,14 @@
--- What a solved instance is told as: a least permutation, or a certificate of its cost.
-use Rattle.std.specs.Prelude.{◌≡◌, Bool, true, false, ℕ, List}
+-- What a solved instance is told as, and one whose search was stopped: a permutation, or a certificate.
+use Rattle.std.specs.Prelude.{◌≡◌, ◌++◌, Bool, true, false, ℕ, List, ℤ, codes}
+use Rattle.std.specs.Fmt.{signed_decimal}
 use Rattle.qap_cost.specs.Instance.{Problem}
-use Rattle.qap_cost.specs.Objective.{IsLeast, Permutes, cost_of}
+use Rattle.qap_cost.specs.Objective.{IsLeast, NoneCostsLess, Permutes, cost_of}
 use Rattle.qap_cert.specs.Acceptance.{ShowsVerdict}
 use Rattle.qap_cert.specs.Certificate.{Claim}
-use Rattle.qap_cert.specs.Text.{certificate_text}
+use Rattle.qap_cert.specs.Text.{IsCertificateText, certificate_text}
 use Rattle.qap_cert.specs.declared.acceptance.Verdict.TheVariants.{Optimal}
 use Rattle.qap_cert.specs.declared.version.Version.TheVariants.{Second}
+use Rattle.qap_search.specs.Stopped.{CertifiesStopped}
 use Rattle.qap_text.specs.WrittenSolution.{solution_text}
 
 -- the text is that of a permutation of the instance, with its cost, and none costs less
@@ -27,3 +29,32 @@ pub record IsProofText (I : Problem) (text : List ℕ) : Type 0 where
 abbrev pub IsOutput : Bool → Problem → List ℕ → Type 0
 IsOutput true I text = IsProofText I text
 IsOutput false I text = IsLeastText I text
+
+-- the line that tells a bound and a cost
+abbrev pub gap_line : ℤ → ℤ → List ℕ
+gap_line g c = codes "gap " ++ signed_decimal g ++ codes " " ++ signed_decimal c ++ codes "\n"
+
+-- the certificate of a search that was stopped when it had decided so many nodes: its permutation is one of the instance, and
+-- none costs less than its bound
+pub record ShowsGap (I : Problem) (nodes : ℕ) (C : Claim) : Type 0 where
+  pub stopped : CertifiesStopped I nodes C
+  pub permutes : Permutes I C.permutation
+  pub none_less : NoneCostsLess I C.bound
+
+-- the text is the line of such a certificate's bound and cost, and behind it that of its permutation with its cost
+pub record IsGapText (I : Problem) (nodes : ℕ) (text : List ℕ) : Type 0 where
+  pub certificate : Claim
+  pub shown : ShowsGap I nodes certificate
+  pub is : text ≡ gap_line certificate.bound certificate.cost ++ solution_text certificate.cost certificate.permutation
+
+-- the text is that of such a certificate
+pub record IsGapProofText (I : Problem) (nodes : ℕ) (text : List ℕ) : Type 0 where
+  pub certificate : Claim
+  pub shown : ShowsGap I nodes certificate
+  pub is : text ≡ certificate_text Second certificate
+  pub is_text : IsCertificateText text certificate
+
+-- the one or the other, as was asked for
+abbrev pub IsStoppedOutput : Bool → Problem → ℕ → List ℕ → Type 0
+IsStoppedOutput true I nodes text = IsGapProofText I nodes text
+IsStoppedOutput false I nodes text = IsGapText I nodes text

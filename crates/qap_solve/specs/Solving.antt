@@ -1,5 +1,5 @@
 -- A run of the solver, from bytes to bytes.
-use Rattle.std.specs.Prelude.{◌≡◌, ℕ, ◌<◌, ◌⊎◌, Bool, List, Option}
+use Rattle.std.specs.Prelude.{◌≡◌, ℕ, ◌<◌, ◌⊎◌, Bool, List, Option, Some}
 use Rattle.qap_cost.specs.Instance.{Problem}
 use Rattle.qap_io.specs.Counting.{CountedDevice, FailedBetween}
 use Rattle.qap_io.specs.Writing.{AppendsBeginning}
@@ -7,7 +7,7 @@ use Rattle.qap_text.specs.InstanceText.{IsInstanceText, IsInstanceFault}
 use Rattle.qap_text.specs.Whole.{ReadsWhole, IsReadFault}
 use Rattle.qap_text.specs.declared.error.TextError.{TextError}
 use Rattle.qap_solve.specs.Refusal.{of_text}
-use Rattle.qap_solve.specs.Solution.{IsOutput}
+use Rattle.qap_solve.specs.Solution.{IsOutput, IsStoppedOutput}
 use Rattle.qap_solve.specs.declared.refusal.RunError.{RunError}
 use Rattle.qap_solve.specs.declared.refusal.RunError.TheVariants.{Unfinished, OutOfMemory, Device}
 
@@ -31,6 +31,14 @@ pub record Solves {R : Type 0} (s : Input R) (cert : Bool) (output : List ℕ) :
   pub instance : Problem
   pub input : HasInstance s instance
   pub holds : IsOutput cert instance output
+
+-- what the instance that was read is told as, where its search was stopped at this limit of nodes
+pub record SolvesPartly {R : Type 0} (s : Input R) (nodes : Option ℕ) (cert : Bool) (output : List ℕ) : Type 0 where
+  pub instance : Problem
+  pub input : HasInstance s instance
+  pub limit : ℕ
+  pub is : nodes ≡ Some limit
+  pub holds : IsStoppedOutput cert instance limit output
 
 -- the bytes can't be read within the limit
 pub record Unread {R : Type 0} (s : Input R) (e : RunError) : Type 0 where

@@ -3,7 +3,7 @@
 ghost use Rattle.std.specs.Prelude.{IfOk};
 ghost use Rattle.qap_solve.specs.Options.{AreLimited, MayRun};
 
-use crate::options::{MAX_LEASE_MS, MAX_WORKERS, Options};
+use crate::options::{MAX_LEASE_MS, MAX_NODES, MAX_WORKERS, Options};
 use clap::error::ErrorKind;
 use clap::{Arg, ArgAction, ArgMatches, Command, value_parser};
 use std::alloc::{AllocError, Global};
@@ -11,7 +11,7 @@ use std::io;
 
 /// The line that tells how the program is used.
 pub const USAGE: &str =
-    "usage: qapsolve solve [--workers K] [--lease MS] [--cert] | qapsolve script";
+    "usage: qapsolve solve [--workers K] [--lease MS] [--nodes N] [--cert] | qapsolve script";
 
 /// What is asked for.
 #[derive(Clone, Copy, Debug, PartialEq, Eq)]
@@ -81,21 +81,26 @@ fn solve_command<'a>(alloc: Global) -> Result<Command<'a>, AllocError> {
         .long("lease")
         .value_parser(value_parser!(u64).range(1..=MAX_LEASE_MS as i64))
         .default_value("600000");
+    let nodes = Arg::new(alloc, "nodes")
+        .long("nodes")
+        .value_parser(value_parser!(u64).range(0..=MAX_NODES as i64));
     let cert = Arg::new(alloc, "cert")
         .long("cert")
         .action(ArgAction::SetTrue);
     Command::new(alloc, "solve")
         .arg(workers)?
         .arg(lease)?
+        .arg(nodes)?
         .arg(cert)
 }
 
-/// The options that were found: each has a default.
+/// The options that were found: each has a default, but for the limit of nodes.
 fn options_of(found: &ArgMatches<'_>) -> Result<Options, CommandError>
     ensures { IfOk result AreLimited }
 {
     let (Some(workers), Some(lease_ms)) = (found.get_one("workers"), found.get_one("lease")) else {
         return Err(CommandError::Usage);
     };
-    Options::new(workers, lease_ms, found.get_flag("cert")).ok_or(CommandError::Usage)
+    let (nodes, cert) = (found.get_one("nodes"), found.get_flag("cert"));
+    Options::new(workers, lease_ms, nodes, cert).ok_or(CommandError::Usage)
 }

@@ -41,7 +41,10 @@ fn main(rt: HostRuntime) -> ExitCode {
     let code = match answered {
         Ok(()) => Status::Done.code(),
         Err(error) => {
-            let _ = fault_line(&error, &mut Counted::new(rt.stderr()));
+            // What a search that was stopped has come to stands on standard output.
+            if error != RunError::Stopped {
+                let _ = fault_line(&error, &mut Counted::new(rt.stderr()));
+            }
             status(&error)
         }
     };

@@ -21,6 +21,9 @@ pub enum RunError {
     /// The search ended with so many open nodes.
     #[error("{0} nodes are open")]
     Unfinished(u64),
+    /// The search was stopped at its limit of nodes, and an answer for what it had found has gone out.
+    #[error("the limit of nodes is reached")]
+    Stopped,
     /// There is no memory left.
     #[error("out of memory")]
     OutOfMemory,
@@ -65,18 +68,20 @@ impl From<SolveError> for RunError {
     fn from(error: SolveError) -> RunError {
         match error {
             SolveError::Unfinished(open) => RunError::Unfinished(open),
+            SolveError::Stopped(_) => RunError::Stopped,
             SolveError::OutOfMemory => RunError::OutOfMemory,
         }
     }
 }
 
-/// The exit status of a refusal: 3 for want of memory, 4 where nodes are open, else 1.
+/// The exit status of a refusal: 3 for want of memory, 4 where nodes are open, 5 where the search was stopped, else 1.
 pub fn status(error: &RunError) -> u8
     ensures { result ≡ status_of error.now }
 {
     let status = match error {
         RunError::OutOfMemory => Status::OutOfMemory,
         RunError::Unfinished(_) => Status::Unfinished,
+        RunError::Stopped => Status::Stopped,
         RunError::Text(_) | RunError::Device => Status::Refused,
     };
     status.code()
@@ -99,6 +104,7 @@ fn refusal(error: RunError) -> Refusal
     match error {
         RunError::Text(fault) => fault.refusal(),
         RunError::Unfinished(open) => Refusal::at(41, "Unfinished", open),
+        RunError::Stopped => Refusal::new(43, "Stopped"),
         RunError::OutOfMemory => Refusal::out_of_memory(),
         RunError::Device => Refusal::device(),
     }

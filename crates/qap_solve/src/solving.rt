@@ -1,22 +1,27 @@
 //! An instance solved, from bytes to bytes.
 
-ghost use Rattle.std.specs.Prelude.{◌≡◌, ◌⊎◌, ◌<◌, ℕ, List, MatchResult};
+ghost use Rattle.std.specs.Prelude.{◌≡◌, ◌⊎◌, ◌<◌, ◌++◌, ℕ, List, IfOk, MatchResult, Option, string_bytes};
 ghost use Rattle.qap_cert.specs.Certificate.{Certifies, IsCertificate};
+ghost use Rattle.qap_cert.specs.Text.{certificate_text};
+ghost use Rattle.qap_cert.specs.declared.version.Version.TheVariants.{Second};
 ghost use Rattle.qap_cost.specs.Instance.{IsInstance, Problem};
 ghost use Rattle.qap_io.specs.Writing.{Sends};
+ghost use Rattle.qap_search.specs.Stopped.{CertifiesStopped};
 ghost use Rattle.qap_solve.specs.Options.{AreLimited};
-ghost use Rattle.qap_solve.specs.Solution.{IsLeastText, IsOutput, IsProofText};
-ghost use Rattle.qap_solve.specs.Solving.{HasInstance, Input, IsUnsolved, Solves, Stops};
-ghost use Rattle.qap_solve.specs.declared.refusal.RunError.TheVariants.{OutOfMemory, Unfinished};
+ghost use Rattle.qap_solve.specs.Outcome.{IsOutcome};
+ghost use Rattle.qap_solve.specs.Solution.{IsOutput, IsStoppedOutput, gap_line};
+ghost use Rattle.qap_solve.specs.Solving.{HasInstance, Input, IsUnsolved, Solves, SolvesPartly, Stops};
+ghost use Rattle.qap_solve.specs.declared.refusal.RunError.TheVariants.{OutOfMemory, Stopped, Unfinished};
+ghost use Rattle.qap_text.specs.WrittenSolution.{solution_text};
 
 use crate::options::Options;
 use crate::refusal::RunError;
 use qap_cert::{CertError, Certificate, certified_law, write};
 use qap_cost::Instance;
-use qap_io::Counted;
-use qap_search::{Clock, Gate, solve};
+use qap_io::{Counted, put};
+use qap_search::{Clock, Gate, SolveError, solve};
 use qap_text::{TextError, read_all, read_instance, write_solution};
-use std::alloc::Global;
+use std::alloc::{AllocError, Global};
 use std::io::{Read, Write};
 use std::sync::Wait;
 use std::thread::Threads;
@@ -25,11 +30,22 @@ use std::time;
 /// The most bytes that are read of an instance's input.
 pub const MAX_INPUT: usize = 1_073_741_824;
 
+/// What an instance's search has come to.
+#[derive(Drop)]
+enum Outcome {
+    /// A certificate of the least cost.
+    Least(Certificate),
+    /// A certificate of a bound, from a search that was stopped at its limit of nodes.
+    Stopped(Certificate),
+}
+
 /// Reads an instance, and writes a permutation of least cost with that cost, or, where that is asked for, a certificate of the
 /// cost in its place.
 ///
-/// All of the input is read; what follows the instance means nothing. Where there is no answer, nothing is written. Where
-/// memory runs out in writing, or the writer fails, a beginning of the right text has gone out.
+/// Where the search is stopped at the limit of nodes, a line of a bound that no cost is below and of the cost of the best
+/// permutation found goes out before that permutation, or the certificate of the bound alone; and the answer is `Stopped`. All
+/// of the input is read; what follows the instance means nothing. Where there is no answer, nothing is written. Where memory
+/// runs out in writing, or the writer fails, a beginning of the right text has gone out.
 pub fn solve_stream<T, R, W, C, G>(
     rt: &T,
     alloc: Global,
@@ -49,11 +65,20 @@ where
     ensures { let s : Input R = record { bytes = R.remaining; limit = MAX_INPUT; before = reader.old; after = reader.new } in MatchResult result
         (λ _. (text : List ℕ) × Solves s options.now.cert text × Sends W.contents writer.old writer.new text)
         (λ e. (IsUnsolved s e × (writer.new ≡ writer.old))
-        ⊎ ((text : List ℕ) × Solves s options.now.cert text × Stops W.contents writer.old writer.new text e)) }
+        ⊎ (((text : List ℕ) × Solves s options.now.cert text × Stops W.contents writer.old writer.new text e)
+        ⊎ ((text : List ℕ) × SolvesPartly s options.now.nodes options.now.cert text
+        × (((e ≡ Stopped) × Sends W.contents writer.old writer.new text) ⊎ Stops W.contents writer.old writer.new text e)))) }
 {
     let instance = read_problem(alloc, reader)?;
-    let certificate = solved(rt, alloc, &instance, options, clock, gate)?;
-    put_answer(alloc, writer, options.cert, &instance, &certificate)
+    match solved(rt, alloc, &instance, options, clock, gate)? {
+        Outcome::Least(certificate) => {
+            put_answer(alloc, writer, options.cert, &instance, &certificate)
+        }
+        Outcome::Stopped(certificate) => {
+            put_stopped(alloc, writer, options.cert, &instance, &certificate)?;
+            Err(RunError::Stopped)
+        }
+    }
 }
 
 /// The instance that the input begins with.
@@ -66,7 +91,7 @@ fn read_problem<R: Read>(alloc: Global, reader: &mut Counted<R>) -> Result<Insta
     Ok(instance)
 }
 
-/// A certificate of the instance's least cost.
+/// A certificate of the instance's least cost, or of a bound where the search is stopped.
 fn solved<T, C, G>(
     rt: &T,
     alloc: Global,
@@ -74,23 +99,27 @@ fn solved<T, C, G>(
     options: &Options,
     clock: &C,
     gate: &G,
-) -> Result<Certificate, RunError>
+) -> Result<Outcome, RunError>
 where
     T: Threads + Wait + time::Clock + Sync,
     C: Clock,
     G: Gate + Sync,
     requires { AreLimited options.now }
     ensures { MatchResult result
-        (λ c. IsCertificate c × Certifies instance.now c × (c.bound ≡ c.cost))
+        (IsOutcome instance.now options.now.nodes)
         (λ e. ((count : ℕ) × (0 < count) × (e ≡ Unfinished count)) ⊎ (e ≡ OutOfMemory)) }
 {
     let Options {
         workers,
         lease_ms,
+        nodes,
         ..
     } = *options;
-    let answer = solve(rt, alloc, instance, workers, lease_ms, None, clock, gate)?;
-    Ok(answer.certificate)
+    match solve(rt, alloc, instance, workers, lease_ms, nodes, clock, gate) {
+        Ok(answer) => Ok(Outcome::Least(answer.certificate)),
+        Err(SolveError::Stopped(answer)) => Ok(Outcome::Stopped(answer.certificate)),
+        Err(error) => Err(RunError::from(error)),
+    }
 }
 
 /// Writes a certificate's permutation with its cost, or the certificate itself.
@@ -108,10 +137,35 @@ fn put_answer<W: Write>(
         (λ _. Sends W.contents writer.old writer.new text)
         (Stops W.contents writer.old writer.new text) }
 {
+    certified_law();
+    let _size = instance.size();
     if cert {
-        put_certificate(alloc, writer, instance, certificate)
+        put_certificate(alloc, writer, certificate)
     } else {
-        put_solution(alloc, writer, instance, certificate)
+        put_solution(alloc, writer, certificate)
+    }
+}
+
+/// Writes what a search that was stopped has come to: the line of a certificate's bound and cost, and its permutation with the
+/// cost; or the certificate itself.
+fn put_stopped<W: Write>(
+    alloc: Global,
+    writer: &mut Counted<W>,
+    cert: bool,
+    instance: &Instance,
+    certificate: &Certificate,
+) -> Result<(), RunError>
+    ensures { (nodes : ℕ) → CertifiesStopped instance.now nodes certificate.now →
+        (text : List ℕ) × IsStoppedOutput cert instance.now nodes text × MatchResult result
+        (λ _. Sends W.contents writer.old writer.new text)
+        (Stops W.contents writer.old writer.new text) }
+{
+    certified_law();
+    let _size = instance.size();
+    if cert {
+        put_certificate(alloc, writer, certificate)
+    } else {
+        put_gap(alloc, writer, certificate)
     }
 }
 
@@ -119,18 +173,12 @@ fn put_answer<W: Write>(
 fn put_certificate<W: Write>(
     alloc: Global,
     writer: &mut Counted<W>,
-    instance: &Instance,
     certificate: &Certificate,
 ) -> Result<(), RunError>
-    requires shape { IsCertificate certificate.now }
-    requires certified { Certifies instance.now certificate.now }
-    requires closed { certificate.now.bound ≡ certificate.now.cost }
-    ensures { (text : List ℕ) × IsProofText instance.now text × MatchResult result
-        (λ _. Sends W.contents writer.old writer.new text)
-        (Stops W.contents writer.old writer.new text) }
+    ensures { MatchResult result
+        (λ _. Sends W.contents writer.old writer.new (certificate_text Second certificate.now))
+        (Stops W.contents writer.old writer.new (certificate_text Second certificate.now)) }
 {
-    certified_law();
-    let _size = instance.size();
     match write(alloc, writer, certificate) {
         Ok(()) => Ok(()),
         Err(CertError::OutOfMemory) => Err(RunError::OutOfMemory),
@@ -142,21 +190,43 @@ fn put_certificate<W: Write>(
 fn put_solution<W: Write>(
     alloc: Global,
     writer: &mut Counted<W>,
-    instance: &Instance,
     certificate: &Certificate,
 ) -> Result<(), RunError>
-    requires shape { IsCertificate certificate.now }
-    requires certified { Certifies instance.now certificate.now }
-    requires closed { certificate.now.bound ≡ certificate.now.cost }
-    ensures { (text : List ℕ) × IsLeastText instance.now text × MatchResult result
-        (λ _. Sends W.contents writer.old writer.new text)
-        (Stops W.contents writer.old writer.new text) }
+    ensures { MatchResult result
+        (λ _. Sends W.contents writer.old writer.new (solution_text certificate.now.cost certificate.now.permutation))
+        (Stops W.contents writer.old writer.new (solution_text certificate.now.cost certificate.now.permutation)) }
 {
-    certified_law();
-    let _size = instance.size();
     match write_solution(alloc, writer, certificate.cost(), certificate.perm()) {
         Ok(()) => Ok(()),
         Err(TextError::OutOfMemory) => Err(RunError::OutOfMemory),
         Err(_) => Err(RunError::Device),
     }
+}
+
+/// Writes the line of a certificate's bound and cost, and its permutation with the cost.
+fn put_gap<W: Write>(
+    alloc: Global,
+    writer: &mut Counted<W>,
+    certificate: &Certificate,
+) -> Result<(), RunError>
+    ensures { let text = gap_line certificate.now.bound certificate.now.cost ++ solution_text certificate.now.cost certificate.now.permutation in
+        MatchResult result
+        (λ _. Sends W.contents writer.old writer.new text)
+        (Stops W.contents writer.old writer.new text) }
+{
+    let Ok(line) = gap_line(alloc, certificate) else {
+        return Err(RunError::OutOfMemory);
+    };
+    match put(writer, line.as_bytes()) {
+        Ok(()) => put_solution(alloc, writer, certificate),
+        Err(_) => Err(RunError::Device),
+    }
+}
+
+/// The line of a certificate's bound and cost.
+fn gap_line(alloc: Global, certificate: &Certificate) -> Result<String, AllocError>
+    ensures { IfOk result (λ line. string_bytes line ≡ gap_line certificate.now.bound certificate.now.cost) }
+{
+    let (bound, cost) = (certificate.bound(), certificate.cost());
+    format!(in alloc; "gap {bound} {cost}\n")
 }

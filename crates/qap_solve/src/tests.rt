@@ -21,6 +21,8 @@ use std::time;
 const TWO: &[u8] = b"2 0 3 1 0 0 2 5 0";
 /// Three facilities, of which no order costs less than 24.
 const THREE: &[u8] = b"3 0 1 2 1 0 3 2 3 0 0 5 2 5 0 1 2 1 0";
+/// Three facilities, of which each order costs 1; the bound of the root is 0, and that of each child 1.
+const EVEN: &[u8] = b"3 0 1 0 0 0 1 1 0 0 0 1 0 1 0 0 0 0 0";
 /// Three facilities whose root isn't closed by its bound.
 const SPLIT: &[u8] = b"3 0 1 0 0 5 1 1 0 0 1 1 0 1 1 0 0 0 1";
 
@@ -45,6 +47,7 @@ impl Clock for Stopped {
 const ONE: Options = Options {
     workers: 1,
     lease_ms: 600_000,
+    nodes: None,
     cert: false,
 };
 
@@ -52,6 +55,7 @@ const ONE: Options = Options {
 const PROVING: Options = Options {
     workers: 1,
     lease_ms: 600_000,
+    nodes: None,
     cert: true,
 };
 
@@ -76,7 +80,9 @@ where
     let status = match solved {
         Ok(()) => 0,
         Err(error) => {
-            let _ = fault_line(&error, &mut errors);
+            if error != RunError::Stopped {
+                let _ = fault_line(&error, &mut errors);
+            }
             status(&error)
         }
     };
@@ -154,6 +160,67 @@ fn a_split_is_told(rt: HostRuntime) -> Result<(), Fail> {
     Ok(())
 }
 
+// With each limit up to the number of nodes, which is 4.
+#[test]
+fn stopped_searches(rt: HostRuntime) -> Result<(), Fail> {
+    let alloc = rt.alloc();
+    let (instance, _) = read_instance(alloc, EVEN)?;
+    let cases: [(u64, &[u8], u8); 6] = [
+        (0, b"gap 0 1\n3 1\n1 2 3\n", 5),
+        (1, b"gap 1 1\n3 1\n1 2 3\n", 5),
+        (2, b"gap 1 1\n3 1\n1 2 3\n", 5),
+        (3, b"gap 1 1\n3 1\n1 2 3\n", 5),
+        (4, b"3 1\n1 2 3\n", 0),
+        (5, b"3 1\n1 2 3\n", 0),
+    ];
+    for (limit, want, ends) in cases {
+        for workers in [1, 8] {
+            let nodes = Some(limit);
+            let told = run(
+                &rt,
+                alloc,
+                EVEN,
+                &Options {
+                    workers,
+                    nodes,
+                    ..ONE
+                },
+            );
+            assert_eq!(rt; told.output.as_slice(), want, "{limit}");
+            assert_eq!(rt; told.errors.as_slice(), b"".as_slice());
+            assert_eq!(rt; told.status, ends);
+            let proved = run(
+                &rt,
+                alloc,
+                EVEN,
+                &Options {
+                    workers,
+                    nodes,
+                    ..PROVING
+                },
+            );
+            let lines = proved.output.split(|byte| *byte == b'\n').count();
+            let (verdict, count) = match limit {
+                0 => (Verdict::Gap(0, 1), 8),
+                _ => (Verdict::Optimal(1), 10),
+            };
+            assert_eq!(rt; accept(alloc, &instance, &proved.output), Ok(verdict));
+            assert_eq!(rt; (lines, proved.status), (count, ends), "{limit}");
+        }
+    }
+    Ok(())
+}
+
+#[test]
+fn the_certificate_of_an_opening(rt: HostRuntime) {
+    let nodes = Some(0);
+    let proved = run(&rt, rt.alloc(), EVEN, &Options { nodes, ..PROVING });
+    assert_eq!(rt;
+        proved.output.as_slice(),
+        b"qapcert 2\nn 3\ncost 1\nperm 1 2 3\nbound 0\nb 0 0 0 0 0 0\nend\n".as_slice()
+    );
+}
+
 #[test]
 fn refused_instances(rt: HostRuntime) {
     let cases: [(&[u8], &[u8]); 7] = [
@@ -194,27 +261,36 @@ fn reads_fail(rt: HostRuntime) {
     }
 }
 
-// Each write of the solution, a byte at a time, and the flush fail in turn.
+// Each write of the solution, a byte at a time, and the flush fail in turn; and so for a search that is stopped.
 #[test]
 fn writes_fail(rt: HostRuntime) {
-    let solution = b"2 11\n1 2\n".as_slice();
-    for call in 1..=solution.len() + 1 {
-        let failing = OneByte::new(FailAt::new(Vec::new(rt.alloc()), call as u64));
-        let mut output = Counted::new(failing);
-        let mut reader = Counted::new(TWO);
-        let solved = solve_stream(
-            &rt,
-            rt.alloc(),
-            &mut reader,
-            &mut output,
-            &ONE,
-            &Stopped,
-            &Always,
-        );
-        assert_eq!(rt; solved, Err(RunError::Device));
-        assert_eq!(rt; (output.failed(), output.is_flushed()), (1, false));
-        let written = output.into_inner().into_inner().into_inner();
-        assert_eq!(rt; solution.get(..call - 1), Some(written.as_slice()));
+    let stopped = Options {
+        nodes: Some(0),
+        ..ONE
+    };
+    let cases: [(&[u8], Options, &[u8]); 2] = [
+        (TWO, ONE, b"2 11\n1 2\n"),
+        (EVEN, stopped, b"gap 0 1\n3 1\n1 2 3\n"),
+    ];
+    for (text, options, solution) in cases {
+        for call in 1..=solution.len() + 1 {
+            let failing = OneByte::new(FailAt::new(Vec::new(rt.alloc()), call as u64));
+            let mut output = Counted::new(failing);
+            let mut reader = Counted::new(text);
+            let solved = solve_stream(
+                &rt,
+                rt.alloc(),
+                &mut reader,
+                &mut output,
+                &options,
+                &Stopped,
+                &Always,
+            );
+            assert_eq!(rt; solved, Err(RunError::Device));
+            assert_eq!(rt; (output.failed(), output.is_flushed()), (1, false));
+            let written = output.into_inner().into_inner().into_inner();
+            assert_eq!(rt; solution.get(..call - 1), Some(written.as_slice()));
+        }
     }
 }
 
@@ -233,14 +309,24 @@ fn solving(workers: u16, lease_ms: u64, cert: bool) -> Result<Request, CommandEr
     Ok(Request::Solve(Options {
         workers,
         lease_ms,
+        nodes: None,
         cert,
+    }))
+}
+
+/// A request to solve within a limit of nodes.
+fn limited(nodes: u64) -> Result<Request, CommandError> {
+    Ok(Request::Solve(Options {
+        workers: 4,
+        nodes: Some(nodes),
+        ..ONE
     }))
 }
 
 #[test]
 fn command_lines(rt: HostRuntime) -> Result<(), Fail> {
     let alloc = rt.alloc();
-    let cases: [(&[&str], Result<Request, CommandError>); 17] = [
+    let cases: [(&[&str], Result<Request, CommandError>); 22] = [
         (&["script"], Ok(Request::Script)),
         (&["solve"], solving(4, 600_000, false)),
         (&["solve", "--workers", "1"], solving(1, 600_000, false)),
@@ -253,6 +339,17 @@ fn command_lines(rt: HostRuntime) -> Result<(), Fail> {
             solving(4, 86_400_000, false),
         ),
         (&["solve", "--lease", "1"], solving(4, 1, false)),
+        (&["solve", "--nodes", "0"], limited(0)),
+        (
+            &["solve", "--nodes", "4611686018427387904"],
+            limited(4_611_686_018_427_387_904),
+        ),
+        (
+            &["solve", "--nodes", "4611686018427387905"],
+            Err(CommandError::Usage),
+        ),
+        (&["solve", "--nodes", "-1"], Err(CommandError::Usage)),
+        (&["solve", "--nodes"], Err(CommandError::Usage)),
         (&["solve", "--workers", "0"], Err(CommandError::Usage)),
         (&["solve", "--workers", "65"], Err(CommandError::Usage)),
         (&["solve", "--lease", "0"], Err(CommandError::Usage)),
@@ -271,7 +368,7 @@ fn command_lines(rt: HostRuntime) -> Result<(), Fail> {
     }
     assert_eq!(rt;
         USAGE,
-        "usage: qapsolve solve [--workers K] [--lease MS] [--cert] | qapsolve script"
+        "usage: qapsolve solve [--workers K] [--lease MS] [--nodes N] [--cert] | qapsolve script"
     );
     Ok(())
 }
@@ -309,6 +406,12 @@ fn refusals(rt: HostRuntime) -> Result<(), Fail> {
             "refused 41 Unfinished at 3\n",
             4,
             "3 nodes are open",
+        ),
+        (
+            RunError::Stopped,
+            "refused 43 Stopped\n",
+            5,
+            "the limit of nodes is reached",
         ),
     ];
     for (error, line, want, message) in cases {
