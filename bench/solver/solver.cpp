@@ -73,7 +73,7 @@ struct Assignment {
         for (;;) {
             int best = done;
             for (int q = done + 1; q < m; ++q)
-                if (distances[columns[q]] < distances[columns[best]]) best = q;
+                if (distances[columns[q]] <= distances[columns[best]]) best = q;
             std::swap(columns[done], columns[best]);
             const int column = columns[done];
             const int next = row_of[column];

@@ -40,22 +40,16 @@ pub fn solve(alloc: Global, matrix: &Matrix) -> Result<Assignment, AllocError>
     let mut row_of = no_rows(alloc, n)?;
     let mut u = zeros(alloc, n)?;
     let mut v = zeros(alloc, n)?;
-    let mut columns = in_order(alloc, n)?;
-    let mut tree_rows = vec![in alloc; 0usize; n]?;
-    let mut row_distances = zeros(alloc, n)?;
-    let mut distances = zeros(alloc, n)?;
-    let mut origins = vec![in alloc; 0usize; n]?;
-    place_rows(
+    let mut indices = vec![in alloc; 0usize; 3 * n]?;
+    let mut numbers = zeros(alloc, 2 * n)?;
+    place_within(
         matrix,
         &mut matching,
         &mut row_of,
         &mut u,
         &mut v,
-        &mut columns,
-        &mut tree_rows,
-        &mut row_distances,
-        &mut distances,
-        &mut origins,
+        &mut indices,
+        &mut numbers,
     );
     Ok(Assignment { matching, u, v })
 }
@@ -74,19 +68,53 @@ fn zeros(alloc: Global, n: usize) -> Result<Vec<i128>, AllocError>
     vec![in alloc; 0; n]
 }
 
-/// The numbers from 0 to `n - 1`.
-fn in_order(alloc: Global, n: usize) -> Result<Vec<usize>, AllocError>
-    ensures order { IfOk result (λ columns. IsBijection columns.items) }
-    ensures count { IfOk result (λ columns. length columns.items ≡ n) }
+/// Makes the list that of the numbers from 0 on.
+fn put_in_order(columns: &mut [usize])
+    ensures { IsBijection columns.new }
 {
-    let mut columns = Vec::with_capacity(alloc, n)?;
-    for k in 0..n {
-        columns.push(k)?;
+    for k in 0..columns.len() {
+        columns[k] = k;
     }
-    Ok(columns)
+}
+
+/// Places every row, where none is placed before, and takes `indices` and `numbers` as room for the trees: one list each in
+/// the place of several, since memory is dear for small matrices.
+fn place_within(
+    matrix: &Matrix,
+    matching: &mut [u16],
+    row_of: &mut [Option<usize>],
+    u: &mut [i128],
+    v: &mut [i128],
+    indices: &mut [usize],
+    numbers: &mut [i128],
+)
+    requires entries { AllWithin (10 ^ 21) matrix.now.entries }
+    requires partial { IsPartial matrix.now 0 matching.old row_of.old u.old v.old }
+    requires indices_count { length indices.old ≡ 3 * matrix.now.size }
+    requires numbers_count { length numbers.old ≡ 2 * matrix.now.size }
+    ensures { IsPartial matrix.now matrix.now.size matching.new row_of.new u.new v.new }
+{
+    let n = matrix.size();
+    let (columns, rest) = indices.split_at_mut(n);
+    let (tree_rows, origins) = rest.split_at_mut(n);
+    let (row_distances, distances) = numbers.split_at_mut(n);
+    put_in_order(columns);
+    place_rows(
+        matrix,
+        matching,
+        row_of,
+        u,
+        v,
+        columns,
+        tree_rows,
+        row_distances,
+        distances,
+        origins,
+    );
 }
 
 /// Places every row; nothing is placed before.
+#[inline(never)]
 fn place_rows(
     matrix: &Matrix,
     matching: &mut [u16],

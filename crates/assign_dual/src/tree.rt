@@ -26,7 +26,8 @@ fn start_row(row: &[i128], v: &[i128], distances: &mut [i128], origins: &mut [us
     }
 }
 
-/// The place from `done` on whose column is nearest.
+/// The place from `done` on whose column is nearest: of equally near ones the last, which more often has no row, since
+/// those that were scanned for earlier rows came to the front.
 fn nearest(columns: &[usize], distances: &[i128], done: usize) -> usize
     requires order { IsBijection columns.now }
     requires distances_count { length distances.now ≡ length columns.now }
@@ -36,8 +37,10 @@ fn nearest(columns: &[usize], distances: &[i128], done: usize) -> usize
     ensures nearest { (q : ℕ) → done ≤ q → q < length columns.now →
         number_at distances.now (slice_index columns.now result) ≤ℤ number_at distances.now (slice_index columns.now q) }
 {
-    let mut best = done;
-    for q in done + 1..columns.len() {
+    let mut best = columns.len() - 1;
+    let mut q = best;
+    while q > done {
+        q -= 1;
         if distances[columns[q]] < distances[columns[best]] {
             best = q;
         }

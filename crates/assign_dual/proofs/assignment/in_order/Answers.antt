@@ -1,6 +1,0 @@
-use Rattle.std.proofs.Common.{arith}
-use Rattle.assign_dual.proofs.Least.{IsBijection-in_order}
-use Rattle.assign_dual.proofs.assignment.in_order.Goals as goal
-
-pub returns-clause-order : goal.returns-clause-order
-returns-clause-order c = IsBijection-in_order _ (λ k h. c.loop-k.invariant.at k (omega (arith, c.loop-k.invariant.count)))

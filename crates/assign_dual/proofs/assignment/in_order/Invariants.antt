@@ -1,8 +1,0 @@
-use Rattle.std.proofs.Common.{◌≡◌, ℕ, ◌<◌, get_or, length}
-use Rattle.assign_dual.proofs.assignment.in_order.Given as goal
-
-abbrev pub invariant-loop-k : goal.invariant-loop-k
-invariant-loop-k l = record {
-  count : length l.columns.items ≡ l.k;
-  at : (j : ℕ) → j < l.k → get_or l.columns.items j 0 ≡ j;
-}
