@@ -1,34 +1,44 @@
 -- What a solved instance is told as, and one whose search was stopped: a permutation, or a certificate.
-use Rattle.std.specs.Prelude.{◌≡◌, ◌++◌, Bool, true, false, ℕ, List, ℤ, codes}
+use Rattle.std.specs.Prelude.{◌≡◌, ◌≤◌, ◌++◌, Bool, true, false, ℕ, List, ℤ, Option, IfSome, codes}
 use Rattle.std.specs.Fmt.{signed_decimal}
 use Rattle.qap_cost.specs.Instance.{Problem}
 use Rattle.qap_cost.specs.Objective.{IsLeast, NoneCostsLess, Permutes, cost_of}
 use Rattle.qap_cert.specs.Acceptance.{ShowsVerdict}
-use Rattle.qap_cert.specs.Certificate.{Claim}
+use Rattle.qap_cert.specs.Certificate.{Certifies, Claim}
 use Rattle.qap_cert.specs.Text.{IsCertificateText, certificate_text}
+use Rattle.qap_cert.specs.Tree.{node_count}
 use Rattle.qap_cert.specs.declared.acceptance.Verdict.TheVariants.{Optimal}
 use Rattle.qap_cert.specs.declared.version.Version.TheVariants.{Second}
 use Rattle.qap_search.specs.Stopped.{CertifiesStopped}
 use Rattle.qap_text.specs.WrittenSolution.{solution_text}
 
--- the text is that of a permutation of the instance, with its cost, and none costs less
-pub record IsLeastText (I : Problem) (text : List ℕ) : Type 0 where
+-- the certificate shows the least cost of the instance, by no more nodes than the limit, where there is one
+pub record ShowsLeast (I : Problem) (nodes : Option ℕ) (C : Claim) : Type 0 where
+  pub certified : Certifies I C
+  pub closed : C.bound ≡ C.cost
+  pub within : IfSome nodes (λ n. node_count C.tree ≤ n)
+
+-- the text is that of a permutation of the instance, with its cost, and none costs less, as some certificate shows
+pub record IsLeastText (I : Problem) (nodes : Option ℕ) (text : List ℕ) : Type 0 where
   pub permutation : List ℕ
   pub permutes : Permutes I permutation
   pub least : IsLeast I (cost_of I permutation)
   pub is : text ≡ solution_text (cost_of I permutation) permutation
+  pub certificate : Claim
+  pub by : ShowsLeast I nodes certificate
 
 -- the text is that of a certificate that shows the least cost of the instance
-pub record IsProofText (I : Problem) (text : List ℕ) : Type 0 where
+pub record IsProofText (I : Problem) (nodes : Option ℕ) (text : List ℕ) : Type 0 where
   pub certificate : Claim
   pub is : text ≡ certificate_text Second certificate
   pub shown : ShowsVerdict I text (Optimal certificate.cost)
   pub least : IsLeast I certificate.cost
+  pub by : ShowsLeast I nodes certificate
 
 -- the one or the other, as was asked for
-abbrev pub IsOutput : Bool → Problem → List ℕ → Type 0
-IsOutput true I text = IsProofText I text
-IsOutput false I text = IsLeastText I text
+abbrev pub IsOutput : Bool → Problem → Option ℕ → List ℕ → Type 0
+IsOutput true I nodes text = IsProofText I nodes text
+IsOutput false I nodes text = IsLeastText I nodes text
 
 -- the line that tells a bound and a cost
 abbrev pub gap_line : ℤ → ℤ → List ℕ

@@ -26,11 +26,11 @@ pub record HasInstance {R : Type 0} (s : Input R) (I : Problem) : Type 0 where
   pub rest : List ℕ
   pub instance_text : IsInstanceText text I rest
 
--- what the instance that was read is solved as
-pub record Solves {R : Type 0} (s : Input R) (cert : Bool) (output : List ℕ) : Type 0 where
+-- what the instance that was read is solved as, within the limit of nodes
+pub record Solves {R : Type 0} (s : Input R) (nodes : Option ℕ) (cert : Bool) (output : List ℕ) : Type 0 where
   pub instance : Problem
   pub input : HasInstance s instance
-  pub holds : IsOutput cert instance output
+  pub holds : IsOutput cert instance nodes output
 
 -- what the instance that was read is told as, where its search was stopped at this limit of nodes
 pub record SolvesPartly {R : Type 0} (s : Input R) (nodes : Option ℕ) (cert : Bool) (output : List ℕ) : Type 0 where

@@ -9,7 +9,7 @@ ghost use Rattle.qap_io.specs.Writing.{Sends};
 ghost use Rattle.qap_search.specs.Stopped.{CertifiesStopped};
 ghost use Rattle.qap_solve.specs.Options.{AreLimited};
 ghost use Rattle.qap_solve.specs.Outcome.{IsOutcome};
-ghost use Rattle.qap_solve.specs.Solution.{IsOutput, IsStoppedOutput, gap_line};
+ghost use Rattle.qap_solve.specs.Solution.{IsOutput, IsStoppedOutput, ShowsLeast, gap_line};
 ghost use Rattle.qap_solve.specs.Solving.{HasInstance, Input, IsUnsolved, Solves, SolvesPartly, Stops};
 ghost use Rattle.qap_solve.specs.declared.refusal.RunError.TheVariants.{OutOfMemory, Stopped, Unfinished};
 ghost use Rattle.qap_text.specs.WrittenSolution.{solution_text};
@@ -63,9 +63,9 @@ where
     G: Gate + Sync,
     requires { AreLimited options.now }
     ensures { let s : Input R = record { bytes = R.remaining; limit = MAX_INPUT; before = reader.old; after = reader.new } in MatchResult result
-        (λ _. (text : List ℕ) × Solves s options.now.cert text × Sends W.contents writer.old writer.new text)
+        (λ _. (text : List ℕ) × Solves s options.now.nodes options.now.cert text × Sends W.contents writer.old writer.new text)
         (λ e. (IsUnsolved s e × (writer.new ≡ writer.old))
-        ⊎ (((text : List ℕ) × Solves s options.now.cert text × Stops W.contents writer.old writer.new text e)
+        ⊎ (((text : List ℕ) × Solves s options.now.nodes options.now.cert text × Stops W.contents writer.old writer.new text e)
         ⊎ ((text : List ℕ) × SolvesPartly s options.now.nodes options.now.cert text
         × (((e ≡ Stopped) × Sends W.contents writer.old writer.new text) ⊎ Stops W.contents writer.old writer.new text e)))) }
 {
@@ -130,15 +130,13 @@ fn put_answer<W: Write>(
     instance: &Instance,
     certificate: &Certificate,
 ) -> Result<(), RunError>
-    requires shape { IsCertificate certificate.now }
-    requires certified { Certifies instance.now certificate.now }
-    requires closed { certificate.now.bound ≡ certificate.now.cost }
-    ensures { (text : List ℕ) × IsOutput cert instance.now text × MatchResult result
+    ensures { (nodes : Option ℕ) → ShowsLeast instance.now nodes certificate.now →
+        (text : List ℕ) × IsOutput cert instance.now nodes text × MatchResult result
         (λ _. Sends W.contents writer.old writer.new text)
         (Stops W.contents writer.old writer.new text) }
 {
     certified_law();
-    let _size = instance.size();
+    let (_size, _cost) = (instance.size(), certificate.cost());
     if cert {
         put_certificate(alloc, writer, certificate)
     } else {
