@@ -396,3 +396,25 @@ fn a_limit_that_is_not_reached(rt: HostRuntime) -> Result<(), Fail> {
     assert!(rt; matches!(ended, Err(SolveError::Unfinished(1))));
     Ok(())
 }
+
+#[test]
+fn a_gap_holds_the_least_cost(rt: HostRuntime) -> Result<(), Fail> {
+    let alloc = rt.alloc();
+    for n in 1..=6 {
+        let instance = patterned(alloc, n)?;
+        let (least, _) = least_by_listing(alloc, &instance)?;
+        for limit in [0, 1, 2, 5, 20] {
+            let nodes = Some(limit);
+            let ended = solve(&rt, alloc, &instance, 2, LEASE_MS, nodes, &Stopped, &Always);
+            let answer = match ended {
+                Ok(answer) => answer,
+                Err(SolveError::Stopped(answer)) => answer,
+                Err(error) => return Err(Fail::from(error)),
+            };
+            let (bound, cost) = (answer.certificate.bound(), answer.certificate.cost());
+            assert!(rt; bound <= least && least <= cost, "size {n}, limit {limit}");
+            assert!(rt; check(alloc, &instance, &answer.certificate).is_ok());
+        }
+    }
+    Ok(())
+}
