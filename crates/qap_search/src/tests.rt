@@ -184,7 +184,7 @@ fn other_tuples_are_refused(rt: HostRuntime) -> Result<(), Fail> {
 }
 
 /// Searches that were stopped: the instance, the tuples, and the cost and the bound of what they come to.
-static STOPPED: [(Matrices, Row, (i128, i128)); 4] = [
+static CUT_SHORT: [(Matrices, Row, (i128, i128)); 4] = [
     (
         FIRST,
         &[&[BEST, Int(24), IDENTITY], &[NODE, List(&[])]],
@@ -220,7 +220,7 @@ static STOPPED: [(Matrices, Row, (i128, i128)); 4] = [
 
 #[test]
 fn stopped_searches_show_a_bound(rt: HostRuntime) -> Result<(), Fail> {
-    for (number, (matrices, row, want)) in STOPPED.iter().enumerate() {
+    for (number, (matrices, row, want)) in CUT_SHORT.iter().enumerate() {
         let instance = three(rt.alloc(), matrices)?;
         let certificate = assemble_stopped(rt.alloc(), &instance, tuples(rt.alloc(), row)?)?;
         assert_eq!(rt;
@@ -237,7 +237,7 @@ fn stopped_searches_show_a_bound(rt: HostRuntime) -> Result<(), Fail> {
 }
 
 /// Tuples of no search that could have been stopped, and of one that shows less than -10^24.
-static NOT_STOPPED: [Row; 6] = [
+static NO_SEARCH: [Row; 6] = [
     &[],
     &[&[NODE, List(&[])]],
     &[
@@ -265,7 +265,7 @@ static NOT_STOPPED: [Row; 6] = [
 #[test]
 fn other_tuples_are_no_stopped_search(rt: HostRuntime) -> Result<(), Fail> {
     let instance = three(rt.alloc(), &FIRST)?;
-    for (number, row) in NOT_STOPPED.iter().enumerate() {
+    for (number, row) in NO_SEARCH.iter().enumerate() {
         match assemble_stopped(rt.alloc(), &instance, tuples(rt.alloc(), row)?) {
             Ok(_) => assert!(rt; false, "row {number}"),
             Err(error) => assert_eq!(rt; error, AssembleError::NotATree, "row {number}"),

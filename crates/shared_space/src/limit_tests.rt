@@ -1,3 +1,6 @@
+//! A limit of commits: that the commit which reaches it closes the space, that none is accepted past it, and that threads which race to it
+//! come to just as many.
+
 ghost use Rattle.std.specs.Prelude.{◌≡◌, Some};
 ghost use Rattle.shared_space.specs.Law.{IsFree};
 
