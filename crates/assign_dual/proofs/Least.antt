@@ -10,6 +10,7 @@ use Rattle.qap_cost.proofs.Sums.{sum_to-same, sum_to-add}
 use Rattle.qap_cost.proofs.Bijections.{sum_to-in_order}
 use Rattle.qap_cost.proofs.Matrices.{dual_value-le}
 use Rattle.assign_dual.specs.Partial.{IsPartial, owner_of}
+use Rattle.assign_dual.specs.Square.{square_of}
 use Rattle.assign_dual.specs.Number.{number_at}
 
 -- before the first row is placed, all duals are 0 and no column has a row
@@ -45,6 +46,13 @@ IsBijection-in_order xs at = record {
   within = λ k h. let e = at k h in omega (arith, e);
   distinct = λ k l hk hl same. let e = at k hk in let f = at l hl in omega (arith, e, f, same);
 }
+
+-- the same matrix, by its size and its entries
+pub IsPartial-square : (M : Square) (n : ℕ) (entries : List ℤ) (matching : List ℕ) (row_of : List (Option ℕ)) (u v : List ℤ) →
+    IsPartial (square_of n entries) n matching row_of u v → n ≡ M.size → entries ≡ M.entries → IsPartial M M.size matching row_of u v
+IsPartial-square M n entries matching row_of u v is size same =
+    subst (λ (k : ℕ). IsPartial (square_of k M.entries) k matching row_of u v) size
+    (subst (λ (xs : List ℤ). IsPartial (square_of n xs) n matching row_of u v) same is)
 
 -- the same lists, written back
 pub IsPartial-same : (M : Square) (rows : ℕ) (matching : List ℕ) (row_of : List (Option ℕ)) (u v : List ℤ) (same_matching : List ℕ) (same_u same_v : List ℤ) →

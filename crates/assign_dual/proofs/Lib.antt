@@ -5,4 +5,5 @@ pub mod Relaxing
 pub mod Shifting
 pub mod Swapping
 pub mod Trees
+pub mod Values
 pub mod Walks

@@ -1,5 +1,5 @@
 -- The tree of shortest alternating paths: how it starts, and how a column and its row join it.
-use Rattle.std.proofs.Common.{◌≡◌, ℕ, ◌+◌, ◌*◌, ◌^◌, ◌<◌, ◌≤◌, List, length, get_or, set, map, arith, sym, ◌∙◌, ap, subst, inl, inr, get_or-set_other, get_or-set_same}
+use Rattle.std.proofs.Common.{◌≡◌, ℕ, ◌+◌, ◌*◌, ◌<◌, ◌≤◌, List, length, get_or, set, map, arith, sym, ◌∙◌, ap, subst, inl, inr, get_or-set_other, get_or-set_same}
 use Rattle.std.specs.Prelude.{ℤ, pos, ◌+ℤ◌, ◌-ℤ◌, ◌≤ℤ◌, Option, Some, None, unsigned_abs, unwrap_or}
 use Rattle.std.proofs.lemmas.Int.{ints}
 use Rattle.std.proofs.lemmas.Bool.{cases_lt}
@@ -142,13 +142,13 @@ row_within M i row m range below is = record {
 }
 
 -- the first distances
-pub StartsRow-within : (row v distances : List ℤ) (origins : List ℕ) → StartsRow row v distances origins → length distances ≡ length row → length v ≡ length row →
-    AllWithin (10 ^ 21) row → AllWithin (2 * 10 ^ 21) v → AllWithin (3 * 10 ^ 21) distances
-StartsRow-within row v distances origins starts distances_count v_count row_range v_range = record {
+pub StartsRow-within : (row v distances : List ℤ) (origins : List ℕ) (m : ℕ) → StartsRow row v distances origins → length distances ≡ length row → length v ≡ length row →
+    AllWithin m row → AllWithin (2 * m) v → AllWithin (3 * m) distances
+StartsRow-within row v distances origins m starts distances_count v_count row_range v_range = record {
   each = λ k h.
       let is = starts.distance k (omega (arith, distances_count)) in
-      let entry : unsigned_abs (get_or row k (pos 0)) ≤ 10 ^ 21 = row_range.each k (omega (arith, distances_count)) in
-      let column : unsigned_abs (get_or v k (pos 0)) ≤ 2 * 10 ^ 21 = v_range.each k (omega (arith, distances_count, v_count)) in
+      let entry : unsigned_abs (get_or row k (pos 0)) ≤ m = row_range.each k (omega (arith, distances_count)) in
+      let column : unsigned_abs (get_or v k (pos 0)) ≤ 2 * m = v_range.each k (omega (arith, distances_count, v_count)) in
       omega (arith, ints, is);
 }
 
@@ -307,17 +307,17 @@ IsTree-joined M root row_of u v columns tree_rows row_distances distances origin
     }
 
 -- the new distances are no further from 0 than the old ones
-pub Relaxes-within : (M : Square) (root : ℕ) (row_of : List (Option ℕ)) (u v : List ℤ) (columns tree_rows : List ℕ) (row_distances distances : List ℤ) (origins : List ℕ) (done row : ℕ) (entries : List ℤ) (base : ℤ) (new_distances : List ℤ) (new_origins : List ℕ) →
+pub Relaxes-within : (M : Square) (root : ℕ) (row_of : List (Option ℕ)) (u v : List ℤ) (columns tree_rows : List ℕ) (row_distances distances : List ℤ) (origins : List ℕ) (done row : ℕ) (entries : List ℤ) (base : ℤ) (new_distances : List ℤ) (new_origins : List ℕ) (m : ℕ) →
     IsTree M root row_of u v columns tree_rows row_distances distances origins done → IsNext columns distances done → FitsRows M root u v →
     done < M.size → row < root → IsRow M.size M.entries row entries → base ≡ number_at distances (get_or columns done 0) -ℤ number_at u row →
     length new_distances ≡ M.size → Relaxes entries v base (done + 1) columns distances origins new_distances new_origins →
-    AllWithin (3 * 10 ^ 21) distances → AllWithin (3 * 10 ^ 21) new_distances
-Relaxes-within M root row_of u v columns tree_rows row_distances distances origins done row entries base new_distances new_origins tree next fits left less is_row base_is count relaxes range = record {
+    AllWithin (3 * m) distances → AllWithin (3 * m) new_distances
+Relaxes-within M root row_of u v columns tree_rows row_distances distances origins done row entries base new_distances new_origins m tree next fits left less is_row base_is count relaxes range = record {
   each = λ k h.
       let hk : k < M.size = omega (arith, count) in
       let s = relaxes_each M root row_of u v columns tree_rows row_distances distances origins done row entries base new_distances new_origins tree next fits left less is_row base_is relaxes k hk in
-      let old : unsigned_abs (number_at distances k) ≤ 3 * 10 ^ 21 = range.each k (omega (arith, tree.distances_count)) in
-      let near : unsigned_abs (number_at distances (get_or columns done 0)) ≤ 3 * 10 ^ 21 =
+      let old : unsigned_abs (number_at distances k) ≤ 3 * m = range.each k (omega (arith, tree.distances_count)) in
+      let near : unsigned_abs (number_at distances (get_or columns done 0)) ≤ 3 * m =
       range.each (get_or columns done 0) (omega (arith, tree.distances_count, tree.columns_count, tree.order.within done)) in
       let at_most = s.at_most_old in
       let below = fits.below row k less hk in

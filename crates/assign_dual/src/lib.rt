@@ -2,13 +2,17 @@
 #![tactic(auto)]
 
 mod assignment;
+mod number;
 mod path;
 mod range;
+mod room;
 mod shift;
 mod tree;
 
 pub use assignment::{Assignment, solve};
 pub use range::{MAX_MATRIX_ENTRY, is_in_range};
 
+#[cfg(test)]
+mod memory_tests;
 #[cfg(test)]
 mod tests;

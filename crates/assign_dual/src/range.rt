@@ -12,14 +12,15 @@ pub const MAX_MATRIX_ENTRY: u128 = 1_000_000_000_000_000_000_000;
 pub fn is_in_range(matrix: &Matrix) -> bool
     ensures { IsTrue result ↔ AllWithin (10 ^ 21) matrix.now.entries }
 {
-    are_in_range(matrix.entries())
+    are_within(matrix.entries(), MAX_MATRIX_ENTRY)
 }
 
-fn are_in_range(entries: &[i128]) -> bool
-    ensures { IsTrue result ↔ AllWithin (10 ^ 21) entries.now }
+/// Whether no number is further from 0 than the limit.
+pub(crate) fn are_within(numbers: &[i128], limit: u128) -> bool
+    ensures { IsTrue result ↔ AllWithin limit numbers.now }
 {
-    for entry in entries {
-        if entry.unsigned_abs() > MAX_MATRIX_ENTRY {
+    for number in numbers {
+        if number.unsigned_abs() > limit {
             return false;
         }
     }

@@ -112,9 +112,11 @@ fn worked_rows(rt: HostRuntime) -> Result<(), Fail> {
     assert_eq!(rt; answer.u.as_slice(), [far].as_slice());
     assert_eq!(rt; answer.v.as_slice(), [0].as_slice());
 
-    let (_, answer) = solved(&rt, alloc, 2, [far, -far, -far, far].as_slice())?;
-    assert_eq!(rt; answer.matching.as_slice(), [1, 0].as_slice());
-    assert_eq!(rt; sum(&answer.u).wrapping_add(sum(&answer.v)), -2 * far);
+    for far in [far, 1_000_000_000_000_000_001, 1_000_000_000_000_000_000] {
+        let (_, answer) = solved(&rt, alloc, 2, [far, -far, -far, far].as_slice())?;
+        assert_eq!(rt; answer.matching.as_slice(), [1, 0].as_slice());
+        assert_eq!(rt; sum(&answer.u).wrapping_add(sum(&answer.v)), -2 * far);
+    }
 
     let (_, answer) = solved(&rt, alloc, 0, [].as_slice())?;
     assert_eq!(rt; answer.matching.len() + answer.u.len() + answer.v.len(), 0);

@@ -1,9 +1,9 @@
-use Rattle.qap_cost.specs.Bijection.{IsBijection}
-use Rattle.assign_dual.specs.Partial.{IsPartial}
+use Rattle.assign_dual.specs.Placed.{IsPlaced}
+use Rattle.assign_dual.specs.Room.{HasRoom}
 use Rattle.assign_dual.proofs.assignment.place_rows.Given as goal
 
 abbrev pub invariant-loop-root : goal.invariant-loop-root
-invariant-loop-root l = record {
-  partial : IsPartial l.matrix l.root l.matching l.row_of l.u l.v;
-  order : IsBijection l.columns;
+invariant-loop-root g l = record {
+  placed : IsPlaced g.N.Number.value l.n l.entries l.root l.matching l.room;
+  room : HasRoom l.n l.room;
 }

@@ -1,6 +1,0 @@
-use Rattle.std.proofs.Common.{ℕ, ◌<◌, ◌≤◌, ◌^◌, get_or, pos}
-use Rattle.std.specs.Prelude.{unsigned_abs}
-use Rattle.assign_dual.proofs.range.are_in_range.Given as goal
-
-abbrev pub invariant-loop-entry : goal.invariant-loop-entry
-invariant-loop-entry l = (k : ℕ) → k < l.entry-index → unsigned_abs (get_or l.entries k (pos 0)) ≤ 10 ^ 21
