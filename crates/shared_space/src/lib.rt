@@ -9,6 +9,7 @@ mod error;
 mod law;
 mod laws;
 mod limited;
+mod locking;
 mod room;
 mod share;
 mod shared;
@@ -25,6 +26,8 @@ pub use via::Via;
 
 #[cfg(test)]
 mod limit_tests;
+#[cfg(test)]
+mod memory_tests;
 #[cfg(test)]
 mod tests;
 #[cfg(test)]

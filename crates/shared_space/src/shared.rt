@@ -13,6 +13,7 @@ ghost use Rattle.shared_space.specs.Refusals.{IsAbortError, IsBeginError, IsComm
 use crate::error::{CommitError, SharedError};
 use crate::law::Law;
 use crate::limited::Limited;
+use crate::locking::locked;
 use crate::room::Room;
 use crate::share::Share;
 use space_txn::{Found, Txn, TxnError, TxnSpace};
@@ -111,7 +112,7 @@ impl<L: Law> Shared<L> {
         ensures handed_back { IfErr result (λ back. back.1 ≡ tuple) }
         ensures kind { IfErr result (λ back. IsOutError back.0) }
     {
-        let put = self.limited.lock(rt).out(tuple, lease);
+        let put = locked(rt, &self.limited).out(tuple, lease);
         self.changed.notify_all();
         put
     }
@@ -121,7 +122,7 @@ impl<L: Law> Shared<L> {
         requires { IsFree L.lawful L.allowed }
         ensures { IfSome result (λ found. Matches template.now found.1) }
     {
-        self.limited.lock(rt).inp(template)
+        locked(rt, &self.limited).inp(template)
     }
 
     /// Copies a tuple, outside all transactions, or answers `None` where none can be had now. Refusal: 50.
@@ -133,7 +134,7 @@ impl<L: Law> Shared<L> {
         ensures matches { IfOk result (λ found. IfSome found (λ pair. Matches template.now pair.1)) }
         ensures kind { IfErr result (λ error. error ≡ SpaceError.OutOfMemory) }
     {
-        self.limited.lock(rt).rdp(template)
+        locked(rt, &self.limited).rdp(template)
     }
 
     /// Waits until a tuple can be had, and takes it, outside all transactions. Refusal: 34 where the space is closed and none
@@ -143,7 +144,7 @@ impl<L: Law> Shared<L> {
         ensures matches { IfOk result (λ found. Matches template.now found.1) }
         ensures kind { IfErr result (λ error. error ≡ SharedError.Closed) }
     {
-        let mut limited = self.limited.lock(rt);
+        let mut limited = locked(rt, &self.limited);
         for _ in rt.forever() {
             if let Some(found) = limited.inp(template) {
                 return Ok(found);
@@ -161,7 +162,7 @@ impl<L: Law> Shared<L> {
     pub fn rd<R: Wait>(&self, rt: &R, template: &Template) -> Result<(EntryId, Tuple), SharedError>
         ensures { IfOk result (λ found. Matches template.now found.1) }
     {
-        let mut limited = self.limited.lock(rt);
+        let mut limited = locked(rt, &self.limited);
         for _ in rt.forever() {
             match limited.rdp(template) {
                 Ok(Some(found)) => return Ok(found),
@@ -179,7 +180,7 @@ impl<L: Law> Shared<L> {
         ensures empty { IfOk result (λ txn. (txn.marks ≡ []) × (txn.writes ≡ [])) }
         ensures kind { IfErr result IsBeginError }
     {
-        self.limited.lock(rt).begin(asked)
+        locked(rt, &self.limited).begin(asked)
     }
 
     /// Takes for a transaction a tuple that the template asks for, or answers `None` where none can be had now. Refusals: 31,
@@ -194,7 +195,7 @@ impl<L: Law> Shared<L> {
         ensures marks { Finds (InLawful L.lawful) true template.now txn.old (find_answer result) txn.new }
         ensures kind { IfErr result IsFindError }
     {
-        self.limited.lock(rt).inp_in(txn, template)
+        locked(rt, &self.limited).inp_in(txn, template)
     }
 
     /// Reads for a transaction a tuple that the template asks for, or answers `None` where none can be had now. Refusals: 31,
@@ -209,7 +210,7 @@ impl<L: Law> Shared<L> {
         ensures marks { Finds (InLawful L.lawful) false template.now txn.old (find_answer result) txn.new }
         ensures kind { IfErr result IsFindError }
     {
-        self.limited.lock(rt).rdp_in(txn, template)
+        locked(rt, &self.limited).rdp_in(txn, template)
     }
 
     /// Commits a transaction, and counts that in the share. What the transaction took, read and wrote must be allowed.
@@ -227,7 +228,7 @@ impl<L: Law> Shared<L> {
         ensures handed_back { IfErr result (λ back. back.1 ≡ txn) }
         ensures kind { IfErr result (λ back. IsCommitError L.limit back.0) }
     {
-        let ended = self.limited.lock(rt).commit(share, txn);
+        let ended = locked(rt, &self.limited).commit(share, txn);
         self.changed.notify_all();
         ended
     }
@@ -237,7 +238,7 @@ impl<L: Law> Shared<L> {
         ensures handed_back { IfErr result (λ back. back.1 ≡ txn) }
         ensures kind { IfErr result (λ back. IsAbortError back.0) }
     {
-        let ended = self.limited.lock(rt).abort(txn);
+        let ended = locked(rt, &self.limited).abort(txn);
         self.changed.notify_all();
         ended
     }
@@ -246,7 +247,7 @@ impl<L: Law> Shared<L> {
     pub fn advance<R: Wait>(&self, rt: &R, moment: u64) -> Result<(), SpaceError>
         ensures { MatchResult result (λ _. moment ≤ most) (λ error. (most < moment) × (error ≡ SpaceError.Exhausted)) }
     {
-        let moved = self.limited.lock(rt).advance(moment);
+        let moved = locked(rt, &self.limited).advance(moment);
         self.changed.notify_all();
         moved
     }
@@ -254,7 +255,7 @@ impl<L: Law> Shared<L> {
     /// Closes the space where no entry is there whose tuple the template asks for, or every worker has left, and tells whether
     /// it is closed. A closed space stays closed. Takes no memory.
     pub fn close<R: Wait>(&self, rt: &R, template: &Template) -> bool {
-        let closed = self.limited.lock(rt).close(template);
+        let closed = locked(rt, &self.limited).close(template);
         self.changed.notify_all();
         closed
     }
@@ -264,12 +265,12 @@ impl<L: Law> Shared<L> {
     pub fn closed<R: Wait>(&self, rt: &R) -> bool
         ensures { L.limit ≡ Some 0 → result ≡ true }
     {
-        self.limited.lock(rt).is_closed()
+        locked(rt, &self.limited).is_closed()
     }
 
     /// One worker more has left. Takes no memory.
     pub fn leave<R: Wait>(&self, rt: &R) {
-        self.limited.lock(rt).leave();
+        locked(rt, &self.limited).leave();
         self.changed.notify_all();
     }
 

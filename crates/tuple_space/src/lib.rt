@@ -28,4 +28,6 @@ pub use space::{MOST, Space};
 pub use write::{Write, Writes};
 
 #[cfg(test)]
+mod memory_tests;
+#[cfg(test)]
 mod tests;

@@ -12,6 +12,47 @@ use crate::entry::Entry;
 use crate::lease::LeaseEnd;
 use tuple_match::Template;
 
+/// A place before which all entries have lower numbers: since numbers rise, no more entries can stand behind one than the last number
+/// is above its own.
+fn place_above(entries: &[Entry], number: u64) -> usize
+    requires { IsRising entries.now }
+    ensures within { result ≤ length entries.now }
+    ensures below { AllWithin (λ e. e.number < number) entries.now 0 result }
+{
+    let Some(last) = entries.last() else {
+        return 0;
+    };
+    let behind = last.number.saturating_sub(number);
+    if behind >= entries.len() as u64 {
+        return 0;
+    }
+    let place = entries.len() - 1 - behind as usize;
+    if place > 0 && entries[place - 1].number < number {
+        place
+    } else {
+        0
+    }
+}
+
+/// A place from `low` on from which on no entry has a lower number: since numbers rise, none at a place is below that place.
+fn place_below(entries: &[Entry], number: u64, low: usize) -> usize
+    requires rising { IsRising entries.now }
+    requires within { low ≤ length entries.now }
+    ensures ordered { low ≤ result }
+    ensures within { result ≤ length entries.now }
+    ensures above { AllWithin (λ e. number ≤ e.number) entries.now result (length entries.now) }
+{
+    if number >= entries.len() as u64 {
+        return entries.len();
+    }
+    let place = low.max(number as usize);
+    if place < entries.len() && entries[place].number >= number {
+        place
+    } else {
+        entries.len()
+    }
+}
+
 /// The place of the first entry of a number or a greater one; where there is none, how many entries there are.
 pub(crate) fn place_from(entries: &[Entry], number: u64) -> usize
     requires { IsRising entries.now }
@@ -19,8 +60,8 @@ pub(crate) fn place_from(entries: &[Entry], number: u64) -> usize
     ensures below { AllWithin (λ e. e.number < number) entries.now 0 result }
     ensures above { AllWithin (λ e. number ≤ e.number) entries.now result (length entries.now) }
 {
-    let mut low = 0;
-    let mut high = entries.len();
+    let mut low = place_above(entries, number);
+    let mut high = place_below(entries, number, low);
     while low < high {
         let middle = low + (high - low) / 2;
         if entries[middle].number < number {

@@ -273,7 +273,6 @@ impl Space {
     {
         drop_all_taken(&mut self.buckets, &self.entries, &self.held, holder);
         drop_taken(&mut self.entries, &self.held, holder);
-        keep_held(&mut self.held, &self.entries);
     }
 
     /// Takes out the entry of a number, whoever holds it, or answers `None` where there is none. Takes no memory.

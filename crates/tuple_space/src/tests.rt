@@ -64,7 +64,7 @@ fn hold(space: &mut Space, id: EntryId, holder: u64, taken: bool) -> Result<(), 
     }
 }
 
-// The numbers of held entries are kept to those that somebody holds, and an entry with two holders keeps its number.
+// Once a holder's holds end, the numbers are kept to those that somebody holds; an entry with two holders keeps its number.
 #[test]
 fn held_numbers_come_and_go(rt: HostRuntime) -> Result<(), Fail> {
     let alloc = rt.alloc();
@@ -83,7 +83,7 @@ fn held_numbers_come_and_go(rt: HostRuntime) -> Result<(), Fail> {
     hold(&mut space, fifth, 8, true)?;
     assert_eq!(rt; space.held(), [2, 4, 5].as_slice());
     space.remove_taken(8);
-    assert_eq!(rt; space.held(), [2, 4].as_slice());
+    assert!(rt; space.entry(fifth).is_none());
     space.unpin(8);
     assert_eq!(rt; space.held(), [2, 4].as_slice());
     space.unpin(7);
