@@ -1,7 +1,7 @@
-//! Whether duals fit a matrix.
+//! Whether duals fit a matrix, and what they come to.
 
-ghost use Rattle.std.specs.Prelude.{◌≡◌, ◌↔◌, length, IsTrue};
-ghost use Rattle.qap_cost.specs.Matrix.{DualsFit};
+ghost use Rattle.std.specs.Prelude.{◌≡◌, ◌↔◌, ◌≤◌, ◌*◌, ◌^◌, length, unsigned_abs, IsTrue};
+ghost use Rattle.qap_cost.specs.Matrix.{DualsFit, dual_value, total};
 ghost use Rattle.qap_cost.specs.Range.{AllLimited, IsLimited};
 ghost use Rattle.gilmore_lawler.specs.Duals.{RowFits};
 
@@ -38,4 +38,29 @@ fn row_fits(row: &[i128], row_dual: i128, column_duals: &[i128]) -> bool
         }
     }
     true
+}
+
+/// The sum of the duals of the rows and of the columns.
+pub fn dual_sum(u: &[i128], v: &[i128]) -> i128
+    requires u_count { length u.now ≤ 256 }
+    requires v_count { length v.now ≤ 256 }
+    requires u_range { AllLimited u.now }
+    requires v_range { AllLimited v.now }
+    ensures value { result ≡ dual_value u.now v.now }
+    ensures bounded { unsigned_abs result ≤ 512 * 10 ^ 24 }
+{
+    sum(u) + sum(v)
+}
+
+fn sum(numbers: &[i128]) -> i128
+    requires count { length numbers.now ≤ 256 }
+    requires range { AllLimited numbers.now }
+    ensures value { result ≡ total numbers.now }
+    ensures bounded { unsigned_abs result ≤ 256 * 10 ^ 24 }
+{
+    let mut sum = 0;
+    for &number in numbers {
+        sum += number;
+    }
+    sum
 }

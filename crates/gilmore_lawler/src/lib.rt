@@ -11,9 +11,11 @@ mod reduction;
 mod side;
 
 pub use bound::{node_bound_law, one_reduced_matrix_law};
-pub use duals::fits;
+pub use duals::{dual_sum, fits};
 pub use pairing::least_product;
 pub use reduction::{RankedInstance, Workspace, reduced};
 
+#[cfg(test)]
+mod memory_tests;
 #[cfg(test)]
 mod tests;

@@ -1,10 +1,8 @@
 //! Whether a certificate shows that no permutation costs less than its bound.
 
 ghost use Rattle.std.specs.Prelude.{◌≡◌, ◌+◌, ◌-◌, ◌*◌, ◌^◌, ◌<◌, ◌≤◌, ◌⊎◌, ◌++◌, ◌∷◌, [], ℕ, length, MatchResult, OnOk, slice_index, unsigned_abs};
-ghost use Rattle.qap_cost.specs.Matrix.{total, dual_value};
 ghost use Rattle.qap_cost.specs.Objective.{IsLeast, NoneCostsLess, cost_of};
 ghost use Rattle.qap_cost.specs.Placement.{IsFreeFacility, IsFreeLocation};
-ghost use Rattle.qap_cost.specs.Range.{AllLimited};
 ghost use Rattle.qap_cert.specs.Certificate.{Certifies};
 ghost use Rattle.qap_cert.specs.Fault.{IsBoundFault, IsPermMisfit, IsTreeFault, IsTreeFaultAmong, IsFault};
 ghost use Rattle.qap_cert.specs.Line.{line_after};
@@ -17,7 +15,7 @@ ghost use Rattle.qap_cert.specs.declared.version.Version.TheVariants.{Second};
 use crate::line_number::{COST_LINE, SIZE_LINE};
 use crate::tree::Tree;
 use crate::{CertError, Certificate};
-use gilmore_lawler::{RankedInstance, Workspace, fits};
+use gilmore_lawler::{RankedInstance, Workspace, dual_sum, fits};
 use qap_cost::{Instance, Partial, Perm, cost};
 use std::alloc::Global;
 
@@ -165,29 +163,4 @@ pub(crate) fn check_bound(
         return Err(CertError::BoundTooLow(line));
     }
     Ok(())
-}
-
-/// The sum of the duals of the rows and of the columns.
-fn dual_sum(u: &[i128], v: &[i128]) -> i128
-    requires u_count { length u.now ≤ 256 }
-    requires v_count { length v.now ≤ 256 }
-    requires u_range { AllLimited u.now }
-    requires v_range { AllLimited v.now }
-    ensures value { result ≡ dual_value u.now v.now }
-    ensures bounded { unsigned_abs result ≤ 512 * 10 ^ 24 }
-{
-    sum(u) + sum(v)
-}
-
-fn sum(numbers: &[i128]) -> i128
-    requires count { length numbers.now ≤ 256 }
-    requires range { AllLimited numbers.now }
-    ensures value { result ≡ total numbers.now }
-    ensures bounded { unsigned_abs result ≤ 256 * 10 ^ 24 }
-{
-    let mut sum = 0;
-    for &number in numbers {
-        sum += number;
-    }
-    sum
 }

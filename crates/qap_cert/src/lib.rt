@@ -34,6 +34,10 @@ pub use version::Version;
 pub use writing::write;
 
 #[cfg(test)]
+mod hostile_tests;
+#[cfg(test)]
+mod memory_tests;
+#[cfg(test)]
 mod tests;
 #[cfg(test)]
 mod text_tests;

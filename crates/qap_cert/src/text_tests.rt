@@ -2,12 +2,12 @@
 
 use crate::{CertError, Verdict, accept, read, write};
 use qap_cost::{Instance, least_by_listing};
-use qap_io::{Counted, FailAt, OneByte};
+use qap_io::Counted;
 use std::alloc::{AllocError, Global};
 use std::test::Fail;
 
 /// A certificate of size 3, of the first version and of the second: a split and three bounds.
-const SPLIT: &[u8] =
+pub(crate) const SPLIT: &[u8] =
     b"qapcert 1\nn 3\ncost 1\nperm 1 2 3\ns\nb 0 0 1 0\nb 0 0 1 0\nb 1 0 0 0\nend\n";
 
 const SPLIT_2: &[u8] =
@@ -21,17 +21,22 @@ const FULL: &[u8] = b"qapcert 1\nn 2\ncost 11\nperm 1 2\ns\ns\nb\ns\nb\nend\n";
 
 const FULL_2: &[u8] = b"qapcert 2\nn 2\ncost 11\nperm 1 2\ns 1\ns 2\nb\ns 2\nb\nend\n";
 /// A bound below the cost.
-const GAP: &[u8] = b"qapcert 2\nn 3\ncost 1\nperm 1 2 3\nbound 0\nb 0 0 0 0 0 0\nend\n";
+pub(crate) const GAP: &[u8] = b"qapcert 2\nn 3\ncost 1\nperm 1 2 3\nbound 0\nb 0 0 0 0 0 0\nend\n";
 /// A split on the second facility.
-const SECOND: &[u8] =
+pub(crate) const SECOND: &[u8] =
     b"qapcert 2\nn 3\ncost 1\nperm 1 2 3\ns 2\nb 0 0 1 0\nb 0 0 1 0\nb 0 1 0 0\nend\n";
 
-fn instance(alloc: Global, n: usize, a: &[i64], b: &[i64]) -> Result<Option<Instance>, AllocError> {
+pub(crate) fn instance(
+    alloc: Global,
+    n: usize,
+    a: &[i64],
+    b: &[i64],
+) -> Result<Option<Instance>, AllocError> {
     Ok(Instance::new(n, Vec::from_slice(alloc, a)?, Vec::from_slice(alloc, b)?).ok())
 }
 
 /// Three facilities in a ring, each of whose permutations costs 1.
-fn ring(alloc: Global) -> Result<Option<Instance>, AllocError> {
+pub(crate) fn ring(alloc: Global) -> Result<Option<Instance>, AllocError> {
     instance(
         alloc,
         3,
@@ -63,20 +68,6 @@ fn round_trips(rt: HostRuntime) -> Result<(), Fail> {
         assert_eq!(rt; writer.into_inner().as_slice(), want);
     }
     Ok(())
-}
-
-#[test]
-fn proper_beginnings(rt: HostRuntime) {
-    for text in [SPLIT, GAP] {
-        let mut line = 1;
-        for stop in 0..text.len() {
-            let found = read(rt.alloc(), &text[..stop]).err();
-            assert_eq!(rt; found, Some(CertError::Truncated(line)), "{stop} bytes");
-            if text[stop] == b'\n' {
-                line = line.wrapping_add(1);
-            }
-        }
-    }
 }
 
 #[test]
@@ -209,23 +200,6 @@ fn verdicts(rt: HostRuntime) -> Result<(), Fail> {
         text.extend_from_slice(rest)?;
         assert_eq!(rt; accept(alloc, &ring, &text), want, "{rest:?}");
     }
-    Ok(())
-}
-
-#[test]
-fn a_failing_writer(rt: HostRuntime) -> Result<(), Fail> {
-    let alloc = rt.alloc();
-    let Ok(certificate) = read(alloc, SPLIT_2) else {
-        panic!(rt; "a certificate is refused");
-    };
-    let mut writer = Counted::new(FailAt::new(OneByte::new(Vec::new(alloc)), 20));
-    assert_eq!(rt;
-        write(alloc, &mut writer, &certificate),
-        Err(CertError::Device)
-    );
-    assert_eq!(rt; writer.failed(), 1);
-    let written = writer.into_inner().into_inner().into_inner();
-    assert_eq!(rt; written.as_slice(), &SPLIT_2[..19]);
     Ok(())
 }
 

@@ -5,7 +5,12 @@ use qap_cost::Instance;
 use std::alloc::{AllocError, Global};
 use std::test::Fail;
 
-fn instance(alloc: Global, n: usize, a: &[i64], b: &[i64]) -> Result<Option<Instance>, AllocError> {
+pub(crate) fn instance(
+    alloc: Global,
+    n: usize,
+    a: &[i64],
+    b: &[i64],
+) -> Result<Option<Instance>, AllocError> {
     Ok(Instance::new(n, Vec::from_slice(alloc, a)?, Vec::from_slice(alloc, b)?).ok())
 }
 
@@ -109,7 +114,7 @@ fn faults_of_the_text_come_first(rt: HostRuntime) -> Result<(), Fail> {
 }
 
 /// The text of a certificate of size 40 whose first child of each split is a split, as deep as there are free facilities.
-fn deep(alloc: Global, version: &str, cost: &str) -> Result<Vec<u8>, AllocError> {
+pub(crate) fn deep(alloc: Global, version: &str, cost: &str) -> Result<Vec<u8>, AllocError> {
     let head = format!(in alloc; "qapcert {version}\nn 40\ncost {cost}\nperm")?;
     let mut text = Vec::from_slice(alloc, head.as_bytes())?;
     for location in 1..41 {

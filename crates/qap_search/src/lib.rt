@@ -61,6 +61,8 @@ mod examples;
 #[cfg(test)]
 mod hand_tests;
 #[cfg(test)]
+mod memory_tests;
+#[cfg(test)]
 mod schedule_tests;
 #[cfg(test)]
 mod solving_tests;

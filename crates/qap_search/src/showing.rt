@@ -8,7 +8,7 @@ ghost use Rattle.qap_cert.specs.Tree.{node_of, nodes_of};
 ghost use Rattle.qap_cert.specs.declared.version.Version.TheVariants.{Second};
 ghost use Rattle.qap_search.specs.Stopped.{IsBoundOf, IsLeastOf, shown, shown_by_all};
 
-use crate::thought::dual_sum;
+use gilmore_lawler::dual_sum;
 use qap_cert::{Certificate, Tree};
 use qap_cost::{Instance, Partial};
 use std::alloc::{AllocError, Global};

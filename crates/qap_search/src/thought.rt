@@ -1,7 +1,6 @@
 //! What is worked out about a node before anything is decided there.
 
 ghost use Rattle.std.specs.Prelude.{◌≡◌, ◌<◌, ◌≤◌, ◌*◌, ◌^◌, ℕ, IfOk, MatchOption, length, slice_index, unsigned_abs};
-ghost use Rattle.qap_cost.specs.Matrix.{total, dual_value};
 ghost use Rattle.qap_cost.specs.Placement.{IsFreeFacility};
 ghost use Rattle.qap_cost.specs.Range.{AllLimited, AllWithin};
 ghost use Rattle.gilmore_lawler.specs.ReducedMatrix.{IsReduced};
@@ -9,6 +8,7 @@ ghost use Rattle.qap_search.specs.Completion.{IsMatching};
 
 use crate::completion::completed;
 use assign_dual::{Assignment, solve};
+use gilmore_lawler::dual_sum;
 use qap_cost::{Instance, Matrix, Partial, Perm, cost};
 use std::alloc::{AllocError, Global};
 
@@ -103,29 +103,4 @@ fn greatest_row(matching: &[u16], u: &[i128], v: &[i128]) -> usize
         }
     }
     row
-}
-
-/// The sum of the duals of the rows and of the columns.
-pub(crate) fn dual_sum(u: &[i128], v: &[i128]) -> i128
-    requires u_count { length u.now ≤ 256 }
-    requires v_count { length v.now ≤ 256 }
-    requires u_range { AllLimited u.now }
-    requires v_range { AllLimited v.now }
-    ensures value { result ≡ dual_value u.now v.now }
-    ensures bounded { unsigned_abs result ≤ 512 * 10 ^ 24 }
-{
-    sum(u) + sum(v)
-}
-
-fn sum(numbers: &[i128]) -> i128
-    requires count { length numbers.now ≤ 256 }
-    requires range { AllLimited numbers.now }
-    ensures value { result ≡ total numbers.now }
-    ensures bounded { unsigned_abs result ≤ 256 * 10 ^ 24 }
-{
-    let mut sum = 0;
-    for &number in numbers {
-        sum += number;
-    }
-    sum
 }

@@ -1,6 +1,6 @@
 use Rattle.std.proofs.Common.{get_or, pos}
 use Rattle.qap_cost.proofs.Sums.{AddsUp}
-use Rattle.qap_cert.proofs.checking.sum.Given as goal
+use Rattle.gilmore_lawler.proofs.duals.sum.Given as goal
 
 abbrev pub invariant-loop-number : goal.invariant-loop-number
 invariant-loop-number l = AddsUp l.sum (λ i. get_or l.numbers i (pos 0)) l.number-index 1000000000000000000000000
