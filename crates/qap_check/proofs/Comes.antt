@@ -17,11 +17,11 @@ keeps_count bytes limit (Some old) (Some new) behind other h = h.kept
 
 -- memory that runs out where both texts have been read
 pub wants_memory : {R S : Type 0} (s : Source R S) (separators : Separators) (I : Problem) (other : List ℕ) (e : RunError) → HasTexts s separators I other → e ≡ OutOfMemory → HasNoTexts s e
-wants_memory s separators I other e texts is = inr (inr (inr (record {
+wants_memory s separators I other e texts is = inr (inr (record {
   is = is;
-  kept = record { first = texts.first.read.kept; second = keeps_count s.second_bytes s.limit s.second s.second_after _ other texts.second };
+  kept = record { first = texts.first.read.kept; second = keeps_count s.second_bytes s.first.limit s.second s.second_after _ other texts.second };
   waits = inr (I, texts.rest, texts.first);
-})))
+}))
 
 -- what is judged of the two texts
 pub come_to : {R S A : Type 0} (s : Source R S) (separators : Separators) (I : Problem) (other : List ℕ) (P : Problem → List ℕ → A → Type 0) (Q : Problem → List ℕ → RunError → Type 0) (r : Result A RunError)

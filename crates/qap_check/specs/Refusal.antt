@@ -7,15 +7,15 @@ use Rattle.qap_cert.specs.Acceptance.{IsRefused}
 use Rattle.qap_cert.specs.declared.error.CertError.{CertError}
 use Rattle.qap_cert.specs.declared.error.CertError.TheVariants.{OutOfMemory as CertificateMemory, Device as CertificateDevice}
 use Rattle.qap_cert.specs.Refusal.{certificate_refusal}
-use Rattle.qap_text.specs.InstanceText.{IsInstanceFault}
+use Rattle.qap_text.specs.Input.{HasInstance, HasNoInstance}
 use Rattle.qap_text.specs.SolutionText.{IsSolutionFault}
-use Rattle.qap_text.specs.Whole.{ReadsWhole, IsReadFault}
+use Rattle.qap_text.specs.Whole.{IsReadFault}
 use Rattle.qap_text.specs.Refusal.{text_refusal}
 use Rattle.qap_text.specs.declared.error.TextError.{TextError}
 use Rattle.qap_text.specs.declared.error.TextError.TheVariants.{OutOfMemory as TextMemory, Device as TextDevice}
 use Rattle.qap_check.specs.declared.refusal.RunError.{RunError}
 use Rattle.qap_check.specs.declared.refusal.RunError.TheVariants.{Text, Certificate, OutOfMemory, Device}
-use Rattle.qap_check.specs.Source.{Source, HasInstance, SecondWaits, KeepsCounts}
+use Rattle.qap_check.specs.Source.{Source, SecondWaits, KeepsCounts}
 
 -- what a fault of a text, or of a certificate, is for the run: want of memory and a failed device are the run's own
 abbrev pub of_text : TextError → RunError
@@ -28,20 +28,11 @@ of_certificate CertificateMemory = OutOfMemory
 of_certificate CertificateDevice = Device
 of_certificate e = Certificate e
 
--- the first reader's bytes can't be read within the limit, and the second reader is as it was
-pub record FirstUnread {R S : Type 0} (s : Source R S) (e : RunError) : Type 0 where
-  pub fault : TextError
-  pub is : e ≡ of_text fault
-  pub read : IsReadFault s.first_bytes s.limit s.first s.first_after fault
-  pub waits : s.second_after ≡ s.second
-
--- the first text is within the limit and has this first fault as one of an instance, and the second reader is as it was
+-- the first input begins with no instance, and the second reader is as it was
 pub record NoInstance {R S : Type 0} (s : Source R S) (e : RunError) : Type 0 where
   pub fault : TextError
   pub is : e ≡ of_text fault
-  pub text : List ℕ
-  pub read : ReadsWhole s.first_bytes s.limit s.first s.first_after text
-  pub of_instance : IsInstanceFault text fault
+  pub of_input : HasNoInstance s.first fault
   pub waits : s.second_after ≡ s.second
 
 abbrev pub IsSecondFault : {S : Type 0} → (S → Option (List ℕ)) → ℕ → Option (CountedDevice S) → Option (CountedDevice S) → TextError → Type 0
@@ -54,8 +45,8 @@ pub record SecondUnread {R S : Type 0} (s : Source R S) (e : RunError) : Type 0 
   pub is : e ≡ of_text fault
   pub instance : Problem
   pub rest : List ℕ
-  pub first : HasInstance s instance rest
-  pub read : IsSecondFault s.second_bytes s.limit s.second s.second_after fault
+  pub first : HasInstance s.first instance rest
+  pub read : IsSecondFault s.second_bytes s.first.limit s.second s.second_after fault
 
 -- memory ran out, and no call of a reader failed
 pub record WantsMemory {R S : Type 0} (s : Source R S) (e : RunError) : Type 0 where
@@ -65,7 +56,7 @@ pub record WantsMemory {R S : Type 0} (s : Source R S) (e : RunError) : Type 0 w
 
 -- why there is no instance with a text that goes with it
 abbrev pub HasNoTexts : {R S : Type 0} → Source R S → RunError → Type 0
-HasNoTexts s e = FirstUnread s e ⊎ (NoInstance s e ⊎ (SecondUnread s e ⊎ WantsMemory s e))
+HasNoTexts s e = NoInstance s e ⊎ (SecondUnread s e ⊎ WantsMemory s e)
 
 -- the text has this first fault as one of a solution
 abbrev pub IsNoSolution : Problem → List ℕ → RunError → Type 0

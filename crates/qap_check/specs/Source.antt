@@ -2,28 +2,19 @@
 use Rattle.std.specs.Prelude.{◌≡◌, ℕ, ◌⊎◌, List, Option, Some, None}
 use Rattle.qap_cost.specs.Instance.{Problem}
 use Rattle.qap_io.specs.Counting.{CountedDevice}
-use Rattle.qap_text.specs.InstanceText.{IsInstanceText}
+use Rattle.qap_text.specs.Input.{HasInstance, Input}
 use Rattle.qap_text.specs.Whole.{ReadsWhole}
 use Rattle.qap_text.specs.Word.{after_separators}
 use Rattle.qap_check.specs.declared.source.Separators.{Separators}
 use Rattle.qap_check.specs.declared.source.Separators.TheVariants.{Kept, PassedOver}
 
--- the readers of the two texts, as a call found them and as it left them; what is known of the bytes that each has left; and
--- the most bytes that each text may have
+-- the input of the first text, and the reader of the second, as a call found it and as it left it, with what is known of the
+-- bytes that it has left
 pub record Source (R S : Type 0) : Type 0 where
-  pub first_bytes : R → Option (List ℕ)
+  pub first : Input R
   pub second_bytes : S → Option (List ℕ)
-  pub limit : ℕ
-  pub first : CountedDevice R
-  pub first_after : CountedDevice R
   pub second : Option (CountedDevice S)
   pub second_after : Option (CountedDevice S)
-
--- all that the first reader had left was read, within the limit, and begins with the text of an instance
-pub record HasInstance {R S : Type 0} (s : Source R S) (I : Problem) (rest : List ℕ) : Type 0 where
-  pub text : List ℕ
-  pub read : ReadsWhole s.first_bytes s.limit s.first s.first_after text
-  pub instance_text : IsInstanceText text I rest
 
 -- where there is a second reader, all that it had left, read within the limit; else what follows the instance
 abbrev pub IsOtherText : {S : Type 0} → (S → Option (List ℕ)) → ℕ → Option (CountedDevice S) → Option (CountedDevice S) → List ℕ → List ℕ → Type 0
@@ -39,8 +30,8 @@ between PassedOver rest = after_separators rest
 -- the instance, and the text that goes with it
 pub record HasTexts {R S : Type 0} (s : Source R S) (separators : Separators) (I : Problem) (other : List ℕ) : Type 0 where
   pub rest : List ℕ
-  pub first : HasInstance s I rest
-  pub second : IsOtherText s.second_bytes s.limit s.second s.second_after (between separators rest) other
+  pub first : HasInstance s.first I rest
+  pub second : IsOtherText s.second_bytes s.first.limit s.second s.second_after (between separators rest) other
 
 -- what an instance and the text that goes with it come to
 pub record ComeTo {R S A : Type 0} (s : Source R S) (separators : Separators) (P : Problem → List ℕ → A → Type 0) (answer : A) : Type 0 where
@@ -51,7 +42,7 @@ pub record ComeTo {R S A : Type 0} (s : Source R S) (separators : Separators) (P
 
 -- the second reader is as it was, unless an instance had been read before
 abbrev pub SecondWaits : {R S : Type 0} → Source R S → Type 0
-SecondWaits s = (s.second_after ≡ s.second) ⊎ ((I : Problem) × (rest : List ℕ) × HasInstance s I rest)
+SecondWaits s = (s.second_after ≡ s.second) ⊎ ((I : Problem) × (rest : List ℕ) × HasInstance s.first I rest)
 
 abbrev pub KeepsCount : {S : Type 0} → Option (CountedDevice S) → Option (CountedDevice S) → Type 0
 KeepsCount None None = Unit {0}
@@ -60,5 +51,5 @@ KeepsCount _ _ = ⊥
 
 -- no call of a reader failed
 pub record KeepsCounts {R S : Type 0} (s : Source R S) : Type 0 where
-  pub first : s.first_after.failures ≡ s.first.failures
+  pub first : s.first.after.failures ≡ s.first.before.failures
   pub second : KeepsCount s.second s.second_after

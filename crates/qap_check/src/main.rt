@@ -22,6 +22,10 @@ use std::rt::Env;
 use value::value_stream;
 
 #[cfg(test)]
+mod hostile_tests;
+#[cfg(test)]
+mod memory_tests;
+#[cfg(test)]
 mod tests;
 
 fn main(rt: HostRuntime) -> ExitCode {

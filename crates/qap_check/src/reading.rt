@@ -3,12 +3,13 @@
 ghost use Rattle.std.specs.Prelude.{◌≡◌, MatchResult};
 ghost use Rattle.qap_check.specs.Refusal.{HasNoTexts, IsSecondFault, of_text};
 ghost use Rattle.qap_check.specs.Source.{Source, HasTexts, IsOtherText, between};
+ghost use Rattle.qap_text.specs.Input.{Input};
 ghost use Rattle.qap_text.specs.declared.error.TextError.{TextError};
 
 use crate::refusal::RunError;
-use crate::source::{MAX_INPUT, OtherText, Separators, Texts};
+use crate::source::{OtherText, Separators, Texts};
 use qap_io::Counted;
-use qap_text::{read_all, read_instance, skip_separators};
+use qap_text::{MAX_INPUT, read_all, read_instance, skip_separators};
 use std::alloc::Global;
 use std::io::Read;
 
@@ -22,15 +23,8 @@ pub fn read_texts<R: Read, S: Read>(
     second: &mut Option<Counted<S>>,
     separators: Separators,
 ) -> Result<Texts, RunError>
-    ensures { let s : Source R S = record {
-      first_bytes = R.remaining;
-      second_bytes = S.remaining;
-      limit = MAX_INPUT;
-      first = reader.old;
-      first_after = reader.new;
-      second = second.old;
-      second_after = second.new;
-    } in MatchResult result (λ t. HasTexts s separators t.instance t.other) (HasNoTexts s) }
+    ensures { let i : Input R = record { bytes = R.remaining; limit = MAX_INPUT; before = reader.old; after = reader.new } in
+        let s : Source R S = record { first = i; second_bytes = S.remaining; second = second.old; second_after = second.new } in MatchResult result (λ t. HasTexts s separators t.instance t.other) (HasNoTexts s) }
 {
     let text = read_all(alloc, reader, MAX_INPUT)?;
     let (instance, rest) = read_instance(alloc, &text)?;

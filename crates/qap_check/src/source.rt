@@ -5,9 +5,6 @@ ghost use Rattle.std.specs.Prelude.{◌≡◌, ◌≤◌, drop, vec_len};
 use qap_cost::Instance;
 use std::marker::Model;
 
-/// The most bytes that are read of an input.
-pub const MAX_INPUT: usize = 1_073_741_824;
-
 /// What becomes of the separators between an instance and the text that follows it on one input.
 #[derive(Clone, Copy, Debug, PartialEq, Eq)]
 pub enum Separators {

@@ -5,7 +5,7 @@ use crate::optimal::optimal_stream;
 use crate::refusal::{RunError, fault_line, status};
 use crate::value::value_stream;
 use qap_cert::CertError;
-use qap_io::{Counted, FailAt, OneByte, Status};
+use qap_io::{Counted, Status};
 use qap_text::TextError;
 use std::alloc::{AllocError, Global};
 use std::io::{Read, Write};
@@ -13,14 +13,14 @@ use std::test::Fail;
 
 /// What a run over memory writes to its standard output and its standard error, and its exit status.
 #[derive(Drop)]
-struct Outcome {
-    output: Vec<u8>,
-    errors: Vec<u8>,
-    status: u8,
+pub(crate) struct Outcome {
+    pub(crate) output: Vec<u8>,
+    pub(crate) errors: Vec<u8>,
+    pub(crate) status: u8,
 }
 
 /// What a stream answers to a question.
-fn asked<R: Read, S: Read, W: Write>(
+pub(crate) fn asked<R: Read, S: Read, W: Write>(
     alloc: Global,
     question: Question,
     reader: &mut Counted<R>,
@@ -36,7 +36,12 @@ fn asked<R: Read, S: Read, W: Write>(
 }
 
 /// A run on one text, or on two of which each has its reader.
-fn run(alloc: Global, question: Question, first: &[u8], second: Option<&[u8]>) -> Outcome {
+pub(crate) fn run(
+    alloc: Global,
+    question: Question,
+    first: &[u8],
+    second: Option<&[u8]>,
+) -> Outcome {
     let mut reader = Counted::new(first);
     let mut second = second.map(|text| Counted::new(text));
     let mut output = Counted::new(Vec::new(alloc));
@@ -131,129 +136,6 @@ fn refusals(rt: HostRuntime) {
         assert_eq!(rt; run.errors.as_slice(), want);
         assert_eq!(rt; run.output.as_slice(), b"".as_slice());
         assert_eq!(rt; run.status, 1);
-    }
-}
-
-/// A question, its two texts, and what it is answered.
-#[derive(Clone, Copy)]
-struct Worked {
-    question: Question,
-    first: &'static [u8],
-    second: &'static [u8],
-    answer: &'static [u8],
-}
-
-const WORKED: [Worked; 2] = [
-    Worked {
-        question: Question::Value,
-        first: b"1 5 7 ",
-        second: b"1 35 1",
-        answer: b"cost 35\ninverse 35\nstated 35\nmatch direct\n",
-    },
-    Worked {
-        question: Question::Optimal,
-        first: b"1 -3 7 ",
-        second: b"qapcert 1\nn 1\ncost -21\nperm 1\nb -20 -1\nend\n",
-        answer: b"optimal -21\n",
-    },
-];
-
-// Each read of the first input fails in turn: the second one stays unread.
-#[test]
-fn first_input_fails(rt: HostRuntime) {
-    let alloc = rt.alloc();
-    for worked in WORKED {
-        for call in 1..=worked.first.len() + 1 {
-            let mut reader = Counted::new(OneByte::new(FailAt::new(worked.first, call as u64)));
-            let mut second = Some(Counted::new(worked.second));
-            let mut output = Counted::new(Vec::new(alloc));
-            let answer = asked(
-                alloc,
-                worked.question,
-                &mut reader,
-                &mut second,
-                &mut output,
-            );
-            assert_eq!(rt; answer, Err(RunError::Device), "at call {call}");
-            assert_eq!(rt; (reader.failed(), output.failed()), (1, 0));
-            assert_eq!(rt;
-                second.map(|second| second.into_inner()),
-                Some(worked.second)
-            );
-            assert_eq!(rt; output.into_inner().as_slice(), b"".as_slice());
-        }
-    }
-}
-
-// Each read of the second input fails in turn.
-#[test]
-fn second_input_fails(rt: HostRuntime) {
-    let alloc = rt.alloc();
-    for worked in WORKED {
-        for call in 1..=worked.second.len() + 1 {
-            let mut reader = Counted::new(worked.first);
-            let failing = OneByte::new(FailAt::new(worked.second, call as u64));
-            let mut second = Some(Counted::new(failing));
-            let mut output = Counted::new(Vec::new(alloc));
-            let answer = asked(
-                alloc,
-                worked.question,
-                &mut reader,
-                &mut second,
-                &mut output,
-            );
-            assert_eq!(rt; answer, Err(RunError::Device), "at call {call}");
-            assert_eq!(rt; second.map(|second| second.failed()), Some(1));
-            assert_eq!(rt; (reader.failed(), output.failed()), (0, 0));
-            assert_eq!(rt; output.into_inner().as_slice(), b"".as_slice());
-        }
-    }
-}
-
-// Each write of the answer, a byte at a time, and the flush fail in turn.
-#[test]
-fn output_fails(rt: HostRuntime) {
-    let alloc = rt.alloc();
-    for worked in WORKED {
-        for call in 1..=worked.answer.len() + 1 {
-            let mut reader = Counted::new(worked.first);
-            let mut second = Some(Counted::new(worked.second));
-            let failing = OneByte::new(FailAt::new(Vec::new(alloc), call as u64));
-            let mut output = Counted::new(failing);
-            let answer = asked(
-                alloc,
-                worked.question,
-                &mut reader,
-                &mut second,
-                &mut output,
-            );
-            assert_eq!(rt; answer, Err(RunError::Device), "at call {call}");
-            assert_eq!(rt; (output.failed(), output.is_flushed()), (1, false));
-            let written = output.into_inner().into_inner().into_inner();
-            assert_eq!(rt;
-                written.as_slice(),
-                &worked.answer[..worked.answer.len().min(call - 1)]
-            );
-        }
-    }
-}
-
-// Each write of a refusal's line, a byte at a time, and the flush fail in turn.
-#[test]
-fn refusal_fails(rt: HostRuntime) {
-    let line = b"refused 22 BoundTooLow at 5\n".as_slice();
-    let error = RunError::Certificate(CertError::BoundTooLow(5));
-    for call in 1..=line.len() + 2 {
-        let failing = OneByte::new(FailAt::new(Vec::new(rt.alloc()), call as u64));
-        let mut errors = Counted::new(failing);
-        let failed = fault_line(&error, &mut errors).is_err();
-        assert_eq!(rt; failed, call <= line.len() + 1);
-        assert_eq!(rt;
-            (errors.failed() == 1, errors.is_flushed()),
-            (failed, !failed)
-        );
-        let written = errors.into_inner().into_inner().into_inner();
-        assert_eq!(rt; written.as_slice(), &line[..line.len().min(call - 1)]);
     }
 }
 

@@ -3,56 +3,34 @@ use Rattle.std.specs.Prelude.{◌≡◌, ℕ, ◌<◌, ◌⊎◌, Bool, List, Op
 use Rattle.qap_cost.specs.Instance.{Problem}
 use Rattle.qap_io.specs.Counting.{CountedDevice, FailedBetween}
 use Rattle.qap_io.specs.Writing.{AppendsBeginning}
-use Rattle.qap_text.specs.InstanceText.{IsInstanceText, IsInstanceFault}
-use Rattle.qap_text.specs.Whole.{ReadsWhole, IsReadFault}
+use Rattle.qap_text.specs.Input.{HasInstance, HasNoInstance, Input}
 use Rattle.qap_text.specs.declared.error.TextError.{TextError}
 use Rattle.qap_solve.specs.Refusal.{of_text}
 use Rattle.qap_solve.specs.Solution.{IsOutput, IsStoppedOutput}
 use Rattle.qap_solve.specs.declared.refusal.RunError.{RunError}
 use Rattle.qap_solve.specs.declared.refusal.RunError.TheVariants.{Unfinished, OutOfMemory, Device}
 
--- the reader, as a call found it and as it left it; what is known of the bytes that it has left; and the most bytes that the
--- input may have
-pub record Input (R : Type 0) : Type 0 where
-  pub bytes : R → Option (List ℕ)
-  pub limit : ℕ
-  pub before : CountedDevice R
-  pub after : CountedDevice R
-
--- all that the reader had left was read, within the limit, and begins with the text of an instance
-pub record HasInstance {R : Type 0} (s : Input R) (I : Problem) : Type 0 where
-  pub text : List ℕ
-  pub read : ReadsWhole s.bytes s.limit s.before s.after text
-  pub rest : List ℕ
-  pub instance_text : IsInstanceText text I rest
-
 -- what the instance that was read is solved as, within the limit of nodes
 pub record Solves {R : Type 0} (s : Input R) (nodes : Option ℕ) (cert : Bool) (output : List ℕ) : Type 0 where
   pub instance : Problem
-  pub input : HasInstance s instance
+  pub rest : List ℕ
+  pub input : HasInstance s instance rest
   pub holds : IsOutput cert instance nodes output
 
 -- what the instance that was read is told as, where its search was stopped at this limit of nodes
 pub record SolvesPartly {R : Type 0} (s : Input R) (nodes : Option ℕ) (cert : Bool) (output : List ℕ) : Type 0 where
   pub instance : Problem
-  pub input : HasInstance s instance
+  pub rest : List ℕ
+  pub input : HasInstance s instance rest
   pub limit : ℕ
   pub is : nodes ≡ Some limit
   pub holds : IsStoppedOutput cert instance limit output
 
--- the bytes can't be read within the limit
-pub record Unread {R : Type 0} (s : Input R) (e : RunError) : Type 0 where
-  pub fault : TextError
-  pub is : e ≡ of_text fault
-  pub read : IsReadFault s.bytes s.limit s.before s.after fault
-
--- the text is within the limit and has this first fault as one of an instance
+-- the input begins with no instance
 pub record NoInstance {R : Type 0} (s : Input R) (e : RunError) : Type 0 where
   pub fault : TextError
   pub is : e ≡ of_text fault
-  pub text : List ℕ
-  pub read : ReadsWhole s.bytes s.limit s.before s.after text
-  pub of_instance : IsInstanceFault text fault
+  pub of_input : HasNoInstance s fault
 
 -- the search of an instance ended with so many open nodes
 pub record IsUnfinished {R : Type 0} (s : Input R) (e : RunError) : Type 0 where
@@ -60,7 +38,8 @@ pub record IsUnfinished {R : Type 0} (s : Input R) (e : RunError) : Type 0 where
   pub some : 0 < count
   pub is : e ≡ Unfinished count
   pub instance : Problem
-  pub input : HasInstance s instance
+  pub rest : List ℕ
+  pub input : HasInstance s instance rest
 
 -- memory ran out, and no call of the reader failed
 pub record WantsMemory {R : Type 0} (s : Input R) (e : RunError) : Type 0 where
@@ -69,7 +48,7 @@ pub record WantsMemory {R : Type 0} (s : Input R) (e : RunError) : Type 0 where
 
 -- why no instance is solved
 abbrev pub IsUnsolved : {R : Type 0} → Input R → RunError → Type 0
-IsUnsolved s e = Unread s e ⊎ (NoInstance s e ⊎ (IsUnfinished s e ⊎ WantsMemory s e))
+IsUnsolved s e = NoInstance s e ⊎ (IsUnfinished s e ⊎ WantsMemory s e)
 
 -- a beginning of the text has gone out: for want of memory no call has failed, and else one has
 pub record Stops {W : Type 0} (contents : W → Option (List ℕ)) (old new : CountedDevice W) (text : List ℕ) (e : RunError) : Type 0 where

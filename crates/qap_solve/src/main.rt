@@ -27,6 +27,8 @@ use std::thread::Threads;
 use std::time::Clock;
 
 #[cfg(test)]
+mod hostile_tests;
+#[cfg(test)]
 mod tests;
 
 /// How many bytes of output are kept until they are written together.

@@ -10,8 +10,9 @@ ghost use Rattle.qap_search.specs.Stopped.{CertifiesStopped};
 ghost use Rattle.qap_solve.specs.Options.{AreLimited};
 ghost use Rattle.qap_solve.specs.Outcome.{IsOutcome};
 ghost use Rattle.qap_solve.specs.Solution.{IsOutput, IsStoppedOutput, ShowsLeast, gap_line};
-ghost use Rattle.qap_solve.specs.Solving.{HasInstance, Input, IsUnsolved, Solves, SolvesPartly, Stops};
+ghost use Rattle.qap_solve.specs.Solving.{IsUnsolved, Solves, SolvesPartly, Stops};
 ghost use Rattle.qap_solve.specs.declared.refusal.RunError.TheVariants.{OutOfMemory, Stopped, Unfinished};
+ghost use Rattle.qap_text.specs.Input.{HasInstance, Input};
 ghost use Rattle.qap_text.specs.WrittenSolution.{solution_text};
 
 use crate::options::Options;
@@ -20,15 +21,12 @@ use qap_cert::{CertError, Certificate, certified_law, write};
 use qap_cost::Instance;
 use qap_io::{Counted, put};
 use qap_search::{Clock, Gate, SolveError, solve};
-use qap_text::{TextError, read_all, read_instance, write_solution};
+use qap_text::{MAX_INPUT, TextError, read_all, read_instance, write_solution};
 use std::alloc::{AllocError, Global};
 use std::io::{Read, Write};
 use std::sync::Wait;
 use std::thread::Threads;
 use std::time;
-
-/// The most bytes that are read of an instance's input.
-pub const MAX_INPUT: usize = 1_073_741_824;
 
 /// What an instance's search has come to.
 #[derive(Drop)]
@@ -84,7 +82,7 @@ where
 /// The instance that the input begins with.
 fn read_problem<R: Read>(alloc: Global, reader: &mut Counted<R>) -> Result<Instance, RunError>
     ensures { let s : Input R = record { bytes = R.remaining; limit = MAX_INPUT; before = reader.old; after = reader.new } in
-        MatchResult result (HasInstance s) (IsUnsolved s) }
+        MatchResult result (λ I. (rest : List ℕ) × HasInstance s I rest) (IsUnsolved s) }
 {
     let text = read_all(alloc, reader, MAX_INPUT)?;
     let (instance, _) = read_instance(alloc, &text)?;

@@ -7,11 +7,12 @@ use crate::options::Options;
 use crate::refusal::{RunError, fault_line, status};
 use crate::solving::solve_stream;
 use qap_cert::{Verdict, accept, read, write};
-use qap_io::{Counted, FailAt, OneByte};
+use qap_io::Counted;
 use qap_search::{Always, Clock};
 use qap_text::{TextError, read_instance};
 use space_script::ScriptError;
 use std::alloc::{AllocError, Global};
+use std::io::{Read, Write};
 use std::sync::Wait;
 use std::test::Fail;
 use std::thread::Threads;
@@ -22,14 +23,14 @@ const TWO: &[u8] = b"2 0 3 1 0 0 2 5 0";
 /// Three facilities, of which no order costs less than 24.
 const THREE: &[u8] = b"3 0 1 2 1 0 3 2 3 0 0 5 2 5 0 1 2 1 0";
 /// Three facilities, of which each order costs 1; the bound of the root is 0, and that of each child 1.
-const EVEN: &[u8] = b"3 0 1 0 0 0 1 1 0 0 0 1 0 1 0 0 0 0 0";
+pub(crate) const EVEN: &[u8] = b"3 0 1 0 0 0 1 1 0 0 0 1 0 1 0 0 0 0 0";
 /// Three facilities whose root isn't closed by its bound.
 const SPLIT: &[u8] = b"3 0 1 0 0 5 1 1 0 0 1 1 0 1 1 0 0 0 1";
 
 /// What a run over memory writes to its standard output and its standard error, and its exit status.
 #[derive(Drop)]
-struct Outcome {
-    output: Vec<u8>,
+pub(crate) struct Outcome {
+    pub(crate) output: Vec<u8>,
     errors: Vec<u8>,
     status: u8,
 }
@@ -44,7 +45,7 @@ impl Clock for Stopped {
 }
 
 /// One worker, with leases of ten minutes.
-const ONE: Options = Options {
+pub(crate) const ONE: Options = Options {
     workers: 1,
     lease_ms: 600_000,
     nodes: None,
@@ -52,15 +53,32 @@ const ONE: Options = Options {
 };
 
 /// The same, where the certificate is asked for.
-const PROVING: Options = Options {
+pub(crate) const PROVING: Options = Options {
     workers: 1,
     lease_ms: 600_000,
     nodes: None,
     cert: true,
 };
 
+/// What `solve_stream` answers to a clock that stands and a gate that always passes.
+pub(crate) fn solved<T, R, W>(
+    system: &T,
+    alloc: Global,
+    reader: &mut Counted<R>,
+    writer: &mut Counted<W>,
+    options: &Options,
+) -> Result<(), RunError>
+where
+    T: Threads + Wait + time::Clock + Sync,
+    R: Read,
+    W: Write,
+    requires { AreLimited options.now }
+{
+    solve_stream(system, alloc, reader, writer, options, &Stopped, &Always)
+}
+
 /// A run on a text.
-fn run<T>(system: &T, alloc: Global, text: &[u8], options: &Options) -> Outcome
+pub(crate) fn run<T>(system: &T, alloc: Global, text: &[u8], options: &Options) -> Outcome
 where
     T: Threads + Wait + time::Clock + Sync,
     requires { AreLimited options.now }
@@ -68,16 +86,8 @@ where
     let mut reader = Counted::new(text);
     let mut output = Counted::new(Vec::new(alloc));
     let mut errors = Counted::new(Vec::new(alloc));
-    let solved = solve_stream(
-        system,
-        alloc,
-        &mut reader,
-        &mut output,
-        options,
-        &Stopped,
-        &Always,
-    );
-    let status = match solved {
+    let answer = solved(system, alloc, &mut reader, &mut output, options);
+    let status = match answer {
         Ok(()) => 0,
         Err(error) => {
             if error != RunError::Stopped {
@@ -95,11 +105,12 @@ where
 
 #[test]
 fn least_permutations(rt: HostRuntime) {
-    let cases: [(&[u8], &[u8]); 5] = [
+    let cases: [(&[u8], &[u8]); 6] = [
         (b"1 5 7", b"1 35\n1\n"),
         (b"1 1000000000 -1000000000", b"1 -1000000000000000000\n1\n"),
         (TWO, b"2 11\n1 2\n"),
         (THREE, b"3 24\n1 2 3\n"),
+        (EVEN, b"3 1\n1 2 3\n"),
         (b"2 0 -1 2 0 0 3 -4 0 and more", b"2 -11\n1 2\n"),
     ];
     for (text, want) in cases {
@@ -132,7 +143,7 @@ fn nothing_costs_anything(rt: HostRuntime) {
 #[test]
 fn certificates(rt: HostRuntime) -> Result<(), Fail> {
     let alloc = rt.alloc();
-    let cases: [(&[u8], i128); 3] = [(THREE, 24), (SPLIT, 6), (TWO, 11)];
+    let cases: [(&[u8], i128); 4] = [(THREE, 24), (SPLIT, 6), (TWO, 11), (EVEN, 1)];
     for (text, cost) in cases {
         let run = run(&rt, alloc, text, &PROVING);
         let (instance, _) = read_instance(alloc, text)?;
@@ -237,60 +248,6 @@ fn refused_instances(rt: HostRuntime) {
         assert_eq!(rt; run.errors.as_slice(), want);
         assert_eq!(rt; run.output.as_slice(), b"".as_slice());
         assert_eq!(rt; run.status, 1);
-    }
-}
-
-// Each read of the input, a byte at a time, fails in turn.
-#[test]
-fn reads_fail(rt: HostRuntime) {
-    for call in 1..=TWO.len() + 1 {
-        let mut reader = Counted::new(OneByte::new(FailAt::new(TWO, call as u64)));
-        let mut output = Counted::new(Vec::new(rt.alloc()));
-        let solved = solve_stream(
-            &rt,
-            rt.alloc(),
-            &mut reader,
-            &mut output,
-            &ONE,
-            &Stopped,
-            &Always,
-        );
-        assert_eq!(rt; solved, Err(RunError::Device));
-        assert_eq!(rt; reader.failed(), 1);
-        assert_eq!(rt; output.into_inner().as_slice(), b"".as_slice());
-    }
-}
-
-// Each write of the solution, a byte at a time, and the flush fail in turn; and so for a search that is stopped.
-#[test]
-fn writes_fail(rt: HostRuntime) {
-    let stopped = Options {
-        nodes: Some(0),
-        ..ONE
-    };
-    let cases: [(&[u8], Options, &[u8]); 2] = [
-        (TWO, ONE, b"2 11\n1 2\n"),
-        (EVEN, stopped, b"gap 0 1\n3 1\n1 2 3\n"),
-    ];
-    for (text, options, solution) in cases {
-        for call in 1..=solution.len() + 1 {
-            let failing = OneByte::new(FailAt::new(Vec::new(rt.alloc()), call as u64));
-            let mut output = Counted::new(failing);
-            let mut reader = Counted::new(text);
-            let solved = solve_stream(
-                &rt,
-                rt.alloc(),
-                &mut reader,
-                &mut output,
-                &options,
-                &Stopped,
-                &Always,
-            );
-            assert_eq!(rt; solved, Err(RunError::Device));
-            assert_eq!(rt; (output.failed(), output.is_flushed()), (1, false));
-            let written = output.into_inner().into_inner().into_inner();
-            assert_eq!(rt; solution.get(..call - 1), Some(written.as_slice()));
-        }
     }
 }
 
@@ -423,18 +380,4 @@ fn refusals(rt: HostRuntime) -> Result<(), Fail> {
         assert_eq!(rt; format!(in alloc; "{error}")?.as_str(), message);
     }
     Ok(())
-}
-
-// Each write of a refusal's line, a byte at a time, and the flush fail in turn.
-#[test]
-fn refusal_fails(rt: HostRuntime) {
-    let line = b"refused 51 Device\n".as_slice();
-    for call in 1..=line.len() + 1 {
-        let failing = OneByte::new(FailAt::new(Vec::new(rt.alloc()), call as u64));
-        let mut errors = Counted::new(failing);
-        assert!(rt; fault_line(&RunError::Device, &mut errors).is_err());
-        assert_eq!(rt; (errors.failed(), errors.is_flushed()), (1, false));
-        let written = errors.into_inner().into_inner().into_inner();
-        assert_eq!(rt; line.get(..call - 1), Some(written.as_slice()));
-    }
 }

@@ -1,3 +1,4 @@
+pub mod Input
 pub mod InstanceText
 pub mod Number
 pub mod Refusal

@@ -14,8 +14,12 @@ pub use error::TextError;
 pub use instance_text::{instance_text_law, read_instance};
 pub use solution_text::{read_solution, solution_text_law};
 pub use solution_writing::write_solution;
-pub use whole::read_all;
+pub use whole::{MAX_INPUT, read_all};
 pub use word::skip_separators;
 
+#[cfg(test)]
+mod hostile_tests;
+#[cfg(test)]
+mod memory_tests;
 #[cfg(test)]
 mod tests;

@@ -183,7 +183,7 @@ fn writes_what_is_read(rt: HostRuntime) -> Result<(), Fail> {
     Ok(())
 }
 
-// The calls are the writes of a byte each, and then the flush.
+// The calls are the writes of a byte each, and then the flush; with one more number no call fails.
 #[test]
 fn writing_fails_at_each_call(rt: HostRuntime) -> Result<(), Fail> {
     let alloc = rt.alloc();
@@ -191,12 +191,18 @@ fn writing_fails_at_each_call(rt: HostRuntime) -> Result<(), Fail> {
     let Ok(permutation) = Perm::new(Vec::from_slice(alloc, &[0, 1, 2])?) else {
         panic!(rt; "a permutation is refused");
     };
-    for call in 1..=text.len() + 1 {
+    for call in 1..=text.len() + 2 {
         let failing = OneByte::new(FailAt::new(Vec::new(alloc), call as u64));
         let mut writer = Counted::new(failing);
         let written = write_solution(alloc, &mut writer, 24, &permutation);
-        assert_eq!(rt; written, Err(TextError::Device), "at call {call}");
-        assert_eq!(rt; (writer.failed(), writer.is_flushed()), (1, false));
+        let fails = call <= text.len() + 1;
+        let (want, count) = if fails {
+            (Err(TextError::Device), 1)
+        } else {
+            (Ok(()), 0)
+        };
+        assert_eq!(rt; written, want, "at call {call}");
+        assert_eq!(rt; (writer.failed(), writer.is_flushed()), (count, !fails));
         let bytes = writer.into_inner().into_inner().into_inner();
         assert_eq!(rt; bytes.as_slice(), &text[..text.len().min(call - 1)]);
     }

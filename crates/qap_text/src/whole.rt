@@ -8,6 +8,9 @@ use qap_io::{Counted, read_some};
 use std::alloc::Global;
 use std::io::Read;
 
+/// The most bytes that a program reads of an input: 1 GiB.
+pub const MAX_INPUT: usize = 1_073_741_824;
+
 /// How many bytes are asked for at once.
 const PIECE: usize = 32_768;
 

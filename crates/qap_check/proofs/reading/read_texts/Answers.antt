@@ -2,7 +2,7 @@ use Rattle.std.proofs.Common.{◌≡◌, ◌-◌, List, ℕ, length, drop, ap, s
 use Rattle.std.proofs.lemmas.Result.{err_from_is_err_and}
 use Rattle.qap_text.specs.InstanceText.{IsInstanceText}
 use Rattle.qap_check.specs.Source.{IsOtherText, between}
-use Rattle.qap_check.specs.declared.source.TheConstants.{MAX_INPUT}
+use Rattle.qap_text.specs.declared.whole.TheConstants.{MAX_INPUT}
 use Rattle.qap_check.proofs.Behind.{behind_ends, EndsWith-length, EndsWith-drop}
 use Rattle.qap_check.proofs.reading.read_texts.Goals as goal
 
@@ -18,7 +18,7 @@ pub returns-in_err-other : goal.returns-in_err-other
 returns-in_err-other g c =
     let p = err_from_is_err_and c.from_residual-in_err-other.result c.from_residual-in_err-other.ensures.1 in
     let fault = c.in_err-other.ensures {u = tt} in
-    rw (p.1, p.2) (inr (inr (inl (record {
+    rw (p.1, p.2) (inr (inl (record {
       fault = fault.0;
       is = fault.1;
       instance = c.in_ok-instance.instance;
@@ -29,7 +29,7 @@ returns-in_err-other g c =
         instance_text = subst (λ (t : List ℕ). IsInstanceText t c.in_ok-instance.instance c.in_ok-instance.rest.now) c.deref.ensures.value c.in_ok-instance.ensures;
       };
       read = fault.2;
-    }))))
+    })))
 
 pub returns : goal.returns
 returns g c =

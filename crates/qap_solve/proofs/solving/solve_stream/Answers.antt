@@ -9,7 +9,7 @@ returns-in_err-put_stopped-in-Stopped g c =
     let p = err_from_is_err_and c.from_residual-in_err-put_stopped-in-Stopped.result c.from_residual-in_err-put_stopped-in-Stopped.ensures.1 in
     rw (p.1, p.2) (inr (inr (
       told.0,
-      record { instance = c.in_ok-instance.instance; input = c.in_ok-instance.ensures; limit = stopped.0; is = stopped.1; holds = told.1 },
+      record { instance = c.in_ok-instance.instance; rest = c.in_ok-instance.ensures.0; input = c.in_ok-instance.ensures.1; limit = stopped.0; is = stopped.1; holds = told.1 },
       inr told.2,
     )))
 
@@ -19,6 +19,6 @@ returns g c =
     let told = c.in_ok-put_stopped-in-Stopped.ensures {u = tt} stopped.0 stopped.2 in
     inr (inr (
       told.0,
-      record { instance = c.in_ok-instance.instance; input = c.in_ok-instance.ensures; limit = stopped.0; is = stopped.1; holds = told.1 },
+      record { instance = c.in_ok-instance.instance; rest = c.in_ok-instance.ensures.0; input = c.in_ok-instance.ensures.1; limit = stopped.0; is = stopped.1; holds = told.1 },
       inl (refl, told.2),
     ))

@@ -1,0 +1,35 @@
+-- An input that begins with an instance.
+use Rattle.std.specs.Prelude.{ℕ, ◌⊎◌, List, Option}
+use Rattle.qap_cost.specs.Instance.{Problem}
+use Rattle.qap_io.specs.Counting.{CountedDevice}
+use Rattle.qap_text.specs.InstanceText.{IsInstanceFault, IsInstanceText}
+use Rattle.qap_text.specs.Whole.{IsReadFault, ReadsWhole}
+use Rattle.qap_text.specs.declared.error.TextError.{TextError}
+
+-- a reader, as a call found it and as it left it; what is known of the bytes that it has left; and the most bytes that the input
+-- may have
+pub record Input (R : Type 0) : Type 0 where
+  pub bytes : R → Option (List ℕ)
+  pub limit : ℕ
+  pub before : CountedDevice R
+  pub after : CountedDevice R
+
+-- all that the reader had left was read, within the limit
+abbrev pub HasText : {R : Type 0} → Input R → List ℕ → Type 0
+HasText i text = ReadsWhole i.bytes i.limit i.before i.after text
+
+-- and it begins with the text of an instance
+pub record HasInstance {R : Type 0} (i : Input R) (I : Problem) (rest : List ℕ) : Type 0 where
+  pub text : List ℕ
+  pub read : HasText i text
+  pub instance_text : IsInstanceText text I rest
+
+-- it has this first fault as the text of an instance
+pub record HasTextFault {R : Type 0} (i : Input R) (fault : TextError) : Type 0 where
+  pub text : List ℕ
+  pub read : HasText i text
+  pub of_instance : IsInstanceFault text fault
+
+-- the bytes can't be read within the limit, or are no instance's text
+abbrev pub HasNoInstance : {R : Type 0} → Input R → TextError → Type 0
+HasNoInstance i fault = IsReadFault i.bytes i.limit i.before i.after fault ⊎ HasTextFault i fault
