@@ -22,6 +22,8 @@ pub use permutation::Perm;
 pub use placement::{children_law, free_law, root_law, whole_node_law};
 
 #[cfg(test)]
+mod memory_tests;
+#[cfg(test)]
 mod partial_tests;
 #[cfg(test)]
 mod tests;

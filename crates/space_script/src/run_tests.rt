@@ -75,6 +75,34 @@ fn keeps_the_longest_line(rt: HostRuntime) -> Result<(), Fail> {
     expect_output(alloc, script.as_slice(), want)
 }
 
+// Numbers of 60,000 digits, which a line has room for, and of a million, which it hasn't.
+#[test]
+fn reads_long_numbers(rt: HostRuntime) -> Result<(), Fail> {
+    let alloc = rt.alloc();
+    let rows: [(&[u8], u8, usize, &[u8], &[u8]); 9] = [
+        (b"advance ", b'0', 60_000, b"5", b"ok"),
+        (b"advance ", b'9', 60_000, b"", b"refused 36"),
+        (b"advance ", b'0', 1_000_000, b"5", b"refused 36"),
+        (b"commit ", b'9', 60_000, b"", b"refused 36"),
+        (b"out - forever ", b'9', 60_000, b"", b"refused 36"),
+        (b"out - forever [", b'9', 60_000, b"]", b"refused 36"),
+        (b"out - forever -", b'0', 60_000, b"7", b"ok"),
+        (b"inp - ", b'0', 60_000, b"7", b"none"),
+        (b"inp - -", b'0', 60_000, b"7", b"got -7"),
+    ];
+    let mut script = Vec::new(alloc);
+    let mut replies = Vec::new(alloc);
+    for (front, digit, count, end, reply) in rows {
+        script.extend_from_slice(front)?;
+        script.extend_from_slice(&vec![in alloc; digit; count]?)?;
+        script.extend_from_slice(end)?;
+        script.push(b'\n')?;
+        replies.extend_from_slice(reply)?;
+        replies.push(b'\n')?;
+    }
+    expect_output(alloc, script.as_slice(), &replies)
+}
+
 /// A script, of which the last line has no line feed.
 const SCRIPT: &[u8] = b"begin 5\n\nrdp - x\njob\nabort 1";
 /// What the script is answered.
@@ -93,38 +121,49 @@ fn answered(come: usize) -> usize {
     most
 }
 
-// Each read fails in turn, one of which finds the end.
+// Each read fails in turn, one of which finds the end; with one more number none does. A line whose end wasn't read isn't run.
 #[test]
 fn reader_fails(rt: HostRuntime) {
     let alloc = rt.alloc();
-    for call in 1..=SCRIPT.len() + 1 {
+    for call in 1..=SCRIPT.len() + 2 {
         let mut reader = Counted::new(OneByte::new(FailAt::new(SCRIPT, call as u64)));
-        let mut writer = Counted::new(Vec::new(alloc));
+        let mut writer = Counted::new(OneByte::new(Vec::new(alloc)));
         let answer = run_script(alloc, &mut reader, &mut writer);
-        assert_eq!(rt; answer, Err(ScriptError::Device), "at call {call}");
-        assert_eq!(rt; (reader.failed(), writer.failed()), (1, 0));
+        let (want, failures, count) = if call <= SCRIPT.len() + 1 {
+            (Err(ScriptError::Device), 1, answered(call - 1))
+        } else {
+            (Ok(()), 0, REPLIES.len())
+        };
+        assert_eq!(rt; answer, want, "at call {call}");
+        assert_eq!(rt; (reader.failed(), writer.failed()), (failures, 0));
         assert!(rt; writer.is_flushed());
-        let written = writer.into_inner();
+        let written = writer.into_inner().into_inner();
         assert_eq!(rt;
-            REPLIES.get(..answered(call - 1)),
+            REPLIES.get(..count),
             Some(written.as_slice()),
             "at call {call}"
         );
     }
 }
 
-// Each write, a byte at a time, and both flushes fail in turn: the one behind what was read, and the last one.
+// Each write, a byte at a time, and both flushes fail in turn: the one behind what was read, and the last one; with one more number
+// none does.
 #[test]
 fn writer_fails(rt: HostRuntime) {
     let alloc = rt.alloc();
     let before_the_end = answered(SCRIPT.len());
-    for call in 1..=REPLIES.len() + 2 {
+    for call in 1..=REPLIES.len() + 3 {
         let mut reader = Counted::new(SCRIPT);
         let mut writer = Counted::new(OneByte::new(FailAt::new(Vec::new(alloc), call as u64)));
         let answer = run_script(alloc, &mut reader, &mut writer);
-        assert_eq!(rt; answer, Err(ScriptError::Device), "at call {call}");
-        assert_eq!(rt; (reader.failed(), writer.failed()), (0, 1));
-        let calls = call - 1;
+        let (want, failures) = if call <= REPLIES.len() + 2 {
+            (Err(ScriptError::Device), 1)
+        } else {
+            (Ok(()), 0)
+        };
+        assert_eq!(rt; answer, want, "at call {call}");
+        assert_eq!(rt; (reader.failed(), writer.failed()), (0, failures));
+        let calls = REPLIES.len().saturating_add(1).min(call - 1);
         let count = if calls <= before_the_end {
             calls
         } else {

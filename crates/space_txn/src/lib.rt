@@ -22,4 +22,6 @@ pub use txn::{Found, Txn};
 pub use world::TxnSpace;
 
 #[cfg(test)]
+mod memory_tests;
+#[cfg(test)]
 mod tests;

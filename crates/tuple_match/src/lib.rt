@@ -18,4 +18,6 @@ pub use templates::{Pattern, Template};
 pub use tuples::Tuple;
 
 #[cfg(test)]
+mod memory_tests;
+#[cfg(test)]
 mod tests;
