@@ -1,4 +1,6 @@
-// A plain checker of certificates: the same mathematics as qapcheck optimal, with sums of 64 bits and no proof.
+// A plain checker of certificates: the same mathematics as qapcheck optimal in the best form that we know, with no proof. Rows are
+// sorted once and kept in 32 bits, and picked without a branch; those of the facilities are kept while the same ones are
+// placed. Eight products are added up in 64 bits, and then in 128, so that the whole range of entries is taken; duals have 64.
 // It prints "optimal C", or "refused" and a status of 1. Usage: checker INSTANCE CERTIFICATE
 #include <algorithm>
 #include <charconv>
@@ -11,10 +13,12 @@
 #include <vector>
 
 using Number = std::int64_t;
+using Entry = std::int32_t;
+using Wide = __int128;
 
 struct Ranked {
-    Number value;
-    int column;
+    Entry value;
+    std::int32_t column;
 };
 
 static void refuse() {
@@ -29,7 +33,7 @@ static std::string contents(const char* name) {
 
 struct Instance {
     int n = 0;
-    std::vector<Number> a, b;
+    std::vector<Entry> a, b;
     std::vector<Ranked> a_ranked, b_ranked;
 
     explicit Instance(const std::string& text) {
@@ -45,12 +49,12 @@ struct Instance {
         };
         n = static_cast<int>(next());
         for (auto* matrix : {&a, &b})
-            for (int k = 0; k < n * n; ++k) matrix->push_back(next());
+            for (int k = 0; k < n * n; ++k) matrix->push_back(static_cast<Entry>(next()));
         a_ranked = ranked(a, true);
         b_ranked = ranked(b, false);
     }
 
-    std::vector<Ranked> ranked(const std::vector<Number>& matrix, bool ascending) const {
+    std::vector<Ranked> ranked(const std::vector<Entry>& matrix, bool ascending) const {
         std::vector<Ranked> rows;
         for (int i = 0; i < n; ++i) {
             for (int j = 0; j < n; ++j) rows.push_back({matrix[i * n + j], j});
@@ -69,7 +73,9 @@ struct Checker {
     Number cost = 0;
     std::vector<int> places;
     std::vector<char> taken;
-    std::vector<Number> a_rows, b_rows, duals;
+    std::vector<Entry> a_rows, b_rows;
+    std::vector<Number> duals;
+    int a_depth = -1;
 
     std::string line() {
         const char* stop = std::find(at, end, '\n');
@@ -97,39 +103,57 @@ struct Checker {
         return found;
     }
 
-    void row(const std::vector<Number>& matrix, const std::vector<Ranked>& ranked, const std::vector<int>& placed,
-             const std::vector<char>& used, int i, std::vector<Number>& rows) {
+    // The row of one side for a free one: with itself, with the placed ones both ways, and with the other free ones in order.
+    void row(const std::vector<Entry>& matrix, const std::vector<Ranked>& ranked, const std::vector<int>& placed,
+             const std::vector<char>& used, int i, Entry* row) {
         int n = instance.n;
-        rows.push_back(matrix[i * n + i]);
-        for (int h : placed) rows.push_back(matrix[i * n + h]);
-        for (int h : placed) rows.push_back(matrix[h * n + i]);
+        *row++ = matrix[i * n + i];
+        for (int h : placed) *row++ = matrix[i * n + h];
+        for (int h : placed) *row++ = matrix[h * n + i];
+        const Ranked* rank = &ranked[i * n];
         for (int r = 0; r < n; ++r) {
-            int j = ranked[i * n + r].column;
-            if (!used[j] && j != i) rows.push_back(ranked[i * n + r].value);
+            *row = rank[r].value;
+            row += !used[rank[r].column] & (rank[r].column != i);
         }
+    }
+
+    static Wide product(const Entry* x, const Entry* y, int width) {
+        Wide total = 0;
+        int t = 0;
+        for (; t + 8 <= width; t += 8) {
+            Number sum = 0;
+            for (int s = 0; s < 8; ++s) sum += Number(x[t + s]) * y[t + s];
+            total += sum;
+        }
+        Number sum = 0;
+        for (; t < width; ++t) sum += Number(x[t]) * y[t];
+        return total + sum;
+    }
+
+    // The rows of the facilities, of which the first ones are placed.
+    void rank_facilities(int d) {
+        if (d == a_depth) return;
+        int n = instance.n;
+        std::vector<int> facilities(d);
+        std::vector<char> used(n, 0);
+        for (int i = 0; i < d; ++i) facilities[i] = i, used[i] = 1;
+        for (int i = d; i < n; ++i) row(instance.a, instance.a_ranked, facilities, used, i, &a_rows[(i - d) * (n + d)]);
+        a_depth = d;
     }
 
     void bound() {
         int n = instance.n, d = static_cast<int>(places.size()), m = n - d, width = n + d;
         if (static_cast<int>(duals.size()) != 2 * m) refuse();
-        std::vector<int> facilities(d);
-        std::vector<char> used(n, 0);
-        for (int i = 0; i < d; ++i) facilities[i] = i, used[i] = 1;
-        a_rows.clear();
-        b_rows.clear();
-        for (int i = d; i < n; ++i) row(instance.a, instance.a_ranked, facilities, used, i, a_rows);
-        for (int k = 0; k < n; ++k)
-            if (!taken[k]) row(instance.b, instance.b_ranked, places, taken, k, b_rows);
-        Number value = 0;
+        rank_facilities(d);
+        for (int k = 0, c = 0; k < n; ++k)
+            if (!taken[k]) row(instance.b, instance.b_ranked, places, taken, k, &b_rows[c++ * width]);
+        Wide value = 0;
         for (Number dual : duals) value += dual;
         for (int i = 0; i < m; ++i)
-            for (int k = 0; k < m; ++k) {
-                Number sum = 0;
-                for (int t = 0; t < width; ++t) sum += a_rows[i * width + t] * b_rows[k * width + t];
-                if (duals[i] + duals[m + k] > sum) refuse();
-            }
+            for (int k = 0; k < m; ++k)
+                if (Wide(duals[i]) + duals[m + k] > product(&a_rows[i * width], &b_rows[k * width], width)) refuse();
         for (int i = 0; i < d; ++i)
-            for (int j = 0; j < d; ++j) value += instance.a[i * n + j] * instance.b[places[i] * n + places[j]];
+            for (int j = 0; j < d; ++j) value += Number(instance.a[i * n + j]) * instance.b[places[i] * n + places[j]];
         if (value < cost) refuse();
     }
 
@@ -166,9 +190,11 @@ struct Checker {
             taken[p - 1] = 1;
         }
         for (int i = 0; i < n; ++i)
-            for (int j = 0; j < n; ++j) reached += instance.a[i * n + j] * instance.b[(found[i] - 1) * n + found[j] - 1];
+            for (int j = 0; j < n; ++j) reached += Number(instance.a[i * n + j]) * instance.b[(found[i] - 1) * n + found[j] - 1];
         if (reached != cost) refuse();
         taken.assign(n, 0);
+        a_rows.resize(2 * n * n + n);
+        b_rows.resize(2 * n * n + n);
         tree();
         if (line() != "end" || at != end) refuse();
     }
