@@ -22,44 +22,93 @@ fn entries_of(alloc: Global, matrix: &Matrix) -> Result<Vec<i128>, AllocError> {
     Ok(entries)
 }
 
-/// The node of size `n` with these facilities at these locations, where it is one.
-fn node(alloc: Global, n: usize, pairs: &[(u16, u16)]) -> Result<Option<Partial>, AllocError> {
+/// The node of size `n` that places no facility, where there is one.
+fn root(alloc: Global, n: usize) -> Result<Option<Partial>, AllocError> {
     if n == 0 || n > 256 {
         return Ok(None);
     }
-    let mut node = Partial::root(alloc, n)?;
-    for &(f, k) in pairs {
-        if usize::from(f) >= node.size() || node.is_placed(f) || !node.is_free(k) {
-            return Ok(None);
-        }
-        node = node.place(f, k)?;
+    Ok(Some(Partial::root(alloc, n)?))
+}
+
+/// The node with facility `f` at location `k` too, where both are free.
+fn placed(node: &Partial, f: u16, k: u16) -> Result<Option<Partial>, AllocError> {
+    if usize::from(f) >= node.size() || node.is_placed(f) || !node.is_free(k) {
+        return Ok(None);
     }
-    Ok(Some(node))
+    Ok(Some(node.place(f, k)?))
+}
+
+/// The node of size `n` with these facilities at these locations, where it is one.
+fn node(alloc: Global, n: usize, pairs: &[(u16, u16)]) -> Result<Option<Partial>, AllocError> {
+    let mut node = root(alloc, n)?;
+    for &(f, k) in pairs {
+        node = match node {
+            Some(node) => placed(&node, f, k)?,
+            None => None,
+        };
+    }
+    Ok(node)
+}
+
+/// The entries of the instance's reduced matrix, where the node is of its size.
+fn entries_plain(
+    alloc: Global,
+    instance: &Instance,
+    node: &Partial,
+) -> Result<Option<Vec<i128>>, AllocError> {
+    if instance.size() != node.size() {
+        return Ok(None);
+    }
+    let matrix = reduced(alloc, instance, node)?;
+    Ok(Some(entries_of(alloc, &matrix)?))
+}
+
+/// The same from the rows in order.
+fn entries_ranked(
+    alloc: Global,
+    ranked: &RankedInstance,
+    workspace: &mut Workspace,
+    node: &Partial,
+) -> Result<Option<Vec<i128>>, AllocError> {
+    if ranked.instance().size() != node.size() {
+        return Ok(None);
+    }
+    let matrix = ranked.reduced(workspace, node)?;
+    Ok(Some(entries_of(alloc, &matrix)?))
 }
 
 /// The entries of the reduced matrix at this node, from a workspace that has given the root's before.
+fn entries_after_root(
+    alloc: Global,
+    instance: &Instance,
+    node: &Partial,
+) -> Result<Option<Vec<i128>>, AllocError> {
+    let Some(root) = root(alloc, instance.size())? else {
+        return Ok(None);
+    };
+    let ranked = RankedInstance::new(alloc, instance)?;
+    let mut workspace = Workspace::new(alloc);
+    match entries_ranked(alloc, &ranked, &mut workspace, &root)? {
+        Some(_) => entries_ranked(alloc, &ranked, &mut workspace, node),
+        None => Ok(None),
+    }
+}
+
+/// The entries of the reduced matrix at this node, where a used workspace gives the same as none.
 fn reduced_at(
     alloc: Global,
     instance: &Instance,
     pairs: &[(u16, u16)],
 ) -> Result<Option<Vec<i128>>, AllocError> {
-    let Some(root) = node(alloc, instance.size(), &[])? else {
-        return Ok(None);
-    };
     let Some(node) = node(alloc, instance.size(), pairs)? else {
         return Ok(None);
     };
-    if root.size() != instance.size() || node.size() != instance.size() {
+    let Some(found) = entries_after_root(alloc, instance, &node)? else {
         return Ok(None);
-    }
-    let ranked = RankedInstance::new(alloc, instance)?;
-    if root.size() != ranked.instance().size() || node.size() != ranked.instance().size() {
+    };
+    let Some(again) = entries_plain(alloc, instance, &node)? else {
         return Ok(None);
-    }
-    let mut workspace = Workspace::new(alloc);
-    ranked.reduced(&mut workspace, &root)?;
-    let found = entries_of(alloc, &ranked.reduced(&mut workspace, &node)?)?;
-    let again = entries_of(alloc, &reduced(alloc, instance, &node)?)?;
+    };
     Ok((found.as_slice() == again.as_slice()).then_some(found))
 }
 

@@ -1,9 +1,15 @@
 //! What `read` and `accept` say of texts that are cut short, have numbers of a million digits or belong to another instance, and
 //! what goes out where the writer fails.
 
-use crate::text_tests::{GAP, SECOND, SPLIT, instance, ring};
-use crate::{CertError, Verdict, accept, check, read, write};
+ghost use Rattle.std.specs.Prelude.{◌<◌};
+
+use crate::text_tests::{GAP, SECOND, SPLIT, assert_judged, instance, judged, reading_fault, ring};
+use crate::walking_tests::checked;
+use crate::{CertError, Certificate, Verdict, read, write};
+use qap_cost::Instance;
 use qap_io::{Counted, FailAt, OneByte};
+use std::alloc::{AllocError, Global};
+use std::process::Abort;
 use std::test::Fail;
 
 /// A certificate of one bound, for an instance of size 3 whose least cost is 24, in each version.
@@ -13,6 +19,30 @@ const BOUND_2: &[u8] = b"qapcert 2\nn 3\ncost 24\nperm 1 2 3\nb 9 10 12 0 -2 -5\
 /// A certificate that states a wrong cost, and whose first bound doesn't fit.
 const WRONG: &[u8] =
     b"qapcert 2\nn 3\ncost 2\nperm 1 2 3\ns 2\nb 0 0 9 0\nb 0 0 1 0\nb 0 1 0 0\nend\n";
+
+/// Asserts that `read` and `accept` tell this fault of a text.
+fn assert_fault(rt: &impl Abort, alloc: Global, instance: &Instance, text: &[u8], want: CertError) {
+    let length = text.len();
+    assert_eq!(rt; reading_fault(alloc, text), Some(want), "{length} bytes");
+    assert_eq!(rt; judged(alloc, instance, text), Err(want), "{length} bytes");
+}
+
+/// Asserts that each proper beginning of the text is told to end in the line where it does.
+fn assert_beginnings(rt: &impl Abort, alloc: Global, instance: &Instance, text: &[u8]) {
+    let mut line = 1;
+    for (stop, byte) in text.iter().enumerate() {
+        assert_fault(
+            rt,
+            alloc,
+            instance,
+            &text[..stop],
+            CertError::Truncated(line),
+        );
+        if *byte == b'\n' {
+            line = line.wrapping_add(1);
+        }
+    }
+}
 
 // Each fault of the certificate itself is told after the one of the text.
 #[test]
@@ -32,23 +62,18 @@ fn proper_beginnings(rt: HostRuntime) -> Result<(), Fail> {
         (WRONG, &ring, Err(CertError::CostDiffers(3))),
     ];
     for (text, instance, want) in cases {
-        let mut line = 1;
-        for stop in 0..text.len() {
-            let fault = CertError::Truncated(line);
-            let beginning = &text[..stop];
-            assert_eq!(rt; read(alloc, beginning).err(), Some(fault), "{stop} bytes");
-            assert_eq!(rt;
-                accept(alloc, instance, beginning),
-                Err(fault),
-                "{stop} bytes"
-            );
-            if text[stop] == b'\n' {
-                line = line.wrapping_add(1);
-            }
-        }
-        assert_eq!(rt; accept(alloc, instance, text), want);
+        assert_beginnings(&rt, alloc, instance, text);
+        assert_judged(&rt, alloc, instance, text, want);
     }
     Ok(())
+}
+
+/// The text with a number of a million nines between these two parts.
+fn with_nines(alloc: Global, front: &[u8], end: &[u8]) -> Result<Vec<u8>, AllocError> {
+    let mut text = Vec::from_slice(alloc, front)?;
+    text.extend_from_slice(&vec![in alloc; b'9'; 1_000_000]?)?;
+    text.extend_from_slice(end)?;
+    Ok(text)
 }
 
 #[test]
@@ -80,12 +105,23 @@ fn a_million_digits(rt: HostRuntime) -> Result<(), Fail> {
         ),
     ];
     for (front, end, want) in cases {
-        let mut text = Vec::from_slice(alloc, front)?;
-        text.extend_from_slice(&vec![in alloc; b'9'; 1_000_000]?)?;
-        text.extend_from_slice(end)?;
-        assert_eq!(rt; read(alloc, &text).err(), Some(want));
-        assert_eq!(rt; accept(alloc, &ring, &text), Err(want));
+        let text = with_nines(alloc, front, end)?;
+        assert_fault(&rt, alloc, &ring, &text, want);
     }
+    Ok(())
+}
+
+/// Asserts that the certificate's first bound doesn't fit the instance.
+fn assert_misfit(
+    rt: &impl Abort,
+    alloc: Global,
+    instance: &Instance,
+    text: &[u8],
+) -> Result<(), Fail> {
+    let fault = Err(CertError::NotFeasible(5));
+    let certificate = read(alloc, text)?;
+    assert_eq!(rt; checked(alloc, instance, &certificate), fault);
+    assert_eq!(rt; judged(alloc, instance, text), fault);
     Ok(())
 }
 
@@ -101,37 +137,63 @@ fn another_instance(rt: HostRuntime) -> Result<(), Fail> {
         b"qapcert 2\nn 2\ncost 11\nperm 2 1\nb 6 2 0 3\nend\n",
     ];
     for text in texts {
-        let fault = CertError::NotFeasible(5);
-        assert_eq!(rt; check(alloc, &other, &read(alloc, text)?), Err(fault));
-        assert_eq!(rt; accept(alloc, &other, text), Err(fault));
+        assert_misfit(&rt, alloc, &other, text)?;
     }
+    Ok(())
+}
+
+/// What `write` answers, and what is left of a writer one of whose calls failed.
+#[derive(Drop)]
+struct Outcome {
+    answer: Result<(), CertError>,
+    failed: u64,
+    is_flushed: bool,
+    bytes: Vec<u8>,
+}
+
+/// Writes the certificate to a writer that takes a byte at a time, and whose call of this number fails.
+fn written(alloc: Global, certificate: &Certificate, call: u64) -> Outcome
+    requires { 0 < call }
+{
+    let failing = OneByte::new(FailAt::new(Vec::new(alloc), call));
+    let mut writer = Counted::new(failing);
+    let answer = write(alloc, &mut writer, certificate);
+    Outcome {
+        answer,
+        failed: writer.failed(),
+        is_flushed: writer.is_flushed(),
+        bytes: writer.into_inner().into_inner().into_inner(),
+    }
+}
+
+/// Asserts what goes out of the certificate with this text, where each call in turn fails.
+fn assert_writes(rt: &impl Abort, alloc: Global, certificate: &Certificate, text: &[u8]) {
+    for call in 1..=text.len() + 2 {
+        let written = written(alloc, certificate, call as u64);
+        let fails = call <= text.len() + 1;
+        let want = if fails {
+            Err(CertError::Device)
+        } else {
+            Ok(())
+        };
+        assert_eq!(rt; written.answer, want, "at call {call}");
+        assert_eq!(rt; (written.failed == 1, written.is_flushed), (fails, !fails));
+        assert_eq!(rt; written.bytes.as_slice(), &text[..text.len().min(call - 1)]);
+    }
+}
+
+/// Asserts it of the certificate that `read` makes of this text.
+fn assert_text_written(rt: &impl Abort, alloc: Global, text: &[u8]) -> Result<(), Fail> {
+    let certificate = read(alloc, text)?;
+    assert_writes(rt, alloc, &certificate, text);
     Ok(())
 }
 
 // The calls are the writes of a byte each, and then the flush; with one more number no call fails.
 #[test]
 fn writes_fail(rt: HostRuntime) -> Result<(), Fail> {
-    let alloc = rt.alloc();
     for text in [SECOND, GAP, BOUND_2] {
-        let certificate = read(alloc, text)?;
-        for call in 1..=text.len() + 2 {
-            let failing = OneByte::new(FailAt::new(Vec::new(alloc), call as u64));
-            let mut writer = Counted::new(failing);
-            let written = write(alloc, &mut writer, &certificate);
-            let fails = call <= text.len() + 1;
-            let want = if fails {
-                Err(CertError::Device)
-            } else {
-                Ok(())
-            };
-            assert_eq!(rt; written, want, "at call {call}");
-            assert_eq!(rt;
-                (writer.failed() == 1, writer.is_flushed()),
-                (fails, !fails)
-            );
-            let bytes = writer.into_inner().into_inner().into_inner();
-            assert_eq!(rt; bytes.as_slice(), &text[..text.len().min(call - 1)]);
-        }
+        assert_text_written(&rt, rt.alloc(), text)?;
     }
     Ok(())
 }

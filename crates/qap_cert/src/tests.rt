@@ -3,7 +3,11 @@
 use crate::{CertError, Certificate, Tree, check};
 use qap_cost::{Instance, Perm};
 use std::alloc::{AllocError, Global};
+use std::process::Abort;
 use std::test::Fail;
+
+/// The greatest absolute value of a cost, of a bound and of a dual.
+const LIMIT: i128 = 1_000_000_000_000_000_000_000_000;
 
 /// Two facilities: the order 0 1 costs 11, and 1 0 costs 17.
 fn two(alloc: Global) -> Result<Option<Instance>, AllocError> {
@@ -48,21 +52,51 @@ fn full_tree(alloc: Global, facility: u16) -> Result<Tree, AllocError> {
     pair(alloc, facility, first, second)
 }
 
+/// The permutation that puts the facilities at these locations.
+fn permutation(alloc: Global, locations: &[u16]) -> Result<Perm, CertError> {
+    match Perm::new(Vec::from_slice(alloc, locations)?) {
+        Ok(permutation) => Ok(permutation),
+        Err(_) => Err(CertError::PermBad(4)),
+    }
+}
+
+/// The certificate of these, or what keeps them from being one.
+fn certificate(
+    alloc: Global,
+    (cost, bound): (i128, i128),
+    locations: &[u16],
+    tree: Tree,
+) -> Result<Certificate, CertError> {
+    match Certificate::new(cost, bound, permutation(alloc, locations)?, tree) {
+        Ok(certificate) => Ok(certificate),
+        Err((error, _, _)) => Err(error),
+    }
+}
+
 /// What `check` says of the certificate of these, or what keeps them from being one.
 fn verdict(
     alloc: Global,
     instance: &Instance,
-    (cost, bound): (i128, i128),
+    numbers: (i128, i128),
     locations: &[u16],
     tree: Tree,
 ) -> Result<(), CertError> {
-    let Ok(permutation) = Perm::new(Vec::from_slice(alloc, locations)?) else {
-        return Err(CertError::PermBad(4));
-    };
-    match Certificate::new(cost, bound, permutation, tree) {
-        Ok(certificate) => check(alloc, instance, &certificate),
-        Err((error, _, _)) => Err(error),
-    }
+    let certificate = certificate(alloc, numbers, locations, tree)?;
+    check(alloc, instance, &certificate)
+}
+
+/// Asserts what is said of the certificate of one bound, whose duals are 9, 10, this one, 0, -2 and -5.
+fn assert_root_bound(
+    rt: &impl Abort,
+    alloc: Global,
+    three: &Instance,
+    (last, cost, lower): (i128, i128, i128),
+    want: Result<(), CertError>,
+) -> Result<(), Fail> {
+    let tree = bound(alloc, &[9, 10, last], &[0, -2, -5])?;
+    let found = verdict(alloc, three, (cost, lower), &[0, 1, 2], tree);
+    assert_eq!(rt; found, want, "{last}, {lower} of {cost}");
+    Ok(())
 }
 
 #[test]
@@ -71,26 +105,53 @@ fn bounds_at_the_root(rt: HostRuntime) -> Result<(), Fail> {
     let Some(three) = three(alloc)? else {
         panic!(rt; "an instance is refused");
     };
-    let limit = 1_000_000_000_000_000_000_000_000;
-    let cases: [(i128, i128, i128, Result<(), CertError>); 9] = [
-        (12, 24, 24, Ok(())),
-        (13, 24, 24, Err(CertError::NotFeasible(5))),
-        (11, 24, 24, Err(CertError::BoundTooLow(5))),
-        (12, 23, 23, Err(CertError::CostDiffers(3))),
-        (11, 24, 23, Ok(())),
-        (10, 24, 23, Err(CertError::BoundTooLow(6))),
-        (10, 24, -limit, Ok(())),
-        (12, 24, 25, Err(CertError::BadLine(5))),
-        (12, 24, -limit - 1, Err(CertError::BadLine(5))),
+    let cases = [
+        ((12, 24, 24), Ok(())),
+        ((13, 24, 24), Err(CertError::NotFeasible(5))),
+        ((11, 24, 24), Err(CertError::BoundTooLow(5))),
+        ((12, 23, 23), Err(CertError::CostDiffers(3))),
+        ((11, 24, 23), Ok(())),
+        ((10, 24, 23), Err(CertError::BoundTooLow(6))),
+        ((10, 24, -LIMIT), Ok(())),
+        ((12, 24, 25), Err(CertError::BadLine(5))),
+        ((12, 24, -LIMIT - 1), Err(CertError::BadLine(5))),
     ];
-    for (last, cost, lower, want) in cases {
-        let tree = bound(alloc, &[9, 10, last], &[0, -2, -5])?;
-        let found = verdict(alloc, &three, (cost, lower), &[0, 1, 2], tree);
-        assert_eq!(rt; found, want, "{last}, {lower} of {cost}");
+    for (numbers, want) in cases {
+        assert_root_bound(&rt, alloc, &three, numbers, want)?;
     }
     let tree = full_tree(alloc, 0)?;
     let found = verdict(alloc, &three, (11, 11), &[0, 1], tree);
     assert_eq!(rt; found, Err(CertError::SizeDiffers(2)));
+    Ok(())
+}
+
+/// Asserts what is said of the tree that splits down to each permutation, on this facility first.
+fn assert_full_tree(
+    rt: &impl Abort,
+    alloc: Global,
+    two: &Instance,
+    facility: u16,
+    (cost, locations): (i128, [u16; 2]),
+    want: Result<(), CertError>,
+) -> Result<(), Fail> {
+    let tree = full_tree(alloc, facility)?;
+    let found = verdict(alloc, two, (cost, cost), &locations, tree);
+    assert_eq!(rt; found, want, "on {facility} to {cost}");
+    Ok(())
+}
+
+/// Asserts what is said of a split on this facility into two bounds, which have these duals of the other facility.
+fn assert_split(
+    rt: &impl Abort,
+    alloc: Global,
+    two: &Instance,
+    (facility, first, second): (u16, i128, i128),
+    want: Result<(), CertError>,
+) -> Result<(), Fail> {
+    let first = bound(alloc, &[first], &[0])?;
+    let second = bound(alloc, &[second], &[0])?;
+    let tree = pair(alloc, facility, first, second)?;
+    assert_eq!(rt; verdict(alloc, two, (11, 11), &[0, 1], tree), want);
     Ok(())
 }
 
@@ -101,28 +162,45 @@ fn splits(rt: HostRuntime) -> Result<(), Fail> {
         panic!(rt; "an instance is refused");
     };
     for facility in [0, 1] {
-        let tree = full_tree(alloc, facility)?;
-        assert_eq!(rt; verdict(alloc, &two, (11, 11), &[0, 1], tree), Ok(()));
+        assert_full_tree(&rt, alloc, &two, facility, (11, [0, 1]), Ok(()))?;
     }
     // The second leaf is where facility 0 stands at 1, or where facility 1 does: the identity costs 11, the other 17.
     for (facility, line) in [(0, 7), (1, 9)] {
-        let tree = full_tree(alloc, facility)?;
-        let found = verdict(alloc, &two, (17, 17), &[1, 0], tree);
-        assert_eq!(rt; found, Err(CertError::BoundTooLow(line)));
+        let want = Err(CertError::BoundTooLow(line));
+        assert_full_tree(&rt, alloc, &two, facility, (17, [1, 0]), want)?;
     }
-    let cases: [(u16, i128, i128, Result<(), CertError>); 4] = [
-        (0, 11, 11, Ok(())),
-        (0, 11, 18, Err(CertError::NotFeasible(7))),
-        (1, 17, 11, Ok(())),
-        (1, 18, 11, Err(CertError::NotFeasible(6))),
+    let cases = [
+        ((0, 11, 11), Ok(())),
+        ((0, 11, 18), Err(CertError::NotFeasible(7))),
+        ((1, 17, 11), Ok(())),
+        ((1, 18, 11), Err(CertError::NotFeasible(6))),
     ];
-    for (facility, first, second, want) in cases {
-        let first = bound(alloc, &[first], &[0])?;
-        let second = bound(alloc, &[second], &[0])?;
-        let tree = pair(alloc, facility, first, second)?;
-        let found = verdict(alloc, &two, (11, 11), &[0, 1], tree);
-        assert_eq!(rt; found, want);
+    for (duals, want) in cases {
+        assert_split(&rt, alloc, &two, duals, want)?;
     }
+    Ok(())
+}
+
+/// Asserts the fault that is told of a split whose first child is a bound and whose second one is this.
+fn assert_second(
+    rt: &impl Abort,
+    alloc: Global,
+    two: &Instance,
+    second: Tree,
+    want: CertError,
+) -> Result<(), Fail> {
+    let tree = pair(alloc, 0, bound(alloc, &[11], &[0])?, second)?;
+    let found = verdict(alloc, two, (11, 11), &[0, 1], tree);
+    assert_eq!(rt; found, Err(want));
+    Ok(())
+}
+
+/// Asserts that of a cost out of range, and not of the tree, a fault is told.
+fn assert_far_costs(rt: &impl Abort, alloc: Global, two: &Instance) -> Result<(), Fail> {
+    let full = single(alloc, 1, bound(alloc, &[], &[])?)?;
+    let tree = pair(alloc, 0, full, bound(alloc, &[11], &[0, 0])?)?;
+    let found = verdict(alloc, two, (LIMIT + 1, LIMIT + 2), &[0, 1], tree);
+    assert_eq!(rt; found, Err(CertError::BadLine(3)));
     Ok(())
 }
 
@@ -132,39 +210,28 @@ fn shapes(rt: HostRuntime) -> Result<(), Fail> {
     let Some(two) = two(alloc)? else {
         panic!(rt; "an instance is refused");
     };
-    let limit = 1_000_000_000_000_000_000_000_000;
     let deep = single(alloc, 1, split(9, Vec::new(alloc)))?;
+    assert_second(&rt, alloc, &two, deep, CertError::SplitTooDeep(8))?;
     let wide = pair(alloc, 1, bound(alloc, &[], &[])?, bound(alloc, &[], &[])?)?;
-    let full = single(alloc, 1, bound(alloc, &[], &[])?)?;
-    let cases: [(Tree, CertError); 7] = [
-        (deep, CertError::SplitTooDeep(8)),
-        (wide, CertError::SplitWidth(7)),
-        (split(1, Vec::new(alloc)), CertError::SplitWidth(7)),
-        (split(0, Vec::new(alloc)), CertError::FacilityTaken(7)),
-        (split(2, Vec::new(alloc)), CertError::FacilityTaken(7)),
-        (bound(alloc, &[11, 0], &[0])?, CertError::DualCount(7)),
-        (bound(alloc, &[11], &[-limit - 1])?, CertError::DualRange(7)),
-    ];
-    for (second, want) in cases {
-        let tree = pair(alloc, 0, bound(alloc, &[11], &[0])?, second)?;
-        let found = verdict(alloc, &two, (11, 11), &[0, 1], tree);
-        assert_eq!(rt; found, Err(want));
+    assert_second(&rt, alloc, &two, wide, CertError::SplitWidth(7))?;
+    for (facility, want) in [
+        (1, CertError::SplitWidth(7)),
+        (0, CertError::FacilityTaken(7)),
+        (2, CertError::FacilityTaken(7)),
+    ] {
+        assert_second(&rt, alloc, &two, split(facility, Vec::new(alloc)), want)?;
     }
-    let tree = pair(alloc, 0, full, bound(alloc, &[11], &[0, 0])?)?;
-    let found = verdict(alloc, &two, (limit + 1, limit + 2), &[0, 1], tree);
-    assert_eq!(rt; found, Err(CertError::BadLine(3)));
-    Ok(())
+    let more = bound(alloc, &[11, 0], &[0])?;
+    assert_second(&rt, alloc, &two, more, CertError::DualCount(7))?;
+    let far = bound(alloc, &[11], &[-LIMIT - 1])?;
+    assert_second(&rt, alloc, &two, far, CertError::DualRange(7))?;
+    assert_far_costs(&rt, alloc, &two)
 }
 
 #[test]
 fn parts(rt: HostRuntime) -> Result<(), Fail> {
     let alloc = rt.alloc();
-    let Ok(perm) = Perm::new(vec![in alloc; 1, 0]?) else {
-        panic!(rt; "a permutation is refused");
-    };
-    let Ok(certificate) = Certificate::new(17, -3, perm, full_tree(alloc, 1)?) else {
-        panic!(rt; "a certificate is refused");
-    };
+    let certificate = certificate(alloc, (17, -3), &[1, 0], full_tree(alloc, 1)?)?;
     assert_eq!(rt; (certificate.cost(), certificate.bound()), (17, -3));
     assert_eq!(rt; certificate.perm().locations(), [1, 0].as_slice());
     match certificate.tree() {
@@ -173,6 +240,23 @@ fn parts(rt: HostRuntime) -> Result<(), Fail> {
         }
         Tree::Bound { .. } => panic!(rt; "the tree is no split"),
     }
+    Ok(())
+}
+
+/// Asserts how a fault is told: its message, its number, its name and its line.
+fn assert_refusal(
+    rt: &impl Abort,
+    alloc: Global,
+    error: CertError,
+    message: &str,
+    (number, name, at): (u16, &str, Option<u64>),
+) -> Result<(), Fail> {
+    assert_eq!(rt; format!(in alloc; "{error}")?.as_str(), message);
+    let refusal = error.refusal();
+    assert_eq!(rt;
+        (refusal.number, refusal.name, refusal.at),
+        (number, name, at)
+    );
     Ok(())
 }
 
@@ -295,12 +379,7 @@ fn refusals(rt: HostRuntime) -> Result<(), Fail> {
         (CertError::Device, "the writer failed", 51, "Device", None),
     ];
     for (error, message, number, name, at) in cases {
-        assert_eq!(rt; format!(in alloc; "{error}")?.as_str(), message);
-        let refusal = error.refusal();
-        assert_eq!(rt;
-            (refusal.number, refusal.name, refusal.at),
-            (number, name, at)
-        );
+        assert_refusal(&rt, alloc, error, message, (number, name, at))?;
     }
     Ok(())
 }

@@ -1,9 +1,10 @@
 //! What no clause says of texts: that calls succeed, and that texts are those of worked examples.
 
-use crate::{CertError, Verdict, accept, read, write};
-use qap_cost::{Instance, least_by_listing};
+use crate::{CertError, Certificate, Verdict, accept, read, write};
+use qap_cost::{Instance, Perm, least_by_listing};
 use qap_io::Counted;
 use std::alloc::{AllocError, Global};
+use std::process::Abort;
 use std::test::Fail;
 
 /// A certificate of size 3, of the first version and of the second: a split and three bounds.
@@ -45,6 +46,47 @@ pub(crate) fn ring(alloc: Global) -> Result<Option<Instance>, AllocError> {
     )
 }
 
+/// What `accept` says of a text.
+pub(crate) fn judged(
+    alloc: Global,
+    instance: &Instance,
+    text: &[u8],
+) -> Result<Verdict, CertError> {
+    accept(alloc, instance, text)
+}
+
+/// The fault that `read` tells, if it tells one.
+pub(crate) fn reading_fault(alloc: Global, text: &[u8]) -> Option<CertError> {
+    read(alloc, text).err()
+}
+
+/// What `write` answers, how many calls of the writer failed, and what went out.
+fn written(alloc: Global, certificate: &Certificate) -> (Result<(), CertError>, u64, Vec<u8>) {
+    let mut writer = Counted::new(Vec::new(alloc));
+    let answer = write(alloc, &mut writer, certificate);
+    let failed = writer.failed();
+    (answer, failed, writer.into_inner())
+}
+
+/// Asserts what `accept` says of a text.
+pub(crate) fn assert_judged(
+    rt: &impl Abort,
+    alloc: Global,
+    instance: &Instance,
+    text: &[u8],
+    want: Result<Verdict, CertError>,
+) {
+    assert_eq!(rt; judged(alloc, instance, text), want, "{text:?}");
+}
+
+/// Asserts how the certificate of a text is written.
+fn assert_round_trip(rt: &impl Abort, alloc: Global, text: &[u8], want: &[u8]) -> Result<(), Fail> {
+    let (answer, failed, bytes) = written(alloc, &read(alloc, text)?);
+    assert_eq!(rt; (answer, failed), (Ok(()), 0));
+    assert_eq!(rt; bytes.as_slice(), want);
+    Ok(())
+}
+
 #[test]
 fn round_trips(rt: HostRuntime) -> Result<(), Fail> {
     let alloc = rt.alloc();
@@ -59,25 +101,50 @@ fn round_trips(rt: HostRuntime) -> Result<(), Fail> {
         (SECOND, SECOND),
     ];
     for (text, want) in cases {
-        let Ok(certificate) = read(alloc, text) else {
-            panic!(rt; "a certificate is refused");
-        };
-        let mut writer = Counted::new(Vec::new(alloc));
-        assert_eq!(rt; write(alloc, &mut writer, &certificate), Ok(()));
-        assert_eq!(rt; writer.failed(), 0);
-        assert_eq!(rt; writer.into_inner().as_slice(), want);
+        assert_round_trip(&rt, alloc, text, want)?;
     }
     Ok(())
+}
+
+/// The beginning of a text of size 3 that has a thousand splits.
+fn many_splits(alloc: Global) -> Result<Vec<u8>, AllocError> {
+    let mut text = Vec::from_slice(alloc, b"qapcert 1\nn 3\ncost 1\nperm 1 2 3\n")?;
+    for _ in 0..1000 {
+        text.extend_from_slice(b"s\n")?;
+    }
+    Ok(text)
 }
 
 #[test]
 fn too_deep(rt: HostRuntime) -> Result<(), Fail> {
     let alloc = rt.alloc();
-    let mut text = Vec::from_slice(alloc, b"qapcert 1\nn 3\ncost 1\nperm 1 2 3\n")?;
-    for _ in 0..1000 {
-        text.extend_from_slice(b"s\n")?;
-    }
-    assert_eq!(rt; read(alloc, &text).err(), Some(CertError::SplitTooDeep(8)));
+    let text = many_splits(alloc)?;
+    assert_eq!(rt;
+        reading_fault(alloc, &text),
+        Some(CertError::SplitTooDeep(8))
+    );
+    Ok(())
+}
+
+/// The text of this version, of size 3 and the cost 1, with the rest of its lines.
+fn ring_text(alloc: Global, version: &[u8], rest: &[u8]) -> Result<Vec<u8>, AllocError> {
+    let mut text = Vec::from_slice(alloc, b"qapcert ")?;
+    text.extend_from_slice(version)?;
+    text.extend_from_slice(b"\nn 3\ncost 1\nperm 1 2 3\n")?;
+    text.extend_from_slice(rest)?;
+    Ok(text)
+}
+
+/// Asserts what `accept` says of a text of size 3 and the cost 1, for the ring.
+fn assert_ring_text(
+    rt: &impl Abort,
+    alloc: Global,
+    ring: &Instance,
+    (version, rest): (&[u8], &[u8]),
+    want: Result<Verdict, CertError>,
+) -> Result<(), Fail> {
+    let text = ring_text(alloc, version, rest)?;
+    assert_eq!(rt; judged(alloc, ring, &text), want, "{rest:?}");
     Ok(())
 }
 
@@ -194,11 +261,7 @@ fn verdicts(rt: HostRuntime) -> Result<(), Fail> {
         (b"0", b"b 0 0 0 0 0 0\nend\n", Err(CertError::BadHeader)),
     ];
     for (version, rest, want) in cases {
-        let mut text = Vec::from_slice(alloc, b"qapcert ")?;
-        text.extend_from_slice(version)?;
-        text.extend_from_slice(b"\nn 3\ncost 1\nperm 1 2 3\n")?;
-        text.extend_from_slice(rest)?;
-        assert_eq!(rt; accept(alloc, &ring, &text), want, "{rest:?}");
+        assert_ring_text(&rt, alloc, &ring, (version, rest), want)?;
     }
     Ok(())
 }
@@ -261,31 +324,55 @@ fn mixed(alloc: Global, n: usize, step: i64) -> Result<Vec<i64>, AllocError> {
     Ok(numbers)
 }
 
+/// An instance of size `n` with no order in its entries.
+fn mixed_instance(alloc: Global, n: usize) -> Result<Option<Instance>, AllocError> {
+    let a = mixed(alloc, n, 37)?;
+    let b = mixed(alloc, n, 18)?;
+    instance(alloc, n, &a, &b)
+}
+
+/// The least cost and a permutation that has it, of an instance of size 8 at most.
+fn listed(alloc: Global, instance: &Instance) -> Result<(i128, Perm), Fail> {
+    if instance.size() > 8 {
+        return Err(Fail::new("the listing would be long"));
+    }
+    Ok(least_by_listing(alloc, instance)?)
+}
+
+/// The text that states this cost and these locations, with the tree that splits down to each permutation.
+fn full_text(alloc: Global, cost: i128, locations: &[u16]) -> Result<Vec<u8>, AllocError> {
+    let n = locations.len();
+    let head = format!(in alloc; "qapcert 2\nn {n}\ncost {cost}\nperm")?;
+    let mut text = Vec::from_slice(alloc, head.as_bytes())?;
+    for location in locations {
+        let word = format!(in alloc; " {}", location.wrapping_add(1))?;
+        text.extend_from_slice(word.as_bytes())?;
+    }
+    text.extend_from_slice(b"\n")?;
+    text.extend_from_slice(&full_lines(alloc, n)?)?;
+    text.extend_from_slice(b"end\n")?;
+    Ok(text)
+}
+
+/// Asserts that the full tree shows the least cost of the listing, for an instance of this size.
+fn assert_full_text(rt: &impl Abort, alloc: Global, n: usize) -> Result<(), Fail> {
+    let Some(instance) = mixed_instance(alloc, n)? else {
+        panic!(rt; "an instance is refused");
+    };
+    let (least, perm) = listed(alloc, &instance)?;
+    let text = full_text(alloc, least, perm.locations())?;
+    assert_eq!(rt;
+        judged(alloc, &instance, &text),
+        Ok(Verdict::Optimal(least)),
+        "size {n}"
+    );
+    Ok(())
+}
+
 #[test]
 fn full_trees_and_the_listing(rt: HostRuntime) -> Result<(), Fail> {
-    let alloc = rt.alloc();
     for n in 2..7 {
-        let a = mixed(alloc, n, 37)?;
-        let b = mixed(alloc, n, 18)?;
-        let Some(instance) = instance(alloc, n, &a, &b)? else {
-            panic!(rt; "an instance is refused");
-        };
-        assert!(rt; instance.size() <= 8);
-        let (least, perm) = least_by_listing(alloc, &instance)?;
-        let head = format!(in alloc; "qapcert 2\nn {n}\ncost {least}\nperm")?;
-        let mut text = Vec::from_slice(alloc, head.as_bytes())?;
-        for location in perm.locations() {
-            let word = format!(in alloc; " {}", location.wrapping_add(1))?;
-            text.extend_from_slice(word.as_bytes())?;
-        }
-        text.extend_from_slice(b"\n")?;
-        text.extend_from_slice(&full_lines(alloc, n)?)?;
-        text.extend_from_slice(b"end\n")?;
-        assert_eq!(rt;
-            accept(alloc, &instance, &text),
-            Ok(Verdict::Optimal(least)),
-            "size {n}"
-        );
+        assert_full_text(&rt, rt.alloc(), n)?;
     }
     Ok(())
 }

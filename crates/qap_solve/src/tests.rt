@@ -140,22 +140,32 @@ fn nothing_costs_anything(rt: HostRuntime) {
     assert_eq!(rt; (run.output.len(), run.status), (12, 0));
 }
 
+/// What the checker says of a certificate's text, for the instance of another.
+fn verdict(alloc: Global, instance: &[u8], certificate: &[u8]) -> Result<Verdict, Fail> {
+    let (instance, _) = read_instance(alloc, instance)?;
+    Ok(accept(alloc, &instance, certificate)?)
+}
+
+/// The text of a certificate, read and written once more.
+fn written_again(alloc: Global, text: &[u8]) -> Result<Vec<u8>, Fail> {
+    let certificate = read(alloc, text)?;
+    let mut again = Counted::new(Vec::new(alloc));
+    write(alloc, &mut again, &certificate)?;
+    Ok(again.into_inner())
+}
+
 #[test]
 fn certificates(rt: HostRuntime) -> Result<(), Fail> {
     let alloc = rt.alloc();
     let cases: [(&[u8], i128); 4] = [(THREE, 24), (SPLIT, 6), (TWO, 11), (EVEN, 1)];
     for (text, cost) in cases {
-        let run = run(&rt, alloc, text, &PROVING);
-        let (instance, _) = read_instance(alloc, text)?;
+        let Outcome { output, status, .. } = run(&rt, alloc, text, &PROVING);
+        assert_eq!(rt; verdict(alloc, text, &output)?, Verdict::Optimal(cost));
         assert_eq!(rt;
-            accept(alloc, &instance, &run.output),
-            Ok(Verdict::Optimal(cost))
+            written_again(alloc, &output)?.as_slice(),
+            output.as_slice()
         );
-        let certificate = read(alloc, &run.output)?;
-        let mut again = Counted::new(Vec::new(alloc));
-        write(alloc, &mut again, &certificate)?;
-        assert_eq!(rt; again.into_inner().as_slice(), run.output.as_slice());
-        assert_eq!(rt; run.status, 0);
+        assert_eq!(rt; status, 0);
     }
     Ok(())
 }
@@ -171,11 +181,29 @@ fn a_split_is_told(rt: HostRuntime) -> Result<(), Fail> {
     Ok(())
 }
 
+/// A run under a limit of nodes, which is at most 5.
+fn limited_run<T>(system: &T, alloc: Global, workers: u16, limit: u64, cert: bool) -> Outcome
+where
+    T: Threads + Wait + time::Clock + Sync,
+{
+    let options = Options {
+        workers: workers.clamp(1, 64),
+        nodes: Some(limit.min(5)),
+        cert,
+        ..ONE
+    };
+    run(system, alloc, EVEN, &options)
+}
+
+/// How many lines there are, the empty one behind the last line feed among them.
+fn count_lines(text: &[u8]) -> usize {
+    text.split(|byte| *byte == b'\n').count()
+}
+
 // With each limit up to the number of nodes, which is 4.
 #[test]
 fn stopped_searches(rt: HostRuntime) -> Result<(), Fail> {
     let alloc = rt.alloc();
-    let (instance, _) = read_instance(alloc, EVEN)?;
     let cases: [(u64, &[u8], u8); 6] = [
         (0, b"gap 0 1\n3 1\n1 2 3\n", 5),
         (1, b"gap 1 1\n3 1\n1 2 3\n", 5),
@@ -186,37 +214,17 @@ fn stopped_searches(rt: HostRuntime) -> Result<(), Fail> {
     ];
     for (limit, want, ends) in cases {
         for workers in [1, 8] {
-            let nodes = Some(limit);
-            let told = run(
-                &rt,
-                alloc,
-                EVEN,
-                &Options {
-                    workers,
-                    nodes,
-                    ..ONE
-                },
-            );
+            let told = limited_run(&rt, alloc, workers, limit, false);
             assert_eq!(rt; told.output.as_slice(), want, "{limit}");
             assert_eq!(rt; told.errors.as_slice(), b"".as_slice());
             assert_eq!(rt; told.status, ends);
-            let proved = run(
-                &rt,
-                alloc,
-                EVEN,
-                &Options {
-                    workers,
-                    nodes,
-                    ..PROVING
-                },
-            );
-            let lines = proved.output.split(|byte| *byte == b'\n').count();
-            let (verdict, count) = match limit {
+            let proved = limited_run(&rt, alloc, workers, limit, true);
+            let (judged, count) = match limit {
                 0 => (Verdict::Gap(0, 1), 8),
                 _ => (Verdict::Optimal(1), 10),
             };
-            assert_eq!(rt; accept(alloc, &instance, &proved.output), Ok(verdict));
-            assert_eq!(rt; (lines, proved.status), (count, ends), "{limit}");
+            assert_eq!(rt; verdict(alloc, EVEN, &proved.output)?, judged);
+            assert_eq!(rt; (count_lines(&proved.output), proved.status), (count, ends));
         }
     }
     Ok(())
@@ -224,8 +232,7 @@ fn stopped_searches(rt: HostRuntime) -> Result<(), Fail> {
 
 #[test]
 fn the_certificate_of_an_opening(rt: HostRuntime) {
-    let nodes = Some(0);
-    let proved = run(&rt, rt.alloc(), EVEN, &Options { nodes, ..PROVING });
+    let proved = limited_run(&rt, rt.alloc(), 1, 0, true);
     assert_eq!(rt;
         proved.output.as_slice(),
         b"qapcert 2\nn 3\ncost 1\nperm 1 2 3\nbound 0\nb 0 0 0 0 0 0\nend\n".as_slice()

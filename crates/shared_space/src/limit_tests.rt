@@ -1,23 +1,22 @@
 //! A limit of commits: that the commit which reaches it closes the space, that none is accepted past it, and that threads which race to it
 //! come to just as many.
 
-ghost use Rattle.std.specs.Prelude.{◌≡◌, Some};
+ghost use Rattle.std.specs.Prelude.{◌≡◌, IfOk, Some, vec_len};
 ghost use Rattle.shared_space.specs.Law.{IsFree};
 
 use crate::error::CommitError;
 use crate::law::Law;
 use crate::share::Share;
 use crate::shared::Shared;
-use crate::tests::{any_job, job};
-use crate::thread_tests::write_in_two;
-use space_txn::TxnSpace;
+use crate::tests::{count_jobs, job};
+use crate::thread_tests::write_in_four;
+use space_txn::{Txn, TxnSpace};
 use std::alloc::Global;
 use std::marker::Brand;
 use std::process::Abort;
 use std::sync::Wait;
 use std::sync::ledger::Blank;
 use std::test::Fail;
-use std::thread;
 use std::thread::Threads;
 use tuple_match::Tuple;
 use tuple_space::Lease;
@@ -34,6 +33,38 @@ struct Met {
     total: u64,
 }
 
+/// A space under a limit for so many workers, and their shares.
+fn new_limited<L: Law>(
+    alloc: Global,
+    blank: Blank,
+    shares: usize,
+    limit: u64,
+) -> Result<(Shared<L>, Vec<Share<L>>), Fail>
+    requires name { blank.name ≡ L.name }
+    requires parts { blank.parts ≡ L.parts }
+    requires all { blank.parts ≡ shares }
+    requires limit { L.limit ≡ Some limit }
+    requires free { IsFree L.lawful L.allowed }
+    ensures { IfOk result (λ made. vec_len made.1 ≡ shares) }
+{
+    match Shared::<L>::with_limit(alloc, blank, TxnSpace::new(alloc), shares, limit) {
+        Ok(made) => Ok(made),
+        Err(_) => Err(Fail::new("memory for a space is wanted")),
+    }
+}
+
+/// A transaction that has written a job.
+fn begin_writing<L: Law, R: Wait>(rt: &R, alloc: Global, shared: &Shared<L>) -> Result<Txn, Fail> {
+    let Some(tuple) = job(alloc, 7) else {
+        return Err(Fail::new("a job is to be made"));
+    };
+    let mut txn = shared.begin(rt, 1000)?;
+    match txn.out_in(tuple, Lease::Forever) {
+        Ok(()) => Ok(txn),
+        Err(_) => Err(Fail::new("a job is to be written")),
+    }
+}
+
 /// Writes a job under a transaction of its own, and tells whether the limit refused its commit; then it is ended.
 fn write_one<L: Law, R: Wait>(
     rt: &R,
@@ -43,13 +74,7 @@ fn write_one<L: Law, R: Wait>(
 ) -> Result<bool, Fail>
     requires { IsFree L.lawful L.allowed }
 {
-    let Some(tuple) = job(alloc, 7) else {
-        return Err(Fail::new("a job is to be made"));
-    };
-    let mut txn = shared.begin(rt, 1000)?;
-    if txn.out_in(tuple, Lease::Forever).is_err() {
-        return Err(Fail::new("a job is to be written"));
-    }
+    let txn = begin_writing(rt, alloc, shared)?;
     match shared.commit(rt, share, txn) {
         Ok(()) => Ok(false),
         Err((CommitError::Limit, txn)) => match shared.abort(rt, txn) {
@@ -58,6 +83,28 @@ fn write_one<L: Law, R: Wait>(
         },
         Err((CommitError::Txn(error), _)) => Err(Fail::from(error)),
     }
+}
+
+/// Whether the space was closed at first and after each of three commits, and whether the limit refused each commit.
+fn write_each<L: Law, R: Wait>(
+    rt: &R,
+    alloc: Global,
+    shared: &Shared<L>,
+    share: &mut Share<L>,
+) -> Result<([bool; 4], [bool; 3]), Fail>
+    requires { IsFree L.lawful L.allowed }
+{
+    let before = shared.closed(rt);
+    let first = write_one(rt, alloc, shared, share)?;
+    let after_first = shared.closed(rt);
+    let second = write_one(rt, alloc, shared, share)?;
+    let after_second = shared.closed(rt);
+    let third = write_one(rt, alloc, shared, share)?;
+    let after_third = shared.closed(rt);
+    Ok((
+        [before, after_first, after_second, after_third],
+        [first, second, third],
+    ))
 }
 
 fn write_three<L: Law, R: Wait>(
@@ -72,22 +119,13 @@ fn write_three<L: Law, R: Wait>(
     requires limit { L.limit ≡ Some limit }
     requires free { IsFree L.lawful L.allowed }
 {
-    let made = Shared::<L>::with_limit(alloc, blank, TxnSpace::new(alloc), 1, limit);
-    let Ok((shared, mut shares)) = made else {
-        return Err(Fail::new("memory for a space is wanted"));
-    };
-    let before = shared.closed(rt);
-    let first = write_one(rt, alloc, &shared, &mut shares[0])?;
-    let after_first = shared.closed(rt);
-    let second = write_one(rt, alloc, &shared, &mut shares[0])?;
-    let after_second = shared.closed(rt);
-    let third = write_one(rt, alloc, &shared, &mut shares[0])?;
-    let after_third = shared.closed(rt);
+    let (shared, mut shares) = new_limited::<L>(alloc, blank, 1, limit)?;
+    let (closed, limited) = write_each(rt, alloc, &shared, &mut shares[0])?;
     let share = shares[0].commits();
     let (_, total) = shared.into_inner(shares);
     Ok(Met {
-        closed: [before, after_first, after_second, after_third],
-        limited: [first, second, third],
+        closed,
+        limited,
         share,
         total,
     })
@@ -106,32 +144,10 @@ fn race_in_four<L: Law + Send + Sync, R: Threads + Wait + Sync>(
     requires limit { L.limit ≡ Some limit }
     requires free { IsFree L.lawful L.allowed }
 {
-    let made = Shared::<L>::with_limit(alloc, blank, TxnSpace::new(alloc), 4, limit);
-    let Ok((shared, mut shares)) = made else {
-        return Err(Fail::new("memory for a space is wanted"));
-    };
-    let (Some(first), Some(second)) = (shares.pop(), shares.pop()) else {
-        return Err(Fail::new("four shares are wanted"));
-    };
-    let (Some(third), Some(fourth)) = (shares.pop(), shares.pop()) else {
-        return Err(Fail::new("four shares are wanted"));
-    };
-    let room = &shared;
-    let (left, right) = thread::join(
-        rt,
-        move || -> (Share<L>, Share<L>)
-            requires { IsFree L.lawful L.allowed }
-        { write_in_two(rt, alloc, room, first, second) },
-        move || -> (Share<L>, Share<L>)
-            requires { IsFree L.lawful L.allowed }
-        { write_in_two(rt, alloc, room, third, fourth) },
-    );
-    shares.push(left.0)?;
-    shares.push(left.1)?;
-    shares.push(right.0)?;
-    shares.push(right.1)?;
+    let (shared, shares) = new_limited::<L>(alloc, blank, 4, limit)?;
+    let shares = write_in_four(rt, alloc, &shared, shares)?;
     let (space, total) = shared.into_inner(shares);
-    Ok([total, space.commits(), space.count(&any_job(alloc)?)])
+    Ok([total, space.commits(), count_jobs(alloc, &space)?])
 }
 
 #[test]

@@ -1,7 +1,7 @@
 //! Calls that are refused memory. `bin/refused-memory` refuses each allocation of these tests in turn: the call that meets it
 //! leaves the transaction and the share as they were, hands back what it was given, and answers as ever when it is made again.
 
-ghost use Rattle.std.specs.Prelude.{◌≡◌, None, Some};
+ghost use Rattle.std.specs.Prelude.{◌≡◌, IfOk, None, Some, vec_len};
 ghost use Rattle.shared_space.specs.Law.{IsFree};
 
 use crate::alone::Alone;
@@ -133,6 +133,26 @@ fn write(alloc: Global, txn: &mut Txn, number: i128) -> Result<(), Fail> {
     }
 }
 
+fn write_each(alloc: Global, txn: &mut Txn, numbers: &[i128]) -> Result<(), Fail> {
+    for number in numbers {
+        write(alloc, txn, *number)?;
+    }
+    Ok(())
+}
+
+fn commit_again<L: Law, M: Room<L>>(
+    room: &mut M,
+    share: &mut Share<L>,
+    txn: Txn,
+) -> Result<(), Fail>
+    requires { IsFree L.lawful L.allowed }
+{
+    match room.commit(share, txn) {
+        Ok(()) => Ok(()),
+        Err(_) => Err(Fail::new("the commit is refused again")),
+    }
+}
+
 fn commit<L: Law, M: Room<L>>(
     alloc: Global,
     room: &mut M,
@@ -150,13 +170,38 @@ fn commit<L: Law, M: Room<L>>(
             if (shown(alloc, &txn)?, share.commits()) != before {
                 return Err(Fail::new("a refused commit changes what it was given"));
             }
-            match room.commit(share, txn) {
-                Ok(()) => Ok(()),
-                Err(_) => Err(Fail::new("the commit is refused again")),
-            }
+            commit_again(room, share, txn)
         }
         Err(_) => Err(Fail::new("the commit is refused otherwise")),
     }
+}
+
+fn write_four<L: Law, M: Room<L>>(
+    alloc: Global,
+    room: &mut M,
+    share: &mut Share<L>,
+    refused: &mut Refused,
+) -> Result<(), Fail>
+    requires { IsFree L.lawful L.allowed }
+{
+    let mut txn = begin(room, refused)?;
+    write_each(alloc, &mut txn, &[1, 2, 3, 4])?;
+    commit(alloc, room, share, txn, refused)
+}
+
+fn find_and_write<L: Law, M: Room<L>>(
+    alloc: Global,
+    room: &mut M,
+    share: &mut Share<L>,
+    refused: &mut Refused,
+) -> Result<(), Fail>
+    requires { IsFree L.lawful L.allowed }
+{
+    let mut txn = begin(room, refused)?;
+    find(alloc, room, &mut txn, true, 4, refused)?;
+    find(alloc, room, &mut txn, false, 3, refused)?;
+    write_each(alloc, &mut txn, &[5, 6, 7])?;
+    commit(alloc, room, share, txn, refused)
 }
 
 /// Writes four jobs, takes one, reads one, and writes three more.
@@ -168,23 +213,36 @@ fn work<L: Law, M: Room<L>>(
 ) -> Result<(), Fail>
     requires { IsFree L.lawful L.allowed }
 {
-    let mut txn = begin(room, refused)?;
-    write(alloc, &mut txn, 1)?;
-    write(alloc, &mut txn, 2)?;
-    write(alloc, &mut txn, 3)?;
-    write(alloc, &mut txn, 4)?;
-    commit(alloc, room, share, txn, refused)?;
-    let mut txn = begin(room, refused)?;
-    find(alloc, room, &mut txn, true, 4, refused)?;
-    find(alloc, room, &mut txn, false, 3, refused)?;
-    write(alloc, &mut txn, 5)?;
-    write(alloc, &mut txn, 6)?;
-    write(alloc, &mut txn, 7)?;
-    commit(alloc, room, share, txn, refused)
+    write_four(alloc, room, share, refused)?;
+    find_and_write(alloc, room, share, refused)
 }
 
 /// What a space comes to: the commits of its share and its own, and the call that was refused.
 type Outcome = (u64, u64, Refused);
+
+/// A space of one thread, and its share.
+fn new_alone<L: Law>(
+    alloc: Global,
+    blank: Blank,
+    refused: &mut Refused,
+) -> Result<(Alone<L>, Vec<Share<L>>), Fail>
+    requires name { blank.name ≡ L.name }
+    requires parts { blank.parts ≡ L.parts }
+    requires one { blank.parts ≡ 1 }
+    requires free { IsFree L.lawful L.allowed }
+    ensures { IfOk result (λ made. vec_len made.1 ≡ 1) }
+{
+    match Alone::<L>::new(alloc, blank, TxnSpace::new(alloc), 1) {
+        Ok(made) => Ok(made),
+        Err((_, blank, space)) => {
+            *refused = Some(Call::NewAlone);
+            match Alone::<L>::new(alloc, blank, space, 1) {
+                Ok(made) => Ok(made),
+                Err(_) => Err(Fail::new("the space is refused again")),
+            }
+        }
+    }
+}
 
 fn work_alone<L: Law>(alloc: Global, blank: Blank) -> Result<Outcome, Fail>
     requires name { blank.name ≡ L.name }
@@ -193,19 +251,68 @@ fn work_alone<L: Law>(alloc: Global, blank: Blank) -> Result<Outcome, Fail>
     requires free { IsFree L.lawful L.allowed }
 {
     let mut refused = None;
-    let (mut room, mut shares) = match Alone::<L>::new(alloc, blank, TxnSpace::new(alloc), 1) {
-        Ok(made) => made,
-        Err((_, blank, space)) => {
-            refused = Some(Call::NewAlone);
-            let Ok(made) = Alone::<L>::new(alloc, blank, space, 1) else {
-                return Err(Fail::new("the space is refused again"));
-            };
-            made
-        }
-    };
+    let (mut room, mut shares) = new_alone::<L>(alloc, blank, &mut refused)?;
     work(alloc, &mut room, &mut shares[0], &mut refused)?;
     let (space, counted) = room.into_inner(shares);
     Ok((counted, space.commits(), refused))
+}
+
+/// Puts a job out, outside all transactions.
+fn put<L: Law, R: Wait>(
+    rt: &R,
+    alloc: Global,
+    shared: &Shared<L>,
+    refused: &mut Refused,
+) -> Result<(), Fail>
+    requires { IsFree L.lawful L.allowed }
+{
+    let Err((error, back)) = shared.out(rt, job(alloc, 9)?, Lease::Forever) else {
+        return Ok(());
+    };
+    *refused = Some(Call::Out);
+    if error != SpaceError::OutOfMemory || back != job(alloc, 9)? {
+        return Err(Fail::new("out is refused otherwise"));
+    }
+    if shared.out(rt, back, Lease::Forever).is_err() {
+        return Err(Fail::new("out is refused again"));
+    }
+    Ok(())
+}
+
+/// Reads the job that was put out.
+fn read<L: Law, R: Wait>(
+    rt: &R,
+    shared: &Shared<L>,
+    wanted: &Template,
+    refused: &mut Refused,
+) -> Result<(), Fail> {
+    let mut found = shared.rdp(rt, wanted);
+    if found.is_err() {
+        *refused = Some(Call::Rdp);
+        found = shared.rdp(rt, wanted);
+    }
+    match found {
+        Ok(Some((_, tuple))) if is_job(&tuple, 9) => Ok(()),
+        _ => Err(Fail::new("rdp finds another tuple")),
+    }
+}
+
+/// Waits for the job that was put out.
+fn wait<L: Law, R: Wait>(
+    rt: &R,
+    shared: &Shared<L>,
+    wanted: &Template,
+    refused: &mut Refused,
+) -> Result<(), Fail> {
+    let mut waited = shared.rd(rt, wanted);
+    if let Err(SharedError::OutOfMemory) = waited {
+        *refused = Some(Call::Rd);
+        waited = shared.rd(rt, wanted);
+    }
+    match waited {
+        Ok((_, tuple)) if is_job(&tuple, 9) => Ok(()),
+        _ => Err(Fail::new("rd finds another tuple")),
+    }
 }
 
 /// Puts a job out, reads it, and waits for it, by calls outside all transactions.
@@ -217,34 +324,10 @@ fn call_plainly<L: Law, R: Wait>(
 ) -> Result<(), Fail>
     requires { IsFree L.lawful L.allowed }
 {
-    if let Err((error, back)) = shared.out(rt, job(alloc, 9)?, Lease::Forever) {
-        *refused = Some(Call::Out);
-        if error != SpaceError::OutOfMemory || back != job(alloc, 9)? {
-            return Err(Fail::new("out is refused otherwise"));
-        }
-        if shared.out(rt, back, Lease::Forever).is_err() {
-            return Err(Fail::new("out is refused again"));
-        }
-    }
+    put(rt, alloc, shared, refused)?;
     let wanted = just_job(alloc, 9)?;
-    let mut found = shared.rdp(rt, &wanted);
-    if found.is_err() {
-        *refused = Some(Call::Rdp);
-        found = shared.rdp(rt, &wanted);
-    }
-    match found {
-        Ok(Some((_, tuple))) if is_job(&tuple, 9) => {}
-        _ => return Err(Fail::new("rdp finds another tuple")),
-    }
-    let mut waited = shared.rd(rt, &wanted);
-    if let Err(SharedError::OutOfMemory) = waited {
-        *refused = Some(Call::Rd);
-        waited = shared.rd(rt, &wanted);
-    }
-    match waited {
-        Ok((_, tuple)) if is_job(&tuple, 9) => Ok(()),
-        _ => Err(Fail::new("rd finds another tuple")),
-    }
+    read(rt, shared, &wanted, refused)?;
+    wait(rt, shared, &wanted, refused)
 }
 
 /// The work through the lock.
@@ -261,6 +344,31 @@ fn work_via<L: Law, R: Wait>(
     work(alloc, &mut room, share, refused)
 }
 
+/// A space that is shared, and its share.
+fn new_shared<L: Law>(
+    alloc: Global,
+    blank: Blank,
+    refused: &mut Refused,
+) -> Result<(Shared<L>, Vec<Share<L>>), Fail>
+    requires name { blank.name ≡ L.name }
+    requires parts { blank.parts ≡ L.parts }
+    requires one { blank.parts ≡ 1 }
+    requires limit { L.limit ≡ None }
+    requires free { IsFree L.lawful L.allowed }
+    ensures { IfOk result (λ made. vec_len made.1 ≡ 1) }
+{
+    match Shared::<L>::new(alloc, blank, TxnSpace::new(alloc), 1) {
+        Ok(made) => Ok(made),
+        Err((_, blank, space)) => {
+            *refused = Some(Call::NewShared);
+            match Shared::<L>::new(alloc, blank, space, 1) {
+                Ok(made) => Ok(made),
+                Err(_) => Err(Fail::new("the space is refused again")),
+            }
+        }
+    }
+}
+
 fn work_shared<L: Law, R: Wait>(rt: &R, alloc: Global, blank: Blank) -> Result<Outcome, Fail>
     requires name { blank.name ≡ L.name }
     requires parts { blank.parts ≡ L.parts }
@@ -269,16 +377,7 @@ fn work_shared<L: Law, R: Wait>(rt: &R, alloc: Global, blank: Blank) -> Result<O
     requires free { IsFree L.lawful L.allowed }
 {
     let mut refused = None;
-    let (shared, mut shares) = match Shared::<L>::new(alloc, blank, TxnSpace::new(alloc), 1) {
-        Ok(made) => made,
-        Err((_, blank, space)) => {
-            refused = Some(Call::NewShared);
-            let Ok(made) = Shared::<L>::new(alloc, blank, space, 1) else {
-                return Err(Fail::new("the space is refused again"));
-            };
-            made
-        }
-    };
+    let (shared, mut shares) = new_shared::<L>(alloc, blank, &mut refused)?;
     call_plainly(rt, alloc, &shared, &mut refused)?;
     work_via(rt, alloc, &shared, &mut shares[0], &mut refused)?;
     let (space, counted) = shared.into_inner(shares);
@@ -301,6 +400,31 @@ fn work_once<L: Law, R: Wait>(
     commit(alloc, &mut room, share, txn, refused)
 }
 
+/// A space under a limit of one commit, and its share.
+fn new_within<L: Law>(
+    alloc: Global,
+    blank: Blank,
+    refused: &mut Refused,
+) -> Result<(Shared<L>, Vec<Share<L>>), Fail>
+    requires name { blank.name ≡ L.name }
+    requires parts { blank.parts ≡ L.parts }
+    requires one { blank.parts ≡ 1 }
+    requires limit { L.limit ≡ Some 1 }
+    requires free { IsFree L.lawful L.allowed }
+    ensures { IfOk result (λ made. vec_len made.1 ≡ 1) }
+{
+    match Shared::<L>::with_limit(alloc, blank, TxnSpace::new(alloc), 1, 1) {
+        Ok(made) => Ok(made),
+        Err((_, blank, space)) => {
+            *refused = Some(Call::WithLimit);
+            match Shared::<L>::with_limit(alloc, blank, space, 1, 1) {
+                Ok(made) => Ok(made),
+                Err(_) => Err(Fail::new("the space is refused again")),
+            }
+        }
+    }
+}
+
 /// A space under a limit of one commit, which a first commit reaches.
 fn work_within<L: Law, R: Wait>(rt: &R, alloc: Global, blank: Blank) -> Result<Outcome, Fail>
     requires name { blank.name ≡ L.name }
@@ -310,17 +434,7 @@ fn work_within<L: Law, R: Wait>(rt: &R, alloc: Global, blank: Blank) -> Result<O
     requires free { IsFree L.lawful L.allowed }
 {
     let mut refused = None;
-    let space = TxnSpace::new(alloc);
-    let (shared, mut shares) = match Shared::<L>::with_limit(alloc, blank, space, 1, 1) {
-        Ok(made) => made,
-        Err((_, blank, space)) => {
-            refused = Some(Call::WithLimit);
-            let Ok(made) = Shared::<L>::with_limit(alloc, blank, space, 1, 1) else {
-                return Err(Fail::new("the space is refused again"));
-            };
-            made
-        }
-    };
+    let (shared, mut shares) = new_within::<L>(alloc, blank, &mut refused)?;
     work_once(rt, alloc, &shared, &mut shares[0], &mut refused)?;
     let (space, counted) = shared.into_inner(shares);
     Ok((counted, space.commits(), refused))

@@ -7,6 +7,7 @@ use crate::world::TxnSpace;
 use Call::{Begin, Commit, Out, Read, ReadIn, TakeIn, WriteIn};
 use Told::{Done, Number, Refused};
 use std::alloc::Global;
+use std::process::Abort;
 use std::test::Fail;
 use tuple_match::{Field, Pattern, Template, Tuple};
 use tuple_space::{Lease, SpaceError};
@@ -186,6 +187,58 @@ static ROWS: [(Call, Told); 22] = [
 /// The numbers of the tuples that are left, of which the fourth was put out by the first commit.
 static LEFT: [i128; 8] = [4, 5, 6, 7, 8, 9, 10, 11];
 
+/// Makes a call, and again where it is refused memory: what it answers at last, and whether it was refused.
+fn make_again(
+    rt: &impl Abort,
+    alloc: Global,
+    run: &mut Run,
+    all: &Template,
+    call: Call,
+) -> Result<(Told, bool), Fail> {
+    let before = shown(alloc, run, all)?;
+    let told = run.make(alloc, call)?;
+    if told != Refused {
+        return Ok((told, false));
+    }
+    assert_eq!(rt; shown(alloc, run, all)?, before, "{call:?}");
+    Ok((run.make(alloc, call)?, true))
+}
+
+/// Makes all calls, and tells which was refused memory.
+fn make_all(
+    rt: &impl Abort,
+    alloc: Global,
+    run: &mut Run,
+    all: &Template,
+) -> Result<Option<Call>, Fail> {
+    let mut refused = None;
+    for (call, want) in &ROWS {
+        let (told, is_refused) = make_again(rt, alloc, run, all, *call)?;
+        assert_eq!(rt; told, *want, "{call:?}");
+        if is_refused {
+            refused = Some(*call);
+        }
+    }
+    Ok(refused)
+}
+
+/// Takes the tuples out once more, of a space that came back whole.
+fn taken_again(
+    alloc: Global,
+    space: TxnSpace,
+    all: &Template,
+    before: &String,
+) -> Result<Vec<Tuple>, Fail> {
+    let run = Run { space, txn: None };
+    if shown(alloc, &run, all)? != *before {
+        return Err(Fail::new("another space came back"));
+    }
+    match run.space.into_tuples() {
+        Ok(tuples) => Ok(tuples),
+        Err(_) => Err(Fail::new("refused again")),
+    }
+}
+
 /// Takes the tuples out; refused memory, the space comes back whole.
 fn taken_out(
     alloc: Global,
@@ -196,42 +249,31 @@ fn taken_out(
     match run.space.into_tuples() {
         Ok(tuples) => Ok((tuples, None)),
         Err((_, space)) => {
-            let run = Run { space, txn: None };
-            if shown(alloc, &run, all)? != before {
-                return Err(Fail::new("another space came back"));
-            }
-            match run.space.into_tuples() {
-                Ok(tuples) => Ok((tuples, Some("IntoTuples"))),
-                Err(_) => Err(Fail::new("refused again")),
-            }
+            let tuples = taken_again(alloc, space, all, &before)?;
+            Ok((tuples, Some("IntoTuples")))
         }
     }
+}
+
+fn expect_left(rt: &impl Abort, tuples: &[Tuple]) -> Result<(), Fail> {
+    assert_eq!(rt; tuples.len(), LEFT.len());
+    for (tuple, number) in tuples.iter().zip(LEFT) {
+        assert_eq!(rt; number_of(tuple)?, Number(number));
+    }
+    Ok(())
 }
 
 #[test]
 fn calls_are_made_again(rt: HostRuntime) -> Result<(), Fail> {
     let alloc = rt.alloc();
     let all = Template::new(vec![in alloc; Pattern::AnyWord, Pattern::AnyInt]?)?;
-    let mut refused = None;
     let mut run = Run {
         space: TxnSpace::new(alloc),
         txn: None,
     };
-    for (call, want) in ROWS {
-        let before = shown(alloc, &run, &all)?;
-        let mut told = run.make(alloc, call)?;
-        if told == Refused {
-            refused = Some(call);
-            assert_eq!(rt; shown(alloc, &run, &all)?, before, "{call:?}");
-            told = run.make(alloc, call)?;
-        }
-        assert_eq!(rt; told, want, "{call:?}");
-    }
+    let refused = make_all(&rt, alloc, &mut run, &all)?;
     let (tuples, last) = taken_out(alloc, run, &all)?;
-    assert_eq!(rt; tuples.len(), LEFT.len());
-    for (tuple, number) in tuples.iter().zip(LEFT) {
-        assert_eq!(rt; number_of(tuple)?, Number(number));
-    }
+    expect_left(&rt, &tuples)?;
     match (refused, last) {
         (Some(call), _) => Err(Fail::new(format_args!("refused: {call:?}"))),
         (None, Some(call)) => Err(Fail::new(format_args!("refused: {call}"))),

@@ -71,12 +71,35 @@ impl Run {
     ) -> Result<bool, Fail> {
         let tuple = job(alloc, job_number)?;
         if number == 0 {
-            return Ok(self.space.out(tuple, lease).is_ok());
+            return Ok(put_outside(&mut self.space, tuple, lease));
         }
         match self.begun.get_mut(number - 1) {
-            Some(Some(txn)) => Ok(txn.out_in(tuple, lease).is_ok()),
+            Some(Some(txn)) => Ok(put_inside(txn, tuple, lease)),
             _ => Ok(false),
         }
+    }
+
+    /// Makes a call, and tells whether it is answered as its row says.
+    fn answers(&mut self, alloc: Global, act: Act) -> Result<bool, Fail> {
+        match act {
+            OutForever(number, n) => self.put(alloc, number, Lease::Forever, n),
+            Out(number, ms, n) => self.put(alloc, number, Lease::Ms(ms), n),
+            Inp(number, want) => Ok(self.get(number, true)? == want),
+            Rdp(number, want) => Ok(self.get(number, false)? == want),
+            Begin(ms) => {
+                self.begin(ms)?;
+                Ok(true)
+            }
+            Commit(number, want) => Ok(self.end(number, true) == want),
+            Abort(number, want) => Ok(self.end(number, false) == want),
+            Advance(moment) => Ok(advance_in(&mut self.space, moment).is_ok()),
+        }
+    }
+
+    fn begin(&mut self, ms: u64) -> Result<(), Fail> {
+        let txn = begin_in(&mut self.space, ms)?;
+        self.begun.push(Some(txn))?;
+        Ok(())
     }
 
     /// The number of the job that is taken or read.
@@ -102,9 +125,9 @@ impl Run {
             return Some(TxnError::Expired);
         };
         let ended = if commit {
-            self.space.commit(txn)
+            commit_in(&mut self.space, txn)
         } else {
-            self.space.abort(txn)
+            abort_in(&mut self.space, txn)
         };
         match ended {
             Ok(()) => None,
@@ -114,6 +137,16 @@ impl Run {
             }
         }
     }
+}
+
+// Calls without the clauses of their contracts, which a function that makes many of them would bear with it.
+
+fn put_outside(space: &mut TxnSpace, tuple: Tuple, lease: Lease) -> bool {
+    space.out(tuple, lease).is_ok()
+}
+
+fn put_inside(txn: &mut Txn, tuple: Tuple, lease: Lease) -> bool {
+    txn.out_in(tuple, lease).is_ok()
 }
 
 fn get_outside(space: &mut TxnSpace, jobs: &Template, take: bool) -> Result<Option<i128>, Fail> {
@@ -152,26 +185,34 @@ fn found_number(txn: &Txn, what: &Found) -> Option<i128> {
     }
 }
 
+fn begin_in(space: &mut TxnSpace, ms: u64) -> Result<Txn, TxnError> {
+    space.begin(ms)
+}
+
+fn renew_in(space: &mut TxnSpace, txn: &Txn, ms: u64) -> Result<(), TxnError> {
+    space.renew_txn(txn, ms)
+}
+
+fn commit_in(space: &mut TxnSpace, txn: Txn) -> Result<(), (TxnError, Txn)> {
+    space.commit(txn)
+}
+
+fn abort_in(space: &mut TxnSpace, txn: Txn) -> Result<(), (TxnError, Txn)> {
+    space.abort(txn)
+}
+
+fn advance_in(space: &mut TxnSpace, moment: u64) -> Result<(), SpaceError> {
+    space.advance(moment)
+}
+
+fn count_in(space: &TxnSpace, jobs: &Template) -> u64 {
+    space.count(jobs)
+}
+
 fn play(rt: &impl Ending, alloc: Global, acts: &[Act]) -> Result<(), Fail> {
     let mut run = Run::new(alloc)?;
     for (row, act) in acts.iter().enumerate() {
-        match *act {
-            OutForever(number, n) => {
-                assert!(rt; run.put(alloc, number, Lease::Forever, n)?, "act {row}");
-            }
-            Out(number, ms, n) => {
-                assert!(rt; run.put(alloc, number, Lease::Ms(ms), n)?, "act {row}");
-            }
-            Inp(number, want) => assert_eq!(rt; run.get(number, true)?, want, "act {row}"),
-            Rdp(number, want) => assert_eq!(rt; run.get(number, false)?, want, "act {row}"),
-            Begin(ms) => {
-                let txn = run.space.begin(ms)?;
-                run.begun.push(Some(txn))?;
-            }
-            Commit(number, want) => assert_eq!(rt; run.end(number, true), want, "act {row}"),
-            Abort(number, want) => assert_eq!(rt; run.end(number, false), want, "act {row}"),
-            Advance(moment) => assert_eq!(rt; run.space.advance(moment), Ok(()), "act {row}"),
-        }
+        assert!(rt; run.answers(alloc, *act)?, "act {row}: {act:?}");
     }
     Ok(())
 }
@@ -257,50 +298,61 @@ fn plays_each_row(rt: HostRuntime) -> Result<(), Fail> {
     Ok(())
 }
 
+/// A space of one job, and a transaction that has taken it.
+fn with_job_taken(alloc: Global, number: i128) -> Result<(TxnSpace, Txn), Fail> {
+    let mut space = TxnSpace::new(alloc);
+    if !put_outside(&mut space, job(alloc, number)?, Lease::Forever) {
+        return Err(Fail::new("a job is to be put out"));
+    }
+    let mut txn = begin_in(&mut space, 100)?;
+    match get_inside(&mut space, &mut txn, &any_job(alloc)?, true)? {
+        Some(_) => Ok((space, txn)),
+        None => Err(Fail::new("a job is to be taken")),
+    }
+}
+
 #[test]
 fn refuses_a_transaction_of_another_space(rt: HostRuntime) -> Result<(), Fail> {
     let alloc = rt.alloc();
     let jobs = any_job(alloc)?;
-    let mut one = TxnSpace::new(alloc);
-    let mut other = TxnSpace::new(alloc);
-    assert!(rt; one.out(job(alloc, 1)?, Lease::Forever).is_ok());
-    assert!(rt; other.out(job(alloc, 2)?, Lease::Forever).is_ok());
-    let mut txn = one.begin(100)?;
-    let mut twin = other.begin(100)?;
-    assert!(rt; one.inp_in(&mut txn, &jobs)?.is_some());
+    let (mut one, txn) = with_job_taken(alloc, 1)?;
     assert_eq!(rt; txn.number(), 1);
     assert_eq!(rt; txn.marks().len(), 1);
     // The marks differ in the tuple alone.
-    assert!(rt; other.inp_in(&mut twin, &jobs)?.is_some());
-    assert_eq!(rt; other.renew_txn(&txn, 5), Err(TxnError::Foreign));
-    match other.commit(txn) {
+    let (mut other, _twin) = with_job_taken(alloc, 2)?;
+    assert_eq!(rt; renew_in(&mut other, &txn, 5), Err(TxnError::Foreign));
+    match commit_in(&mut other, txn) {
         Ok(()) => assert!(rt; false, "accepted"),
         Err((error, back)) => {
             assert_eq!(rt; error, TxnError::Foreign);
-            assert!(rt; one.commit(back).is_ok());
+            assert!(rt; commit_in(&mut one, back).is_ok());
         }
     }
     assert_eq!(rt; one.commits(), 1);
     assert_eq!(rt; other.commits(), 0);
-    assert_eq!(rt; one.count(&jobs), 0);
-    assert_eq!(rt; other.count(&jobs), 1);
+    assert_eq!(rt; count_in(&one, &jobs), 0);
+    assert_eq!(rt; count_in(&other, &jobs), 1);
     Ok(())
 }
 
 #[test]
 fn renews_a_transaction(rt: HostRuntime) -> Result<(), Fail> {
     let mut space = TxnSpace::new(rt.alloc());
-    let txn = space.begin(10)?;
-    assert_eq!(rt; space.advance(5), Ok(()));
-    assert_eq!(rt; space.renew_txn(&txn, 100), Ok(()));
-    assert_eq!(rt; space.advance(104), Ok(()));
-    assert_eq!(rt; space.now(), 104);
-    assert_eq!(rt; space.renew_txn(&txn, 0), Ok(()));
-    assert_eq!(rt; space.advance(105), Ok(()));
-    assert_eq!(rt; space.renew_txn(&txn, 1), Err(TxnError::Expired));
+    let txn = begin_in(&mut space, 10)?;
+    let rows = [
+        (5, 100, Ok(())),
+        (104, 0, Ok(())),
+        (105, 1, Err(TxnError::Expired)),
+    ];
+    for (moment, asked, want) in rows {
+        assert_eq!(rt; advance_in(&mut space, moment), Ok(()));
+        assert_eq!(rt; space.now(), moment);
+        assert_eq!(rt; renew_in(&mut space, &txn, asked), want, "at {moment}");
+    }
     assert_eq!(rt; txn.writes().len(), 0);
     assert_eq!(rt; txn.marks().len(), 0);
-    assert_eq!(rt; space.advance((1 << 62) + 1), Err(SpaceError::Exhausted));
+    let too_late = advance_in(&mut space, (1 << 62) + 1);
+    assert_eq!(rt; too_late, Err(SpaceError::Exhausted));
     Ok(())
 }
 
@@ -325,17 +377,17 @@ fn tells_each_refusal(rt: HostRuntime) -> Result<(), Fail> {
 #[test]
 fn stops_at_the_last_numbers(rt: HostRuntime) -> Result<(), Fail> {
     let mut space = TxnSpace::nearly_used_up(rt.alloc());
-    let first = space.begin(10)?;
-    let second = space.begin(10)?;
+    let first = begin_in(&mut space, 10)?;
+    let second = begin_in(&mut space, 10)?;
     assert_eq!(rt; second.number(), 1 << 62);
-    assert!(rt; space.begin(10).is_err());
-    assert!(rt; space.commit(first).is_ok());
+    assert!(rt; begin_in(&mut space, 10).is_err());
+    assert!(rt; commit_in(&mut space, first).is_ok());
     assert_eq!(rt; space.commits(), 1 << 62);
-    match space.commit(second) {
+    match commit_in(&mut space, second) {
         Ok(()) => assert!(rt; false, "accepted"),
         Err((error, back)) => {
             assert_eq!(rt; error, TxnError::Exhausted);
-            assert!(rt; space.abort(back).is_ok());
+            assert!(rt; abort_in(&mut space, back).is_ok());
         }
     }
     assert_eq!(rt; space.commits(), 1 << 62);
