@@ -9,6 +9,7 @@ use qap_io::{Counted, Status};
 use qap_text::TextError;
 use std::alloc::{AllocError, Global};
 use std::io::{Read, Write};
+use std::process::Abort;
 use std::test::Fail;
 
 /// What a run over memory writes to its standard output and its standard error, and its exit status.
@@ -35,6 +36,13 @@ pub(crate) fn asked<R: Read, S: Read, W: Write>(
     }
 }
 
+/// What goes to the standard error of a run that answers no verdict.
+fn told(alloc: Global, error: &RunError) -> Vec<u8> {
+    let mut errors = Counted::new(Vec::new(alloc));
+    let _ = fault_line(error, &mut errors);
+    errors.into_inner()
+}
+
 /// A run on one text, or on two of which each has its reader.
 pub(crate) fn run(
     alloc: Global,
@@ -45,20 +53,28 @@ pub(crate) fn run(
     let mut reader = Counted::new(first);
     let mut second = second.map(|text| Counted::new(text));
     let mut output = Counted::new(Vec::new(alloc));
-    let mut errors = Counted::new(Vec::new(alloc));
-    let answered = asked(alloc, question, &mut reader, &mut second, &mut output);
-    let status = answered.map_or_else(
-        |error| {
-            let _ = fault_line(&error, &mut errors);
-            status(&error)
-        },
-        |status| status.code(),
-    );
+    let (errors, status) = match asked(alloc, question, &mut reader, &mut second, &mut output) {
+        Ok(status) => (Vec::new(alloc), status.code()),
+        Err(error) => (told(alloc, &error), status(&error)),
+    };
     Outcome {
         output: output.into_inner(),
-        errors: errors.into_inner(),
+        errors,
         status,
     }
+}
+
+/// Asserts what a run writes to its standard output and its standard error, and its exit status.
+fn assert_run(
+    rt: &impl Abort,
+    alloc: Global,
+    (question, first, second): (Question, &[u8], Option<&[u8]>),
+    (output, errors, status): (&[u8], &[u8], u8),
+) {
+    let run = run(alloc, question, first, second);
+    assert_eq!(rt; run.output.as_slice(), output);
+    assert_eq!(rt; run.errors.as_slice(), errors);
+    assert_eq!(rt; run.status, status);
 }
 
 #[test]
@@ -96,10 +112,8 @@ fn answers(rt: HostRuntime) {
         ),
     ];
     for (text, want, status) in cases {
-        let run = run(rt.alloc(), Question::Value, text, None);
-        assert_eq!(rt; run.output.as_slice(), want);
-        assert_eq!(rt; run.errors.as_slice(), b"".as_slice());
-        assert_eq!(rt; run.status, status);
+        let texts = (Question::Value, text, None);
+        assert_run(&rt, rt.alloc(), texts, (want, b"", status));
     }
 }
 
@@ -132,10 +146,8 @@ fn refusals(rt: HostRuntime) {
         (b"1 2 3 x", b"refused 2 NotANumber at 1\n"),
     ];
     for (text, want) in cases {
-        let run = run(rt.alloc(), Question::Value, text, None);
-        assert_eq!(rt; run.errors.as_slice(), want);
-        assert_eq!(rt; run.output.as_slice(), b"".as_slice());
-        assert_eq!(rt; run.status, 1);
+        let texts = (Question::Value, text, None);
+        assert_run(&rt, rt.alloc(), texts, (b"", want, 1));
     }
 }
 
@@ -155,6 +167,18 @@ fn statuses(rt: HostRuntime) {
     }
 }
 
+/// Asserts the message of an error.
+fn assert_message(
+    rt: &impl Abort,
+    alloc: Global,
+    error: RunError,
+    want: &str,
+) -> Result<(), AllocError> {
+    let message = format!(in alloc; "{error}")?;
+    assert_eq!(rt; message.as_str(), want);
+    Ok(())
+}
+
 #[test]
 fn messages(rt: HostRuntime) -> Result<(), Fail> {
     let cases: [(RunError, &str); 4] = [
@@ -167,8 +191,7 @@ fn messages(rt: HostRuntime) -> Result<(), Fail> {
         (RunError::Device, "a reader or the writer failed"),
     ];
     for (error, want) in cases {
-        let message = format!(in rt.alloc(); "{error}")?;
-        assert_eq!(rt; message.as_str(), want);
+        assert_message(&rt, rt.alloc(), error, want)?;
     }
     assert_eq!(rt; USAGE, "usage: qapcheck value|optimal [INSTANCE OTHER]");
     Ok(())
@@ -241,39 +264,53 @@ fn least_costs_and_gaps(rt: HostRuntime) {
         ),
     ];
     for (instance, certificate, want) in cases {
-        let run = run(rt.alloc(), Question::Optimal, instance, Some(certificate));
-        assert_eq!(rt; run.output.as_slice(), want);
-        assert_eq!(rt; run.errors.as_slice(), b"".as_slice());
-        assert_eq!(rt; run.status, 0);
+        let texts = (Question::Optimal, instance, Some(certificate));
+        assert_run(&rt, rt.alloc(), texts, (want, b"", 0));
     }
 }
 
 #[test]
 fn one_input(rt: HostRuntime) {
-    let cases: [(&[u8], &[u8], &[u8]); 3] = [
+    let cases: [(&[u8], &[u8], &[u8], u8); 3] = [
         (
             b"1 -3 7\r\n,\t qapcert 1\nn 1\ncost -21\nperm 1\nb -21 0\nend\n",
             b"optimal -21\n",
             b"",
+            0,
         ),
-        (b"1 -3 7", b"", b"refused 14 Truncated at 1\n"),
-        (b"1 -3", b"", b"refused 6 CountDiffers\n"),
+        (b"1 -3 7", b"", b"refused 14 Truncated at 1\n", 1),
+        (b"1 -3", b"", b"refused 6 CountDiffers\n", 1),
     ];
-    for (text, output, errors) in cases {
-        let run = run(rt.alloc(), Question::Optimal, text, None);
-        assert_eq!(rt; run.output.as_slice(), output);
-        assert_eq!(rt; run.errors.as_slice(), errors);
+    for (text, output, errors, status) in cases {
+        let texts = (Question::Optimal, text, None);
+        assert_run(&rt, rt.alloc(), texts, (output, errors, status));
     }
-    let behind_a_blank = run(rt.alloc(), Question::Optimal, THREE, Some(b" qapcert 1\n"));
-    assert_eq!(rt;
-        behind_a_blank.errors.as_slice(),
-        b"refused 11 BadHeader\n".as_slice()
+    let behind_a_blank: (Question, &[u8], Option<&[u8]>) = (
+        Question::Optimal,
+        THREE,
+        Some(b" qapcert 1\n"),
     );
-    let two_files = run(rt.alloc(), Question::Value, TWO, Some(b"2 11 1 2"));
-    assert_eq!(rt;
-        two_files.output.as_slice(),
-        b"cost 11\ninverse 11\nstated 11\nmatch direct\n".as_slice()
-    );
+    let told = b"refused 11 BadHeader\n";
+    assert_run(&rt, rt.alloc(), behind_a_blank, (b"", told, 1));
+    let two_files: (Question, &[u8], Option<&[u8]>) = (Question::Value, TWO, Some(b"2 11 1 2"));
+    let lines = b"cost 11\ninverse 11\nstated 11\nmatch direct\n";
+    assert_run(&rt, rt.alloc(), two_files, (lines, b"", 0));
+}
+
+/// Asserts the fault for which a certificate is refused, as `refused` tells it.
+fn assert_refused(
+    rt: &impl Abort,
+    alloc: Global,
+    instance: &[u8],
+    certificate: &[u8],
+    want: &[u8],
+) {
+    let run = run(alloc, Question::Optimal, instance, Some(certificate));
+    let told = run.errors.strip_prefix(b"refused ".as_slice());
+    let fault = told.and_then(|told| told.strip_suffix(b"\n".as_slice()));
+    assert_eq!(rt; fault, Some(want));
+    assert_eq!(rt; run.output.as_slice(), b"".as_slice());
+    assert_eq!(rt; run.status, 1);
 }
 
 #[test]
@@ -383,12 +420,7 @@ fn refused_certificates(rt: HostRuntime) {
         (b"2 0 x", ROOT_BOUND, b"2 NotANumber at 4"),
     ];
     for (instance, certificate, want) in cases {
-        let run = run(rt.alloc(), Question::Optimal, instance, Some(certificate));
-        let told = run.errors.strip_prefix(b"refused ".as_slice());
-        let fault = told.and_then(|told| told.strip_suffix(b"\n".as_slice()));
-        assert_eq!(rt; fault, Some(want));
-        assert_eq!(rt; run.output.as_slice(), b"".as_slice());
-        assert_eq!(rt; run.status, 1);
+        assert_refused(&rt, rt.alloc(), instance, certificate, want);
     }
 }
 
@@ -400,6 +432,19 @@ fn command(alloc: Global, words: &[&str]) -> Result<Vec<String>, AllocError> {
         line.push(String::from_str(alloc, word)?)?;
     }
     Ok(line)
+}
+
+/// Asserts what the words of a command line ask for, behind the program's name.
+fn assert_parsed(
+    rt: &impl Abort,
+    alloc: Global,
+    words: &[&str],
+    want: Option<Request<'_>>,
+) -> Result<(), AllocError> {
+    let line = command(alloc, words)?;
+    let wanted = want.ok_or(CommandError::Usage);
+    assert_eq!(rt; parse(alloc, &line), wanted, "{words:?}");
+    Ok(())
 }
 
 #[test]
@@ -446,9 +491,7 @@ fn command_lines(rt: HostRuntime) -> Result<(), Fail> {
         (&["--help"], None),
     ];
     for (words, want) in cases {
-        let line = command(rt.alloc(), words)?;
-        let wanted = want.ok_or(CommandError::Usage);
-        assert_eq!(rt; parse(rt.alloc(), &line), wanted, "{words:?}");
+        assert_parsed(&rt, rt.alloc(), words, want)?;
     }
     Ok(())
 }
