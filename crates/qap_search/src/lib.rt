@@ -45,6 +45,7 @@ pub use hand::Hand;
 pub use law::{
     certificate_law, found_law, opening_law, order_law, replacement_law, replacing_law, stopped_law,
 };
+pub use opening::opening_space;
 pub use putting::put_forever;
 pub use reading::read_node;
 pub use report::{Ended, Report};
@@ -55,18 +56,3 @@ pub use templates::{best_template, node_template};
 pub use thought::Thought;
 pub use workers::solve;
 pub use writing::tuple_of_best;
-
-#[cfg(test)]
-mod examples;
-#[cfg(test)]
-mod hand_tests;
-#[cfg(test)]
-mod memory_tests;
-#[cfg(test)]
-mod schedule_tests;
-#[cfg(test)]
-mod solving_tests;
-#[cfg(test)]
-mod tests;
-#[cfg(test)]
-mod worker_tests;

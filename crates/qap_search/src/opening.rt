@@ -20,7 +20,7 @@ use tuple_space::{Lease, SpaceError};
 
 /// A space that holds the open root, and the permutation that sends each facility to the location of its own number as the
 /// best one; both forever.
-pub(crate) fn opening_space(alloc: Global, instance: &Instance) -> Result<TxnSpace, AllocError>
+pub fn opening_space(alloc: Global, instance: &Instance) -> Result<TxnSpace, AllocError>
     ensures { IfOk result (IsOpening instance.now) }
 {
     opening_law();

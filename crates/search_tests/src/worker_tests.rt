@@ -3,13 +3,15 @@
 //!
 //! Each wait has a limit of turns, past which the test fails.
 
-use crate::examples::{FIRST, SECOND, patterned, three};
-use crate::{Always, Answer, Clock, Ended, Gate, Kind, SolveError, solve};
-use qap_cert::check;
-use qap_cost::least_by_listing;
+use crate::examples::{FIRST, SECOND, patterned, three, told};
+use qap_cost::{Instance, least_by_listing};
+use qap_search::{Always, Answer, Clock, Ended, Gate, Kind, SolveError, solve};
+use std::alloc::Global;
+use std::sync::Wait;
 use std::sync::atomic::{AtomicBool, AtomicU64, Ordering};
 use std::test::Fail;
-use std::thread;
+use std::thread::{self, Threads};
+use std::time;
 
 /// How many milliseconds a transaction may take.
 const LEASE_MS: u64 = 1000;
@@ -92,6 +94,25 @@ impl Gate for Meeting {
     fn thinking(&self, _worker: u16) {}
 }
 
+/// A search by at most 64 workers, under the lease of these tests.
+fn search<R, C, G>(
+    rt: &R,
+    alloc: Global,
+    instance: &Instance,
+    workers: u16,
+    limit: Option<u64>,
+    clock: &C,
+    gate: &G,
+) -> Result<Answer, SolveError>
+where
+    R: Threads + Wait + time::Clock + Sync,
+    C: Clock,
+    G: Gate + Sync,
+{
+    let workers = workers.clamp(1, 64);
+    solve(rt, alloc, instance, workers, LEASE_MS, limit, clock, gate)
+}
+
 #[test]
 fn gate_meet(rt: HostRuntime) -> Result<(), Fail> {
     let alloc = rt.alloc();
@@ -100,7 +121,7 @@ fn gate_meet(rt: HostRuntime) -> Result<(), Fail> {
         first: Signal::new(),
         second: Signal::new(),
     };
-    let answer = solve(&rt, alloc, &instance, 2, LEASE_MS, None, &Stopped, &gate)?;
+    let answer = search(&rt, alloc, &instance, 2, None, &Stopped, &gate)?;
     assert!(rt; !gate.first.is_late() && !gate.second.is_late());
     assert!(rt; gate.first.is_given() && gate.second.is_given());
     assert_eq!(rt; answer.certificate.cost(), 24);
@@ -153,7 +174,7 @@ fn gate_late(rt: HostRuntime) -> Result<(), Fail> {
         accepted: Signal::new(),
         refused: AtomicU64::new(0),
     };
-    let answer = solve(&rt, alloc, &instance, 2, LEASE_MS, None, &gate, &gate)?;
+    let answer = search(&rt, alloc, &instance, 2, None, &gate, &gate)?;
     assert!(rt; !gate.accepted.is_late());
     assert_eq!(rt; gate.refused.load(Ordering::SeqCst), 1);
     assert_eq!(rt; answer.certificate.cost(), 24);
@@ -202,7 +223,7 @@ fn gate_think(rt: HostRuntime) -> Result<(), Fail> {
         begun: AtomicU64::new(0),
         third: Signal::new(),
     };
-    let answer = solve(&rt, alloc, &instance, 2, LEASE_MS, None, &Stopped, &gate)?;
+    let answer = search(&rt, alloc, &instance, 2, None, &Stopped, &gate)?;
     assert!(rt; gate.third.is_given() && !gate.third.is_late());
     assert_eq!(rt; answer.certificate.cost(), 1);
     assert_eq!(rt; counts(&answer), (4, 0));
@@ -236,9 +257,7 @@ fn ended_workers_leave_open_nodes(rt: HostRuntime) -> Result<(), Fail> {
     ];
     for (workers, kind) in cases {
         let gate = Without(kind);
-        let ended = solve(
-            &rt, alloc, &instance, workers, LEASE_MS, None, &Stopped, &gate,
-        );
+        let ended = search(&rt, alloc, &instance, workers, None, &Stopped, &gate);
         assert!(rt;
             matches!(ended, Err(SolveError::Unfinished(1))),
             "{workers} workers without {kind:?}"
@@ -285,7 +304,7 @@ fn another_worker_ends_the_search(rt: HostRuntime) -> Result<(), Fail> {
             steps: AtomicU64::new(0),
             ended: Signal::new(),
         };
-        let answer = solve(&rt, alloc, &instance, 2, LEASE_MS, None, &gate, &gate)?;
+        let answer = search(&rt, alloc, &instance, 2, None, &gate, &gate)?;
         assert_eq!(rt; answer.certificate.cost(), 1, "ended at step {step}");
         assert_eq!(rt; counts(&answer).0, 4, "ended at step {step}");
         let first = if gate.ended.is_given() {
@@ -311,9 +330,7 @@ fn worked_examples(rt: HostRuntime) -> Result<(), Fail> {
     for workers in [1, 2, 8] {
         for (matrices, cost, nodes) in [(FIRST, 24, 1), (SECOND, 1, 4)] {
             let instance = three(alloc, &matrices)?;
-            let answer = solve(
-                &rt, alloc, &instance, workers, LEASE_MS, None, &Stopped, &Always,
-            )?;
+            let answer = search(&rt, alloc, &instance, workers, None, &Stopped, &Always)?;
             assert_eq!(rt; answer.certificate.cost(), cost);
             assert_eq!(rt; answer.certificate.perm().locations(), [0, 1, 2].as_slice());
             assert_eq!(rt; counts(&answer).0, nodes);
@@ -337,9 +354,7 @@ fn answers(rt: HostRuntime) -> Result<(), Fail> {
         let (least, _) = least_by_listing(alloc, &instance)?;
         for workers in [1, 2, 8] {
             for _ in 0..10 {
-                let answer = solve(
-                    &rt, alloc, &instance, workers, LEASE_MS, None, &Stopped, &Always,
-                )?;
+                let answer = search(&rt, alloc, &instance, workers, None, &Stopped, &Always)?;
                 assert_eq!(rt;
                     answer.certificate.cost(),
                     least,
@@ -351,6 +366,35 @@ fn answers(rt: HostRuntime) -> Result<(), Fail> {
     Ok(())
 }
 
+/// A search under a limit of nodes: whether it was stopped, its answer's cost and bound, once the checker has accepted it, and how many
+/// commits were accepted.
+fn limited<R>(
+    rt: &R,
+    alloc: Global,
+    instance: &Instance,
+    workers: u16,
+    limit: u64,
+) -> Result<(bool, (i128, i128), u64), Fail>
+where
+    R: Threads + Wait + time::Clock + Sync,
+{
+    let (is_stopped, answer) = match search(
+        rt,
+        alloc,
+        instance,
+        workers,
+        Some(limit),
+        &Stopped,
+        &Always,
+    ) {
+        Ok(answer) => (false, answer),
+        Err(SolveError::Stopped(answer)) => (true, answer),
+        Err(error) => return Err(Fail::from(error)),
+    };
+    let costs = told(alloc, instance, &answer.certificate)?;
+    Ok((is_stopped, costs, counts(&answer).0))
+}
+
 /// A search of four nodes: its root shows 0, and each child the least cost, which is 1.
 #[test]
 fn a_limit_stops_the_search(rt: HostRuntime) -> Result<(), Fail> {
@@ -358,29 +402,12 @@ fn a_limit_stops_the_search(rt: HostRuntime) -> Result<(), Fail> {
     let instance = three(alloc, &SECOND)?;
     for workers in [1, 8] {
         for limit in 0..=5 {
-            let nodes = Some(limit);
-            let ended = solve(
-                &rt, alloc, &instance, workers, LEASE_MS, nodes, &Stopped, &Always,
-            );
-            let (is_stopped, answer) = match ended {
-                Ok(answer) => (false, answer),
-                Err(SolveError::Stopped(answer)) => (true, answer),
-                Err(error) => return Err(Fail::from(error)),
-            };
-            assert_eq!(rt; is_stopped, limit < 4, "{workers} workers, limit {limit}");
-            assert_eq!(rt;
-                counts(&answer).0,
-                limit.min(4),
-                "{workers} workers, limit {limit}"
-            );
             let bound = if limit == 0 { 0 } else { 1 };
             assert_eq!(rt;
-                answer.certificate.bound(),
-                bound,
+                limited(&rt, alloc, &instance, workers, limit)?,
+                (limit < 4, (1, bound), limit.min(4)),
                 "{workers} workers, limit {limit}"
             );
-            assert_eq!(rt; answer.certificate.cost(), 1);
-            assert!(rt; check(alloc, &instance, &answer.certificate).is_ok());
         }
     }
     Ok(())
@@ -392,7 +419,7 @@ fn a_limit_that_is_not_reached(rt: HostRuntime) -> Result<(), Fail> {
     let alloc = rt.alloc();
     let instance = three(alloc, &SECOND)?;
     let gate = Without(Kind::Commit);
-    let ended = solve(&rt, alloc, &instance, 1, LEASE_MS, Some(1), &Stopped, &gate);
+    let ended = search(&rt, alloc, &instance, 1, Some(1), &Stopped, &gate);
     assert!(rt; matches!(ended, Err(SolveError::Unfinished(1))));
     Ok(())
 }
@@ -404,16 +431,8 @@ fn a_gap_holds_the_least_cost(rt: HostRuntime) -> Result<(), Fail> {
         let instance = patterned(alloc, n)?;
         let (least, _) = least_by_listing(alloc, &instance)?;
         for limit in [0, 1, 2, 5, 20] {
-            let nodes = Some(limit);
-            let ended = solve(&rt, alloc, &instance, 2, LEASE_MS, nodes, &Stopped, &Always);
-            let answer = match ended {
-                Ok(answer) => answer,
-                Err(SolveError::Stopped(answer)) => answer,
-                Err(error) => return Err(Fail::from(error)),
-            };
-            let (bound, cost) = (answer.certificate.bound(), answer.certificate.cost());
+            let (_, (cost, bound), _) = limited(&rt, alloc, &instance, 2, limit)?;
             assert!(rt; bound <= least && least <= cost, "size {n}, limit {limit}");
-            assert!(rt; check(alloc, &instance, &answer.certificate).is_ok());
         }
     }
     Ok(())

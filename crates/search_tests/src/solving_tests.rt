@@ -1,9 +1,9 @@
 //! Answers of a search by one worker, against the listing of all permutations.
 
 use crate::examples::patterned;
-use crate::{Ended, Report, solve_alone};
 use qap_cert::check;
 use qap_cost::least_by_listing;
+use qap_search::{Ended, Report, solve_alone};
 use std::test::Fail;
 
 #[test]

@@ -1,16 +1,25 @@
 //! Runs by schedules: late commits, a worker who finds the best permutation taken, workers lost at each step, and schedules by a
 //! formula, whose ends are judged against the listing of all permutations.
 
-ghost use Rattle.std.specs.Prelude.{◌<◌, ◌≤◌};
+ghost use Rattle.std.specs.Prelude.{◌≡◌, ◌<◌, ◌≤◌, IfOk};
 
-use crate::examples::{FIRST, SECOND, patterned, three};
-use crate::{AssembleError, Report, Run, Step, assemble, best_template, node_template, play};
+use crate::examples::{FIRST, SECOND, patterned, three, told};
 use Step::{Advance, Lose, Turn};
-use qap_cert::{Certificate, check};
+use qap_cert::Certificate;
 use qap_cost::{Instance, least_by_listing};
+use qap_search::{AssembleError, Report, Run, Step, assemble, best_template, node_template, play};
 use space_txn::TxnSpace;
 use std::alloc::Global;
 use std::test::Fail;
+use tuple_match::Tuple;
+
+/// The run by a schedule, of at most three workers.
+fn run_of(alloc: Global, instance: &Instance, workers: u16, steps: &[Step]) -> Result<Run, Fail> {
+    if workers == 0 || workers > 3 {
+        return Err(Fail::new("too many workers, or none"));
+    }
+    Ok(play(alloc, instance, workers, steps)?)
+}
 
 /// How many nodes are open, how many best permutations there are, how many commits were accepted, and what each worker's commits
 /// came to: accepted, and too late.
@@ -76,7 +85,7 @@ fn schedules(rt: HostRuntime) -> Result<(), Fail> {
         (SECOND, 2, &taken, [2, 1, 2], [(2, 0), (0, 0)]),
     ];
     for (matrices, workers, steps, tuples, counts) in cases {
-        let run = play(alloc, &three(alloc, &matrices)?, workers, steps)?;
+        let run = run_of(alloc, &three(alloc, &matrices)?, workers, steps)?;
         assert_eq!(rt; outcome(alloc, &run)?, (tuples, counts), "{steps:?}");
     }
     Ok(())
@@ -87,24 +96,28 @@ fn assembled(alloc: Global, n: usize, space: TxnSpace) -> Result<Certificate, Fa
     requires some { 0 < n }
     requires few { n ≤ 256 }
 {
-    let tuples = space.into_tuples().or_else(|_| Err(Fail::new("memory")))?;
-    Ok(assemble(alloc, n, tuples)?)
+    Ok(assemble(alloc, n, tuples_of(space)?)?)
+}
+
+fn tuples_of(space: TxnSpace) -> Result<Vec<Tuple>, Fail> {
+    space.into_tuples().or_else(|_| Err(Fail::new("memory")))
+}
+
+/// Why these tuples of a search of three facilities are no certificate.
+fn refusal(alloc: Global, tuples: Vec<Tuple>) -> Option<AssembleError> {
+    assemble(alloc, 3, tuples).err()
 }
 
 #[test]
 fn what_is_left_is_assembled(rt: HostRuntime) -> Result<(), Fail> {
     let alloc = rt.alloc();
     let instance = three(alloc, &SECOND)?;
-    let run = play(alloc, &instance, 1, [Turn(0); 16].as_slice())?;
+    let run = run_of(alloc, &instance, 1, [Turn(0); 16].as_slice())?;
     let certificate = assembled(alloc, 3, run.space)?;
     assert_eq!(rt; (certificate.cost(), certificate.bound()), (1, 1));
-    let run = play(alloc, &instance, 1, [Turn(0); 4].as_slice())?;
-    let tuples = run
-        .space
-        .into_tuples()
-        .or_else(|_| Err(Fail::new("memory")))?;
+    let run = run_of(alloc, &instance, 1, [Turn(0); 4].as_slice())?;
     assert_eq!(rt;
-        assemble(alloc, 3, tuples).err(),
+        refusal(alloc, tuples_of(run.space)?),
         Some(AssembleError::Unfinished(3))
     );
     Ok(())
@@ -130,7 +143,7 @@ fn losses_at_each_step(rt: HostRuntime) -> Result<(), Fail> {
         for _ in 0..16 {
             steps.push(Turn(1))?;
         }
-        let run = play(alloc, &instance, 2, &steps)?;
+        let run = run_of(alloc, &instance, 2, &steps)?;
         let (tuples, [first, second]) = outcome(alloc, &run)?;
         assert_eq!(rt; tuples, [0, 1, 4], "lost after {turns} turns");
         assert_eq!(rt; all_accepted(&run.reports), 4, "lost after {turns} turns");
@@ -149,7 +162,7 @@ fn leases_end_at_each_step(rt: HostRuntime) -> Result<(), Fail> {
         for _ in 0..17 {
             steps.push(Turn(0))?;
         }
-        let run = play(alloc, &instance, 1, &steps)?;
+        let run = run_of(alloc, &instance, 1, &steps)?;
         let late = u64::from(turns % 4 == 3);
         assert_eq!(rt;
             outcome(alloc, &run)?,
@@ -173,8 +186,8 @@ fn steps_of_nobody_change_nothing(rt: HostRuntime) -> Result<(), Fail> {
         mixed.push(nothing[usize::from(turn % 3)])?;
         mixed.push(step)?;
     }
-    let plain = outcome(alloc, &play(alloc, &instance, 2, &plain)?)?;
-    let mixed = outcome(alloc, &play(alloc, &instance, 2, &mixed)?)?;
+    let plain = outcome(alloc, &run_of(alloc, &instance, 2, &plain)?)?;
+    let mixed = outcome(alloc, &run_of(alloc, &instance, 2, &mixed)?)?;
     assert_eq!(rt; mixed, plain);
     Ok(())
 }
@@ -210,12 +223,25 @@ fn by_formula(alloc: Global, first: u32) -> Result<Vec<Step>, Fail> {
 }
 
 /// The instance of size 4 with `a(i, j) = (7i + 3j) mod 11 - 5` and `b(k, l) = (5k + 2l²) mod 7 - 3`.
-fn signed(alloc: Global) -> Result<Instance, Fail> {
+fn signed(alloc: Global) -> Result<Instance, Fail>
+    ensures { IfOk result (λ I. I.size ≡ 4) }
+{
     let a = [-5, -2, 1, 4, 2, 5, -3, 0, -2, 1, 4, -4, 5, -3, 0, 3];
     let b = [-3, -1, -2, 1, 2, -3, 3, -1, 0, 2, 1, -3, -2, 0, -1, 2];
     let a = Vec::from_slice(alloc, &a)?;
     let b = Vec::from_slice(alloc, &b)?;
     Ok(Instance::new(4, a, b)?)
+}
+
+/// The cost and the bound that stand at the end of a run by the formula.
+fn end_by_formula(alloc: Global, instance: &Instance, first: u32) -> Result<(i128, i128), Fail> {
+    let steps = by_formula(alloc, first)?;
+    let run = run_of(alloc, instance, 3, &steps)?;
+    if all_accepted(&run.reports) != run.space.commits() {
+        return Err(Fail::new("the reports tell other commits"));
+    }
+    let certificate = assembled(alloc, instance.size(), run.space)?;
+    told(alloc, instance, &certificate)
 }
 
 /// Fifty schedules by the formula on an instance: at the end of each no node is open, and what stands is a certificate of the
@@ -225,17 +251,9 @@ fn fifty_schedules(alloc: Global, instance: &Instance) -> Result<(), Fail>
 {
     let (least, _) = least_by_listing(alloc, instance)?;
     for schedule in 0..50 {
-        let steps = by_formula(alloc, 1000 * schedule)?;
-        let run = play(alloc, instance, 3, &steps)?;
-        let commits = run.space.commits();
-        if all_accepted(&run.reports) != commits {
-            return Err(Fail::new("the reports tell other commits"));
-        }
-        let certificate = assembled(alloc, instance.size(), run.space)?;
-        if certificate.cost() != least || certificate.bound() != least {
+        if end_by_formula(alloc, instance, 1000 * schedule)? != (least, least) {
             return Err(Fail::new("another cost"));
         }
-        check(alloc, instance, &certificate)?;
     }
     Ok(())
 }
@@ -246,8 +264,6 @@ fn schedules_by_a_formula(rt: HostRuntime) -> Result<(), Fail> {
     fifty_schedules(alloc, &three(alloc, &SECOND)?)?;
     fifty_schedules(alloc, &patterned(alloc, 3)?)?;
     fifty_schedules(alloc, &patterned(alloc, 4)?)?;
-    let signed = signed(alloc)?;
-    assert_eq!(rt; signed.size(), 4);
-    fifty_schedules(alloc, &signed)?;
+    fifty_schedules(alloc, &signed(alloc)?)?;
     Ok(())
 }

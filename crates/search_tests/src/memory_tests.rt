@@ -2,30 +2,34 @@
 //! says so, and made again it answers as ever; a worker goes on, or ends for want of memory and leaves nodes open.
 
 ghost use Rattle.std.specs.Prelude.{◌≡◌, ◌≤◌, IfOk};
+ghost use Rattle.qap_search.specs.Decision.{IsOn};
 ghost use Rattle.qap_search.specs.Opening.{IsOpening};
 ghost use Rattle.qap_search.specs.SearchLaw.{IsSearchLaw};
 
-use crate::examples::{FIRST, SECOND, three};
-use crate::gate::Always;
-use crate::hand::Hand;
-use crate::opening::opening_space;
-use crate::solving::shared_rows;
-use crate::{
-    Answer, AssembleError, Clock, Ended, Report, SolveError, Step, Thought, assemble,
-    assemble_stopped, best_template, decide, decide_anew, decide_beside, node_template, play,
-    put_forever, read_node, solve, solve_alone, tuple_of_best,
-};
+use crate::examples::{FIRST, SECOND, decided, room_for_one, shared_rows, three, told};
 use gilmore_lawler::reduced;
-use qap_cert::check;
-use qap_cost::Instance;
-use shared_space::{Alone, Law, Room, Share};
+use qap_cert::Certificate;
+use qap_cost::{Instance, Partial, Perm};
+use qap_search::{
+    Always, Answer, AssembleError, Clock, Ended, Hand, Report, Run, SolveError, Step, Thought,
+    assemble, assemble_stopped, best_template, decide_anew, decide_beside, node_template,
+    opening_space, play, put_forever, read_node, solve, solve_alone, tuple_of_best,
+};
+use shared_space::{Law, Room, Share};
 use space_txn::{TxnError, TxnSpace};
 use std::alloc::{AllocError, Global};
 use std::marker::Brand;
+use std::process::Abort;
+use std::sync::Wait;
 use std::sync::atomic::{AtomicU64, Ordering};
 use std::sync::ledger::Blank;
 use std::test::Fail;
+use std::thread::Threads;
+use std::time;
 use tuple_match::{Field, Tuple};
+
+/// The name of the call that was refused memory, if one was.
+type Refused = Option<&'static str>;
 
 /// What a call answers. Refused memory, it is made again, and its name is kept.
 macro_rules! granted {
@@ -44,62 +48,120 @@ macro_rules! granted {
 }
 
 /// How a test ends: the call that was refused memory is told.
-fn ended(refused: Option<&str>) -> Result<(), Fail> {
+fn ended(refused: Refused) -> Result<(), Fail> {
     match refused {
         Some(call) => Err(Fail::new(format_args!("refused: {call}"))),
         None => Ok(()),
     }
 }
 
-/// How many tuples are written.
-fn count(written: Option<Vec<Tuple>>) -> usize {
-    written.map_or(0, |tuples| tuples.len())
+/// What is worked out about a node, after a refusal too.
+fn thought_of(
+    alloc: Global,
+    instance: &Instance,
+    node: &Partial,
+    refused: &mut Refused,
+) -> Result<Thought, Fail>
+    requires { instance.now.size ≡ node.now.size }
+    ensures { IfOk result (IsOn node.now) }
+{
+    let matrix = reduced(alloc, instance, node)?;
+    match Thought::new(alloc, instance, node, &matrix) {
+        Ok(thought) => Ok(thought),
+        Err(AllocError) => {
+            *refused = Some("Thought::new");
+            Ok(Thought::new(alloc, instance, node, &matrix)?)
+        }
+    }
+}
+
+/// How many tuples `decide_beside` writes.
+fn decided_beside(alloc: Global, node: &Partial, thought: &Thought) -> Result<usize, AllocError>
+    requires { IsOn node.now thought.now }
+{
+    let written = decide_beside(alloc, node, thought, 24, &thought.candidate)?;
+    Ok(written.map_or(0, |tuples| tuples.len()))
+}
+
+/// How many tuples `decide_anew` writes.
+fn decided_anew(alloc: Global, node: &Partial, thought: &Thought) -> Result<usize, AllocError>
+    requires { IsOn node.now thought.now }
+{
+    let written = decide_anew(alloc, node, thought, 30, &thought.candidate)?;
+    Ok(written.map_or(0, |tuples| tuples.len()))
+}
+
+/// The cost in the tuple of a best permutation.
+fn cost_in_best(alloc: Global, perm: &Perm) -> Result<Option<i128>, AllocError> {
+    let best = tuple_of_best(alloc, 24, perm)?;
+    Ok(best.fields().get(1).and_then(|field| field.as_int()))
+}
+
+/// How many patterns the template of open nodes has.
+fn patterns_of_node(alloc: Global) -> Result<usize, AllocError> {
+    Ok(node_template(alloc)?.patterns().len())
+}
+
+/// How many patterns the template of a best permutation has.
+fn patterns_of_best(alloc: Global) -> Result<usize, AllocError> {
+    Ok(best_template(alloc)?.patterns().len())
+}
+
+/// Whether the empty list is read as a node.
+fn reads_root(alloc: Global) -> Result<bool, AllocError> {
+    Ok(read_node(alloc, 3, &[])?.is_some())
+}
+
+/// Asserts what is decided of the root, and tells the call that was refused memory.
+fn assert_decisions(
+    rt: &impl Abort,
+    alloc: Global,
+    root: &Partial,
+    thought: &Thought,
+) -> Result<Refused, Fail>
+    requires { IsOn root.now thought.now }
+{
+    let mut refused = None;
+    let written = granted!(refused, "decide", decided(alloc, root, thought, 25));
+    assert_eq!(rt; written, 4);
+    let written = granted!(
+        refused,
+        "decide_beside",
+        decided_beside(alloc, root, thought)
+    );
+    assert_eq!(rt; written, 2);
+    let written = granted!(refused, "decide_anew", decided_anew(alloc, root, thought));
+    assert_eq!(rt; written, 2);
+    Ok(refused)
+}
+
+/// Asserts how the tuple of a best permutation and the templates are made, and tells the call that was refused memory.
+fn assert_tuples(rt: &impl Abort, alloc: Global, perm: &Perm) -> Result<Refused, Fail> {
+    let mut refused = None;
+    let cost = granted!(refused, "tuple_of_best", cost_in_best(alloc, perm));
+    assert_eq!(rt; cost, Some(24));
+    let patterns = granted!(refused, "node_template", patterns_of_node(alloc));
+    assert_eq!(rt; patterns, 2);
+    let patterns = granted!(refused, "best_template", patterns_of_best(alloc));
+    assert_eq!(rt; patterns, 3);
+    Ok(refused)
 }
 
 #[test]
 fn calls_on_a_node_are_made_again(rt: HostRuntime) -> Result<(), Fail> {
     let alloc = rt.alloc();
     let mut refused = None;
+    assert!(rt; granted!(refused, "read_node", reads_root(alloc)));
     let instance = three(alloc, &FIRST)?;
-    let Some(root) = granted!(refused, "read_node", read_node(alloc, 3, &[])) else {
-        return Err(Fail::new("the root is a node"));
-    };
-    assert_eq!(rt; instance.size(), root.size());
-    let matrix = reduced(alloc, &instance, &root)?;
-    let thought = granted!(
-        refused,
-        "Thought::new",
-        Thought::new(alloc, &instance, &root, &matrix)
-    );
+    let root = Partial::root(alloc, 3)?;
+    let thought = thought_of(alloc, &instance, &root, &mut refused)?;
     assert_eq!(rt;
         (thought.value, thought.cost, thought.branch),
         (24, 24, Some(0))
     );
-    let written = granted!(refused, "decide", decide(alloc, &root, &thought, 25));
-    assert_eq!(rt; count(written), 4);
-    let perm = &thought.candidate;
-    let written = granted!(
-        refused,
-        "decide_beside",
-        decide_beside(alloc, &root, &thought, 24, perm)
-    );
-    assert_eq!(rt; count(written), 2);
-    let written = granted!(
-        refused,
-        "decide_anew",
-        decide_anew(alloc, &root, &thought, 30, perm)
-    );
-    assert_eq!(rt; count(written), 2);
-    let best = granted!(refused, "tuple_of_best", tuple_of_best(alloc, 24, perm));
-    assert_eq!(rt;
-        best.fields().get(1).and_then(|field| field.as_int()),
-        Some(24)
-    );
-    let template = granted!(refused, "node_template", node_template(alloc));
-    assert_eq!(rt; template.patterns().len(), 2);
-    let template = granted!(refused, "best_template", best_template(alloc));
-    assert_eq!(rt; template.patterns().len(), 3);
-    ended(refused)
+    let decision = assert_decisions(&rt, alloc, &root, &thought)?;
+    let tuple = assert_tuples(&rt, alloc, &thought.candidate)?;
+    ended(refused.or(decision).or(tuple))
 }
 
 /// So many tuples of a best permutation.
@@ -133,6 +195,19 @@ fn writes_are_made_again(rt: HostRuntime) -> Result<(), Fail> {
     }
 }
 
+/// The run of one worker's sixteen turns.
+fn run_of(alloc: Global, instance: &Instance) -> Result<Run, AllocError> {
+    play(alloc, instance, 1, &[Step::Turn(0); 16])
+}
+
+/// The same after a refusal too, and whether there was one.
+fn run_again(alloc: Global, instance: &Instance) -> Result<(Run, bool), Fail> {
+    match run_of(alloc, instance) {
+        Ok(run) => Ok((run, false)),
+        Err(AllocError) => Ok((run_of(alloc, instance)?, true)),
+    }
+}
+
 /// The tuples that are left by one worker after so many turns.
 fn left_by(alloc: Global, instance: &Instance, turns: usize) -> Result<Vec<Tuple>, Fail> {
     let steps = vec![in alloc; Step::Turn(0); turns]?;
@@ -140,36 +215,65 @@ fn left_by(alloc: Global, instance: &Instance, turns: usize) -> Result<Vec<Tuple
     Ok(run.space.into_tuples().map_err(|back| back.0)?)
 }
 
+/// The certificate that the tuples of three facilities are, after a refusal too, and whether there was one.
+fn assembled(
+    alloc: Global,
+    instance: &Instance,
+    tuples: Vec<Tuple>,
+) -> Result<(Certificate, bool), Fail> {
+    match assemble(alloc, 3, tuples) {
+        Ok(certificate) => Ok((certificate, false)),
+        Err(AssembleError::OutOfMemory) => {
+            let tuples = left_by(alloc, instance, 16)?;
+            Ok((assemble(alloc, 3, tuples)?, true))
+        }
+        Err(_) => Err(Fail::new("refused otherwise")),
+    }
+}
+
+/// The certificate that four turns leave, after a refusal too, and whether there was one.
+fn stopped(alloc: Global, instance: &Instance) -> Result<(Certificate, bool), Fail> {
+    let tuples = left_by(alloc, instance, 4)?;
+    match assemble_stopped(alloc, instance, tuples) {
+        Ok(certificate) => Ok((certificate, false)),
+        Err(AssembleError::OutOfMemory) => {
+            let tuples = left_by(alloc, instance, 4)?;
+            Ok((assemble_stopped(alloc, instance, tuples)?, true))
+        }
+        Err(_) => Err(Fail::new("refused otherwise")),
+    }
+}
+
+/// The tuples that a run of four commits leaves, and whether the run was refused memory.
+fn tuples_of_run(
+    rt: &impl Abort,
+    alloc: Global,
+    instance: &Instance,
+) -> Result<(Vec<Tuple>, bool), Fail> {
+    let (run, is_refused) = run_again(alloc, instance)?;
+    assert_eq!(rt; (run.space.commits(), run.reports.len()), (4, 1));
+    let tuples = run.space.into_tuples().map_err(|back| back.0)?;
+    Ok((tuples, is_refused))
+}
+
 #[test]
 fn runs_are_made_again(rt: HostRuntime) -> Result<(), Fail> {
     let alloc = rt.alloc();
-    let mut refused = None;
     let instance = three(alloc, &SECOND)?;
-    let steps = [Step::Turn(0); 16];
-    let run = granted!(refused, "play", play(alloc, &instance, 1, &steps));
-    assert_eq!(rt; (run.space.commits(), run.reports.len()), (4, 1));
-    let tuples = run.space.into_tuples().map_err(|back| back.0)?;
-    let mut made = assemble(alloc, 3, tuples);
-    if let Err(AssembleError::OutOfMemory) = made {
-        refused = Some("assemble");
-        made = assemble(alloc, 3, left_by(alloc, &instance, 16)?);
-    }
-    let Ok(certificate) = made else {
-        return Err(Fail::new("refused otherwise"));
-    };
-    assert_eq!(rt; (certificate.cost(), certificate.bound()), (1, 1));
-    check(alloc, &instance, &certificate)?;
-    let mut made = assemble_stopped(alloc, &instance, left_by(alloc, &instance, 4)?);
-    if let Err(AssembleError::OutOfMemory) = made {
-        refused = Some("assemble_stopped");
-        made = assemble_stopped(alloc, &instance, left_by(alloc, &instance, 4)?);
-    }
-    let Ok(certificate) = made else {
-        return Err(Fail::new("refused otherwise"));
-    };
-    assert_eq!(rt; (certificate.cost(), certificate.bound()), (1, 1));
-    check(alloc, &instance, &certificate)?;
-    ended(refused)
+    let (tuples, plays) = tuples_of_run(&rt, alloc, &instance)?;
+    let (certificate, assembles) = assembled(alloc, &instance, tuples)?;
+    assert_eq!(rt; told(alloc, &instance, &certificate)?, (1, 1));
+    let (certificate, stops) = stopped(alloc, &instance)?;
+    assert_eq!(rt; told(alloc, &instance, &certificate)?, (1, 1));
+    ended(if plays {
+        Some("play")
+    } else if assembles {
+        Some("assemble")
+    } else if stops {
+        Some("assemble_stopped")
+    } else {
+        None
+    })
 }
 
 fn word(alloc: Global, name: &str) -> Result<Field, Fail> {
@@ -198,18 +302,24 @@ fn split_in_20(alloc: Global) -> Result<Vec<Tuple>, Fail> {
     Ok(tuples)
 }
 
+/// The cost of a search of 20 facilities, and its bound.
+fn costs_of_20(alloc: Global, tuples: Vec<Tuple>) -> Result<(i128, i128), AssembleError> {
+    let certificate = assemble(alloc, 20, tuples)?;
+    Ok((certificate.cost(), certificate.bound()))
+}
+
 /// The lists of duals are moved, so that few allocations can be refused.
 #[test]
 fn assembling_takes_little(rt: HostRuntime) -> Result<(), Fail> {
     let alloc = rt.alloc();
-    match assemble(alloc, 20, split_in_20(alloc)?) {
-        Ok(certificate) => {
-            assert_eq!(rt; (certificate.cost(), certificate.bound()), (0, 0));
+    match costs_of_20(alloc, split_in_20(alloc)?) {
+        Ok(costs) => {
+            assert_eq!(rt; costs, (0, 0));
             Ok(())
         }
         Err(error) => {
             assert_eq!(rt; error, AssembleError::OutOfMemory);
-            assert!(rt; assemble(alloc, 20, split_in_20(alloc)?).is_ok());
+            assert!(rt; costs_of_20(alloc, split_in_20(alloc)?).is_ok());
             Err(Fail::new("refused: assemble of 20 children"))
         }
     }
@@ -256,13 +366,24 @@ fn worker(alloc: Global, instance: &Instance) -> Result<(Hand, bool), Fail>
     }
 }
 
+/// Twelve of them, of which one at most is refused.
+fn works<L: Law, M: Room<L>>(hand: &mut Hand, room: &mut M, share: &mut Share<L>) -> bool
+    requires law { IsSearchLaw hand.old.instance L.lawful L.allowed }
+    requires before { hand.old.accepted ≤ share.old }
+{
+    let first = are_refused(hand, room, share);
+    let second = are_refused(hand, room, share);
+    let third = are_refused(hand, room, share);
+    first || second || third
+}
+
 /// What one worker's twelve steps and thoughts come to, the space, and what was refused memory.
 fn one_worker<L: Law>(
     alloc: Global,
     instance: &Instance,
     space: TxnSpace,
     blank: Blank,
-) -> Result<(Report, TxnSpace, Option<&'static str>), Fail>
+) -> Result<(Report, TxnSpace, Refused), Fail>
     requires name { blank.name ≡ L.name }
     requires parts { blank.parts ≡ L.parts }
     requires one { blank.parts ≡ 1 }
@@ -270,20 +391,12 @@ fn one_worker<L: Law>(
     requires opening { IsOpening instance.now space }
 {
     let (mut hand, anew) = worker(alloc, instance)?;
-    let made = Alone::<L>::new(alloc, blank, space, 1);
-    let (mut room, mut shares) = made.map_err(|back| back.0)?;
-    let Some(mut share) = shares.pop() else {
-        return Err(Fail::new("one worker has one share"));
-    };
-    let first = are_refused(&mut hand, &mut room, &mut share);
-    let second = are_refused(&mut hand, &mut room, &mut share);
-    let third = are_refused(&mut hand, &mut room, &mut share);
+    let (mut room, mut share) = room_for_one::<L>(alloc, instance, space, blank)?;
+    let goes_on = works(&mut hand, &mut room, &mut share);
     let refused = if anew {
         Some("Hand::new")
-    } else if first || second || third {
-        Some("step or think")
     } else {
-        None
+        goes_on.then_some("step or think")
     };
     Ok((hand.report(), room.into_space(), refused))
 }
@@ -338,15 +451,37 @@ fn was_refused(answer: Result<Answer, SolveError>) -> Result<bool, Fail> {
     }
 }
 
+/// Whether memory was refused to a search by one worker.
+fn alone_was_refused<R: Wait>(rt: &R, alloc: Global, instance: &Instance) -> Result<bool, Fail> {
+    was_refused(solve_alone(rt, alloc, instance, 1000))
+}
+
 #[test]
 fn one_worker_is_refused(rt: HostRuntime) -> Result<(), Fail> {
     let alloc = rt.alloc();
     let instance = three(alloc, &SECOND)?;
-    if was_refused(solve_alone(&rt, alloc, &instance, 1000))? {
-        assert!(rt; solve_alone(&rt, alloc, &instance, 1000).is_ok());
+    if alone_was_refused(&rt, alloc, &instance)? {
+        assert!(rt; !alone_was_refused(&rt, alloc, &instance)?);
         return Err(Fail::new("refused: solve_alone"));
     }
     Ok(())
+}
+
+/// Whether memory was refused to a search by threads.
+fn threads_were_refused<R>(
+    rt: &R,
+    alloc: Global,
+    instance: &Instance,
+    workers: u16,
+    limit: Option<u64>,
+    clock: &Counting,
+) -> Result<bool, Fail>
+where
+    R: Threads + Wait + time::Clock + Sync,
+{
+    let workers = workers.clamp(1, 64);
+    let answer = solve(rt, alloc, instance, workers, 50, limit, clock, &Always);
+    was_refused(answer)
 }
 
 /// Workers, and a limit of commits.
@@ -358,10 +493,9 @@ fn threads_are_refused(rt: HostRuntime) -> Result<(), Fail> {
         moment: AtomicU64::new(0),
     };
     for (workers, limit) in [(1, None), (2, None), (1, Some(1))] {
-        let answer = solve(&rt, alloc, &instance, workers, 50, limit, &clock, &Always);
-        if was_refused(answer)? {
-            let again = solve(&rt, alloc, &instance, workers, 50, limit, &clock, &Always);
-            assert!(rt; !was_refused(again)?);
+        if threads_were_refused(&rt, alloc, &instance, workers, limit, &clock)? {
+            let again = threads_were_refused(&rt, alloc, &instance, workers, limit, &clock)?;
+            assert!(rt; !again);
             return Err(Fail::new("refused: solve"));
         }
     }

@@ -2,7 +2,7 @@ use Rattle.std.specs.Prelude.{None}
 use Rattle.qap_search.specs.CutTree.{IsCutTree}
 use Rattle.qap_search.specs.Replacement.{MayReplace}
 use Rattle.qap_search.proofs.SearchLaws.{cut_trees_kept, cut_trees_unordered}
-use Rattle.qap_search.proofs.memory_tests.a_worker_goes_on.Given as goal
+use Rattle.search_tests.proofs.memory_tests.a_worker_goes_on.Given as goal
 
 abbrev pub ghosts-one_worker-L-Ledger : goal.ghosts-one_worker-L-Ledger
 ghosts-one_worker-L-Ledger g a = record { name = a.blank.name; parts = a.blank.parts }

@@ -1,10 +1,13 @@
 //! What no clause says: that tuples are put together, with the certificates of worked examples, and each kind of refusal.
 
-use crate::examples::{FIRST, Matrices, SECOND, three};
-use crate::{AssembleError, Thought, assemble, assemble_stopped, decide, read_node};
+ghost use Rattle.std.specs.Prelude.{◌≡◌, IfOk};
+ghost use Rattle.qap_search.specs.Decision.{IsOn};
+
+use crate::examples::{FIRST, Matrices, SECOND, decided, three, told};
 use Part::{Int, List, Word};
 use gilmore_lawler::reduced;
-use qap_cert::check;
+use qap_cost::{Instance, Partial};
+use qap_search::{AssembleError, Thought, assemble, assemble_stopped, read_node};
 use std::alloc::{AllocError, Global};
 use std::test::Fail;
 use tuple_match::{Field, Tuple};
@@ -56,23 +59,24 @@ fn tuples(alloc: Global, row: Row) -> Result<Vec<Tuple>, Fail> {
     Ok(tuples)
 }
 
+/// The cost and the bound of the certificate that these tuples are.
+fn assembled(alloc: Global, matrices: &Matrices, row: Row) -> Result<(i128, i128), Fail> {
+    let certificate = assemble(alloc, 3, tuples(alloc, row)?)?;
+    told(alloc, &three(alloc, matrices)?, &certificate)
+}
+
 #[test]
 fn a_closed_root_is_a_certificate(rt: HostRuntime) -> Result<(), Fail> {
-    let instance = three(rt.alloc(), &FIRST)?;
     let row: Row = &[
         &[BEST, Int(24), IDENTITY],
         &[CLOSED, List(&[]), List(&[9, 10, 12]), List(&[0, -2, -5])],
     ];
-    let certificate = assemble(rt.alloc(), 3, tuples(rt.alloc(), row)?)?;
-    assert_eq!(rt; certificate.cost(), 24);
-    assert_eq!(rt; certificate.bound(), 24);
-    assert!(rt; check(rt.alloc(), &instance, &certificate).is_ok());
+    assert_eq!(rt; assembled(rt.alloc(), &FIRST, row)?, (24, 24));
     Ok(())
 }
 
 #[test]
 fn nodes_are_put_together_in_any_order(rt: HostRuntime) -> Result<(), Fail> {
-    let instance = three(rt.alloc(), &SECOND)?;
     let row: Row = &[
         &[CLOSED, List(&[0, 2]), List(&[1, 0]), List(&[0, 0])],
         &[CLOSED, List(&[0, 0]), List(&[0, 0]), List(&[1, 0])],
@@ -80,9 +84,7 @@ fn nodes_are_put_together_in_any_order(rt: HostRuntime) -> Result<(), Fail> {
         &[SPLIT, List(&[]), Int(0)],
         &[CLOSED, List(&[0, 1]), List(&[0, 0]), List(&[1, 0])],
     ];
-    let certificate = assemble(rt.alloc(), 3, tuples(rt.alloc(), row)?)?;
-    assert_eq!(rt; certificate.cost(), 1);
-    assert!(rt; check(rt.alloc(), &instance, &certificate).is_ok());
+    assert_eq!(rt; assembled(rt.alloc(), &SECOND, row)?, (1, 1));
     Ok(())
 }
 
@@ -172,13 +174,15 @@ static REFUSED: [(Row, AssembleError); 13] = [
     ),
 ];
 
+/// Why these tuples are no certificate.
+fn refusal(alloc: Global, row: Row) -> Result<Option<AssembleError>, Fail> {
+    Ok(assemble(alloc, 3, tuples(alloc, row)?).err())
+}
+
 #[test]
 fn other_tuples_are_refused(rt: HostRuntime) -> Result<(), Fail> {
     for (number, (row, want)) in REFUSED.iter().enumerate() {
-        match assemble(rt.alloc(), 3, tuples(rt.alloc(), row)?) {
-            Ok(_) => assert!(rt; false, "row {number}"),
-            Err(error) => assert_eq!(rt; error, *want, "row {number}"),
-        }
+        assert_eq!(rt; refusal(rt.alloc(), row)?, Some(*want), "row {number}");
     }
     Ok(())
 }
@@ -218,20 +222,17 @@ static CUT_SHORT: [(Matrices, Row, (i128, i128)); 4] = [
     ),
 ];
 
+/// The cost and the bound of the certificate that these tuples leave.
+fn left(alloc: Global, matrices: &Matrices, row: Row) -> Result<(i128, i128), Fail> {
+    let instance = three(alloc, matrices)?;
+    let certificate = assemble_stopped(alloc, &instance, tuples(alloc, row)?)?;
+    told(alloc, &instance, &certificate)
+}
+
 #[test]
 fn stopped_searches_show_a_bound(rt: HostRuntime) -> Result<(), Fail> {
     for (number, (matrices, row, want)) in CUT_SHORT.iter().enumerate() {
-        let instance = three(rt.alloc(), matrices)?;
-        let certificate = assemble_stopped(rt.alloc(), &instance, tuples(rt.alloc(), row)?)?;
-        assert_eq!(rt;
-            (certificate.cost(), certificate.bound()),
-            *want,
-            "row {number}"
-        );
-        assert!(rt;
-            check(rt.alloc(), &instance, &certificate).is_ok(),
-            "row {number}"
-        );
+        assert_eq!(rt; left(rt.alloc(), matrices, row)?, *want, "row {number}");
     }
     Ok(())
 }
@@ -262,33 +263,47 @@ static NO_SEARCH: [Row; 6] = [
     ],
 ];
 
+/// Why these tuples leave no certificate.
+fn no_bound(alloc: Global, row: Row) -> Result<Option<AssembleError>, Fail> {
+    let instance = three(alloc, &FIRST)?;
+    Ok(assemble_stopped(alloc, &instance, tuples(alloc, row)?).err())
+}
+
 #[test]
 fn other_tuples_are_no_stopped_search(rt: HostRuntime) -> Result<(), Fail> {
-    let instance = three(rt.alloc(), &FIRST)?;
     for (number, row) in NO_SEARCH.iter().enumerate() {
-        match assemble_stopped(rt.alloc(), &instance, tuples(rt.alloc(), row)?) {
-            Ok(_) => assert!(rt; false, "row {number}"),
-            Err(error) => assert_eq!(rt; error, AssembleError::NotATree, "row {number}"),
-        }
+        assert_eq!(rt;
+            no_bound(rt.alloc(), row)?,
+            Some(AssembleError::NotATree),
+            "row {number}"
+        );
     }
     Ok(())
 }
 
+/// What is worked out about a node.
+fn thought_of(alloc: Global, instance: &Instance, node: &Partial) -> Result<Thought, AllocError>
+    requires { instance.now.size ≡ node.now.size }
+    ensures { IfOk result (IsOn node.now) }
+{
+    let matrix = reduced(alloc, instance, node)?;
+    Thought::new(alloc, instance, node, &matrix)
+}
+
 #[test]
 fn a_node_is_worked_out_and_decided(rt: HostRuntime) -> Result<(), Fail> {
-    let instance = three(rt.alloc(), &FIRST)?;
-    let Some(root) = read_node(rt.alloc(), 3, &[])? else {
+    let alloc = rt.alloc();
+    let instance = three(alloc, &FIRST)?;
+    let Some(root) = read_node(alloc, 3, &[])? else {
         return Err(Fail::from("the root is a node"));
     };
     assert_eq!(rt; instance.size(), root.size());
-    let matrix = reduced(rt.alloc(), &instance, &root)?;
-    let thought = Thought::new(rt.alloc(), &instance, &root, &matrix)?;
+    let thought = thought_of(alloc, &instance, &root)?;
     assert_eq!(rt; thought.value, 24);
     assert_eq!(rt; thought.cost, 24);
     assert_eq!(rt; thought.branch, Some(0));
     for (best, want) in [(24, 1), (25, 4)] {
-        let written = decide(rt.alloc(), &root, &thought, best)?;
-        assert_eq!(rt; written.map_or(0, |tuples| tuples.len()), want);
+        assert_eq!(rt; decided(alloc, &root, &thought, best)?, want);
     }
     Ok(())
 }

@@ -4,16 +4,9 @@ ghost use Rattle.std.specs.Prelude.{◌≡◌, ◌≤◌};
 ghost use Rattle.qap_search.specs.Opening.{IsOpening};
 ghost use Rattle.qap_search.specs.SearchLaw.{IsSearchLaw};
 
-use crate::assemble;
-use crate::examples::{FIRST, three};
-use crate::gate::{Always, Kind};
-use crate::hand::Hand;
-use crate::opening::opening_space;
-use crate::report::{Ended, Report};
-use crate::solving::shared_rows;
-use crate::templates::node_template;
-use qap_cert::check;
+use crate::examples::{FIRST, room_for_one, shared_rows, three, told};
 use qap_cost::Instance;
+use qap_search::{Always, Ended, Hand, Kind, Report, assemble, node_template, opening_space};
 use shared_space::{Alone, Law, Room, Share};
 use space_txn::TxnSpace;
 use std::alloc::Global;
@@ -84,11 +77,7 @@ fn one_worker<L: Law>(
     requires opening { IsOpening instance.now space }
 {
     let mut hand = Hand::new(alloc, 0, shared_rows(alloc, instance)?, LEASE)?;
-    let made = Alone::<L>::new(alloc, blank, space, 1);
-    let (mut room, mut shares) = made.map_err(|back| back.0)?;
-    let Some(mut share) = shares.pop() else {
-        return Err(Fail::new("one worker has one share"));
-    };
+    let (mut room, mut share) = room_for_one::<L>(alloc, instance, space, blank)?;
     let steps = before_commit(&mut hand, &mut room, &mut share)?;
     let commit = turn(&mut hand, &mut room, &mut share)?;
     Ok((steps, commit, hand.report(), room.into_space()))
@@ -118,8 +107,7 @@ fn a_worker_closes_the_root(rt: HostRuntime) -> Result<(), Fail> {
     let tuples = space.into_tuples().map_err(|back| back.0)?;
     assert_eq!(rt; tuples.len(), 2);
     let certificate = assemble(alloc, 3, tuples)?;
-    assert_eq!(rt; (certificate.cost(), certificate.bound()), (24, 24));
-    assert!(rt; check(alloc, &instance, &certificate).is_ok());
+    assert_eq!(rt; told(alloc, &instance, &certificate)?, (24, 24));
     Ok(())
 }
 

@@ -1,0 +1,107 @@
+//! Instances that the tests share, and calls of the search that say nothing in a clause, so that what makes several of them is
+//! cheap to prove.
+
+ghost use Rattle.std.specs.Prelude.{◌≡◌, ◌≤◌, IfOk};
+ghost use Rattle.std.specs.Arc.{arc_value};
+ghost use Rattle.qap_search.specs.Decision.{IsOn};
+ghost use Rattle.qap_search.specs.Opening.{IsOpening};
+ghost use Rattle.qap_search.specs.SearchLaw.{IsSearchLaw};
+
+use gilmore_lawler::RankedInstance;
+use qap_cert::{Certificate, check};
+use qap_cost::{Instance, Partial};
+use qap_search::{Thought, decide};
+use shared_space::{Alone, Law, Share};
+use space_txn::TxnSpace;
+use std::alloc::{AllocError, Global};
+use std::sync::Arc;
+use std::sync::ledger::Blank;
+use std::test::Fail;
+
+/// The flows and the distances of three facilities.
+pub(crate) type Matrices = ([i64; 9], [i64; 9]);
+
+/// The order 0 1 2 costs 24, and none costs less. The root's reduced matrix has the rows 9 7 4, 11 8 5 and 16 13 7, whose least
+/// assignment takes 9, 8 and 7, so that the root closes at once.
+pub(crate) const FIRST: Matrices = ([0, 1, 2, 1, 0, 3, 2, 3, 0], [0, 5, 2, 5, 0, 1, 2, 1, 0]);
+
+/// Each order costs 1, and the root's reduced matrix holds zeros alone.
+pub(crate) const SECOND: Matrices = ([0, 1, 0, 0, 0, 1, 1, 0, 0], [0, 1, 0, 1, 0, 0, 0, 0, 0]);
+
+/// The instance of these matrices.
+pub(crate) fn three(alloc: Global, matrices: &Matrices) -> Result<Instance, Fail>
+    ensures { IfOk result (λ I. I.size ≡ 3) }
+{
+    let a = Vec::from_slice(alloc, &matrices.0)?;
+    let b = Vec::from_slice(alloc, &matrices.1)?;
+    Ok(Instance::new(3, a, b)?)
+}
+
+/// The instance of size `n` with `a(i, j) = (3i + 5j) mod 7` and `b(k, l) = (2k + 3l²) mod 5`.
+pub(crate) fn patterned(alloc: Global, n: usize) -> Result<Instance, Fail>
+    requires { n ≤ 6 }
+    ensures { IfOk result (λ I. I.size ≡ n) }
+{
+    let mut a = Vec::new(alloc);
+    let mut b = Vec::new(alloc);
+    for i in 0..n {
+        for j in 0..n {
+            a.push(((3 * i + 5 * j) % 7) as i64)?;
+            b.push(((2 * i + 3 * j * j) % 5) as i64)?;
+        }
+    }
+    Ok(Instance::new(n, a, b)?)
+}
+
+/// The instance with its rows in order, as workers share it.
+pub(crate) fn shared_rows(
+    alloc: Global,
+    instance: &Instance,
+) -> Result<Arc<RankedInstance>, AllocError>
+    ensures { IfOk result (λ shared. arc_value shared ≡ instance.now) }
+{
+    Ok(Arc::new(alloc, RankedInstance::new(alloc, instance)?)?)
+}
+
+/// The cost and the bound of a certificate, once the checker has accepted it.
+pub(crate) fn told(
+    alloc: Global,
+    instance: &Instance,
+    certificate: &Certificate,
+) -> Result<(i128, i128), Fail> {
+    check(alloc, instance, certificate)?;
+    Ok((certificate.cost(), certificate.bound()))
+}
+
+/// How many tuples take the place of the node beside a best permutation of this cost; 0 where none do.
+pub(crate) fn decided(
+    alloc: Global,
+    node: &Partial,
+    thought: &Thought,
+    best: i128,
+) -> Result<usize, AllocError>
+    requires { IsOn node.now thought.now }
+{
+    let written = decide(alloc, node, thought, best)?;
+    Ok(written.map_or(0, |tuples| tuples.len()))
+}
+
+/// A room of one thread for one worker, at the opening of a search, and the worker's share.
+pub(crate) fn room_for_one<L: Law>(
+    alloc: Global,
+    instance: &Instance,
+    space: TxnSpace,
+    blank: Blank,
+) -> Result<(Alone<L>, Share<L>), Fail>
+    requires name { blank.name ≡ L.name }
+    requires parts { blank.parts ≡ L.parts }
+    requires one { blank.parts ≡ 1 }
+    requires law { IsSearchLaw instance.now L.lawful L.allowed }
+    requires opening { IsOpening instance.now space }
+{
+    let (room, mut shares) = Alone::<L>::new(alloc, blank, space, 1).map_err(|back| back.0)?;
+    match shares.pop() {
+        Some(share) => Ok((room, share)),
+        None => Err(Fail::new("one worker has one share")),
+    }
+}
