@@ -11,8 +11,3 @@ mod tree;
 
 pub use assignment::{Assignment, solve};
 pub use range::{MAX_MATRIX_ENTRY, is_in_range};
-
-#[cfg(test)]
-mod memory_tests;
-#[cfg(test)]
-mod tests;

@@ -32,14 +32,3 @@ pub use reader::read;
 pub use tree::Tree;
 pub use version::Version;
 pub use writing::write;
-
-#[cfg(test)]
-mod hostile_tests;
-#[cfg(test)]
-mod memory_tests;
-#[cfg(test)]
-mod tests;
-#[cfg(test)]
-mod text_tests;
-#[cfg(test)]
-mod walking_tests;

@@ -27,8 +27,3 @@ pub use reply::{Reply, reply_line};
 pub use run::run_script;
 pub use script_error::ScriptError;
 pub use session::Session;
-
-#[cfg(test)]
-mod run_tests;
-#[cfg(test)]
-mod tests;

@@ -311,48 +311,66 @@ fn with_job_taken(alloc: Global, number: i128) -> Result<(TxnSpace, Txn), Fail> 
     }
 }
 
-#[test]
-fn refuses_a_transaction_of_another_space(rt: HostRuntime) -> Result<(), Fail> {
-    let alloc = rt.alloc();
-    let jobs = any_job(alloc)?;
-    let (mut one, txn) = with_job_taken(alloc, 1)?;
-    assert_eq!(rt; txn.number(), 1);
-    assert_eq!(rt; txn.marks().len(), 1);
-    // The marks differ in the tuple alone.
-    let (mut other, _twin) = with_job_taken(alloc, 2)?;
-    assert_eq!(rt; renew_in(&mut other, &txn, 5), Err(TxnError::Foreign));
-    match commit_in(&mut other, txn) {
-        Ok(()) => assert!(rt; false, "accepted"),
-        Err((error, back)) => {
-            assert_eq!(rt; error, TxnError::Foreign);
-            assert!(rt; commit_in(&mut one, back).is_ok());
-        }
+/// Commits a transaction where it doesn't belong, and then where it does: the refusal, and whether it is accepted then.
+fn commit_elsewhere(
+    other: &mut TxnSpace,
+    own: &mut TxnSpace,
+    txn: Txn,
+) -> (Option<TxnError>, bool) {
+    match commit_in(other, txn) {
+        Ok(()) => (None, false),
+        Err((error, back)) => (Some(error), commit_in(own, back).is_ok()),
     }
-    assert_eq!(rt; one.commits(), 1);
-    assert_eq!(rt; other.commits(), 0);
-    assert_eq!(rt; count_in(&one, &jobs), 0);
-    assert_eq!(rt; count_in(&other, &jobs), 1);
-    Ok(())
+}
+
+/// Asserts that a transaction that has taken a job belongs to its own space alone.
+fn assert_foreign(rt: &impl Ending, own: &mut TxnSpace, other: &mut TxnSpace, txn: Txn) {
+    assert_eq!(rt; (txn.number(), txn.marks().len()), (1, 1));
+    assert_eq!(rt; renew_in(other, &txn, 5), Err(TxnError::Foreign));
+    let ended = commit_elsewhere(other, own, txn);
+    assert_eq!(rt; ended, (Some(TxnError::Foreign), true));
+}
+
+/// The commits of a space, and its jobs.
+fn counts_of(space: &TxnSpace, jobs: &Template) -> (u64, u64) {
+    (space.commits(), count_in(space, jobs))
 }
 
 #[test]
-fn renews_a_transaction(rt: HostRuntime) -> Result<(), Fail> {
-    let mut space = TxnSpace::new(rt.alloc());
-    let txn = begin_in(&mut space, 10)?;
+fn refuses_a_transaction_of_another_space(rt: HostRuntime) -> Result<(), Fail> {
+    let alloc = rt.alloc();
+    let (mut one, txn) = with_job_taken(alloc, 1)?;
+    // The marks differ in the tuple alone.
+    let (mut other, _twin) = with_job_taken(alloc, 2)?;
+    assert_foreign(&rt, &mut one, &mut other, txn);
+    let jobs = any_job(alloc)?;
+    assert_eq!(rt; counts_of(&one, &jobs), (1, 0));
+    assert_eq!(rt; counts_of(&other, &jobs), (0, 1));
+    Ok(())
+}
+
+/// Asserts that a transaction's lease, of ten milliseconds at first, goes on as it is renewed.
+fn assert_renewals(rt: &impl Ending, space: &mut TxnSpace, txn: &Txn) {
     let rows = [
         (5, 100, Ok(())),
         (104, 0, Ok(())),
         (105, 1, Err(TxnError::Expired)),
     ];
     for (moment, asked, want) in rows {
-        assert_eq!(rt; advance_in(&mut space, moment), Ok(()));
+        assert_eq!(rt; advance_in(space, moment), Ok(()));
         assert_eq!(rt; space.now(), moment);
-        assert_eq!(rt; renew_in(&mut space, &txn, asked), want, "at {moment}");
+        assert_eq!(rt; renew_in(space, txn, asked), want, "at {moment}");
     }
-    assert_eq!(rt; txn.writes().len(), 0);
-    assert_eq!(rt; txn.marks().len(), 0);
-    let too_late = advance_in(&mut space, (1 << 62) + 1);
+    assert_eq!(rt; (txn.writes().len(), txn.marks().len()), (0, 0));
+    let too_late = advance_in(space, (1 << 62) + 1);
     assert_eq!(rt; too_late, Err(SpaceError::Exhausted));
+}
+
+#[test]
+fn renews_a_transaction(rt: HostRuntime) -> Result<(), Fail> {
+    let mut space = TxnSpace::new(rt.alloc());
+    let txn = begin_in(&mut space, 10)?;
+    assert_renewals(&rt, &mut space, &txn);
     Ok(())
 }
 
@@ -374,22 +392,30 @@ fn tells_each_refusal(rt: HostRuntime) -> Result<(), Fail> {
     Ok(())
 }
 
+/// Commits a transaction, and aborts it where that is refused: the refusal, and whether it is aborted.
+fn commit_or_abort(space: &mut TxnSpace, txn: Txn) -> (Option<TxnError>, bool) {
+    match commit_in(space, txn) {
+        Ok(()) => (None, false),
+        Err((error, back)) => (Some(error), abort_in(space, back).is_ok()),
+    }
+}
+
+/// Asserts that of the last two transactions one commit is accepted, and that no third one begins.
+fn assert_used_up(rt: &impl Ending, space: &mut TxnSpace, first: Txn, second: Txn) {
+    assert_eq!(rt; second.number(), 1 << 62);
+    assert!(rt; begin_in(space, 10).is_err());
+    assert!(rt; commit_in(space, first).is_ok());
+    assert_eq!(rt; space.commits(), 1 << 62);
+    let ended = commit_or_abort(space, second);
+    assert_eq!(rt; ended, (Some(TxnError::Exhausted), true));
+    assert_eq!(rt; space.commits(), 1 << 62);
+}
+
 #[test]
 fn stops_at_the_last_numbers(rt: HostRuntime) -> Result<(), Fail> {
     let mut space = TxnSpace::nearly_used_up(rt.alloc());
     let first = begin_in(&mut space, 10)?;
     let second = begin_in(&mut space, 10)?;
-    assert_eq!(rt; second.number(), 1 << 62);
-    assert!(rt; begin_in(&mut space, 10).is_err());
-    assert!(rt; commit_in(&mut space, first).is_ok());
-    assert_eq!(rt; space.commits(), 1 << 62);
-    match commit_in(&mut space, second) {
-        Ok(()) => assert!(rt; false, "accepted"),
-        Err((error, back)) => {
-            assert_eq!(rt; error, TxnError::Exhausted);
-            assert!(rt; abort_in(&mut space, back).is_ok());
-        }
-    }
-    assert_eq!(rt; space.commits(), 1 << 62);
+    assert_used_up(&rt, &mut space, first, second);
     Ok(())
 }

@@ -26,8 +26,3 @@ pub use hold::{Hold, Holds};
 pub use lease::{Lease, LeaseEnd};
 pub use space::{MOST, Space};
 pub use write::{Write, Writes};
-
-#[cfg(test)]
-mod memory_tests;
-#[cfg(test)]
-mod tests;

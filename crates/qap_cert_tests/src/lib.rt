@@ -1,0 +1,13 @@
+//! The tests of `qap_cert`, on its public calls alone: in a crate of their own they need no second proof of it.
+#![tactic(auto)]
+
+#[cfg(test)]
+mod hostile_tests;
+#[cfg(test)]
+mod memory_tests;
+#[cfg(test)]
+mod tests;
+#[cfg(test)]
+mod text_tests;
+#[cfg(test)]
+mod walking_tests;

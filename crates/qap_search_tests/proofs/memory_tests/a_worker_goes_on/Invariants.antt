@@ -1,0 +1,17 @@
+use Rattle.std.specs.Prelude.{None}
+use Rattle.qap_search.specs.CutTree.{IsCutTree}
+use Rattle.qap_search.specs.Replacement.{MayReplace}
+use Rattle.qap_search.proofs.SearchLaws.{cut_trees_kept, cut_trees_unordered}
+use Rattle.qap_search_tests.proofs.memory_tests.a_worker_goes_on.Given as goal
+
+abbrev pub ghosts-one_worker-L-Ledger : goal.ghosts-one_worker-L-Ledger
+ghosts-one_worker-L-Ledger g a = record { name = a.blank.name; parts = a.blank.parts }
+
+abbrev pub ghosts-one_worker-L-Law : goal.ghosts-one_worker-L-Law
+ghosts-one_worker-L-Law g a = record {
+  lawful = IsCutTree a.instance.now;
+  allowed = MayReplace a.instance.now;
+  limit = None;
+  unordered = cut_trees_unordered a.instance.now;
+  keeps = cut_trees_kept a.instance.now;
+}

@@ -1,0 +1,210 @@
+use std::alloc::{AllocError, Global};
+use std::process::Abort;
+use std::test::Fail;
+use tuple_match::{Field, Pattern, Template, Tuple};
+use tuple_space::{EntryId, Lease, MOST, Space, SpaceError};
+
+/// The tuple `job n`.
+fn job(alloc: Global, number: i128) -> Result<Tuple, Fail> {
+    let mut fields = Vec::new(alloc);
+    fields.push(Field::Word(String::from_str(alloc, "job")?))?;
+    fields.push(Field::Int(number))?;
+    Ok(Tuple::new(fields)?)
+}
+
+/// The template `job ?i`.
+fn any_job(alloc: Global) -> Result<Template, Fail> {
+    let mut patterns = Vec::new(alloc);
+    patterns.push(Pattern::Is(Field::Word(String::from_str(alloc, "job")?)))?;
+    patterns.push(Pattern::AnyInt)?;
+    Ok(Template::new(patterns)?)
+}
+
+/// The number of a job.
+fn number_of(tuple: &Tuple) -> Option<i128> {
+    match tuple.fields() {
+        [_, number] => number.as_int(),
+        _ => None,
+    }
+}
+
+/// What is told of the jobs that can be had: the number of the one that is read.
+fn read(space: &Space, template: &Template) -> Result<Option<i128>, SpaceError> {
+    match space.rdp(template)? {
+        Some((_, tuple)) => Ok(number_of(&tuple)),
+        None => Ok(None),
+    }
+}
+
+/// Puts a job out.
+fn put(alloc: Global, space: &mut Space, number: i128, lease: Lease) -> Result<EntryId, Fail> {
+    Ok(space.out(job(alloc, number)?, lease)?)
+}
+
+/// Asserts that a job can be had while its lease lasts.
+fn assert_leases_end(
+    rt: &impl Abort,
+    alloc: Global,
+    space: &mut Space,
+    jobs: &Template,
+) -> Result<(), Fail> {
+    put(alloc, space, 5, Lease::Ms(0))?;
+    assert_eq!(rt; read(space, jobs)?, None);
+    assert_eq!(rt; space.count(jobs), 0);
+    assert_eq!(rt; space.advance(7), Ok(()));
+    assert_eq!(rt; space.advance(3), Ok(()));
+    assert_eq!(rt; space.now(), 7);
+    put(alloc, space, 6, Lease::Ms(5))?;
+    assert_eq!(rt; space.advance(11), Ok(()));
+    assert_eq!(rt; read(space, jobs)?, Some(6));
+    assert_eq!(rt; space.advance(12), Ok(()));
+    assert_eq!(rt; read(space, jobs)?, None);
+    Ok(())
+}
+
+#[test]
+fn leases_end(rt: HostRuntime) -> Result<(), Fail> {
+    let alloc = rt.alloc();
+    assert_leases_end(&rt, alloc, &mut Space::new(alloc), &any_job(alloc)?)
+}
+
+/// Holds an entry.
+fn hold(space: &mut Space, id: EntryId, holder: u64, taken: bool) -> Result<(), Fail> {
+    match space.entry(id) {
+        Some(_) => Ok(space.pin(id, holder, taken)?),
+        None => Err(Fail::new("an entry isn't there")),
+    }
+}
+
+/// Puts five jobs out to stay, and tells the second, the fourth and the fifth entry.
+fn put_five(alloc: Global, space: &mut Space) -> Result<[EntryId; 3], Fail> {
+    put(alloc, space, 0, Lease::Forever)?;
+    let second = put(alloc, space, 1, Lease::Forever)?;
+    put(alloc, space, 2, Lease::Forever)?;
+    let fourth = put(alloc, space, 3, Lease::Forever)?;
+    let fifth = put(alloc, space, 4, Lease::Forever)?;
+    Ok([second, fourth, fifth])
+}
+
+/// Asserts which numbers are held while the holds of two holders end.
+fn assert_held(
+    rt: &impl Abort,
+    space: &mut Space,
+    [second, fourth, fifth]: [EntryId; 3],
+) -> Result<(), Fail> {
+    hold(space, fourth, 7, true)?;
+    hold(space, second, 8, false)?;
+    hold(space, second, 7, false)?;
+    hold(space, fifth, 8, true)?;
+    assert_eq!(rt; space.held(), [2, 4, 5].as_slice());
+    space.remove_taken(8);
+    assert!(rt; space.entry(fifth).is_none());
+    space.unpin(8);
+    assert_eq!(rt; space.held(), [2, 4].as_slice());
+    space.unpin(7);
+    assert!(rt; space.held().is_empty());
+    Ok(())
+}
+
+// Once a holder's holds end, the numbers are kept to those that somebody holds; an entry with two holders keeps its number.
+#[test]
+fn held_numbers_come_and_go(rt: HostRuntime) -> Result<(), Fail> {
+    let alloc = rt.alloc();
+    let mut space = Space::new(alloc);
+    let entries = put_five(alloc, &mut space)?;
+    assert_held(&rt, &mut space, entries)?;
+    assert_eq!(rt; space.count(&any_job(alloc)?), 4);
+    Ok(())
+}
+
+/// The tuple of a word and a list of numbers.
+fn listed(alloc: Global, word: &str, numbers: &[i128]) -> Result<Tuple, Fail> {
+    let mut fields = Vec::new(alloc);
+    fields.push(Field::Word(String::from_str(alloc, word)?))?;
+    fields.push(Field::List(Vec::from_slice(alloc, numbers)?))?;
+    Ok(Tuple::new(fields)?)
+}
+
+/// The template of a word, or of any, and any list.
+fn any_listed(alloc: Global, word: Option<&str>) -> Result<Template, Fail> {
+    let mut patterns = Vec::new(alloc);
+    patterns.push(match word {
+        Some(word) => Pattern::Is(Field::Word(String::from_str(alloc, word)?)),
+        None => Pattern::AnyWord,
+    })?;
+    patterns.push(Pattern::AnyList)?;
+    Ok(Template::new(patterns)?)
+}
+
+/// The number of the entry that a call took.
+fn taken(space: &mut Space, template: &Template) -> Option<u64> {
+    let (id, _) = space.inp(template)?;
+    Some(id.number())
+}
+
+/// Puts out lists under the word `node`, one under another word, and a job.
+fn put_lists(alloc: Global, space: &mut Space) -> Result<(), Fail> {
+    for numbers in [[1].as_slice(), &[], &[1, 2], &[2]] {
+        space.out(listed(alloc, "node", numbers)?, Lease::Forever)?;
+    }
+    space.out(listed(alloc, "done", &[1])?, Lease::Forever)?;
+    put(alloc, space, 7, Lease::Forever)?;
+    Ok(())
+}
+
+/// Asserts which of these are taken, by a template of the word, of any word, and of jobs.
+fn assert_taken(
+    rt: &impl Abort,
+    space: &mut Space,
+    nodes: &Template,
+    all: &Template,
+    jobs: &Template,
+) {
+    assert_eq!(rt; taken(space, nodes), Some(3));
+    assert_eq!(rt; taken(space, nodes), Some(4));
+    assert_eq!(rt; taken(space, all), Some(5));
+    assert_eq!(rt; taken(space, nodes), Some(1));
+    assert_eq!(rt; taken(space, all), Some(2));
+    assert_eq!(rt; taken(space, nodes), None);
+    assert_eq!(rt; taken(space, jobs), Some(6));
+}
+
+// The tuple with the longest list is taken first, and of equal lengths the newest; with a formal first the newest of all.
+#[test]
+fn longest_lists_come_first(rt: HostRuntime) -> Result<(), Fail> {
+    let alloc = rt.alloc();
+    let mut space = Space::new(alloc);
+    put_lists(alloc, &mut space)?;
+    let (nodes, all) = (any_listed(alloc, Some("node"))?, any_listed(alloc, None)?);
+    assert_taken(&rt, &mut space, &nodes, &all, &any_job(alloc)?);
+    Ok(())
+}
+
+/// Asserts which job is found while holders come and go.
+fn assert_holders(
+    rt: &impl Abort,
+    space: &mut Space,
+    jobs: &Template,
+    id: EntryId,
+) -> Result<(), Fail> {
+    hold(space, id, 7, true)?;
+    assert_eq!(rt; read(space, jobs)?, None);
+    assert!(rt; !space.lacks(jobs));
+    space.unpin(7);
+    assert_eq!(rt; read(space, jobs)?, Some(5));
+    hold(space, id, 8, true)?;
+    space.remove_taken(8);
+    space.unpin(8);
+    assert_eq!(rt; read(space, jobs)?, None);
+    assert!(rt; space.lacks(jobs));
+    Ok(())
+}
+
+// What a holder lets go is found again, and what it took and kept is not.
+#[test]
+fn holders_leave_and_take(rt: HostRuntime) -> Result<(), Fail> {
+    let alloc = rt.alloc();
+    let mut space = Space::new(alloc);
+    let id = put(alloc, &mut space, 5, Lease::Forever)?;
+    assert_holders(&rt, &mut space, &any_job(alloc)?, id)
+}
