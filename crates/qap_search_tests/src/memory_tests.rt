@@ -109,9 +109,9 @@ fn patterns_of_best(alloc: Global) -> Result<usize, AllocError> {
     Ok(best_template(alloc)?.patterns().len())
 }
 
-/// Whether the empty list is read as a node.
-fn reads_root(alloc: Global) -> Result<bool, AllocError> {
-    Ok(read_node(alloc, 3, &[])?.is_some())
+/// Whether a list is read as a node that places one facility, for which memory is asked.
+fn reads_node(alloc: Global) -> Result<bool, AllocError> {
+    Ok(read_node(alloc, 3, &[0, 2])?.is_some())
 }
 
 /// Asserts what is decided of the root, and tells the call that was refused memory.
@@ -153,7 +153,7 @@ fn assert_tuples(rt: &impl Abort, alloc: Global, perm: &Perm) -> Result<Refused,
 fn calls_on_a_node_are_made_again(rt: HostRuntime) -> Result<(), Fail> {
     let alloc = rt.alloc();
     let mut refused = None;
-    assert!(rt; granted!(refused, "read_node", reads_root(alloc)));
+    assert!(rt; granted!(refused, "read_node", reads_node(alloc)));
     let instance = three(alloc, &FIRST)?;
     let root = Partial::root(alloc, 3)?;
     let thought = thought_of(alloc, &instance, &root, &mut refused)?;
