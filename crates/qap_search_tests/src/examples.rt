@@ -1,5 +1,5 @@
-//! Instances that the tests share, and calls of the search that say nothing in a clause, so that what makes several of them is
-//! cheap to prove.
+//! Instances that the tests share, and calls in functions that promise no more than their callers need, so that what makes several
+//! of them is cheap to prove.
 
 ghost use Rattle.std.specs.Prelude.{◌≡◌, ◌≤◌, IfOk};
 ghost use Rattle.std.specs.Arc.{arc_value};

@@ -344,7 +344,7 @@ fn is_refused<L: Law, M: Room<L>>(hand: &mut Hand, room: &mut M, share: &mut Sha
     }
 }
 
-/// Four of them, of which one at most is refused.
+/// Four steps and thoughts, of which one at most is refused.
 fn are_refused<L: Law, M: Room<L>>(hand: &mut Hand, room: &mut M, share: &mut Share<L>) -> bool
     requires law { IsSearchLaw hand.old.instance L.lawful L.allowed }
     requires before { hand.old.accepted ≤ share.old }
@@ -371,8 +371,12 @@ fn worker(alloc: Global, instance: &Instance) -> Result<(Hand, bool), Fail>
     }
 }
 
-/// Twelve of them, of which one at most is refused.
-fn works<L: Law, M: Room<L>>(hand: &mut Hand, room: &mut M, share: &mut Share<L>) -> bool
+/// Twelve steps and thoughts, of which one at most is refused.
+fn twelve_are_refused<L: Law, M: Room<L>>(
+    hand: &mut Hand,
+    room: &mut M,
+    share: &mut Share<L>,
+) -> bool
     requires law { IsSearchLaw hand.old.instance L.lawful L.allowed }
     requires before { hand.old.accepted ≤ share.old }
 {
@@ -397,11 +401,11 @@ fn one_worker<L: Law>(
 {
     let (mut hand, anew) = worker(alloc, instance)?;
     let (mut room, mut share) = room_for_one::<L>(alloc, instance, space, blank)?;
-    let goes_on = works(&mut hand, &mut room, &mut share);
+    let later = twelve_are_refused(&mut hand, &mut room, &mut share);
     let refused = if anew {
         Some("Hand::new")
     } else {
-        goes_on.then_some("step or think")
+        later.then_some("step or think")
     };
     Ok((hand.report(), room.into_space(), refused))
 }
