@@ -1,23 +1,24 @@
 use Rattle.std.proofs.Common.{◌≡◌, Bool, ⊎_elim, subst, ℕ, zero, suc, ◌+◌, ◌<◌, ◌≤◌, List, [], ◌∷◌, true, false, length, get_or, drop, Option, Some, None, ap, ◌∙◌, sym, refl, cond, eqb, ltb, arith}
-use Rattle.std.specs.Prelude.{find, filter, insert, All}
+use Rattle.std.specs.Prelude.{◌||◌, find, filter, insert, All}
 use Rattle.std.proofs.lemmas.List.Elements.{All-head, All-tail, All-cons, All-nil}
 use Rattle.tuple_space.specs.Holds.{holds_with}
 use Rattle.tuple_space.specs.Lease.{is_permanent}
-use Rattle.tuple_space.specs.Entry.{is_held}
+use Rattle.tuple_space.specs.Entry.{is_held_by}
 use Rattle.tuple_space.specs.Rows.{IsRising, changed}
-use Rattle.tuple_space.specs.Held.{AreRising, HasHeld, is_among}
+use Rattle.tuple_space.specs.Held.{AreRising, HasHeld, is_among, numbers_by}
 use Rattle.tuple_space.specs.Space.{held_by}
-use Rattle.tuple_space.proofs.PartLemmas.{unheld_as}
+use Rattle.tuple_space.proofs.HeldLemmas.{numbers_mine, numbers_other}
 use Rattle.tuple_space.proofs.RowLemmas.{HasNone, changed_none, find_none, rising_head, rising_tail}
 use Rattle.std.proofs.Math.ListN.{set}
-use Rattle.std.specs.List.{AllWithin, HoldsAt, cons_option, filter_map}
+use Rattle.std.specs.List.{AllWithin, HoldsAt, cons_option, filter_map, list_any}
 use Rattle.std.specs.Option.{option_and_then, option_map}
 use Rattle.std.proofs.lemmas.List.{drop_more}
 use Rattle.std.proofs.lemmas.Bool.{cond-true, cond-false, eq-eqb, eqb-true, false≢true, ne_eqb, lt-ltb, le-ltb, cases_Bool, or_cases, or_from, or_left, or_right}
 use Rattle.tuple_space.specs.declared.entry.Entry.{Entry}
+use Rattle.tuple_space.specs.declared.held.Held.{Held}
 use Rattle.tuple_space.specs.declared.hold.Hold.{Hold}
 use Rattle.space_txn.specs.declared.mark.Mark.{Mark}
-use Rattle.space_txn.specs.Marks.{mark_at, mark_from, mark_of, marks_of, new_mark, with_mark}
+use Rattle.space_txn.specs.Marks.{mark_at, mark_in, mark_from, mark_of, marks_of, new_mark, with_mark}
 
 -- the rest of the marks is that of the things from a place on, just where all are those of all things
 pub record Tracks {X : Type 0} (mark : X → Option Mark) (marks : List Mark) (xs : List X) (rest : List Mark) (i : ℕ) : Type 0 where
@@ -151,15 +152,23 @@ not_both : (b : Bool) → (b ≡ true → ⊥) → b ≡ false
 not_both true none = absurd (none refl)
 not_both false none = refl
 
--- nobody has marks on entries that nobody holds
-marks_noted : (number : ℕ) (ns : List ℕ) (es : List Entry) → All (λ e. is_held e ≡ true → is_among e.number ns ≡ true) es → marks_of number es ≡ marks_of number (numbered ns es)
+-- a transaction has no mark on an entry that it doesn't hold
+no_hold : (number : ℕ) (hs : List Hold) → list_any (λ (h : Hold). eqb h.by number) hs ≡ false → find (λ (h : Hold). eqb h.by number) hs ≡ None
+no_hold number [] none = refl
+no_hold number (h ∷ hs) none = ⊎_elim
+    (λ mine. absurd (false≢true (sym none ∙ or_left (eqb h.by number) (list_any (λ (x : Hold). eqb x.by number) hs) mine)))
+    (λ other. cond-false (eqb h.by number) (Some h) (find (λ (x : Hold). eqb x.by number) hs) other
+    ∙ no_hold number hs (sym (ap (λ b. b || list_any (λ (x : Hold). eqb x.by number) hs) other) ∙ none))
+    (cases_Bool (eqb h.by number))
+
+marks_noted : (number : ℕ) (ns : List ℕ) (es : List Entry) → All (λ e. is_held_by number e ≡ true → is_among e.number ns ≡ true) es → marks_of number es ≡ marks_of number (numbered ns es)
 marks_noted number ns [] h = refl
 marks_noted number ns (x ∷ xs) h =
-    let P : Entry → Type 0 = λ e. is_held e ≡ true → is_among e.number ns ≡ true in
+    let P : Entry → Type 0 = λ e. is_held_by number e ≡ true → is_among e.number ns ≡ true in
     let rest = marks_noted number ns xs (All-tail P x xs h) in
     ⊎_elim
     (λ noted. ap (λ l. cons_option (mark_of number x) l) rest ∙ sym (ap (marks_of number) (cond-true (is_among x.number ns) (x ∷ numbered ns xs) (numbered ns xs) noted)))
-    (λ other. unheld_as (λ (e : Entry). marks_of number (e ∷ xs) ≡ marks_of number xs) x (unmarked (is_held x) (is_among x.number ns) (All-head P x xs h) other) refl
+    (λ other. ap (λ o. cons_option (option_map (mark_from x) o) (marks_of number xs)) (no_hold number x.holds (unmarked (is_held_by number x) (is_among x.number ns) (All-head P x xs h) other))
     ∙ rest ∙ sym (ap (marks_of number) (cond-false (is_among x.number ns) (x ∷ numbered ns xs) (numbered ns xs) other)))
     (cases_Bool (is_among x.number ns))
 
@@ -228,6 +237,22 @@ marks_numbered number (n ∷ ns) es h rising =
     ∙ mark_first number (find (λ (e : Entry). eqb e.number n) es) (numbered ns es)
     ∙ ap (λ l. cons_option (mark_at number es n) l) (marks_numbered number ns es (numbers_tail n ns h) rising)
 
--- the marks of a transaction, by the numbers of the entries that somebody holds
-pub marks_held : (number : ℕ) (ns : List ℕ) (es : List Entry) → IsRising es → HasHeld ns es → marks_of number es ≡ filter_map (mark_at number es) ns
-marks_held number ns es rising h = marks_noted number ns es h.each ∙ marks_numbered number ns es h.rising rising
+-- the marks in a transaction's own rows
+marks_by : (number : ℕ) (rows : List Held) (es : List Entry) → filter_map (mark_at number es) (numbers_by number rows) ≡ filter_map (mark_in number es) rows
+marks_by number [] es = refl
+marks_by number (r ∷ rs) es =
+    let rest = marks_by number rs es in
+    let all = filter_map (mark_in number es) rs in
+    ⊎_elim
+    (λ mine. ap (filter_map (mark_at number es)) (numbers_mine number r rs mine)
+    ∙ ap (λ l. cons_option (mark_at number es r.entry) l) rest
+    ∙ sym (ap (λ o. cons_option o all) (cond-true (eqb r.by number) (mark_at number es r.entry) None mine)))
+    (λ other. ap (filter_map (mark_at number es)) (numbers_other number r rs other) ∙ rest
+    ∙ sym (ap (λ o. cons_option o all) (cond-false (eqb r.by number) (mark_at number es r.entry) None other)))
+    (cases_Bool (eqb r.by number))
+
+-- the marks of a transaction, by the rows of those who hold entries
+pub marks_held : (number : ℕ) (rows : List Held) (es : List Entry) → IsRising es → HasHeld rows es → marks_of number es ≡ filter_map (mark_in number es) rows
+marks_held number rows es rising h =
+    let mine = h.of number in
+    marks_noted number (numbers_by number rows) es mine.each ∙ marks_numbered number (numbers_by number rows) es mine.rising rising ∙ marks_by number rows es

@@ -1,9 +1,10 @@
 -- The marks that a transaction has put on entries.
-use Rattle.std.specs.Prelude.{◌≡◌, ℕ, ◌==◌, nat_lt, Bool, List, [], ◌∷◌, find, Contains, Option, if◌then◌else◌}
+use Rattle.std.specs.Prelude.{◌≡◌, ℕ, ◌==◌, nat_lt, Bool, List, [], ◌∷◌, find, Contains, None, Option, if◌then◌else◌}
 use Rattle.std.specs.List.{filter_map}
 use Rattle.std.specs.Option.{option_and_then, option_map}
 use Rattle.tuple_space.specs.Lease.{is_permanent}
 use Rattle.tuple_space.specs.declared.entry.Entry.{Entry}
+use Rattle.tuple_space.specs.declared.held.Held.{Held}
 use Rattle.tuple_space.specs.declared.hold.Hold.{Hold}
 use Rattle.space_txn.specs.declared.mark.Mark.{Mark}
 
@@ -25,6 +26,10 @@ marks_of number entries = filter_map (mark_of number) entries
 -- a transaction's mark on the entry of a number, if there is such an entry
 abbrev pub mark_at : ℕ → List Entry → ℕ → Option Mark
 mark_at number entries entry = option_and_then (mark_of number) (find (λ e. e.number == entry) entries)
+
+-- a transaction's mark on the entry of a row, where that is its own
+abbrev pub mark_in : ℕ → List Entry → Held → Option Mark
+mark_in number entries row = if row.by == number then mark_at number entries row.entry else None
 
 -- the mark that a transaction puts on an entry now
 abbrev pub new_mark : Entry → Bool → Mark

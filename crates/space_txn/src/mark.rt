@@ -3,10 +3,10 @@
 ghost use Rattle.std.specs.Prelude.{◌≡◌, ◌+◌, ◌≤◌, ◌<◌, ◌≢◌, ◌↔◌, ◌==◌, IsTrue, is_some, find, List, MatchBool, MatchOption, length, vec_capacity, vec_len};
 ghost use Rattle.std.specs.List.{AllWithin, HoldsAt, cons_option, filter_map};
 ghost use Rattle.std.specs.Option.{option_copied};
-ghost use Rattle.space_txn.specs.Marks.{IsMarkOf, mark_at, mark_of, marks_of, with_mark};
+ghost use Rattle.space_txn.specs.Marks.{IsMarkOf, mark_in, mark_of, marks_of, with_mark};
 
 use tuple_match::Tuple;
-use tuple_space::{Entry, Hold, Space};
+use tuple_space::{Entry, Held, Hold, Space};
 
 /// A transaction's mark on an entry: that it took or read it.
 #[derive(Debug, Drop)]
@@ -48,31 +48,34 @@ fn marks_behind<'a>(rest: &'a [Mark], entry: &Entry, number: u64) -> Option<&'a 
     None
 }
 
-/// What of the marks is left behind a transaction's mark on the entry of a number, if there is one and it has one there, or
-/// `None` where the first mark is another one.
+/// What of the marks is left behind a transaction's mark on the entry of a row, if the row is its own, there is such an entry
+/// and it has a mark there, or `None` where the first mark is another one.
 fn marks_behind_at<'a>(
     rest: &'a [Mark],
     space: &Space,
-    entry: u64,
+    row: Held,
     number: u64,
 ) -> Option<&'a [Mark]>
     ensures { MatchOption result
-        ((behind : List Mark) → rest.now ≢ cons_option (mark_at number space.now.entries entry) behind)
-        (λ behind. rest.now ≡ cons_option (mark_at number space.now.entries entry) behind.now) }
+        ((behind : List Mark) → rest.now ≢ cons_option (mark_in number space.now.entries row) behind)
+        (λ behind. rest.now ≡ cons_option (mark_in number space.now.entries row) behind.now) }
 {
-    match space.entry_numbered(entry) {
+    if row.by != number {
+        return Some(rest);
+    }
+    match space.entry_numbered(row.entry) {
         Some(entry) => marks_behind(rest, entry, number),
         None => Some(rest),
     }
 }
 
-/// Whether these are the marks that a transaction has put on the entries of some numbers.
-fn are_marks_at(marks: &[Mark], space: &Space, entries: &[u64], number: u64) -> bool
-    ensures { IsTrue result ↔ (marks.now ≡ filter_map (mark_at number space.now.entries) entries.now) }
+/// Whether these are the marks that a transaction has put on the entries of its rows among these.
+fn are_marks_at(marks: &[Mark], space: &Space, rows: &[Held], number: u64) -> bool
+    ensures { IsTrue result ↔ (marks.now ≡ filter_map (mark_in number space.now.entries) rows.now) }
 {
     let mut rest = marks;
-    for entry in entries {
-        let Some(behind) = marks_behind_at(rest, space, *entry, number) else {
+    for row in rows {
+        let Some(behind) = marks_behind_at(rest, space, *row, number) else {
             return false;
         };
         rest = behind;

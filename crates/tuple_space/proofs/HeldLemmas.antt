@@ -1,151 +1,273 @@
--- The numbers of the entries that somebody holds.
-use Rattle.std.proofs.Common.{◌≡◌, ℕ, zero, suc, ◌+◌, ◌<◌, ◌≤◌, Bool, true, false, List, [], ◌∷◌, length, get_or, refl, sym, ap, subst, ◌∙◌, cond, eqb, ⊎_elim, arith}
-use Rattle.std.specs.Prelude.{◌||◌, ◌&&◌, All, filter, insert, map}
-use Rattle.std.specs.List.{list_any}
-use Rattle.std.proofs.lemmas.Bool.{cases_lt, cond-true, cond_both, eqb-true, eq-eqb, false≢true, or_cases, or_left, or_right}
-use Rattle.std.proofs.lemmas.List.{get_or_default}
+-- Who holds which entries, by their numbers.
+use Rattle.std.proofs.Common.{◌≡◌, ℕ, zero, suc, ◌+◌, ◌<◌, ◌≤◌, Bool, true, false, List, [], ◌∷◌, length, get_or, refl, sym, ap, subst, ◌∙◌, cond, eqb, inl, inr, ⊎_elim, arith}
+use Rattle.std.specs.Prelude.{◌⊎◌, ◌||◌, ◌&&◌, not, All, filter, insert, map}
+use Rattle.std.specs.List.{AllWithin, HoldsAt, list_any}
+use Rattle.std.proofs.lemmas.Bool.{cases_Bool, cond-true, cond-false, cond_both, eqb-true, false≢true, or_cases, or_left, or_right}
 use Rattle.std.proofs.lemmas.List.Elements.{All-cons, All-filter, All-head, All-map, All-nil, All-push, All-tail}
 use Rattle.std.proofs.lemmas.List.Folds.{list_any_at}
-use Rattle.std.proofs.lemmas.List.Kept.{AllPairs-cons, AllPairs-filter}
+use Rattle.std.proofs.lemmas.List.Kept.{AllPairs-cons}
 use Rattle.std.proofs.lemmas.List.Sorted.{IsPermutation-insert, list_any-IsPermutation}
+use Rattle.std.proofs.lemmas.Map.Views.{any-filter_same}
 use Rattle.tuple_match.specs.FieldValue.{FieldValue}
-use Rattle.tuple_space.specs.Entry.{is_held, unheld}
-use Rattle.tuple_space.specs.Held.{AreRising, HasHeld, is_among, is_held_number}
-use Rattle.tuple_space.specs.Holds.{holds_without}
+use Rattle.tuple_space.specs.Entry.{is_held_by, unheld}
+use Rattle.tuple_space.specs.Held.{AreRising, HasHeld, HasHeldBy, is_among, numbers_by}
+use Rattle.tuple_space.specs.Holds.{holds_with, holds_without}
 use Rattle.tuple_space.specs.Lease.{granted}
-use Rattle.tuple_space.specs.Space.{SpaceValue, put, stays_without, released}
+use Rattle.tuple_space.specs.Space.{SpaceValue, held_by, put, stays_without, released}
 use Rattle.tuple_space.specs.Writes.{put_each}
 use Rattle.tuple_space.specs.declared.entry.Entry.{Entry}
+use Rattle.tuple_space.specs.declared.held.Held.{Held}
 use Rattle.tuple_space.specs.declared.hold.Hold.{Hold}
 use Rattle.tuple_space.specs.declared.lease.Lease.{Lease}
 use Rattle.tuple_space.specs.declared.write.Write.{Write}
 
-abbrev pub IsNoted : List ℕ → Entry → Type 0
-IsNoted numbers e = is_held e ≡ true → is_among e.number numbers ≡ true
+abbrev pub IsNoted : ℕ → List ℕ → Entry → Type 0
+IsNoted holder numbers e = is_held_by holder e ≡ true → is_among e.number numbers ≡ true
 
-All-insert : (P : ℕ → Type 0) (ns : List ℕ) (i n : ℕ) → i ≤ length ns → P n → All P ns → All P (insert ns i n)
-All-insert P [] zero n within this all = All-cons P n [] this all
-All-insert P [] (suc i) n within this all = absurd (omega arith)
-All-insert P (x ∷ xs) zero n within this all = All-cons P n (x ∷ xs) this all
-All-insert P (x ∷ xs) (suc i) n within this all = All-cons P x (insert xs i n) (All-head P x xs all) (All-insert P xs i n (omega arith) this (All-tail P x xs all))
+-- the first row is the holder's, or it isn't
+pub numbers_mine : (holder : ℕ) (r : Held) (rs : List Held) → eqb r.by holder ≡ true → numbers_by holder (r ∷ rs) ≡ r.entry ∷ numbers_by holder rs
+numbers_mine holder r rs mine = ap (map (λ (x : Held). x.entry)) (cond-true (eqb r.by holder) (r ∷ filter (λ (x : Held). eqb x.by holder) rs) (filter (λ (x : Held). eqb x.by holder) rs) mine)
 
--- a number put in its place among numbers that rise
-pub rising_insert : (ns : List ℕ) (i n : ℕ) → AreRising ns → i ≤ length ns → ((k : ℕ) → k < i → get_or ns k 0 < n) → ((k : ℕ) → i ≤ k → k < length ns → n < get_or ns k 0)
-    → AreRising (insert ns i n)
-rising_insert [] zero n h within below above = AllPairs-cons (λ (x y : ℕ). x < y) n [] (All-nil (λ (y : ℕ). n < y)) h
-rising_insert [] (suc i) n h within below above = absurd (omega arith)
-rising_insert (x ∷ xs) zero n h within below above =
-    AllPairs-cons (λ (x y : ℕ). x < y) n (x ∷ xs) (λ k d lt. rw (get_or_default (x ∷ xs) k d 0 lt) (above k (omega arith) lt)) h
-rising_insert (x ∷ xs) (suc i) n h within below above =
-    let R : ℕ → ℕ → Type 0 = λ x y. x < y in
-    AllPairs-cons R x (insert xs i n)
-    (All-insert (λ y. x < y) xs i n (omega arith) (below 0 (omega arith)) (λ k d lt. h 0 (suc k) d (omega arith) (omega arith)))
-    (rising_insert xs i n (λ a b d lt in_. h (suc a) (suc b) d (omega arith) (omega arith)) (omega arith) (λ k lt. below (suc k) (omega arith)) (λ k le lt. above (suc k) (omega arith) (omega arith)))
+pub numbers_other : (holder : ℕ) (r : Held) (rs : List Held) → eqb r.by holder ≡ false → numbers_by holder (r ∷ rs) ≡ numbers_by holder rs
+numbers_other holder r rs other = ap (map (λ (x : Held). x.entry)) (cond-false (eqb r.by holder) (r ∷ filter (λ (x : Held). eqb x.by holder) rs) (filter (λ (x : Held). eqb x.by holder) rs) other)
 
--- what is among numbers after one was put there
-pub among_insert : (ns : List ℕ) (i n m : ℕ) → is_among m (insert ns i n) ≡ (eqb m n || is_among m ns)
-among_insert ns i n m = sym (list_any-IsPermutation (λ (k : ℕ). eqb m k) (n ∷ ns) (insert ns i n) (IsPermutation-insert ns i n))
+-- behind the same row stand the same numbers where those behind it are the same
+numbers_same : (holder : ℕ) (r : Held) (rs qs : List Held) → numbers_by holder rs ≡ numbers_by holder qs → numbers_by holder (r ∷ rs) ≡ numbers_by holder (r ∷ qs)
+numbers_same holder r rs qs same = ⊎_elim
+    (λ mine. numbers_mine holder r rs mine ∙ ap (λ l. r.entry ∷ l) same ∙ sym (numbers_mine holder r qs mine))
+    (λ other. numbers_other holder r rs other ∙ same ∙ sym (numbers_other holder r qs other))
+    (cases_Bool (eqb r.by holder))
 
--- a number that stands among others
-pub among_at : (ns : List ℕ) (i n : ℕ) → i < length ns → get_or ns i 0 ≡ n → is_among n ns ≡ true
-among_at ns i n lt is = list_any_at (λ (k : ℕ). eqb n k) ns i 0 lt (eq-eqb n (get_or ns i 0) (sym is))
+-- what holds of a row's number and of those behind it
+numbers_all : (P : ℕ → Type 0) (holder : ℕ) (r : Held) (rs : List Held) → (eqb r.by holder ≡ true → P r.entry) → All P (numbers_by holder rs) → All P (numbers_by holder (r ∷ rs))
+numbers_all P holder r rs here rest = ⊎_elim
+    (λ mine. subst (λ (l : List ℕ). All P l) (sym (numbers_mine holder r rs mine)) (All-cons P r.entry (numbers_by holder rs) (here mine) rest))
+    (λ other. subst (λ (l : List ℕ). All P l) (sym (numbers_other holder r rs other)) rest)
+    (cases_Bool (eqb r.by holder))
 
-pub held_filter : (test : Entry → Bool) (numbers : List ℕ) (es : List Entry) → HasHeld numbers es → HasHeld numbers (filter test es)
-held_filter test numbers es h = record {
-  rising = h.rising;
-  each = All-filter test (IsNoted numbers) es h.each;
-}
+numbers_behind : (P : ℕ → Type 0) (holder : ℕ) (r : Held) (rs : List Held) → All P (numbers_by holder (r ∷ rs)) → (eqb r.by holder ≡ true → P r.entry) × All P (numbers_by holder rs)
+numbers_behind P holder r rs all = ⊎_elim
+    (λ mine. let l = subst (λ (l : List ℕ). All P l) (numbers_mine holder r rs mine) all in ((λ m. All-head P r.entry (numbers_by holder rs) l), All-tail P r.entry (numbers_by holder rs) l))
+    (λ other. ((λ mine. absurd (false≢true (sym other ∙ mine))), subst (λ (l : List ℕ). All P l) (numbers_other holder r rs other) all))
+    (cases_Bool (eqb r.by holder))
 
--- entries change in other things than their numbers, and nobody comes to hold one
-pub held_map : (change : Entry → Entry) → ((e : Entry) → (change e).number ≡ e.number) → ((e : Entry) → is_held (change e) ≡ true → is_held e ≡ true)
-    → (numbers : List ℕ) (es : List Entry) → HasHeld numbers es → HasHeld numbers (map change es)
-held_map change keeps less numbers es h = record {
-  rising = h.rising;
-  each = All-map (IsNoted numbers) change es (λ k d lt held.
-      let e = get_or es k d in
-      subst (λ (n : ℕ). is_among n numbers ≡ true) (sym (keeps e)) (h.each k d lt (less e held)));
-}
+-- numbers that rise, the first row apart
+rising_behind : (holder : ℕ) (r : Held) (rs : List Held) → AreRising (numbers_by holder (r ∷ rs)) → (eqb r.by holder ≡ true → All (λ n. r.entry < n) (numbers_by holder rs)) × AreRising (numbers_by holder rs)
+rising_behind holder r rs h = ⊎_elim
+    (λ mine.
+    let l = subst AreRising (numbers_mine holder r rs mine) h in
+    ((λ m. λ k d lt. l 0 (suc k) d (omega arith) (omega arith)), (λ i j d below within. l (suc i) (suc j) d (omega arith) (omega arith))))
+    (λ other. ((λ mine. absurd (false≢true (sym other ∙ mine))), subst AreRising (numbers_other holder r rs other) h))
+    (cases_Bool (eqb r.by holder))
 
--- somebody comes to hold the entry of a number that is put among the others
-pub held_changed : (change : Entry → Entry) → ((e : Entry) → (change e).number ≡ e.number)
-    → (number : ℕ) (old new : List ℕ) (es : List Entry) → AreRising new → ((n : ℕ) → is_among n new ≡ (eqb n number || is_among n old)) → HasHeld old es
-    → HasHeld new (map (λ (e : Entry). cond (eqb e.number number) (change e) e) es)
-held_changed change keeps number old new es rising among h = record {
-  rising = rising;
-  each = All-map (IsNoted new) (λ (e : Entry). cond (eqb e.number number) (change e) e) es (λ k d lt.
-      let e = get_or es k d in
-      cond_both (eqb e.number number) (change e) e (IsNoted new)
-      (λ same held. subst (λ (n : ℕ). is_among n new ≡ true) (sym (keeps e)) (among e.number ∙ or_left (eqb e.number number) (is_among e.number old) same))
-      (λ other held. among e.number ∙ or_right (eqb e.number number) (is_among e.number old) (h.each k d lt held)));
-}
+rising_front : (holder : ℕ) (r : Held) (rs : List Held) → (eqb r.by holder ≡ true → All (λ n. r.entry < n) (numbers_by holder rs)) → AreRising (numbers_by holder rs) → AreRising (numbers_by holder (r ∷ rs))
+rising_front holder r rs above rest = ⊎_elim
+    (λ mine. subst AreRising (sym (numbers_mine holder r rs mine)) (AllPairs-cons (λ (x y : ℕ). x < y) r.entry (numbers_by holder rs) (above mine) rest))
+    (λ other. subst AreRising (sym (numbers_other holder r rs other)) rest)
+    (cases_Bool (eqb r.by holder))
 
--- a tuple is put out, which nobody holds
-pub held_put : (numbers : List ℕ) (w : SpaceValue) (tuple : List FieldValue) (lease : Lease) → HasHeld numbers w.entries → HasHeld numbers (put w tuple lease).entries
-held_put numbers w tuple lease h =
-    let new : Entry = record { number = w.last + 1; tuple = tuple; end = granted w.moment lease; holds = [] } in
-    record {
-      rising = h.rising;
-      each = All-push (IsNoted numbers) w.entries new h.each (λ held. absurd (false≢true held));
-    }
+all_inserted : (P : ℕ → Type 0) (holder : ℕ) (rs : List Held) (i : ℕ) (new : Held) → i ≤ length rs → (eqb new.by holder ≡ true → P new.entry) → All P (numbers_by holder rs) → All P (numbers_by holder (insert rs i new))
+all_inserted P holder [] zero new within this all = numbers_all P holder new [] this all
+all_inserted P holder [] (suc i) new within this all = absurd (omega arith)
+all_inserted P holder (r ∷ rs) zero new within this all = numbers_all P holder new (r ∷ rs) this all
+all_inserted P holder (r ∷ rs) (suc i) new within this all =
+    let parts = numbers_behind P holder r rs all in
+    numbers_all P holder r (insert rs i new) parts.0 (all_inserted P holder rs i new (omega arith) this parts.1)
 
-pub held_put_each : (numbers : List ℕ) (w : SpaceValue) (writes : List Write) → HasHeld numbers w.entries → HasHeld numbers (put_each w writes).entries
-held_put_each numbers w [] h = h
-held_put_each numbers w (x ∷ xs) h =
-    let P : SpaceValue → Type 0 = λ v. HasHeld numbers (put_each v xs).entries in
-    cond_both x.taken w (put w x.tuple x.lease) P
-    (λ t. held_put_each numbers w xs h)
-    (λ f. held_put_each numbers (put w x.tuple x.lease) xs (held_put numbers w x.tuple x.lease h))
+-- a row put in its place: each holder's numbers rise as before
+pub rising_inserted : (holder : ℕ) (rs : List Held) (i : ℕ) (new : Held) → AreRising (numbers_by holder rs) → i ≤ length rs
+    → AllWithin (λ r. r.by ≡ new.by → r.entry < new.entry) rs 0 i → (i < length rs → HoldsAt (λ r. (r.by ≡ new.by) × (new.entry < r.entry)) rs i) → AreRising (numbers_by holder (insert rs i new))
+rising_inserted holder [] zero new h within before at = rising_front holder new [] (λ m. All-nil (λ (n : ℕ). new.entry < n)) h
+rising_inserted holder [] (suc i) new h within before at = absurd (omega arith)
+rising_inserted holder (r ∷ rs) zero new h within before at =
+    let here = at (omega arith) r in
+    let less : new.entry < r.entry = here.1 in
+    let parts = rising_behind holder r rs h in
+    rising_front holder new (r ∷ rs)
+    (λ mine. numbers_all (λ n. new.entry < n) holder r rs (λ m. less)
+    (λ k d lt. (let above = parts.0 (subst (λ (b : ℕ). eqb b holder ≡ true) (sym here.0) mine) k d lt in omega arith)))
+    h
+rising_inserted holder (r ∷ rs) (suc i) new h within before at =
+    let parts = rising_behind holder r rs h in
+    rising_front holder r (insert rs i new)
+    (λ mine. all_inserted (λ n. r.entry < n) holder rs i new (omega arith)
+    (λ m. before 0 r (omega arith) (omega arith) (eqb-true r.by holder mine ∙ sym (eqb-true new.by holder m)))
+    (parts.0 mine))
+    (rising_inserted holder rs i new parts.1 (omega arith) (λ k d from to. before (suc k) d (omega arith) (omega arith)) (λ lt d. at (omega arith) d))
 
-less_held : (holder : ℕ) (holds : List Hold) → list_any (λ (h : Hold). true) (holds_without holder holds) ≡ true → list_any (λ (h : Hold). true) holds ≡ true
-less_held holder [] held = held
-less_held holder (h ∷ hs) held = refl
+-- what is among a holder's numbers, by the rows
+among_rows : (holder n : ℕ) (rs : List Held) → is_among n (numbers_by holder rs) ≡ list_any (λ (r : Held). eqb r.by holder && eqb n r.entry) rs
+among_rows holder n [] = refl
+among_rows holder n (r ∷ rs) = ⊎_elim
+    (λ mine. ap (is_among n) (numbers_mine holder r rs mine) ∙ ap (λ b. eqb n r.entry || b) (among_rows holder n rs)
+    ∙ sym (ap (λ b. (b && eqb n r.entry) || list_any (λ (x : Held). eqb x.by holder && eqb n x.entry) rs) mine))
+    (λ other. ap (is_among n) (numbers_other holder r rs other) ∙ among_rows holder n rs
+    ∙ sym (ap (λ b. (b && eqb n r.entry) || list_any (λ (x : Held). eqb x.by holder && eqb n x.entry) rs) other))
+    (cases_Bool (eqb r.by holder))
 
--- a holder lets go
-pub held_released : (holder moment : ℕ) (numbers : List ℕ) (es : List Entry) → HasHeld numbers es → HasHeld numbers (released holder moment es)
-held_released holder moment numbers es h =
-    held_map (unheld holder) (λ e. refl) (λ e. less_held holder e.holds) numbers (filter (stays_without holder moment) es)
-    (held_filter (stays_without holder moment) numbers es h)
+-- what is among them after a row was put there
+pub among_inserted : (rs : List Held) (i : ℕ) (new : Held) (holder n : ℕ)
+    → is_among n (numbers_by holder (insert rs i new)) ≡ ((eqb new.by holder && eqb n new.entry) || is_among n (numbers_by holder rs))
+among_inserted rs i new holder n =
+    let test : Held → Bool = λ r. eqb r.by holder && eqb n r.entry in
+    among_rows holder n (insert rs i new)
+    ∙ sym (list_any-IsPermutation test (new ∷ rs) (insert rs i new) (IsPermutation-insert rs i new))
+    ∙ ap (λ b. test new || b) (sym (among_rows holder n rs))
 
 both : (a b : Bool) → a ≡ true → b ≡ true → (a && b) ≡ true
 both a b p q = rw (p, q) refl
 
-among_kept : (test : ℕ → Bool) (number : ℕ) (ns : List ℕ) → test number ≡ true → is_among number ns ≡ true → is_among number (filter test ns) ≡ true
-among_kept test number [] passes h = h
-among_kept test number (n ∷ ns) passes h = ⊎_elim
-    (λ same.
-    let here : test n ≡ true = subst (λ (k : ℕ). test k ≡ true) (eqb-true number n same) passes in
-    ap (is_among number) (cond-true (test n) (n ∷ filter test ns) (filter test ns) here) ∙ or_left (eqb number n) (is_among number (filter test ns)) same)
-    (λ behind.
-    let rest = among_kept test number ns passes behind in
-    cond_both (test n) (n ∷ filter test ns) (filter test ns) (λ (l : List ℕ). is_among number l ≡ true)
-    (λ t. or_right (eqb number n) (is_among number (filter test ns)) rest) (λ f. rest))
-    (or_cases (eqb number n) (is_among number ns) h)
-
--- numbers of entries that nobody holds are dropped
-pub held_kept : (numbers : List ℕ) (es : List Entry) → HasHeld numbers es → HasHeld (filter (is_held_number es) numbers) es
-held_kept numbers es h = record {
-  rising = AllPairs-filter (λ (x y : ℕ). x < y) (is_held_number es) numbers h.rising;
-  each = λ k d lt held.
-      let e = get_or es k d in
-      let here = list_any_at (λ (x : Entry). eqb x.number e.number && is_held x) es k d lt (both (eqb e.number e.number) (is_held e) (eq-eqb e.number e.number refl) held) in
-      among_kept (is_held_number es) e.number numbers here (h.each k d lt held);
-}
-
--- rows after an edit, with the numbers that are kept of those before it
-pub held_settled : (numbers new : List ℕ) (es seen : List Entry) → seen ≡ es → new ≡ filter (is_held_number seen) numbers → HasHeld numbers es → HasHeld new es
-held_settled numbers new es seen same kept h = subst (λ (l : List ℕ). HasHeld l es) (sym (kept ∙ ap (λ (l : List Entry). filter (is_held_number l) numbers) same)) (held_kept numbers es h)
-
--- what rises never falls
-pub never_falls : (ns : List ℕ) → AreRising ns → (i j : ℕ) → i ≤ j → j < length ns → get_or ns i 0 ≤ get_or ns j 0
-never_falls ns h i j le lt = ⊎_elim
-    (λ below. let less : get_or ns i 0 < get_or ns j 0 = h i j 0 below lt in omega arith)
-    (λ above. let same : i ≡ j = omega arith in let at = ap (λ k. get_or ns k 0) same in omega arith)
-    (cases_lt i j)
-
--- a number that stands there needs no second place
-pub among_there : (ns : List ℕ) (i n m : ℕ) → i < length ns → get_or ns i 0 ≡ n → is_among m ns ≡ (eqb m n || is_among m ns)
-among_there ns i n m lt is = there (eqb m n) (is_among m ns) (λ same. among_at ns i m lt (is ∙ sym (eqb-true m n same)))
+-- a row that stands there needs no second place
+pub among_there : (rs : List Held) (i : ℕ) (new : Held) → i < length rs → HoldsAt (λ r. r.by ≡ new.by) rs i → HoldsAt (λ r. r.entry ≡ new.entry) rs i → (holder n : ℕ)
+    → is_among n (numbers_by holder rs) ≡ ((eqb new.by holder && eqb n new.entry) || is_among n (numbers_by holder rs))
+among_there rs i new lt by entry holder n =
+    there (eqb new.by holder && eqb n new.entry) (is_among n (numbers_by holder rs))
+    (λ same. among_rows holder n rs ∙ list_any_at (λ (x : Held). eqb x.by holder && eqb n x.entry) rs i new lt
+    (ap (λ k. eqb k holder && eqb n (get_or rs i new).entry) (by new) ∙ ap (λ k. eqb new.by holder && eqb n k) (entry new) ∙ same))
   where
     there : (same among : Bool) → (same ≡ true → among ≡ true) → among ≡ (same || among)
     there true among h = h refl
     there false among h = refl
+
+pub held_filter : (test : Entry → Bool) (rows : List Held) (es : List Entry) → HasHeld rows es → HasHeld rows (filter test es)
+held_filter test rows es h = record {
+  of = λ holder. record {
+    rising = (h.of holder).rising;
+    each = All-filter test (IsNoted holder (numbers_by holder rows)) es (h.of holder).each;
+  };
+}
+
+-- entries change in other things than their numbers, and nobody comes to hold one
+map_noted : (change : Entry → Entry) → ((e : Entry) → (change e).number ≡ e.number) → (holder : ℕ) (numbers : List ℕ) (es : List Entry)
+    → ((e : Entry) → is_held_by holder (change e) ≡ true → is_held_by holder e ≡ true)
+    → All (IsNoted holder numbers) es → All (IsNoted holder numbers) (map change es)
+map_noted change keeps holder numbers es less h = All-map (IsNoted holder numbers) change es (λ k d lt held.
+    let e = get_or es k d in
+    subst (λ (n : ℕ). is_among n numbers ≡ true) (sym (keeps e)) (h k d lt (less e held)))
+
+pub held_map : (change : Entry → Entry) → ((e : Entry) → (change e).number ≡ e.number) → ((holder : ℕ) (e : Entry) → is_held_by holder (change e) ≡ true → is_held_by holder e ≡ true)
+    → (rows : List Held) (es : List Entry) → HasHeld rows es → HasHeld rows (map change es)
+held_map change keeps less rows es h = record {
+  of = λ holder. record {
+    rising = (h.of holder).rising;
+    each = map_noted change keeps holder (numbers_by holder rows) es (less holder) (h.of holder).each;
+  };
+}
+
+-- who holds an entry once a holder holds it
+held_with : (holder : ℕ) (hold : Hold) (hs : List Hold) → list_any (λ (h : Hold). eqb h.by holder) (holds_with hold hs) ≡ true
+    → (eqb hold.by holder ≡ true) ⊎ (list_any (λ (h : Hold). eqb h.by holder) hs ≡ true)
+held_with holder hold [] held = ⊎_elim (λ same. inl same) (λ none. absurd (false≢true none)) (or_cases (eqb hold.by holder) false held)
+held_with holder hold (h ∷ hs) held =
+    let any : List Hold → Bool = list_any (λ (x : Hold). eqb x.by holder) in
+    ⊎_elim
+    (λ same. ⊎_elim (λ here. inl here) (λ behind. inr (or_right (eqb h.by holder) (any hs) behind))
+    (or_cases (eqb hold.by holder) (any hs) (sym (ap any (cond-true (eqb h.by hold.by) (hold ∷ hs) (h ∷ holds_with hold hs) same)) ∙ held)))
+    (λ other. ⊎_elim (λ here. inr (or_left (eqb h.by holder) (any hs) here))
+    (λ behind. ⊎_elim (λ new. inl new) (λ old. inr (or_right (eqb h.by holder) (any hs) old)) (held_with holder hold hs behind))
+    (or_cases (eqb h.by holder) (any (holds_with hold hs)) (sym (ap any (cond-false (eqb h.by hold.by) (hold ∷ hs) (h ∷ holds_with hold hs) other)) ∙ held)))
+    (cases_Bool (eqb h.by hold.by))
+
+-- a holder comes to hold the entry of a number, which is put beside it
+pub held_pinned : (by : ℕ) (taken : Bool) (number : ℕ) (old new : List Held) (es : List Entry) → ((holder : ℕ) → AreRising (numbers_by holder new))
+    → ((holder n : ℕ) → is_among n (numbers_by holder new) ≡ ((eqb by holder && eqb n number) || is_among n (numbers_by holder old))) → HasHeld old es
+    → HasHeld new (map (λ (e : Entry). cond (eqb e.number number) (held_by by taken e) e) es)
+held_pinned by taken number old new es rising among h = record {
+  of = λ holder. record {
+    rising = rising holder;
+    each = All-map (IsNoted holder (numbers_by holder new)) (λ (e : Entry). cond (eqb e.number number) (held_by by taken e) e) es (λ k d lt.
+        let e = get_or es k d in
+        let before = (h.of holder).each k d lt in
+        let test = eqb by holder && eqb e.number number in
+        let was = is_among e.number (numbers_by holder old) in
+        cond_both (eqb e.number number) (held_by by taken e) e (IsNoted holder (numbers_by holder new))
+        (λ same held. among holder e.number ∙ ⊎_elim
+        (λ mine. or_left test was (both (eqb by holder) (eqb e.number number) mine same))
+        (λ held_before. or_right test was (before held_before))
+        (held_with holder (record { by = by; taken = taken; permanent = _ }) e.holds held))
+        (λ other held. among holder e.number ∙ or_right test was (before held)));
+  };
+}
+
+-- a tuple is put out, which nobody holds
+pub held_put : (rows : List Held) (w : SpaceValue) (tuple : List FieldValue) (lease : Lease) → HasHeld rows w.entries → HasHeld rows (put w tuple lease).entries
+held_put rows w tuple lease h =
+    let new : Entry = record { number = w.last + 1; tuple = tuple; end = granted w.moment lease; holds = [] } in
+    record {
+      of = λ holder. record {
+        rising = (h.of holder).rising;
+        each = All-push (IsNoted holder (numbers_by holder rows)) w.entries new (h.of holder).each (λ held. absurd (false≢true held));
+      };
+    }
+
+pub held_put_each : (rows : List Held) (w : SpaceValue) (writes : List Write) → HasHeld rows w.entries → HasHeld rows (put_each w writes).entries
+held_put_each rows w [] h = h
+held_put_each rows w (x ∷ xs) h =
+    let P : SpaceValue → Type 0 = λ v. HasHeld rows (put_each v xs).entries in
+    cond_both x.taken w (put w x.tuple x.lease) P
+    (λ t. held_put_each rows w xs h)
+    (λ f. held_put_each rows (put w x.tuple x.lease) xs (held_put rows w x.tuple x.lease h))
+
+-- the rows of others stay where a holder's are dropped
+rows_left : (gone holder : ℕ) (rs : List Held) → eqb gone holder ≡ false → numbers_by holder (filter (λ r. not (eqb r.by gone)) rs) ≡ numbers_by holder rs
+rows_left gone holder [] other = refl
+rows_left gone holder (r ∷ rs) other =
+    let kept = filter (λ (x : Held). not (eqb x.by gone)) rs in
+    let rest = rows_left gone holder rs other in
+    cond_both (not (eqb r.by gone)) (r ∷ kept) kept (λ (l : List Held). numbers_by holder l ≡ numbers_by holder (r ∷ rs))
+    (λ stays. numbers_same holder r kept rs rest)
+    (λ leaves. rest ∙ sym (numbers_other holder r rs (subst (λ (b : ℕ). eqb b holder ≡ false) (sym (eqb-true r.by gone (not_false (eqb r.by gone) leaves))) other)))
+  where
+    not_false : (b : Bool) → not b ≡ false → b ≡ true
+    not_false true h = refl
+    not_false false h = absurd (false≢true (sym h))
+
+rows_gone : (holder : ℕ) (rs : List Held) → numbers_by holder (filter (λ r. not (eqb r.by holder)) rs) ≡ []
+rows_gone holder [] = refl
+rows_gone holder (r ∷ rs) =
+    let kept = filter (λ (x : Held). not (eqb x.by holder)) rs in
+    cond_both (not (eqb r.by holder)) (r ∷ kept) kept (λ (l : List Held). numbers_by holder l ≡ [])
+    (λ stays. numbers_other holder r kept (not_true (eqb r.by holder) stays) ∙ rows_gone holder rs)
+    (λ leaves. rows_gone holder rs)
+  where
+    not_true : (b : Bool) → not b ≡ true → b ≡ false
+    not_true true h = absurd (false≢true h)
+    not_true false h = refl
+
+-- a holder that lets go holds no more, and nobody comes to hold what it held
+gone_by : (holder : ℕ) (hs : List Hold) → list_any (λ (h : Hold). eqb h.by holder) (holds_without holder hs) ≡ false
+gone_by holder hs = any-filter_same (λ (h : Hold). eqb h.by holder) (λ (h : Hold). not (eqb h.by holder)) false (λ h e. ap not e) hs
+
+less_held : (gone holder : ℕ) (hs : List Hold) → list_any (λ (h : Hold). eqb h.by holder) (holds_without gone hs) ≡ true → list_any (λ (h : Hold). eqb h.by holder) hs ≡ true
+less_held gone holder [] held = held
+less_held gone holder (h ∷ hs) held =
+    let any : List Hold → Bool = list_any (λ (x : Hold). eqb x.by holder) in
+    let kept = holds_without gone hs in
+    cond_both (not (eqb h.by gone)) (h ∷ kept) kept (λ (l : List Hold). any l ≡ true → any (h ∷ hs) ≡ true)
+    (λ stays held_here. ⊎_elim (λ here. or_left (eqb h.by holder) (any hs) here)
+    (λ behind. or_right (eqb h.by holder) (any hs) (less_held gone holder hs behind))
+    (or_cases (eqb h.by holder) (any kept) held_here))
+    (λ leaves held_here. or_right (eqb h.by holder) (any hs) (less_held gone holder hs held_here))
+    held
+
+-- a holder lets go, and its rows are dropped
+pub held_released : (gone moment : ℕ) (rows : List Held) (es : List Entry) → HasHeld rows es → HasHeld (filter (λ r. not (eqb r.by gone)) rows) (released gone moment es)
+held_released gone moment rows es h = record {
+  of = λ holder. ⊎_elim
+      (λ same.
+      let is : gone ≡ holder = eqb-true gone holder same in
+      subst (λ (k : ℕ). HasHeldBy k (numbers_by k (filter (λ (r : Held). not (eqb r.by gone)) rows)) (released gone moment es)) is
+      (subst (λ (l : List ℕ). HasHeldBy gone l (released gone moment es)) (sym (rows_gone gone rows))
+      (record {
+        rising = λ i j d below within. absurd (omega arith);
+        each = All-map (IsNoted gone []) (unheld gone) (filter (stays_without gone moment) es)
+            (λ k d lt held. absurd (false≢true (sym (gone_by gone (get_or (filter (stays_without gone moment) es) k d).holds) ∙ held)));
+      })))
+      (λ other. subst (λ (l : List ℕ). HasHeldBy holder l (released gone moment es)) (sym (rows_left gone holder rows other))
+      (record {
+        rising = (h.of holder).rising;
+        each = map_noted (unheld gone) (λ e. refl) holder (numbers_by holder rows) (filter (stays_without gone moment) es) (λ e. less_held gone holder e.holds)
+            (All-filter (stays_without gone moment) (IsNoted holder (numbers_by holder rows)) es (h.of holder).each);
+      }))
+      (cases_Bool (eqb gone holder));
+}

@@ -1,43 +1,55 @@
 -- Rows of entries edited at the numbers of those that somebody holds.
 use Rattle.std.proofs.Common.{◌≡◌, ℕ, zero, suc, ◌<◌, Bool, true, false, List, [], ◌∷◌, ◌++◌, length, get_or, refl, sym, ap, subst, ◌∙◌, cond, eqb, inl, inr, ⊎_elim, arith, append_assoc}
-use Rattle.std.specs.Prelude.{◌⊎◌, not, All, filter, map, remove}
+use Rattle.std.specs.Prelude.{◌⊎◌, ◌||◌, ◌&&◌, not, All, filter, map, remove}
 use Rattle.std.specs.List.{list_any}
 use Rattle.std.proofs.Math.ListN.{set}
 use Rattle.std.proofs.Math.Seq.{get_or-append_seam, set-append_seam}
-use Rattle.std.proofs.lemmas.Bool.{cond-true, cond-false, cond_both, false≢true, or_from, or_left}
+use Rattle.std.proofs.lemmas.Bool.{cond-true, cond-false, cond_both, eq-eqb, false≢true, ne_eqb, or_from, or_left}
 use Rattle.std.proofs.lemmas.List.Elements.{All-cons, All-head, All-nil, All-tail, filter_passes}
 use Rattle.std.proofs.lemmas.List.Kept.{AllPairs-cons}
 use Rattle.std.proofs.lemmas.Map.Views.{any-filter_same}
-use Rattle.tuple_space.specs.Entry.{is_held, is_held_by, is_taken_by, unheld}
-use Rattle.tuple_space.specs.Held.{HasHeld, is_among}
+use Rattle.tuple_space.specs.Entry.{is_held_by, is_taken_by, unheld}
+use Rattle.tuple_space.specs.Held.{HasHeld, is_among, numbers_by}
 use Rattle.tuple_space.specs.Holds.{holds_without}
 use Rattle.tuple_space.specs.Rows.{IsRising, edited_at}
 use Rattle.tuple_space.specs.Space.{released, stays_without, without_taken}
 use Rattle.tuple_space.specs.declared.entry.Entry.{Entry}
+use Rattle.tuple_space.specs.declared.held.Held.{Held}
 use Rattle.tuple_space.specs.declared.hold.Hold.{Hold}
+use Rattle.tuple_space.proofs.HeldLemmas.{numbers_mine, numbers_other}
 use Rattle.tuple_space.proofs.RowLemmas.{HasNone, IsOnlyAt, none_behind, none_head, none_tail, only_tail, other_head, rising_head, rising_tail, same_head}
 
 pub remove_seam : (front : List Entry) (e : Entry) (behind : List Entry) → remove (front ++ e ∷ behind) (length front) ≡ front ++ behind
 remove_seam [] e behind = refl
 remove_seam (x ∷ front) e behind = ap (λ l. x ∷ l) (remove_seam front e behind)
 
--- nobody holds an entry
-pub none_hold : (holds : List Hold) → list_any (λ (h : Hold). true) holds ≡ false → holds ≡ []
-none_hold [] none = refl
-none_hold (h ∷ hs) none = absurd (false≢true (sym none))
+or_none : (a b : Bool) → (a || b) ≡ false → (a ≡ false) × (b ≡ false)
+or_none true b none = absurd (false≢true (sym none))
+or_none false b none = (refl, none)
 
-pub unheld_as : (P : Entry → Type 0) (e : Entry) → is_held e ≡ false → P (record e { holds = [] }) → P e
-unheld_as P e none shown = subst P (ap (λ (hs : List Hold). record e { holds = hs }) (sym (none_hold e.holds none))) shown
+-- a holder that doesn't hold an entry took nothing of it, and has nothing to let go
+pub none_by : (holder : ℕ) (holds : List Hold) → list_any (λ (h : Hold). eqb h.by holder) holds ≡ false → holds_without holder holds ≡ holds
+none_by holder [] none = refl
+none_by holder (h ∷ hs) none =
+    let rest = list_any (λ (x : Hold). eqb x.by holder) hs in
+    let apart = or_none (eqb h.by holder) rest none in
+    cond-true (not (eqb h.by holder)) (h ∷ holds_without holder hs) (holds_without holder hs) (ap not apart.0) ∙ ap (λ l. h ∷ l) (none_by holder hs apart.1)
+
+none_taken : (holder : ℕ) (holds : List Hold) → list_any (λ (h : Hold). eqb h.by holder) holds ≡ false → list_any (λ (h : Hold). eqb h.by holder && h.taken) holds ≡ false
+none_taken holder [] none = refl
+none_taken holder (h ∷ hs) none =
+    let apart = or_none (eqb h.by holder) (list_any (λ (x : Hold). eqb x.by holder) hs) none in
+    ap (λ b. (b && h.taken) || list_any (λ (x : Hold). eqb x.by holder && x.taken) hs) apart.0 ∙ none_taken holder hs apart.1
 
 -- an edit drops an entry, or leaves one of its number that it would leave again
 abbrev pub EditsOne : (List Entry → List Entry) → Entry → Type 0
 EditsOne edit x = (edit (x ∷ []) ≡ []) ⊎ ((y : Entry) × (edit (x ∷ []) ≡ y ∷ []) × (y.number ≡ x.number) × (edit (y ∷ []) ≡ y ∷ []))
 
--- an edit that takes entries one by one, and leaves those that nobody holds as they are
-pub record IsEdit (edit : List Entry → List Entry) : Type 0 where
+-- an edit that takes entries one by one, and leaves those that a holder doesn't hold as they are
+pub record IsEdit (holder : ℕ) (edit : List Entry → List Entry) : Type 0 where
   pub none : edit [] ≡ []
   pub each : (x : Entry) (xs : List Entry) → edit (x ∷ xs) ≡ edit (x ∷ []) ++ edit xs
-  pub quiet : (x : Entry) → is_held x ≡ false → edit (x ∷ []) ≡ x ∷ []
+  pub quiet : (x : Entry) → is_held_by holder x ≡ false → edit (x ∷ []) ≡ x ∷ []
   pub one : (x : Entry) → EditsOne edit x
 
 each_kept : {A : Type 0} (b : Bool) (f : Entry → A) (x : Entry) (xs : List Entry)
@@ -84,19 +96,19 @@ taken_one : (holder : ℕ) (x : Entry) (b : Bool) → is_taken_by holder x ≡ b
 taken_one holder x true taken = inl (taken_gone holder x taken)
 taken_one holder x false stays = inr (x, taken_stays holder x stays, refl, taken_stays holder x stays)
 
-pub release_edits : (holder moment : ℕ) → IsEdit (released holder moment)
+pub release_edits : (holder moment : ℕ) → IsEdit holder (released holder moment)
 release_edits holder moment = record {
   none = refl;
   each = λ x xs. each_kept (stays_without holder moment x) (unheld holder) x (filter (stays_without holder moment) xs);
-  quiet = λ x none. unheld_as (λ e. released holder moment (e ∷ []) ≡ e ∷ []) x none refl;
+  quiet = λ x none. released_stays holder moment x (or_left (not (is_held_by holder x)) _ (ap not none)) ∙ ap (λ (hs : List Hold). record x { holds = hs } ∷ []) (none_by holder x.holds none);
   one = λ x. released_one holder moment x _ refl;
 }
 
-pub taking_edits : (holder : ℕ) → IsEdit (without_taken holder)
+pub taking_edits : (holder : ℕ) → IsEdit holder (without_taken holder)
 taking_edits holder = record {
   none = refl;
   each = λ x xs. each_left (not (is_taken_by holder x)) x (without_taken holder xs);
-  quiet = λ x none. unheld_as (λ e. without_taken holder (e ∷ []) ≡ e ∷ []) x none refl;
+  quiet = λ x none. taken_stays holder x (none_taken holder x.holds none);
   one = λ x. taken_one holder x _ refl;
 }
 
@@ -119,7 +131,7 @@ free : (held among : Bool) → (held ≡ true → among ≡ true) → among ≡ 
 free true among has none = absurd (false≢true (sym none ∙ has refl))
 free false among has none = refl
 
-module _ (edit : List Entry → List Entry) (edits : IsEdit edit) where
+module _ (holder : ℕ) (edit : List Entry → List Entry) (edits : IsEdit holder edit) where
   edit_append : (xs ys : List Entry) → edit (xs ++ ys) ≡ edit xs ++ edit ys
   edit_append [] ys = ap (λ l. l ++ edit ys) (sym edits.none)
   edit_append (x ∷ xs) ys =
@@ -222,20 +234,28 @@ module _ (edit : List Entry → List Entry) (edits : IsEdit edit) where
       (edits.one x))
       (λ f. All-cons New x more (λ none. All-head Old x xs h (or_from _ _ f none)) rest)
 
-  -- before the edit all numbers of held entries are still to come
-  pub edited_begin : (held : List ℕ) (es : List Entry) → IsRising es → HasHeld held es → IsEditedBut edit held es es
-  edited_begin held es rising h = record {
+  -- before the edit all numbers of the entries that the holder holds are still to come
+  pub edited_begin : (rows : List Held) (es : List Entry) → IsRising es → HasHeld rows es → IsEditedBut edit (numbers_by holder rows) es es
+  edited_begin rows es rising h = record {
     rising = rising;
-    left = λ k d lt none. edits.quiet (get_or es k d) (free (is_held (get_or es k d)) _ (h.each k d lt) none);
+    left = λ k d lt none. edits.quiet (get_or es k d) (free (is_held_by holder (get_or es k d)) _ ((h.of holder).each k d lt) none);
     same = refl;
   }
 
-  pub edited_more : (number : ℕ) (rest : List ℕ) (old now : List Entry) → IsEditedBut edit (number ∷ rest) old now → IsEditedBut edit rest old (edited_at number edit now)
+  edited_more : (number : ℕ) (rest : List ℕ) (old now : List Entry) → IsEditedBut edit (number ∷ rest) old now → IsEditedBut edit rest old (edited_at number edit now)
   edited_more number rest old now h = record {
     rising = edited_rising number now h.rising;
     left = edited_left number rest now h.left;
     same = edited_same number now ∙ h.same;
   }
+
+  -- a row of another holder is passed over, one of the holder's is edited
+  pub edited_past : (r : Held) (rest : List Held) (old now : List Entry) → (r.by ≡ holder → ⊥) → IsEditedBut edit (numbers_by holder (r ∷ rest)) old now → IsEditedBut edit (numbers_by holder rest) old now
+  edited_past r rest old now other h = subst (λ (l : List ℕ). IsEditedBut edit l old now) (numbers_other holder r rest (ne_eqb _ _ other)) h
+
+  pub edited_row : (r : Held) (rest : List Held) (old now : List Entry) → r.by ≡ holder → IsEditedBut edit (numbers_by holder (r ∷ rest)) old now
+      → IsEditedBut edit (numbers_by holder rest) old (edited_at r.entry edit now)
+  edited_row r rest old now mine h = edited_more r.entry (numbers_by holder rest) old now (subst (λ (l : List ℕ). IsEditedBut edit l old now) (numbers_mine holder r rest (eq-eqb _ _ mine)) h)
 
   edit_quiet : (es : List Entry) → All (λ e. edit (e ∷ []) ≡ e ∷ []) es → edit es ≡ es
   edit_quiet [] h = edits.none

@@ -1,39 +1,62 @@
-//! The numbers of the entries that somebody holds.
+//! Who holds which entries, by their numbers.
 
-ghost use Rattle.std.specs.Prelude.{ℕ, ◌≡◌, ◌+◌, ◌≤◌, ◌==◌, ◌||◌, filter, vec_capacity, vec_len};
-ghost use Rattle.tuple_space.specs.Rows.{IsRising};
-ghost use Rattle.tuple_space.specs.Held.{AreRising, is_among, is_held_number};
+ghost use Rattle.std.specs.Prelude.{ℕ, ◌≡◌, ◌≢◌, ◌<◌, ◌≤◌, ◌+◌, ◌==◌, ◌||◌, ◌&&◌, MatchBool, filter, length, not, vec_capacity, vec_len};
+ghost use Rattle.std.specs.List.{AllWithin, HoldsAt};
+ghost use Rattle.tuple_space.specs.Held.{AreRising, is_among, numbers_by};
 
-use crate::entry::Entry;
-use crate::rows::place_of;
-
-/// Puts a number in its place among numbers in rising order that have room for it, unless it stands there.
-pub(crate) fn add_number(numbers: &mut Vec<u64>, number: u64)
-    requires rising { AreRising numbers.old.items }
-    requires room { vec_len numbers.old + 1 ≤ vec_capacity numbers.old }
-    ensures rising { AreRising numbers.new.items }
-    ensures among { (n : ℕ) → is_among n numbers.new.items ≡ ((n == number) || is_among n numbers.old.items) }
-{
-    if let Err(place) = numbers.binary_search(&number) {
-        numbers.insert(place, number).unwrap();
-    }
+/// That somebody holds an entry.
+#[derive(Clone, Copy, Debug, PartialEq, Eq)]
+pub struct Held {
+    /// The number of the entry.
+    pub entry: u64,
+    /// The number of the holder.
+    pub by: u64,
 }
 
-/// Whether somebody holds the entry of a number.
-fn is_held_number(entries: &[Entry], number: u64) -> bool
-    requires { IsRising entries.now }
-    ensures { result ≡ is_held_number entries.now number }
+/// The place of the first row of the same holder whose entry's number isn't lower; where there is none, how many rows there are.
+fn place_for(rows: &[Held], new: Held) -> usize
+    ensures within { result ≤ length rows.now }
+    ensures before { AllWithin (λ r. r.by ≡ new.by → r.entry < new.entry) rows.now 0 result }
+    ensures at { result < length rows.now → HoldsAt (λ r. (r.by ≡ new.by) × (new.entry ≤ r.entry)) rows.now result }
 {
-    match place_of(entries, number) {
-        Some(place) => entries[place].holds.is_held(),
-        None => false,
+    for place in 0..rows.len() {
+        if rows[place].by == new.by && rows[place].entry >= new.entry {
+            return place;
+        }
     }
+    rows.len()
 }
 
-/// Keeps of these numbers those of entries that somebody holds.
-pub(crate) fn keep_held(numbers: &mut Vec<u64>, entries: &[Entry])
-    requires { IsRising entries.now }
-    ensures { numbers.new.items ≡ filter (is_held_number entries.now) numbers.old.items }
+/// Whether the row at a place is on the entry of this number.
+fn is_row_at(rows: &[Held], place: usize, number: u64) -> bool
+    ensures { MatchBool result
+        ((place < length rows.now) × HoldsAt (λ r. r.entry ≡ number) rows.now place)
+        (place < length rows.now → HoldsAt (λ r. r.entry ≢ number) rows.now place) }
 {
-    numbers.retain(|number| is_held_number(entries, *number));
+    if place >= rows.len() {
+        return false;
+    }
+    rows[place].entry == number
+}
+
+/// Puts a row in its place, where there is room for it, unless it stands there.
+pub(crate) fn add_held(rows: &mut Vec<Held>, new: Held)
+    requires rising { (holder : ℕ) → AreRising (numbers_by holder rows.old.items) }
+    requires room { vec_len rows.old + 1 ≤ vec_capacity rows.old }
+    ensures rising { (holder : ℕ) → AreRising (numbers_by holder rows.new.items) }
+    ensures among { (holder n : ℕ) →
+        is_among n (numbers_by holder rows.new.items) ≡ (((new.by == holder) && (n == new.entry)) || is_among n (numbers_by holder rows.old.items)) }
+{
+    let place = place_for(rows, new);
+    if is_row_at(rows, place, new.entry) {
+        return;
+    }
+    rows.insert(place, new).unwrap();
+}
+
+/// Drops the rows of a holder.
+pub(crate) fn drop_rows_by(rows: &mut Vec<Held>, holder: u64)
+    ensures { rows.new.items ≡ filter (λ r. not (r.by == holder)) rows.old.items }
+{
+    rows.retain(|row| row.by != holder);
 }

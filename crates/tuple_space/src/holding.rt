@@ -9,6 +9,7 @@ ghost use Rattle.tuple_space.specs.Space.{held_by, released, space_of, stays_wit
 ghost use Rattle.tuple_space.specs.Writes.{put_count, put_each};
 
 use crate::entry::Entry;
+use crate::held::Held;
 use crate::hold::{Hold, Holds};
 use crate::rows::place_of;
 use crate::write::Write;
@@ -49,15 +50,16 @@ pub(crate) fn stays_without(entry: &Entry, holder: u64, moment: u64) -> bool
     entry.end.is_live(moment) || entry.holds.is_held_besides(holder)
 }
 
-/// Ends the holds of a holder, and drops the entries that go with them, where these are the numbers of entries that somebody
-/// holds.
-pub(crate) fn release_all(entries: &mut Vec<Entry>, held: &[u64], holder: u64, moment: u64)
+/// Ends the holds of a holder, and drops the entries that go with them, where these rows tell who holds which entries.
+pub(crate) fn release_all(entries: &mut Vec<Entry>, held: &[Held], holder: u64, moment: u64)
     requires rising { IsRising entries.old.items }
     requires held { HasHeld held.now entries.old.items }
     ensures { entries.new.items ≡ released holder moment entries.old.items }
 {
-    for number in held {
-        release_number(entries, *number, holder, moment);
+    for row in held {
+        if row.by == holder {
+            release_number(entries, row.entry, holder, moment);
+        }
     }
 }
 
@@ -85,14 +87,16 @@ fn release_at(entries: &mut Vec<Entry>, place: usize, holder: u64, moment: u64)
     entry.holds.release(holder);
 }
 
-/// Drops the entries that a holder took, where these are the numbers of entries that somebody holds.
-pub(crate) fn drop_taken(entries: &mut Vec<Entry>, held: &[u64], holder: u64)
+/// Drops the entries that a holder took, where these rows tell who holds which entries.
+pub(crate) fn drop_taken(entries: &mut Vec<Entry>, held: &[Held], holder: u64)
     requires rising { IsRising entries.old.items }
     requires held { HasHeld held.now entries.old.items }
     ensures { entries.new.items ≡ without_taken holder entries.old.items }
 {
-    for number in held {
-        drop_taken_number(entries, *number, holder);
+    for row in held {
+        if row.by == holder {
+            drop_taken_number(entries, row.entry, holder);
+        }
     }
 }
 

@@ -9,6 +9,7 @@ ghost use Rattle.tuple_space.specs.Writes.{put_count};
 
 use crate::admission::is_there;
 use crate::entry::Entry;
+use crate::held::Held;
 use crate::holding::stays_without;
 use crate::index::{Bucket, add_entry, drop_entry};
 use crate::rows::place_of;
@@ -57,19 +58,21 @@ fn drop_if_leaving(
     }
 }
 
-/// Takes the numbers of the entries that go with a holder's hold of them, among these, out of their buckets.
+/// Takes the numbers of the entries that go with a holder's hold of them, among its own in these rows, out of their buckets.
 pub(crate) fn drop_leaving(
     buckets: &mut Vec<Bucket>,
     entries: &[Entry],
-    held: &[u64],
+    held: &[Held],
     holder: u64,
     moment: u64,
 )
     requires { IsRising entries.now }
     ensures { StayIndexed (stays_without holder moment) entries.now buckets.old.items buckets.new.items }
 {
-    for number in held {
-        drop_if_leaving(buckets, entries, *number, holder, moment);
+    for row in held {
+        if row.by == holder {
+            drop_if_leaving(buckets, entries, row.entry, holder, moment);
+        }
     }
 }
 
@@ -87,18 +90,20 @@ fn drop_if_taken(buckets: &mut Vec<Bucket>, entries: &[Entry], number: u64, hold
     }
 }
 
-/// Takes the numbers of the entries that a holder took, among these, out of their buckets.
+/// Takes the numbers of the entries that a holder took, among its own in these rows, out of their buckets.
 pub(crate) fn drop_all_taken(
     buckets: &mut Vec<Bucket>,
     entries: &[Entry],
-    held: &[u64],
+    held: &[Held],
     holder: u64,
 )
     requires { IsRising entries.now }
     ensures { StayIndexed (λ e. not (is_taken_by holder e)) entries.now buckets.old.items buckets.new.items }
 {
-    for number in held {
-        drop_if_taken(buckets, entries, *number, holder);
+    for row in held {
+        if row.by == holder {
+            drop_if_taken(buckets, entries, row.entry, holder);
+        }
     }
 }
 

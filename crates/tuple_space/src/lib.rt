@@ -22,6 +22,7 @@ mod write;
 
 pub use entry::{Claim, Entry, EntryId};
 pub use error::SpaceError;
+pub use held::Held;
 pub use hold::{Hold, Holds};
 pub use lease::{Lease, LeaseEnd};
 pub use space::{MOST, Space};

@@ -13,7 +13,7 @@ ghost use Rattle.tuple_space.specs.Step.{IsHad, NothingHad, Step, advance, count
 use crate::ends::{end_with, end_with_all, first_end};
 use crate::entry::{Claim, Entry, EntryId};
 use crate::error::SpaceError;
-use crate::held::{add_number, keep_held};
+use crate::held::{Held, add_held, drop_rows_by};
 use crate::hold::Holds;
 use crate::holding::{count_puts, drop_taken, hold_entry, put_rows, release_all};
 use crate::index::{Bucket, add_entry, drop_entry};
@@ -34,8 +34,8 @@ pub const MOST: u64 = 1 << 62;
 #[derive(Debug, Drop)]
 pub struct Space {
     entries: Vec<Entry>,
-    /// The numbers of the entries that somebody holds, in rising order.
-    held: Vec<u64>,
+    /// Who holds which entries; those of one holder in rising order of their numbers.
+    held: Vec<Held>,
     /// The numbers of the entries whose tuples begin with a word, by that word and how many fields they have.
     buckets: Vec<Bucket>,
     /// No lease ends before this moment.
@@ -214,8 +214,8 @@ impl Space {
         &self.entries
     }
 
-    /// Numbers in rising order, among which is that of each entry that somebody holds.
-    pub fn held(&self) -> &[u64]
+    /// Who holds which entries: beside each holder the numbers of all that it holds, in rising order.
+    pub fn held(&self) -> &[Held]
         ensures held { HasHeld result.now self.now.entries }
         ensures rising { IsRising self.now.entries }
     {
@@ -248,7 +248,11 @@ impl Space {
         let number = id.number();
         self.held.reserve(1)?;
         hold_entry(&mut self.entries, number, holder, taken)?;
-        add_number(&mut self.held, number);
+        let new = Held {
+            entry: number,
+            by: holder,
+        };
+        add_held(&mut self.held, new);
         Ok(())
     }
 
@@ -264,7 +268,7 @@ impl Space {
             self.moment,
         );
         release_all(&mut self.entries, &self.held, holder, self.moment);
-        keep_held(&mut self.held, &self.entries);
+        drop_rows_by(&mut self.held, holder);
     }
 
     /// Drops the entries that a holder took. Takes no memory.
@@ -282,7 +286,6 @@ impl Space {
     {
         let number = id.number();
         let entry = take_number(&mut self.entries, number)?;
-        keep_held(&mut self.held, &self.entries);
         drop_entry(&mut self.buckets, &entry.tuple, number);
         Some(entry.tuple)
     }

@@ -2,7 +2,7 @@ use std::alloc::{AllocError, Global};
 use std::process::Abort;
 use std::test::Fail;
 use tuple_match::{Field, Pattern, Template, Tuple};
-use tuple_space::{EntryId, Lease, MOST, Space, SpaceError};
+use tuple_space::{EntryId, Held, Lease, MOST, Space, SpaceError};
 
 /// The tuple `job n`.
 fn job(alloc: Global, number: i128) -> Result<Tuple, Fail> {
@@ -86,7 +86,12 @@ fn put_five(alloc: Global, space: &mut Space) -> Result<[EntryId; 3], Fail> {
     Ok([second, fourth, fifth])
 }
 
-/// Asserts which numbers are held while the holds of two holders end.
+/// That the entry of a number is held by a holder.
+fn held(entry: u64, by: u64) -> Held {
+    Held { entry, by }
+}
+
+/// Asserts who holds which entries while the holds of two holders end.
 fn assert_held(
     rt: &impl Abort,
     space: &mut Space,
@@ -96,17 +101,18 @@ fn assert_held(
     hold(space, second, 8, false)?;
     hold(space, second, 7, false)?;
     hold(space, fifth, 8, true)?;
-    assert_eq!(rt; space.held(), [2, 4, 5].as_slice());
+    let all = [held(2, 7), held(4, 7), held(2, 8), held(5, 8)];
+    assert_eq!(rt; space.held(), all.as_slice());
     space.remove_taken(8);
     assert!(rt; space.entry(fifth).is_none());
     space.unpin(8);
-    assert_eq!(rt; space.held(), [2, 4].as_slice());
+    assert_eq!(rt; space.held(), [held(2, 7), held(4, 7)].as_slice());
     space.unpin(7);
     assert!(rt; space.held().is_empty());
     Ok(())
 }
 
-// Once a holder's holds end, the numbers are kept to those that somebody holds; an entry with two holders keeps its number.
+// Once a holder's holds end, only those of others are told; an entry with two holders stands beside each of them.
 #[test]
 fn held_numbers_come_and_go(rt: HostRuntime) -> Result<(), Fail> {
     let alloc = rt.alloc();

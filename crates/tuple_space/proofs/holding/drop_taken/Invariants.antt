@@ -1,7 +1,8 @@
 use Rattle.std.proofs.Common.{drop}
+use Rattle.tuple_space.specs.Held.{numbers_by}
 use Rattle.tuple_space.specs.Space.{without_taken}
 use Rattle.tuple_space.proofs.PartLemmas.{IsEditedBut}
 use Rattle.tuple_space.proofs.holding.drop_taken.Given as goal
 
-abbrev pub invariant-loop-number : goal.invariant-loop-number
-invariant-loop-number l = IsEditedBut (without_taken l.holder) (drop l.number-index l.held) l.initial.entries.items l.entries.items
+abbrev pub invariant-loop-row : goal.invariant-loop-row
+invariant-loop-row l = IsEditedBut (without_taken l.holder) (numbers_by l.holder (drop l.row-index l.held)) l.initial.entries.items l.entries.items

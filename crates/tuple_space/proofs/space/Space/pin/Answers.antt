@@ -1,10 +1,11 @@
-use Rattle.std.proofs.Common.{List, ℕ, cond, eqb, refl, subst, sym}
+use Rattle.std.proofs.Common.{List, cond, eqb, refl, subst, sym}
 use Rattle.tuple_space.specs.Held.{HasHeld}
 use Rattle.tuple_space.specs.declared.entry.Entry.{Entry}
+use Rattle.tuple_space.specs.declared.held.Held.{Held}
 use Rattle.tuple_space.specs.Space.{held_by}
 use Rattle.tuple_space.proofs.RowLemmas.{changed_number}
 use Rattle.tuple_space.proofs.EntryLemmas.{IsEntry-changed, IsEntry-held}
-use Rattle.tuple_space.proofs.HeldLemmas.{held_changed}
+use Rattle.tuple_space.proofs.HeldLemmas.{held_pinned}
 use Rattle.tuple_space.proofs.IndexLemmas.{changed_tuple, indexed_map}
 use Rattle.tuple_space.proofs.EndLemmas.{live_changed, live_map}
 use Rattle.tuple_space.proofs.SpaceLemmas.{IsSpace-map}
@@ -17,8 +18,11 @@ invariant_of-self-2 c =
     let n = c.number-number.result in
     rw c.in_ok-hold_entry.ensures.ok (
       IsSpace-map (λ (e : Entry). cond (eqb e.number n) (change e) e) (changed_number n change (λ e. refl)) (IsEntry-changed n change (IsEntry-held c.args.holder c.args.taken)) s.entries.items s.moment s.last c.self.invariant.0,
-      held_changed change (λ e. refl) n c.reserve.new.self.items _ s.entries.items c.add_number.ensures.rising c.add_number.ensures.among
-          (subst (λ (l : List ℕ). HasHeld l s.entries.items) (sym c.reserve.ensures.items) c.self.invariant.1),
+      held_pinned c.args.holder c.args.taken n c.reserve.new.self.items _ s.entries.items c.add_held.ensures.rising c.add_held.ensures.among
+          (subst (λ (l : List Held). HasHeld l s.entries.items) (sym c.reserve.ensures.items) c.self.invariant.1),
       indexed_map (λ (e : Entry). cond (eqb e.number n) (change e) e) (changed_number n change (λ e. refl)) (changed_tuple n change (λ e. refl)) s.buckets.items s.entries.items c.self.invariant.2,
       live_map s.first_end (λ (e : Entry). cond (eqb e.number n) (change e) e) (live_changed s.first_end n change (λ e live. live)) s.entries.items c.self.invariant.3,
     )
+
+pub add_held-requires-clause-rising : goal.add_held-requires-clause-rising
+add_held-requires-clause-rising c = λ holder. rw c.reserve.ensures.items ((c.self.invariant.1.of holder).rising)

@@ -1,19 +1,11 @@
-use Rattle.std.proofs.Common.{◌∙◌, eqb, subst, sym}
+use Rattle.std.proofs.Common.{eqb}
 use Rattle.std.specs.Prelude.{not}
 use Rattle.tuple_space.specs.declared.entry.Entry.{Entry}
-use Rattle.tuple_space.specs.Rows.{IsRising}
-use Rattle.tuple_space.proofs.HeldLemmas.{held_filter, held_settled}
-use Rattle.tuple_space.proofs.RowLemmas.{rising_filter}
+use Rattle.tuple_space.proofs.HeldLemmas.{held_filter}
 use Rattle.tuple_space.proofs.IndexLemmas.{indexed_filter, stay_without}
-use Rattle.tuple_space.proofs.EndLemmas.{live_filter}
 use Rattle.tuple_space.proofs.EndLemmas.{live_filter}
 use Rattle.tuple_space.proofs.SpaceLemmas.{IsSpace-filter}
 use Rattle.tuple_space.proofs.space.Space.remove.Goals as goal
-
-pub keep_held-requires : goal.keep_held-requires
-keep_held-requires c =
-    let s = c.self.inside in
-    subst IsRising (sym (c.deref.ensures.value ∙ c.take_number.ensures.rest)) (rising_filter (λ (e : Entry). not (eqb e.number c.number-number.result)) s.entries.items c.self.invariant.0.rising)
 
 pub invariant_of-self : goal.invariant_of-self
 invariant_of-self c =
@@ -32,7 +24,7 @@ invariant_of-self-2 c =
     let stays = λ (e : Entry). not (eqb e.number c.number-number.result) in
     rw c.take_number.ensures.rest (
       IsSpace-filter stays s.entries.items s.moment s.last s.moment c.self.invariant.0.early c.self.invariant.0,
-      held_settled s.held.items _ _ c.deref.result.now (c.deref.ensures.value ∙ c.take_number.ensures.rest) c.keep_held.ensures (held_filter stays s.held.items s.entries.items c.self.invariant.1),
+      held_filter stays s.held.items s.entries.items c.self.invariant.1,
       indexed_filter stays s.entries.items s.buckets.items _ c.self.invariant.2 (stay_without c.number-number.result s.entries.items s.buckets.items _ c.drop_entry.ensures),
       live_filter s.first_end stays s.entries.items c.self.invariant.3,
     )

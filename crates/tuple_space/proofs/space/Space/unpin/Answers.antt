@@ -1,22 +1,15 @@
-use Rattle.std.proofs.Common.{◌∙◌, refl, subst, sym}
+use Rattle.std.proofs.Common.{List, refl, subst, sym}
 use Rattle.std.specs.Prelude.{filter}
 use Rattle.tuple_space.specs.Entry.{unheld}
-use Rattle.tuple_space.specs.Rows.{IsRising}
-use Rattle.tuple_space.specs.Space.{stays_without}
+use Rattle.tuple_space.specs.Held.{HasHeld}
+use Rattle.tuple_space.specs.Space.{released, stays_without}
+use Rattle.tuple_space.specs.declared.held.Held.{Held}
 use Rattle.tuple_space.proofs.EntryLemmas.{IsEntry-unheld}
-use Rattle.tuple_space.proofs.HeldLemmas.{held_released, held_settled}
-use Rattle.tuple_space.proofs.RowLemmas.{rising_filter, rising_map}
+use Rattle.tuple_space.proofs.HeldLemmas.{held_released}
 use Rattle.tuple_space.proofs.IndexLemmas.{indexed_filter, indexed_map}
 use Rattle.tuple_space.proofs.EndLemmas.{live_filter, live_map}
 use Rattle.tuple_space.proofs.SpaceLemmas.{IsSpace-filter, IsSpace-map}
 use Rattle.tuple_space.proofs.space.Space.unpin.Goals as goal
-
-pub keep_held-requires : goal.keep_held-requires
-keep_held-requires c =
-    let s = c.self.inside in
-    let stays = stays_without c.args.holder s.moment in
-    subst IsRising (sym (c.deref-4.ensures.value ∙ c.release_all.ensures))
-    (rising_map (unheld c.args.holder) (λ e. refl) (filter stays s.entries.items) (rising_filter stays s.entries.items c.self.invariant.0.rising))
 
 pub invariant_of-self : goal.invariant_of-self
 invariant_of-self c =
@@ -25,7 +18,7 @@ invariant_of-self c =
     rw c.release_all.ensures (
       IsSpace-map (unheld c.args.holder) (λ e. refl) (IsEntry-unheld c.args.holder) (filter stays s.entries.items) s.moment s.last
           (IsSpace-filter stays s.entries.items s.moment s.last s.moment c.self.invariant.0.early c.self.invariant.0),
-      held_settled s.held.items _ _ c.deref-4.result.now (c.deref-4.ensures.value ∙ c.release_all.ensures) c.keep_held.ensures (held_released c.args.holder s.moment s.held.items s.entries.items c.self.invariant.1),
+      subst (λ (l : List Held). HasHeld l (released c.args.holder s.moment s.entries.items)) (sym c.drop_rows_by.ensures) (held_released c.args.holder s.moment s.held.items s.entries.items c.self.invariant.1),
       indexed_map (unheld c.args.holder) (λ e. refl) (λ e. refl) _ (filter stays s.entries.items)
           (indexed_filter stays s.entries.items s.buckets.items _ c.self.invariant.2 (rw c.deref.ensures.value at c.drop_leaving.ensures)),
       live_map s.first_end (unheld c.args.holder) (λ e live. live) (filter stays s.entries.items) (live_filter s.first_end stays s.entries.items c.self.invariant.3),
