@@ -1,15 +1,17 @@
 // A plain checker of certificates: the same mathematics as qapcheck optimal in the best form that we know, with no proof. Rows are
-// sorted once and kept in 32 bits, and picked without a branch; those of the facilities are kept while the same ones are
-// placed. Eight products are added up in 64 bits, and then in 128, so that the whole range of entries is taken; duals have 64.
+// sorted once and kept in 32 bits, and picked without a branch; those of the facilities are kept for each depth, at which the
+// same ones are always placed. Products are added up in 64 bits where no sum of them can leave these, as the instance's greatest
+// entries tell; else eight at a time, and then in 128. The cost of what is placed has 128 bits, duals have 64. A line is read
+// where it stands, and each list has one buffer.
 // It prints "optimal C", or "refused" and a status of 1. Usage: checker INSTANCE CERTIFICATE
 #include <algorithm>
 #include <charconv>
 #include <cstdint>
 #include <cstdio>
 #include <cstdlib>
-#include <fstream>
-#include <iterator>
+#include <cstring>
 #include <string>
+#include <string_view>
 #include <vector>
 
 using Number = std::int64_t;
@@ -27,14 +29,21 @@ static void refuse() {
 }
 
 static std::string contents(const char* name) {
-    std::ifstream file(name, std::ios::binary);
-    return {std::istreambuf_iterator<char>(file), {}};
+    std::FILE* file = std::fopen(name, "rb");
+    if (!file) refuse();
+    std::fseek(file, 0, SEEK_END);
+    std::string text(static_cast<std::size_t>(std::ftell(file)), '\0');
+    std::rewind(file);
+    if (std::fread(text.data(), 1, text.size(), file) != text.size()) refuse();
+    std::fclose(file);
+    return text;
 }
 
 struct Instance {
     int n = 0;
     std::vector<Entry> a, b;
     std::vector<Ranked> a_ranked, b_ranked;
+    bool narrow = false;  // whether any 2 n products of an entry of a and one of b add up within 64 bits
 
     explicit Instance(const std::string& text) {
         const char* at = text.data();
@@ -52,6 +61,13 @@ struct Instance {
             for (int k = 0; k < n * n; ++k) matrix->push_back(static_cast<Entry>(next()));
         a_ranked = ranked(a, true);
         b_ranked = ranked(b, false);
+        narrow = Wide(2 * n) * greatest(a) * greatest(b) < Wide(1) << 62;
+    }
+
+    static Number greatest(const std::vector<Entry>& matrix) {
+        Number most = 0;
+        for (Number entry : matrix) most = std::max(most, std::abs(entry));
+        return most;
     }
 
     std::vector<Ranked> ranked(const std::vector<Entry>& matrix, bool ascending) const {
@@ -73,32 +89,31 @@ struct Checker {
     Number cost = 0;
     std::vector<int> places;
     std::vector<char> taken;
-    std::vector<Entry> a_rows, b_rows;
-    std::vector<Number> duals;
-    int a_depth = -1;
+    std::vector<std::vector<Entry>> a_rows;  // for each depth; empty until they are asked for
+    std::vector<Entry> b_rows;
+    std::vector<Number> found;
 
-    std::string line() {
-        const char* stop = std::find(at, end, '\n');
-        if (stop == end) refuse();
-        std::string found(at, stop);
-        at = stop + 1;
-        return found;
+    std::string_view line() {
+        const void* stop = std::memchr(at, '\n', end - at);
+        if (!stop) refuse();
+        std::string_view text(at, static_cast<const char*>(stop) - at);
+        at = text.data() + text.size() + 1;
+        return text;
     }
 
     // The numbers of a line behind its name, each behind one blank.
-    static std::vector<Number>& numbers(const std::string& line, const char* name, std::vector<Number>& found) {
+    const std::vector<Number>& numbers(std::string_view line, std::string_view name) {
         found.clear();
-        std::string front = name;
-        if (line.compare(0, front.size(), front) != 0) refuse();
-        const char* at = line.data() + front.size();
-        const char* end = line.data() + line.size();
-        while (at < end) {
-            if (*at++ != ' ') refuse();
+        if (line.substr(0, name.size()) != name) refuse();
+        const char* next = line.data() + name.size();
+        const char* stop = line.data() + line.size();
+        while (next < stop) {
+            if (*next++ != ' ') refuse();
             Number value = 0;
-            auto [stop, error] = std::from_chars(at, end, value);
+            auto [behind, error] = std::from_chars(next, stop, value);
             if (error != std::errc()) refuse();
             found.push_back(value);
-            at = stop;
+            next = behind;
         }
         return found;
     }
@@ -117,50 +132,64 @@ struct Checker {
         }
     }
 
-    static Wide product(const Entry* x, const Entry* y, int width) {
-        Wide total = 0;
-        int t = 0;
-        for (; t + 8 <= width; t += 8) {
-            Number sum = 0;
-            for (int s = 0; s < 8; ++s) sum += Number(x[t + s]) * y[t + s];
-            total += sum;
-        }
+    static Number narrow_product(const Entry* x, const Entry* y, int width) {
         Number sum = 0;
-        for (; t < width; ++t) sum += Number(x[t]) * y[t];
-        return total + sum;
+        for (int t = 0; t < width; ++t) sum += Number(x[t]) * y[t];
+        return sum;
+    }
+
+    static Wide wide_product(const Entry* x, const Entry* y, int width) {
+        Wide total = 0;
+        for (int t = 0; t < width; t += 8) total += narrow_product(x + t, y + t, std::min(8, width - t));
+        return total;
     }
 
     // The rows of the facilities, of which the first ones are placed.
-    void rank_facilities(int d) {
-        if (d == a_depth) return;
+    const std::vector<Entry>& facility_rows(int d) {
+        std::vector<Entry>& rows = a_rows[d];
+        if (!rows.empty()) return rows;
         int n = instance.n;
         std::vector<int> facilities(d);
         std::vector<char> used(n, 0);
         for (int i = 0; i < d; ++i) facilities[i] = i, used[i] = 1;
-        for (int i = d; i < n; ++i) row(instance.a, instance.a_ranked, facilities, used, i, &a_rows[(i - d) * (n + d)]);
-        a_depth = d;
+        rows.resize((n - d) * (n + d) + n);
+        for (int i = d; i < n; ++i) row(instance.a, instance.a_ranked, facilities, used, i, &rows[(i - d) * (n + d)]);
+        return rows;
     }
 
+    bool fits(const std::vector<Entry>& a_rows, int m, int width) const {
+        for (int i = 0; i < m; ++i)
+            for (int k = 0; k < m; ++k) {
+                const Entry* x = &a_rows[i * width];
+                const Entry* y = &b_rows[k * width];
+                Number u = found[i], v = found[m + k], least;
+                if (instance.narrow && !__builtin_add_overflow(u, v, &least)) {
+                    if (least > narrow_product(x, y, width)) return false;
+                } else if (Wide(u) + v > wide_product(x, y, width)) {
+                    return false;
+                }
+            }
+        return true;
+    }
+
+    // Judges the bound whose duals were found.
     void bound() {
         int n = instance.n, d = static_cast<int>(places.size()), m = n - d, width = n + d;
-        if (static_cast<int>(duals.size()) != 2 * m) refuse();
-        rank_facilities(d);
+        if (static_cast<int>(found.size()) != 2 * m) refuse();
         for (int k = 0, c = 0; k < n; ++k)
             if (!taken[k]) row(instance.b, instance.b_ranked, places, taken, k, &b_rows[c++ * width]);
+        if (!fits(facility_rows(d), m, width)) refuse();
         Wide value = 0;
-        for (Number dual : duals) value += dual;
-        for (int i = 0; i < m; ++i)
-            for (int k = 0; k < m; ++k)
-                if (Wide(duals[i]) + duals[m + k] > product(&a_rows[i * width], &b_rows[k * width], width)) refuse();
+        for (Number dual : found) value += dual;
         for (int i = 0; i < d; ++i)
             for (int j = 0; j < d; ++j) value += Number(instance.a[i * n + j]) * instance.b[places[i] * n + places[j]];
         if (value < cost) refuse();
     }
 
     void tree() {
-        std::string text = line();
+        std::string_view text = line();
         if (text != "s") {
-            numbers(text, "b", duals);
+            numbers(text, "b");
             bound();
             return;
         }
@@ -177,12 +206,11 @@ struct Checker {
 
     void check() {
         int n = instance.n;
-        std::vector<Number> found;
         if (line() != "qapcert 1") refuse();
-        if (numbers(line(), "n", found) != std::vector<Number>{n}) refuse();
-        if (numbers(line(), "cost", found).size() != 1) refuse();
+        if (numbers(line(), "n") != std::vector<Number>{n}) refuse();
+        if (numbers(line(), "cost").size() != 1) refuse();
         cost = found[0];
-        if (static_cast<int>(numbers(line(), "perm", found).size()) != n) refuse();
+        if (static_cast<int>(numbers(line(), "perm").size()) != n) refuse();
         Number reached = 0;
         taken.assign(n, 0);
         for (Number p : found) {
@@ -193,7 +221,7 @@ struct Checker {
             for (int j = 0; j < n; ++j) reached += Number(instance.a[i * n + j]) * instance.b[(found[i] - 1) * n + found[j] - 1];
         if (reached != cost) refuse();
         taken.assign(n, 0);
-        a_rows.resize(2 * n * n + n);
+        a_rows.resize(n + 1);
         b_rows.resize(2 * n * n + n);
         tree();
         if (line() != "end" || at != end) refuse();

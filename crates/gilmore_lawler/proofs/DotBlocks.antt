@@ -2,7 +2,8 @@
 use Rattle.std.proofs.Common.{◌≡◌, ℕ, ◌+◌, ◌*◌, ◌≤◌, List, ℤ, take, drop, length, sym, ap, ap₂, ◌∙◌, arith, to_z, of_z}
 use Rattle.std.specs.Prelude.{◌+ℤ◌, ◌*ℤ◌, pos, unsigned_abs}
 use Rattle.std.specs.Int.{w32, w64, w128}
-use Rattle.std.proofs.lemmas.Int.{ints, to_z-of_z, fits_signed_from_abs}
+use Rattle.std.proofs.lemmas.Int.{ints, to_z-of_z, fits_signed_from_abs, unsigned_abs-mul}
+use Rattle.std.proofs.lemmas.Nat.{mul-le}
 use Rattle.std.proofs.lemmas.List.{get_or-take, get_or-drop}
 use Rattle.qap_cost.specs.Range.{InRange}
 use Rattle.qap_cost.specs.Sum.{sum_to}
@@ -24,6 +25,10 @@ reads_sum z h = to_z-of_z w64 z (fits_signed_from_abs w64 z (omega arith))
 
 pub reads_total : (z : ℤ) → unsigned_abs z ≤ 1000000000000000000000 → to_z w128 (of_z w128 z) ≡ z
 reads_total z h = to_z-of_z w128 z (fits_signed_from_abs w128 z (omega arith))
+
+-- the product of two small numbers
+pub small_product : (x y : ℤ) → unsigned_abs x ≤ 100000000 → unsigned_abs y ≤ 100000000 → unsigned_abs (x *ℤ y) ≤ 10000000000000000
+small_product x y hx hy = omega (arith, unsigned_abs-mul x y, mul-le _ _ _ _ hx hy)
 
 -- k terms more
 pub AddsUp-block : (total term new : ℤ) (f : ℕ → ℤ) (n k : ℕ) → AddsUp total f n 1000000000000000000 → term ≡ sum_to (λ j. f (n + j)) k → unsigned_abs term ≤ k * 1000000000000000000 → new ≡ total +ℤ term

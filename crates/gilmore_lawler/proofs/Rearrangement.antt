@@ -13,7 +13,7 @@ use Rattle.std.specs.List.Sorted.{IsSorted, IsPermutation}
 use Rattle.std.proofs.Math.IntN.{*ℤ_comm}
 use Rattle.qap_cost.specs.Sum.{sum_to}
 use Rattle.qap_cost.specs.Bijection.{IsBijection}
-use Rattle.qap_cost.specs.Range.{AllInRange}
+use Rattle.qap_cost.specs.Range.{AllWithin}
 use Rattle.qap_cost.specs.Row.{product_at}
 use Rattle.qap_cost.proofs.Sums.{*ℤ-+ℤ, sum_to-same, sum_to-add, sum_to-monotone}
 use Rattle.qap_cost.proofs.Bijections.{sum_to-in_order, inverse_of, inverse-IsBijection}
@@ -217,8 +217,8 @@ IsLeastProduct-sorted xs ys up down x y same rising falling =
     }
 
 -- the same numbers lie within the same range
-pub AllInRange-arranged : (xs ys : List ℤ) → IsArranged xs ys → AllInRange xs → AllInRange ys
-AllInRange-arranged xs ys a h = record {
+pub AllWithin-arranged : (l : ℕ) (xs ys : List ℤ) → IsArranged xs ys → AllWithin l xs → AllWithin l ys
+AllWithin-arranged l xs ys a h = record {
   each = λ j below.
       let here : j < length xs = omega (arith, a.same_length) in
       rw (a.reads j here) (h.each (get_or a.order j 0) (omega (arith, a.count, a.bijection.within j (omega (arith, a.count)))));

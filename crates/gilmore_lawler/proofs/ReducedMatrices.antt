@@ -9,14 +9,15 @@ use Rattle.qap_cost.specs.Instance.{Problem}
 use Rattle.qap_cost.specs.Range.{AllInRange, AllWithin}
 use Rattle.qap_cost.specs.Matrix.{Square, IsMatrix}
 use Rattle.qap_cost.specs.Bijection.{AreDifferent}
-use Rattle.qap_cost.specs.Placement.{Placement, IsPlacement, ListsFree, free_facilities, free_locations}
+use Rattle.qap_cost.specs.Placement.{Placement, IsPlacement, ListsFree, free_below, free_facilities, free_locations}
 use Rattle.qap_cost.proofs.Placements.{ListsFree-free_below}
 use Rattle.gilmore_lawler.specs.declared.side.Side.TheVariants.{Flow, Distance}
+use Rattle.gilmore_lawler.specs.FlowRows.{HasFlowRows}
 use Rattle.gilmore_lawler.specs.ReducedMatrix.{IsReducedEntry, IsReduced}
 use Rattle.gilmore_lawler.specs.Table.{segment, dot, AllBelow, IsTable, IsFactorRow, IsProductRow}
 use Rattle.gilmore_lawler.proofs.Dots.{dot-bound, IsReducedEntry-from_rows}
 use Rattle.gilmore_lawler.proofs.OneMatrix.{positive_root, row_below}
-use Rattle.gilmore_lawler.proofs.Tables.{get_or-segment, length-segment, AllInRange-segment}
+use Rattle.gilmore_lawler.proofs.Tables.{get_or-segment, length-segment, AllWithin-segment}
 
 -- a node's placed facilities and places, and its free ones, are below its size
 pub AllBelow-different : (n : ℕ) (xs : List ℕ) → AreDifferent n xs → AllBelow n xs
@@ -87,8 +88,8 @@ AllWithin-from_products I x a b entries node h =
           let a_count = length-segment w m r a hr a_size in
           let b_count = length-segment w m c b hc b_size in
           let bound = dot-bound (segment w a r) (segment w b c)
-          (AllInRange-segment w m r a hr a_size h.a_range)
-          (AllInRange-segment w m c b hc b_size h.b_range)
+          (AllWithin-segment _ w m r a hr a_size h.a_range)
+          (AllWithin-segment _ w m c b hc b_size h.b_range)
           (omega (arith, a_count, b_count)) in
           let is : get_or entries k (pos 0) ≡ dot (segment w a r) (segment w b c) =
           ap (λ j. get_or entries j (pos 0)) (sym at) ∙ entry_is I x a b entries r c h hr hc in
@@ -123,3 +124,10 @@ made_is o n d n' d' entries M h e en ed =
     let made : Square = record { size = n - d; entries = entries } in
     let is = subst (λ (p : Option Square). MatchOption p (IsMatrix made → ⊥) (λ N. (N ≡ made) × IsMatrix made)) e h in
     is.0 ∙ ap₂ (λ (k l : ℕ). let N : Square = record { size = k - l; entries = entries } in N) en ed
+
+-- how many numbers the rows of the flows have
+pub length-flow_rows : (I : Problem) (x : Placement) (n d : ℕ) (a : List ℤ) → IsPlacement x → I.size ≡ x.size → n ≡ I.size → d ≡ length x.facilities → HasFlowRows (record { instance = I; facilities = x.facilities }) a → length a ≡ (n - d) * (n + d)
+length-flow_rows I x n d a node same en ed h =
+    let free = length (free_below I.size x.facilities) in
+    let count : free + length x.facilities ≡ x.size = subst (λ (k : ℕ). length (free_below k x.facilities) + length x.facilities ≡ x.size) (sym same) (ListsFree-free_below x.size x.facilities node.facilities).count in
+    h.table.size ∙ ap₂ ◌*◌ (omega (arith, count, same, en, ed)) (omega (arith, count, same, en, ed))

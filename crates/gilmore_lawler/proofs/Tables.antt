@@ -1,19 +1,21 @@
 -- Lists of rows of one length: a row more, and a row read; and numbers that stay in the range of entries.
-use Rattle.std.proofs.Common.{◌≡◌, ℕ, suc, ◌+◌, ◌-◌, ◌*◌, ◌<◌, ◌≤◌, ◌++◌, ◌∷◌, [], refl, sym, ◌∙◌, ap, subst, arith, List, map, take, drop, length, get_or, inl, inr, append_assoc}
-use Rattle.std.specs.Prelude.{ℤ, pos, remove}
+use Rattle.std.proofs.Common.{◌≡◌, ℕ, suc, ◌+◌, ◌-◌, ◌*◌, ◌/◌, ◌%◌, ◌<◌, ◌≤◌, ◌++◌, ◌∷◌, [], refl, sym, ◌∙◌, ap, subst, arith, List, map, take, drop, length, get_or, inl, inr, append_assoc}
+use Rattle.std.specs.Prelude.{ℤ, pos, remove, unsigned_abs}
 use Rattle.std.specs.List.Sorted.{IsPermutation}
 use Rattle.std.proofs.lemmas.Bool.{cases_lt, cases_eq}
-use Rattle.std.proofs.lemmas.Nat.{mul-le}
+use Rattle.std.proofs.lemmas.Nat.{mul-le, mod_below}
+use Rattle.std.proofs.Math.Nat.{div-add-mod, mul_comm}
 use Rattle.std.proofs.lemmas.List.{length-append, length-map, length-drop, length-take-le, drop-append-le, take-append-le, drop_at, take_all, get_or_append_left, get_or-append_right, get_or-map, get_or_past, get_or-take, get_or-drop}
 use Rattle.std.proofs.lemmas.List.Sorted.{length_permutation}
 use Rattle.qap_cost.specs.Instance.{Problem, IsInstance, entry}
-use Rattle.qap_cost.specs.Range.{AllInRange, InRange}
+use Rattle.qap_cost.specs.Range.{AllInRange, AllWithin}
 use Rattle.gilmore_lawler.specs.declared.side.Side.{Side}
 use Rattle.gilmore_lawler.specs.declared.side.Side.TheVariants.{Flow, Distance}
 use Rattle.gilmore_lawler.specs.ReducedMatrix.{others}
 use Rattle.gilmore_lawler.specs.Table.{segment, IsTable, matrix_of, IsOrdered, linear_row, IsFactorRow}
+use Rattle.gilmore_lawler.proofs.OneMatrix.{positive_root, row_below}
 use Rattle.gilmore_lawler.proofs.Lists.{IsArranged-from_permutation}
-use Rattle.gilmore_lawler.proofs.Rearrangement.{AllInRange-arranged}
+use Rattle.gilmore_lawler.proofs.Rearrangement.{AllWithin-arranged}
 use Rattle.gilmore_lawler.proofs.Skips.{length-remove}
 
 -- a row stands before the rows after it
@@ -58,54 +60,70 @@ length-segment w k r xs h count =
 pub get_or-segment : (w r j : ℕ) (xs : List ℤ) → j < w → get_or (segment w xs r) j (pos 0) ≡ get_or xs (r * w + j) (pos 0)
 get_or-segment w r j xs h = get_or-take w (drop (r * w) xs) j (pos 0) h ∙ get_or-drop (r * w) xs j (pos 0)
 
-pub AllInRange-none : AllInRange []
-AllInRange-none = record { each = λ j h. absurd (omega arith) }
+pub AllWithin-none : (l : ℕ) → AllWithin l []
+AllWithin-none l = record { each = λ j h. absurd (omega arith) }
 
-pub AllInRange-append : (xs ys : List ℤ) → AllInRange xs → AllInRange ys → AllInRange (xs ++ ys)
-AllInRange-append xs ys x y = record {
+pub AllWithin-append : (l : ℕ) (xs ys : List ℤ) → AllWithin l xs → AllWithin l ys → AllWithin l (xs ++ ys)
+AllWithin-append l xs ys x y = record {
   each = λ j h.
       elim (cases_lt j (length xs)) [
-        | inl less ↦ subst InRange (sym (get_or_append_left xs ys (pos 0) j less)) (x.each j less)
+        | inl less ↦ subst (λ (z : ℤ). unsigned_abs z ≤ l) (sym (get_or_append_left xs ys (pos 0) j less)) (x.each j less)
         | inr more ↦
-            subst InRange (sym (get_or-append_right xs ys (length xs) j (pos 0) refl more)) (y.each (j - length xs) (omega (arith, length-append xs ys)))
+            subst (λ (z : ℤ). unsigned_abs z ≤ l) (sym (get_or-append_right xs ys (length xs) j (pos 0) refl more)) (y.each (j - length xs) (omega (arith, length-append xs ys)))
       ];
 }
 
-AllInRange-map : (f : ℕ → ℤ) (xs : List ℕ) → ((k : ℕ) → InRange (f k)) → AllInRange (map f xs)
-AllInRange-map f xs h = record {
-  each = λ j below. subst InRange (sym (get_or-map f xs j 0 (pos 0) (omega (arith, length-map xs f)))) (h (get_or xs j 0));
+AllWithin-map : (l : ℕ) (f : ℕ → ℤ) (xs : List ℕ) → ((k : ℕ) → unsigned_abs (f k) ≤ l) → AllWithin l (map f xs)
+AllWithin-map l f xs h = record {
+  each = λ j below. subst (λ (z : ℤ). unsigned_abs z ≤ l) (sym (get_or-map f xs j 0 (pos 0) (omega (arith, length-map xs f)))) (h (get_or xs j 0));
 }
 
-pub AllInRange-segment : (w k r : ℕ) (xs : List ℤ) → r < k → length xs ≡ k * w → AllInRange xs → AllInRange (segment w xs r)
-AllInRange-segment w k r xs h count x = record {
+pub AllWithin-segment : (l w k r : ℕ) (xs : List ℤ) → r < k → length xs ≡ k * w → AllWithin l xs → AllWithin l (segment w xs r)
+AllWithin-segment l w k r xs h count x = record {
   each = λ j below.
       let width = length-segment w k r xs h count in
       let inside = row_end-le r k w h in
-      subst InRange (sym (get_or-segment w r j xs (omega (arith, width)))) (x.each (r * w + j) (omega (arith, width, inside)));
+      subst (λ (z : ℤ). unsigned_abs z ≤ l) (sym (get_or-segment w r j xs (omega (arith, width)))) (x.each (r * w + j) (omega (arith, width, inside)));
 }
 
-InRange-read : (xs : List ℤ) (n : ℕ) → length xs ≡ n → ((k : ℕ) → k < n → InRange (get_or xs k (pos 0))) → (k : ℕ) → InRange (get_or xs k (pos 0))
-InRange-read xs n count h k =
-    elim (cases_lt k n) [
-      | inl less ↦ h k less
-      | inr more ↦ subst InRange (sym (get_or_past xs k (pos 0) (omega arith))) (omega arith)
+within-read : (l : ℕ) (xs : List ℤ) (k : ℕ) → AllWithin l xs → unsigned_abs (get_or xs k (pos 0)) ≤ l
+within-read l xs k h =
+    elim (cases_lt k (length xs)) [
+      | inl less ↦ h.each k less
+      | inr more ↦ subst (λ (z : ℤ). unsigned_abs z ≤ l) (sym (get_or_past xs k (pos 0) (omega arith))) (omega arith)
     ]
 
-InRange-entry : (I : Problem) (side : Side) (i j : ℕ) → IsInstance I → InRange (entry I.size (matrix_of I side) i j)
-InRange-entry I Flow i j is = InRange-read I.a (I.size * I.size) is.a_count is.a_range (i * I.size + j)
-InRange-entry I Distance i j is = InRange-read I.b (I.size * I.size) is.b_count is.b_range (i * I.size + j)
+AllWithin-linear_row : (l n : ℕ) (matrix : List ℤ) (placed : List ℕ) (i : ℕ) → AllWithin l matrix → AllWithin l (linear_row n matrix placed i)
+AllWithin-linear_row l n matrix placed i h =
+    let own : AllWithin l (entry n matrix i i ∷ []) = AllWithin-map l (λ k. entry n matrix i k) (i ∷ []) (λ k. within-read l matrix (i * n + k) h) in
+    AllWithin-append l ((entry n matrix i i ∷ []) ++ map (entry n matrix i) placed) (map (λ g. entry n matrix g i) placed)
+    (AllWithin-append l (entry n matrix i i ∷ []) (map (entry n matrix i) placed) own
+    (AllWithin-map l (entry n matrix i) placed (λ k. within-read l matrix (i * n + k) h)))
+    (AllWithin-map l (λ g. entry n matrix g i) placed (λ k. within-read l matrix (k * n + i) h))
 
-AllInRange-linear_row : (I : Problem) (side : Side) (placed : List ℕ) (i : ℕ) → IsInstance I → AllInRange (linear_row I.size (matrix_of I side) placed i)
-AllInRange-linear_row I side placed i is =
-    let own : AllInRange (entry I.size (matrix_of I side) i i ∷ []) = AllInRange-map (λ k. entry I.size (matrix_of I side) i k) (i ∷ []) (λ k. InRange-entry I side i k is) in
-    AllInRange-append ((entry I.size (matrix_of I side) i i ∷ []) ++ map (entry I.size (matrix_of I side) i) placed) (map (λ h. entry I.size (matrix_of I side) h i) placed)
-    (AllInRange-append (entry I.size (matrix_of I side) i i ∷ []) (map (entry I.size (matrix_of I side) i) placed) own
-    (AllInRange-map (entry I.size (matrix_of I side) i) placed (λ k. InRange-entry I side i k is)))
-    (AllInRange-map (λ h. entry I.size (matrix_of I side) h i) placed (λ k. InRange-entry I side k i is))
+AllWithin-others : (l n : ℕ) (matrix : List ℤ) (free : List ℕ) (r : ℕ) → AllWithin l matrix → AllWithin l (others n matrix free r)
+AllWithin-others l n matrix free r h =
+    AllWithin-map l (entry n matrix (get_or free r 0)) (remove free r) (λ k. within-read l matrix (get_or free r 0 * n + k) h)
 
-AllInRange-others : (I : Problem) (side : Side) (free : List ℕ) (r : ℕ) → IsInstance I → AllInRange (others I.size (matrix_of I side) free r)
-AllInRange-others I side free r is =
-    AllInRange-map (entry I.size (matrix_of I side) (get_or free r 0)) (remove free r) (λ k. InRange-entry I side (get_or free r 0) k is)
+-- the entries of an instance lie in their range
+pub AllInRange-matrix : (I : Problem) (side : Side) → IsInstance I → AllInRange (matrix_of I side)
+AllInRange-matrix I Flow h = record { each = λ j below. h.a_range j (omega (arith, h.a_count)) }
+AllInRange-matrix I Distance h = record { each = λ j below. h.b_range j (omega (arith, h.b_count)) }
+
+pub length-matrix : (I : Problem) (side : Side) → IsInstance I → length (matrix_of I side) ≡ I.size * I.size
+length-matrix I Flow h = h.a_count
+length-matrix I Distance h = h.b_count
+
+-- a matrix lies within a limit where each of its entries does
+pub AllWithin-entries : (l n : ℕ) (matrix : List ℤ) → length matrix ≡ n * n → ((i j : ℕ) → i < n → j < n → unsigned_abs (entry n matrix i j) ≤ l) → AllWithin l matrix
+AllWithin-entries l n matrix count h = record {
+  each = λ k below.
+      let inside : k < n * n = omega (arith, count) in
+      let i = k / n in
+      let j = k % n in
+      let at : i * n + j ≡ k = omega (arith, div-add-mod k n, mul_comm n i) in
+      subst (λ (m : ℕ). unsigned_abs (get_or matrix m (pos 0)) ≤ l) at (h i j (row_below n i j k inside at) (mod_below k n (positive_root n k inside)));
+}
 
 pub length-linear_row : (n : ℕ) (matrix : List ℤ) (placed : List ℕ) (i : ℕ) → length (linear_row n matrix placed i) ≡ 1 + 2 * length placed
 length-linear_row n matrix placed i =
@@ -124,16 +142,16 @@ length-others n matrix free r h =
 -- what the loop over the free ones keeps
 pub record HasFactors (I : Problem) (side : Side) (placed free : List ℕ) (r : ℕ) (table : List ℤ) : Type 0 where
   pub rows : IsTable (2 * length placed + length free) r (IsFactorRow I side placed free) table
-  pub range : AllInRange table
+  pub range : (l : ℕ) → AllWithin l (matrix_of I side) → AllWithin l table
 
 pub HasFactors-none : (I : Problem) (side : Side) (placed free : List ℕ) → HasFactors I side placed free 0 []
 HasFactors-none I side placed free = record {
   rows = IsTable-none (2 * length placed + length free) (IsFactorRow I side placed free);
-  range = AllInRange-none;
+  range = λ l h. AllWithin-none l;
 }
 
-pub HasFactors-more : (I : Problem) (side : Side) (placed free : List ℕ) (r i : ℕ) (table linear sorted new : List ℤ) → IsInstance I → HasFactors I side placed free r table → r < length free → i ≡ get_or free r 0 → linear ≡ table ++ linear_row I.size (matrix_of I side) placed i → IsPermutation (others I.size (matrix_of I side) free r) sorted → IsOrdered side sorted → new ≡ linear ++ sorted → HasFactors I side placed free (r + 1) new
-HasFactors-more I side placed free r i table linear sorted new is h below e first moved ordered whole =
+pub HasFactors-more : (I : Problem) (side : Side) (placed free : List ℕ) (r i : ℕ) (table linear sorted new : List ℤ) → HasFactors I side placed free r table → r < length free → i ≡ get_or free r 0 → linear ≡ table ++ linear_row I.size (matrix_of I side) placed i → IsPermutation (others I.size (matrix_of I side) free r) sorted → IsOrdered side sorted → new ≡ linear ++ sorted → HasFactors I side placed free (r + 1) new
+HasFactors-more I side placed free r i table linear sorted new h below e first moved ordered whole =
     let n = I.size in
     let matrix : List ℤ = matrix_of I side in
     let row = linear_row n matrix placed (get_or free r 0) ++ sorted in
@@ -150,11 +168,11 @@ HasFactors-more I side placed free r i table linear sorted new is h below e firs
       length-others n matrix free r below,
     ) in
     let here : IsFactorRow I side placed free r row = record { sorted = sorted; moved = moved; ordered = ordered; is = refl } in
-    let range : AllInRange row =
-    AllInRange-append (linear_row n matrix placed (get_or free r 0)) sorted
-    (AllInRange-linear_row I side placed (get_or free r 0) is)
-    (AllInRange-arranged (others n matrix free r) sorted (IsArranged-from_permutation (others n matrix free r) sorted moved) (AllInRange-others I side free r is)) in
+    let range : (l : ℕ) → AllWithin l matrix → AllWithin l row = λ l within.
+    AllWithin-append l (linear_row n matrix placed (get_or free r 0)) sorted
+    (AllWithin-linear_row l n matrix placed (get_or free r 0) within)
+    (AllWithin-arranged l (others n matrix free r) sorted (IsArranged-from_permutation (others n matrix free r) sorted moved) (AllWithin-others l n matrix free r within)) in
     subst (HasFactors I side placed free (r + 1)) (sym new_is) (record {
       rows = IsTable-more (2 * length placed + length free) r (IsFactorRow I side placed free) table row h.rows width here;
-      range = AllInRange-append table row h.range range;
+      range = λ l within. AllWithin-append l table row (h.range l within) (range l within);
     })

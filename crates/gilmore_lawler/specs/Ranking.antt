@@ -1,11 +1,12 @@
 -- The rows of the two matrices in order of their entries.
-use Rattle.std.specs.Prelude.{ℕ, ◌==◌, ◌&&◌, not, false, Bool, List, filter, map, ℤ, slice_index_or}
+use Rattle.std.specs.Prelude.{ℕ, ◌==◌, ◌&&◌, not, false, Bool, IsTrue, List, filter, map, ℤ, slice_index_or}
 use Rattle.std.specs.List.{range_with_len}
 use Rattle.std.specs.List.Sorted.{IsPermutation}
 use Rattle.qap_cost.specs.Instance.{Problem, IsInstance, entry}
 use Rattle.gilmore_lawler.specs.declared.ranking.Ranked.{Ranked}
 use Rattle.gilmore_lawler.specs.declared.side.Side.{Side}
 use Rattle.gilmore_lawler.specs.declared.side.Side.TheVariants.{Flow, Distance}
+use Rattle.gilmore_lawler.specs.Small.{AllSmall}
 use Rattle.gilmore_lawler.specs.Table.{IsTable, matrix_of, IsOrdered}
 
 -- row i, column j of a matrix, with its column
@@ -25,11 +26,12 @@ pub record IsRanking (I : Problem) (side : Side) (i : ℕ) (row : List Ranked) :
 abbrev pub IsRankings : Problem → Side → List Ranked → Type 0
 IsRankings I side rows = IsTable I.size I.size (IsRanking I side) rows
 
--- the rows of both matrices in order
-pub record HasRankings (I : Problem) (a b : List Ranked) : Type 0 where
+-- the rows of both matrices in order, and whether the entries are known to be small
+pub record HasRankings (I : Problem) (a b : List Ranked) (small : Bool) : Type 0 where
   pub instance : IsInstance I
   pub flows : IsRankings I Flow a
   pub distances : IsRankings I Distance b
+  pub are_small : IsTrue small → AllSmall I.a × AllSmall I.b
 
 -- whether an entry stands in a free column other than this one
 abbrev pub is_other : List Bool → ℕ → Ranked → Bool

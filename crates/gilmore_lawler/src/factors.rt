@@ -3,7 +3,7 @@
 ghost use Rattle.std.specs.Prelude.{◌≡◌, ◌<◌, ◌≤◌, ◌==◌, ◌+◌, ◌*◌, ◌++◌, false, length, map, OnOk, slice_index, slice_index_or, ℕ};
 ghost use Rattle.std.specs.List.Sorted.{IsStrictlyIncreasing};
 ghost use Rattle.qap_cost.specs.Instance.{entry, IsInstance};
-ghost use Rattle.qap_cost.specs.Range.{AllInRange};
+ghost use Rattle.qap_cost.specs.Range.{AllWithin};
 ghost use Rattle.gilmore_lawler.specs.Ranking.{IsRankings};
 ghost use Rattle.gilmore_lawler.specs.Table.{IsTable, AllBelow, matrix_of, linear_row, IsFactorRow};
 
@@ -31,7 +31,7 @@ pub fn factor_rows(
     requires rising { IsStrictlyIncreasing free.now }
     requires counts { length placed.now + length free.now ≤ 256 }
     ensures rows { OnOk result (IsTable (2 * length placed.now + length free.now) (length free.now) (IsFactorRow instance.now side placed.now free.now) table.new.items) }
-    ensures range { OnOk result (AllInRange table.new.items) }
+    ensures range { OnOk result ((l : ℕ) → AllWithin l (matrix_of instance.now side) → AllWithin l table.new.items) }
 {
     let is_free = marked(free);
     table.clear();

@@ -5,17 +5,15 @@ mod blocks;
 mod bound;
 mod duals;
 mod factors;
+mod flow_rows;
 mod pairing;
 mod ranking;
 mod reduction;
 mod side;
+mod small;
 
 pub use bound::{node_bound_law, one_reduced_matrix_law};
 pub use duals::{dual_sum, fits};
+pub use flow_rows::FlowRows;
 pub use pairing::least_product;
 pub use reduction::{RankedInstance, Workspace, reduced};
-
-#[cfg(test)]
-mod memory_tests;
-#[cfg(test)]
-mod tests;

@@ -1,16 +1,20 @@
 //! The reduced matrix of a node.
 
-ghost use Rattle.std.specs.Prelude.{◌≡◌, ◌<◌, ◌≤◌, ◌*◌, ◌-◌, ◌^◌, ◌++◌, length, IfOk, OnOk};
+ghost use Rattle.std.specs.Prelude.{◌≡◌, ◌<◌, ◌≤◌, ◌*◌, ◌-◌, ◌^◌, ◌++◌, length, IfOk, IsTrue, OnOk};
 ghost use Rattle.qap_cost.specs.Instance.{IsInstance, Problem};
 ghost use Rattle.qap_cost.specs.Range.{AllInRange, AllWithin};
-ghost use Rattle.gilmore_lawler.specs.Ranking.{HasRankings};
+ghost use Rattle.gilmore_lawler.specs.FlowRows.{HasFlowRows};
+ghost use Rattle.gilmore_lawler.specs.Ranking.{HasRankings, IsRankings};
 ghost use Rattle.gilmore_lawler.specs.ReducedMatrix.{IsReduced};
+ghost use Rattle.gilmore_lawler.specs.Small.{AllSmall};
 ghost use Rattle.gilmore_lawler.specs.Table.{IsTable, IsProductRow, product_row};
+ghost use Rattle.gilmore_lawler.specs.declared.side.Side.TheVariants.{Distance};
 
-use crate::blocks::sum_by_eights;
+use crate::blocks::dot_product;
 use crate::factors::factor_rows;
 use crate::ranking::{Ranked, ranked_rows};
 use crate::side::Side;
+use crate::small::has_small_entries;
 use qap_cost::{Instance, Matrix, Partial};
 use std::alloc::{AllocError, Global};
 use std::marker::Model;
@@ -34,6 +38,7 @@ pub struct RankedInstance {
     instance: Instance,
     a_rankings: Vec<Ranked>,
     b_rankings: Vec<Ranked>,
+    are_small: bool,
 }
 
 impl Model for RankedInstance {
@@ -41,7 +46,7 @@ impl Model for RankedInstance {
 
     ghost view = { λ r. r.instance };
 
-    ghost invariant = { λ r. HasRankings r.instance r.a_rankings.items r.b_rankings.items };
+    ghost invariant = { λ r. HasRankings r.instance r.a_rankings.items r.b_rankings.items r.are_small };
 }
 
 impl RankedInstance {
@@ -54,6 +59,7 @@ impl RankedInstance {
             instance: instance.copy()?,
             a_rankings: ranked_rows(alloc, instance, Side::Flow)?,
             b_rankings: ranked_rows(alloc, instance, Side::Distance)?,
+            are_small: has_small_entries(instance),
         })
     }
 
@@ -72,12 +78,55 @@ impl RankedInstance {
         ensures size { IfOk result (λ M. M.size ≡ node.now.size - length node.now.facilities) }
         ensures bounded { IfOk result (λ M. AllWithin (512 * 10 ^ 18) M.entries) }
     {
+        self.make_flow_rows(node, &mut workspace.a_rows)?;
+        self.reduced_by(&workspace.a_rows, node, &mut workspace.b_rows)
+    }
+
+    /// Where the memory of its rows comes from.
+    pub(crate) fn allocator(&self) -> Global {
+        *self.a_rankings.allocator()
+    }
+
+    /// Makes `rows` those of the flows for each node that places the facilities of this one.
+    pub(crate) fn make_flow_rows(
+        &self,
+        node: &Partial,
+        rows: &mut Vec<i32>,
+    ) -> Result<(), AllocError>
+        requires { self.now.size ≡ node.now.size }
+        ensures { OnOk result (HasFlowRows (record { instance = self.now; facilities = node.now.facilities }) rows.new.items) }
+    {
+        let free = node.free_facilities()?;
+        factor_rows(
+            &self.instance,
+            Side::Flow,
+            &self.a_rankings,
+            node.facilities(),
+            &free,
+            rows,
+        )
+    }
+
+    /// The reduced matrix of the node, from its rows of the flows; those of the distances are made.
+    pub(crate) fn reduced_by(
+        &self,
+        a_rows: &[i32],
+        node: &Partial,
+        b_rows: &mut Vec<i32>,
+    ) -> Result<Matrix, AllocError>
+        requires size { self.now.size ≡ node.now.size }
+        requires rows { HasFlowRows (record { instance = self.now; facilities = node.now.facilities }) a_rows.now }
+        ensures reduced { IfOk result (IsReduced self.now node.now) }
+        ensures size { IfOk result (λ M. M.size ≡ node.now.size - length node.now.facilities) }
+        ensures bounded { IfOk result (λ M. AllWithin (512 * 10 ^ 18) M.entries) }
+    {
         reduced_from(
             &self.instance,
-            &self.a_rankings,
+            a_rows,
             &self.b_rankings,
+            self.are_small,
             node,
-            workspace,
+            b_rows,
         )
     }
 }
@@ -86,7 +135,7 @@ impl RankedInstance {
 #[derive(Drop)]
 pub struct Workspace {
     a_rows: Vec<i32>,
-    b_rows: Vec<i32>,
+    pub(crate) b_rows: Vec<i32>,
 }
 
 impl Workspace {
@@ -99,48 +148,37 @@ impl Workspace {
     }
 }
 
-/// The reduced matrix of the node, from the rows of both matrices in order.
+/// The reduced matrix of the node, from its rows of the flows and the rows of the distances in order.
 fn reduced_from(
     instance: &Instance,
-    a_rankings: &[Ranked],
+    a_rows: &[i32],
     b_rankings: &[Ranked],
+    are_small: bool,
     node: &Partial,
-    workspace: &mut Workspace,
+    b_rows: &mut Vec<i32>,
 ) -> Result<Matrix, AllocError>
     requires size { instance.now.size ≡ node.now.size }
-    requires rankings { HasRankings instance.now a_rankings.now b_rankings.now }
+    requires instance { IsInstance instance.now }
+    requires rows { HasFlowRows (record { instance = instance.now; facilities = node.now.facilities }) a_rows.now }
+    requires rankings { IsRankings instance.now Distance b_rankings.now }
+    requires known { IsTrue are_small → (AllSmall instance.now.a × AllSmall instance.now.b) }
     ensures reduced { IfOk result (IsReduced instance.now node.now) }
     ensures size { IfOk result (λ M. M.size ≡ node.now.size - length node.now.facilities) }
     ensures bounded { IfOk result (λ M. AllWithin (512 * 10 ^ 18) M.entries) }
 {
     let n = instance.size();
     let depth = node.depth();
-    let facilities = node.free_facilities()?;
     let locations = node.free_locations()?;
-    factor_rows(
-        instance,
-        Side::Flow,
-        a_rankings,
-        node.facilities(),
-        &facilities,
-        &mut workspace.a_rows,
-    )?;
     factor_rows(
         instance,
         Side::Distance,
         b_rankings,
         node.places(),
         &locations,
-        &mut workspace.b_rows,
+        b_rows,
     )?;
-    let alloc = *workspace.a_rows.allocator();
-    let entries = products(
-        alloc,
-        &workspace.a_rows,
-        &workspace.b_rows,
-        n - depth,
-        n + depth,
-    )?;
+    let alloc = *locations.allocator();
+    let entries = products(alloc, a_rows, b_rows, n - depth, n + depth, are_small)?;
     Ok(Matrix::new(n - depth, entries).unwrap())
 }
 
@@ -151,6 +189,7 @@ fn products(
     b_rows: &[i32],
     count: usize,
     width: usize,
+    are_small: bool,
 ) -> Result<Vec<i128>, AllocError>
     requires count { count ≤ 256 }
     requires width { width ≤ 512 }
@@ -158,12 +197,14 @@ fn products(
     requires b_size { length b_rows.now ≡ count * width }
     requires a_range { AllInRange a_rows.now }
     requires b_range { AllInRange b_rows.now }
+    requires known { IsTrue are_small → (AllSmall a_rows.now × AllSmall b_rows.now) }
     ensures { IfOk result (λ v. IsTable count count (IsProductRow width count a_rows.now b_rows.now) v.items) }
 {
     let mut entries = Vec::with_capacity(alloc, count * count)?;
     for r in 0..count {
         let start = r * width;
-        push_products(&a_rows[start..start + width], b_rows, count, &mut entries)?;
+        let row = &a_rows[start..start + width];
+        push_products(row, b_rows, count, are_small, &mut entries)?;
     }
     Ok(entries)
 }
@@ -173,6 +214,7 @@ fn push_products(
     row: &[i32],
     others: &[i32],
     count: usize,
+    are_small: bool,
     entries: &mut Vec<i128>,
 ) -> Result<(), AllocError>
     requires count { count ≤ 256 }
@@ -180,12 +222,14 @@ fn push_products(
     requires size { length others.now ≡ count * length row.now }
     requires range { AllInRange row.now }
     requires others_range { AllInRange others.now }
+    requires known { IsTrue are_small → (AllSmall row.now × AllSmall others.now) }
     ensures { OnOk result (entries.new.items ≡ entries.old.items ++ product_row (length row.now) count row.now others.now) }
 {
     let width = row.len();
     for c in 0..count {
         let start = c * width;
-        entries.push(sum_by_eights(row, &others[start..start + width]))?;
+        let other = &others[start..start + width];
+        entries.push(dot_product(row, other, are_small))?;
     }
     Ok(())
 }

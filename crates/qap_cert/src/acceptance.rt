@@ -16,7 +16,7 @@ use crate::placed::Placed;
 use crate::reader::{Head, read_end, read_head};
 use crate::skimming::skim_tree;
 use crate::walking::{Task, judge_tree};
-use gilmore_lawler::{RankedInstance, Workspace};
+use gilmore_lawler::{FlowRows, RankedInstance, Workspace};
 use qap_cost::{Instance, Partial};
 use std::alloc::Global;
 
@@ -76,6 +76,7 @@ fn judge_to_end(
 {
     let root = Partial::root(alloc, instance.size())?;
     let ranked = RankedInstance::new(alloc, instance)?;
+    let rows = FlowRows::new(&ranked, &root)?;
     let mut workspace = Workspace::new(alloc);
     let task = Task {
         grammar: head.grammar,
@@ -86,6 +87,7 @@ fn judge_to_end(
         alloc,
         &mut workspace,
         &task,
+        &rows,
         &root,
         head.rest,
         &Placed::none(),

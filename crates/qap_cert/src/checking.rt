@@ -1,6 +1,6 @@
 //! Whether a certificate shows that no permutation costs less than its bound.
 
-ghost use Rattle.std.specs.Prelude.{◌≡◌, ◌+◌, ◌-◌, ◌*◌, ◌^◌, ◌<◌, ◌≤◌, ◌⊎◌, ◌++◌, ◌∷◌, [], ℕ, length, MatchResult, OnOk, slice_index, unsigned_abs};
+ghost use Rattle.std.specs.Prelude.{◌≡◌, ◌+◌, ◌-◌, ◌*◌, ◌^◌, ◌<◌, ◌≤◌, ◌⊎◌, ◌++◌, ◌∷◌, [], ℕ, length, IfOk, MatchResult, OnOk, slice_index, unsigned_abs};
 ghost use Rattle.qap_cost.specs.Objective.{IsLeast, NoneCostsLess, cost_of};
 ghost use Rattle.qap_cost.specs.Placement.{IsFreeFacility, IsFreeLocation};
 ghost use Rattle.qap_cert.specs.Certificate.{Certifies};
@@ -15,9 +15,9 @@ ghost use Rattle.qap_cert.specs.declared.version.Version.TheVariants.{Second};
 use crate::line_number::{COST_LINE, SIZE_LINE};
 use crate::tree::Tree;
 use crate::{CertError, Certificate};
-use gilmore_lawler::{RankedInstance, Workspace, dual_sum, fits};
+use gilmore_lawler::{FlowRows, RankedInstance, Workspace, dual_sum, fits};
 use qap_cost::{Instance, Partial, Perm, cost};
-use std::alloc::Global;
+use std::alloc::{AllocError, Global};
 
 /// Whether the certificate shows, by what it says alone, that no permutation of the instance costs less than its bound. Where
 /// the bound is the cost, that is the least cost.
@@ -36,12 +36,14 @@ pub fn check(alloc: Global, instance: &Instance, certificate: &Certificate) -> R
     judge_stated(instance, certificate)?;
     let root = Partial::root(alloc, instance.size())?;
     let ranked = RankedInstance::new(alloc, instance)?;
+    let rows = FlowRows::new(&ranked, &root)?;
     let mut workspace = Workspace::new(alloc);
     let line = certificate.tree_line();
     let bound = certificate.bound();
     check_tree(
         &mut workspace,
         &ranked,
+        &rows,
         bound,
         &root,
         certificate.tree(),
@@ -80,12 +82,14 @@ pub(crate) fn judge_perm(instance: &Instance, perm: &Perm, stated: i128) -> Resu
 fn check_tree(
     workspace: &mut Workspace,
     ranked: &RankedInstance,
+    rows: &FlowRows<'_>,
     bound: i128,
     node: &Partial,
     tree: &Tree,
     line: u64,
 ) -> Result<u64, CertError>
     requires same_size { ranked.now.size ≡ node.now.size }
+    requires rows { rows.now ≡ record { instance = ranked.now; facilities = node.now.facilities } }
     requires shape { HasShape Second node.now.size node.now.facilities (node_of tree.now) }
     ensures { MatchResult result
         (λ next. Valid ranked.now bound node.now (node_of tree.now) × (next ≡ line_after line (node_count (node_of tree.now))))
@@ -100,7 +104,7 @@ fn check_tree(
             )
         }
         Tree::Bound { u, v } => {
-            check_bound(workspace, ranked, bound, node, u, v, line)?;
+            check_bound(workspace, rows, bound, node, u, v, line)?;
             Ok(line.saturating_add(1))
         }
     }
@@ -121,6 +125,7 @@ fn check_children(
     requires same_size { ranked.now.size ≡ node.now.size }
     requires facility { IsFreeFacility node.now facility }
     requires free { (i : ℕ) → i < length locations.now → IsFreeLocation node.now (slice_index locations.now i) }
+    requires some { 0 < length locations.now }
     requires one_each { length children.now ≡ length locations.now }
     requires shape { AllHaveShape Second node.now.size (node.now.facilities ++ facility ∷ []) (nodes_of children.now) }
     ensures { MatchResult result
@@ -129,36 +134,55 @@ fn check_children(
         (λ e. (e ≡ OutOfMemory)
         ⊎ IsTreeFaultAmong ranked.now bound node.now facility locations.now line (nodes_of children.now) e) }
 {
+    let rows = child_rows(ranked, node, facility, locations)?;
     let mut next = line;
     for (i, child) in children.iter().enumerate() {
         let part = node.place(facility, locations[i])?;
-        next = check_tree(workspace, ranked, bound, &part, child, next)?;
+        next = check_tree(workspace, ranked, &rows, bound, &part, child, next)?;
     }
     Ok(next)
+}
+
+/// The rows of the flows for the parts that arise where the facility is put at any of these locations.
+pub(crate) fn child_rows<'a>(
+    ranked: &'a RankedInstance,
+    node: &Partial,
+    facility: u16,
+    locations: &[u16],
+) -> Result<FlowRows<'a>, AllocError>
+    requires same_size { ranked.now.size ≡ node.now.size }
+    requires facility { IsFreeFacility node.now facility }
+    requires some { 0 < length locations.now }
+    requires free { (i : ℕ) → i < length locations.now → IsFreeLocation node.now (slice_index locations.now i) }
+    ensures { IfOk result (λ r. r ≡ record { instance = ranked.now; facilities = node.now.facilities ++ facility ∷ [] }) }
+{
+    let child = node.place(facility, locations[0])?;
+    FlowRows::new(ranked, &child)
 }
 
 /// Whether the duals fit the reduced matrix of the node and come, with the cost of the placed facilities, to the bound.
 pub(crate) fn check_bound(
     workspace: &mut Workspace,
-    ranked: &RankedInstance,
+    rows: &FlowRows<'_>,
     bound: i128,
     node: &Partial,
     u: &[i128],
     v: &[i128],
     line: u64,
 ) -> Result<(), CertError>
-    requires same_size { ranked.now.size ≡ node.now.size }
+    requires same_size { rows.now.instance.size ≡ node.now.size }
+    requires facilities { rows.now.facilities ≡ node.now.facilities }
     requires duals { AreDuals (node.now.size - length node.now.facilities) u.now v.now }
     ensures { MatchResult result
-        (λ done. Closes ranked.now bound node.now u.now v.now)
-        (λ e. (e ≡ OutOfMemory) ⊎ IsBoundFault ranked.now bound node.now line u.now v.now e) }
+        (λ done. Closes rows.now.instance bound node.now u.now v.now)
+        (λ e. (e ≡ OutOfMemory) ⊎ IsBoundFault rows.now.instance bound node.now line u.now v.now e) }
 {
-    let matrix = ranked.reduced(workspace, node)?;
+    let matrix = rows.reduced(workspace, node)?;
     prove_eq!(matrix.size(), u.len());
     if !fits(&matrix, u, v) {
         return Err(CertError::NotFeasible(line));
     }
-    let reached = node.fixed_cost(ranked.instance()) + dual_sum(u, v);
+    let reached = node.fixed_cost(rows.instance()) + dual_sum(u, v);
     if reached < bound {
         return Err(CertError::BoundTooLow(line));
     }

@@ -7,13 +7,13 @@ ghost use Rattle.qap_cert.specs.TextFault.{IsTreeTextFault};
 ghost use Rattle.qap_cert.specs.Tree.{bound};
 ghost use Rattle.qap_cert.specs.Walk.{BeginsWithTree, BeginsWithTrees, IsFaultBefore, IsToldOf, IsToldOfAll};
 
-use crate::checking::check_bound;
+use crate::checking::{check_bound, child_rows};
 use crate::error::CertError;
 use crate::node_line::{Grammar, node_line};
 use crate::placed::Placed;
 use crate::skimming::skim_trees;
 use crate::tree_reader::read_duals;
-use gilmore_lawler::{RankedInstance, Workspace};
+use gilmore_lawler::{FlowRows, RankedInstance, Workspace};
 use qap_cost::Partial;
 use std::alloc::Global;
 
@@ -40,6 +40,7 @@ pub(crate) fn judge_tree<'a>(
     alloc: Global,
     workspace: &mut Workspace,
     task: &Task<'_>,
+    rows: &FlowRows<'_>,
     node: &Partial,
     text: &'a [u8],
     placed: &Placed,
@@ -48,6 +49,7 @@ pub(crate) fn judge_tree<'a>(
     requires small { task.now.grammar.size ≤ 256 }
     requires depth { length placed.now ≤ task.now.grammar.size }
     requires same_size { task.now.ranked.now.size ≡ node.now.size }
+    requires rows { rows.now ≡ record { instance = task.now.ranked.now; facilities = node.now.facilities } }
     requires size { task.now.grammar.size ≡ node.now.size }
     requires placed { placed.now ≡ node.now.facilities }
     ensures { MatchResult result
@@ -58,7 +60,7 @@ pub(crate) fn judge_tree<'a>(
     let next = line.saturating_add(1);
     let Some(facility) = first.facility else {
         let duals = read_duals(alloc, first.bytes, task.grammar, placed, line)?;
-        let fault = bound_fault(workspace, task, node, &duals.u, &duals.v, line)?;
+        let fault = bound_fault(workspace, task, rows, node, &duals.u, &duals.v, line)?;
         let rest = first.rest;
         return Ok(Judged { rest, next, fault });
     };
@@ -89,6 +91,7 @@ fn judge_children<'a>(
     requires placed { placed.now ≡ node.now.facilities ++ facility ∷ [] }
     requires facility { IsFreeFacility node.now facility }
     requires free { (i : ℕ) → i < length locations.now → IsFreeLocation node.now (slice_index locations.now i) }
+    requires some { 0 < length locations.now }
     requires few { length locations.now + length node.now.facilities ≡ node.now.size }
     ensures { MatchResult result
         (λ r. BeginsWithTrees task.now.grammar.version task.now.grammar.size placed.now (length locations.now) line text.now r.rest.now r.next
@@ -96,11 +99,12 @@ fn judge_children<'a>(
         (λ e. (e ≡ CertError.OutOfMemory)
         ⊎ IsFaultBefore task.now.grammar.version task.now.grammar.size placed.now (length locations.now) line text.now e) }
 {
+    let rows = child_rows(task.ranked, node, facility, locations)?;
     let mut rest = text;
     let mut next = line;
     for i in 0..locations.len() {
         let part = node.place(facility, locations[i])?;
-        let child = judge_tree(alloc, workspace, task, &part, rest, placed, next)?;
+        let child = judge_tree(alloc, workspace, task, &rows, &part, rest, placed, next)?;
         rest = child.rest;
         next = child.next;
         if let Some(fault) = child.fault {
@@ -124,18 +128,20 @@ fn judge_children<'a>(
 fn bound_fault(
     workspace: &mut Workspace,
     task: &Task<'_>,
+    rows: &FlowRows<'_>,
     node: &Partial,
     u: &[i128],
     v: &[i128],
     line: u64,
 ) -> Result<Option<CertError>, CertError>
-    requires same_size { task.now.ranked.now.size ≡ node.now.size }
+    requires same_size { rows.now.instance.size ≡ node.now.size }
+    requires facilities { rows.now.facilities ≡ node.now.facilities }
     requires duals { AreDuals (node.now.size - length node.now.facilities) u.now v.now }
     ensures { MatchResult result
-        (λ fault. IsToldOf task.now.ranked.now task.now.bound node.now line fault (bound u.now v.now))
+        (λ fault. IsToldOf rows.now.instance task.now.bound node.now line fault (bound u.now v.now))
         (λ e. e ≡ CertError.OutOfMemory) }
 {
-    match check_bound(workspace, task.ranked, task.bound, node, u, v, line) {
+    match check_bound(workspace, rows, task.bound, node, u, v, line) {
         Ok(()) => Ok(None),
         Err(CertError::OutOfMemory) => Err(CertError::OutOfMemory),
         Err(fault) => Ok(Some(fault)),

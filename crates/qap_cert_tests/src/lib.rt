@@ -4,8 +4,6 @@
 #[cfg(test)]
 mod hostile_tests;
 #[cfg(test)]
-mod memory_tests;
-#[cfg(test)]
 mod tests;
 #[cfg(test)]
 mod text_tests;

@@ -9,17 +9,17 @@ use Rattle.qap_check.specs.declared.refusal.RunError.{RunError}
 use Rattle.qap_check.specs.declared.refusal.RunError.TheVariants.{OutOfMemory}
 use Rattle.qap_check.specs.declared.source.Separators.{Separators}
 
-keeps_count : {S : Type 0} (bytes : S → Option (List ℕ)) (limit : ℕ) (old new : Option (CountedDevice S)) (behind other : List ℕ) → IsOtherText bytes limit old new behind other → KeepsCount old new
-keeps_count bytes limit None None behind other h = tt
-keeps_count bytes limit None (Some new) behind other h = absurd h
-keeps_count bytes limit (Some old) None behind other h = absurd h
-keeps_count bytes limit (Some old) (Some new) behind other h = h.kept
+keeps_count : {S : Type 0} (bytes : S → Option (List ℕ)) (old new : Option (CountedDevice S)) (behind other : List ℕ) → IsOtherText bytes old new behind other → KeepsCount old new
+keeps_count bytes None None behind other h = tt
+keeps_count bytes None (Some new) behind other h = absurd h
+keeps_count bytes (Some old) None behind other h = absurd h
+keeps_count bytes (Some old) (Some new) behind other h = h.kept
 
 -- memory that runs out where both texts have been read
 pub wants_memory : {R S : Type 0} (s : Source R S) (separators : Separators) (I : Problem) (other : List ℕ) (e : RunError) → HasTexts s separators I other → e ≡ OutOfMemory → HasNoTexts s e
 wants_memory s separators I other e texts is = inr (inr (record {
   is = is;
-  kept = record { first = texts.first.read.kept; second = keeps_count s.second_bytes s.first.limit s.second s.second_after _ other texts.second };
+  kept = record { first = texts.first.read.kept; second = keeps_count s.second_bytes s.second s.second_after _ other texts.second };
   waits = inr (I, texts.rest, texts.first);
 }))
 

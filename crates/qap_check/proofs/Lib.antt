@@ -1,2 +1,3 @@
+mod Answerings
 pub mod Behind
 pub mod Comes

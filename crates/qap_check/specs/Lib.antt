@@ -1,3 +1,4 @@
+pub mod Answering
 pub mod Optimal
 pub mod Refusal
 pub mod Source

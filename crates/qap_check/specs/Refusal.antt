@@ -7,7 +7,7 @@ use Rattle.qap_cert.specs.Acceptance.{IsRefused}
 use Rattle.qap_cert.specs.declared.error.CertError.{CertError}
 use Rattle.qap_cert.specs.declared.error.CertError.TheVariants.{OutOfMemory as CertificateMemory, Device as CertificateDevice}
 use Rattle.qap_cert.specs.Refusal.{certificate_refusal}
-use Rattle.qap_text.specs.Input.{HasInstance, HasNoInstance}
+use Rattle.qap_text.specs.Input.{HasInstance, HasNoInstance, max_input}
 use Rattle.qap_text.specs.SolutionText.{IsSolutionFault}
 use Rattle.qap_text.specs.Whole.{IsReadFault}
 use Rattle.qap_text.specs.Refusal.{text_refusal}
@@ -35,9 +35,9 @@ pub record NoInstance {R S : Type 0} (s : Source R S) (e : RunError) : Type 0 wh
   pub of_input : HasNoInstance s.first fault
   pub waits : s.second_after ≡ s.second
 
-abbrev pub IsSecondFault : {S : Type 0} → (S → Option (List ℕ)) → ℕ → Option (CountedDevice S) → Option (CountedDevice S) → TextError → Type 0
-IsSecondFault bytes limit (Some old) (Some new) e = IsReadFault bytes limit old new e
-IsSecondFault bytes limit _ _ e = ⊥
+abbrev pub IsSecondFault : {S : Type 0} → (S → Option (List ℕ)) → Option (CountedDevice S) → Option (CountedDevice S) → TextError → Type 0
+IsSecondFault bytes (Some old) (Some new) e = IsReadFault bytes max_input old new e
+IsSecondFault bytes _ _ e = ⊥
 
 -- an instance was read, and then the second reader's bytes can't be read within the limit
 pub record SecondUnread {R S : Type 0} (s : Source R S) (e : RunError) : Type 0 where
@@ -46,7 +46,7 @@ pub record SecondUnread {R S : Type 0} (s : Source R S) (e : RunError) : Type 0 
   pub instance : Problem
   pub rest : List ℕ
   pub first : HasInstance s.first instance rest
-  pub read : IsSecondFault s.second_bytes s.first.limit s.second s.second_after fault
+  pub read : IsSecondFault s.second_bytes s.second s.second_after fault
 
 -- memory ran out, and no call of a reader failed
 pub record WantsMemory {R S : Type 0} (s : Source R S) (e : RunError) : Type 0 where

@@ -2,7 +2,7 @@
 use Rattle.std.specs.Prelude.{◌≡◌, ℕ, ◌⊎◌, List, Option, Some, None}
 use Rattle.qap_cost.specs.Instance.{Problem}
 use Rattle.qap_io.specs.Counting.{CountedDevice}
-use Rattle.qap_text.specs.Input.{HasInstance, Input}
+use Rattle.qap_text.specs.Input.{HasInstance, Input, input_of, max_input}
 use Rattle.qap_text.specs.Whole.{ReadsWhole}
 use Rattle.qap_text.specs.Word.{after_separators}
 use Rattle.qap_check.specs.declared.source.Separators.{Separators}
@@ -16,11 +16,16 @@ pub record Source (R S : Type 0) : Type 0 where
   pub second : Option (CountedDevice S)
   pub second_after : Option (CountedDevice S)
 
+abbrev pub source_of : {R S : Type 0} → (R → Option (List ℕ)) → CountedDevice R → CountedDevice R
+    → (S → Option (List ℕ)) → Option (CountedDevice S) → Option (CountedDevice S) → Source R S
+source_of bytes before after second_bytes second second_after =
+    record { first = input_of bytes before after; second_bytes = second_bytes; second = second; second_after = second_after }
+
 -- where there is a second reader, all that it had left, read within the limit; else what follows the instance
-abbrev pub IsOtherText : {S : Type 0} → (S → Option (List ℕ)) → ℕ → Option (CountedDevice S) → Option (CountedDevice S) → List ℕ → List ℕ → Type 0
-IsOtherText bytes limit None None behind other = other ≡ behind
-IsOtherText bytes limit (Some old) (Some new) behind other = ReadsWhole bytes limit old new other
-IsOtherText bytes limit _ _ behind other = ⊥
+abbrev pub IsOtherText : {S : Type 0} → (S → Option (List ℕ)) → Option (CountedDevice S) → Option (CountedDevice S) → List ℕ → List ℕ → Type 0
+IsOtherText bytes None None behind other = other ≡ behind
+IsOtherText bytes (Some old) (Some new) behind other = ReadsWhole bytes max_input old new other
+IsOtherText bytes _ _ behind other = ⊥
 
 -- what follows an instance, from its first byte, or from the first one that is no separator
 abbrev pub between : Separators → List ℕ → List ℕ
@@ -31,7 +36,7 @@ between PassedOver rest = after_separators rest
 pub record HasTexts {R S : Type 0} (s : Source R S) (separators : Separators) (I : Problem) (other : List ℕ) : Type 0 where
   pub rest : List ℕ
   pub first : HasInstance s.first I rest
-  pub second : IsOtherText s.second_bytes s.first.limit s.second s.second_after (between separators rest) other
+  pub second : IsOtherText s.second_bytes s.second s.second_after (between separators rest) other
 
 -- what an instance and the text that goes with it come to
 pub record ComeTo {R S A : Type 0} (s : Source R S) (separators : Separators) (P : Problem → List ℕ → A → Type 0) (answer : A) : Type 0 where

@@ -4,6 +4,7 @@ use clap::error::ErrorKind;
 use clap::{Arg, Command};
 use std::alloc::{AllocError, Global};
 use std::io;
+use thiserror::Error;
 
 /// The line that tells how the program is used.
 pub const USAGE: &str = "usage: qapcheck value|optimal [INSTANCE OTHER]";
@@ -33,11 +34,13 @@ pub struct Files<'a> {
 }
 
 /// Why a command line asks for nothing.
-#[derive(Clone, Copy, Debug, PartialEq, Eq)]
+#[derive(Clone, Copy, Debug, PartialEq, Eq, Error)]
 pub enum CommandError {
     /// It isn't as the usage line says.
+    #[error("the command line is not as the usage line says")]
     Usage,
     /// There is no memory left.
+    #[error("out of memory")]
     OutOfMemory,
 }
 

@@ -6,15 +6,13 @@ ghost use Rattle.qap_cert.specs.Acceptance.{IsLimitedVerdict};
 ghost use Rattle.qap_cert.specs.declared.acceptance.Verdict.{Verdict};
 ghost use Rattle.qap_check.specs.Optimal.{Proves, answer_line};
 ghost use Rattle.qap_check.specs.Refusal.{HasNoTexts, IsNoProof};
-ghost use Rattle.qap_check.specs.Source.{Source, ComeTo};
-ghost use Rattle.qap_text.specs.Input.{Input};
+ghost use Rattle.qap_check.specs.Source.{ComeTo, source_of};
 
 use crate::reading::read_texts;
 use crate::refusal::RunError;
 use crate::source::Separators;
 use qap_cert::{Verdict, accept};
 use qap_io::{Counted, send};
-use qap_text::MAX_INPUT;
 use std::alloc::{AllocError, Global};
 use std::io::{Read, Write};
 
@@ -31,8 +29,7 @@ pub fn optimal_stream<R: Read, S: Read, W: Write>(
     second: &mut Option<Counted<S>>,
     writer: &mut Counted<W>,
 ) -> Result<(), RunError>
-    ensures { let i : Input R = record { bytes = R.remaining; limit = MAX_INPUT; before = reader.old; after = reader.new } in
-        let s : Source R S = record { first = i; second_bytes = S.remaining; second = second.old; second_after = second.new } in MatchResult result
+    ensures { let s = source_of R.remaining reader.old reader.new S.remaining second.old second.new in MatchResult result
         (λ _. (v : Verdict) × ComeTo s Separators.PassedOver Proves v × Sends W.contents writer.old writer.new (answer_line v))
         (λ e. ((HasNoTexts s e ⊎ ComeTo s Separators.PassedOver IsNoProof e) × (writer.new ≡ writer.old))
         ⊎ ((e ≡ RunError.Device) × (v : Verdict) × ComeTo s Separators.PassedOver Proves v
@@ -51,8 +48,7 @@ fn shown<R: Read, S: Read>(
     second: &mut Option<Counted<S>>,
 ) -> Result<Verdict, RunError>
     ensures bounded { IfOk result IsLimitedVerdict }
-    ensures verdict { let i : Input R = record { bytes = R.remaining; limit = MAX_INPUT; before = reader.old; after = reader.new } in
-        let s : Source R S = record { first = i; second_bytes = S.remaining; second = second.old; second_after = second.new } in MatchResult result (ComeTo s Separators.PassedOver Proves) (λ e. HasNoTexts s e ⊎ ComeTo s Separators.PassedOver IsNoProof e) }
+    ensures verdict { let s = source_of R.remaining reader.old reader.new S.remaining second.old second.new in MatchResult result (ComeTo s Separators.PassedOver Proves) (λ e. HasNoTexts s e ⊎ ComeTo s Separators.PassedOver IsNoProof e) }
 {
     let texts = read_texts(alloc, reader, second, Separators::PassedOver)?;
     Ok(accept(alloc, &texts.instance, texts.other.as_slice())?)

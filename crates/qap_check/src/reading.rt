@@ -2,8 +2,7 @@
 
 ghost use Rattle.std.specs.Prelude.{◌≡◌, MatchResult};
 ghost use Rattle.qap_check.specs.Refusal.{HasNoTexts, IsSecondFault, of_text};
-ghost use Rattle.qap_check.specs.Source.{Source, HasTexts, IsOtherText, between};
-ghost use Rattle.qap_text.specs.Input.{Input};
+ghost use Rattle.qap_check.specs.Source.{HasTexts, IsOtherText, between, source_of};
 ghost use Rattle.qap_text.specs.declared.error.TextError.{TextError};
 
 use crate::refusal::RunError;
@@ -23,8 +22,7 @@ pub fn read_texts<R: Read, S: Read>(
     second: &mut Option<Counted<S>>,
     separators: Separators,
 ) -> Result<Texts, RunError>
-    ensures { let i : Input R = record { bytes = R.remaining; limit = MAX_INPUT; before = reader.old; after = reader.new } in
-        let s : Source R S = record { first = i; second_bytes = S.remaining; second = second.old; second_after = second.new } in MatchResult result (λ t. HasTexts s separators t.instance t.other) (HasNoTexts s) }
+    ensures { let s = source_of R.remaining reader.old reader.new S.remaining second.old second.new in MatchResult result (λ t. HasTexts s separators t.instance t.other) (HasNoTexts s) }
 {
     let text = read_all(alloc, reader, MAX_INPUT)?;
     let (instance, rest) = read_instance(alloc, &text)?;
@@ -50,8 +48,8 @@ fn read_other<S: Read>(
     behind: OtherText,
 ) -> Result<OtherText, RunError>
     ensures { MatchResult result
-        (IsOtherText S.remaining MAX_INPUT second.old second.new behind)
-        (λ e. (fault : TextError) × (e ≡ of_text fault) × IsSecondFault S.remaining MAX_INPUT second.old second.new fault) }
+        (IsOtherText S.remaining second.old second.new behind)
+        (λ e. (fault : TextError) × (e ≡ of_text fault) × IsSecondFault S.remaining second.old second.new fault) }
 {
     match second {
         Some(reader) => Ok(OtherText::whole(read_all(alloc, reader, MAX_INPUT)?)),

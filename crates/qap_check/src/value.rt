@@ -3,9 +3,8 @@
 ghost use Rattle.std.specs.Prelude.{◌≡◌, ◌⊎◌, IfOk, IfErr, MatchResult};
 ghost use Rattle.qap_io.specs.Writing.{Sends, BreaksOff};
 ghost use Rattle.qap_check.specs.Refusal.{HasNoTexts, IsNoSolution};
-ghost use Rattle.qap_check.specs.Source.{Source, ComeTo};
+ghost use Rattle.qap_check.specs.Source.{ComeTo, source_of};
 ghost use Rattle.qap_check.specs.Valuation.{AnswersSolution, lines_of};
-ghost use Rattle.qap_text.specs.Input.{Input};
 
 use crate::reading::read_texts;
 use crate::refusal::RunError;
@@ -13,7 +12,7 @@ use crate::source::Separators;
 use crate::valuation::{Match, Valuation};
 use qap_cost::Instance;
 use qap_io::{Counted, send};
-use qap_text::{MAX_INPUT, read_solution};
+use qap_text::read_solution;
 use std::alloc::Global;
 use std::io::{Read, Write};
 
@@ -29,8 +28,7 @@ pub fn value_stream<R: Read, S: Read, W: Write>(
     second: &mut Option<Counted<S>>,
     writer: &mut Counted<W>,
 ) -> Result<Match, RunError>
-    ensures { let i : Input R = record { bytes = R.remaining; limit = MAX_INPUT; before = reader.old; after = reader.new } in
-        let s : Source R S = record { first = i; second_bytes = S.remaining; second = second.old; second_after = second.new } in MatchResult result
+    ensures { let s = source_of R.remaining reader.old reader.new S.remaining second.old second.new in MatchResult result
         (λ found. (v : Valuation) × (v.found ≡ found) × ComeTo s Separators.Kept AnswersSolution v
         × Sends W.contents writer.old writer.new (lines_of v))
         (λ e. ((HasNoTexts s e ⊎ ComeTo s Separators.Kept IsNoSolution e) × (writer.new ≡ writer.old))
@@ -49,8 +47,7 @@ fn judged<R: Read, S: Read>(
     reader: &mut Counted<R>,
     second: &mut Option<Counted<S>>,
 ) -> Result<Valuation, RunError>
-    ensures { let i : Input R = record { bytes = R.remaining; limit = MAX_INPUT; before = reader.old; after = reader.new } in
-        let s : Source R S = record { first = i; second_bytes = S.remaining; second = second.old; second_after = second.new } in MatchResult result (ComeTo s Separators.Kept AnswersSolution) (λ e. HasNoTexts s e ⊎ ComeTo s Separators.Kept IsNoSolution e) }
+    ensures { let s = source_of R.remaining reader.old reader.new S.remaining second.old second.new in MatchResult result (ComeTo s Separators.Kept AnswersSolution) (λ e. HasNoTexts s e ⊎ ComeTo s Separators.Kept IsNoSolution e) }
 {
     let texts = read_texts(alloc, reader, second, Separators::Kept)?;
     answer(alloc, &texts.instance, texts.other.as_slice())

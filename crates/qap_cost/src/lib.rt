@@ -20,10 +20,3 @@ pub use objective::{cost, exchange_law, product};
 pub use partial::Partial;
 pub use permutation::Perm;
 pub use placement::{children_law, free_law, root_law, whole_node_law};
-
-#[cfg(test)]
-mod memory_tests;
-#[cfg(test)]
-mod partial_tests;
-#[cfg(test)]
-mod tests;

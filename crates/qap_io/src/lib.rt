@@ -21,6 +21,3 @@ pub use reading::read_some;
 pub use refusal::Refusal;
 pub use status::Status;
 pub use writing::{finish, put, send};
-
-#[cfg(test)]
-mod tests;

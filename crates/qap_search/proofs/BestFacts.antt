@@ -22,14 +22,14 @@ use Rattle.tuple_match.specs.PatternValue.{Matches, PatternValue}
 use Rattle.tuple_space.specs.declared.write.Write.{Write}
 use Rattle.qap_search.specs.Best.{AfterWrites, HasBestCost, HasBestMark, HasNoBest, IsBestAt, IsFoundBest, Writes, WritesAll}
 use Rattle.qap_search.specs.Decided.{best_of}
-use Rattle.qap_search.specs.Decision.{Decides, DecidesBetter, IsBetterOf, candidate_of}
+use Rattle.qap_search.specs.Decision.{DecidesBetter, DecidesBy, IsBetterOf}
 use Rattle.qap_search.specs.Found.{IsBestFound, best_template}
-use Rattle.qap_search.specs.Hand.{HandValue, ThoughtValue, hand_of, thought_of}
+use Rattle.qap_search.specs.Hand.{HandValue, hand_of, thought_of}
 use Rattle.qap_search.specs.Piece.{node_tuple}
 use Rattle.qap_search.specs.Replacement.{Best, IsAsGood, MayReplace, tuple_of}
 use Rattle.qap_search.specs.SearchLaw.{IsSearchLaw}
 use Rattle.qap_search.specs.Standing.{HasNode, IsLastThought, IsStage}
-use Rattle.qap_search.specs.Thought.{IsThought}
+use Rattle.qap_search.specs.Thought.{IsThought, ThoughtValue, candidate_of}
 use Rattle.qap_search.specs.Turn.{HasBest, HasLeased, HasMarksOf, IsReady, IsShort, IsStuck, Told}
 use Rattle.qap_search.specs.declared.stage.LastThought.{LastThought}
 use Rattle.qap_search.specs.declared.stage.Stage.{Stage}
@@ -66,7 +66,7 @@ standing_cost candidate old new least (inr better) below under (inl is) = let e 
 standing_cost candidate old new least (inr better) below under (inr is) = ap (λ (b : Best). b.cost) better.1 ∙ sym is
 
 -- what was decided beside the one that stands has been written
-pub written_anew : (I : Problem) (l : LastThought) (best old : Best) (least : ℤ) (tuples : List (List FieldValue)) (t t' : TxnValue) → best ≡ old → DecidesBetter I (candidate_of l.thought) old l.node tuples → ((new : Best) → IsBetterOf (candidate_of l.thought) old new → new.cost ≡ least) → HasMarksOf t t' → SameItems (added_of t'.writes) (added_of t.writes ++ tuples) → WritesAll true I (thought_of l) best t t' least
+pub written_anew : (I : Problem) (l : LastThought) (best old : Best) (least : ℤ) (tuples : List (List FieldValue)) (t t' : TxnValue) → best ≡ old → DecidesBetter I (thought_of l) old tuples → ((new : Best) → IsBetterOf (candidate_of l.thought) old new → new.cost ≡ least) → HasMarksOf t t' → SameItems (added_of t'.writes) (added_of t.writes ++ tuples) → WritesAll true I (thought_of l) best t t' least
 written_anew I l best old least tuples t t' is d costs same added = record {
   standing = d.new;
   stands = subst (λ (b : Best). IsBetterOf (candidate_of l.thought) b d.new) (sym is) d.better;
@@ -194,7 +194,7 @@ may_commit I l true number t t' best cost taken_law read_law h m permanent is w 
     let gone_both : SameItems (gone_of renewed t'.marks) (node_tuple x ∷ tuple_of best ∷ []) = subst (λ (w : List FieldValue). SameItems (gone_of renewed t'.marks) (node_tuple x ∷ w ∷ [])) is gone_node in
     let kept : SameItems (kept_of t'.marks) [] = subst (λ (ms : List Mark). SameItems (kept_of ms) []) (sym marks) law.1 in
     let added : SameItems (added_of t'.writes) w.tuples = subst (λ (ws : List Write). SameItems (added_of t'.writes) (added_of ws ++ w.tuples)) m.writes w.added in
-    replaces_taken I x best w.standing (gone_of renewed t'.marks) (kept_of t'.marks) (added_of t'.writes) w.written.rest h.placement h.size w.written.decides
+    replaces_taken I x best w.standing (gone_of renewed t'.marks) (kept_of t'.marks) (added_of t'.writes) w.written.rest h.placement h.size w.written.decides.decides
     (as_good_of I x l.thought best w.standing h.thought w.stands) gone_both kept (λ f. added f ∙ w.written.with_best f)
 may_commit I l false number t t' best cost taken_law read_law h m permanent is w = λ renewed.
     let x = l.node in
@@ -205,8 +205,8 @@ may_commit I l false number t t' best cost taken_law read_law h m permanent is w
     let kept : SameItems (kept_of t'.marks) (m.best.tuple ∷ []) = subst (λ (ms : List Mark). SameItems (kept_of ms) (m.best.tuple ∷ [])) (sym marks) law.1 in
     let kept_best : SameItems (kept_of t'.marks) (tuple_of best ∷ []) = subst (λ (w : List FieldValue). SameItems (kept_of t'.marks) (w ∷ [])) is kept in
     let added : SameItems (added_of t'.writes) w.tuples = subst (λ (ws : List Write). SameItems (added_of t'.writes) (added_of ws ++ w.tuples)) m.writes w.added in
-    let decides : Decides I best.cost x w.tuples = subst (λ (b : Best). Decides I b.cost x w.tuples) w.stands w.written in
-    replaces_read I x best (gone_of renewed t'.marks) (kept_of t'.marks) (added_of t'.writes) w.tuples h.placement h.size decides gone_node kept_best added
+    let decides : DecidesBy I best.cost (thought_of l) w.tuples = subst (λ (b : Best). DecidesBy I b.cost (thought_of l) w.tuples) w.stands w.written in
+    replaces_read I x best (gone_of renewed t'.marks) (kept_of t'.marks) (added_of t'.writes) w.tuples h.placement h.size decides.decides gone_node kept_best added
 
 stage_after : (I : Problem) (last : Option ThoughtValue) (taking : Bool) (lv : ThoughtValue) (best : Best) (t t' : TxnValue) (written : Result (Option ℤ) AllocError) (told : Told) (stage : Stage) → Writes taking I lv best t t' written → ((cost : ℤ) → WritesAll taking I lv best t t' cost → MayCommit (MayReplace I) t') → AfterWrites written t' told stage → IsStage I last stage
 stage_after I last taking lv best t t' (Ok (Some c)) told stage w may after = subst (IsStage I last) (sym after.1) (may c w)

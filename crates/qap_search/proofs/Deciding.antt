@@ -10,11 +10,11 @@ use Rattle.qap_cost.specs.Placement.{Placement, IsPlacement, IsFreeFacility, fix
 use Rattle.qap_cert.specs.Valid.{Closes}
 use Rattle.space_txn.specs.Content.{SameItems}
 use Rattle.tuple_match.specs.FieldValue.{FieldValue}
-use Rattle.qap_search.specs.Decision.{Decides, DecidesBeside, DecidesBetter, candidate_of}
+use Rattle.qap_search.specs.Decision.{Decides, DecidesBeside, DecidesBetter, DecidesBy}
 use Rattle.qap_search.specs.Piece.{best_tuple, closed_tuple, node_tuple, pieces}
 use Rattle.qap_search.specs.Replacement.{Best, IsAsGood, MayReplace, tuple_of}
 use Rattle.qap_search.specs.SearchTree.{AreOpen, AreTreesAt, closed_node, open_row, split_open}
-use Rattle.qap_search.specs.Thought.{IsThought}
+use Rattle.qap_search.specs.Thought.{IsThought, ThoughtValue, candidate_of, thought_on}
 use Rattle.qap_search.specs.declared.thought.Thought.{Thought}
 use Rattle.qap_search.proofs.Taking.{free_depth}
 
@@ -26,24 +26,30 @@ open_row-trees : (P : Placement → List ℤ → List ℤ → Type 0) (x : Place
 open_row-trees P x f [] = tt
 open_row-trees P x f (k ∷ ks) = (tt, open_row-trees P x f ks)
 
--- a split into open nodes
-pub decides_split : (I : Problem) (c : ℤ) (x : Placement) (f : ℕ) (tuples : List (List FieldValue)) → IsPlacement x → IsFreeFacility x f → tuples ≡ pieces x (split_open x f) → Decides I c x tuples
-decides_split I c x f tuples placed free is = record {
-  decided = split_open x f;
-  one = open_row-open (free_locations x);
-  valid = (free_depth x f placed free, free, open_row-trees (Closes I c) x f (free_locations x));
-  are = is;
+-- a split into open nodes, on the thought's facility
+pub decides_split : (I : Problem) (c : ℤ) (x : Placement) (t : Thought) (f : ℕ) (tuples : List (List FieldValue)) → IsPlacement x → IsFreeFacility x f → t.value <ℤ c → t.branch ≡ Some f → tuples ≡ pieces x (split_open x f) → DecidesBy I c (thought_on x t) tuples
+decides_split I c x t f tuples placed free below branch is = record {
+  decides = record {
+    decided = split_open x f;
+    one = open_row-open (free_locations x);
+    valid = (free_depth x f placed free, free, open_row-trees (Closes I c) x f (free_locations x));
+    are = is;
+  };
+  by = inr (below, f, branch, refl);
 }
 
 -- a node that the thought's duals close
-pub decides_closed : (I : Problem) (c : ℤ) (x : Placement) (t : Thought) (tuples : List (List FieldValue)) → IsThought I x t → c ≤ℤ t.value → tuples ≡ closed_tuple x t.u.items t.v.items ∷ [] → Decides I c x tuples
+pub decides_closed : (I : Problem) (c : ℤ) (x : Placement) (t : Thought) (tuples : List (List FieldValue)) → IsThought I x t → c ≤ℤ t.value → tuples ≡ closed_tuple x t.u.items t.v.items ∷ [] → DecidesBy I c (thought_on x t) tuples
 decides_closed I c x t tuples h enough is =
     let value : t.value ≡ fixed_cost_of I x +ℤ dual_value t.u.items t.v.items = h.value in
     record {
-      decided = closed_node t.u.items t.v.items;
-      one = tt;
-      valid = record { duals = h.duals; fits = record { matrix = h.matrix; square = h.square; reduced = h.reduced; fits = h.fits }; enough = omega (arith, ints) };
-      are = is;
+      decides = record {
+        decided = closed_node t.u.items t.v.items;
+        one = tt;
+        valid = record { duals = h.duals; fits = record { matrix = h.matrix; square = h.square; reduced = h.reduced; fits = h.fits }; enough = omega (arith, ints) };
+        are = is;
+      };
+      by = inl (enough, refl);
     }
 
 pub replaces_read : (I : Problem) (x : Placement) (b : Best) (gone kept added tuples : List (List FieldValue)) → IsPlacement x → x.size ≡ I.size → Decides I b.cost x tuples → SameItems gone (node_tuple x ∷ []) → SameItems kept (tuple_of b ∷ []) → SameItems added tuples → MayReplace I gone kept added
@@ -77,8 +83,8 @@ replaces_taken I x old new gone kept added tuples placed size d good takes reads
     }
 
 -- a decided node's tuples, and then that of the best permutation
-pub decides_beside : (I : Problem) (c : ℤ) (p : List ℕ) (x : Placement) (rest tuples : List (List FieldValue)) (best : List FieldValue) → Decides I c x rest → tuples ≡ rest ++ best ∷ [] → best ≡ best_tuple c p → DecidesBeside I c p x tuples
-decides_beside I c p x rest tuples best d is best_is = record {
+pub decides_beside : (I : Problem) (c : ℤ) (p : List ℕ) (t : ThoughtValue) (rest tuples : List (List FieldValue)) (best : List FieldValue) → DecidesBy I c t rest → tuples ≡ rest ++ best ∷ [] → best ≡ best_tuple c p → DecidesBeside I c p t tuples
+decides_beside I c p t rest tuples best d is best_is = record {
   rest = rest;
   decides = d;
   with_best = λ f.
@@ -96,16 +102,16 @@ made_then (Ok (Some v)) A B P Q none some h = some v h
 made_then (Err e) A B P Q none some h = h
 
 -- the candidate stands where it costs less, and else the one that was taken
-pub better_candidate : (I : Problem) (old : Best) (x : Placement) (t : Thought) (stated : ℤ) (tuples : List (List FieldValue)) → stated ≡ t.cost → t.cost <ℤ old.cost → DecidesBeside I stated t.candidate x tuples → DecidesBetter I (candidate_of t) old x tuples
+pub better_candidate : (I : Problem) (old : Best) (x : Placement) (t : Thought) (stated : ℤ) (tuples : List (List FieldValue)) → stated ≡ t.cost → t.cost <ℤ old.cost → DecidesBeside I stated t.candidate (thought_on x t) tuples → DecidesBetter I (thought_on x t) old tuples
 better_candidate I old x t stated tuples is less d = record {
   new = candidate_of t;
   better = inl (less, refl);
-  decides = subst (λ (c : ℤ). DecidesBeside I c t.candidate x tuples) is d;
+  decides = subst (λ (c : ℤ). DecidesBeside I c t.candidate (thought_on x t) tuples) is d;
 }
 
-pub better_old : (I : Problem) (candidate old : Best) (x : Placement) (stated : ℤ) (tuples : List (List FieldValue)) → stated ≡ old.cost → old.cost ≤ℤ candidate.cost → DecidesBeside I stated old.permutation x tuples → DecidesBetter I candidate old x tuples
-better_old I candidate old x stated tuples is more d = record {
+pub better_old : (I : Problem) (old : Best) (t : ThoughtValue) (stated : ℤ) (tuples : List (List FieldValue)) → stated ≡ old.cost → old.cost ≤ℤ t.candidate.cost → DecidesBeside I stated old.permutation t tuples → DecidesBetter I t old tuples
+better_old I old t stated tuples is more d = record {
   new = old;
   better = inr (more, refl);
-  decides = subst (λ (c : ℤ). DecidesBeside I c old.permutation x tuples) is d;
+  decides = subst (λ (c : ℤ). DecidesBeside I c old.permutation t tuples) is d;
 }

@@ -15,7 +15,7 @@ use Rattle.qap_search.specs.SearchTree.{SearchTree, open_node, split_node, close
 use Rattle.qap_search.proofs.Certificates.{children_placed, root_placement}
 use Rattle.qap_search.proofs.Tuples.{found_in, is_it, is_it-found, is_it-itself}
 
-found_from_Contains : (xs : List (List FieldValue)) (t : List FieldValue) (k : ℕ) → k < length xs → get_or xs k t ≡ t → 1 ≤ sum_by (is_it t) xs
+pub found_from_Contains : (xs : List (List FieldValue)) (t : List FieldValue) (k : ℕ) → k < length xs → get_or xs k t ≡ t → 1 ≤ sum_by (is_it t) xs
 found_from_Contains [] t k below is = absurd (omega arith)
 found_from_Contains (x ∷ xs) t zero below is =
     let parts = sum_by-cons (is_it t) x xs in

@@ -5,6 +5,7 @@ pub mod Certificates
 pub mod Closings
 pub mod Completions
 pub mod Deciding
+pub mod Endings
 pub mod Fields
 pub mod Finishing
 pub mod Found

@@ -109,6 +109,40 @@ stopped_certifies I content commits C h s =
     }
 
 mutual
+  -- a tree whose closed nodes' duals are found to close them
+  closing_tree : (I : Problem) (c : ℤ) (n : ℕ) (t : SearchTree) (y : Placement) → IsNode n y → IsTreeAt HasDuals y t → FoundClose I c n (pieces y t) → IsTreeAt (Closes I c) y t
+  closing_tree I c n open_node y hy h close = tt
+  closing_tree I c n (closed_node u v) y hy h close =
+      let itself = is_it-itself (closed_tuple y u v) in
+      close y u v hy (omega arith)
+  closing_tree I c n (split_node f children) y hy h close = (
+    h.0,
+    h.1,
+    all_closing_trees I c n children y f (free_locations y) hy h.2
+        (λ x u v hx found. close x u v hx (let parts = sum_by-cons (is_it (closed_tuple x u v)) (split_tuple y f) (pieces_of_all y f (free_locations y) children) in omega arith)),
+  )
+
+  all_closing_trees : (I : Problem) (c : ℤ) (n : ℕ) (ts : SearchTrees) (y : Placement) (f : ℕ) (ks : List ℕ) → IsNode n y → AreTreesAt HasDuals y f ks ts → FoundClose I c n (pieces_of_all y f ks ts) → AreTreesAt (Closes I c) y f ks ts
+  all_closing_trees I c n no_trees y f [] hy h close = tt
+  all_closing_trees I c n no_trees y f (k ∷ ks) hy h close = absurd h
+  all_closing_trees I c n (tree t rest) y f [] hy h close = absurd h
+  all_closing_trees I c n (tree t rest) y f (k ∷ ks) hy h close = (
+    closing_tree I c n t (placing y f k) (IsNode-placing n y f k hy) h.0
+        (λ x u v hx found. close x u v hx (let parts = sum_by-append (is_it (closed_tuple x u v)) (pieces (placing y f k) t) (pieces_of_all y f ks rest) in omega arith)),
+    all_closing_trees I c n rest y f ks hy h.1
+        (λ x u v hx found. close x u v hx (let parts = sum_by-append (is_it (closed_tuple x u v)) (pieces (placing y f k) t) (pieces_of_all y f ks rest) in omega arith)),
+  )
+
+-- the leaves that were closed before show the certificate's cost at least
+pub stopped_closed_before : (I : Problem) (content : List (List FieldValue)) (commits : ℕ) (C : Claim) → IsCutTree I content commits → (s : IsStopped I content C) → IsTreeAt (Closes I C.cost) (root_of I.size) s.tree
+stopped_closed_before I content commits C h s =
+    let root = root_of I.size in
+    let same = best_is I content commits (best_of C) s.tree h s.taken_apart in
+    let shaped = tree_from_closed I s.tree C.tree root (root_shape I content C s) s.closes.closed in
+    subst (λ (b : Best). IsTreeAt (Closes I b.cost) root s.tree) same
+    (closing_tree I h.cost I.size s.tree root (record { size = refl; paired = refl }) shaped (closed_in_both I content commits (best_of C) s.tree h s.taken_apart))
+
+mutual
   -- the open nodes of a tree, counted by their tuples
   open_weighed : (t : SearchTree) (y : Placement) (P : Placement → List ℤ → List ℤ → Type 0) → IsTreeAt P y t → sum_by open_weight (pieces y t) ≡ undecided_count t
   open_weighed open_node y P h = refl

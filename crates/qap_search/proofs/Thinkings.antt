@@ -8,10 +8,10 @@ use Rattle.qap_cost.specs.Placement.{IsPlacement, Placement}
 use Rattle.space_txn.specs.Txn.{TxnValue}
 use Rattle.space_txn.specs.declared.mark.Mark.{Mark}
 use Rattle.qap_search.specs.Considering.{Considers, IsNodeAt, IsOnNode, IsThoughtOn, stage_after}
-use Rattle.qap_search.specs.Hand.{HandValue, ThoughtValue, hand_of, is_due, last_of, thought_of}
+use Rattle.qap_search.specs.Hand.{HandValue, hand_of, is_due, last_of, thought_of}
 use Rattle.qap_search.specs.Piece.{node_tuple}
 use Rattle.qap_search.specs.Standing.{HasNode, HasTaken, IsHand, IsLastThought, IsStage}
-use Rattle.qap_search.specs.Thought.{IsThought}
+use Rattle.qap_search.specs.Thought.{IsThought, ThoughtValue}
 use Rattle.qap_search.specs.Thinking.{Thinks}
 use Rattle.qap_search.specs.declared.stage.LastThought.{LastThought}
 use Rattle.qap_search.specs.declared.stage.Stage.{Stage}
@@ -112,7 +112,7 @@ thinks I lease tools old new (Taken t number) next tally true hand due c goes =
         permanent = node.permanent;
         last = thought_of c.2.last;
         is = node.is ∙ ap node_tuple (sym c.2.node);
-        thought = record { thought = c.2.last.thought; right = (c.2.right hand.thought).thought; value = refl; candidate = refl };
+        thought = record { thought = c.2.last.thought; right = (c.2.right hand.thought).thought; told = refl };
         kept = kept_value old c.2.last c.0 c.2.node c.2.kept;
         leaves = ap₂ value (goes t number refl) c.2.is;
       });

@@ -1,12 +1,17 @@
 -- What a search comes to.
-use Rattle.std.specs.Prelude.{◌≡◌, ℕ, ◌<◌, List, length, Option, Some}
+use Rattle.std.specs.Prelude.{◌≡◌, ℕ, ◌<◌, List, length, ℤ, Option, Some, IfSome}
 use Rattle.std.specs.List.{sum_by}
 use Rattle.qap_cost.specs.Instance.{Problem}
+use Rattle.qap_cost.specs.Objective.{NoneCostsLess, Permutes, cost_of}
 use Rattle.qap_cert.specs.Certificate.{Claim, IsCertificate, Certifies}
 use Rattle.qap_cert.specs.Tree.{node_count}
 use Rattle.shared_space.specs.Limit.{IsWithin}
+use Rattle.tuple_match.specs.FieldValue.{FieldValue}
+use Rattle.qap_search.specs.CutTree.{IsCutTree}
+use Rattle.qap_search.specs.Piece.{open_count}
 use Rattle.qap_search.specs.Stopped.{CertifiesStopped}
 use Rattle.qap_search.specs.declared.answer.Answer.{Answer}
+use Rattle.qap_search.specs.declared.answer.Least.{Least}
 use Rattle.qap_search.specs.declared.report.Report.{Report}
 use Rattle.qap_search.specs.declared.answer.SolveError.{SolveError}
 use Rattle.qap_search.specs.declared.answer.SolveError.TheVariants.{Unfinished, Stopped, OutOfMemory}
@@ -29,6 +34,24 @@ pub record IsAnswer (I : Problem) (workers : ℕ) (limit : Option ℕ) (a : Answ
   pub one_each : length a.reports.items ≡ workers
   pub within : IsWithin limit (accepted_of a.reports.items)
 
+-- after so many commits a search has left a cut tree of the instance without open nodes, with this best permutation of this cost
+pub record LeavesBest (I : Problem) (commits : ℕ) (p : List ℕ) (c : ℤ) : Type 0 where
+  pub content : List (List FieldValue)
+  pub tree : IsCutTree I content commits
+  pub none_open : open_count content ≡ 0
+  pub best : tree.permutation ≡ p
+  pub costs : tree.cost ≡ c
+
+-- a permutation of the instance with its cost, and none costs less; and a report for each of so many workers, whose accepted
+-- commits are together those of the search that has left it, and at most the limit
+pub record IsLeastAnswer (I : Problem) (workers : ℕ) (limit : Option ℕ) (a : Least) : Type 0 where
+  pub permutes : Permutes I a.permutation
+  pub costs : cost_of I a.permutation ≡ a.cost
+  pub least : NoneCostsLess I a.cost
+  pub left : LeavesBest I (accepted_of a.reports.items) a.permutation a.cost
+  pub one_each : length a.reports.items ≡ workers
+  pub within : IsWithin limit (accepted_of a.reports.items)
+
 -- what is left where the limit of commits was reached while nodes were open: a certificate with these nodes closed, and a report
 -- for each of so many workers, whose accepted commits are together the limit
 pub record IsStoppedAnswer (I : Problem) (workers : ℕ) (limit : Option ℕ) (a : Answer) : Type 0 where
@@ -36,8 +59,22 @@ pub record IsStoppedAnswer (I : Problem) (workers : ℕ) (limit : Option ℕ) (a
   pub one_each : length a.reports.items ≡ workers
   pub stopped : CertifiesStopped I (accepted_of a.reports.items) a.certificate
 
--- why there is no answer: some nodes are open, so many; the limit of commits was reached before; or memory ran out
+-- so many nodes of the content are open, and its commits are fewer than the limit
+pub record IsOpenBelow (limit : Option ℕ) (content : List (List FieldValue)) (commits count : ℕ) : Type 0 where
+  pub some : 0 < count
+  pub counted : open_count content ≡ count
+  pub below : IfSome limit (λ n. commits < n)
+
+-- a search has left a cut tree of the instance so
+pub record LeavesOpen (I : Problem) (limit : Option ℕ) (count : ℕ) : Type 0 where
+  pub content : List (List FieldValue)
+  pub commits : ℕ
+  pub tree : IsCutTree I content commits
+  pub so_many : IsOpenBelow limit content commits count
+
+-- why there is no answer: some nodes are open, so many, and the limit of commits was not reached; it was reached before; or memory
+-- ran out
 abbrev pub IsSolveFault : Problem → ℕ → Option ℕ → SolveError → Type 0
-IsSolveFault I workers limit (Unfinished count) = 0 < count
+IsSolveFault I workers limit (Unfinished count) = LeavesOpen I limit count
 IsSolveFault I workers limit (Stopped a) = IsStoppedAnswer I workers limit a
 IsSolveFault I workers limit OutOfMemory = Unit {0}

@@ -14,10 +14,10 @@ use Rattle.space_txn.specs.declared.txn.Found.TheVariants.{Entry as Stored, Own}
 use Rattle.tuple_match.specs.FieldValue.{FieldValue}
 use Rattle.qap_search.specs.Decided.{best_of}
 use Rattle.qap_search.specs.Found.{IsBestFound}
-use Rattle.qap_search.specs.Hand.{ThoughtValue}
 use Rattle.qap_search.specs.Piece.{node_tuple}
 use Rattle.qap_search.specs.Replacement.{Best, tuple_of}
 use Rattle.qap_search.specs.Standing.{HasNode}
+use Rattle.qap_search.specs.Thought.{ThoughtValue}
 use Rattle.qap_search.specs.Turn.{HasMarksOf, IsStanding, IsWritten, Told}
 use Rattle.qap_search.specs.declared.stage.Stage.{Stage}
 use Rattle.qap_search.specs.declared.stage.Stage.TheVariants.{Ready, GivingUp}
@@ -71,7 +71,7 @@ pub record WritesAll (taking : Bool) (I : Problem) (last : ThoughtValue) (best :
   pub stands : IsStanding taking last.candidate best standing
   pub costs : standing.cost ≡ cost
   pub tuples : List (List FieldValue)
-  pub written : IsWritten taking I standing last.node tuples
+  pub written : IsWritten taking I standing last tuples
   pub same : HasMarksOf t t'
   pub added : SameItems (added_of t'.writes) (added_of t.writes ++ tuples)
 

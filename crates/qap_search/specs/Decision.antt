@@ -1,5 +1,5 @@
 -- What one commit writes of a node: duals that close it under the cost of the best permutation, or its split into open nodes.
-use Rattle.std.specs.Prelude.{◌≡◌, ◌⊎◌, ℕ, List, ◌∷◌, ℤ, ◌<ℤ◌, ◌≤ℤ◌}
+use Rattle.std.specs.Prelude.{◌≡◌, ◌⊎◌, ℕ, List, ◌∷◌, ℤ, ◌<ℤ◌, ◌≤ℤ◌, Some}
 use Rattle.qap_cost.specs.Instance.{Problem}
 use Rattle.qap_cost.specs.Placement.{Placement}
 use Rattle.qap_cert.specs.Valid.{Closes}
@@ -7,8 +7,8 @@ use Rattle.space_txn.specs.Content.{SameItems}
 use Rattle.tuple_match.specs.FieldValue.{FieldValue}
 use Rattle.qap_search.specs.Piece.{best_tuple, pieces}
 use Rattle.qap_search.specs.Replacement.{Best, IsOneNode}
-use Rattle.qap_search.specs.SearchTree.{SearchTree, IsTreeAt}
-use Rattle.qap_search.specs.Thought.{IsThought}
+use Rattle.qap_search.specs.SearchTree.{SearchTree, closed_node, split_open, IsTreeAt}
+use Rattle.qap_search.specs.Thought.{IsThought, ThoughtValue}
 use Rattle.qap_search.specs.declared.thought.Thought.{Thought}
 
 -- the tuples are those of one decided node at x, closed only where nothing below costs less than c
@@ -22,21 +22,30 @@ pub record Decides (I : Problem) (c : ℤ) (x : Placement) (tuples : List (List 
 abbrev pub IsOn : Placement → Thought → Type 0
 IsOn x t = (I : Problem) × IsThought I x t
 
--- the tuples are those of one decided node at x, as before, and of a permutation of cost c
-pub record DecidesBeside (I : Problem) (c : ℤ) (p : List ℕ) (x : Placement) (tuples : List (List FieldValue)) : Type 0 where
+-- what a thought makes of its node where the best permutation costs c: its duals close it where its value is at least that, and
+-- else it is split on the thought's facility, with all children open
+abbrev pub IsDecisionOf : ThoughtValue → ℤ → SearchTree → Type 0
+IsDecisionOf t c decided =
+    ((c ≤ℤ t.value) × (decided ≡ closed_node t.u t.v))
+    ⊎ ((t.value <ℤ c) × (f : ℕ) × (t.branch ≡ Some f) × (decided ≡ split_open t.node f))
+
+-- the tuples are those of what the thought makes of its node
+pub record DecidesBy (I : Problem) (c : ℤ) (t : ThoughtValue) (tuples : List (List FieldValue)) : Type 0 where
+  pub decides : Decides I c t.node tuples
+  pub by : IsDecisionOf t c decides.decided
+
+-- the tuples are those of what the thought makes of its node, and of a permutation of cost c
+pub record DecidesBeside (I : Problem) (c : ℤ) (p : List ℕ) (t : ThoughtValue) (tuples : List (List FieldValue)) : Type 0 where
   pub rest : List (List FieldValue)
-  pub decides : Decides I c x rest
+  pub decides : DecidesBy I c t rest
   pub with_best : SameItems tuples (best_tuple c p ∷ rest)
 
 -- of a candidate and the best permutation that was taken, the one that stands then: the candidate only where it costs less
 abbrev pub IsBetterOf : Best → Best → Best → Type 0
 IsBetterOf candidate old new = ((candidate.cost <ℤ old.cost) × (new ≡ candidate)) ⊎ ((old.cost ≤ℤ candidate.cost) × (new ≡ old))
 
-abbrev pub candidate_of : Thought → Best
-candidate_of t = record { cost = t.cost; permutation = t.candidate }
-
--- the tuples are those of a decided node at x and of the one that stands
-pub record DecidesBetter (I : Problem) (candidate old : Best) (x : Placement) (tuples : List (List FieldValue)) : Type 0 where
+-- the tuples are those of what the thought makes of its node, and of the one that stands
+pub record DecidesBetter (I : Problem) (t : ThoughtValue) (old : Best) (tuples : List (List FieldValue)) : Type 0 where
   pub new : Best
-  pub better : IsBetterOf candidate old new
-  pub decides : DecidesBeside I new.cost new.permutation x tuples
+  pub better : IsBetterOf t.candidate old new
+  pub decides : DecidesBeside I new.cost new.permutation t tuples

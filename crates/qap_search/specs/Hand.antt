@@ -1,21 +1,13 @@
 -- What callers know of a worker of the search: where it stands in its turn, what it thought on last, and what it counted.
 use Rattle.std.specs.Prelude.{ℕ, Bool, true, false, ℤ, int_lt, Option, Some, None}
 use Rattle.qap_cost.specs.Instance.{Problem}
-use Rattle.qap_cost.specs.Placement.{Placement}
-use Rattle.qap_search.specs.Decision.{candidate_of}
-use Rattle.qap_search.specs.Replacement.{Best}
+use Rattle.qap_search.specs.Thought.{ThoughtValue, thought_on}
 use Rattle.qap_search.specs.declared.gate.Kind.{Kind}
 use Rattle.qap_search.specs.declared.gate.Kind.TheVariants as kinds
 use Rattle.qap_search.specs.declared.stage.LastThought.{LastThought}
 use Rattle.qap_search.specs.declared.stage.Stage.{Stage}
 use Rattle.qap_search.specs.declared.stage.Stage.TheVariants.{Idle, Begun, Taken, Considered, Ready, GivingUp}
 use Rattle.qap_search.specs.declared.stage.Tally.{Tally}
-
--- a node that was thought on: the bound on what its completions cost, and one of them with its cost
-pub record ThoughtValue : Type 0 where
-  pub node : Placement
-  pub value : ℤ
-  pub candidate : Best
 
 -- best is the cost of the best permutation that the worker knows of
 pub record HandValue : Type 0 where
@@ -28,7 +20,7 @@ pub record HandValue : Type 0 where
   pub refused : ℕ
 
 abbrev pub thought_of : LastThought → ThoughtValue
-thought_of l = record { node = l.node; value = l.thought.value; candidate = candidate_of l.thought }
+thought_of l = thought_on l.node l.thought
 
 abbrev pub last_of : Option LastThought → Option ThoughtValue
 last_of None = None

@@ -12,7 +12,7 @@ use Rattle.space_txn.specs.Content.{content_of}
 use Rattle.qap_search.specs.CutTree.{IsCutTree}
 use Rattle.qap_search.specs.declared.report.Report.{Report}
 use Rattle.qap_search.specs.declared.report.Ended.TheVariants.{Done}
-use Rattle.qap_search.specs.declared.schedule.Run.{Run}
+use Rattle.qap_search.specs.declared.run.Run.{Run}
 use Rattle.qap_search.specs.declared.schedule.Step.{Step}
 use Rattle.qap_search.specs.declared.schedule.Step.TheVariants as steps
 

@@ -9,6 +9,7 @@ pub mod Considering
 pub mod CutTree
 pub mod Decided
 pub mod Decision
+pub mod Ending
 pub mod Finished
 pub mod Found
 pub mod Hand

@@ -8,11 +8,11 @@ use Rattle.space_txn.specs.Txn.{TxnValue}
 use Rattle.space_txn.specs.declared.mark.Mark.{Mark}
 use Rattle.space_txn.specs.declared.txn.Found.TheVariants.{Entry as Stored, Own}
 use Rattle.qap_search.specs.Found.{IsOpenNode, best_template}
-use Rattle.qap_search.specs.Hand.{ThoughtValue, last_of}
+use Rattle.qap_search.specs.Hand.{last_of}
 use Rattle.qap_search.specs.Piece.{node_template, node_tuple}
 use Rattle.qap_search.specs.Replacement.{MayReplace}
 use Rattle.qap_search.specs.SearchLaw.{IsSearchLaw}
-use Rattle.qap_search.specs.Thought.{IsThought}
+use Rattle.qap_search.specs.Thought.{IsThought, ThoughtValue}
 use Rattle.qap_search.specs.declared.stage.LastThought.{LastThought}
 use Rattle.qap_search.specs.declared.stage.Stage.{Stage}
 use Rattle.qap_search.specs.declared.stage.Tools.{Tools}

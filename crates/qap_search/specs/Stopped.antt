@@ -8,6 +8,7 @@ use Rattle.qap_cost.specs.Range.{IsLimited}
 use Rattle.qap_cert.specs.Certificate.{Claim, Certifies, IsCertificate}
 use Rattle.qap_cert.specs.Shape.{AreDuals}
 use Rattle.qap_cert.specs.Tree.{Node, split, bound, Nodes, node, node_count}
+use Rattle.qap_cert.specs.Valid.{Closes}
 use Rattle.space_txn.specs.Content.{SameItems}
 use Rattle.tuple_match.specs.FieldValue.{FieldValue}
 use Rattle.qap_search.specs.Closing.{ClosedTo, undecided_count}
@@ -79,11 +80,13 @@ IsStoppedFault I tuples (Unfinished count) = ⊥
 IsStoppedFault I tuples NotATree = IsNotStopped I tuples
 IsStoppedFault I tuples OutOfMemory = Unit {0}
 
--- the certificate is that of a search that was stopped when it had decided so many nodes, and had others open
+-- the certificate is that of a search that was stopped when it had decided so many nodes, and had others open; the leaves that
+-- were closed before show its cost at least, so that only the open ones may show less
 pub record CertifiesStopped (I : Problem) (nodes : ℕ) (C : Claim) : Type 0 where
   pub certified : Certifies I C
   pub tree : SearchTree
   pub closes : IsClosedTo I tree C
+  pub closed_before : IsTreeAt (Closes I C.cost) (root_of I.size) tree
   pub decided : decided_count tree ≡ nodes
   pub left : 0 < undecided_count tree
   pub counted : node_count C.tree ≡ nodes + undecided_count tree

@@ -3,10 +3,9 @@ use Rattle.std.specs.Prelude.{◌≡◌, ◌⊎◌, ◌==◌, ℕ, true, false, 
 use Rattle.qap_cost.specs.Instance.{Problem}
 use Rattle.space_txn.specs.Txn.{TxnValue}
 use Rattle.space_txn.specs.declared.mark.Mark.{Mark}
-use Rattle.qap_search.specs.Decision.{candidate_of}
-use Rattle.qap_search.specs.Hand.{HandValue, ThoughtValue}
+use Rattle.qap_search.specs.Hand.{HandValue}
 use Rattle.qap_search.specs.Piece.{node_tuple}
-use Rattle.qap_search.specs.Thought.{IsThought}
+use Rattle.qap_search.specs.Thought.{IsThought, ThoughtValue, thought_on}
 use Rattle.qap_search.specs.declared.stage.Stage.TheVariants.{Taken, Considered, GivingUp}
 use Rattle.qap_search.specs.declared.thought.Thought.{Thought}
 
@@ -14,8 +13,7 @@ use Rattle.qap_search.specs.declared.thought.Thought.{Thought}
 pub record IsWorkedOut (I : Problem) (v : ThoughtValue) : Type 0 where
   pub thought : Thought
   pub right : IsThought I v.node thought
-  pub value : thought.value ≡ v.value
-  pub candidate : candidate_of thought ≡ v.candidate
+  pub told : v ≡ thought_on v.node thought
 
 -- the node of the entry that was taken, which is there to stay, has been thought on; what was thought on it last is kept
 pub record IsConsidered (old new : HandValue) (t : TxnValue) (mark : Mark) : Type 0 where

@@ -12,13 +12,13 @@ use Rattle.shared_space.specs.Event.{Event, Reply, begin, begun, call, answered,
 use Rattle.shared_space.specs.declared.error.CommitError.{CommitError}
 use Rattle.shared_space.specs.declared.error.CommitError.TheVariants.{Limit, Txn}
 use Rattle.qap_cost.specs.Instance.{Problem}
-use Rattle.qap_cost.specs.Placement.{Placement}
 use Rattle.tuple_match.specs.FieldValue.{FieldValue}
-use Rattle.qap_search.specs.Decision.{Decides, DecidesBeside, IsBetterOf}
+use Rattle.qap_search.specs.Decision.{DecidesBeside, DecidesBy, IsBetterOf}
 use Rattle.qap_search.specs.Found.{best_template}
-use Rattle.qap_search.specs.Hand.{HandValue, ThoughtValue, is_hopeful}
+use Rattle.qap_search.specs.Hand.{HandValue, is_hopeful}
 use Rattle.qap_search.specs.Piece.{node_template}
 use Rattle.qap_search.specs.Replacement.{Best, tuple_of}
+use Rattle.qap_search.specs.Thought.{ThoughtValue}
 use Rattle.qap_search.specs.declared.stage.Stage.{Stage}
 use Rattle.qap_search.specs.declared.stage.Stage.TheVariants.{Idle, Begun, Taken, Considered, Ready, GivingUp}
 
@@ -60,10 +60,10 @@ abbrev pub IsStanding : Bool → Best → Best → Best → Type 0
 IsStanding true candidate best standing = IsBetterOf candidate best standing
 IsStanding false candidate best standing = standing ≡ best
 
--- what is written: a decided node, and where the best was taken the one that stands then
-abbrev pub IsWritten : Bool → Problem → Best → Placement → List (List FieldValue) → Type 0
-IsWritten true I standing x tuples = DecidesBeside I standing.cost standing.permutation x tuples
-IsWritten false I standing x tuples = Decides I standing.cost x tuples
+-- what is written: what the thought makes of its node, and where the best was taken the one that stands then
+abbrev pub IsWritten : Bool → Problem → Best → ThoughtValue → List (List FieldValue) → Type 0
+IsWritten true I standing last tuples = DecidesBeside I standing.cost standing.permutation last tuples
+IsWritten false I standing last tuples = DecidesBy I standing.cost last tuples
 
 -- the transaction t with other writes
 pub record HasMarksOf (t t' : TxnValue) : Type 0 where
@@ -75,7 +75,7 @@ pub record IsReady (taking : Bool) (I : Problem) (last : ThoughtValue) (best : B
   pub standing : Best
   pub stands : IsStanding taking last.candidate best standing
   pub tuples : List (List FieldValue)
-  pub written : IsWritten taking I standing last.node tuples
+  pub written : IsWritten taking I standing last tuples
   pub with_writes : TxnValue
   pub same : HasMarksOf t with_writes
   pub added : SameItems (added_of with_writes.writes) tuples

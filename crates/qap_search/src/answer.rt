@@ -2,6 +2,7 @@
 
 use crate::report::Report;
 use qap_cert::Certificate;
+use qap_cost::Perm;
 use std::alloc::AllocError;
 use std::fmt;
 use thiserror::Error;
@@ -44,4 +45,13 @@ impl fmt::Debug for Answer {
     fn fmt<W: fmt::Write>(&self, f: &mut fmt::Formatter<W>) -> fmt::Result {
         f.write_str("Answer")
     }
+}
+
+/// A permutation of an instance's least cost, and what each worker tells of the search.
+#[derive(Drop)]
+pub struct Least {
+    pub permutation: Perm,
+    pub cost: i128,
+    /// One for each worker, in their order.
+    pub reports: Vec<Report>,
 }

@@ -37,6 +37,21 @@ pub fn assemble(alloc: Global, n: usize, tuples: Vec<Tuple>) -> Result<Certifica
     if open > 0 {
         return Err(AssembleError::Unfinished(open));
     }
+    assemble_finished(alloc, n, tuples)
+}
+
+/// The same, where no node is open.
+pub(crate) fn assemble_finished(
+    alloc: Global,
+    n: usize,
+    tuples: Vec<Tuple>,
+) -> Result<Certificate, AssembleError>
+    requires positive { 0 < n }
+    requires small { n ≤ 256 }
+    ensures { MatchResult result
+        (λ c. IsAssembled n tuples.items c)
+        (λ e. IsTreeFault n tuples.items e) }
+{
     let pieces = tell_apart(alloc, tuples)?;
     certificate_of(alloc, n, pieces)
 }

@@ -267,7 +267,7 @@ fn perm_at(alloc: Global, txn: &Txn, id: EntryId) -> Result<Option<Perm>, AllocE
 }
 
 /// The cost and the locations of a tuple of a best permutation.
-fn best_fields(tuple: &Tuple) -> Option<(i128, &[i128])>
+pub(crate) fn best_fields(tuple: &Tuple) -> Option<(i128, &[i128])>
     ensures { MatchOption result
         ((c : ℤ) (ps : List ℤ) → tuple.now ≢ best_of c ps)
         (λ told. tuple.now ≡ best_of told.0 told.1.now) }

@@ -1,10 +1,11 @@
 //! Tuples of decided nodes and of the best permutation found, taken apart.
 
-ghost use Rattle.std.specs.Prelude.{◌≡◌, ◌≢◌, ◌↔◌, ◌++◌, ◌∷◌, [], List, ℤ, IsTrue, MatchOption, string_bytes};
+ghost use Rattle.std.specs.Prelude.{◌≡◌, ◌≢◌, ◌↔◌, ◌++◌, ◌∷◌, [], List, ℤ, IfOk, IsTrue, MatchOption, string_bytes};
 ghost use Rattle.tuple_match.specs.Field.{field_value, fields_value};
 ghost use Rattle.tuple_match.specs.FieldValue.{number, numbers, word};
 ghost use Rattle.qap_search.specs.Decided.{IsNoPiece, best_of, closed_of, piece_tuple};
 
+use std::alloc::AllocError;
 use tuple_match::{Field, Tuple};
 
 /// What was decided at a node.
@@ -37,11 +38,19 @@ pub(crate) enum Piece {
     Decided(DecidedNode),
 }
 
-/// What the tuple says; `None` where it is no tuple of a best permutation or a decided node. No number is copied.
-pub(crate) fn piece_of(tuple: Tuple) -> Option<Piece>
-    ensures { MatchOption result (IsNoPiece tuple) (λ piece. piece_tuple piece ≡ tuple) }
+/// What the tuple says; `None` where it is no tuple of a best permutation or a decided node. No number is copied unless another
+/// tuple shares it.
+pub(crate) fn piece_of(tuple: Tuple) -> Result<Option<Piece>, AllocError>
+    ensures { IfOk result (λ told. MatchOption told (IsNoPiece tuple) (λ piece. piece_tuple piece ≡ tuple)) }
 {
-    let mut fields = tuple.into_fields();
+    let fields = tuple.into_fields()?;
+    Ok(piece_in(fields))
+}
+
+/// The same of a tuple of these fields.
+fn piece_in(mut fields: Vec<Field>) -> Option<Piece>
+    ensures { MatchOption result (IsNoPiece (fields_value fields.items)) (λ piece. piece_tuple piece ≡ fields_value fields.items) }
+{
     match fields.pop() {
         Some(Field::Int(facility)) => match node_behind("split", fields) {
             Some(node) => Some(Piece::Decided(DecidedNode {

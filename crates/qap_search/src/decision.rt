@@ -2,9 +2,9 @@
 
 ghost use Rattle.std.specs.Prelude.{◌≡◌, ◌<ℤ◌, IfOk, MatchOption, length};
 ghost use Rattle.qap_cost.specs.Instance.{Problem};
-ghost use Rattle.qap_search.specs.Decision.{Decides, DecidesBeside, DecidesBetter, IsBetterOf, IsOn, candidate_of};
+ghost use Rattle.qap_search.specs.Decision.{DecidesBeside, DecidesBetter, DecidesBy, IsBetterOf, IsOn};
 ghost use Rattle.qap_search.specs.Replacement.{Best};
-ghost use Rattle.qap_search.specs.Thought.{IsThought};
+ghost use Rattle.qap_search.specs.Thought.{IsThought, candidate_of, thought_on};
 
 use crate::thought::Thought;
 use crate::writing::{split_tuples, tuple_of_best, tuple_of_closed};
@@ -23,7 +23,7 @@ pub fn decide(
     requires { IsOn node.now thought.now }
     ensures { IfOk result (λ written. MatchOption written
         ((length node.now.facilities ≡ node.now.size) × (thought.now.value <ℤ best))
-        (λ tuples. (I : Problem) → IsThought I node.now thought.now → Decides I best node.now tuples.items)) }
+        (λ tuples. (I : Problem) → IsThought I node.now thought.now → DecidesBy I best (thought_on node.now thought.now) tuples.items)) }
 {
     if thought.value >= best {
         let u = Vec::from_slice(alloc, &thought.u)?;
@@ -48,7 +48,7 @@ pub fn decide_beside(
     requires { IsOn node.now thought.now }
     ensures { IfOk result (λ written. MatchOption written
         ((length node.now.facilities ≡ node.now.size) × (thought.now.value <ℤ cost))
-        (λ tuples. (I : Problem) → IsThought I node.now thought.now → DecidesBeside I cost perm.now node.now tuples.items)) }
+        (λ tuples. (I : Problem) → IsThought I node.now thought.now → DecidesBeside I cost perm.now (thought_on node.now thought.now) tuples.items)) }
 {
     let Some(mut tuples) = decide(alloc, node, thought, cost)? else {
         return Ok(None);
@@ -71,7 +71,7 @@ pub fn decide_anew(
         ((new : Best) × IsBetterOf (candidate_of thought.now) (record { cost = cost; permutation = perm.now }) new
         × (length node.now.facilities ≡ node.now.size) × (thought.now.value <ℤ new.cost))
         (λ tuples. (I : Problem) → IsThought I node.now thought.now →
-        DecidesBetter I (candidate_of thought.now) (record { cost = cost; permutation = perm.now }) node.now tuples.items)) }
+        DecidesBetter I (thought_on node.now thought.now) (record { cost = cost; permutation = perm.now }) tuples.items)) }
 {
     if thought.cost < cost {
         decide_beside(alloc, node, thought, thought.cost, &thought.candidate)

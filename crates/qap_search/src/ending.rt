@@ -1,50 +1,43 @@
-//! What a search comes to, by the tuples that it leaves.
+//! What a search comes to, by the space and the reports that it leaves.
 
-ghost use Rattle.std.specs.Prelude.{◌≡◌, ◌<◌, ℕ, MatchResult, Option, length};
-ghost use Rattle.shared_space.specs.Limit.{IsWithin};
-ghost use Rattle.space_txn.specs.Content.{content_of};
-ghost use Rattle.qap_search.specs.Answer.{CertifiesLeast, IsAnswer, IsSolveFault, accepted_of};
+ghost use Rattle.std.specs.Prelude.{◌≡◌, ◌<◌, ℕ, IfOk, MatchResult, length};
+ghost use Rattle.qap_search.specs.Answer.{CertifiesLeast, IsAnswer, IsLeastAnswer};
 ghost use Rattle.qap_search.specs.CutTree.{IsCutTree};
+ghost use Rattle.qap_search.specs.Ending.{IsEndFault, IsEnded, IsFinished};
 ghost use Rattle.qap_search.specs.Piece.{open_count};
 ghost use Rattle.qap_search.specs.Stopped.{CertifiesStopped};
 
-use crate::answer::{Answer, SolveError};
-use crate::assembling::{assemble, open_nodes};
+use crate::answer::{Answer, Least, SolveError};
+use crate::assembling::{assemble_finished, open_nodes};
 use crate::error::AssembleError;
 use crate::law::{certificate_law, stopped_law};
+use crate::least::best_of;
 use crate::report::Report;
+use crate::run::Run;
 use crate::stopping::assemble_stopped;
-use qap_cert::Certificate;
+use qap_cert::{Certificate, certified_law};
 use qap_cost::Instance;
-use space_txn::TxnSpace;
-use std::alloc::Global;
+use std::alloc::{AllocError, Global};
 use tuple_match::Tuple;
 
-/// What a search comes to that leaves this space and these reports: where its limit of commits is reached and nodes are open, it
-/// was stopped.
+/// What a search leaves that has gone on until no node was open.
+#[derive(Drop)]
+pub(crate) struct Finished {
+    pub(crate) tuples: Vec<Tuple>,
+    pub(crate) reports: Vec<Report>,
+}
+
+/// The certificate that a search comes to.
 pub(crate) fn answer_of(
     alloc: Global,
     instance: &Instance,
     limit: Option<u64>,
-    space: TxnSpace,
-    reports: Vec<Report>,
+    run: Run,
 ) -> Result<Answer, SolveError>
-    requires tree { IsCutTree instance.now (content_of space) space.commits }
-    requires within { IsWithin limit space.commits }
-    requires counted { accepted_of reports.items ≡ space.commits }
-    ensures { MatchResult result (IsAnswer instance.now (length reports.items) limit) (IsSolveFault instance.now (length reports.items) limit) }
+    requires { IsEnded instance.now limit run }
+    ensures { MatchResult result (IsAnswer instance.now (length run.reports.items) limit) (IsEndFault instance.now limit run) }
 {
-    let reached = limit == Some(space.commits());
-    let Ok(tuples) = space.into_tuples() else {
-        return Err(SolveError::OutOfMemory);
-    };
-    if reached && open_nodes(&tuples) > 0 {
-        let certificate = closed(alloc, instance, tuples)?;
-        return Err(SolveError::Stopped(Answer {
-            certificate,
-            reports,
-        }));
-    }
+    let Finished { tuples, reports } = finished_run(alloc, instance, limit, run)?;
     let certificate = assembled(alloc, instance, tuples)?;
     Ok(Answer {
         certificate,
@@ -52,41 +45,90 @@ pub(crate) fn answer_of(
     })
 }
 
-/// The certificate of tuples that are a cut tree, where no node is open.
-pub(crate) fn assembled(
+/// The permutation of least cost that a search comes to.
+pub(crate) fn least_of(
+    alloc: Global,
+    instance: &Instance,
+    limit: Option<u64>,
+    run: Run,
+) -> Result<Least, SolveError>
+    requires { IsEnded instance.now limit run }
+    ensures { MatchResult result (IsLeastAnswer instance.now (length run.reports.items) limit) (IsEndFault instance.now limit run) }
+{
+    certified_law();
+    // Its clause says that this is an instance.
+    let _size = instance.size();
+    let Finished { tuples, reports } = finished_run(alloc, instance, limit, run)?;
+    let (permutation, cost) = best_of(alloc, instance, &tuples)?;
+    Ok(Least {
+        permutation,
+        cost,
+        reports,
+    })
+}
+
+/// The tuples and the reports of a run that has gone on until no node was open. All runs end here: one that has reached its limit
+/// of commits while nodes were open was stopped, and any other with open nodes is unfinished.
+fn finished_run(
+    alloc: Global,
+    instance: &Instance,
+    limit: Option<u64>,
+    run: Run,
+) -> Result<Finished, SolveError>
+    requires { IsEnded instance.now limit run }
+    ensures { MatchResult result (IsFinished run) (IsEndFault instance.now limit run) }
+{
+    let Run { space, reports } = run;
+    let reached = limit == Some(space.commits());
+    let Ok(tuples) = space.into_tuples() else {
+        return Err(SolveError::OutOfMemory);
+    };
+    let open = open_nodes(&tuples);
+    if open == 0 {
+        return Ok(Finished { tuples, reports });
+    }
+    if !reached {
+        return Err(SolveError::Unfinished(open));
+    }
+    let certificate = closed(alloc, instance, tuples)?;
+    Err(SolveError::Stopped(Answer {
+        certificate,
+        reports,
+    }))
+}
+
+/// The certificate of tuples that are a cut tree without open nodes.
+fn assembled(
     alloc: Global,
     instance: &Instance,
     tuples: Vec<Tuple>,
-) -> Result<Certificate, SolveError>
-    requires { (commits : ℕ) × IsCutTree instance.now tuples.items commits }
-    ensures { MatchResult result
-        (λ c. (commits : ℕ) → IsCutTree instance.now tuples.items commits → CertifiesLeast instance.now commits c)
-        (λ e. (workers : ℕ) (limit : Option ℕ) → IsSolveFault instance.now workers limit e) }
+) -> Result<Certificate, AllocError>
+    requires tree { (commits : ℕ) × IsCutTree instance.now tuples.items commits }
+    requires none_open { open_count tuples.items ≡ 0 }
+    ensures { IfOk result (λ c. (commits : ℕ) → IsCutTree instance.now tuples.items commits → CertifiesLeast instance.now commits c) }
 {
     certificate_law();
     let size = instance.size();
-    match assemble(alloc, size, tuples) {
+    match assemble_finished(alloc, size, tuples) {
         Ok(certificate) => Ok(certificate),
-        Err(AssembleError::Unfinished(open)) => Err(SolveError::Unfinished(open)),
+        Err(AssembleError::OutOfMemory) => Err(AllocError),
+        Err(AssembleError::Unfinished(_)) => unreachable!(),
         Err(AssembleError::NotATree) => unreachable!(),
-        Err(AssembleError::OutOfMemory) => Err(SolveError::OutOfMemory),
     }
 }
 
 /// The certificate of tuples that are a cut tree, with each open node closed.
-fn closed(alloc: Global, instance: &Instance, tuples: Vec<Tuple>) -> Result<Certificate, SolveError>
+fn closed(alloc: Global, instance: &Instance, tuples: Vec<Tuple>) -> Result<Certificate, AllocError>
     requires tree { (commits : ℕ) × IsCutTree instance.now tuples.items commits }
     requires open { 0 < open_count tuples.items }
-    ensures { MatchResult result
-        (λ c. (commits : ℕ) → IsCutTree instance.now tuples.items commits → CertifiesStopped instance.now commits c)
-        (λ e. e ≡ SolveError.OutOfMemory) }
+    ensures { IfOk result (λ c. (commits : ℕ) → IsCutTree instance.now tuples.items commits → CertifiesStopped instance.now commits c) }
 {
     stopped_law();
     // Its clause says that this is an instance.
     let _size = instance.size();
     match assemble_stopped(alloc, instance, tuples) {
         Ok(certificate) => Ok(certificate),
-        Err(AssembleError::OutOfMemory) => Err(SolveError::OutOfMemory),
+        Err(AssembleError::OutOfMemory) => Err(AllocError),
         Err(AssembleError::Unfinished(_)) => unreachable!(),
         Err(AssembleError::NotATree) => unreachable!(),
     }

@@ -29,6 +29,12 @@ pub trait Gate {
 
     /// The worker has a node's reduced matrix and works out its duals.
     fn thinking(&self, worker: u16);
+
+    /// Whether it lets every step pass and has nothing to be told. A worker then makes those of its steps that follow one another
+    /// under one taking of the space's lock, and neither asks nor tells it.
+    fn is_silent(&self) -> bool {
+        false
+    }
 }
 
 /// Lets each worker pass, and does nothing.
@@ -45,4 +51,8 @@ impl Gate for Always {
     fn after(&self, _worker: u16, _kind: Kind, _accepted: bool) {}
 
     fn thinking(&self, _worker: u16) {}
+
+    fn is_silent(&self) -> bool {
+        true
+    }
 }

@@ -6,6 +6,7 @@ ghost use Rattle.qap_cost.specs.Objective.{Permutes, cost_of};
 ghost use Rattle.qap_cost.specs.Placement.{IsPlacement, Placement, root_of};
 ghost use Rattle.qap_cert.specs.Certificate.{Claim, Certifies};
 ghost use Rattle.qap_cert.specs.Tree.{node_count};
+ghost use Rattle.qap_cert.specs.Valid.{Closes};
 ghost use Rattle.space_txn.specs.Content.{SameItems};
 ghost use Rattle.tuple_match.specs.FieldValue.{FieldValue};
 ghost use Rattle.qap_search.specs.Closing.{undecided_count};
@@ -15,7 +16,7 @@ ghost use Rattle.qap_search.specs.Finished.{IsAssembled};
 ghost use Rattle.qap_search.specs.Found.{IsBestFound, IsOpenNode, is_best};
 ghost use Rattle.qap_search.specs.Piece.{node_tuple, best_tuple, is_open, open_count};
 ghost use Rattle.qap_search.specs.Replacement.{Best, IsAsGood, MayReplace, tuple_of};
-ghost use Rattle.qap_search.specs.SearchTree.{decided_count};
+ghost use Rattle.qap_search.specs.SearchTree.{IsTreeAt, decided_count};
 ghost use Rattle.qap_search.specs.Stopped.{IsNotStopped, IsStopped};
 
 /// The open root and any permutation with its cost are a cut tree, before any commit.
@@ -71,10 +72,13 @@ pub fn certificate_law()
 {}
 
 /// A certificate that a cut tree gives where its open nodes are closed certifies its bound; the cut tree has a decided node for
-/// each commit, and the certificate's tree one for each of these and for each open node. No cut tree is refused.
+/// each commit, and the certificate's tree one for each of these and for each open node. The leaves that were closed before close
+/// their parts for the certificate's cost. No cut tree is refused.
 pub fn stopped_law()
     ensures certifies { (I : Problem) (content : List (List FieldValue)) (commits : ℕ) (C : Claim) →
         IsCutTree I content commits → IsStopped I content C → Certifies I C }
+    ensures closed_before { (I : Problem) (content : List (List FieldValue)) (commits : ℕ) (C : Claim) →
+        IsCutTree I content commits → (s : IsStopped I content C) → IsTreeAt (Closes I C.cost) (root_of I.size) s.tree }
     ensures counted { (I : Problem) (content : List (List FieldValue)) (commits : ℕ) (C : Claim) →
         IsCutTree I content commits → (s : IsStopped I content C) →
         (decided_count s.tree ≡ commits) × (undecided_count s.tree ≡ open_count content)

@@ -11,6 +11,7 @@ ghost use Rattle.qap_search.specs.SearchLaw.{IsSearchLaw};
 use crate::opening::opening_space;
 use crate::post::Post;
 use crate::report::Report;
+use crate::run::Run;
 use crate::solving::shared_rows;
 use gilmore_lawler::RankedInstance;
 use qap_cost::Instance;
@@ -33,15 +34,6 @@ pub enum Step {
     Advance(u64),
     /// The worker is lost with its transaction, which isn't ended, and a fresh one stands in its place.
     Lose(u16),
-}
-
-/// What the run of a schedule came to.
-#[derive(Drop)]
-pub struct Run {
-    /// The space at its end.
-    pub space: TxnSpace,
-    /// What is told of each worker, those who were lost at its place included.
-    pub reports: Vec<Report>,
 }
 
 /// Runs a search by a schedule: so many workers, whose transactions may take 1000 ms, make their turns in the order that it gives,

@@ -6,7 +6,8 @@ ghost use Rattle.qap_search.specs.SearchLaw.{IsSearchLaw};
 use crate::gate::{Gate, Kind};
 use crate::hand::Hand;
 use crate::report::{Ended, Report};
-use shared_space::{Law, Share, Shared, SharedError, Via};
+use shared_space::{Law, Room, Share, Shared, SharedError, Steps, Via};
+use std::alloc::AllocError;
 use std::marker::Model;
 use std::sync::Wait;
 use tuple_match::Template;
@@ -17,6 +18,7 @@ pub(crate) struct Workplace<'a, R: Wait, L: Law, G: Gate> {
     pub(crate) rt: &'a R,
     pub(crate) shared: &'a Shared<L>,
     pub(crate) nodes: &'a Template,
+    pub(crate) best: &'a Template,
     pub(crate) gate: &'a G,
 }
 
@@ -26,7 +28,8 @@ pub(crate) struct Seat<L: Law> {
     worker: u16,
     hand: Hand,
     share: Share<L>,
-    ended: Ended,
+    /// How it ended, where it has.
+    ended: Option<Ended>,
 }
 
 impl<L: Law> Model for Seat<L> {
@@ -41,7 +44,7 @@ impl<L: Law> Model for Seat<L> {
 }
 
 impl<L: Law> Seat<L> {
-    /// A worker that hasn't begun, with its share; until it has run it counts as one that found no memory.
+    /// A worker that hasn't begun, with its share.
     pub(crate) fn new(worker: u16, hand: Hand, share: Share<L>) -> Seat<L>
         requires law { IsSearchLaw hand.instance L.lawful L.allowed }
         requires counted { hand.accepted ≡ share }
@@ -51,16 +54,25 @@ impl<L: Law> Seat<L> {
             worker,
             hand,
             share,
-            ended: Ended::Memory,
+            ended: None,
         }
     }
 
     /// Works until the space is closed, the gate ends the worker or there is no memory.
     pub(crate) fn work<R: Wait, G: Gate>(&mut self, place: &Workplace<'_, R, L, G>) {
-        self.ended = run(place, self.worker, &mut self.hand, &mut self.share);
+        for _ in place.rt.forever() {
+            if self.ended.is_some() {
+                return;
+            }
+            if place.gate.is_silent() && is_between(&self.hand) {
+                place.shared.together(place.rt, self);
+            } else {
+                self.ended = turn(place, self.worker, &mut self.hand, &mut self.share).err();
+            }
+        }
     }
 
-    /// The share, and what the worker tells.
+    /// The share, and what the worker tells; one that has never run counts as one that found no memory.
     pub(crate) fn left(self) -> (Share<L>, Report)
         ensures share { result.0 ≡ self }
         ensures counted { result.1.accepted ≡ self }
@@ -72,35 +84,77 @@ impl<L: Law> Seat<L> {
             ended,
         } = self;
         let report = Report {
-            ended,
+            ended: ended.unwrap_or(Ended::Memory),
             ..hand.report()
         };
         (share, report)
     }
 }
 
-/// Makes turn after turn, and tells how the worker ended.
-fn run<R: Wait, L: Law, G: Gate>(
-    place: &Workplace<'_, R, L, G>,
-    worker: u16,
+impl<L: Law> Steps<L> for Seat<L> {
+    fn make<M: Room<L>>(&mut self, room: &mut M) {
+        self.ended = go_on(room, &mut self.hand, &mut self.share).err();
+    }
+}
+
+/// The worker's next step, where no thought is due.
+fn next_of(hand: &Hand) -> Option<Kind> {
+    if hand.thinks() {
+        None
+    } else {
+        Some(hand.next())
+    }
+}
+
+/// Whether the worker is between two nodes: what it decided of one is ready, or it has none.
+fn is_between(hand: &Hand) -> bool {
+    matches!(next_of(hand), Some(Kind::Begin | Kind::Commit))
+}
+
+/// Goes on from one node to the next: commits what is ready, begins anew, unless the space is closed, and takes a node. The error
+/// tells how the worker ends.
+fn go_on<L: Law, M: Room<L>>(
+    room: &mut M,
     hand: &mut Hand,
     share: &mut Share<L>,
-) -> Ended
+) -> Result<(), Ended>
     requires law { IsSearchLaw hand.old.instance L.lawful L.allowed }
     requires before { hand.old.accepted ≡ share.old }
     ensures counted { hand.new.accepted ≡ share.new }
     ensures instance { hand.new.instance ≡ hand.old.instance }
 {
-    for _ in place.rt.forever() {
-        if let Err(ended) = turn(place, worker, hand, share) {
-            return ended;
-        }
+    step_if(room, hand, share, Kind::Commit)?;
+    if next_of(hand) == Some(Kind::Begin) && room.closed() {
+        return Err(Ended::Done);
     }
-    unreachable!()
+    step_if(room, hand, share, Kind::Begin)?;
+    step_if(room, hand, share, Kind::TakeNode)
 }
 
-/// One turn: a thought where one is due, else a step that the gate lets pass. No transaction begins on a closed space, and a worker
-/// that gave its transaction up waits for a node. The error tells how the worker ends.
+/// Makes the next step where it is of this kind.
+fn step_if<L: Law, M: Room<L>>(
+    room: &mut M,
+    hand: &mut Hand,
+    share: &mut Share<L>,
+    kind: Kind,
+) -> Result<(), Ended>
+    requires law { IsSearchLaw hand.old.instance L.lawful L.allowed }
+    requires before { hand.old.accepted ≡ share.old }
+    ensures counted { hand.new.accepted ≡ share.new }
+    ensures instance { hand.new.instance ≡ hand.old.instance }
+{
+    if hand.thinks() || hand.next() != kind {
+        return Ok(());
+    }
+    match hand.step(room, share) {
+        Ok(_) => Ok(()),
+        Err(AllocError) => Err(Ended::Memory),
+    }
+}
+
+/// One turn: a thought where one is due, else a step that the gate lets pass. No transaction begins on a closed space. A worker that
+/// found no best permutation gives its transaction up at once and waits for one, and one that gave up for another reason waits for a
+/// node. The error tells how the worker ends.
 fn turn<R: Wait, L: Law, G: Gate>(
     place: &Workplace<'_, R, L, G>,
     worker: u16,
@@ -119,6 +173,33 @@ fn turn<R: Wait, L: Law, G: Gate>(
     if kind == Kind::Begin && place.shared.closed(place.rt) {
         return Err(Ended::Done);
     }
+    step(place, worker, kind, hand, share)?;
+    match kind {
+        Kind::Abort => wait_for(place, place.nodes),
+        Kind::TakeBest | Kind::ReadBest if next_of(hand) == Some(Kind::Abort) => {
+            step(place, worker, Kind::Abort, hand, share)?;
+            wait_for(place, place.best)
+        }
+        _ => Ok(()),
+    }
+}
+
+/// Makes the next step, which is of this kind, where the gate lets it pass.
+fn step<R: Wait, L: Law, G: Gate>(
+    place: &Workplace<'_, R, L, G>,
+    worker: u16,
+    kind: Kind,
+    hand: &mut Hand,
+    share: &mut Share<L>,
+) -> Result<(), Ended>
+    requires law { IsSearchLaw hand.old.instance L.lawful L.allowed }
+    requires before { hand.old.accepted ≡ share.old }
+    ensures counted { hand.new.accepted ≡ share.new }
+    ensures instance { hand.new.instance ≡ hand.old.instance }
+{
+    if hand.thinks() {
+        return Ok(());
+    }
     if !place.gate.pass(worker, kind) {
         return Err(Ended::ByGate);
     }
@@ -127,15 +208,16 @@ fn turn<R: Wait, L: Law, G: Gate>(
         return Err(Ended::Memory);
     };
     place.gate.after(worker, kind, accepted);
-    if kind == Kind::Abort {
-        wait_for_node(place)?;
-    }
     Ok(())
 }
 
-/// Waits until there is a node to be taken. The error tells how the worker ends: where the space is closed it is done.
-fn wait_for_node<R: Wait, L: Law, G: Gate>(place: &Workplace<'_, R, L, G>) -> Result<(), Ended> {
-    match place.shared.rd(place.rt, place.nodes) {
+/// Waits until there is a tuple that the template asks for. The error tells how the worker ends: where the space is closed it is
+/// done.
+fn wait_for<R: Wait, L: Law, G: Gate>(
+    place: &Workplace<'_, R, L, G>,
+    template: &Template,
+) -> Result<(), Ended> {
+    match place.shared.rd(place.rt, template) {
         Ok(_) => Ok(()),
         Err(SharedError::Closed) => Err(Ended::Done),
         Err(SharedError::OutOfMemory) => Err(Ended::Memory),

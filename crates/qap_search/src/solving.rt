@@ -1,10 +1,12 @@
 //! A search by one worker, on a space of its own.
 
-ghost use Rattle.std.specs.Prelude.{◌≡◌, ◌∷◌, [], IfOk, MatchResult, None};
+ghost use Rattle.std.specs.Prelude.{◌≡◌, ◌∷◌, [], IfOk, MatchResult, None, length};
 ghost use Rattle.std.specs.Arc.{arc_value};
 ghost use Rattle.qap_search.specs.Answer.{IsAnswer, IsSolveFault};
+ghost use Rattle.qap_search.specs.Ending.{IsEnded};
 ghost use Rattle.qap_search.specs.Opening.{IsOpening};
 ghost use Rattle.qap_search.specs.SearchLaw.{IsSearchLaw};
+ghost use Rattle.space_txn.specs.Content.{content_of};
 
 use crate::answer::{Answer, SolveError};
 use crate::ending::answer_of;
@@ -12,6 +14,7 @@ use crate::gate::{Always, Kind};
 use crate::hand::Hand;
 use crate::opening::opening_space;
 use crate::report::{Ended, Report};
+use crate::run::Run;
 use crate::templates::node_template;
 use gilmore_lawler::RankedInstance;
 use qap_cost::Instance;
@@ -36,10 +39,11 @@ pub fn solve_alone<R: Wait>(
     ensures { MatchResult result (IsAnswer instance.now 1 None) (IsSolveFault instance.now 1 None) }
 {
     let space = opening_space(alloc, instance)?;
-    search::<Brand, R>(rt, alloc, instance, space, Blank::new(1), lease_ms)
+    let run = search::<Brand, R>(rt, alloc, instance, space, Blank::new(1), lease_ms)?;
+    answer_of(alloc, instance, None, run)
 }
 
-/// The same, on a space that stands at the opening, under a law that is the search's.
+/// The run on a space that stands at the opening, under a law that is the search's.
 fn search<L: Law, R: Wait>(
     rt: &R,
     alloc: Global,
@@ -47,34 +51,71 @@ fn search<L: Law, R: Wait>(
     space: TxnSpace,
     blank: Blank,
     lease_ms: u64,
-) -> Result<Answer, SolveError>
+) -> Result<Run, AllocError>
     requires name { blank.name ≡ L.name }
     requires parts { blank.parts ≡ L.parts }
     requires one { blank.parts ≡ 1 }
     requires law { IsSearchLaw instance.now L.lawful L.allowed }
     requires opening { IsOpening instance.now space }
-    ensures { MatchResult result (IsAnswer instance.now 1 None) (IsSolveFault instance.now 1 None) }
+    ensures ended { IfOk result (IsEnded instance.now None) }
+    ensures one { IfOk result (λ run. length run.reports.items ≡ 1) }
 {
-    let mut hand = Hand::new(alloc, 0, shared_rows(alloc, instance)?, lease_ms)?;
+    let hand = Hand::new(alloc, 0, shared_rows(alloc, instance)?, lease_ms)?;
     let nodes = node_template(alloc)?;
-    let Ok((mut room, mut shares)) = Alone::<L>::new(alloc, blank, space, 1) else {
-        return Err(SolveError::OutOfMemory);
-    };
-    let ended = work(rt, &mut hand, &mut room, &mut shares[0], &nodes);
+    let (room, shares) = room_alone::<L>(alloc, blank, space)?;
+    worked(rt, alloc, hand, room, shares, &nodes)
+}
+
+/// The space as a room of one worker, with its share.
+fn room_alone<L: Law>(
+    alloc: Global,
+    blank: Blank,
+    space: TxnSpace,
+) -> Result<(Alone<L>, Vec<Share<L>>), AllocError>
+    requires name { blank.name ≡ L.name }
+    requires parts { blank.parts ≡ L.parts }
+    requires one { L.parts ≡ 1 }
+    requires lawful { L.lawful (content_of space) space.commits }
+    requires fresh { space.commits ≡ 0 }
+    ensures { IfOk result (λ made. made.1.items ≡ 0 ∷ []) }
+{
+    match Alone::<L>::new(alloc, blank, space, 1) {
+        Ok(made) => Ok(made),
+        Err(_) => Err(AllocError),
+    }
+}
+
+/// The run of a worker that hasn't begun, in a room of its own.
+fn worked<L: Law, R: Wait>(
+    rt: &R,
+    alloc: Global,
+    mut hand: Hand,
+    mut room: Alone<L>,
+    mut shares: Vec<Share<L>>,
+    nodes: &Template,
+) -> Result<Run, AllocError>
+    requires law { IsSearchLaw hand.instance L.lawful L.allowed }
+    requires fresh { hand.accepted ≡ 0 }
+    requires one { L.parts ≡ 1 }
+    requires share { shares.items ≡ 0 ∷ [] }
+    ensures ended { IfOk result (IsEnded hand.instance None) }
+    ensures one { IfOk result (λ run. length run.reports.items ≡ 1) }
+{
+    let ended = work(rt, &mut hand, &mut room, &mut shares[0], nodes);
     let (space, _) = room.into_inner(shares);
     let report = Report {
         ended,
         ..hand.report()
     };
-    let reports = only_report(alloc, report)?;
-    answer_of(alloc, instance, None, space, reports)
+    only_run(alloc, space, report)
 }
 
-/// The reports of the only worker.
-fn only_report(alloc: Global, report: Report) -> Result<Vec<Report>, AllocError>
-    ensures { IfOk result (λ reports. reports.items ≡ report ∷ []) }
+/// The run of the only worker, by the space and the report that it leaves.
+fn only_run(alloc: Global, space: TxnSpace, report: Report) -> Result<Run, AllocError>
+    ensures { IfOk result (λ run. (run.space ≡ space) × (run.reports.items ≡ report ∷ [])) }
 {
-    Ok(vec![in alloc; report]?)
+    let reports = vec![in alloc; report]?;
+    Ok(Run { space, reports })
 }
 
 /// The instance with the rows of its matrices in order, to be shared by workers.
@@ -89,10 +130,10 @@ pub(crate) fn shared_rows(
 
 /// Steps the worker until the space is closed or there is no memory. Whether the space is to be closed is asked only where the
 /// worker gives its transaction up.
-fn work<L: Law, M: Room<L>, R: Wait>(
+fn work<L: Law, R: Wait>(
     rt: &R,
     hand: &mut Hand,
-    room: &mut M,
+    room: &mut Alone<L>,
     share: &mut Share<L>,
     nodes: &Template,
 ) -> Ended

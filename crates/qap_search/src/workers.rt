@@ -1,24 +1,26 @@
 //! A search by many workers, each a thread of its own.
 
-ghost use Rattle.std.specs.Prelude.{◌≡◌, ◌<◌, ◌≤◌, [], All, IfErr, IfOk, MatchResult, ℕ, length, replicate, sum, vec_capacity, vec_len};
+ghost use Rattle.std.specs.Prelude.{◌≡◌, ◌<◌, ◌≤◌, [], All, IfOk, MatchResult, ℕ, length, replicate, sum, vec_capacity, vec_len};
 ghost use Rattle.std.specs.List.{sum_by};
-ghost use Rattle.qap_search.specs.Answer.{IsAnswer, IsSolveFault};
+ghost use Rattle.qap_search.specs.Answer.{IsAnswer, IsLeastAnswer, IsSolveFault};
+ghost use Rattle.qap_search.specs.Ending.{IsEnded};
 ghost use Rattle.qap_search.specs.Opening.{IsOpening};
 ghost use Rattle.qap_search.specs.SearchLaw.{IsSearchLaw};
 ghost use Rattle.space_txn.specs.Content.{content_of};
 ghost use Rattle.std.specs.Arc.{arc_value};
 
-use crate::answer::{Answer, SolveError};
+use crate::answer::{Answer, Least, SolveError};
 use crate::clock::Clock;
-use crate::ending::answer_of;
+use crate::ending::{answer_of, least_of};
 use crate::gate::Gate;
 use crate::hand::Hand;
 use crate::opening::opening_space;
 use crate::ordering::turned_round;
 use crate::report::Report;
+use crate::run::Run;
 use crate::seat::{Seat, Workplace};
 use crate::solving::shared_rows;
-use crate::templates::node_template;
+use crate::templates::{best_template, node_template};
 use gilmore_lawler::RankedInstance;
 use qap_cost::Instance;
 use shared_space::{Law, Share, Shared};
@@ -60,6 +62,54 @@ where
     requires few { workers ≤ 64 }
     ensures { MatchResult result (IsAnswer instance.now workers limit) (IsSolveFault instance.now workers limit) }
 {
+    let run = run_of(rt, alloc, instance, workers, lease_ms, limit, clock, gate)?;
+    answer_of(alloc, instance, limit, run)
+}
+
+/// A permutation of an instance's least cost, by the same search: for whoever wants no certificate, which isn't put together
+/// then. What `solve` says of the workers, the gate, the lease, the limit and the errors holds here too.
+pub fn solve_least<R, C, G>(
+    rt: &R,
+    alloc: Global,
+    instance: &Instance,
+    workers: u16,
+    lease_ms: u64,
+    limit: Option<u64>,
+    clock: &C,
+    gate: &G,
+) -> Result<Least, SolveError>
+where
+    R: Threads + Wait + time::Clock + Sync,
+    C: Clock,
+    G: Gate + Sync,
+    requires some { 0 < workers }
+    requires few { workers ≤ 64 }
+    ensures { MatchResult result (IsLeastAnswer instance.now workers limit) (IsSolveFault instance.now workers limit) }
+{
+    let run = run_of(rt, alloc, instance, workers, lease_ms, limit, clock, gate)?;
+    least_of(alloc, instance, limit, run)
+}
+
+/// The run of so many workers.
+fn run_of<R, C, G>(
+    rt: &R,
+    alloc: Global,
+    instance: &Instance,
+    workers: u16,
+    lease_ms: u64,
+    limit: Option<u64>,
+    clock: &C,
+    gate: &G,
+) -> Result<Run, AllocError>
+where
+    R: Threads + Wait + time::Clock + Sync,
+    C: Clock,
+    G: Gate + Sync,
+    requires some { 0 < workers }
+    requires few { workers ≤ 64 }
+    ensures ended { IfOk result (IsEnded instance.now limit) }
+    ensures one_each { IfOk result (λ run. length run.reports.items ≡ workers) }
+{
     let space = opening_space(alloc, instance)?;
     let blank = Blank::new(u64::from(workers));
     search::<Brand, R, C, G>(
@@ -79,7 +129,7 @@ fn search<L, R, C, G>(
     limit: Option<u64>,
     clock: &C,
     gate: &G,
-) -> Result<Answer, SolveError>
+) -> Result<Run, AllocError>
 where
     L: Law + Send + Sync,
     R: Threads + Wait + time::Clock + Sync,
@@ -93,10 +143,12 @@ where
     requires law { IsSearchLaw instance.now L.lawful L.allowed }
     requires limit { L.limit ≡ limit }
     requires opening { IsOpening instance.now space }
-    ensures { MatchResult result (IsAnswer instance.now workers limit) (IsSolveFault instance.now workers limit) }
+    ensures ended { IfOk result (IsEnded instance.now limit) }
+    ensures one_each { IfOk result (λ run. length run.reports.items ≡ workers) }
 {
     let ranked = shared_rows(alloc, instance)?;
     let nodes = node_template(alloc)?;
+    let best = best_template(alloc)?;
     let count = usize::from(workers);
     let room = Left::with_capacity(alloc, count)?;
     let (shared, shares) = shared_under::<L>(alloc, blank, space, count, limit)?;
@@ -105,12 +157,13 @@ where
         rt,
         shared: &shared,
         nodes: &nodes,
+        best: &best,
         gate,
     };
     work_all(&place, &seats, clock);
     let Left { shares, reports } = left_by(room, seats);
     let (space, _) = shared.into_inner(shares);
-    answer_of(alloc, instance, limit, space, reports)
+    Ok(Run { space, reports })
 }
 
 /// The space with its lock and its limit, if there is one, and so many shares.
@@ -120,15 +173,14 @@ fn shared_under<L: Law>(
     space: TxnSpace,
     shares: usize,
     limit: Option<u64>,
-) -> Result<(Shared<L>, Vec<Share<L>>), SolveError>
+) -> Result<(Shared<L>, Vec<Share<L>>), AllocError>
     requires name { blank.name ≡ L.name }
     requires parts { blank.parts ≡ L.parts }
     requires shares { shares ≡ L.parts }
     requires lawful { L.lawful (content_of space) space.commits }
     requires fresh { space.commits ≡ 0 }
     requires limit { L.limit ≡ limit }
-    ensures shares { IfOk result (λ made. made.1.items ≡ replicate shares 0) }
-    ensures kind { IfErr result (λ error. error ≡ SolveError.OutOfMemory) }
+    ensures { IfOk result (λ made. made.1.items ≡ replicate shares 0) }
 {
     let made = match limit {
         Some(limit) => Shared::<L>::with_limit(alloc, blank, space, shares, limit),
@@ -136,7 +188,7 @@ fn shared_under<L: Law>(
     };
     match made {
         Ok(made) => Ok(made),
-        Err(_) => Err(SolveError::OutOfMemory),
+        Err(_) => Err(AllocError),
     }
 }
 

@@ -69,7 +69,7 @@ fn tuple_of_child(
     let name = word_field(alloc, "node")?;
     let list = Field::List(child_numbers(alloc, node, facility, location)?);
     let fields = vec![in alloc; name, list]?;
-    Ok(Tuple::new(fields).unwrap())
+    shared(alloc, Tuple::new(fields).unwrap())
 }
 
 /// The list of the node that puts the facility at the location too.
@@ -95,7 +95,17 @@ pub fn tuple_of_best(alloc: Global, cost: i128, perm: &Perm) -> Result<Tuple, Al
     let name = word_field(alloc, "best")?;
     let list = Field::List(locations_of(alloc, perm)?);
     let fields = vec![in alloc; name, Field::Int(cost), list]?;
-    Ok(Tuple::new(fields).unwrap())
+    shared(alloc, Tuple::new(fields).unwrap())
+}
+
+/// The tuple, shared with the copies that workers take of it while the space is locked.
+fn shared(alloc: Global, tuple: Tuple) -> Result<Tuple, AllocError>
+    ensures { IfOk result (λ t. t ≡ tuple) }
+{
+    match tuple.share(alloc) {
+        Ok(tuple) => Ok(tuple),
+        Err((error, _)) => Err(error),
+    }
 }
 
 /// The locations of the permutation, as numbers of a tuple.

@@ -6,8 +6,6 @@ mod examples;
 #[cfg(test)]
 mod hand_tests;
 #[cfg(test)]
-mod memory_tests;
-#[cfg(test)]
 mod schedule_tests;
 #[cfg(test)]
 mod solving_tests;

@@ -5,7 +5,7 @@
 
 use crate::examples::{FIRST, SECOND, patterned, three, told};
 use qap_cost::{Instance, least_by_listing};
-use qap_search::{Always, Answer, Clock, Ended, Gate, Kind, SolveError, solve};
+use qap_search::{Always, Answer, Clock, Ended, Gate, Kind, SolveError, solve, solve_least};
 use std::alloc::Global;
 use std::process::Abort;
 use std::sync::Wait;
@@ -445,6 +445,25 @@ fn a_gap_holds_the_least_cost(rt: HostRuntime) -> Result<(), Fail> {
         for limit in [0, 1, 2, 5, 20] {
             let (_, (cost, bound), _) = limited(&rt, alloc, &instance, 2, limit)?;
             assert!(rt; bound <= least && least <= cost, "size {n}, limit {limit}");
+        }
+    }
+    Ok(())
+}
+
+#[test]
+fn permutations_without_certificates(rt: HostRuntime) -> Result<(), Fail> {
+    let alloc = rt.alloc();
+    let instance = three(alloc, &SECOND)?;
+    for (limit, cost) in [(None, Some(1)), (Some(4), Some(1)), (Some(3), None)] {
+        let found = solve_least(&rt, alloc, &instance, 2, LEASE_MS, limit, &Stopped, &Always);
+        match found {
+            Ok(found) => {
+                assert_eq!(rt; Some(found.cost), cost, "limit {limit:?}");
+                assert_eq!(rt; found.permutation.locations(), [0, 1, 2].as_slice());
+                assert_eq!(rt; found.reports.len(), 2);
+            }
+            Err(SolveError::Stopped(_answer)) => assert_eq!(rt; None, cost, "limit {limit:?}"),
+            Err(error) => return Err(Fail::from(error)),
         }
     }
     Ok(())

@@ -1,15 +1,19 @@
 -- The texts that a certificate is told as.
-use Rattle.std.proofs.Common.{ℕ, refl, sym, subst, ◌++◌, ap, Option, Some, None, arith}
+use Rattle.std.proofs.Common.{◌≡◌, ℕ, Bool, List, ℤ, refl, sym, subst, ◌++◌, ap, Option, Some, None, arith}
 use Rattle.qap_cost.specs.Instance.{Problem}
 use Rattle.qap_cost.specs.Objective.{IsLeast, NoneCostsLess, Permutes}
 use Rattle.qap_cert.specs.Certificate.{Claim, Certifies, IsCertificate}
 use Rattle.qap_cert.specs.Text.{IsCertificateText, certificate_text}
 use Rattle.qap_cert.specs.declared.version.Version.TheVariants.{Second}
 use Rattle.shared_space.specs.Limit.{IsWithin}
-use Rattle.qap_search.specs.Answer.{CertifiesLeast}
+use Rattle.qap_search.specs.Answer.{CertifiesLeast, IsLeastAnswer, accepted_of}
 use Rattle.qap_search.specs.Stopped.{CertifiesStopped}
+use Rattle.qap_search.specs.declared.answer.Least.{Least}
+use Rattle.qap_text.specs.Input.{HasInstance, Input}
 use Rattle.qap_text.specs.WrittenSolution.{solution_text}
-use Rattle.qap_solve.specs.Solution.{IsGapProofText, IsGapText, IsLeastText, IsProofText, ShowsGap, ShowsLeast, gap_line}
+use Rattle.qap_solve.specs.Outcome.{IsLeastFound}
+use Rattle.qap_solve.specs.Solving.{Solves}
+use Rattle.qap_solve.specs.Solution.{IsGapProofText, IsGapText, IsLeastText, IsOutput, IsProofText, ShowsGap, ShowsLeast, gap_line}
 
 permuted : (I : Problem) (C : Claim) → IsCertificate C → Certifies I C → Permutes I C.permutation
 permuted I C shape certified = record { bijection = shape.permutation.bijection; same_size = certified.same_size }
@@ -17,17 +21,18 @@ permuted I C shape certified = record { bijection = shape.permutation.bijection;
 certificate_is : (C : Claim) → IsCertificate C → IsCertificateText (certificate_text Second C) C
 certificate_is C shape = record { version = Second; certificate = shape; bound = tt; tree = shape.tree; is = refl }
 
--- where the certificate's bound is its cost, they tell a least permutation, and a proof of its cost
-pub least_text : (I : Problem) (nodes : Option ℕ) (C : Claim) → IsCertificate C → ShowsLeast I nodes C → IsLeast I C.cost → IsLeastText I nodes (solution_text C.cost C.permutation)
-least_text I nodes C shape by least = record {
-  permutation = C.permutation;
-  permutes = permuted I C shape by.certified;
-  least = subst (IsLeast I) (sym by.certified.cost) least;
-  is = ap (λ c. solution_text c C.permutation) (sym by.certified.cost);
-  certificate = C;
-  by = by;
+-- a permutation of least cost is told by its text
+pub least_text : (I : Problem) (nodes : Option ℕ) (p : List ℕ) (c : ℤ) → IsLeastFound I nodes p c → IsLeastText I nodes (solution_text c p)
+least_text I nodes p c found = record {
+  permutation = p;
+  permutes = found.permutes;
+  least = record { reached = (p, found.permutes, refl); least = subst (NoneCostsLess I) (sym found.costs) found.least };
+  is = ap (λ c. solution_text c p) (sym found.costs);
+  certificate = found.certificate;
+  by = found.by;
 }
 
+-- where the certificate's bound is its cost, it tells a proof of that
 pub proof_text : (I : Problem) (nodes : Option ℕ) (C : Claim) → IsCertificate C → ShowsLeast I nodes C → IsLeast I C.cost → IsProofText I nodes (certificate_text Second C)
 proof_text I nodes C shape by least = record {
   certificate = C;
@@ -41,6 +46,16 @@ proof_text I nodes C shape by least = record {
 pub shows_least : (I : Problem) (nodes : Option ℕ) (commits : ℕ) (C : Claim) → CertifiesLeast I commits C → IsWithin nodes commits → ShowsLeast I nodes C
 shows_least I None commits C least within = record { certified = least.certified; closed = least.closed; within = tt }
 shows_least I (Some limit) commits C least within = let same = least.nodes_are in record { certified = least.certified; closed = least.closed; within = omega arith }
+
+-- a permutation that a search has left as the best one is shown by the certificate of what it has left
+pub least_found : (I : Problem) (workers : ℕ) (nodes : Option ℕ) (a : Least) (C : Claim) → IsLeastAnswer I workers nodes a → CertifiesLeast I (accepted_of a.reports.items) C → IsLeastFound I nodes a.permutation a.cost
+least_found I workers nodes a C h by = record {
+  permutes = h.permutes;
+  costs = h.costs;
+  least = h.least;
+  certificate = C;
+  by = shows_least I nodes (accepted_of a.reports.items) C by h.within;
+}
 
 -- and where it comes of a search that was stopped, a permutation with a bound, and a proof of the bound
 shows_gap : (I : Problem) (nodes : ℕ) (C : Claim) → CertifiesStopped I nodes C → NoneCostsLess I C.bound → ShowsGap I nodes C
@@ -56,3 +71,8 @@ gap_proof_text I nodes C stopped none = record {
   is = refl;
   is_text = certificate_is C stopped.closes.certificate;
 }
+
+-- what is written is what the instance that was read is solved as
+pub solved_as : {R : Type 0} (s : Input R) (nodes : Option ℕ) (cert asked : Bool) (I : Problem) (rest text : List ℕ) → HasInstance s I rest → cert ≡ asked → IsOutput asked I nodes text → Solves s nodes cert text
+solved_as s nodes cert asked I rest text input same h =
+    record { instance = I; rest = rest; input = input; holds = subst (λ (b : Bool). IsOutput b I nodes text) (sym same) h }

@@ -1,3 +1,4 @@
+pub mod Answering
 pub mod Options
 pub mod Outcome
 pub mod Refusal

@@ -1,13 +1,24 @@
 -- What the search of an instance comes to, for a run.
-use Rattle.std.specs.Prelude.{◌≡◌, ℕ, Option, Some}
+use Rattle.std.specs.Prelude.{◌≡◌, ℕ, Bool, true, false, List, ℤ, Option, Some}
 use Rattle.qap_cost.specs.Instance.{Problem}
-use Rattle.qap_cert.specs.Certificate.{IsCertificate}
+use Rattle.qap_cost.specs.Objective.{NoneCostsLess, Permutes, cost_of}
+use Rattle.qap_cert.specs.Certificate.{Claim, IsCertificate}
 use Rattle.qap_search.specs.Stopped.{CertifiesStopped}
 use Rattle.qap_solve.specs.Solution.{ShowsLeast}
 use Rattle.qap_solve.specs.declared.solving.Outcome.{Outcome}
-use Rattle.qap_solve.specs.declared.solving.Outcome.TheVariants.{Least, Stopped}
+use Rattle.qap_solve.specs.declared.solving.Outcome.TheVariants.{Permutation, Certificate, Stopped}
 
--- a certificate of the least cost; or one of a bound, where the search was stopped at its limit of nodes
-abbrev pub IsOutcome : Problem → Option ℕ → Outcome → Type 0
-IsOutcome I nodes (Least C) = IsCertificate C × ShowsLeast I nodes C
-IsOutcome I nodes (Stopped C) = (limit : ℕ) × (nodes ≡ Some limit) × CertifiesStopped I limit C
+-- a permutation of the instance with its cost, and none costs less, as some certificate shows
+pub record IsLeastFound (I : Problem) (nodes : Option ℕ) (p : List ℕ) (c : ℤ) : Type 0 where
+  pub permutes : Permutes I p
+  pub costs : cost_of I p ≡ c
+  pub least : NoneCostsLess I c
+  pub certificate : Claim
+  pub by : ShowsLeast I nodes certificate
+
+-- a permutation of least cost, or a certificate of that cost, as was asked for; or a certificate of a bound, where the search was
+-- stopped at its limit of nodes
+abbrev pub IsOutcome : Problem → Option ℕ → Bool → Outcome → Type 0
+IsOutcome I nodes cert (Permutation found) = (cert ≡ false) × IsLeastFound I nodes found.permutation found.cost
+IsOutcome I nodes cert (Certificate C) = (cert ≡ true) × IsCertificate C × ShowsLeast I nodes C
+IsOutcome I nodes cert (Stopped C) = (limit : ℕ) × (nodes ≡ Some limit) × CertifiesStopped I limit C

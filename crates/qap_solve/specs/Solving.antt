@@ -1,14 +1,15 @@
 -- A run of the solver, from bytes to bytes.
-use Rattle.std.specs.Prelude.{◌≡◌, ℕ, ◌<◌, ◌⊎◌, Bool, List, Option, Some}
+use Rattle.std.specs.Prelude.{◌≡◌, ℕ, ◌⊎◌, Bool, List, Option, Some}
 use Rattle.qap_cost.specs.Instance.{Problem}
 use Rattle.qap_io.specs.Counting.{CountedDevice, FailedBetween}
-use Rattle.qap_io.specs.Writing.{AppendsBeginning}
+use Rattle.qap_io.specs.Writing.{AppendsBeginning, Sends}
+use Rattle.qap_search.specs.Answer.{LeavesOpen}
 use Rattle.qap_text.specs.Input.{HasInstance, HasNoInstance, Input}
 use Rattle.qap_text.specs.declared.error.TextError.{TextError}
 use Rattle.qap_solve.specs.Refusal.{of_text}
 use Rattle.qap_solve.specs.Solution.{IsOutput, IsStoppedOutput}
 use Rattle.qap_solve.specs.declared.refusal.RunError.{RunError}
-use Rattle.qap_solve.specs.declared.refusal.RunError.TheVariants.{Unfinished, OutOfMemory, Device}
+use Rattle.qap_solve.specs.declared.refusal.RunError.TheVariants.{Unfinished, Stopped, OutOfMemory, Device}
 
 -- what the instance that was read is solved as, within the limit of nodes
 pub record Solves {R : Type 0} (s : Input R) (nodes : Option ℕ) (cert : Bool) (output : List ℕ) : Type 0 where
@@ -32,25 +33,44 @@ pub record NoInstance {R : Type 0} (s : Input R) (e : RunError) : Type 0 where
   pub is : e ≡ of_text fault
   pub of_input : HasNoInstance s fault
 
--- the search of an instance ended with so many open nodes
-pub record IsUnfinished {R : Type 0} (s : Input R) (e : RunError) : Type 0 where
+-- the search of an instance ended with so many open nodes, below the limit of nodes
+pub record IsUnfinished {R : Type 0} (s : Input R) (nodes : Option ℕ) (e : RunError) : Type 0 where
   pub count : ℕ
-  pub some : 0 < count
   pub is : e ≡ Unfinished count
   pub instance : Problem
   pub rest : List ℕ
   pub input : HasInstance s instance rest
+  pub left : LeavesOpen instance nodes count
 
 -- memory ran out, and no call of the reader failed
 pub record WantsMemory {R : Type 0} (s : Input R) (e : RunError) : Type 0 where
   pub is : e ≡ OutOfMemory
   pub kept : s.after.failures ≡ s.before.failures
 
--- why no instance is solved
-abbrev pub IsUnsolved : {R : Type 0} → Input R → RunError → Type 0
-IsUnsolved s e = NoInstance s e ⊎ (IsUnfinished s e ⊎ WantsMemory s e)
+-- why no instance is read
+abbrev pub IsUnread : {R : Type 0} → Input R → RunError → Type 0
+IsUnread s e = NoInstance s e ⊎ WantsMemory s e
+
+-- why none is solved
+abbrev pub IsUnsolved : {R : Type 0} → Input R → Option ℕ → RunError → Type 0
+IsUnsolved s nodes e = IsUnread s e ⊎ IsUnfinished s nodes e
 
 -- a beginning of the text has gone out: for want of memory no call has failed, and else one has
 pub record Stops {W : Type 0} (contents : W → Option (List ℕ)) (old new : CountedDevice W) (text : List ℕ) (e : RunError) : Type 0 where
   pub bytes : AppendsBeginning (contents old.inner) (contents new.inner) text
   pub fault : ((e ≡ OutOfMemory) × (new.failures ≡ old.failures)) ⊎ ((e ≡ Device) × FailedBetween old new)
+
+-- all of the answer has gone out
+abbrev pub HasSolved : {R W : Type 0} → Input R → Option ℕ → Bool → (W → Option (List ℕ)) → CountedDevice W → CountedDevice W → Type 0
+HasSolved s nodes cert contents old new = (text : List ℕ) × Solves s nodes cert text × Sends contents old new text
+
+-- what a search has come to that was stopped has gone out, or, for this reason, a beginning of it has
+abbrev pub EndsStopped : {W : Type 0} → (W → Option (List ℕ)) → CountedDevice W → CountedDevice W → List ℕ → RunError → Type 0
+EndsStopped contents old new text e = ((e ≡ Stopped) × Sends contents old new text) ⊎ Stops contents old new text e
+
+-- nothing is solved, and nothing has gone out; or a beginning of the answer has; or the search was stopped at its limit of nodes
+abbrev pub HasNotSolved : {R W : Type 0} → Input R → Option ℕ → Bool → (W → Option (List ℕ)) → CountedDevice W → CountedDevice W → RunError → Type 0
+HasNotSolved s nodes cert contents old new e =
+    (IsUnsolved s nodes e × (new ≡ old))
+    ⊎ (((text : List ℕ) × Solves s nodes cert text × Stops contents old new text e)
+    ⊎ ((text : List ℕ) × SolvesPartly s nodes cert text × EndsStopped contents old new text e))

@@ -8,6 +8,7 @@ use clap::error::ErrorKind;
 use clap::{Arg, ArgAction, ArgMatches, Command, value_parser};
 use std::alloc::{AllocError, Global};
 use std::io;
+use thiserror::Error;
 
 /// The line that tells how the program is used.
 pub const USAGE: &str =
@@ -23,11 +24,13 @@ pub enum Request {
 }
 
 /// Why a command line asks for nothing.
-#[derive(Clone, Copy, Debug, PartialEq, Eq)]
+#[derive(Clone, Copy, Debug, PartialEq, Eq, Error)]
 pub enum CommandError {
     /// It isn't as the usage line says.
+    #[error("the command line is not as the usage line says")]
     Usage,
     /// There is no memory left.
+    #[error("out of memory")]
     OutOfMemory,
 }
 

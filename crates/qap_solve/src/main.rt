@@ -1,6 +1,7 @@
 //! Solves instances of the quadratic assignment problem, and carries out scripts of the tuple space.
 #![tactic(auto)]
 
+mod answering;
 mod command_line;
 mod elapsed;
 mod options;
@@ -8,18 +9,16 @@ mod refusal;
 mod solving;
 
 ghost use Rattle.std.specs.Prelude.{IfOk};
-ghost use Rattle.qap_solve.specs.Options.{AreLimited, MayRun};
+ghost use Rattle.qap_solve.specs.Options.{MayRun};
 
+use answering::{answered, refused};
 use command_line::{CommandError, Request, USAGE, parse};
 use elapsed::Elapsed;
-use options::Options;
-use qap_io::{Counted, Status, finish};
+use qap_io::{Counted, Status};
 use qap_search::Always;
-use refusal::{RunError, fault_line, status};
-use solving::solve_stream;
-use space_script::{ScriptError, run_script};
+use refusal::RunError;
 use std::env;
-use std::io::{BufWriter, Stdout};
+use std::io::{self, BufWriter, Stdout};
 use std::process::ExitCode;
 use std::rt::Env;
 use std::sync::Wait;
@@ -35,28 +34,19 @@ mod tests;
 const BUFFER: usize = 65_536;
 
 fn main(rt: HostRuntime) -> ExitCode {
-    let answered = match requested(&rt) {
+    match requested(&rt) {
         Ok(request) => run(&rt, &rt, request),
-        Err(CommandError::OutOfMemory) => Err(RunError::OutOfMemory),
-        Err(CommandError::Usage) => return usage(&rt),
-    };
-    let code = match answered {
-        Ok(()) => Status::Done.code(),
-        Err(error) => {
-            // What a search that was stopped has come to stands on standard output.
-            if error != RunError::Stopped {
-                let _ = fault_line(&error, &mut Counted::new(rt.stderr()));
-            }
-            status(&error)
+        Err(CommandError::OutOfMemory) => refuse(&rt, RunError::OutOfMemory),
+        Err(CommandError::Usage) => {
+            let _ = rt.eprintln(USAGE);
+            ExitCode::from(Status::Usage.code())
         }
-    };
-    ExitCode::from(code)
+    }
 }
 
-/// Tells how the program is used.
-fn usage(rt: &HostRuntime) -> ExitCode {
-    let _ = rt.eprintln(USAGE);
-    ExitCode::from(Status::Usage.code())
+/// Tells a refusal on standard error.
+fn refuse(rt: &HostRuntime, error: RunError) -> ExitCode {
+    ExitCode::from(refused(error, &mut Counted::new(rt.stderr())))
 }
 
 /// What the program's own command line asks for.
@@ -68,49 +58,27 @@ fn requested(rt: &(impl Env + AllocGlobal)) -> Result<Request, CommandError>
 }
 
 /// Answers a request on standard output. `system` is what threads, waiting and the time are asked of.
-fn run<T>(system: &T, rt: &HostRuntime, request: Request) -> Result<(), RunError>
+fn run<T>(system: &T, rt: &HostRuntime, request: Request) -> ExitCode
 where
     T: Threads + Wait + Clock + Sync,
     requires { MayRun request }
 {
-    match request {
-        Request::Solve(options) => solve(system, rt, &options),
-        Request::Script => script(rt),
-    }
-}
-
-/// Solves the instance on standard input.
-fn solve<T>(system: &T, rt: &HostRuntime, options: &Options) -> Result<(), RunError>
-where
-    T: Threads + Wait + Clock + Sync,
-    requires { AreLimited options.now }
-{
-    let mut input = Counted::new(rt.stdin());
-    let mut output = Counted::new(buffered(rt)?);
-    let clock = Elapsed::new(system);
-    solve_stream(
+    let Ok(output) = buffered(rt) else {
+        return refuse(rt, RunError::OutOfMemory);
+    };
+    ExitCode::from(answered(
         system,
         rt.alloc(),
-        &mut input,
-        &mut output,
-        options,
-        &clock,
+        request,
+        &mut Counted::new(rt.stdin()),
+        &mut Counted::new(output),
+        &mut Counted::new(rt.stderr()),
+        &Elapsed::new(system),
         &Always,
-    )
-}
-
-/// Runs the script on standard input. Replies that stood written before memory ran out still go out.
-fn script(rt: &HostRuntime) -> Result<(), RunError> {
-    let mut input = Counted::new(rt.stdin());
-    let mut output = Counted::new(buffered(rt)?);
-    let ran = run_script(rt.alloc(), &mut input, &mut output);
-    if ran == Err(ScriptError::OutOfMemory) {
-        let _ = finish(&mut output);
-    }
-    Ok(ran?)
+    ))
 }
 
 /// Standard output, written to in large pieces.
-fn buffered(rt: &HostRuntime) -> Result<BufWriter<Stdout>, RunError> {
-    BufWriter::with_capacity(rt.alloc(), BUFFER, rt.stdout()).map_err(|_| RunError::OutOfMemory)
+fn buffered(rt: &HostRuntime) -> io::Result<BufWriter<Stdout>> {
+    BufWriter::with_capacity(rt.alloc(), BUFFER, rt.stdout())
 }

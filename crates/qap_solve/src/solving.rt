@@ -1,26 +1,27 @@
 //! An instance solved, from bytes to bytes.
 
-ghost use Rattle.std.specs.Prelude.{◌≡◌, ◌⊎◌, ◌<◌, ◌++◌, ℕ, List, IfOk, MatchResult, Option, string_bytes};
+ghost use Rattle.std.specs.Prelude.{◌≡◌, ◌⊎◌, ◌++◌, ℕ, List, IfOk, MatchResult, Option, false, string_bytes, true};
 ghost use Rattle.qap_cert.specs.Certificate.{Certifies, IsCertificate};
 ghost use Rattle.qap_cert.specs.Text.{certificate_text};
 ghost use Rattle.qap_cert.specs.declared.version.Version.TheVariants.{Second};
-ghost use Rattle.qap_cost.specs.Instance.{IsInstance, Problem};
+ghost use Rattle.qap_cost.specs.Instance.{Problem};
 ghost use Rattle.qap_io.specs.Writing.{Sends};
+ghost use Rattle.qap_search.specs.Answer.{IsSolveFault, LeavesOpen};
 ghost use Rattle.qap_search.specs.Stopped.{CertifiesStopped};
 ghost use Rattle.qap_solve.specs.Options.{AreLimited};
-ghost use Rattle.qap_solve.specs.Outcome.{IsOutcome};
+ghost use Rattle.qap_solve.specs.Outcome.{IsLeastFound, IsOutcome};
 ghost use Rattle.qap_solve.specs.Solution.{IsOutput, IsStoppedOutput, ShowsLeast, gap_line};
-ghost use Rattle.qap_solve.specs.Solving.{IsUnsolved, Solves, SolvesPartly, Stops};
-ghost use Rattle.qap_solve.specs.declared.refusal.RunError.TheVariants.{OutOfMemory, Stopped, Unfinished};
-ghost use Rattle.qap_text.specs.Input.{HasInstance, Input};
+ghost use Rattle.qap_solve.specs.Solving.{HasNotSolved, HasSolved, IsUnread, Stops};
+ghost use Rattle.qap_solve.specs.declared.refusal.RunError.TheVariants.{OutOfMemory, Unfinished};
+ghost use Rattle.qap_text.specs.Input.{HasInstance, input_of};
 ghost use Rattle.qap_text.specs.WrittenSolution.{solution_text};
 
 use crate::options::Options;
 use crate::refusal::RunError;
 use qap_cert::{CertError, Certificate, certified_law, write};
-use qap_cost::Instance;
+use qap_cost::{Instance, Perm};
 use qap_io::{Counted, put};
-use qap_search::{Clock, Gate, SolveError, solve};
+use qap_search::{Clock, Gate, Least, SolveError, certificate_law, solve, solve_least};
 use qap_text::{MAX_INPUT, TextError, read_all, read_instance, write_solution};
 use std::alloc::{AllocError, Global};
 use std::io::{Read, Write};
@@ -31,8 +32,10 @@ use std::time;
 /// What an instance's search has come to.
 #[derive(Drop)]
 enum Outcome {
+    /// A permutation of least cost.
+    Permutation(Least),
     /// A certificate of the least cost.
-    Least(Certificate),
+    Certificate(Certificate),
     /// A certificate of a bound, from a search that was stopped at its limit of nodes.
     Stopped(Certificate),
 }
@@ -60,18 +63,14 @@ where
     C: Clock,
     G: Gate + Sync,
     requires { AreLimited options.now }
-    ensures { let s : Input R = record { bytes = R.remaining; limit = MAX_INPUT; before = reader.old; after = reader.new } in MatchResult result
-        (λ _. (text : List ℕ) × Solves s options.now.nodes options.now.cert text × Sends W.contents writer.old writer.new text)
-        (λ e. (IsUnsolved s e × (writer.new ≡ writer.old))
-        ⊎ (((text : List ℕ) × Solves s options.now.nodes options.now.cert text × Stops W.contents writer.old writer.new text e)
-        ⊎ ((text : List ℕ) × SolvesPartly s options.now.nodes options.now.cert text
-        × (((e ≡ Stopped) × Sends W.contents writer.old writer.new text) ⊎ Stops W.contents writer.old writer.new text e)))) }
+    ensures { let s = input_of R.remaining reader.old reader.new in MatchResult result
+        (λ _. HasSolved s options.now.nodes options.now.cert W.contents writer.old writer.new)
+        (HasNotSolved s options.now.nodes options.now.cert W.contents writer.old writer.new) }
 {
     let instance = read_problem(alloc, reader)?;
     match solved(rt, alloc, &instance, options, clock, gate)? {
-        Outcome::Least(certificate) => {
-            put_answer(alloc, writer, options.cert, &instance, &certificate)
-        }
+        Outcome::Permutation(found) => put_least(alloc, writer, &found),
+        Outcome::Certificate(certificate) => put_proof(alloc, writer, &instance, &certificate),
         Outcome::Stopped(certificate) => {
             put_stopped(alloc, writer, options.cert, &instance, &certificate)?;
             Err(RunError::Stopped)
@@ -81,15 +80,15 @@ where
 
 /// The instance that the input begins with.
 fn read_problem<R: Read>(alloc: Global, reader: &mut Counted<R>) -> Result<Instance, RunError>
-    ensures { let s : Input R = record { bytes = R.remaining; limit = MAX_INPUT; before = reader.old; after = reader.new } in
-        MatchResult result (λ I. (rest : List ℕ) × HasInstance s I rest) (IsUnsolved s) }
+    ensures { let s = input_of R.remaining reader.old reader.new in
+        MatchResult result (λ I. (rest : List ℕ) × HasInstance s I rest) (IsUnread s) }
 {
     let text = read_all(alloc, reader, MAX_INPUT)?;
     let (instance, _) = read_instance(alloc, &text)?;
     Ok(instance)
 }
 
-/// A certificate of the instance's least cost, or of a bound where the search is stopped.
+/// What the instance's search comes to; a certificate of a bound where it is stopped.
 fn solved<T, C, G>(
     rt: &T,
     alloc: Global,
@@ -104,42 +103,80 @@ where
     G: Gate + Sync,
     requires { AreLimited options.now }
     ensures { MatchResult result
-        (IsOutcome instance.now options.now.nodes)
-        (λ e. ((count : ℕ) × (0 < count) × (e ≡ Unfinished count)) ⊎ (e ≡ OutOfMemory)) }
+        (IsOutcome instance.now options.now.nodes options.now.cert)
+        (λ e. ((count : ℕ) × LeavesOpen instance.now options.now.nodes count × (e ≡ Unfinished count)) ⊎ (e ≡ OutOfMemory)) }
 {
-    let Options {
-        workers,
-        lease_ms,
-        nodes,
-        ..
-    } = *options;
-    match solve(rt, alloc, instance, workers, lease_ms, nodes, clock, gate) {
-        Ok(answer) => Ok(Outcome::Least(answer.certificate)),
+    match searched(rt, alloc, instance, options, clock, gate) {
+        Ok(outcome) => Ok(outcome),
         Err(SolveError::Stopped(answer)) => Ok(Outcome::Stopped(answer.certificate)),
         Err(error) => Err(RunError::from(error)),
     }
 }
 
-/// Writes a certificate's permutation with its cost, or the certificate itself.
-fn put_answer<W: Write>(
+/// A permutation of the instance's least cost, or, where that is asked for, a certificate of that cost.
+fn searched<T, C, G>(
+    rt: &T,
+    alloc: Global,
+    instance: &Instance,
+    options: &Options,
+    clock: &C,
+    gate: &G,
+) -> Result<Outcome, SolveError>
+where
+    T: Threads + Wait + time::Clock + Sync,
+    C: Clock,
+    G: Gate + Sync,
+    requires { AreLimited options.now }
+    ensures { MatchResult result
+        (IsOutcome instance.now options.now.nodes options.now.cert)
+        (IsSolveFault instance.now options.now.workers options.now.nodes) }
+{
+    certificate_law();
+    let _size = instance.size();
+    let Options {
+        workers,
+        lease_ms,
+        nodes,
+        cert,
+    } = *options;
+    if cert {
+        let answer = solve(rt, alloc, instance, workers, lease_ms, nodes, clock, gate)?;
+        Ok(Outcome::Certificate(answer.certificate))
+    } else {
+        let found = solve_least(rt, alloc, instance, workers, lease_ms, nodes, clock, gate)?;
+        Ok(Outcome::Permutation(found))
+    }
+}
+
+/// Writes a permutation of least cost, with that cost.
+fn put_least<W: Write>(
     alloc: Global,
     writer: &mut Counted<W>,
-    cert: bool,
+    found: &Least,
+) -> Result<(), RunError>
+    ensures { (I : Problem) (nodes : Option ℕ) → IsLeastFound I nodes found.now.permutation found.now.cost →
+        (text : List ℕ) × IsOutput false I nodes text × MatchResult result
+        (λ _. Sends W.contents writer.old writer.new text)
+        (Stops W.contents writer.old writer.new text) }
+{
+    put_solution(alloc, writer, found.cost, &found.permutation)
+}
+
+/// Writes a certificate of the least cost.
+fn put_proof<W: Write>(
+    alloc: Global,
+    writer: &mut Counted<W>,
     instance: &Instance,
     certificate: &Certificate,
 ) -> Result<(), RunError>
-    ensures { (nodes : Option ℕ) → ShowsLeast instance.now nodes certificate.now →
-        (text : List ℕ) × IsOutput cert instance.now nodes text × MatchResult result
+    ensures { (nodes : Option ℕ) → IsCertificate certificate.now → ShowsLeast instance.now nodes certificate.now →
+        (text : List ℕ) × IsOutput true instance.now nodes text × MatchResult result
         (λ _. Sends W.contents writer.old writer.new text)
         (Stops W.contents writer.old writer.new text) }
 {
     certified_law();
-    let (_size, _cost) = (instance.size(), certificate.cost());
-    if cert {
-        put_certificate(alloc, writer, certificate)
-    } else {
-        put_solution(alloc, writer, certificate)
-    }
+    let _size = instance.size();
+    put_certificate(alloc, writer, certificate)
 }
 
 /// Writes what a search that was stopped has come to: the line of a certificate's bound and cost, and its permutation with the
@@ -182,17 +219,18 @@ fn put_certificate<W: Write>(
     }
 }
 
-/// Writes a certificate's permutation, with its cost.
+/// Writes a permutation, with its cost.
 fn put_solution<W: Write>(
     alloc: Global,
     writer: &mut Counted<W>,
-    certificate: &Certificate,
+    cost: i128,
+    permutation: &Perm,
 ) -> Result<(), RunError>
     ensures { MatchResult result
-        (λ _. Sends W.contents writer.old writer.new (solution_text certificate.now.cost certificate.now.permutation))
-        (Stops W.contents writer.old writer.new (solution_text certificate.now.cost certificate.now.permutation)) }
+        (λ _. Sends W.contents writer.old writer.new (solution_text cost permutation.now))
+        (Stops W.contents writer.old writer.new (solution_text cost permutation.now)) }
 {
-    match write_solution(alloc, writer, certificate.cost(), certificate.perm()) {
+    match write_solution(alloc, writer, cost, permutation) {
         Ok(()) => Ok(()),
         Err(TextError::OutOfMemory) => Err(RunError::OutOfMemory),
         Err(_) => Err(RunError::Device),
@@ -214,7 +252,7 @@ fn put_gap<W: Write>(
         return Err(RunError::OutOfMemory);
     };
     match put(writer, line.as_bytes()) {
-        Ok(()) => put_solution(alloc, writer, certificate),
+        Ok(()) => put_solution(alloc, writer, certificate.cost(), certificate.perm()),
         Err(_) => Err(RunError::Device),
     }
 }

@@ -6,17 +6,22 @@ use Rattle.qap_text.specs.InstanceText.{IsInstanceFault, IsInstanceText}
 use Rattle.qap_text.specs.Whole.{IsReadFault, ReadsWhole}
 use Rattle.qap_text.specs.declared.error.TextError.{TextError}
 
--- a reader, as a call found it and as it left it; what is known of the bytes that it has left; and the most bytes that the input
--- may have
+-- the most bytes that an input may have: 2^30
+abbrev pub max_input : ℕ
+max_input = 1_073_741_824
+
+-- a reader, as a call found it and as it left it; and what is known of the bytes that it has left
 pub record Input (R : Type 0) : Type 0 where
   pub bytes : R → Option (List ℕ)
-  pub limit : ℕ
   pub before : CountedDevice R
   pub after : CountedDevice R
 
+abbrev pub input_of : {R : Type 0} → (R → Option (List ℕ)) → CountedDevice R → CountedDevice R → Input R
+input_of bytes before after = record { bytes = bytes; before = before; after = after }
+
 -- all that the reader had left was read, within the limit
 abbrev pub HasText : {R : Type 0} → Input R → List ℕ → Type 0
-HasText i text = ReadsWhole i.bytes i.limit i.before i.after text
+HasText i text = ReadsWhole i.bytes max_input i.before i.after text
 
 -- and it begins with the text of an instance
 pub record HasInstance {R : Type 0} (i : Input R) (I : Problem) (rest : List ℕ) : Type 0 where
@@ -32,4 +37,4 @@ pub record HasTextFault {R : Type 0} (i : Input R) (fault : TextError) : Type 0 
 
 -- the bytes can't be read within the limit, or are no instance's text
 abbrev pub HasNoInstance : {R : Type 0} → Input R → TextError → Type 0
-HasNoInstance i fault = IsReadFault i.bytes i.limit i.before i.after fault ⊎ HasTextFault i fault
+HasNoInstance i fault = IsReadFault i.bytes max_input i.before i.after fault ⊎ HasTextFault i fault

@@ -16,10 +16,3 @@ pub use solution_text::{read_solution, solution_text_law};
 pub use solution_writing::write_solution;
 pub use whole::{MAX_INPUT, read_all};
 pub use word::skip_separators;
-
-#[cfg(test)]
-mod hostile_tests;
-#[cfg(test)]
-mod memory_tests;
-#[cfg(test)]
-mod tests;

@@ -1,5 +1,5 @@
 use Rattle.std.proofs.Common.{◌≡◌, ℕ, ◌+◌, ◌==◌, true, ◌++◌, Option, Some, arith, ap, sym, subst}
-use Rattle.space_txn.specs.Content.{ChangesContent, KeepsContent, added_of, content_of, gone_of, kept_of}
+use Rattle.space_txn.specs.Content.{ChangesContent, KeepsContent, added_of, content_of, gone_of, is_made_permanent, kept_of}
 use Rattle.space_txn.specs.Txn.{TxnValue}
 use Rattle.space_txn.specs.World.{World}
 use Rattle.shared_space.specs.Law.{Content, IsKept, IsUnordered, MayCommit}
@@ -16,11 +16,11 @@ stays_lawful lawful unordered old new h law =
 pub commit_lawful : (lawful : Content → ℕ → Type 0) (allowed : Content → Content → Content → Type 0) → IsUnordered lawful → IsKept lawful allowed → (old new : World) (t : TxnValue)
     → ChangesContent old new t → MayCommit allowed t → lawful (content_of old) old.commits → lawful (content_of new) new.commits
 commit_lawful lawful allowed unordered keeps old new t h may law =
-    let gone = gone_of h.renewed t.marks in
+    let gone = gone_of (is_made_permanent old) t.marks in
     let kept = kept_of t.marks in
     let added = added_of t.writes in
     let before = unordered (content_of old) (gone ++ (kept ++ h.rest)) old.commits h.before law in
-    let after = keeps gone kept added h.rest old.commits (may h.renewed) before in
+    let after = keeps gone kept added h.rest old.commits (may (is_made_permanent old)) before in
     let same = unordered (added ++ (kept ++ h.rest)) (content_of new) (old.commits + 1) (λ f. sym (h.after f)) after in
     subst (lawful (content_of new)) (sym h.counted) same
 

@@ -14,6 +14,7 @@ pub data Event : Type 0 where
   call : TxnValue → Call → Event
   advance : ℕ → Event
   close : List PatternValue → Event
+  ask : Event
 
 -- the answers; one to a call on a transaction has the transaction's value behind it, but where a limit forbids the commit
 pub data Reply : Type 0 where
@@ -39,5 +40,6 @@ Did old (begin asked) (begun result) new = BeginStep old.world asked result new.
 Did old (call t c) (answered answer t') new = Step old.world t c answer new.world t' × (new ≡ record old { world = new.world })
 Did old (advance moment) (moved reply) new = AdvanceStep old.world moment reply new.world × (new ≡ record old { world = new.world })
 Did old (close template) (told answer) new = (answer ≡ is_to_close old template) × (new ≡ record old { closed = answer })
+Did old ask (told answer) new = (answer ≡ old.closed) × (new ≡ old)
 -- no other reply is given; a space of one thread has no limit
 Did _ _ _ _ = ⊥

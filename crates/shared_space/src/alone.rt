@@ -12,7 +12,7 @@ use crate::error::CommitError;
 use crate::law::Law;
 use crate::room::Room;
 use crate::share::{Share, gathered, handed_out};
-use space_txn::{Found, Txn, TxnError, TxnSpace, content_law};
+use space_txn::{Found, Spent, Txn, TxnError, TxnSpace, content_law};
 use std::alloc::{AllocError, Global};
 use std::marker::Model;
 use std::sync::ledger::{Blank, Book};
@@ -27,6 +27,7 @@ pub struct Alone<L: Law> {
     shares: usize,
     left: usize,
     closed: bool,
+    spent: Option<Spent>,
 }
 
 impl<L: Law> Model for Alone<L> {
@@ -70,6 +71,7 @@ impl<L: Law> Alone<L> {
             shares,
             left: 0,
             closed: false,
+            spent: None,
         };
         Ok((alone, handed))
     }
@@ -94,6 +96,13 @@ impl<L: Law> Alone<L> {
         ensures { self.new ≡ record self.old { closed = true } }
     {
         self.closed = true;
+    }
+
+    /// What the transaction held that was ended last, unless it has been taken before.
+    pub(crate) fn take_spent(&mut self) -> Option<Spent>
+        ensures { self.new ≡ self.old }
+    {
+        self.spent.take()
     }
 
     /// Puts a tuple out, outside all transactions.
@@ -159,6 +168,7 @@ impl<L: Law> Alone<L> {
             shares: _,
             left: _,
             closed: _,
+            spent: _,
         } = self;
         // Its clause says that the commits are few, so that their sum fits.
         let _commits = space.commits();
@@ -187,9 +197,11 @@ impl<L: Law> Room<L> for Alone<L> {
     }
 
     fn commit(&mut self, share: &mut Share<L>, txn: Txn) -> Result<(), (CommitError, Txn)> {
-        if let Err((error, txn)) = self.space.commit(txn) {
-            return Err((CommitError::Txn(error), txn));
-        }
+        let spent = match self.space.commit_leaving(txn) {
+            Ok(spent) => spent,
+            Err((error, txn)) => return Err((CommitError::Txn(error), txn)),
+        };
+        keep(&mut self.spent, spent);
         self.book.audit(&mut share.part);
         // Its clause says that the commits are few, so that the share can count one more.
         let _commits = self.space.commits();
@@ -200,7 +212,13 @@ impl<L: Law> Room<L> for Alone<L> {
 
     fn abort(&mut self, txn: Txn) -> Result<(), (TxnError, Txn)> {
         content_law();
-        self.space.abort(txn)
+        match self.space.abort_leaving(txn) {
+            Ok(spent) => {
+                keep(&mut self.spent, spent);
+                Ok(())
+            }
+            Err(back) => Err(back),
+        }
     }
 
     fn advance(&mut self, moment: u64) -> Result<(), SpaceError> {
@@ -212,4 +230,13 @@ impl<L: Law> Room<L> for Alone<L> {
         self.closed = self.closed || self.left >= self.shares || self.space.lacks(template);
         self.closed
     }
+
+    fn closed(&self) -> bool {
+        self.closed
+    }
+}
+
+/// Keeps what a transaction held in the place of what was kept before.
+fn keep(kept: &mut Option<Spent>, spent: Spent) {
+    *kept = Some(spent);
 }

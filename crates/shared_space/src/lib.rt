@@ -13,22 +13,16 @@ mod locking;
 mod room;
 mod share;
 mod shared;
+mod steps;
 mod via;
 
 pub use alone::Alone;
 pub use error::{CommitError, SharedError};
 pub use law::Law;
 pub use laws::{two_marks_law, writing_law};
+pub use limited::Limited;
 pub use room::Room;
 pub use share::Share;
 pub use shared::Shared;
+pub use steps::Steps;
 pub use via::Via;
-
-#[cfg(test)]
-mod limit_tests;
-#[cfg(test)]
-mod memory_tests;
-#[cfg(test)]
-mod tests;
-#[cfg(test)]
-mod thread_tests;

@@ -13,7 +13,7 @@ use crate::error::CommitError;
 use crate::law::Law;
 use crate::room::Room;
 use crate::share::Share;
-use space_txn::{Found, Txn, TxnError, TxnSpace, content_law};
+use space_txn::{Found, Spent, Txn, TxnError, TxnSpace, content_law};
 use std::alloc::{AllocError, Global};
 use std::marker::Model;
 use std::sync::ledger::Blank;
@@ -23,7 +23,7 @@ use tuple_space::{EntryId, Lease, SpaceError};
 /// A space of one thread with the limit that its law sets: its commits are at most the limit, and where they are the limit it
 /// is closed.
 #[derive(Drop)]
-pub(crate) struct Limited<L: Law> {
+pub struct Limited<L: Law> {
     alone: Alone<L>,
     limit: Option<u64>,
 }
@@ -43,7 +43,7 @@ impl<L: Law> Model for Limited<L> {
 impl<L: Law> Limited<L> {
     /// A space whose content is lawful and that has accepted no commit, under the law and its limit, with so many shares, one
     /// for each part of the blank. With a limit of 0 it is closed. Refused memory, the blank and the space come back.
-    pub(crate) fn new(
+    pub fn new(
         alloc: Global,
         blank: Blank,
         space: TxnSpace,
@@ -68,15 +68,22 @@ impl<L: Law> Limited<L> {
     }
 
     /// Whether the space is closed. With a limit of 0 it always is.
-    pub(crate) fn is_closed(&self) -> bool
+    pub fn is_closed(&self) -> bool
         ensures value { result ≡ self.now.closed }
         ensures at_0 { L.limit ≡ Some 0 → result ≡ true }
     {
         self.alone.is_closed()
     }
 
+    /// What the transaction held that was ended last, unless it has been taken before.
+    pub(crate) fn take_spent(&mut self) -> Option<Spent>
+        ensures { self.new ≡ self.old }
+    {
+        self.alone.take_spent()
+    }
+
     /// Puts a tuple out, outside all transactions.
-    pub(crate) fn out(&mut self, tuple: Tuple, lease: Lease) -> Result<EntryId, (SpaceError, Tuple)>
+    pub fn out(&mut self, tuple: Tuple, lease: Lease) -> Result<EntryId, (SpaceError, Tuple)>
         requires { lease ≡ Lease.Forever → IsFree L.lawful L.allowed }
         ensures handed_back { IfErr result (λ back. back.1 ≡ tuple) }
         ensures kind { IfErr result (λ back. IsOutError back.0) }
@@ -85,7 +92,7 @@ impl<L: Law> Limited<L> {
     }
 
     /// Takes a tuple, outside all transactions, or answers `None` where none can be had now.
-    pub(crate) fn inp(&mut self, template: &Template) -> Option<(EntryId, Tuple)>
+    pub fn inp(&mut self, template: &Template) -> Option<(EntryId, Tuple)>
         requires { IsFree L.lawful L.allowed }
         ensures { IfSome result (λ found. Matches template.now found.1) }
     {
@@ -93,7 +100,7 @@ impl<L: Law> Limited<L> {
     }
 
     /// Copies a tuple, outside all transactions, or answers `None` where none can be had now.
-    pub(crate) fn rdp(&self, template: &Template) -> Result<Option<(EntryId, Tuple)>, SpaceError>
+    pub fn rdp(&self, template: &Template) -> Result<Option<(EntryId, Tuple)>, SpaceError>
         ensures matches { IfOk result (λ found. IfSome found (λ pair. Matches template.now pair.1)) }
         ensures kind { IfErr result (λ error. error ≡ SpaceError.OutOfMemory) }
     {
@@ -101,7 +108,7 @@ impl<L: Law> Limited<L> {
     }
 
     /// One worker more has left. Takes no memory.
-    pub(crate) fn leave(&mut self)
+    pub fn leave(&mut self)
         ensures { self.new ≡ one_left self.old }
     {
         self.alone.leave();
@@ -109,7 +116,7 @@ impl<L: Law> Limited<L> {
 
     /// The space back for all its shares, with the number of commits that they counted, which is the space's own and at most
     /// the limit. Takes no memory.
-    pub(crate) fn into_inner(self, shares: Vec<Share<L>>) -> (TxnSpace, u64)
+    pub fn into_inner(self, shares: Vec<Share<L>>) -> (TxnSpace, u64)
         requires all { vec_len shares ≡ L.parts }
         requires some { 0 < vec_len shares }
         ensures lawful { L.lawful (content_of result.0) result.0.commits }
@@ -171,5 +178,9 @@ impl<L: Law> Room<L> for Limited<L> {
 
     fn close(&mut self, template: &Template) -> bool {
         self.alone.close(template)
+    }
+
+    fn closed(&self) -> bool {
+        self.alone.is_closed()
     }
 }

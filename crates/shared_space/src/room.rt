@@ -4,7 +4,7 @@ ghost use Rattle.std.specs.Prelude.{◌≡◌, ◌+◌, [], true, false, IfErr, 
 ghost use Rattle.tuple_space.specs.Step.{done_reply};
 ghost use Rattle.space_txn.specs.Finding.{Finds, Shows};
 ghost use Rattle.space_txn.specs.Machine.{abort, commit, end_answer, find_answer, inp_in, rdp_in};
-ghost use Rattle.shared_space.specs.Event.{Event, Reply, advance, answered, begin, begun, call, close, commit_reply, moved, told};
+ghost use Rattle.shared_space.specs.Event.{Event, Reply, advance, answered, ask, begin, begun, call, close, commit_reply, moved, told};
 ghost use Rattle.shared_space.specs.Law.{InLawful, MayCommit};
 
 use crate::error::CommitError;
@@ -61,4 +61,8 @@ pub trait Room<L: Law> {
     /// it is closed. A closed space stays closed. Takes no memory.
     fn close(&mut self, template: &Template) -> bool
         ensures { did self.old (close template.now) (told result) self.new };
+
+    /// Whether the space is closed. It changes nothing.
+    fn closed(&self) -> bool
+        ensures { did self.now ask (told result) self.now };
 }

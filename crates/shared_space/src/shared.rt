@@ -16,6 +16,7 @@ use crate::limited::Limited;
 use crate::locking::locked;
 use crate::room::Room;
 use crate::share::Share;
+use crate::steps::Steps;
 use space_txn::{Found, Txn, TxnError, TxnSpace};
 use std::alloc::{AllocError, Global};
 use std::sync::ledger::Blank;
@@ -228,8 +229,12 @@ impl<L: Law> Shared<L> {
         ensures handed_back { IfErr result (λ back. back.1 ≡ txn) }
         ensures kind { IfErr result (λ back. IsCommitError L.limit back.0) }
     {
-        let ended = locked(rt, &self.limited).commit(share, txn);
+        let mut limited = locked(rt, &self.limited);
+        let ended = limited.commit(share, txn);
+        let spent = limited.take_spent();
+        drop(limited);
         self.changed.notify_all();
+        drop(spent);
         ended
     }
 
@@ -238,8 +243,12 @@ impl<L: Law> Shared<L> {
         ensures handed_back { IfErr result (λ back. back.1 ≡ txn) }
         ensures kind { IfErr result (λ back. IsAbortError back.0) }
     {
-        let ended = locked(rt, &self.limited).abort(txn);
+        let mut limited = locked(rt, &self.limited);
+        let ended = limited.abort(txn);
+        let spent = limited.take_spent();
+        drop(limited);
         self.changed.notify_all();
+        drop(spent);
         ended
     }
 
@@ -266,6 +275,17 @@ impl<L: Law> Shared<L> {
         ensures { L.limit ≡ Some 0 → result ≡ true }
     {
         locked(rt, &self.limited).is_closed()
+    }
+
+    /// Lets steps be made in a row under one taking of the lock, and then wakes those who wait. Each is one call on the space, as
+    /// if it had been made by itself: only that other threads' calls come before or after all of them.
+    pub fn together<R: Wait, S: Steps<L>>(&self, rt: &R, steps: &mut S) {
+        let mut limited = locked(rt, &self.limited);
+        steps.make(&mut *limited);
+        let spent = limited.take_spent();
+        drop(limited);
+        self.changed.notify_all();
+        drop(spent);
     }
 
     /// One worker more has left. Takes no memory.

@@ -57,4 +57,8 @@ impl<'a, R: Wait, L: Law> Room<L> for Via<'a, R, L> {
     fn close(&mut self, template: &Template) -> bool {
         self.shared.close(self.rt, template)
     }
+
+    fn closed(&self) -> bool {
+        self.shared.closed(self.rt)
+    }
 }

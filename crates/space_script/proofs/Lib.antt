@@ -3,12 +3,15 @@ mod Cases
 mod Feeds
 mod Filters
 mod Fronts
+mod Going
 mod Lines
+mod Numbered
 mod Numerals
 mod OneCommand
 mod OneField
 mod Patterns
 mod Replies
+mod Results
 mod Runs
 mod WordTexts
 mod Zips

@@ -5,8 +5,8 @@ use Rattle.std.proofs.KnownBytes.{Appends-kept, Appends-trans}
 use Rattle.std.proofs.lemmas.List.Splits.{slice_split_none}
 use Rattle.qap_io.specs.Counting.{CountedDevice, FailedBetween, last_count}
 use Rattle.qap_io.specs.Writing.{Sends, BreaksOff}
-use Rattle.space_script.specs.Feeding.{Standing, Fed, CarriesOn, IsUnfinished, FedUpTo, FedWhole, FeedFails, FeedingFails, standing}
-use Rattle.space_script.specs.Run.{Answers, AnswersEnded, BreaksDown, FailsWriting, HasCome, KeepsReader, Runs, RunsUpTo, RunsWhole, Streams, WantsMemory, is_line_feed, lines_of}
+use Rattle.space_script.specs.Feeding.{Standing, Fed, CarriesOn, IsUnfinished, FedUpTo, FedWhole, FeedFails, FeedingFails, StopsShort, standing}
+use Rattle.space_script.specs.Run.{Answers, AnswersEnded, FailsWriting, HasCome, KeepsReader, Runs, RunsUpTo, RunsWhole, Streams, WantsMemory, is_line_feed, lines_of}
 use Rattle.space_script.specs.Session.{SessionValue, start}
 use Rattle.space_script.specs.declared.script_error.ScriptError.{ScriptError}
 use Rattle.space_script.specs.declared.script_error.ScriptError.TheVariants.{InputTooLong, OutOfMemory, Device}
@@ -88,9 +88,9 @@ answered s text up =
       flushed = up.flushed;
     }
 
--- what breaks the reading down breaks the script down
-pub breaks_down : {R W : Type 0} (s : Streams R W) (e : ScriptError) → FeedingFails s start [] e → BreaksDown s e
-breaks_down s InputTooLong fails = record {
+-- what stops the reading stops the script
+pub stops_short : {R W : Type 0} (s : Streams R W) (e : ScriptError) → FeedingFails s start [] e → StopsShort s e
+stops_short s InputTooLong fails = record {
   text = fails.text;
   more = fails.more;
   come = fails.come;
@@ -99,7 +99,7 @@ breaks_down s InputTooLong fails = record {
   read = fails.read;
   answered = answered s fails.text fails.fed;
 }
-breaks_down s OutOfMemory fails =
+stops_short s OutOfMemory fails =
     let stops = fails.fails.stops [] opened in
     let rest = stops.split [] in
     record {
@@ -118,13 +118,13 @@ breaks_down s OutOfMemory fails =
       gone_out = fails.fails.gone_out;
       written = fails.fails.written;
     }
-breaks_down s Device (inl unread) = inl (record {
+stops_short s Device (inl unread) = inl (record {
   text = unread.text;
   come = unread.come;
   failed = unread.failed;
   answered = answered s unread.text unread.fed;
 })
-breaks_down s Device (inr (inl fails)) =
+stops_short s Device (inr (inl fails)) =
     let stops = fails.fails.stops [] opened in
     let rest = stops.split [] in
     inr (inl (record {
@@ -148,7 +148,7 @@ breaks_down s Device (inr (inl fails)) =
       count = fails.fails.count;
       gone_out = fails.fails.gone_out;
     }))
-breaks_down s Device (inr (inr unflushed)) =
+stops_short s Device (inr (inr unflushed)) =
     let c = unflushed.carries [] opened in
     inr (inr (record {
       text = unflushed.text;
@@ -157,7 +157,8 @@ breaks_down s Device (inr (inr unflushed)) =
       failed = unflushed.failed;
       replies = unflushed.replies;
       session = unflushed.session_after;
-      last = c.last;
+      left = c.last ∷ [];
+      some = omega arith;
       run = up_to unflushed.text unflushed.replies unflushed.kept_after unflushed.session_after c;
       gone_out = unflushed.gone_out;
     }))

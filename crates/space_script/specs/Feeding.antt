@@ -3,7 +3,7 @@ use Rattle.std.specs.Prelude.{◌≡◌, ◌⊎◌, ◌<◌, ◌≤◌, ◌+◌,
 use Rattle.std.specs.Io.KnownBytes.{Appends, IsAtEnd}
 use Rattle.qap_io.specs.Counting.{CountedDevice, FailedBetween}
 use Rattle.space_script.specs.Command.{longest_line}
-use Rattle.space_script.specs.Run.{Answers, HasCome, HasGoneOut, KeepsReader, Runs, Streams, is_line_feed, lines_of, longest_script}
+use Rattle.space_script.specs.Run.{Answers, FailsFlushing, FailsReading, FailsWriting, HasCome, HasGoneOut, KeepsReader, Runs, RunsTooLong, Streams, WantsMemory, is_line_feed, lines_of, longest_script}
 use Rattle.space_script.specs.Session.{SessionValue}
 use Rattle.space_script.specs.declared.script_error.ScriptError.{ScriptError}
 use Rattle.space_script.specs.declared.script_error.ScriptError.TheVariants.{InputTooLong, OutOfMemory, Device}
@@ -145,3 +145,9 @@ abbrev pub FeedingFails : {R W : Type 0} → Streams R W → SessionValue → Li
 FeedingFails s session kept InputTooLong = FedTooLong s session kept
 FeedingFails s session kept OutOfMemory = FedUnanswered s session kept OutOfMemory
 FeedingFails s session kept Device = FedUnread s session kept ⊎ (FedUnanswered s session kept Device ⊎ FedUnflushed s session kept)
+
+-- why lines are left: the replies before them may still wait for a flush where memory ran out
+abbrev pub StopsShort : {R W : Type 0} → Streams R W → ScriptError → Type 0
+StopsShort s InputTooLong = RunsTooLong s
+StopsShort s OutOfMemory = WantsMemory s
+StopsShort s Device = FailsReading s ⊎ (FailsWriting s ⊎ FailsFlushing s)

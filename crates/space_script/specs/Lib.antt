@@ -2,6 +2,7 @@
 pub mod Command
 pub mod Feeding
 pub mod Field
+pub mod Kept
 pub mod Number
 pub mod Refusal
 pub mod Reply

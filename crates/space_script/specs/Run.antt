@@ -83,6 +83,10 @@ KeepsReader s = s.reader_after.failures ≡ s.reader.failures
 abbrev pub KeepsWriter : {R W : Type 0} → Streams R W → Type 0
 KeepsWriter s = s.writer_after.failures ≡ s.writer.failures
 
+-- all that was written is flushed
+abbrev pub IsFlushed : {R W : Type 0} → Streams R W → Type 0
+IsFlushed s = s.writer_after.flushed ≡ true
+
 -- all that the reader had left is a script; its replies have gone out and are flushed
 pub record RunsWhole {R W : Type 0} (s : Streams R W) : Type 0 where
   pub text : List ℕ
@@ -158,7 +162,7 @@ pub record FailsWriting {R W : Type 0} (s : Streams R W) : Type 0 where
   pub count : ℕ
   pub gone_out : HasGoneOut s (replies ++ take count reply)
 
--- a flush failed; what was read before it is answered
+-- a flush failed; lines that have ended are answered, and no others
 pub record FailsFlushing {R W : Type 0} (s : Streams R W) : Type 0 where
   pub text : List ℕ
   pub come : HasCome s text
@@ -166,12 +170,13 @@ pub record FailsFlushing {R W : Type 0} (s : Streams R W) : Type 0 where
   pub failed : FailedBetween s.writer s.writer_after
   pub replies : List ℕ
   pub session : SessionValue
-  pub last : List ℕ
-  pub run : RunsUpTo text replies session (last ∷ [])
+  pub left : List (List ℕ)
+  pub some : 0 < length left
+  pub run : RunsUpTo text replies session left
   pub gone_out : HasGoneOut s replies
 
--- why a script ends before its end
+-- why a script ends before its end: a flush may fail behind what was read, or where memory ran out
 abbrev pub BreaksDown : {R W : Type 0} → Streams R W → ScriptError → Type 0
 BreaksDown s InputTooLong = RunsTooLong s
-BreaksDown s OutOfMemory = WantsMemory s
+BreaksDown s OutOfMemory = WantsMemory s × IsFlushed s
 BreaksDown s Device = FailsReading s ⊎ (FailsWriting s ⊎ FailsFlushing s)

@@ -1,6 +1,5 @@
 -- What the commands of a script do: steps of the space with transactions.
-use Rattle.std.specs.Prelude.{◌≡◌, ◌≢◌, ℕ, ◌⊎◌, true, false, List, [], ◌∷◌, ◌++◌, All, filter, slice_get, Option, Some, None, Ok, Err}
-use Rattle.std.specs.List.{remove}
+use Rattle.std.specs.Prelude.{◌≡◌, ◌≢◌, ◌≤◌, ℕ, ◌⊎◌, true, false, List, [], ◌∷◌, ◌++◌, All, filter, remove, slice_get, slice_set, Some, None, Ok, Err}
 use Rattle.tuple_match.specs.FieldValue.{FieldValue}
 use Rattle.tuple_space.specs.Step as space
 use Rattle.tuple_space.specs.declared.lease.Lease.{Lease}
@@ -27,12 +26,21 @@ session_of world kept = record { world = world; kept = kept }
 abbrev pub start : SessionValue
 start = session_of opening []
 
--- a transaction of this number is among those kept, and these are the others
-pub record TakesOut (kept : List TxnValue) (number : ℕ) (t : TxnValue) (rest : List TxnValue) : Type 0 where
-  pub place : ℕ
-  pub stands : slice_get kept place ≡ Some t
+-- what holds of every session: the transactions that are kept were begun in its world, and are live there
+abbrev pub IsGoing : World → TxnValue → Type 0
+IsGoing w t = (t.number ≤ w.begun) × (is_live_transaction w t.number ≡ true)
+
+abbrev pub IsSession : SessionValue → Type 0
+IsSession s = All (IsGoing s.world) s.kept
+
+-- no transaction that goes on in a world has ended in another one
+abbrev pub KeepsGoing : World → World → Type 0
+KeepsGoing old new = (t : TxnValue) → IsGoing old t → IsGoing new t
+
+-- a transaction of this number stands at this place among those kept
+pub record StandsAt (kept : List TxnValue) (number place : ℕ) (t : TxnValue) : Type 0 where
+  pub there : slice_get kept place ≡ Some t
   pub named : t.number ≡ number
-  pub others : rest ≡ remove kept place
 
 -- no transaction of this number is kept
 abbrev pub NoneKept : List TxnValue → ℕ → Type 0
@@ -77,47 +85,41 @@ TellsAnswer t done Done = Unit {0}
 TellsAnswer t (refused error) reply = IsRefusedReply error reply
 TellsAnswer _ _ _ = ⊥
 
--- what an option has, as a list
-abbrev pub option_list : {A : Type 0} → Option A → List A
-option_list None = []
-option_list (Some x) = x ∷ []
-
--- a search or a renewal under a transaction, and its value afterwards
-pub record Calls (old : World) (t : TxnValue) (call : Call) (reply : Reply) (new : World) (after : TxnValue) : Type 0 where
+-- a search or a renewal under the transaction at a place, where its value afterwards stands then
+pub record Calls (call : Call) (old : SessionValue) (place : ℕ) (t : TxnValue) (reply : Reply) (new : SessionValue) : Type 0 where
   pub answer : Answer
-  pub step : Step old t call answer new after
+  pub after : TxnValue
+  pub step : Step old.world t call answer new.world after
   pub told : TellsAnswer after answer reply
+  pub stands : new.kept ≡ slice_set old.kept place after
 
--- a commit or an abort: the transaction is spent where it is done, and else kept
+-- a commit or an abort of the transaction at a place: it is spent where that is done, and else kept
 abbrev pub left_by : Answer → TxnValue → List TxnValue
 left_by done t = []
 left_by _ t = t ∷ []
 
-pub record Ends (old : World) (t : TxnValue) (call : Call) (reply : Reply) (new : World) (left : List TxnValue) : Type 0 where
+pub record Ends (call : Call) (old : SessionValue) (place : ℕ) (t : TxnValue) (reply : Reply) (new : SessionValue) : Type 0 where
   pub answer : Answer
-  pub step : Step old t call answer new t
+  pub step : Step old.world t call answer new.world t
   pub told : TellsAnswer t answer reply
-  pub left_is : left ≡ left_by answer t
+  pub left : new.kept ≡ remove old.kept place ++ left_by answer t
 
 -- a transaction's value with one more write
 abbrev pub with_write : TxnValue → List FieldValue → Lease → TxnValue
 with_write t tuple lease = record t { writes = t.writes ++ record { tuple = tuple; lease = lease; taken = false } ∷ [] }
 
--- a write under a transaction, which is refused where that isn't live
-abbrev pub Writes : World → TxnValue → List FieldValue → Lease → Reply → TxnValue → Type 0
-Writes w t tuple lease Done after = (is_live_transaction w t.number ≡ true) × (after ≡ with_write t tuple lease)
-Writes w t tuple lease (Refused number) after = (is_live_transaction w t.number ≡ false) × (number ≡ 31) × (after ≡ t)
-Writes _ _ _ _ _ _ = ⊥
+-- a write under the transaction at a place, which is live
+pub record Writes (tuple : List FieldValue) (lease : Lease) (old : SessionValue) (place : ℕ) (t : TxnValue) (reply : Reply) (new : SessionValue) : Type 0 where
+  pub live : is_live_transaction old.world t.number ≡ true
+  pub told : reply ≡ Done
+  pub world : new.world ≡ old.world
+  pub stands : new.kept ≡ slice_set old.kept place (with_write t tuple lease)
 
--- what is done under a transaction of this number, and what is left of it; none that is kept is refused 31
-abbrev pub Under : SessionValue → ℕ → (World → TxnValue → Reply → World → List TxnValue → Type 0) → Reply → SessionValue → Type 0
+-- what is done under a transaction of this number; where none is kept, that is refused 31
+abbrev pub Under : SessionValue → ℕ → (SessionValue → ℕ → TxnValue → Reply → SessionValue → Type 0) → Reply → SessionValue → Type 0
 Under old number P reply new =
     (NoneKept old.kept number × (reply ≡ Refused 31) × (new ≡ old))
-    ⊎ ((t : TxnValue) × (rest : List TxnValue) × (left : List TxnValue) × TakesOut old.kept number t rest × P old.world t reply new.world left × (new.kept ≡ rest ++ left))
-
--- the same where one value is left
-abbrev pub Left : (TxnValue → Type 0) → List TxnValue → Type 0
-Left P left = (after : TxnValue) × (left ≡ after ∷ []) × P after
+    ⊎ ((place : ℕ) × (t : TxnValue) × StandsAt old.kept number place t × P old place t reply new)
 
 -- a transaction begun; it is kept where it is live
 abbrev pub Begins : SessionValue → ℕ → Reply → SessionValue → Type 0
@@ -138,14 +140,13 @@ OutsideAll old event reply new = Outside old.world event reply new.world × (new
 -- From old, a command may be answered this reply and lead to new.
 abbrev pub Performs : SessionValue → Command → Reply → SessionValue → Type 0
 Performs old (Out None lease tuple) reply new = OutsideAll old (space.out tuple lease) reply new
-Performs old (Out (Some number) lease tuple) reply new =
-    Under old number (λ w t r v left. (v ≡ w) × Left (Writes w t tuple lease r) left) reply new
+Performs old (Out (Some number) lease tuple) reply new = Under old number (Writes tuple lease) reply new
 Performs old (Inp None template) reply new = OutsideAll old (space.inp template) reply new
-Performs old (Inp (Some number) template) reply new = Under old number (λ w t r v left. Left (Calls w t (inp_in template) r v) left) reply new
+Performs old (Inp (Some number) template) reply new = Under old number (Calls (inp_in template)) reply new
 Performs old (Rdp None template) reply new = OutsideAll old (space.rdp template) reply new
-Performs old (Rdp (Some number) template) reply new = Under old number (λ w t r v left. Left (Calls w t (rdp_in template) r v) left) reply new
+Performs old (Rdp (Some number) template) reply new = Under old number (Calls (rdp_in template)) reply new
 Performs old (Begin asked) reply new = Begins old asked reply new
-Performs old (Renew number asked) reply new = Under old number (λ w t r v left. Left (Calls w t (renew_txn asked) r v) left) reply new
-Performs old (Commit number) reply new = Under old number (λ w t r v left. Ends w t commit r v left) reply new
-Performs old (Abort number) reply new = Under old number (λ w t r v left. Ends w t abort r v left) reply new
+Performs old (Renew number asked) reply new = Under old number (Calls (renew_txn asked)) reply new
+Performs old (Commit number) reply new = Under old number (Ends commit) reply new
+Performs old (Abort number) reply new = Under old number (Ends abort) reply new
 Performs old (Advance moment) reply new = Advances old.world moment reply new.world × (new.kept ≡ live_of new.world old.kept)

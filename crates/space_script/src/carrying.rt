@@ -1,11 +1,10 @@
-//! The calls of the space that commands ask for, and how their answers are told.
+//! The calls outside all transactions that commands ask for, and how the answers of the space are told.
 
 ghost use Rattle.std.specs.Prelude.{◌≡◌, IfOk, IfSome};
 ghost use Rattle.space_txn.specs.Finding.{Shows};
 ghost use Rattle.tuple_space.specs.Step as space;
-ghost use Rattle.space_txn.specs.Machine.{abort as abort_call, commit as commit_call, end_answer, find_answer, inp_in, rdp_in, refused, renew_answer, renew_txn};
-ghost use Rattle.space_txn.specs.Txn.{TxnValue};
-ghost use Rattle.space_script.specs.Session.{Advances, Calls, Ends, Outside, Tells, IsRefusedReply, TellsAnswer, Writes, option_list};
+ghost use Rattle.space_txn.specs.Machine.{find_answer};
+ghost use Rattle.space_script.specs.Session.{IsRefusedReply, KeepsGoing, Outside, Tells, TellsAnswer};
 
 use crate::reply::Reply;
 use space_txn::{Found, Txn, TxnError, TxnSpace};
@@ -15,7 +14,8 @@ use tuple_space::{EntryId, Lease, SpaceError};
 
 /// Puts a tuple out, outside all transactions.
 pub(crate) fn put_out(world: &mut TxnSpace, tuple: Tuple, lease: Lease) -> Result<Reply, AllocError>
-    ensures { IfOk result (λ reply. Outside world.old (space.out tuple lease) reply world.new) }
+    ensures done { IfOk result (λ reply. Outside world.old (space.out tuple lease) reply world.new) }
+    ensures going { KeepsGoing world.old world.new }
 {
     let answered = world.out(tuple, lease);
     told_put(answered)
@@ -33,7 +33,8 @@ fn told_put(answered: Result<EntryId, (SpaceError, Tuple)>) -> Result<Reply, All
 
 /// Takes a tuple, outside all transactions.
 pub(crate) fn take(world: &mut TxnSpace, template: &Template) -> Reply
-    ensures { Outside world.old (space.inp template.now) result world.new }
+    ensures done { Outside world.old (space.inp template.now) result world.new }
+    ensures going { KeepsGoing world.old world.new }
 {
     let answered = world.inp(template);
     told_taken(answered)
@@ -66,67 +67,8 @@ fn told_read(answered: Result<Option<(EntryId, Tuple)>, SpaceError>) -> Result<R
     }
 }
 
-/// Moves the moment on.
-pub(crate) fn advance(world: &mut TxnSpace, moment: u64) -> Result<Reply, AllocError>
-    ensures { IfOk result (λ reply. Advances world.old moment reply world.new) }
-{
-    let answered = world.advance(moment);
-    told_advance(answered)
-}
-
-fn told_advance(answered: Result<(), SpaceError>) -> Result<Reply, AllocError>
-    ensures { IfOk result (λ reply. Tells (space.done_reply answered) reply) }
-{
-    match answered {
-        Ok(()) => Ok(Reply::Done),
-        Err(SpaceError::Exhausted) => Ok(Reply::Refused(33)),
-        Err(SpaceError::NotThere | SpaceError::OutOfMemory) => Err(AllocError),
-    }
-}
-
-/// Writes a tuple under a transaction.
-pub(crate) fn write_under(
-    world: &TxnSpace,
-    txn: &mut Txn,
-    tuple: Tuple,
-    lease: Lease,
-) -> Result<Reply, AllocError>
-    ensures { IfOk result (λ reply. Writes world.now txn.old tuple lease reply txn.new) }
-{
-    if !world.is_live(txn) {
-        return Ok(Reply::Refused(31));
-    }
-    match txn.out_in(tuple, lease) {
-        Ok(()) => Ok(Reply::Done),
-        Err(_) => Err(AllocError),
-    }
-}
-
-/// Takes a tuple under a transaction.
-pub(crate) fn take_under(
-    world: &mut TxnSpace,
-    txn: &mut Txn,
-    template: &Template,
-) -> Result<Reply, AllocError>
-    ensures { IfOk result (λ reply. Calls world.old txn.old (inp_in template.now) reply world.new txn.new) }
-{
-    let answered = world.inp_in(txn, template);
-    told_found(txn, template, answered)
-}
-
-/// Copies a tuple under a transaction.
-pub(crate) fn read_under(
-    world: &mut TxnSpace,
-    txn: &mut Txn,
-    template: &Template,
-) -> Result<Reply, AllocError>
-    ensures { IfOk result (λ reply. Calls world.old txn.old (rdp_in template.now) reply world.new txn.new) }
-{
-    let answered = world.rdp_in(txn, template);
-    told_found(txn, template, answered)
-}
-
-fn told_found(
+/// The reply to a search under a transaction.
+pub(crate) fn told_found(
     txn: &Txn,
     template: &Template,
     answered: Result<Option<Found>, TxnError>,
@@ -144,18 +86,8 @@ fn told_found(
     }
 }
 
-/// Renews a transaction's lease.
-pub(crate) fn renew(world: &mut TxnSpace, txn: &Txn, asked: u64) -> Result<Reply, AllocError>
-    ensures { IfOk result (λ reply. Calls world.old txn.now (renew_txn asked) reply world.new txn.now) }
-{
-    match world.renew_txn(txn, asked) {
-        Ok(()) => Ok(Reply::Done),
-        Err(error) => told_refusal(error),
-    }
-}
-
 /// A refusal by its number.
-fn told_refusal(error: TxnError) -> Result<Reply, AllocError>
+pub(crate) fn told_refusal(error: TxnError) -> Result<Reply, AllocError>
     ensures { IfOk result (λ reply. IsRefusedReply error reply) }
 {
     match error {
@@ -163,25 +95,5 @@ fn told_refusal(error: TxnError) -> Result<Reply, AllocError>
         TxnError::Foreign => Ok(Reply::Refused(32)),
         TxnError::Exhausted => Ok(Reply::Refused(33)),
         TxnError::OutOfMemory => Err(AllocError),
-    }
-}
-
-/// Ends a transaction and makes it count. Where that is refused, it comes back.
-pub(crate) fn commit(world: &mut TxnSpace, txn: Txn) -> (Result<Reply, AllocError>, Option<Txn>)
-    ensures { IfOk result.0 (λ reply. Ends world.old txn commit_call reply world.new (option_list result.1)) }
-{
-    match world.commit(txn) {
-        Ok(()) => (Ok(Reply::Done), None),
-        Err((error, txn)) => (told_refusal(error), Some(txn)),
-    }
-}
-
-/// Ends a transaction. Where that is refused, it comes back.
-pub(crate) fn abort(world: &mut TxnSpace, txn: Txn) -> (Result<Reply, AllocError>, Option<Txn>)
-    ensures { IfOk result.0 (λ reply. Ends world.old txn abort_call reply world.new (option_list result.1)) }
-{
-    match world.abort(txn) {
-        Ok(()) => (Ok(Reply::Done), None),
-        Err((error, txn)) => (told_refusal(error), Some(txn)),
     }
 }

@@ -1,7 +1,7 @@
 //! A whole script, from bytes to bytes.
 
 ghost use Rattle.std.specs.Prelude.{MatchResult};
-ghost use Rattle.space_script.specs.Feeding.{FedWhole, FeedingFails};
+ghost use Rattle.space_script.specs.Feeding.{FedWhole, FeedingFails, StopsShort};
 ghost use Rattle.space_script.specs.Run.{BreaksDown, RunsWhole, Streams};
 
 use crate::answering::answer;
@@ -21,9 +21,9 @@ const PIECE: usize = 32_768;
 /// Carries out the lines of a script on a space of its own, and writes a reply for each that has words.
 ///
 /// A line is carried out once the line feed that ends it has been read, the last one at the end of the input, and replies are
-/// flushed before more is read. Where the script is broken off, the replies of the lines before stand written; where a write
-/// fails, a beginning of the next reply stands behind them. A line is kept only as far as it takes to show that it is too
-/// long.
+/// flushed before more is read. Where the script is broken off, the replies of the lines before stand written, and they are
+/// flushed before want of memory is told; where a write fails, a beginning of the next reply stands behind them. A line is
+/// kept only as far as it takes to show that it is too long.
 pub fn run_script<R: Read, W: Write>(
     alloc: Global,
     reader: &mut Counted<R>,
@@ -37,6 +37,28 @@ pub fn run_script<R: Read, W: Write>(
       writer = writer.old;
       writer_after = writer.new;
     } in MatchResult result (λ _. RunsWhole s) (BreaksDown s) }
+{
+    let ran = run_lines(alloc, reader, writer);
+    if ran == Err(ScriptError::OutOfMemory) {
+        finish(writer)?;
+    }
+    ran
+}
+
+/// Carries out the lines of a script. Where memory runs out, replies may still wait for a flush.
+fn run_lines<R: Read, W: Write>(
+    alloc: Global,
+    reader: &mut Counted<R>,
+    writer: &mut Counted<W>,
+) -> Result<(), ScriptError>
+    ensures { let s : Streams R W = record {
+      bytes_left = R.remaining;
+      bytes_taken = W.contents;
+      reader = reader.old;
+      reader_after = reader.new;
+      writer = writer.old;
+      writer_after = writer.new;
+    } in MatchResult result (λ _. RunsWhole s) (StopsShort s) }
 {
     let mut session = Session::new(alloc);
     let mut line = Vec::new(alloc);

@@ -1,47 +1,50 @@
 //! A space on which the commands of a script are carried out.
 
 ghost use Rattle.std.specs.Prelude.{◌≡◌, IfOk};
-ghost use Rattle.space_script.specs.Session.{Performs, session_of, start};
+ghost use Rattle.space_script.specs.Session.{IsSession, Performs, session_of, start};
 
-use crate::carrying::{advance, put_out, read, take};
+use crate::carrying::{put_out, read, take};
 use crate::command::Command;
 use crate::keeping::{
-    abort_kept, begin_kept, commit_kept, inp_kept, keep_live, out_kept, rdp_kept, renew_kept,
+    abort_kept, advance_kept, begin_kept, commit_kept, inp_kept, out_kept, rdp_kept, renew_kept,
 };
+use crate::kept::Kept;
 use crate::reply::Reply;
-use space_txn::{Txn, TxnSpace};
+use space_txn::TxnSpace;
 use std::alloc::{AllocError, Global};
 use std::marker::Model;
 
 /// A space of tuples, and the transactions that a script has begun and that live.
 #[derive(Debug, Drop)]
-pub struct Session {
+pub(crate) struct Session {
     space: TxnSpace,
-    kept: Vec<Txn>,
+    kept: Kept,
 }
 
 impl Model for Session {
-    ghost use Rattle.space_script.specs.Session.{SessionValue, session_of as the_session};
+    ghost use Rattle.space_script.specs.Session.{IsSession, SessionValue, session_of as the_session};
 
     ghost Value = { SessionValue };
 
     ghost view = { λ s. the_session s.space s.kept.items };
+
+    ghost invariant = { λ s. IsSession (the_session s.space s.kept.items) };
 }
 
 impl Session {
     /// A space with no tuples and no transactions, at the moment 0. Takes no memory.
-    pub fn new(alloc: Global) -> Session
+    pub(crate) fn new(alloc: Global) -> Session
         ensures { result ≡ start }
     {
         Session {
             space: TxnSpace::new(alloc),
-            kept: Vec::new(alloc),
+            kept: Kept::new(alloc),
         }
     }
 
-    /// Carries a command out, and tells the reply. The one error is want of memory; of what the session holds then nothing
-    /// is said.
-    pub fn perform(&mut self, command: Command) -> Result<Reply, AllocError>
+    /// Carries a command out, and tells the reply. The one error is want of memory, which ends a script: of what the session
+    /// holds then no more is said than of every session.
+    pub(crate) fn perform(&mut self, command: Command) -> Result<Reply, AllocError>
         ensures { IfOk result (λ reply. Performs self.old command reply self.new) }
     {
         carry_out(&mut self.space, &mut self.kept, command)
@@ -49,12 +52,10 @@ impl Session {
 }
 
 /// Carries a command out on a space, for the transactions that are kept.
-fn carry_out(
-    space: &mut TxnSpace,
-    kept: &mut Vec<Txn>,
-    command: Command,
-) -> Result<Reply, AllocError>
-    ensures { IfOk result (λ reply. Performs (session_of space.old kept.old.items) command reply (session_of space.new kept.new.items)) }
+fn carry_out(space: &mut TxnSpace, kept: &mut Kept, command: Command) -> Result<Reply, AllocError>
+    requires { IsSession (session_of space.old kept.old.items) }
+    ensures done { IfOk result (λ reply. Performs (session_of space.old kept.old.items) command reply (session_of space.new kept.new.items)) }
+    ensures going { IsSession (session_of space.new kept.new.items) }
 {
     match command {
         Command::Out {
@@ -90,10 +91,6 @@ fn carry_out(
         } => renew_kept(space, kept, transaction, milliseconds),
         Command::Commit { transaction } => commit_kept(space, kept, transaction),
         Command::Abort { transaction } => abort_kept(space, kept, transaction),
-        Command::Advance { moment } => {
-            let reply = advance(space, moment)?;
-            keep_live(space, kept);
-            Ok(reply)
-        }
+        Command::Advance { moment } => Ok(advance_kept(space, kept, moment)),
     }
 }

@@ -202,6 +202,31 @@ fn agrees_with_a_plain_table(rt: HostRuntime) -> Result<(), Fail> {
     expect_output(alloc, script.as_bytes(), replies.as_bytes())
 }
 
+// As many transactions as a script may well begin, each found again behind the others, and a lease that ends under them.
+#[test]
+fn keeps_many_transactions(rt: HostRuntime) -> Result<(), Fail> {
+    let alloc = rt.alloc();
+    let mut script = String::new(alloc);
+    let mut replies = String::new(alloc);
+    for number in 1..=500u64 {
+        let lease = if number % 2 == 0 { 1 } else { 10 };
+        script.push_str(&format!(in alloc; "begin {lease}\nout {number} forever job {number}\n")?)?;
+        replies.push_str(&format!(in alloc; "txn {number}\nok\n")?)?;
+    }
+    script.push_str("advance 1\n")?;
+    replies.push_str("ok\n")?;
+    for number in 1..=500u64 {
+        script.push_str(&format!(in alloc; "commit {number}\ninp - job {number}\n")?)?;
+        let want = if number % 2 == 0 {
+            format!(in alloc; "refused 31\nnone\n")?
+        } else {
+            format!(in alloc; "ok\ngot job {number}\n")?
+        };
+        replies.push_str(&want)?;
+    }
+    expect_output(alloc, script.as_bytes(), replies.as_bytes())
+}
+
 #[test]
 fn names_the_faults(rt: HostRuntime) -> Result<(), Fail> {
     let alloc = rt.alloc();

@@ -2,7 +2,7 @@
 
 use crate::run_tests::expect_output;
 use qap_io::OneByte;
-use space_script::{LineError, Reply, Session, read_line, reply_line};
+use space_script::{LineError, Reply, read_line, reply_line};
 use std::alloc::Global;
 use std::test::Fail;
 use tuple_match::{Field, Tuple};
@@ -223,10 +223,9 @@ fn names_the_errors(rt: HostRuntime) -> Result<(), Fail> {
     Ok(())
 }
 
-/// Carries lines out one by one, as a script, and as one that comes a byte at a time, and compares each reply with the line
-/// that stands beside it.
+/// Carries lines out as a script, and as one that comes a byte at a time, and compares each reply with the line that stands
+/// beside it.
 fn expect_replies(alloc: Global, rows: &[(&str, &str)]) -> Result<(), Fail> {
-    let mut session = Session::new(alloc);
     let mut script = String::new(alloc);
     let mut replies = String::new(alloc);
     for (line, want) in rows {
@@ -234,16 +233,6 @@ fn expect_replies(alloc: Global, rows: &[(&str, &str)]) -> Result<(), Fail> {
         script.push('\n')?;
         replies.push_str(want)?;
         replies.push('\n')?;
-        let reply = match read_line(alloc, line.as_bytes()) {
-            Ok(Some(command)) => session.perform(command)?,
-            Ok(None) => return Err(Fail::new("a line without words")),
-            Err(LineError::BadCommand) => Reply::Refused(36),
-            Err(LineError::OutOfMemory) => return Err(Fail::new("out of memory")),
-        };
-        let text = reply_line(alloc, &reply)?;
-        if text.strip_suffix(b"\n") != Some(want.as_bytes()) {
-            return Err(Fail::new(format_args!("another reply to {line}")));
-        }
     }
     expect_output(alloc, script.as_bytes(), replies.as_bytes())?;
     expect_output(alloc, OneByte::new(script.as_bytes()), replies.as_bytes())

@@ -16,7 +16,7 @@ use Rattle.tuple_space.specs.declared.entry.Entry.{Entry}
 use Rattle.tuple_space.specs.declared.hold.Hold.{Hold}
 use Rattle.tuple_space.proofs.EntryLemmas.{IsOnce, once_head, once_tail}
 use Rattle.tuple_space.proofs.RowLemmas.{any_place, only_at}
-use Rattle.space_txn.specs.Content.{ChangesContent, added_of, gone_of, is_gone, is_kept, kept_of}
+use Rattle.space_txn.specs.Content.{ChangesContent, added_of, gone_of, is_gone, is_kept, is_made_permanent, kept_of}
 use Rattle.space_txn.specs.Machine.{Step, commit, done, commit_at}
 use Rattle.space_txn.specs.Marks.{mark_from, marks_of}
 use Rattle.space_txn.specs.Txn.{TxnValue}
@@ -122,27 +122,26 @@ kept_at f e (Some h) taken is stays =
     ap (λ b. cond (not b) (cond (not h.taken && h.permanent) (weight f e) 0) 0) is
     ∙ kept_cases h.taken h.permanent (is_permanent e.end) (f e.tuple) stays
 
--- whether the entry of a number is permanent
-abbrev pub is_permanent_at : List Entry → Mark → Bool
-is_permanent_at es m = list_any (λ e. eqb e.number m.entry && is_permanent e.end) es
-
-permanent_told : (es : List Entry) → IsRising es → All (λ e. (h : Hold) → is_permanent_at es (mark_from e h) ≡ is_permanent e.end) es
-permanent_told es rising = λ k d lt h.
+-- a mark that a transaction has on an entry tells whether that is permanent now
+permanent_told : (w : World) → IsRising w.space.entries → All (λ e. (h : Hold) → is_made_permanent w (mark_from e h) ≡ is_permanent e.end) w.space.entries
+permanent_told w rising = λ k d lt h.
+    let es = w.space.entries in
     let e = get_or es k d in
     let is : e ≡ get_or es k e = get_or_default es k d e lt in
     any_place e.number (λ (x : Entry). is_permanent x.end) es k e
     (only_at e.number es k rising lt (at_read es (λ (x : Entry). x.number ≡ e.number) k e lt is refl)) is
 
 -- what a transaction took, weighed by its marks
-sum_of_gone : (f : List FieldValue → ℕ) (number : ℕ) (es : List Entry) → IsRising es → All IsEntry es
-    → sum_by (weight f) (filter (is_taken_by number) es) ≡ sum_by f (gone_of (is_permanent_at es) (marks_of number es))
-sum_of_gone f number es rising entries =
-    let renewed = is_permanent_at es in
+sum_of_gone : (f : List FieldValue → ℕ) (number : ℕ) (w : World) → IsSpace w.space
+    → sum_by (weight f) (filter (is_taken_by number) w.space.entries) ≡ sum_by f (gone_of (is_made_permanent w) (marks_of number w.space.entries))
+sum_of_gone f number w valid =
+    let es = w.space.entries in
+    let renewed = is_made_permanent w in
     sum_of_filter (weight f) (is_taken_by number) es
     ∙ sum_alike (λ (e : Entry). cond (is_taken_by number e) (weight f e) 0) (λ (e : Entry). mark_weight f (is_gone renewed) e (hold_at number e)) es
     (λ k d lt. let e = get_or es k d in
-    gone_at f renewed e (hold_at number e) (is_taken_by number e) (takes_as_held number e.holds (entries k d lt).once)
-    (stays_as_held (is_permanent e.end) number e.holds (entries k d lt).stays) (permanent_told es rising k d lt))
+    gone_at f renewed e (hold_at number e) (is_taken_by number e) (takes_as_held number e.holds (valid.entries k d lt).once)
+    (stays_as_held (is_permanent e.end) number e.holds (valid.entries k d lt).stays) (permanent_told w valid.rising k d lt))
     ∙ sym (sum_of_marks f (is_gone renewed) number es)
 
 -- what it read and didn't take
@@ -164,17 +163,16 @@ commit_changes w t valid own =
     let number = t.number in
     let es = w.space.entries in
     let left = without_taken number es in
-    let renewed = is_permanent_at es in
+    let renewed = is_made_permanent w in
     let is_read : Entry → Bool = λ e. keeps (hold_at number e) in
     let rest = permanent_tuples (filter (λ e. not (is_read e)) left) in
     record {
-      renewed = renewed;
       rest = rest;
       before = λ f.
           let parts = sum_by-append f (gone_of renewed t.marks) (kept_of t.marks ++ rest) in
           let others = sum_by-append f (kept_of t.marks) rest in
           let all = sum_of_permanent f es in
-          let gone = sum_of_gone f number es valid.rising valid.entries in
+          let gone = sum_of_gone f number w valid in
           let gone_own = ap (λ (ms : List Mark). sum_by f (gone_of renewed ms)) own in
           let kept = sum_of_kept_marks f number es valid.entries in
           let kept_own = ap (λ (ms : List Mark). sum_by f (kept_of ms)) own in

@@ -1,14 +1,14 @@
 use Rattle.std.proofs.Common.{◌≡◌, ℕ, zero, suc, ◌<◌, Bool, true, false, List, [], ◌∷◌, length, get_or, Option, Some, None, ap, ◌∙◌, sym, subst, refl, cond, eqb, ltb, arith}
-use Rattle.std.specs.Prelude.{not, ◌&&◌, All, Contains, IfSome, filter, find, is_some, map, slice_get, Ok}
+use Rattle.std.specs.Prelude.{not, ◌&&◌, ◌||◌, All, Contains, IfSome, filter, find, is_some, map, slice_get, Ok}
 use Rattle.std.specs.List.{cons_option, list_any}
 use Rattle.std.specs.Option.{option_map}
 use Rattle.std.proofs.lemmas.Bool.{cond-true, cond-false, cond_both, eq-eqb, ne_eqb, ltb-true, or_parts, false≢true}
-use Rattle.std.proofs.lemmas.List.Elements.{All-head, All-tail}
+use Rattle.std.proofs.lemmas.List.Folds.{list_any_at}
 use Rattle.tuple_match.specs.FieldValue.{FieldValue}
 use Rattle.tuple_match.specs.PatternValue.{PatternValue, Matches}
 use Rattle.tuple_match.proofs.Deciding.{Decides-does_match}
 use Rattle.tuple_space.specs.Lease.{is_live, is_permanent}
-use Rattle.tuple_space.specs.Entry.{IsEntry, can_be_read, is_open, is_taken}
+use Rattle.tuple_space.specs.Entry.{IsEntry, can_be_read, is_held_by, is_open, is_taken}
 use Rattle.tuple_space.specs.Rows.{IsRising, changed, permanent_tuples}
 use Rattle.tuple_space.specs.Space.{IsSpace, SpaceValue, held_by, with_entries}
 use Rattle.tuple_space.specs.Step.{IsHad}
@@ -29,7 +29,7 @@ use Rattle.space_txn.specs.declared.txn.Found.{Found}
 use Rattle.space_txn.specs.declared.txn.Found.TheVariants.{Entry as Stored, Own}
 use Rattle.space_txn.proofs.CommitLemmas.{Stays, stays_as_held}
 use Rattle.tuple_space.proofs.RowLemmas.{rising_head, rising_tail}
-use Rattle.space_txn.proofs.MarkLemmas.{hold_at, marks_above, marks_after, with_mark_here, with_mark_later}
+use Rattle.space_txn.proofs.MarkLemmas.{find_above, hold_at, marks_above, marks_after, with_mark_here, with_mark_later}
 
 both_true : (a b : Bool) → (a && b) ≡ true → (a ≡ true) × (b ≡ true)
 both_true true b e = (refl, e)
@@ -59,14 +59,6 @@ untaken_mark : (e : Entry) (o : Option Hold) → Untaken o → IfSome (option_ma
 untaken_mark e None h = tt
 untaken_mark e (Some x) h = h
 
--- no mark on a later entry is on this one
-find_above : (number : ℕ) (ms : List Mark) → All (λ (m : Mark). number < m.entry) ms → find (λ (m : Mark). eqb m.entry number) ms ≡ None
-find_above number [] above = refl
-find_above number (m ∷ ms) above =
-    let P : Mark → Type 0 = λ x. number < x.entry in
-    let less : number < m.entry = All-head P m ms above in
-    cond-false (eqb m.entry number) (Some m) (find (λ (x : Mark). eqb x.entry number) ms) (ne_eqb _ _ (λ same. omega arith)) ∙ find_above number ms (All-tail P m ms above)
-
 find_front : (e : Entry) (o : Option Hold) (ms : List Mark) → All (λ (m : Mark). e.number < m.entry) ms → find (λ (m : Mark). eqb m.entry e.number) (cons_option (option_map (mark_from e) o) ms) ≡ option_map (mark_from e) o
 find_front e None ms above = find_above e.number ms above
 find_front e (Some h) ms above =
@@ -78,7 +70,7 @@ find_past number x (Some h) ms less =
     cond-false (eqb x.number number) (Some (mark_from x h)) (find (λ (m : Mark). eqb m.entry number) ms) (ne_eqb _ _ (λ same. omega arith))
 
 -- the mark that a transaction has on an entry is found among its marks
-find_mark : (holder : ℕ) (es : List Entry) (i : ℕ) (e : Entry) → IsRising es → i < length es → get_or es i e ≡ e → find (λ (m : Mark). eqb m.entry e.number) (marks_of holder es) ≡ mark_of holder e
+pub find_mark : (holder : ℕ) (es : List Entry) (i : ℕ) (e : Entry) → IsRising es → i < length es → get_or es i e ≡ e → find (λ (m : Mark). eqb m.entry e.number) (marks_of holder es) ≡ mark_of holder e
 find_mark holder [] i e rising lt is = absurd (omega arith)
 find_mark holder (x ∷ xs) zero e rising lt is =
     let P : Entry → Type 0 = λ y. find (λ (m : Mark). eqb m.entry y.number) (marks_of holder (x ∷ xs)) ≡ mark_of holder y in
@@ -89,6 +81,51 @@ find_mark holder (x ∷ xs) (suc i) e rising lt is =
     let less_at = rising_head x xs rising i e within in
     let less : x.number < e.number = omega arith in
     find_past e.number x (hold_at holder x) (marks_of holder xs) less ∙ find_mark holder xs i e (rising_tail x xs rising) within is
+
+-- a transaction holds an entry that it has a mark on
+pub marked_hold : (holder : ℕ) (es : List Entry) (e : Entry) → IsRising es → Contains es e → is_some (find (λ (m : Mark). eqb m.entry e.number) (marks_of holder es)) ≡ true
+    → (h : Hold) × (hold_at holder e ≡ Some h)
+marked_hold holder es e rising at marked = by (hold_at holder e) refl
+  where
+    by : (o : Option Hold) → hold_at holder e ≡ o → (h : Hold) × (hold_at holder e ≡ Some h)
+    by None is = absurd (false≢true (sym (ap is_some (find_mark holder es at.0 e rising at.1 at.2 ∙ ap (option_map (mark_from e)) is)) ∙ marked))
+    by (Some h) is = (h, is)
+
+found_held : (holder : ℕ) (hs : List Hold) → is_some (find (λ (h : Hold). eqb h.by holder) hs) ≡ list_any (λ (h : Hold). eqb h.by holder) hs
+found_held holder [] = refl
+found_held holder (h ∷ hs) = by (eqb h.by holder) (found_held holder hs)
+  where
+    by : (b : Bool) → is_some (find (λ (x : Hold). eqb x.by holder) hs) ≡ list_any (λ (x : Hold). eqb x.by holder) hs
+        → is_some (cond b (Some h) (find (λ (x : Hold). eqb x.by holder) hs)) ≡ (b || list_any (λ (x : Hold). eqb x.by holder) hs)
+    by true rest = refl
+    by false rest = rest
+
+pub marked_held : (holder number : ℕ) (es : List Entry) (e : Entry) → IsRising es → Contains es e → number ≡ e.number
+    → is_some (find (λ (m : Mark). eqb m.entry number) (marks_of holder es)) ≡ true → list_any (λ (x : Entry). eqb x.number number && is_held_by holder x) es ≡ true
+marked_held holder number es e rising at is marked =
+    let test : Entry → Bool = λ x. eqb x.number number && is_held_by holder x in
+    let had = marked_hold holder es e rising at (subst (λ n. is_some (find (λ (m : Mark). eqb m.entry n) (marks_of holder es)) ≡ true) is marked) in
+    let held : is_held_by holder e ≡ true = sym (found_held holder e.holds) ∙ ap is_some had.1 in
+    list_any_at test es at.0 e at.1 (ap test at.2 ∙ ap (λ b. b && is_held_by holder e) (eq-eqb _ _ (sym is)) ∙ held)
+
+-- the marks of a transaction after it took an entry that it had read
+pub marks_retaken : (holder number : ℕ) (permanent : Bool) (es : List Entry) (e : Entry) (ms new : List Mark) → IsRising es → Contains es e → number ≡ e.number → permanent ≡ is_permanent e.end
+    → ms ≡ marks_of holder es → is_some (find (λ (m : Mark). eqb m.entry number) ms) ≡ true
+    → ((m : Mark) → find (λ (x : Mark). eqb x.entry number) ms ≡ Some m → new ≡ with_mark (record m { taken = true; permanent = permanent }) ms)
+    → new ≡ marks_of holder (changed number (held_by holder true) es)
+marks_retaken holder number permanent es e ms new rising at is sure own marked told =
+    let all = marks_of holder es in
+    let had = marked_hold holder es e rising at
+    (subst (λ (l : List Mark). is_some (find (λ (m : Mark). eqb m.entry e.number) l) ≡ true) own
+    (subst (λ n. is_some (find (λ (m : Mark). eqb m.entry n) ms) ≡ true) is marked)) in
+    let found : find (λ (m : Mark). eqb m.entry number) ms ≡ Some (mark_from e had.0) =
+    ap (find (λ (m : Mark). eqb m.entry number)) own ∙ ap (λ n. find (λ (m : Mark). eqb m.entry n) all) is
+    ∙ find_mark holder es at.0 e rising at.1 at.2 ∙ ap (option_map (mark_from e)) had.1 in
+    told (mark_from e had.0) found
+    ∙ ap (λ b. with_mark (record { entry = e.number; tuple = e.tuple; taken = true; permanent = b }) ms) sure
+    ∙ ap (with_mark (new_mark e true)) own
+    ∙ marks_after holder true es at.0 e rising at.1 at.2
+    ∙ sym (ap (λ n. marks_of holder (changed n (held_by holder true) es)) is)
 
 -- a mark that is there already, put once more, changes nothing
 mark_again : (holder : ℕ) (es : List Entry) (i : ℕ) (e : Entry) (h : Hold) → IsRising es → i < length es → get_or es i e ≡ e → hold_at holder e ≡ Some h → with_mark (mark_from e h) (marks_of holder es) ≡ marks_of holder es
@@ -120,11 +157,11 @@ find_with_mark m (x ∷ xs) =
     cond-false (eqb x.entry m.entry) (Some x) (find (λ (y : Mark). eqb y.entry m.entry) (with_mark m xs)) (ne_eqb _ _ (λ same. omega arith)) ∙ find_with_mark m xs)
     (λ other. cond_both (eqb x.entry m.entry) (m ∷ xs) (m ∷ x ∷ xs) P (λ same. first xs) (λ behind. first (x ∷ xs)))
 
-contains_behind : {X : Type 0} (y : X) (xs : List X) (x : X) → Contains xs x → Contains (y ∷ xs) x
+pub contains_behind : {X : Type 0} (y : X) (xs : List X) (x : X) → Contains xs x → Contains (y ∷ xs) x
 contains_behind y xs x h = let lt = h.1 in (suc h.0, omega arith, h.2)
 
 -- what passes a test is among what passes it
-contains_kept : {X Y : Type 0} (g : X → Y) (p : X → Bool) (xs : List X) (i : ℕ) (x : X) → i < length xs → get_or xs i x ≡ x → p x ≡ true → Contains (map g (filter p xs)) (g x)
+pub contains_kept : {X Y : Type 0} (g : X → Y) (p : X → Bool) (xs : List X) (i : ℕ) (x : X) → i < length xs → get_or xs i x ≡ x → p x ≡ true → Contains (map g (filter p xs)) (g x)
 contains_kept g p [] i x lt is sure = absurd (omega arith)
 contains_kept {X} {Y} g p (y ∷ ys) zero x lt is sure =
     let P : X → Type 0 = λ z. Contains (map g (cond (p z) (z ∷ filter p ys) (filter p ys))) (g x) in

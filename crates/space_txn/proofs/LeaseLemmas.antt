@@ -1,19 +1,20 @@
-use Rattle.std.proofs.Common.{◌≡◌, ℕ, zero, suc, ◌+◌, ◌<◌, Bool, true, false, List, [], ◌∷◌, length, get_or, ap, ◌∙◌, sym, refl, eqb, arith}
-use Rattle.std.specs.Prelude.{◌≢◌, not, ◌||◌, All, Contains, filter, max}
+use Rattle.std.proofs.Common.{◌≡◌, ℕ, zero, suc, ◌+◌, ◌<◌, ◌≤◌, Bool, true, false, List, [], ◌∷◌, ◌++◌, append_assoc, append-nil, cond, length, ltb, get_or, ap, ◌∙◌, sym, refl, eqb, arith}
+use Rattle.std.specs.Prelude.{◌≢◌, not, ◌||◌, All, Contains, filter, map, max}
 use Rattle.std.specs.List.{list_any}
-use Rattle.std.proofs.lemmas.Bool.{cond-true, cond-false, cond_both, eq-eqb, lt-ltb, ltb-true, ne_eqb}
-use Rattle.std.proofs.lemmas.List.Elements.{All-filter, All-head, All-map, All-push, All-tail}
+use Rattle.std.proofs.lemmas.Bool.{cond-true, cond-false, cond_both, eq-eqb, le-ltb, lt-ltb, ltb-true, ne_eqb}
+use Rattle.std.proofs.lemmas.List.{map-append}
+use Rattle.std.proofs.lemmas.List.Elements.{All-filter, All-head, All-map, All-tail, filter-append}
 use Rattle.tuple_space.specs.Entry.{is_held_by, is_taken_by, unheld}
 use Rattle.tuple_space.specs.Holds.{holds_without}
 use Rattle.tuple_space.specs.Lease.{granted, is_live, is_permanent, later}
-use Rattle.tuple_space.specs.Space.{IsSpace, SpaceValue, put, stays_without, without_taken}
+use Rattle.tuple_space.specs.Space.{IsSpace, SpaceValue, put, released, stays_without, without_taken}
 use Rattle.tuple_space.specs.Writes.{put_each}
 use Rattle.tuple_space.specs.declared.entry.Entry.{Entry}
 use Rattle.tuple_space.specs.declared.hold.Hold.{Hold}
 use Rattle.tuple_space.specs.declared.lease.LeaseEnd.{LeaseEnd}
 use Rattle.tuple_space.specs.declared.lease.LeaseEnd.TheVariants.{Never, At}
 use Rattle.tuple_space.specs.declared.write.Write.{Write}
-use Rattle.space_txn.specs.Granting.{IsGranted}
+use Rattle.space_txn.specs.Granting.{entries_for, granted_entries}
 use Rattle.space_txn.specs.Machine.{commit_at}
 use Rattle.space_txn.specs.Txn.{TxnValue}
 use Rattle.space_txn.specs.World.{World}
@@ -69,25 +70,66 @@ leaves_last holder moment e held ended all = left_false (is_held_by holder e) (i
 pub stays_held : (holder moment : ℕ) (e : Entry) (other : Hold) → Contains e.holds other → other.by ≢ holder → stays_without holder moment e ≡ true
 stays_held holder moment e other at ne = left_true (is_held_by holder e) (is_live moment e.end) _ (one_left holder e.holds at.0 other at.1 at.2 ne)
 
--- what is put out together gets its leases at the moment
-granted_each : (last moment : ℕ) (all xs : List Write) (s : SpaceValue) → ((x : Write) → Contains xs x → Contains all x) → s.moment ≡ moment
-    → All (λ (e : Entry). last < e.number → IsGranted moment all e) s.entries → All (λ (e : Entry). last < e.number → IsGranted moment all e) (put_each s xs).entries
-granted_each last moment all [] s within same old = old
-granted_each last moment all (x ∷ xs) s within same old =
-    let P : Entry → Type 0 = λ e. last < e.number → IsGranted moment all e in
-    let behind : (y : Write) → Contains xs y → Contains all y = λ y at. within y (let lt = at.1 in (suc at.0, omega arith, at.2)) in
-    let new : Entry = record { number = s.last + 1; tuple = x.tuple; end = granted s.moment x.lease; holds = [] } in
-    cond_both x.taken s (put s x.tuple x.lease) (λ (v : SpaceValue). All P (put_each v xs).entries)
-    (λ taken. granted_each last moment all xs s behind same old)
-    (λ left. granted_each last moment all xs (put s x.tuple x.lease) behind same
-    (All-push P s.entries new old (λ above. (x, within x (0, omega arith, refl), left, refl, ap (λ m. granted m x.lease) same))))
+-- what is put out together stands behind what was there
+put_behind : (s : SpaceValue) (xs : List Write) → (put_each s xs).entries ≡ s.entries ++ granted_entries s.moment s.last xs
+put_behind s [] = sym (append-nil s.entries)
+put_behind s (x ∷ xs) =
+    let left = filter (λ (y : Write). not y.taken) xs in
+    let e : Entry = record { number = s.last + 1; tuple = x.tuple; end = granted s.moment x.lease; holds = [] } in
+    by x.taken (put_behind s xs) (put_behind (put s x.tuple x.lease) xs ∙ append_assoc s.entries (e ∷ []) (entries_for s.moment (s.last + 1) left))
+  where
+    by : (taken : Bool) → (put_each s xs).entries ≡ s.entries ++ granted_entries s.moment s.last xs
+        → (put_each (put s x.tuple x.lease) xs).entries ≡ s.entries ++ entries_for s.moment s.last (x ∷ filter (λ (y : Write). not y.taken) xs)
+        → (put_each (cond taken s (put s x.tuple x.lease)) xs).entries
+        ≡ s.entries ++ entries_for s.moment s.last (cond (not taken) (x ∷ filter (λ (y : Write). not y.taken) xs) (filter (λ (y : Write). not y.taken) xs))
+    by true same more = same
+    by false same more = more
 
-pub granted_at_commit : (old : World) (t : TxnValue) → IsSpace old.space → All (λ (e : Entry). old.space.last < e.number → IsGranted old.space.moment t.writes e) (commit_at old t).space.entries
+-- the entries above a number that are left where a holder's transaction is committed
+abbrev left_above : ℕ → ℕ → ℕ → List Entry → List Entry
+left_above last holder moment es = filter (λ (e : Entry). ltb last e.number) (released holder moment (without_taken holder es))
+
+left_append : (last holder moment : ℕ) (xs ys : List Entry) → left_above last holder moment (xs ++ ys) ≡ left_above last holder moment xs ++ left_above last holder moment ys
+left_append last holder moment xs ys =
+    let untaken : Entry → Bool = λ e. not (is_taken_by holder e) in
+    let stays = stays_without holder moment in
+    let above : Entry → Bool = λ e. ltb last e.number in
+    ap (λ l. filter above (map (unheld holder) (filter stays l))) (filter-append untaken xs ys)
+    ∙ ap (λ l. filter above (map (unheld holder) l)) (filter-append stays (filter untaken xs) (filter untaken ys))
+    ∙ ap (filter above) (map-append (unheld holder) (filter stays (filter untaken xs)) (filter stays (filter untaken ys)))
+    ∙ filter-append above (released holder moment (filter untaken xs)) (released holder moment (filter untaken ys))
+
+none_above : (last : ℕ) (es : List Entry) → All (λ (e : Entry). e.number ≤ last) es → filter (λ (e : Entry). ltb last e.number) es ≡ []
+none_above last [] low = refl
+none_above last (e ∷ es) low =
+    let P : Entry → Type 0 = λ x. x.number ≤ last in
+    cond-false (ltb last e.number) (e ∷ filter (λ (x : Entry). ltb last x.number) es) (filter (λ (x : Entry). ltb last x.number) es) (le-ltb last e.number (All-head P e es low))
+    ∙ none_above last es (All-tail P e es low)
+
+-- none of the old entries is above
+old_below : (last holder moment : ℕ) (es : List Entry) → All (λ (e : Entry). e.number ≤ last) es → left_above last holder moment es ≡ []
+old_below last holder moment es low =
+    let P : Entry → Type 0 = λ e. e.number ≤ last in
+    let kept = All-filter (stays_without holder moment) P (without_taken holder es) (All-filter (λ (e : Entry). not (is_taken_by holder e)) P es low) in
+    none_above last (released holder moment (without_taken holder es)) (All-map P (unheld holder) (filter (stays_without holder moment) (without_taken holder es)) kept)
+
+-- and all of the new ones are
+new_above : (last holder moment at next : ℕ) (xs : List Write) → last ≤ next → left_above last holder at (entries_for moment next xs) ≡ entries_for moment next xs
+new_above last holder moment at next [] le = refl
+new_above last holder moment at next (x ∷ xs) le =
+    let e : Entry = record { number = next + 1; tuple = x.tuple; end = granted moment x.lease; holds = [] } in
+    let rest = left_above last holder at (entries_for moment (next + 1) xs) in
+    cond-true (ltb last (next + 1)) (e ∷ rest) rest (lt-ltb last (next + 1) (omega arith))
+    ∙ ap (λ l. e ∷ l) (new_above last holder moment at (next + 1) xs (omega arith))
+
+pub granted_at_commit : (old : World) (t : TxnValue) → IsSpace old.space
+    → filter (λ (e : Entry). ltb old.space.last e.number) (commit_at old t).space.entries ≡ granted_entries old.space.moment old.space.last t.writes
 granted_at_commit old t valid =
-    let P : Entry → Type 0 = λ e. old.space.last < e.number → IsGranted old.space.moment t.writes e in
-    let s = put_each old.space t.writes in
-    let written : All P s.entries = granted_each old.space.last old.space.moment t.writes t.writes old.space (λ x at. at) refl
-    (λ k d lt above. let own = valid.numbered k d lt in absurd (omega arith)) in
-    let left = All-filter (λ (e : Entry). not (is_taken_by t.number e)) P s.entries written in
-    let kept = All-filter (stays_without t.number s.moment) P (without_taken t.number s.entries) left in
-    All-map P (unheld t.number) (filter (stays_without t.number s.moment) (without_taken t.number s.entries)) kept
+    let s = old.space in
+    let last = s.last in
+    let at = (put_each s t.writes).moment in
+    let new = granted_entries s.moment last t.writes in
+    ap (left_above last t.number at) (put_behind s t.writes)
+    ∙ left_append last t.number at s.entries new
+    ∙ ap (λ l. l ++ left_above last t.number at new) (old_below last t.number at s.entries (λ k d lt. (valid.numbered k d lt).1))
+    ∙ new_above last t.number s.moment at last (filter (λ (x : Write). not x.taken) t.writes) (omega arith)

@@ -4,3 +4,6 @@ pub mod FindingLemmas
 pub mod RuleLemmas
 pub mod MarkLemmas
 pub mod LeaseLemmas
+pub mod LiveLemmas
+pub mod WorldLemmas
+pub mod EndingLemmas

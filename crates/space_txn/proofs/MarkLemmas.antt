@@ -1,5 +1,7 @@
-use Rattle.std.proofs.Common.{◌≡◌, Bool, ⊎_elim, subst, ℕ, zero, suc, ◌+◌, ◌<◌, ◌≤◌, List, [], ◌∷◌, true, false, length, get_or, drop, Option, Some, None, ap, ◌∙◌, sym, refl, cond, eqb, ltb, arith}
-use Rattle.std.specs.Prelude.{◌||◌, find, filter, insert, All}
+use Rattle.std.proofs.Common.{◌≡◌, Bool, ⊎_elim, subst, ℕ, zero, suc, ◌+◌, ◌-◌, ◌<◌, ◌≤◌, List, [], ◌∷◌, true, false, length, get_or, drop, Option, Some, None, ap, ◌∙◌, sym, refl, cond, eqb, ltb, arith}
+use Rattle.std.specs.Prelude.{◌≢◌, ◌||◌, find, filter, insert, is_some, slice_get, All}
+use Rattle.std.proofs.lemmas.List.Kept.{AllPairs-cons}
+use Rattle.std.proofs.lemmas.Option.{same_Some}
 use Rattle.std.proofs.lemmas.List.Elements.{All-head, All-tail, All-cons, All-nil}
 use Rattle.tuple_space.specs.Holds.{holds_with}
 use Rattle.tuple_space.specs.Lease.{is_permanent}
@@ -9,10 +11,11 @@ use Rattle.tuple_space.specs.Held.{AreRising, HasHeld, is_among, numbers_by}
 use Rattle.tuple_space.specs.Space.{held_by}
 use Rattle.tuple_space.proofs.HeldLemmas.{numbers_mine, numbers_other}
 use Rattle.tuple_space.proofs.RowLemmas.{HasNone, changed_none, find_none, rising_head, rising_tail}
-use Rattle.std.proofs.Math.ListN.{set}
-use Rattle.std.specs.List.{AllWithin, HoldsAt, cons_option, filter_map, list_any}
+use Rattle.std.proofs.Math.ListN.{drop_of_length-le, set}
+use Rattle.std.proofs.Math.Seq.{drop-length}
+use Rattle.std.specs.List.{AllPairs, AllWithin, HoldsAt, cons_option, filter_map, list_any}
 use Rattle.std.specs.Option.{option_and_then, option_map}
-use Rattle.std.proofs.lemmas.List.{drop_more}
+use Rattle.std.proofs.lemmas.List.{drop_more, length-drop}
 use Rattle.std.proofs.lemmas.Bool.{cond-true, cond-false, eq-eqb, eqb-true, false≢true, ne_eqb, lt-ltb, le-ltb, cases_Bool, or_cases, or_from, or_left, or_right}
 use Rattle.tuple_space.specs.declared.entry.Entry.{Entry}
 use Rattle.tuple_space.specs.declared.held.Held.{Held}
@@ -49,6 +52,37 @@ Tracks-more mark marks xs rest behind i x lt is parts h =
 -- where the rest doesn't begin with the next mark, the marks aren't these
 pub marks_differ : {X : Type 0} (mark : X → Option Mark) (marks : List Mark) (xs : List X) (rest : List Mark) (i : ℕ) (x : X) → i < length xs → x ≡ get_or xs i x → ((behind : List Mark) → rest ≡ cons_option (mark x) behind → ⊥) → Tracks mark marks xs rest i → marks ≡ filter_map mark xs → ⊥
 marks_differ mark marks xs rest i x lt is other h e = other (filter_map mark (drop (i + 1) xs)) (h.back e ∙ marks_from mark xs i x lt is)
+
+-- at the end of the things the marks are these just where all marks are behind
+none_left : {X : Type 0} (mark : X → Option Mark) (xs : List X) (i : ℕ) → length xs ≤ i → filter_map mark (drop i xs) ≡ []
+none_left mark xs i past = ap (filter_map mark) (drop_of_length-le xs past)
+
+pub Tracks-forth : {X : Type 0} (mark : X → Option Mark) (marks : List Mark) (xs : List X) (place i : ℕ) → length xs ≤ i → Tracks mark marks xs (drop place marks) i → eqb place (length marks) ≡ true → marks ≡ filter_map mark xs
+Tracks-forth mark marks xs place i past h all =
+    h.forth (ap (λ n. drop n marks) (eqb-true place (length marks) all) ∙ drop-length marks ∙ sym (none_left mark xs i past))
+
+pub Tracks-back : {X : Type 0} (mark : X → Option Mark) (marks : List Mark) (xs : List X) (place i : ℕ) → length xs ≤ i → place ≤ length marks → Tracks mark marks xs (drop place marks) i → marks ≡ filter_map mark xs → eqb place (length marks) ≡ true
+Tracks-back mark marks xs place i past within h e =
+    let left : drop place marks ≡ [] = h.back e ∙ none_left mark xs i past in
+    let long : length (drop place marks) ≡ length marks - place = length-drop place marks in
+    let empty : length (drop place marks) ≡ 0 = ap length left in
+    eq-eqb place (length marks) (omega arith)
+
+-- the first mark on an entry of a number
+pub found_at : (n : ℕ) (xs : List Mark) (i : ℕ) (m : Mark) → AllWithin (λ x. x.entry ≢ n) xs 0 i → i < length xs → m ≡ get_or xs i m → HoldsAt (λ x. x.entry ≡ n) xs i → Some m ≡ find (λ (x : Mark). eqb x.entry n) xs
+found_at n [] i m before lt is at = absurd (omega arith)
+found_at n (x ∷ xs) zero m before lt is at =
+    ap Some is ∙ sym (cond-true (eqb x.entry n) (Some x) (find (λ (y : Mark). eqb y.entry n) xs) (eq-eqb _ _ (at x)))
+found_at n (x ∷ xs) (suc i) m before lt is at =
+    found_at n xs i m (λ k d from to. before (suc k) d (omega arith) (omega arith)) (omega arith) is (λ d. at d)
+    ∙ sym (cond-false (eqb x.entry n) (Some x) (find (λ (y : Mark). eqb y.entry n) xs) (ne_eqb _ _ (before zero x (omega arith) (omega arith))))
+
+pub found_none : (n : ℕ) (xs : List Mark) (i : ℕ) → AllWithin (λ x. x.entry ≢ n) xs 0 i → length xs ≤ i → None ≡ find (λ (x : Mark). eqb x.entry n) xs
+found_none n [] i before past = refl
+found_none n (x ∷ xs) zero before past = absurd (omega arith)
+found_none n (x ∷ xs) (suc i) before past =
+    found_none n xs i (λ k d from to. before (suc k) d (omega arith) (omega arith)) (omega arith)
+    ∙ sym (cond-false (eqb x.entry n) (Some x) (find (λ (y : Mark). eqb y.entry n) xs) (ne_eqb _ _ (before zero x (omega arith) (omega arith))))
 
 -- a mark written over the one on the same entry
 pub with_mark_set : (m : Mark) (xs : List Mark) (i : ℕ) → i < length xs → AllWithin (λ x. x.entry < m.entry) xs 0 i → HoldsAt (λ x. x.entry ≡ m.entry) xs i → set xs i m ≡ with_mark m xs
@@ -256,3 +290,47 @@ pub marks_held : (number : ℕ) (rows : List Held) (es : List Entry) → IsRisin
 marks_held number rows es rising h =
     let mine = h.of number in
     marks_noted number (numbers_by number rows) es mine.each ∙ marks_numbered number (numbers_by number rows) es mine.rising rising ∙ marks_by number rows es
+
+-- no mark on a later entry is on this one
+pub find_above : (number : ℕ) (ms : List Mark) → All (λ (m : Mark). number < m.entry) ms → find (λ (m : Mark). eqb m.entry number) ms ≡ None
+find_above number [] above = refl
+find_above number (m ∷ ms) above =
+    let P : Mark → Type 0 = λ x. number < x.entry in
+    let less : number < m.entry = All-head P m ms above in
+    cond-false (eqb m.entry number) (Some m) (find (λ (x : Mark). eqb x.entry number) ms) (ne_eqb _ _ (λ same. omega arith)) ∙ find_above number ms (All-tail P m ms above)
+
+-- the marks of a transaction stand in rising order
+rising_more : (e : Entry) (o : Option Hold) (ms : List Mark) → All (λ (x : Mark). e.number < x.entry) ms → AllPairs (λ (x : Mark) (y : Mark). x.entry < y.entry) ms
+    → AllPairs (λ (x : Mark) (y : Mark). x.entry < y.entry) (cons_option (option_map (mark_from e) o) ms)
+rising_more e None ms above rising = rising
+rising_more e (Some h) ms above rising = AllPairs-cons (λ (x : Mark) (y : Mark). x.entry < y.entry) (mark_from e h) ms above rising
+
+pub marks_rising : (number : ℕ) (es : List Entry) → IsRising es → AllPairs (λ (x : Mark) (y : Mark). x.entry < y.entry) (marks_of number es)
+marks_rising number [] rising = λ i j d below within. absurd (omega arith)
+marks_rising number (e ∷ es) rising =
+    rising_more e (hold_at number e) (marks_of number es) (marks_above e.number number es (rising_head e es rising)) (marks_rising number es (rising_tail e es rising))
+
+-- the first mark on an entry of a number or a greater one, where some mark is on that entry
+pub marked_at : (n : ℕ) (ms : List Mark) (i : ℕ) → AllPairs (λ (x : Mark) (y : Mark). x.entry < y.entry) ms → is_some (find (λ (x : Mark). eqb x.entry n) ms) ≡ true
+    → AllWithin (λ x. x.entry < n) ms 0 i → (i < length ms → HoldsAt (λ x. n ≤ x.entry) ms i) → (i < length ms) × HoldsAt (λ x. x.entry ≡ n) ms i
+marked_at n [] i rising marked before above = absurd (false≢true marked)
+marked_at n (x ∷ xs) zero rising marked before above = ⊎_elim
+    (λ same. (omega arith, λ d. eqb-true x.entry n same))
+    (λ other.
+    let least : n ≤ x.entry = above (omega arith) x in
+    let none = find_above n xs (λ k d lt. (let more = rising 0 (suc k) d (omega arith) (omega arith) in omega arith)) in
+    absurd (false≢true (sym (ap is_some (cond-false (eqb x.entry n) (Some x) (find (λ (y : Mark). eqb y.entry n) xs) other ∙ none)) ∙ marked)))
+    (cases_Bool (eqb x.entry n))
+marked_at n (x ∷ xs) (suc i) rising marked before above =
+    let less : x.entry < n = before zero x (omega arith) (omega arith) in
+    let past = cond-false (eqb x.entry n) (Some x) (find (λ (y : Mark). eqb y.entry n) xs) (ne_eqb _ _ (λ same. omega arith)) in
+    let rest = marked_at n xs i (λ k j d below within. rising (suc k) (suc j) d (omega arith) (omega arith)) (ap is_some (sym past) ∙ marked)
+    (λ k d from to. before (suc k) d (omega arith) (omega arith)) (λ lt d. above (omega arith) d) in
+    let within = rest.0 in
+    (omega arith, λ d. rest.1 d)
+
+-- what stands at a place of a list of marks
+pub mark_at_place : (ms : List Mark) (i : ℕ) (x m : Mark) → i < length ms → x ≡ get_or ms i x → slice_get ms i ≡ Some m → x ≡ m
+mark_at_place [] i x m lt is at = absurd (omega arith)
+mark_at_place (y ∷ ys) zero x m lt is at = is ∙ same_Some y m at
+mark_at_place (y ∷ ys) (suc i) x m lt is at = mark_at_place ys i x m (omega arith) is at

@@ -77,7 +77,7 @@ moment_stays old t abort done new t' s = moment_of _ _ s.1
 moment_stays old t abort (refused error) new t' s = moment_of _ _ s.1
 moment_stays old t _ _ new t' s = absurd s
 
-aborts_moment : (live : List Live) (s : SpaceValue) → (abort_each live s).moment ≡ s.moment
+pub aborts_moment : (live : List Live) (s : SpaceValue) → (abort_each live s).moment ≡ s.moment
 aborts_moment [] s = refl
 aborts_moment (t ∷ ts) s = aborts_moment ts (unmarked t.number s)
 

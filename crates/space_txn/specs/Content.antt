@@ -1,6 +1,6 @@
 -- The permanent content of a world: what the law of a search speaks of.
-use Rattle.std.specs.Prelude.{◌≡◌, ℕ, ◌+◌, ◌++◌, ◌&&◌, ◌||◌, not, Bool, List, filter, map}
-use Rattle.std.specs.List.{sum_by}
+use Rattle.std.specs.Prelude.{◌≡◌, ℕ, ◌+◌, ◌++◌, ◌==◌, ◌&&◌, ◌||◌, not, Bool, List, filter, map}
+use Rattle.std.specs.List.{list_any, sum_by}
 use Rattle.tuple_match.specs.FieldValue.{FieldValue}
 use Rattle.tuple_space.specs.Lease.{granted, is_permanent}
 use Rattle.tuple_space.specs.Rows.{permanent_tuples}
@@ -26,6 +26,10 @@ is_gone renewed m = m.taken && (m.permanent || renewed m)
 abbrev pub gone_of : (Mark → Bool) → List Mark → List (List FieldValue)
 gone_of renewed marks = map (λ m. m.tuple) (filter (is_gone renewed) marks)
 
+-- The entry that a mark is on stands in the world, and is permanent now. Where it wasn't when it was marked, it has been made so since.
+abbrev pub is_made_permanent : World → Mark → Bool
+is_made_permanent w m = list_any (λ e. (e.number == m.entry) && is_permanent e.end) w.space.entries
+
 -- what it read of it and didn't take
 abbrev pub is_kept : Mark → Bool
 is_kept m = not m.taken && m.permanent
@@ -40,11 +44,11 @@ is_added x = not x.taken && is_permanent (granted 0 x.lease)
 abbrev pub added_of : List Write → List (List FieldValue)
 added_of writes = map (λ x. x.tuple) (filter is_added writes)
 
--- What a transaction's commit does to the content: gone is taken out, added is put in, and the rest, with what was kept, stays.
+-- What a transaction's commit does to the content: what it took is taken out, where that is permanent now, what it wrote to stay
+-- forever is put in, and the rest, with what was kept, stays.
 pub record ChangesContent (old new : World) (t : TxnValue) : Type 0 where
-  pub renewed : Mark → Bool
   pub rest : List (List FieldValue)
-  pub before : SameItems (content_of old) (gone_of renewed t.marks ++ (kept_of t.marks ++ rest))
+  pub before : SameItems (content_of old) (gone_of (is_made_permanent old) t.marks ++ (kept_of t.marks ++ rest))
   pub after : SameItems (content_of new) (added_of t.writes ++ (kept_of t.marks ++ rest))
   pub counted : new.commits ≡ old.commits + 1
 

@@ -1,10 +1,15 @@
--- The leases of what a transaction wrote.
-use Rattle.std.specs.Prelude.{◌≡◌, ℕ, false, List, Contains}
+-- The entries that a transaction's writes become.
+use Rattle.std.specs.Prelude.{ℕ, ◌+◌, not, List, [], ◌∷◌, filter}
 use Rattle.tuple_space.specs.Lease.{granted}
 use Rattle.tuple_space.specs.declared.entry.Entry.{Entry}
 use Rattle.tuple_space.specs.declared.write.Write.{Write}
 
--- the entry comes from a write that wasn't taken again, and its lease was granted at this moment
-abbrev pub IsGranted : ℕ → List Write → Entry → Type 0
-IsGranted moment writes e =
-    (x : Write) × Contains writes x × (x.taken ≡ false) × (e.tuple ≡ x.tuple) × (e.end ≡ granted moment x.lease)
+-- an entry for each write, in order: its lease is granted at this moment, the numbers count up behind the one last given, and nobody holds it
+abbrev pub entries_for : ℕ → ℕ → List Write → List Entry
+entries_for moment last [] = []
+entries_for moment last (x ∷ xs) =
+    record { number = last + 1; tuple = x.tuple; end = granted moment x.lease; holds = [] } ∷ entries_for moment (last + 1) xs
+
+-- those for the writes that weren't taken again
+abbrev pub granted_entries : ℕ → ℕ → List Write → List Entry
+granted_entries moment last writes = entries_for moment last (filter (λ x. not x.taken) writes)

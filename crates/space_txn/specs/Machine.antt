@@ -8,6 +8,7 @@ use Rattle.tuple_space.specs.Space.{SpaceValue, most, with_entries, held_by, wit
 use Rattle.tuple_space.specs.Step.{IsHad, NothingHad}
 use Rattle.tuple_space.specs.Step as space
 use Rattle.tuple_space.specs.Writes.{put_count, put_each, taken_at}
+use Rattle.tuple_space.specs.declared.entry.Claim.{Claim}
 use Rattle.tuple_space.specs.declared.entry.Claim.TheVariants.{Read, TakeBy}
 use Rattle.tuple_space.specs.declared.entry.Entry.{Entry}
 use Rattle.tuple_space.specs.declared.error.SpaceError.TheVariants.{Exhausted as moments_used_up}
@@ -95,18 +96,22 @@ HasNumbers w writes = (w.commits < most) × (w.space.last + put_count writes ≤
 abbrev pub UsedUp : World → List Write → Type 0
 UsedUp w writes = (most ≤ w.commits) ⊎ (most < w.space.last + put_count writes)
 
+-- some entry can be had on which the transaction has no mark yet: only a new mark needs memory
+abbrev pub HasUnmarked : World → TxnValue → Claim → List PatternValue → Type 0
+HasUnmarked w t claim template = (e : Entry) × IsHad w.space claim template e × (is_some (find (λ m. m.entry == e.number) t.marks) ≡ false)
+
 -- refusals, from left to right: a commit's, those of a call that takes memory, and those of others
 abbrev pub IsCommitRefusal : World → TxnValue → TxnError → Type 0
 IsCommitRefusal w t Exhausted = IsAccepted w t × UsedUp w t.writes
-IsCommitRefusal w t OutOfMemory = IsAccepted w t × HasNumbers w t.writes
+IsCommitRefusal w t OutOfMemory = IsAccepted w t × HasNumbers w t.writes × (0 < put_count t.writes)
 IsCommitRefusal w t Expired = IsRefused w t Expired
 IsCommitRefusal w t Foreign = IsRefused w t Foreign
 
-abbrev pub IsFindRefusal : World → TxnValue → TxnError → Type 0
-IsFindRefusal w t OutOfMemory = IsAccepted w t
-IsFindRefusal w t Exhausted = ⊥
-IsFindRefusal w t Expired = IsRefused w t Expired
-IsFindRefusal w t Foreign = IsRefused w t Foreign
+abbrev pub IsFindRefusal : World → TxnValue → Claim → List PatternValue → TxnError → Type 0
+IsFindRefusal w t claim template OutOfMemory = IsAccepted w t × HasUnmarked w t claim template
+IsFindRefusal w t claim template Exhausted = ⊥
+IsFindRefusal w t claim template Expired = IsRefused w t Expired
+IsFindRefusal w t claim template Foreign = IsRefused w t Foreign
 
 -- From old, with a transaction's value, the world may give this answer and go on to new, with that value. Where a commit or
 -- an abort is done the value is spent.
@@ -119,7 +124,7 @@ Step old t (inp_in template) (found (Own place)) new t' =
     × (new ≡ old) × (t' ≡ txn_of t.number t.marks (taken_at place t.writes))
 Step old t (inp_in template) nothing new t' =
     IsAccepted old t × NothingHad old.space (TakeBy t.number) template × NoOpenWrite template t.writes × (new ≡ old) × (t' ≡ t)
-Step old t (inp_in template) (refused error) new t' = IsFindRefusal old t error × (new ≡ old) × (t' ≡ t)
+Step old t (inp_in template) (refused error) new t' = IsFindRefusal old t (TakeBy t.number) template error × (new ≡ old) × (t' ≡ t)
 Step old t (rdp_in template) (found (Stored number)) new t' =
     IsAccepted old t × (e : Entry) × IsHad old.space Read template e × (number ≡ e.number)
     × (new ≡ with_space old (read_space old.space t.number t.marks number)) × (t' ≡ with_marks t (read_space old.space t.number t.marks number))
@@ -127,7 +132,7 @@ Step old t (rdp_in template) (found (Own place)) new t' =
     IsAccepted old t × NothingHad old.space Read template × IsOpenWriteAt template t.writes place × (new ≡ old) × (t' ≡ t)
 Step old t (rdp_in template) nothing new t' =
     IsAccepted old t × NothingHad old.space Read template × NoOpenWrite template t.writes × (new ≡ old) × (t' ≡ t)
-Step old t (rdp_in template) (refused error) new t' = IsFindRefusal old t error × (new ≡ old) × (t' ≡ t)
+Step old t (rdp_in template) (refused error) new t' = IsFindRefusal old t Read template error × (new ≡ old) × (t' ≡ t)
 Step old t (renew_txn asked) done new t' = IsAccepted old t × (new ≡ renew_at old t.number asked) × (t' ≡ t)
 Step old t (renew_txn asked) (refused error) new t' = IsRefused old t error × (new ≡ old) × (t' ≡ t)
 Step old t commit done new t' = IsAccepted old t × HasNumbers old t.writes × (new ≡ commit_at old t)
@@ -161,6 +166,6 @@ abbrev pub renew_answer : Result (Unit {0}) TxnError → Answer
 renew_answer (Ok _) = done
 renew_answer (Err error) = refused error
 
-abbrev pub end_answer : Result (Unit {0}) (TxnError × TxnValue) → Answer
+abbrev pub end_answer : {A : Type 0} → Result A (TxnError × TxnValue) → Answer
 end_answer (Ok _) = done
 end_answer (Err back) = refused back.0

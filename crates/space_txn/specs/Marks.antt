@@ -1,12 +1,21 @@
 -- The marks that a transaction has put on entries.
-use Rattle.std.specs.Prelude.{◌≡◌, ℕ, ◌==◌, nat_lt, Bool, List, [], ◌∷◌, find, Contains, None, Option, if◌then◌else◌}
+use Rattle.std.specs.Prelude.{◌≡◌, ℕ, ◌-◌, ◌==◌, nat_lt, Bool, List, [], ◌∷◌, find, Contains, None, Option, if◌then◌else◌}
 use Rattle.std.specs.List.{filter_map}
+use Rattle.smallvec.specs.SmallVec.{SmallVec, small_vec_len}
 use Rattle.std.specs.Option.{option_and_then, option_map}
 use Rattle.tuple_space.specs.Lease.{is_permanent}
 use Rattle.tuple_space.specs.declared.entry.Entry.{Entry}
 use Rattle.tuple_space.specs.declared.held.Held.{Held}
 use Rattle.tuple_space.specs.declared.hold.Hold.{Hold}
 use Rattle.space_txn.specs.declared.mark.Mark.{Mark}
+
+-- marks in order, and how many more fit with no allocation
+pub record MarksValue : Type 0 where
+  pub items : List Mark
+  pub room : ℕ
+
+abbrev pub room_of : {A : Type 0} → SmallVec A → ℕ
+room_of places = places.capacity - small_vec_len places
 
 -- the mark that a hold of an entry is, with the entry's tuple
 abbrev pub mark_from : Entry → Hold → Mark

@@ -1,8 +1,9 @@
 -- The world: the space, in which each entry tells who took it or read it, and the live transactions.
-use Rattle.std.specs.Prelude.{ℕ, ◌+◌, ◌≤◌, nat_lt, Bool, List, [], ◌∷◌, ◌++◌, if◌then◌else◌}
+use Rattle.std.specs.Prelude.{ℕ, ◌+◌, ◌<◌, ◌≤◌, nat_lt, All, Bool, List, [], ◌∷◌, ◌++◌, if◌then◌else◌}
+use Rattle.std.specs.List.{AllPairs}
 use Rattle.tuple_space.specs.Space as space
 use Rattle.tuple_space.specs.Space.{SpaceValue, most, advanced}
-use Rattle.space_txn.specs.Live.{abort_each, ended_at, going_at, granted_end, is_live_in, others, renewed_rows, unmarked}
+use Rattle.space_txn.specs.Live.{AreHeldBy, abort_each, ended_at, going_at, granted_end, is_live_in, others, renewed_rows, unmarked}
 use Rattle.space_txn.specs.declared.live.Live.{Live}
 
 -- begun is the number of the transaction that was begun last, commits how many were accepted
@@ -15,10 +16,15 @@ pub record World : Type 0 where
 abbrev pub world_of : SpaceValue → List Live → ℕ → ℕ → World
 world_of s live begun commits = record { space = s; live = live; begun = begun; commits = commits }
 
--- what holds of every world
+-- What holds of every world: the numbers of the live transactions rise, from 1 to the one given last, and only they hold
+-- entries.
 pub record IsWorld (w : World) : Type 0 where
   pub few_begun : w.begun ≤ most
   pub few_commits : w.commits ≤ most
+  pub from_1 : All (λ t. 0 < t.number) w.live
+  pub given : All (λ t. t.number ≤ w.begun) w.live
+  pub rising : AllPairs (λ t u. t.number < u.number) w.live
+  pub held : AreHeldBy w.live w.space.entries
 
 -- nothing has happened yet
 abbrev pub opening : World

@@ -2,7 +2,7 @@
 
 ghost use Rattle.std.specs.Prelude.{◌≡◌, ◌≢◌};
 ghost use Rattle.space_txn.specs.declared.error.TxnError.TheVariants.{OutOfMemory};
-ghost use Rattle.space_txn.specs.Refusal.{refusal_of};
+ghost use Rattle.space_txn.specs.Refusal.{IsRefusalOf};
 
 use std::alloc::{AllocError, AllocFailed};
 use thiserror::Error;
@@ -44,7 +44,7 @@ impl<T: Drop> From<AllocFailed<T>> for TxnError {
 /// The refusal of a transaction where the space refused what it would put out.
 pub(crate) fn refusal_of(error: SpaceError) -> TxnError
     requires { error ≢ SpaceError.NotThere }
-    ensures { result ≡ refusal_of error }
+    ensures { IsRefusalOf error result }
 {
     match error {
         SpaceError::Exhausted => TxnError::Exhausted,

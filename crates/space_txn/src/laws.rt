@@ -1,13 +1,13 @@
 //! Laws of the machine, by which a reader checks its definition.
 
-ghost use Rattle.std.specs.Prelude.{◌≡◌, ◌≢◌, ◌<◌, ◌≤◌, ℕ, true, false, List, All, Contains, Result};
+ghost use Rattle.std.specs.Prelude.{◌≡◌, ◌≢◌, ◌<◌, ◌≤◌, ℕ, true, false, nat_lt, filter, [], List, All, Contains, Result, Ok};
 ghost use Rattle.tuple_match.specs.PatternValue.{PatternValue};
 ghost use Rattle.tuple_space.specs.Lease.{granted, is_live, is_permanent};
 ghost use Rattle.tuple_space.specs.Entry.{can_be_read, is_held_by, is_open, is_taken};
 ghost use Rattle.tuple_space.specs.Rows.{with_end};
 ghost use Rattle.tuple_space.specs.Space.{IsSpace, stays_without};
 ghost use Rattle.tuple_space.specs.Step.{NothingHad};
-ghost use Rattle.tuple_space.specs.declared.entry.Claim.TheVariants.{Read, TakeBy};
+ghost use Rattle.tuple_space.specs.declared.entry.Claim.TheVariants.{Read, Take, TakeBy};
 ghost use Rattle.tuple_space.specs.declared.lease.LeaseEnd.{LeaseEnd};
 ghost use Rattle.tuple_space.specs.declared.entry.Entry.{Entry};
 ghost use Rattle.tuple_space.specs.declared.hold.Hold.{Hold};
@@ -16,11 +16,13 @@ ghost use Rattle.tuple_space.specs.Step.{done_reply};
 ghost use Rattle.tuple_space.specs.declared.error.SpaceError.{SpaceError};
 ghost use Rattle.space_txn.specs.declared.error.TxnError.{TxnError};
 ghost use Rattle.space_txn.specs.Content.{KeepsContent, LeavesContent};
-ghost use Rattle.space_txn.specs.Machine.{AdvanceStep, Answer, BeginStep, Call, NoOpenWrite, Step, commit_at, found, inp_in, nothing, rdp_in};
-ghost use Rattle.space_txn.specs.Granting.{IsGranted};
+ghost use Rattle.space_txn.specs.Machine.{AdvanceStep, Answer, BeginStep, Call, IsAccepted, NoOpenWrite, Step, commit_at, found, inp_in, nothing, rdp_in};
+ghost use Rattle.space_txn.specs.Granting.{granted_entries};
+ghost use Rattle.space_txn.specs.Live.{is_live_in};
+ghost use Rattle.space_txn.specs.declared.live.Live.{Live};
 ghost use Rattle.space_txn.specs.declared.txn.Found.TheVariants.{Own};
 ghost use Rattle.space_txn.specs.Txn.{TxnValue};
-ghost use Rattle.space_txn.specs.World.{World, abort_at, advance_at, is_live_transaction};
+ghost use Rattle.space_txn.specs.World.{IsWorld, World, abort_at, advance_at, is_live_transaction};
 
 /// No call on a transaction but an accepted commit changes the permanent content or the count of commits, and neither does
 /// a transaction's begin, nor the moment's moving on.
@@ -55,12 +57,29 @@ pub fn holding_law()
         Contains e.holds other → other.by ≢ holder → is_open (TakeBy holder) moment e ≡ false }
 {}
 
-/// Abort and commit leave no mark of the transaction.
+/// A transaction that was just begun, with a lease above 0, is accepted.
+pub fn begun_law()
+    ensures { (old : World) (asked : ℕ) (t : TxnValue) (new : World) →
+        IsWorld old → BeginStep old asked (Ok t) new → 0 < asked → IsAccepted new t }
+{}
+
+/// Abort and commit leave no mark of the transaction. Where the moment moves on, no mark is left of the transactions whose lease
+/// has ended by then, and each that is left is that of a transaction which is live. So an entry with a live lease that only ended
+/// transactions had taken or read is held by nobody, and anybody can take it.
 pub fn ending_law()
     ensures aborts { (old : World) (number : ℕ) →
         All (λ e. is_held_by number e ≡ false) (abort_at old number).space.entries }
     ensures commits { (old : World) (t : TxnValue) →
         All (λ e. is_held_by t.number e ≡ false) (commit_at old t).space.entries }
+    ensures ended { (old : World) (moment : ℕ) (t : Live) →
+        old.space.moment ≤ moment → Contains old.live t → t.end ≤ moment →
+        All (λ e. is_held_by t.number e ≡ false) (advance_at old moment).space.entries }
+    ensures live { (old : World) (moment : ℕ) → IsWorld old → old.space.moment ≤ moment →
+        All (λ e. All (λ h. is_live_transaction (advance_at old moment) h.by ≡ true) e.holds) (advance_at old moment).space.entries }
+    ensures freed { (old : World) (moment : ℕ) (e : Entry) → IsWorld old → old.space.moment ≤ moment →
+        Contains old.space.entries e → is_live moment e.end ≡ true → All (λ h. is_live_in moment h.by old.live ≡ false) e.holds →
+        Contains (advance_at old moment).space.entries (record e { holds = [] })
+        × (is_open Take moment (record e { holds = [] }) ≡ true) }
 {}
 
 /// A lease of 0 is not live when it is granted.
@@ -102,9 +121,10 @@ pub fn leaving_law()
         Contains e.holds other → other.by ≢ holder → stays_without holder moment e ≡ true }
 {}
 
-/// What a transaction wrote gets its lease at the commit: an entry with a new number has the tuple of a write that wasn't taken
-/// again, and that write's lease, granted at the moment of the commit.
+/// What a transaction wrote is put out by its commit, and nothing else: the entries with new numbers are those of the writes that
+/// weren't taken again, in order, each with the write's tuple and lease, granted at the moment of the commit.
 pub fn granting_law()
     ensures { (old : World) (t : TxnValue) → IsSpace old.space →
-        All (λ e. old.space.last < e.number → IsGranted old.space.moment t.writes e) (commit_at old t).space.entries }
+        filter (λ e. nat_lt old.space.last e.number) (commit_at old t).space.entries
+        ≡ granted_entries old.space.moment old.space.last t.writes }
 {}

@@ -9,19 +9,19 @@ mod finding;
 mod laws;
 mod live;
 mod mark;
+mod marks;
+mod transactions;
 mod txn;
 mod world;
 
 pub use error::TxnError;
 pub use laws::{
-    content_law, ending_law, expired_law, finding_law, granting_law, holding_law, lease_law,
-    leaving_law, moment_law, renewal_law,
+    begun_law, content_law, ending_law, expired_law, finding_law, granting_law, holding_law,
+    lease_law, leaving_law, moment_law, renewal_law,
 };
 pub use mark::Mark;
-pub use txn::{Found, Txn};
+pub use txn::{Found, Spent, Txn};
 pub use world::TxnSpace;
 
-#[cfg(test)]
-mod memory_tests;
 #[cfg(test)]
 mod tests;

@@ -1,8 +1,7 @@
 //! The live transactions.
 
-ghost use Rattle.std.specs.Prelude.{◌≡◌, ◌+◌, ◌*◌, ◌<◌, ◌≤◌, ◌^◌, ◌==◌, ◌&&◌, nat_lt, if◌then◌else◌};
-ghost use Rattle.std.specs.List.{list_any};
-ghost use Rattle.space_txn.specs.Live.{abort_each, ended_at, going_at, granted_end, is_live_in, others, renewed_row, renewed_rows, unmarked};
+ghost use Rattle.std.specs.Prelude.{◌≡◌, ◌≤◌, ◌^◌, nat_lt, if◌then◌else◌};
+ghost use Rattle.space_txn.specs.Live.{abort_each, ended_at, granted_end, renewed_row, unmarked};
 
 use tuple_space::Space;
 
@@ -26,15 +25,8 @@ pub(crate) fn granted_end(moment: u64, asked: u64) -> u64
     moment + asked.min(LONGEST_LEASE)
 }
 
-/// Whether a live transaction has the number.
-pub(crate) fn is_live_in(live: &[Live], moment: u64, number: u64) -> bool
-    ensures { result ≡ is_live_in moment number live.now }
-{
-    live.iter()
-        .any(|row| row.number == number && moment < row.end)
-}
-
-fn renewed_row(row: Live, number: u64, end: u64) -> Live
+/// A transaction with its end moved to another one, where it has the number and that is later.
+pub(crate) fn renewed_row(row: Live, number: u64, end: u64) -> Live
     ensures { result ≡ renewed_row number end row }
 {
     if row.number != number {
@@ -44,29 +36,6 @@ fn renewed_row(row: Live, number: u64, end: u64) -> Live
         number,
         end: row.end.max(end),
     }
-}
-
-/// Moves the end of a transaction's lease to another one where that is later.
-pub(crate) fn renew_row(live: &mut [Live], number: u64, end: u64)
-    ensures { live.new ≡ renewed_rows number end live.old }
-{
-    for row in live.iter_mut() {
-        *row = renewed_row(*row, number, end);
-    }
-}
-
-/// Drops a transaction's row.
-pub(crate) fn drop_row(live: &mut Vec<Live>, number: u64)
-    ensures { live.new.items ≡ others number live.old.items }
-{
-    live.retain(|row| row.number != number);
-}
-
-/// Drops the rows of the transactions whose lease has ended.
-pub(crate) fn drop_ended(live: &mut Vec<Live>, moment: u64)
-    ensures { live.new.items ≡ going_at moment live.old.items }
-{
-    live.retain(|row| moment < row.end);
 }
 
 /// Ends a transaction where its lease has ended.

@@ -1,10 +1,12 @@
 //! The marks that a transaction has put on entries.
 
-ghost use Rattle.std.specs.Prelude.{◌≡◌, ◌+◌, ◌≤◌, ◌<◌, ◌≢◌, ◌↔◌, ◌==◌, IsTrue, is_some, find, List, MatchBool, MatchOption, length, vec_capacity, vec_len};
-ghost use Rattle.std.specs.List.{AllWithin, HoldsAt, cons_option, filter_map};
+ghost use Rattle.std.specs.Prelude.{◌≡◌, ◌≤◌, ◌<◌, ◌≢◌, ◌↔◌, ◌==◌, IsTrue, drop, is_some, find, true, List, Some, MatchBool, MatchOption, length};
+ghost use Rattle.std.specs.List.{AllPairs, AllWithin, HoldsAt, cons_option, filter_map};
 ghost use Rattle.std.specs.Option.{option_copied};
+ghost use Rattle.space_txn.specs.declared.mark.Mark.{Mark};
 ghost use Rattle.space_txn.specs.Marks.{IsMarkOf, mark_in, mark_of, marks_of, with_mark};
 
+use crate::marks::Marks;
 use tuple_match::Tuple;
 use tuple_space::{Entry, Held, Hold, Space};
 
@@ -31,90 +33,74 @@ fn is_mark_of(mark: &Mark, entry: &Entry, hold: &Hold) -> bool
         && mark.tuple == entry.tuple
 }
 
-/// What of the marks is left behind a transaction's mark on an entry, if it has one there, or `None` where the first mark
-/// is another one.
-fn marks_behind<'a>(rest: &'a [Mark], entry: &Entry, number: u64) -> Option<&'a [Mark]>
+/// The place behind a transaction's mark on an entry, if it has one there, or `None` where another mark stands at the place.
+fn place_behind(marks: &Marks, place: usize, entry: &Entry, number: u64) -> Option<usize>
+    requires { place ≤ length marks.now.items }
     ensures { MatchOption result
-        ((behind : List Mark) → rest.now ≢ cons_option (mark_of number entry.now) behind)
-        (λ behind. rest.now ≡ cons_option (mark_of number entry.now) behind.now) }
+        ((behind : List Mark) → drop place marks.now.items ≢ cons_option (mark_of number entry.now) behind)
+        (λ next. (next ≤ length marks.now.items) × (drop place marks.now.items ≡ cons_option (mark_of number entry.now) (drop next marks.now.items))) }
 {
     let Some(hold) = entry.holds.hold_of(number) else {
-        return Some(rest);
+        return Some(place);
     };
-    let (mark, behind) = rest.split_first()?;
-    if is_mark_of(mark, entry, hold) {
-        return Some(behind);
+    if place >= marks.len() || !is_mark_of(marks.at(place), entry, hold) {
+        return None;
     }
-    None
+    Some(place + 1)
 }
 
-/// What of the marks is left behind a transaction's mark on the entry of a row, if the row is its own, there is such an entry
-/// and it has a mark there, or `None` where the first mark is another one.
-fn marks_behind_at<'a>(
-    rest: &'a [Mark],
+/// The place behind a transaction's mark on the entry of a row, if the row is its own, there is such an entry and it has a
+/// mark there, or `None` where another mark stands at the place.
+fn place_behind_row(
+    marks: &Marks,
+    place: usize,
     space: &Space,
     row: Held,
     number: u64,
-) -> Option<&'a [Mark]>
+) -> Option<usize>
+    requires { place ≤ length marks.now.items }
     ensures { MatchOption result
-        ((behind : List Mark) → rest.now ≢ cons_option (mark_in number space.now.entries row) behind)
-        (λ behind. rest.now ≡ cons_option (mark_in number space.now.entries row) behind.now) }
+        ((behind : List Mark) → drop place marks.now.items ≢ cons_option (mark_in number space.now.entries row) behind)
+        (λ next. (next ≤ length marks.now.items) × (drop place marks.now.items ≡ cons_option (mark_in number space.now.entries row) (drop next marks.now.items))) }
 {
     if row.by != number {
-        return Some(rest);
+        return Some(place);
     }
     match space.entry_numbered(row.entry) {
-        Some(entry) => marks_behind(rest, entry, number),
-        None => Some(rest),
+        Some(entry) => place_behind(marks, place, entry, number),
+        None => Some(place),
     }
 }
 
 /// Whether these are the marks that a transaction has put on the entries of its rows among these.
-fn are_marks_at(marks: &[Mark], space: &Space, rows: &[Held], number: u64) -> bool
-    ensures { IsTrue result ↔ (marks.now ≡ filter_map (mark_in number space.now.entries) rows.now) }
+fn are_marks_at(marks: &Marks, space: &Space, rows: &[Held], number: u64) -> bool
+    ensures { IsTrue result ↔ (marks.now.items ≡ filter_map (mark_in number space.now.entries) rows.now) }
 {
-    let mut rest = marks;
+    let mut place = 0;
     for row in rows {
-        let Some(behind) = marks_behind_at(rest, space, *row, number) else {
+        let Some(behind) = place_behind_row(marks, place, space, *row, number) else {
             return false;
         };
-        rest = behind;
+        place = behind;
     }
-    rest.is_empty()
+    place == marks.len()
 }
 
 /// Whether these are the marks that a transaction has put on the entries of a space.
-pub(crate) fn are_marks_in(space: &Space, marks: &[Mark], number: u64) -> bool
-    ensures { IsTrue result ↔ (marks.now ≡ marks_of number space.now.entries) }
+pub(crate) fn are_marks_in(space: &Space, marks: &Marks, number: u64) -> bool
+    ensures { IsTrue result ↔ (marks.now.items ≡ marks_of number space.now.entries) }
 {
     are_marks_at(marks, space, space.held(), number)
 }
 
-/// The mark on the entry of this number.
-pub(crate) fn mark_on(marks: &[Mark], number: u64) -> Option<&Mark>
-    ensures { option_copied result ≡ find (λ m. m.entry == number) marks.now }
-{
-    marks.iter().find(|mark| mark.entry == number)
-}
-
-/// Whether one of the marks is on the entry of this number.
-pub(crate) fn has_mark_on(marks: &[Mark], number: u64) -> bool
-    ensures { result ≡ is_some (find (λ m. m.entry == number) marks.now) }
-{
-    match mark_on(marks, number) {
-        Some(_) => true,
-        None => false,
-    }
-}
-
 /// The place of the first mark on an entry of this number or a greater one.
-fn mark_place(marks: &[Mark], number: u64) -> usize
-    ensures within { result ≤ length marks.now }
-    ensures before { AllWithin (λ m. m.entry < number) marks.now 0 result }
-    ensures at { result < length marks.now → HoldsAt (λ m. number ≤ m.entry) marks.now result }
+fn mark_place(marks: &Marks, number: u64) -> usize
+    ensures within { result ≤ length marks.now.items }
+    ensures before { AllWithin (λ m. m.entry < number) marks.now.items 0 result }
+    ensures at { result < length marks.now.items → HoldsAt (λ m. number ≤ m.entry) marks.now.items result }
 {
     for place in 0..marks.len() {
-        if marks[place].entry >= number {
+        if marks.at(place).entry >= number {
             return place;
         }
     }
@@ -122,26 +108,59 @@ fn mark_place(marks: &[Mark], number: u64) -> usize
 }
 
 /// Whether the mark at a place is on the entry of this number.
-fn is_mark_at(marks: &[Mark], place: usize, number: u64) -> bool
+fn is_mark_at(marks: &Marks, place: usize, number: u64) -> bool
     ensures { MatchBool result
-        ((place < length marks.now) × HoldsAt (λ m. m.entry ≡ number) marks.now place)
-        (place < length marks.now → HoldsAt (λ m. m.entry ≢ number) marks.now place) }
+        ((place < length marks.now.items) × HoldsAt (λ m. m.entry ≡ number) marks.now.items place)
+        (place < length marks.now.items → HoldsAt (λ m. m.entry ≢ number) marks.now.items place) }
 {
     if place >= marks.len() {
         return false;
     }
-    marks[place].entry == number
+    marks.at(place).entry == number
+}
+
+/// The mark on the entry of this number.
+pub(crate) fn mark_on(marks: &Marks, number: u64) -> Option<&Mark>
+    ensures { option_copied result ≡ find (λ m. m.entry == number) marks.now.items }
+{
+    for place in 0..marks.len() {
+        if is_mark_at(marks, place, number) {
+            return Some(marks.at(place));
+        }
+    }
+    None
+}
+
+/// Whether one of the marks is on the entry of this number.
+pub(crate) fn has_mark_on(marks: &Marks, number: u64) -> bool
+    ensures { result ≡ is_some (find (λ m. m.entry == number) marks.now.items) }
+{
+    match mark_on(marks, number) {
+        Some(_) => true,
+        None => false,
+    }
 }
 
 /// Puts a mark in its place, or in the place of an older one on the same entry, where there is room for it.
-pub(crate) fn put_mark(marks: &mut Vec<Mark>, mark: Mark)
-    requires { vec_len marks.old + 1 ≤ vec_capacity marks.old }
+pub(crate) fn put_mark(marks: &mut Marks, mark: Mark)
+    requires { 0 < marks.old.room }
     ensures { marks.new.items ≡ with_mark mark marks.old.items }
 {
     let place = mark_place(marks, mark.entry);
     if is_mark_at(marks, place, mark.entry) {
-        marks[place] = mark;
+        marks.set(place, mark);
         return;
     }
-    marks.insert(place, mark).unwrap();
+    marks.insert(place, mark);
+}
+
+/// Makes the mark on the entry of this number, where there is one, a mark that takes it. Takes no memory.
+pub(crate) fn take_mark(marks: &mut Marks, number: u64, permanent: bool)
+    requires rising { AllPairs (λ m n. m.entry < n.entry) marks.old.items }
+    requires marked { is_some (find (λ m. m.entry == number) marks.old.items) ≡ true }
+    ensures { (m : Mark) → find (λ m. m.entry == number) marks.old.items ≡ Some m →
+        marks.new.items ≡ with_mark (record m { taken = true; permanent = permanent }) marks.old.items }
+{
+    let place = mark_place(marks, number);
+    marks.take(place, permanent);
 }

@@ -325,7 +325,10 @@ fn commit_elsewhere(
 
 /// Asserts that a transaction that has taken a job belongs to its own space alone.
 fn assert_foreign(rt: &impl Ending, own: &mut TxnSpace, other: &mut TxnSpace, txn: Txn) {
-    assert_eq!(rt; (txn.number(), txn.marks().len()), (1, 1));
+    assert_eq!(rt;
+        (txn.number(), txn.mark(0).is_some(), txn.mark(1).is_some()),
+        (1, true, false)
+    );
     assert_eq!(rt; renew_in(other, &txn, 5), Err(TxnError::Foreign));
     let ended = commit_elsewhere(other, own, txn);
     assert_eq!(rt; ended, (Some(TxnError::Foreign), true));
@@ -361,7 +364,7 @@ fn assert_renewals(rt: &impl Ending, space: &mut TxnSpace, txn: &Txn) {
         assert_eq!(rt; space.now(), moment);
         assert_eq!(rt; renew_in(space, txn, asked), want, "at {moment}");
     }
-    assert_eq!(rt; (txn.writes().len(), txn.marks().len()), (0, 0));
+    assert_eq!(rt; (txn.writes().len(), txn.mark(0).is_some()), (0, false));
     let too_late = advance_in(space, (1 << 62) + 1);
     assert_eq!(rt; too_late, Err(SpaceError::Exhausted));
 }

@@ -7,6 +7,7 @@ ghost use Rattle.std.specs.List.{HoldsAt};
 
 use crate::error::TxnError;
 use crate::mark::{Mark, mark_on};
+use crate::marks::Marks;
 use std::alloc::AllocError;
 use std::marker::Model;
 use tuple_match::{Template, Tuple, matches};
@@ -25,7 +26,7 @@ pub enum Found {
 #[derive(Debug, Drop)]
 pub struct Txn {
     pub(crate) number: u64,
-    pub(crate) marks: Vec<Mark>,
+    pub(crate) marks: Marks,
     pub(crate) writes: Writes,
 }
 
@@ -37,6 +38,14 @@ impl Model for Txn {
     ghost view = { λ t. txn_of t.number t.marks.items t.writes };
 }
 
+/// What a transaction held that has ended. Whoever ended it under a lock drops this when the lock is free again: a tuple that no
+/// entry has any more gives its memory back then.
+#[derive(Debug, Drop)]
+pub struct Spent {
+    pub(crate) marks: Marks,
+    pub(crate) writes: Option<Writes>,
+}
+
 impl Txn {
     /// The transaction's number.
     pub fn number(&self) -> u64
@@ -45,18 +54,22 @@ impl Txn {
         self.number
     }
 
-    /// The marks of the transaction: what it took, and what it read and didn't take, in rising order of number.
-    pub fn marks(&self) -> &[Mark]
-        ensures { result.now ≡ self.now.marks }
+    /// The mark at a place among those of the transaction: what it took, and what it read and didn't take, in rising order of
+    /// the entries' numbers. `None` past the last.
+    pub fn mark(&self, place: usize) -> Option<&Mark>
+        ensures { option_copied result ≡ slice_get self.now.marks place }
     {
-        &self.marks
+        if place >= self.marks.len() {
+            return None;
+        }
+        Some(self.marks.at(place))
     }
 
     /// What the transaction wrote, in order.
-    pub fn writes(&self) -> &[Write]
+    pub fn writes(&self) -> &Writes
         ensures { result.now ≡ self.now.writes }
     {
-        self.writes.as_slice()
+        &self.writes
     }
 
     /// The tuple of an entry that the transaction took or read.
@@ -85,7 +98,7 @@ impl Txn {
     {
         match found {
             Found::Entry(id) => self.tuple(*id),
-            Found::Own(place) => own_tuple(self.writes.as_slice(), *place),
+            Found::Own(place) => own_tuple(&self.writes, *place),
         }
     }
 
@@ -105,7 +118,7 @@ impl Txn {
     }
 }
 
-fn own_tuple(writes: &[Write], place: usize) -> Option<&Tuple>
+fn own_tuple(writes: &Writes, place: usize) -> Option<&Tuple>
     ensures { option_copied result ≡ option_map (λ x. x.tuple) (slice_get writes.now place) }
 {
     match writes.get(place) {
@@ -115,13 +128,14 @@ fn own_tuple(writes: &[Write], place: usize) -> Option<&Tuple>
 }
 
 /// The place of a write that the template asks for and that wasn't taken again.
-pub(crate) fn open_write(writes: &[Write], template: &Template) -> Option<usize>
+pub(crate) fn open_write(writes: &Writes, template: &Template) -> Option<usize>
     ensures none { IfNone result (All (λ x. is_open_write template.now x ≡ false) writes.now) }
     ensures place { IfSome result (λ i. i < length writes.now) }
     ensures open { IfSome result (HoldsAt (λ x. is_open_write template.now x ≡ true) writes.now) }
 {
     for place in 0..writes.len() {
-        if is_open_write(&writes[place], template) {
+        let write = writes.get(place)?;
+        if is_open_write(write, template) {
             return Some(place);
         }
     }

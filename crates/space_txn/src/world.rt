@@ -6,27 +6,26 @@ ghost use Rattle.tuple_space.specs.Step as space;
 ghost use Rattle.tuple_space.specs.Space.{IsSpace, most};
 ghost use Rattle.space_txn.specs.Content.{ChangesContent, content_of};
 ghost use Rattle.space_txn.specs.Finding.{Finds, Shows};
-ghost use Rattle.space_txn.specs.World.{is_live_transaction, opening, with_space};
+ghost use Rattle.space_txn.specs.World.{IsWorld, is_live_transaction, opening, with_space};
 ghost use Rattle.space_txn.specs.Machine.{IsAccepted, IsRefused, Step, BeginStep, AdvanceStep, abort, commit, end_answer, find_answer, inp_in, rdp_in, renew_answer, renew_txn};
 
 use crate::error::{TxnError, refusal_of};
-use crate::finding::{find_own, mark_for, put_mark_on, take_own};
-use crate::live::{Live, abort_ended, drop_ended, drop_row, granted_end, is_live_in, renew_row};
+use crate::finding::{find_own, mark_for, put_mark_on, take_marked, take_own};
+use crate::live::{Live, abort_ended, granted_end};
 use crate::mark::{are_marks_in, has_mark_on};
-use crate::txn::{Found, Txn};
+use crate::marks::Marks;
+use crate::transactions::Transactions;
+use crate::txn::{Found, Spent, Txn};
 use std::alloc::{AllocError, Global};
 use std::marker::Model;
 use tuple_match::{Template, Tuple};
 use tuple_space::{Claim, EntryId, Lease, MOST, Space, SpaceError, Writes};
 
-/// The marks that take no memory in a transaction's own list.
-const READY: usize = 4;
-
 /// A space of tuples with transactions.
 #[derive(Debug, Drop)]
 pub struct TxnSpace {
     space: Space,
-    live: Vec<Live>,
+    live: Transactions,
     begun: u64,
     commits: u64,
 }
@@ -37,9 +36,9 @@ impl Model for TxnSpace {
 
     ghost Value = { World };
 
-    ghost view = { λ w. world_of w.space w.live.items w.begun w.commits };
+    ghost view = { λ w. world_of w.space w.live w.begun w.commits };
 
-    ghost invariant = { λ w. IsWorld (world_of w.space w.live.items w.begun w.commits) };
+    ghost invariant = { λ w. IsWorld (world_of w.space w.live w.begun w.commits) };
 }
 
 impl TxnSpace {
@@ -49,15 +48,17 @@ impl TxnSpace {
     {
         TxnSpace {
             space: Space::new(alloc),
-            live: Vec::new(alloc),
+            live: Transactions::new(alloc),
             begun: 0,
             commits: 0,
         }
     }
 
-    /// The moment, in milliseconds.
+    /// The moment, in milliseconds. What holds of every space is told here too.
     pub fn now(&self) -> u64
-        ensures { result ≡ self.now.space.moment }
+        ensures moment { result ≡ self.now.space.moment }
+        ensures space { IsSpace self.now.space }
+        ensures world { IsWorld self.now }
     {
         self.space.now()
     }
@@ -127,8 +128,8 @@ impl TxnSpace {
         if moment < self.space.now() {
             return Ok(());
         }
-        abort_ended(&mut self.space, &self.live, moment);
-        drop_ended(&mut self.live, moment);
+        abort_ended(&mut self.space, self.live.as_slice(), moment);
+        self.live.drop_ended(moment);
         self.space.advance(moment)
     }
 
@@ -141,11 +142,11 @@ impl TxnSpace {
             return Err(TxnError::Exhausted);
         }
         let number = self.begun + 1;
-        let alloc = *self.live.allocator();
-        let marks = Vec::with_capacity(alloc, READY)?;
-        let writes = Writes::new(alloc)?;
+        let alloc = self.live.allocator();
+        let marks = Marks::new(alloc);
+        let writes = Writes::new(alloc);
         let end = granted_end(self.space.now(), asked);
-        self.live.push(Live { number, end })?;
+        self.live.add(Live { number, end })?;
         self.begun = number;
         Ok(Txn {
             number,
@@ -159,7 +160,7 @@ impl TxnSpace {
         ensures judged { MatchResult result (λ _. IsAccepted self.now txn.now) (IsRefused self.now txn.now) }
         ensures valid { IsSpace self.now.space }
     {
-        if !is_live_in(&self.live, self.space.now(), txn.number) {
+        if !self.live.is_live(self.space.now(), txn.number) {
             return Err(TxnError::Expired);
         }
         if !are_marks_in(&self.space, &txn.marks, txn.number) {
@@ -169,7 +170,8 @@ impl TxnSpace {
     }
 
     /// Takes for a transaction a tuple that the template asks for: one of the space, or, where none of these can be had, one
-    /// that the transaction wrote. `None` where there is none of these either. Refusals: 31, 32, 50.
+    /// that the transaction wrote. `None` where there is none of these either. Refusals: 31, 32, 50. To take what it has read
+    /// takes no memory.
     pub fn inp_in(&mut self, txn: &mut Txn, template: &Template) -> Result<Option<Found>, TxnError>
         ensures step { Step self.old txn.old (inp_in template.now) (find_answer result) self.new txn.new }
         ensures found { IfOk result (λ found. IfSome found (Shows template.now txn.new)) }
@@ -181,6 +183,11 @@ impl TxnSpace {
             return Ok(take_own(&mut txn.writes, template));
         };
         let id = entry.id();
+        if has_mark_on(&txn.marks, id.number()) {
+            let permanent = entry.end.is_permanent();
+            take_marked(&mut self.space, &mut txn.marks, txn.number, id, permanent);
+            return Ok(Some(Found::Entry(id)));
+        }
         let mark = mark_for(entry, true)?;
         put_mark_on(&mut self.space, &mut txn.marks, txn.number, id, mark)?;
         Ok(Some(Found::Entry(id)))
@@ -196,7 +203,7 @@ impl TxnSpace {
     {
         self.accept(txn)?;
         let Some(entry) = self.space.search(Claim::Read, template) else {
-            return Ok(find_own(txn.writes.as_slice(), template));
+            return Ok(find_own(&txn.writes, template));
         };
         let id = entry.id();
         if has_mark_on(&txn.marks, id.number()) {
@@ -211,7 +218,7 @@ impl TxnSpace {
     pub fn is_live(&self, txn: &Txn) -> bool
         ensures { result ≡ is_live_transaction self.now txn.now.number }
     {
-        is_live_in(&self.live, self.space.now(), txn.number)
+        self.live.is_live(self.space.now(), txn.number)
     }
 
     /// Renews a transaction's lease: its end is the later of its old end and that of a lease granted now. Refusals: 31, 32.
@@ -221,7 +228,7 @@ impl TxnSpace {
     {
         self.accept(txn)?;
         let end = granted_end(self.space.now(), asked);
-        renew_row(&mut self.live, txn.number, end);
+        self.live.renew(txn.number, end);
         Ok(())
     }
 
@@ -230,17 +237,48 @@ impl TxnSpace {
         ensures step { Step self.old txn abort (end_answer result) self.new txn }
         ensures handed_back { IfErr result (λ back. back.1 ≡ txn) }
     {
+        match self.abort_leaving(txn) {
+            Ok(_) => Ok(()),
+            Err(back) => Err(back),
+        }
+    }
+
+    /// The same, where what the transaction held is left to the caller to drop. Takes no memory.
+    pub fn abort_leaving(&mut self, txn: Txn) -> Result<Spent, (TxnError, Txn)>
+        ensures step { Step self.old txn abort (end_answer result) self.new txn }
+        ensures handed_back { IfErr result (λ back. back.1 ≡ txn) }
+    {
         if let Err(error) = self.accept(&txn) {
             return Err((error, txn));
         }
         self.space.unpin(txn.number);
-        drop_row(&mut self.live, txn.number);
-        Ok(())
+        self.live.remove(txn.number);
+        let Txn {
+            number: _,
+            marks,
+            writes,
+        } = txn;
+        Ok(Spent {
+            marks,
+            writes: Some(writes),
+        })
     }
 
     /// Ends a transaction and makes it count: what it wrote is put out, what it took is gone, its marks are dropped.
     /// Refusals: 31, 32, 33 where the commits or the numbers of entries are used up, 50; the transaction comes back.
     pub fn commit(&mut self, txn: Txn) -> Result<(), (TxnError, Txn)>
+        ensures step { Step self.old txn commit (end_answer result) self.new txn }
+        ensures handed_back { IfErr result (λ back. back.1 ≡ txn) }
+        ensures content { OnOk result (ChangesContent self.old self.new txn) }
+    {
+        match self.commit_leaving(txn) {
+            Ok(_) => Ok(()),
+            Err(back) => Err(back),
+        }
+    }
+
+    /// The same, where what the transaction held is left to the caller to drop.
+    pub fn commit_leaving(&mut self, txn: Txn) -> Result<Spent, (TxnError, Txn)>
         ensures step { Step self.old txn commit (end_answer result) self.new txn }
         ensures handed_back { IfErr result (λ back. back.1 ≡ txn) }
         ensures content { OnOk result (ChangesContent self.old self.new txn) }
@@ -268,9 +306,12 @@ impl TxnSpace {
         }
         self.space.remove_taken(number);
         self.space.unpin(number);
-        drop_row(&mut self.live, number);
+        self.live.remove(number);
         self.commits += 1;
-        Ok(())
+        Ok(Spent {
+            marks,
+            writes: None,
+        })
     }
 
     /// Takes the permanent tuples out, in the order in which they were put out, held ones included. Refused memory, the
@@ -306,7 +347,7 @@ impl TxnSpace {
     pub(crate) fn nearly_used_up(alloc: Global) -> TxnSpace {
         TxnSpace {
             space: Space::new(alloc),
-            live: Vec::new(alloc),
+            live: Transactions::new(alloc),
             begun: MOST - 2,
             commits: MOST - 1,
         }

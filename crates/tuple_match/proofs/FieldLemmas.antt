@@ -1,5 +1,5 @@
 use Rattle.std.proofs.Common.{◌≡◌, refl, Bool, List, [], ◌∷◌}
-use Rattle.std.specs.Prelude.{ℤ, map, All}
+use Rattle.std.specs.Prelude.{ℤ, map, All, Result, Ok, Err, IfOk, MatchResult}
 use Rattle.std.specs.List.{AllZip}
 use Rattle.std.specs.Bool.{Decides}
 use Rattle.std.specs.Cmp.Lexicographic.{pointwise}
@@ -36,3 +36,8 @@ pointwise-map E f (x ∷ xs) (y ∷ ys) =
 -- `==` on two lists of numbers decides whether they are equal
 pub same_lists : (xs ys : List ℤ) → Decides (pointwise int_eq xs ys) (xs ≡ ys)
 same_lists xs ys = slice_eq-Decides Decides-int_eq xs ys (pointwise int_eq xs ys) refl
+
+-- what follows from an answer's fact holds of the answer too
+pub IfOk-from_cases : {A E : Type 0} (P Q : A → Type 0) (R : E → Type 0) (r : Result A E) → MatchResult r P R → ((x : A) → P x → Q x) → IfOk r Q
+IfOk-from_cases P Q R (Ok x) h all = all x h
+IfOk-from_cases P Q R (Err e) h all = tt

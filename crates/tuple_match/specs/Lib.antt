@@ -4,6 +4,7 @@ pub mod FieldValue
 pub mod Matching
 pub mod Pattern
 pub mod PatternValue
+pub mod Row
 pub mod Template
 pub mod Tuple
 pub mod Word

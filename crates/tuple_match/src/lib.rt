@@ -8,6 +8,7 @@
 mod fields;
 mod matching;
 mod refusal;
+mod row;
 mod templates;
 mod tuples;
 
@@ -17,7 +18,5 @@ pub use refusal::MatchError;
 pub use templates::{Pattern, Template};
 pub use tuples::Tuple;
 
-#[cfg(test)]
-mod memory_tests;
 #[cfg(test)]
 mod tests;

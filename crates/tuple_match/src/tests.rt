@@ -123,7 +123,7 @@ fn keeps_the_limits(rt: HostRuntime) -> Result<(), Fail> {
             Ok(tuple) => {
                 assert!(rt; *want, "row {row}");
                 assert_eq!(rt;
-                    tuple.into_fields(),
+                    tuple.into_fields()?,
                     fields(rt.alloc(), parts)?,
                     "row {row}"
                 );
@@ -161,6 +161,11 @@ fn copies_a_tuple(rt: HostRuntime) -> Result<(), Fail> {
     assert!(rt; copy == tuple);
     assert_eq!(rt; copy.fields(), tuple.fields());
     assert!(rt; copy != Tuple::new(fields(rt.alloc(), &[JOB, Int(-5)])?)?);
+    let shared = copy.share(rt.alloc()).map_err(|(error, _)| error)?;
+    let other = shared.copy()?;
+    assert!(rt; other == tuple);
+    assert_eq!(rt; shared.into_fields()?, fields(rt.alloc(), &parts)?);
+    assert_eq!(rt; other.into_fields()?, fields(rt.alloc(), &parts)?);
     Ok(())
 }
 

@@ -1,35 +1,46 @@
 //! Tuples: rows of fields within their limits.
 
-ghost use Rattle.std.specs.Prelude.{◌≡◌, ◌↔◌, IsTrue, IsOk, IfOk, IfErr, All};
+ghost use Rattle.std.specs.Prelude.{◌≡◌, ◌↔◌, IsTrue, IsOk, IfOk, IfErr, All, MatchResult};
 ghost use Rattle.tuple_match.specs.FieldValue.{IsField};
 ghost use Rattle.tuple_match.specs.Field.{field_value, fields_value};
+ghost use Rattle.tuple_match.specs.Row.{row_value};
 ghost use Rattle.tuple_match.specs.Tuple.{IsTuple};
 
 use crate::fields::Field;
 use crate::refusal::MatchError;
-use std::alloc::AllocError;
+use crate::row::Row;
+use std::alloc::{AllocError, Global};
+use std::fmt;
 use std::marker::Model;
 
 /// The most fields of a tuple, and the most patterns of a template.
 pub(crate) const MOST_FIELDS: usize = 8;
 
 /// A row of 1 to 8 fields, each within its limits.
-#[derive(Debug, Drop)]
+#[derive(Drop)]
 pub struct Tuple {
-    fields: Vec<Field>,
+    row: Row,
+}
+
+impl fmt::Debug for Tuple {
+    fn fmt<W: fmt::Write>(&self, f: &mut fmt::Formatter<W>) -> fmt::Result {
+        f.debug_struct("Tuple")
+            .field("fields", &self.fields())
+            .finish()
+    }
 }
 
 impl Model for Tuple {
     ghost use Rattle.std.specs.Prelude.{List};
     ghost use Rattle.tuple_match.specs.FieldValue.{FieldValue};
-    ghost use Rattle.tuple_match.specs.Field.{fields_value};
+    ghost use Rattle.tuple_match.specs.Row.{row_value};
     ghost use Rattle.tuple_match.specs.Tuple.{IsTuple};
 
     ghost Value = { List FieldValue };
 
-    ghost view = { λ t. fields_value t.fields.items };
+    ghost view = { λ t. row_value t.row };
 
-    ghost invariant = { λ t. IsTuple (fields_value t.fields.items) };
+    ghost invariant = { λ t. IsTuple (row_value t.row) };
 }
 
 impl Tuple {
@@ -42,9 +53,21 @@ impl Tuple {
         ensures handed_back { IfErr result (λ refused. refused.1 ≡ fields) }
     {
         if is_tuple(&fields) {
-            Ok(Tuple { fields })
+            let row = Row::Own(fields);
+            Ok(Tuple { row })
         } else {
             Err((MatchError::BadTuple, fields))
+        }
+    }
+
+    /// The same tuple, whose copies share its fields with it and take no memory. Refused memory, it comes back.
+    pub fn share(self, alloc: Global) -> Result<Tuple, (AllocError, Tuple)>
+        ensures { MatchResult result (λ tuple. tuple ≡ self) (λ back. back.1 ≡ self) }
+    {
+        let Tuple { row } = self;
+        match row.share(alloc) {
+            Ok(row) => Ok(Tuple { row }),
+            Err((error, row)) => Err((error, Tuple { row })),
         }
     }
 
@@ -53,24 +76,23 @@ impl Tuple {
         ensures value { fields_value result.now ≡ self.now }
         ensures limits { IsTuple self.now }
     {
-        &self.fields
+        self.row.as_slice()
     }
 
-    /// Takes the fields out, first to last. Takes no memory.
-    pub fn into_fields(self) -> Vec<Field>
-        ensures value { fields_value result.items ≡ self }
-        ensures limits { IsTuple self }
+    /// Takes the fields out, first to last. `AllocError` only where copies share them and there is no memory for others.
+    pub fn into_fields(self) -> Result<Vec<Field>, AllocError>
+        ensures { IfOk result (λ fields. (fields_value fields.items ≡ self) × IsTuple self) }
     {
-        let Tuple { fields } = self;
-        fields
+        let Tuple { row } = self;
+        row.into_fields()
     }
 
     /// Another tuple of equal fields, or `AllocError` where there is no memory for it.
     pub fn copy(&self) -> Result<Tuple, AllocError>
         ensures value { IfOk result (λ tuple. tuple ≡ self.now) }
     {
-        let fields = self.fields.clone()?;
-        Ok(Tuple { fields })
+        let row = self.row.copy()?;
+        Ok(Tuple { row })
     }
 }
 
@@ -89,7 +111,7 @@ impl PartialEq for Tuple {
         ensures test { result ≡ tuple_eq self.now other.now }
         ensures same { IsTrue result ↔ (self.now ≡ other.now) }
     {
-        self.fields == other.fields
+        self.fields() == other.fields()
     }
 }
 

@@ -189,6 +189,35 @@ held_pinned by taken number old new es rising among h = record {
   };
 }
 
+-- the number of an entry that a holder holds stands beside it
+noted_at : (holder number : ℕ) (numbers : List ℕ) (es : List Entry) → All (IsNoted holder numbers) es → list_any (λ (e : Entry). eqb e.number number && is_held_by holder e) es ≡ true
+    → is_among number numbers ≡ true
+noted_at holder number numbers [] noted held = absurd (false≢true held)
+noted_at holder number numbers (e ∷ es) noted held = ⊎_elim
+    (λ here. let parts = both_of (eqb e.number number) (is_held_by holder e) here in
+    ap (λ n. is_among n numbers) (sym (eqb-true e.number number parts.0)) ∙ All-head (IsNoted holder numbers) e es noted parts.1)
+    (λ behind. noted_at holder number numbers es (All-tail (IsNoted holder numbers) e es noted) behind)
+    (or_cases (eqb e.number number && is_held_by holder e) (list_any (λ (x : Entry). eqb x.number number && is_held_by holder x) es) held)
+  where
+    both_of : (a b : Bool) → (a && b) ≡ true → (a ≡ true) × (b ≡ true)
+    both_of true b is = (refl, is)
+    both_of false b is = absurd (false≢true is)
+
+-- an entry that its holder holds already is held anew
+pub held_again : (by : ℕ) (taken : Bool) (number : ℕ) (rows : List Held) (es : List Entry) → list_any (λ (e : Entry). eqb e.number number && is_held_by by e) es ≡ true → HasHeld rows es
+    → HasHeld rows (map (λ (e : Entry). cond (eqb e.number number) (held_by by taken e) e) es)
+held_again by taken number rows es held h =
+    held_pinned by taken number rows rows es (λ holder. (h.of holder).rising)
+    (λ holder n. same (eqb by holder) (eqb n number) (is_among n (numbers_by holder rows))
+    (λ mine this. subst (λ (k : ℕ). is_among n (numbers_by k rows) ≡ true) (eqb-true by holder mine)
+    (ap (λ k. is_among k (numbers_by by rows)) (eqb-true n number this) ∙ noted_at by number (numbers_by by rows) es (h.of by).each held)))
+    h
+  where
+    same : (mine this among : Bool) → (mine ≡ true → this ≡ true → among ≡ true) → among ≡ ((mine && this) || among)
+    same true true among is = is refl refl
+    same true false among is = refl
+    same false this among is = refl
+
 -- a tuple is put out, which nobody holds
 pub held_put : (rows : List Held) (w : SpaceValue) (tuple : List FieldValue) (lease : Lease) → HasHeld rows w.entries → HasHeld rows (put w tuple lease).entries
 held_put rows w tuple lease h =

@@ -3,7 +3,9 @@ pub mod EntryLemmas
 pub mod HeldLemmas
 pub mod HoldLemmas
 pub mod IndexLemmas
+pub mod NumberLemmas
 pub mod PartLemmas
+pub mod PlaceLemmas
 pub mod RowLemmas
 pub mod SpaceLemmas
 pub mod WriteLemmas

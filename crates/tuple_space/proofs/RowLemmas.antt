@@ -1,7 +1,7 @@
-use Rattle.std.proofs.Common.{◌≡◌, ℕ, zero, suc, ◌+◌, ◌<◌, ◌≤◌, Bool, true, false, List, [], ◌∷◌, length, get_or, ap, ◌∙◌, sym, refl, cond, eqb, Option, Some, None, ⊎_elim, arith}
+use Rattle.std.proofs.Common.{◌≡◌, ℕ, zero, suc, ◌<◌, Bool, true, false, List, [], ◌∷◌, length, get_or, ap, ◌∙◌, sym, refl, cond, eqb, Option, Some, None, ⊎_elim, arith}
 use Rattle.std.specs.Prelude.{not, ◌≢◌, ◌&&◌, ◌||◌, is_some, All, filter, find, map, remove}
 use Rattle.std.proofs.Math.ListN.{set}
-use Rattle.std.specs.List.{list_any, HoldsAt, AllWithin}
+use Rattle.std.specs.List.{list_any, HoldsAt}
 use Rattle.std.proofs.lemmas.Bool.{cond-true, cond-false, cond_both, eq-eqb, ne_eqb, cases_lt, false≢true, or_from}
 use Rattle.std.proofs.lemmas.List.{get_or-map, length-map}
 use Rattle.std.proofs.lemmas.List.Elements.{All-head, All-tail}
@@ -28,30 +28,6 @@ only_at number es i rising within here = record {
       (λ above. let less : (get_or es i d).number < (get_or es k d).number = rising i k d (omega arith) lt in let at = here d in omega arith)
       (cases_lt k i);
 }
-
--- what stands before an entry whose number is below another is below it too
-pub below_place : (number : ℕ) (es : List Entry) (i : ℕ) → IsRising es → i < length es → HoldsAt (λ e. e.number < number) es i → AllWithin (λ e. e.number < number) es 0 (i + 1)
-below_place number es i rising within here = λ k d from to. ⊎_elim
-    (λ below. let less : (get_or es k d).number < (get_or es i d).number = rising k i d below within in let at = here d in omega arith)
-    (λ above. let same : k ≡ i = omega arith in rw same (here d))
-    (cases_lt k i)
-
--- what stands behind an entry whose number isn't below another isn't either
-pub above_place : (number : ℕ) (es : List Entry) (i : ℕ) → IsRising es → i < length es → HoldsAt (λ e. number ≤ e.number) es i → AllWithin (λ e. number ≤ e.number) es i (length es)
-above_place number es i rising within here = λ k d from to. ⊎_elim
-    (λ behind. let less : (get_or es i d).number < (get_or es k d).number = rising i k d behind to in let at = here d in omega arith)
-    (λ at_most. let same : k ≡ i = omega arith in rw same (here d))
-    (cases_lt i k)
-
--- where a search ended, no entry has the number unless the one there has it
-pub none_from_search : (number : ℕ) (es : List Entry) (low high : ℕ) → IsRising es → high ≤ low → AllWithin (λ e. e.number < number) es 0 low → AllWithin (λ e. number ≤ e.number) es high (length es) → (low < length es → HoldsAt (λ e. e.number ≢ number) es low) → HasNone number es
-none_from_search number es low high rising met below above not_here = λ k d lt same. ⊎_elim
-    (λ before. let less = below k d (omega arith) before in omega arith)
-    (λ behind. ⊎_elim
-    (λ far. let less : (get_or es low d).number < (get_or es k d).number = rising low k d far lt in let most = above low d (omega arith) (omega arith) in omega arith)
-    (λ near. let at : k ≡ low = omega arith in not_here (omega arith) d (sym (ap (λ i. (get_or es i d).number) at) ∙ same))
-    (cases_lt low k))
-    (cases_lt k low)
 
 pub only_tail : (number : ℕ) (x : Entry) (xs : List Entry) (i : ℕ) → IsOnlyAt number (x ∷ xs) (suc i) → IsOnlyAt number xs i
 only_tail number x xs i h = record {

@@ -1,9 +1,11 @@
 pub mod Ends
+pub mod Entries
 pub mod Entry
 pub mod Held
 pub mod Holds
 pub mod Index
 pub mod Lease
+pub mod Places
 pub mod Rows
 pub mod Space
 pub mod Step

@@ -20,8 +20,8 @@ put_each w (x ∷ xs) = put_each (if x.taken then w else put w x.tuple x.lease) 
 abbrev pub put_count : List Write → ℕ
 put_count writes = count_by (λ x. not x.taken) writes
 
--- why writes are refused: too few numbers are left, or there are enough and no memory
+-- why writes are refused: too few numbers are left, or there are enough and no memory, which only writes that are put out need
 abbrev pub IsPutRefusal : SpaceValue → List Write → SpaceError → Type 0
 IsPutRefusal w writes Exhausted = most < w.last + put_count writes
-IsPutRefusal w writes OutOfMemory = w.last + put_count writes ≤ most
+IsPutRefusal w writes OutOfMemory = (w.last + put_count writes ≤ most) × (0 < put_count writes)
 IsPutRefusal w writes NotThere = ⊥

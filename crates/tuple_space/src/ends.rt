@@ -6,7 +6,7 @@ ghost use Rattle.tuple_space.specs.Lease.{granted};
 
 use crate::entry::Entry;
 use crate::lease::{Lease, LeaseEnd};
-use crate::write::Write;
+use crate::write::Writes;
 
 /// The moment at which a lease ends; the last one where it never does.
 fn moment_of(end: LeaseEnd) -> u64
@@ -48,14 +48,14 @@ pub(crate) fn end_with(first: u64, lease: Lease, moment: u64) -> u64
 }
 
 /// The earliest of a moment and the ends of leases that are granted now.
-pub(crate) fn end_with_all(first: u64, writes: &[Write], moment: u64) -> u64
+pub(crate) fn end_with_all(first: u64, writes: &Writes, moment: u64) -> u64
     requires { moment ≤ 2 ^ 62 }
     ensures less { result ≤ first }
     ensures live { All (λ x. IsLiveBefore result (granted moment x.lease)) writes.now }
 {
     let mut earliest = first;
-    for write in writes {
-        earliest = end_with(earliest, write.lease, moment);
+    for place in 0..writes.len() {
+        earliest = end_with(earliest, writes.at(place).lease, moment);
     }
     earliest
 }

@@ -1,6 +1,6 @@
 //! Those who hold an entry.
 
-ghost use Rattle.std.specs.Prelude.{◌≡◌, ◌≢◌, ◌<◌, ◌==◌, ◌&&◌, [], true, not, length, MatchOption, OnOk, OnErr};
+ghost use Rattle.std.specs.Prelude.{◌≡◌, ◌≢◌, ◌<◌, ◌==◌, ◌&&◌, [], true, not, length, MatchOption, OnOk, OnErr, IsOk};
 ghost use Rattle.std.specs.List.{list_any, list_all, find, AllWithin, HoldsAt};
 ghost use Rattle.std.specs.Option.{option_copied};
 ghost use Rattle.tuple_space.specs.Holds.{holds_with, holds_without};
@@ -100,10 +100,11 @@ impl Holds {
         &self.rows
     }
 
-    /// Puts a hold in the place of its holder's older one, or behind all others.
+    /// Puts a hold in the place of its holder's older one, which takes no memory, or behind all others.
     pub fn put(&mut self, hold: Hold) -> Result<(), AllocError>
         ensures ok { OnOk result (self.new ≡ holds_with hold self.old) }
         ensures err { OnErr result (self.new ≡ self.old) }
+        ensures ready { list_any (λ h. h.by == hold.by) self.old ≡ true → IsOk result }
     {
         put_hold(&mut self.rows, hold)
     }
@@ -168,6 +169,7 @@ fn place_by(rows: &[Hold], holder: u64) -> Option<usize>
 fn put_hold(rows: &mut Vec<Hold>, hold: Hold) -> Result<(), AllocError>
     ensures ok { OnOk result (rows.new.items ≡ holds_with hold rows.old.items) }
     ensures err { OnErr result (rows.new.items ≡ rows.old.items) }
+    ensures ready { list_any (λ h. h.by == hold.by) rows.old.items ≡ true → IsOk result }
 {
     match place_by(rows, hold.by) {
         Some(place) => rows[place] = hold,

@@ -1,23 +1,35 @@
 //! What holding entries does to rows of them.
 
-ghost use Rattle.std.specs.Prelude.{◌≡◌, ◌+◌, ◌<◌, ◌≤◌, ◌^◌, ◌==◌, true, false, [], ◌∷◌, ◌++◌, List, length, not, filter, map, reverse, OnErr, OnOk, vec_capacity, vec_len};
-ghost use Rattle.std.specs.List.{AllWithin, list_any};
-ghost use Rattle.tuple_space.specs.Entry.{is_taken_by, unheld};
+ghost use Rattle.std.specs.Prelude.{◌≡◌, All, ◌+◌, ◌<◌, ◌≤◌, ◌^◌, ◌==◌, ◌&&◌, true, IsOk, [], ◌∷◌, ◌++◌, List, length, OnErr, OnOk};
+ghost use Rattle.std.specs.List.{list_any};
+ghost use Rattle.tuple_space.specs.Entry.{is_held_by, is_taken_by};
 ghost use Rattle.tuple_space.specs.Held.{HasHeld};
 ghost use Rattle.tuple_space.specs.Rows.{IsRising, changed, edited_at};
 ghost use Rattle.tuple_space.specs.Space.{held_by, released, space_of, stays_without, without_taken};
+ghost use Rattle.tuple_space.specs.Places.{items_in};
 ghost use Rattle.tuple_space.specs.Writes.{put_count, put_each};
 
+use crate::entries::Entries;
 use crate::entry::Entry;
 use crate::held::Held;
 use crate::hold::{Hold, Holds};
-use crate::rows::place_of;
-use crate::write::Write;
+use crate::write::{Rows, Write, Writes};
 use std::alloc::AllocError;
 
-/// Holds the entry of a number.
+/// Whether a holder holds the entry of a number.
+pub(crate) fn is_entry_held_by(entries: &Entries, number: u64, holder: u64) -> bool
+    requires { IsRising entries.now.items }
+    ensures { result ≡ list_any (λ e. (e.number == number) && is_held_by holder e) entries.now.items }
+{
+    match entries.place_of(number) {
+        Some(place) => entries.as_slice()[place].holds.is_held_by(holder),
+        None => false,
+    }
+}
+
+/// Holds the entry of a number. Takes no memory where the holder holds it already.
 pub(crate) fn hold_entry(
-    entries: &mut Vec<Entry>,
+    entries: &mut Entries,
     number: u64,
     holder: u64,
     taken: bool,
@@ -26,17 +38,21 @@ pub(crate) fn hold_entry(
     requires stands { list_any (λ e. e.number == number) entries.old.items ≡ true }
     ensures ok { OnOk result (entries.new.items ≡ changed number (held_by holder taken) entries.old.items) }
     ensures err { OnErr result (entries.new.items ≡ entries.old.items) }
+    ensures ready { list_any (λ e. (e.number == number) && is_held_by holder e) entries.old.items ≡ true → IsOk result }
 {
-    let Some(place) = place_of(entries, number) else {
+    let Some(place) = entries.place_of(number) else {
         unreachable!()
     };
-    let entry = &mut entries[place];
+    let entry = &entries.as_slice()[place];
     let permanent = entry.end.is_permanent();
-    entry.holds.put(Hold {
-        by: holder,
-        taken,
-        permanent,
-    })?;
+    entries.put_hold(
+        place,
+        Hold {
+            by: holder,
+            taken,
+            permanent,
+        },
+    )?;
     Ok(())
 }
 
@@ -51,7 +67,7 @@ pub(crate) fn stays_without(entry: &Entry, holder: u64, moment: u64) -> bool
 }
 
 /// Ends the holds of a holder, and drops the entries that go with them, where these rows tell who holds which entries.
-pub(crate) fn release_all(entries: &mut Vec<Entry>, held: &[Held], holder: u64, moment: u64)
+pub(crate) fn release_all(entries: &mut Entries, held: &[Held], holder: u64, moment: u64)
     requires rising { IsRising entries.old.items }
     requires held { HasHeld held.now entries.old.items }
     ensures { entries.new.items ≡ released holder moment entries.old.items }
@@ -64,31 +80,30 @@ pub(crate) fn release_all(entries: &mut Vec<Entry>, held: &[Held], holder: u64, 
 }
 
 /// Ends a holder's hold of the entry of a number, and drops the entry where it goes with it.
-fn release_number(entries: &mut Vec<Entry>, number: u64, holder: u64, moment: u64)
+fn release_number(entries: &mut Entries, number: u64, holder: u64, moment: u64)
     requires { IsRising entries.old.items }
     ensures { entries.new.items ≡ edited_at number (released holder moment) entries.old.items }
 {
-    if let Some(place) = place_of(entries, number) {
+    if let Some(place) = entries.place_of(number) {
         release_at(entries, place, holder, moment);
     }
 }
 
 /// Ends a holder's hold of the entry at a place, and drops the entry where it goes with it.
-fn release_at(entries: &mut Vec<Entry>, place: usize, holder: u64, moment: u64)
-    requires { place < vec_len entries.old }
+fn release_at(entries: &mut Entries, place: usize, holder: u64, moment: u64)
+    requires { place < length entries.old.items }
     ensures { (front : List Entry) (e : Entry) (behind : List Entry) → entries.old.items ≡ front ++ e ∷ behind → length front ≡ place
         → entries.new.items ≡ front ++ (released holder moment (e ∷ []) ++ behind) }
 {
-    if !stays_without(&entries[place], holder, moment) {
+    if !stays_without(&entries.as_slice()[place], holder, moment) {
         entries.remove(place);
         return;
     }
-    let entry = &mut entries[place];
-    entry.holds.release(holder);
+    entries.release(place, holder);
 }
 
 /// Drops the entries that a holder took, where these rows tell who holds which entries.
-pub(crate) fn drop_taken(entries: &mut Vec<Entry>, held: &[Held], holder: u64)
+pub(crate) fn drop_taken(entries: &mut Entries, held: &[Held], holder: u64)
     requires rising { IsRising entries.old.items }
     requires held { HasHeld held.now entries.old.items }
     ensures { entries.new.items ≡ without_taken holder entries.old.items }
@@ -101,66 +116,80 @@ pub(crate) fn drop_taken(entries: &mut Vec<Entry>, held: &[Held], holder: u64)
 }
 
 /// Drops the entry of a number where a holder took it.
-fn drop_taken_number(entries: &mut Vec<Entry>, number: u64, holder: u64)
+fn drop_taken_number(entries: &mut Entries, number: u64, holder: u64)
     requires { IsRising entries.old.items }
     ensures { entries.new.items ≡ edited_at number (without_taken holder) entries.old.items }
 {
-    if let Some(place) = place_of(entries, number) {
+    if let Some(place) = entries.place_of(number) {
         drop_taken_at(entries, place, holder);
     }
 }
 
 /// Drops the entry at a place where a holder took it.
-fn drop_taken_at(entries: &mut Vec<Entry>, place: usize, holder: u64)
-    requires { place < vec_len entries.old }
+fn drop_taken_at(entries: &mut Entries, place: usize, holder: u64)
+    requires { place < length entries.old.items }
     ensures { (front : List Entry) (e : Entry) (behind : List Entry) → entries.old.items ≡ front ++ e ∷ behind → length front ≡ place
         → entries.new.items ≡ front ++ (without_taken holder (e ∷ []) ++ behind) }
 {
-    if entries[place].holds.is_taken_by(holder) {
+    if entries.as_slice()[place].holds.is_taken_by(holder) {
         entries.remove(place);
     }
 }
 
 /// How many writes are put out.
-pub(crate) fn count_puts(writes: &[Write]) -> usize
+pub(crate) fn count_puts(writes: &Writes) -> usize
     ensures { result ≡ put_count writes.now }
 {
-    writes.iter().filter(|write| !write.taken).count()
+    let mut count = 0;
+    for place in 0..writes.len() {
+        if !writes.at(place).taken {
+            count += 1;
+        }
+    }
+    count
 }
 
-fn reversed(writes: Vec<Write>) -> Vec<Write>
-    ensures items { result.items ≡ reverse writes.items }
-    ensures count { put_count result.items ≡ put_count writes.items }
+/// Puts out what a place holds, where there is room for it, and tells the number last given.
+fn put_row(entries: &mut Entries, row: Option<Write>, moment: u64, last: u64) -> u64
+    requires early { moment ≤ 2 ^ 62 }
+    requires few { last + put_count (items_in (row ∷ [])) ≤ 2 ^ 62 }
+    requires room { put_count (items_in (row ∷ [])) ≤ entries.old.room }
+    requires new { All (λ e. e.number ≤ last) entries.old.items }
+    ensures put { space_of entries.new.items moment result ≡ put_each (space_of entries.old.items moment last) (items_in (row ∷ [])) }
+    ensures number { result ≡ last + put_count (items_in (row ∷ [])) }
+    ensures room { entries.old.room ≤ entries.new.room + put_count (items_in (row ∷ [])) }
+    ensures new { All (λ e. e.number ≤ result) entries.new.items }
 {
-    let mut rest = writes;
-    rest.reverse();
-    rest
+    let Some(write) = row else {
+        return last;
+    };
+    if write.taken {
+        return last;
+    }
+    let number = last + 1;
+    let holds = Holds::new(entries.allocator());
+    let end = write.lease.granted(moment);
+    let tuple = write.tuple;
+    entries.push(Entry {
+        number,
+        tuple,
+        end,
+        holds,
+    });
+    number
 }
 
 /// Puts writes out in order, where there is room for them, and tells the number last given.
-pub(crate) fn put_rows(entries: &mut Vec<Entry>, writes: Vec<Write>, moment: u64, last: u64) -> u64
+pub(crate) fn put_rows(entries: &mut Entries, rows: Rows, moment: u64, last: u64) -> u64
     requires early { moment ≤ 2 ^ 62 }
-    requires few { last + put_count writes.items ≤ 2 ^ 62 }
-    requires room { vec_len entries.old + put_count writes.items ≤ vec_capacity entries.old }
-    ensures { space_of entries.new.items moment result ≡ put_each (space_of entries.old.items moment last) writes.items }
+    requires few { last + put_count (items_in rows.items) ≤ 2 ^ 62 }
+    requires room { put_count (items_in rows.items) ≤ entries.old.room }
+    requires new { All (λ e. e.number ≤ last) entries.old.items }
+    ensures { space_of entries.new.items moment result ≡ put_each (space_of entries.old.items moment last) (items_in rows.items) }
 {
-    let mut rest = reversed(writes);
     let mut number = last;
-    while let Some(write) = rest.pop() {
-        if !write.taken {
-            number += 1;
-            let holds = Holds::new(*entries.allocator());
-            let end = write.lease.granted(moment);
-            let tuple = write.tuple;
-            entries
-                .push(Entry {
-                    number,
-                    tuple,
-                    end,
-                    holds,
-                })
-                .unwrap();
-        }
+    for row in rows {
+        number = put_row(entries, row, moment, number);
     }
     number
 }

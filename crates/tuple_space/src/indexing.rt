@@ -8,12 +8,12 @@ ghost use Rattle.tuple_space.specs.Space.{stays_without};
 ghost use Rattle.tuple_space.specs.Writes.{put_count};
 
 use crate::admission::is_there;
+use crate::entries::Entries;
 use crate::entry::Entry;
 use crate::held::Held;
 use crate::holding::stays_without;
 use crate::index::{Bucket, add_entry, drop_entry};
-use crate::rows::place_of;
-use crate::write::Write;
+use crate::write::{Write, Writes};
 use std::alloc::AllocError;
 
 /// Takes the number of the entry at a place out of its bucket, where the entry isn't there.
@@ -41,18 +41,18 @@ pub(crate) fn drop_gone(buckets: &mut Vec<Bucket>, entries: &[Entry], moment: u6
 /// Takes the number of an entry out of its bucket, where the entry goes with a holder's hold of it.
 fn drop_if_leaving(
     buckets: &mut Vec<Bucket>,
-    entries: &[Entry],
+    entries: &Entries,
     number: u64,
     holder: u64,
     moment: u64,
 )
-    requires { IsRising entries.now }
-    ensures { StayIndexed (stays_without holder moment) entries.now buckets.old.items buckets.new.items }
+    requires { IsRising entries.now.items }
+    ensures { StayIndexed (stays_without holder moment) entries.now.items buckets.old.items buckets.new.items }
 {
-    let Some(place) = place_of(entries, number) else {
+    let Some(place) = entries.place_of(number) else {
         return;
     };
-    let entry = &entries[place];
+    let entry = &entries.as_slice()[place];
     if !stays_without(entry, holder, moment) {
         drop_entry(buckets, &entry.tuple, entry.number);
     }
@@ -61,13 +61,13 @@ fn drop_if_leaving(
 /// Takes the numbers of the entries that go with a holder's hold of them, among its own in these rows, out of their buckets.
 pub(crate) fn drop_leaving(
     buckets: &mut Vec<Bucket>,
-    entries: &[Entry],
+    entries: &Entries,
     held: &[Held],
     holder: u64,
     moment: u64,
 )
-    requires { IsRising entries.now }
-    ensures { StayIndexed (stays_without holder moment) entries.now buckets.old.items buckets.new.items }
+    requires { IsRising entries.now.items }
+    ensures { StayIndexed (stays_without holder moment) entries.now.items buckets.old.items buckets.new.items }
 {
     for row in held {
         if row.by == holder {
@@ -77,14 +77,14 @@ pub(crate) fn drop_leaving(
 }
 
 /// Takes the number of an entry out of its bucket, where a holder took the entry.
-fn drop_if_taken(buckets: &mut Vec<Bucket>, entries: &[Entry], number: u64, holder: u64)
-    requires { IsRising entries.now }
-    ensures { StayIndexed (λ e. not (is_taken_by holder e)) entries.now buckets.old.items buckets.new.items }
+fn drop_if_taken(buckets: &mut Vec<Bucket>, entries: &Entries, number: u64, holder: u64)
+    requires { IsRising entries.now.items }
+    ensures { StayIndexed (λ e. not (is_taken_by holder e)) entries.now.items buckets.old.items buckets.new.items }
 {
-    let Some(place) = place_of(entries, number) else {
+    let Some(place) = entries.place_of(number) else {
         return;
     };
-    let entry = &entries[place];
+    let entry = &entries.as_slice()[place];
     if entry.holds.is_taken_by(holder) {
         drop_entry(buckets, &entry.tuple, entry.number);
     }
@@ -93,12 +93,12 @@ fn drop_if_taken(buckets: &mut Vec<Bucket>, entries: &[Entry], number: u64, hold
 /// Takes the numbers of the entries that a holder took, among its own in these rows, out of their buckets.
 pub(crate) fn drop_all_taken(
     buckets: &mut Vec<Bucket>,
-    entries: &[Entry],
+    entries: &Entries,
     held: &[Held],
     holder: u64,
 )
-    requires { IsRising entries.now }
-    ensures { StayIndexed (λ e. not (is_taken_by holder e)) entries.now buckets.old.items buckets.new.items }
+    requires { IsRising entries.now.items }
+    ensures { StayIndexed (λ e. not (is_taken_by holder e)) entries.now.items buckets.old.items buckets.new.items }
 {
     for row in held {
         if row.by == holder {
@@ -125,7 +125,7 @@ fn add_write(buckets: &mut Vec<Bucket>, write: &Write, last: u64) -> Result<u64,
 /// Puts the numbers that writes are to have into their buckets.
 pub(crate) fn add_writes(
     buckets: &mut Vec<Bucket>,
-    writes: &[Write],
+    writes: &Writes,
     last: u64,
 ) -> Result<(), AllocError>
     requires { last + put_count writes.now ≤ 2 ^ 62 }
@@ -133,8 +133,8 @@ pub(crate) fn add_writes(
     ensures stays { StaysIndexed buckets.old.items buckets.new.items }
 {
     let mut number = last;
-    for write in writes {
-        number = add_write(buckets, write, number)?;
+    for place in 0..writes.len() {
+        number = add_write(buckets, writes.at(place), number)?;
     }
     Ok(())
 }
@@ -154,12 +154,12 @@ fn drop_write(buckets: &mut Vec<Bucket>, write: &Write, last: u64) -> u64
 }
 
 /// Takes the numbers that writes were to have out of their buckets.
-pub(crate) fn drop_writes(buckets: &mut Vec<Bucket>, writes: &[Write], last: u64)
+pub(crate) fn drop_writes(buckets: &mut Vec<Bucket>, writes: &Writes, last: u64)
     requires { last + put_count writes.now ≤ 2 ^ 62 }
     ensures { StaysIndexedTo last buckets.old.items buckets.new.items }
 {
     let mut number = last;
-    for write in writes {
-        number = drop_write(buckets, write, number);
+    for place in 0..writes.len() {
+        number = drop_write(buckets, writes.at(place), number);
     }
 }

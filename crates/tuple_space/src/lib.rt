@@ -6,6 +6,7 @@
 
 mod admission;
 mod ends;
+mod entries;
 mod entry;
 mod error;
 mod held;

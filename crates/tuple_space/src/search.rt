@@ -1,16 +1,16 @@
 //! Which entry a template finds: the order in which entries are tried.
 
 ghost use Rattle.std.specs.Prelude.{◌≡◌, ◌<◌, ◌==◌, true, false, All, IfNone, IfSome, count_by, length};
-ghost use Rattle.std.specs.List.{AllWithin, HoldsAt};
+ghost use Rattle.std.specs.List.{HoldsAt};
 ghost use Rattle.tuple_space.specs.Entry.{is_counted};
 ghost use Rattle.tuple_space.specs.Index.{AreIndexed, HasNoneWanted, IsUnwanted};
 ghost use Rattle.tuple_space.specs.Wanted.{is_free, is_wanted};
 ghost use Rattle.tuple_space.specs.Rows.{IsRising};
 
 use crate::admission::{is_open, is_there};
+use crate::entries::Entries;
 use crate::entry::{Claim, Entry};
 use crate::index::{Bucket, is_of, sought_word};
-use crate::rows::place_of;
 use tuple_match::{Template, matches};
 
 /// Which entries are wanted, of those whose tuples a template asks for.
@@ -60,19 +60,19 @@ fn newest_place(
 
 /// The place of the entry of a number, where it is wanted.
 fn place_if_wanted(
-    entries: &[Entry],
+    entries: &Entries,
     number: u64,
     wanted: Wanted,
     moment: u64,
     template: &Template,
 ) -> Option<usize>
-    requires { IsRising entries.now }
-    ensures none { IfNone result (IsUnwanted wanted moment template.now entries.now number) }
-    ensures place { IfSome result (λ i. i < length entries.now) }
-    ensures can { IfSome result (HoldsAt (λ e. is_wanted wanted moment template.now e ≡ true) entries.now) }
+    requires { IsRising entries.now.items }
+    ensures none { IfNone result (IsUnwanted wanted moment template.now entries.now.items number) }
+    ensures place { IfSome result (λ i. i < length entries.now.items) }
+    ensures can { IfSome result (HoldsAt (λ e. is_wanted wanted moment template.now e ≡ true) entries.now.items) }
 {
-    let place = place_of(entries, number)?;
-    if !is_wanted(&entries[place], wanted, moment, template) {
+    let place = entries.place_of(number)?;
+    if !is_wanted(&entries.as_slice()[place], wanted, moment, template) {
         return None;
     }
     Some(place)
@@ -80,16 +80,16 @@ fn place_if_wanted(
 
 /// The place of the entry that is wanted whose number stands last among these.
 fn last_place(
-    entries: &[Entry],
+    entries: &Entries,
     numbers: &[u64],
     wanted: Wanted,
     moment: u64,
     template: &Template,
 ) -> Option<usize>
-    requires { IsRising entries.now }
-    ensures none { IfNone result (All (IsUnwanted wanted moment template.now entries.now) numbers.now) }
-    ensures place { IfSome result (λ i. i < length entries.now) }
-    ensures can { IfSome result (HoldsAt (λ e. is_wanted wanted moment template.now e ≡ true) entries.now) }
+    requires { IsRising entries.now.items }
+    ensures none { IfNone result (All (IsUnwanted wanted moment template.now entries.now.items) numbers.now) }
+    ensures place { IfSome result (λ i. i < length entries.now.items) }
+    ensures can { IfSome result (HoldsAt (λ e. is_wanted wanted moment template.now e ≡ true) entries.now.items) }
 {
     for i in (0..numbers.len()).rev() {
         if let Some(place) = place_if_wanted(entries, numbers[i], wanted, moment, template) {
@@ -101,16 +101,16 @@ fn last_place(
 
 /// The place of the entry that is wanted whose number stands last in the last list that has one.
 fn longest_place(
-    entries: &[Entry],
+    entries: &Entries,
     lists: &[Vec<u64>],
     wanted: Wanted,
     moment: u64,
     template: &Template,
 ) -> Option<usize>
-    requires { IsRising entries.now }
-    ensures none { IfNone result (All (λ l. All (IsUnwanted wanted moment template.now entries.now) l.items) lists.now) }
-    ensures place { IfSome result (λ i. i < length entries.now) }
-    ensures can { IfSome result (HoldsAt (λ e. is_wanted wanted moment template.now e ≡ true) entries.now) }
+    requires { IsRising entries.now.items }
+    ensures none { IfNone result (All (λ l. All (IsUnwanted wanted moment template.now entries.now.items) l.items) lists.now) }
+    ensures place { IfSome result (λ i. i < length entries.now.items) }
+    ensures can { IfSome result (HoldsAt (λ e. is_wanted wanted moment template.now e ≡ true) entries.now.items) }
 {
     for i in (0..lists.len()).rev() {
         if let Some(place) = last_place(entries, &lists[i], wanted, moment, template) {
@@ -123,17 +123,17 @@ fn longest_place(
 /// The place of the entry that is wanted whose number stands so in a bucket, where the bucket is that of a word and of the
 /// template's length.
 fn place_in_bucket(
-    entries: &[Entry],
+    entries: &Entries,
     bucket: &Bucket,
     word: &str,
     wanted: Wanted,
     moment: u64,
     template: &Template,
 ) -> Option<usize>
-    requires { IsRising entries.now }
-    ensures none { IfNone result (HasNoneWanted word.now wanted moment template.now entries.now bucket.now) }
-    ensures place { IfSome result (λ i. i < length entries.now) }
-    ensures can { IfSome result (HoldsAt (λ e. is_wanted wanted moment template.now e ≡ true) entries.now) }
+    requires { IsRising entries.now.items }
+    ensures none { IfNone result (HasNoneWanted word.now wanted moment template.now entries.now.items bucket.now) }
+    ensures place { IfSome result (λ i. i < length entries.now.items) }
+    ensures can { IfSome result (HoldsAt (λ e. is_wanted wanted moment template.now e ≡ true) entries.now.items) }
 {
     if !is_of(bucket, word, template.patterns().len()) {
         return None;
@@ -143,17 +143,17 @@ fn place_in_bucket(
 
 /// The place of the entry that is wanted whose number stands so in the bucket of a word and of the template's length.
 fn place_of_word(
-    entries: &[Entry],
+    entries: &Entries,
     buckets: &[Bucket],
     word: &str,
     wanted: Wanted,
     moment: u64,
     template: &Template,
 ) -> Option<usize>
-    requires { IsRising entries.now }
-    ensures none { IfNone result (All (HasNoneWanted word.now wanted moment template.now entries.now) buckets.now) }
-    ensures place { IfSome result (λ i. i < length entries.now) }
-    ensures can { IfSome result (HoldsAt (λ e. is_wanted wanted moment template.now e ≡ true) entries.now) }
+    requires { IsRising entries.now.items }
+    ensures none { IfNone result (All (HasNoneWanted word.now wanted moment template.now entries.now.items) buckets.now) }
+    ensures place { IfSome result (λ i. i < length entries.now.items) }
+    ensures can { IfSome result (HoldsAt (λ e. is_wanted wanted moment template.now e ≡ true) entries.now.items) }
 {
     for i in 0..buckets.len() {
         if let Some(place) = place_in_bucket(entries, &buckets[i], word, wanted, moment, template) {
@@ -166,20 +166,20 @@ fn place_of_word(
 /// The place of an entry that is wanted. Where the template asks for a word first, that is one with the longest list as its
 /// second field, and the newest of these; else the newest.
 pub(crate) fn place_wanted(
-    entries: &[Entry],
+    entries: &Entries,
     buckets: &[Bucket],
     wanted: Wanted,
     moment: u64,
     template: &Template,
 ) -> Option<usize>
-    requires rising { IsRising entries.now }
-    requires indexed { AreIndexed buckets.now entries.now }
-    ensures none { IfNone result (All (λ e. is_wanted wanted moment template.now e ≡ false) entries.now) }
-    ensures place { IfSome result (λ i. i < length entries.now) }
-    ensures can { IfSome result (HoldsAt (λ e. is_wanted wanted moment template.now e ≡ true) entries.now) }
+    requires rising { IsRising entries.now.items }
+    requires indexed { AreIndexed buckets.now entries.now.items }
+    ensures none { IfNone result (All (λ e. is_wanted wanted moment template.now e ≡ false) entries.now.items) }
+    ensures place { IfSome result (λ i. i < length entries.now.items) }
+    ensures can { IfSome result (HoldsAt (λ e. is_wanted wanted moment template.now e ≡ true) entries.now.items) }
 {
     let Some(word) = sought_word(template) else {
-        return newest_place(entries, wanted, moment, template);
+        return newest_place(entries.as_slice(), wanted, moment, template);
     };
     let place = place_of_word(entries, buckets, word, wanted, moment, template)?;
     Some(place)
@@ -187,14 +187,14 @@ pub(crate) fn place_wanted(
 
 /// Whether no entry is there whose tuple the template asks for.
 pub(crate) fn is_lacking(
-    entries: &[Entry],
+    entries: &Entries,
     buckets: &[Bucket],
     moment: u64,
     template: &Template,
 ) -> bool
-    requires rising { IsRising entries.now }
-    requires indexed { AreIndexed buckets.now entries.now }
-    ensures { result ≡ (count_by (is_counted moment template.now) entries.now == 0) }
+    requires rising { IsRising entries.now.items }
+    requires indexed { AreIndexed buckets.now entries.now.items }
+    ensures { result ≡ (count_by (is_counted moment template.now) entries.now.items == 0) }
 {
     match place_wanted(entries, buckets, Wanted::There, moment, template) {
         Some(_) => false,

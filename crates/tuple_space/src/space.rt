@@ -1,8 +1,8 @@
 //! The space and its calls.
 
-ghost use Rattle.std.specs.Prelude.{◌≡◌, ◌≤◌, ◌+◌, ◌^◌, ◌==◌, true, IfErr, IfSome, IfNone, IfOk, OnErr, OnOk, count_by, find, option_map};
+ghost use Rattle.std.specs.Prelude.{◌≡◌, ◌≤◌, ◌+◌, ◌^◌, ◌==◌, ◌&&◌, true, IsOk, IfErr, IfSome, IfNone, IfOk, OnErr, OnOk, count_by, find, option_map};
 ghost use Rattle.std.specs.Option.{option_copied};
-ghost use Rattle.tuple_space.specs.Entry.{is_counted};
+ghost use Rattle.tuple_space.specs.Entry.{is_counted, is_held_by};
 ghost use Rattle.tuple_space.specs.Space.{IsSpace, held_by, opening, released, with_entries, without_taken};
 ghost use Rattle.std.specs.List.{list_any};
 ghost use Rattle.tuple_space.specs.Held.{HasHeld};
@@ -11,16 +11,17 @@ ghost use Rattle.tuple_space.specs.Writes.{IsPutRefusal, put_count, put_each};
 ghost use Rattle.tuple_space.specs.Step.{IsHad, NothingHad, Step, advance, count, done_reply, inp, inp_reply, now, out, out_reply, rdp, rdp_reply, renew, told};
 
 use crate::ends::{end_with, end_with_all, first_end};
+use crate::entries::Entries;
 use crate::entry::{Claim, Entry, EntryId};
 use crate::error::SpaceError;
 use crate::held::{Held, add_held, drop_rows_by};
 use crate::hold::Holds;
-use crate::holding::{count_puts, drop_taken, hold_entry, put_rows, release_all};
+use crate::holding::{count_puts, drop_taken, hold_entry, is_entry_held_by, put_rows, release_all};
 use crate::index::{Bucket, add_entry, drop_entry};
 use crate::indexing::{add_writes, drop_all_taken, drop_gone, drop_leaving, drop_writes};
 use crate::lease::Lease;
 use crate::permanent::permanent_of;
-use crate::rows::{change_end, count_of, entry_of, keep_there, take_at, take_number};
+use crate::rows::{change_end, count_of, entry_of, take_at, take_number};
 use crate::search::{Wanted, is_lacking, place_wanted};
 use crate::write::Writes;
 use std::alloc::{AllocError, Global};
@@ -33,7 +34,7 @@ pub const MOST: u64 = 1 << 62;
 /// A space of tuples.
 #[derive(Debug, Drop)]
 pub struct Space {
-    entries: Vec<Entry>,
+    entries: Entries,
     /// Who holds which entries; those of one holder in rising order of their numbers.
     held: Vec<Held>,
     /// The numbers of the entries whose tuples begin with a word, by that word and how many fields they have.
@@ -63,7 +64,7 @@ impl Space {
         ensures { result ≡ opening }
     {
         Space {
-            entries: Vec::new(alloc),
+            entries: Entries::new(alloc),
             held: Vec::new(alloc),
             buckets: Vec::new(alloc),
             first_end: u64::MAX,
@@ -96,16 +97,14 @@ impl Space {
         if add_entry(&mut self.buckets, &tuple, number).is_err() {
             return Err((SpaceError::OutOfMemory, tuple));
         }
-        let holds = Holds::new(*self.entries.allocator());
+        let holds = Holds::new(self.entries.allocator());
         let end = lease.granted(self.moment);
-        self.entries
-            .push(Entry {
-                number,
-                tuple,
-                end,
-                holds,
-            })
-            .unwrap();
+        self.entries.push(Entry {
+            number,
+            tuple,
+            end,
+            holds,
+        });
         self.first_end = end_with(self.first_end, lease, self.moment);
         self.last = number;
         Ok(EntryId::new(number))
@@ -164,9 +163,9 @@ impl Space {
         if moment < self.first_end {
             return Ok(());
         }
-        drop_gone(&mut self.buckets, &self.entries, moment);
-        keep_there(&mut self.entries, moment);
-        self.first_end = first_end(&self.entries);
+        drop_gone(&mut self.buckets, self.entries.as_slice(), moment);
+        self.entries.keep_there(moment);
+        self.first_end = first_end(self.entries.as_slice());
         Ok(())
     }
 
@@ -174,7 +173,7 @@ impl Space {
     pub fn count(&self, template: &Template) -> u64
         ensures step { Step self.now (count template.now) (told result) self.now }
     {
-        count_of(&self.entries, self.moment, template)
+        count_of(self.entries.as_slice(), self.moment, template)
     }
 
     /// Whether no entry is there whose tuple the template asks for, held ones included. Takes no memory.
@@ -197,7 +196,7 @@ impl Space {
             self.moment,
             template,
         )?;
-        Some(&self.entries[place])
+        Some(&self.entries.as_slice()[place])
     }
 
     /// The entry of a number.
@@ -211,7 +210,7 @@ impl Space {
     pub fn entries(&self) -> &[Entry]
         ensures { result.now ≡ self.now.entries }
     {
-        &self.entries
+        self.entries.as_slice()
     }
 
     /// Who holds which entries: beside each holder the numbers of all that it holds, in rising order.
@@ -239,13 +238,19 @@ impl Space {
         }
     }
 
-    /// Holds an entry for a holder, named by a number: as taken or as read, in the place of its older hold if it has one.
+    /// Holds an entry for a holder, named by a number: as taken or as read, in the place of its older hold if it has one. Takes
+    /// no memory where it has one.
     pub fn pin(&mut self, id: EntryId, holder: u64, taken: bool) -> Result<(), AllocError>
         requires { list_any (λ e. e.number == id) self.old.entries ≡ true }
         ensures ok { OnOk result (self.new ≡ with_entries self.old (changed id (held_by holder taken) self.old.entries)) }
         ensures err { OnErr result (self.new ≡ self.old) }
+        ensures ready { list_any (λ e. (e.number == id) && is_held_by holder e) self.old.entries ≡ true → IsOk result }
     {
         let number = id.number();
+        if is_entry_held_by(&self.entries, number, holder) {
+            hold_entry(&mut self.entries, number, holder, taken)?;
+            return Ok(());
+        }
         self.held.reserve(1)?;
         hold_entry(&mut self.entries, number, holder, taken)?;
         let new = Held {
@@ -291,25 +296,28 @@ impl Space {
     }
 
     /// Puts out tuples in order, but for those that were taken again: all of them, or none. Refusals: 33 where too few
-    /// numbers are left, 50; the writes come back.
+    /// numbers are left, 50; the writes come back. Takes no memory where nothing is put out.
     pub fn put_all(&mut self, writes: Writes) -> Result<(), (SpaceError, Writes)>
         ensures ok { OnOk result ((self.old.last + put_count writes ≤ 2 ^ 62) × (self.new ≡ put_each self.old writes)) }
         ensures err { OnErr result (self.new ≡ self.old) }
         ensures handed_back { IfErr result (λ back. back.1 ≡ writes) }
         ensures kind { IfErr result (λ back. IsPutRefusal self.old writes back.0) }
     {
-        let count = count_puts(writes.as_slice());
+        let count = count_puts(&writes);
         if count as u64 > MOST - self.last {
             return Err((SpaceError::Exhausted, writes));
+        }
+        if count == 0 {
+            return Ok(());
         }
         if self.entries.reserve(count).is_err() {
             return Err((SpaceError::OutOfMemory, writes));
         }
-        if add_writes(&mut self.buckets, writes.as_slice(), self.last).is_err() {
-            drop_writes(&mut self.buckets, writes.as_slice(), self.last);
+        if add_writes(&mut self.buckets, &writes, self.last).is_err() {
+            drop_writes(&mut self.buckets, &writes, self.last);
             return Err((SpaceError::OutOfMemory, writes));
         }
-        self.first_end = end_with_all(self.first_end, writes.as_slice(), self.moment);
+        self.first_end = end_with_all(self.first_end, &writes, self.moment);
         self.last = put_rows(
             &mut self.entries,
             writes.into_rows(),
@@ -325,8 +333,8 @@ impl Space {
         ensures ok { IfOk result (λ tuples. tuples.items ≡ permanent_tuples self.entries) }
         ensures handed_back { IfErr result (λ back. back.1 ≡ self) }
     {
-        let alloc = *self.entries.allocator();
-        let Ok(room) = Vec::with_capacity(alloc, self.entries.len()) else {
+        let alloc = self.entries.allocator();
+        let Ok(room) = Vec::with_capacity(alloc, self.entries.as_slice().len()) else {
             return Err((AllocError, self));
         };
         let Space {

@@ -1,9 +1,11 @@
 //! Tuples that are to be put out together.
 
-ghost use Rattle.std.specs.Prelude.{◌≡◌, ◌<◌, ◌++◌, ◌∷◌, [], false, length, IfOk, IfErr, IsOk, OnOk, OnErr};
+ghost use Rattle.std.specs.Prelude.{◌≡◌, ◌<◌, ◌++◌, ◌∷◌, [], false, length, map, Some, IfErr, IsOk, OnOk, OnErr, slice_get, slice_index_or};
+ghost use Rattle.std.specs.Option.{option_copied};
 ghost use Rattle.tuple_space.specs.Writes.{taken_at};
 
 use crate::lease::Lease;
+use smallvec::SmallVec;
 use std::alloc::{AllocError, Global};
 use std::marker::Model;
 use tuple_match::Tuple;
@@ -19,34 +21,35 @@ pub struct Write {
     pub taken: bool,
 }
 
+/// Places for writes, the first four of which take no memory; a place that isn't in use holds none.
+pub(crate) type Rows = SmallVec<Option<Write>, 4>;
+
 /// Writes in order.
 #[derive(Debug, Drop)]
 pub struct Writes {
-    rows: Vec<Write>,
+    rows: Rows,
 }
 
-/// The writes that take no memory.
-const READY: usize = 4;
-
 impl Model for Writes {
-    ghost use Rattle.std.specs.Prelude.{List, ◌≤◌};
-    ghost use Rattle.std.specs.Vec.{vec_capacity};
+    ghost use Rattle.std.specs.Prelude.{List};
+    ghost use Rattle.tuple_space.specs.Places.{AreFilled, items_in};
     ghost use Rattle.tuple_space.specs.declared.write.Write.{Write};
 
     ghost Value = { List Write };
 
-    ghost view = { λ w. w.rows.items };
+    ghost view = { λ w. items_in w.rows.items };
 
-    ghost invariant = { λ w. 4 ≤ vec_capacity w.rows };
+    ghost invariant = { λ w. AreFilled 4 w.rows };
 }
 
 impl Writes {
-    /// No writes, with room for four.
-    pub fn new(alloc: Global) -> Result<Writes, AllocError>
-        ensures { IfOk result (λ writes. writes ≡ []) }
+    /// No writes. Takes no memory.
+    pub fn new(alloc: Global) -> Writes
+        ensures { result ≡ [] }
     {
-        let rows = Vec::with_capacity(alloc, READY)?;
-        Ok(Writes { rows })
+        Writes {
+            rows: SmallVec::new(alloc),
+        }
     }
 
     /// Adds a write. Refused memory, the tuple comes back; the first four take none.
@@ -57,21 +60,46 @@ impl Writes {
         ensures ready { length self.old < 4 → IsOk result }
     {
         let taken = false;
-        match self.rows.push(Write {
+        let Err(failed) = self.rows.push(Some(Write {
             tuple,
             lease,
             taken,
-        }) {
-            Ok(()) => Ok(()),
-            Err(failed) => Err((AllocError, failed.value.tuple)),
+        }))
+        else {
+            return Ok(());
+        };
+        match failed.value {
+            Some(write) => Err((AllocError, write.tuple)),
+            None => unreachable!(),
         }
     }
 
-    /// The writes, first to last.
-    pub fn as_slice(&self) -> &[Write]
-        ensures { result.now ≡ self.now }
+    /// How many writes there are, those that were taken again included.
+    pub fn len(&self) -> usize
+        ensures { result ≡ length self.now }
     {
-        &self.rows
+        self.rows.len()
+    }
+
+    /// The write at a place.
+    pub(crate) fn at(&self, place: usize) -> &Write
+        requires { place < length self.now }
+        ensures { result.now ≡ slice_index_or self.now place result.now }
+    {
+        match &self.rows[place] {
+            Some(write) => write,
+            None => unreachable!(),
+        }
+    }
+
+    /// The write at a place, or `None` past the last.
+    pub fn get(&self, place: usize) -> Option<&Write>
+        ensures { option_copied result ≡ slice_get self.now place }
+    {
+        if place >= self.len() {
+            return None;
+        }
+        Some(self.at(place))
     }
 
     /// Takes a write again.
@@ -79,11 +107,14 @@ impl Writes {
         requires { place < length self.old }
         ensures { self.new ≡ taken_at place self.old }
     {
-        self.rows[place].taken = true;
+        let Some(write) = &mut self.rows[place] else {
+            unreachable!()
+        };
+        write.taken = true;
     }
 
-    pub(crate) fn into_rows(self) -> Vec<Write>
-        ensures { result.items ≡ self }
+    pub(crate) fn into_rows(self) -> Rows
+        ensures { result.items ≡ map Some self }
     {
         let Writes { rows } = self;
         rows

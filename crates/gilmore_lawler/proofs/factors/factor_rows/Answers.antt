@@ -30,4 +30,4 @@ loop-r-preserved c =
     let first : linear ≡ c.loop-r.table.items ++ linear_row I.size (matrix_of I c.args.side) placed own = c.in_ok-push_linear.ensures in
     let whole : c.push_others.new.numbers.items ≡ linear ++ others_in flags own row = c.in_ok-push_others.ensures in
     HasFactors-more I c.args.side placed free r own c.loop-r.table.items linear (others_in flags own row) c.push_others.new.numbers.items
-    c.requires.instance c.loop-r.invariant c.loop-r-test.true refl first moved ordered whole
+    c.loop-r.invariant c.loop-r-test.true refl first moved ordered whole

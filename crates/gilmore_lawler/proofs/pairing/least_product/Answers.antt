@@ -6,7 +6,7 @@ use Rattle.qap_cost.specs.Sum.{sum_to}
 use Rattle.gilmore_lawler.specs.Order.{IsAscending, IsDescending}
 use Rattle.gilmore_lawler.specs.LeastProduct.{IsLeastProduct}
 use Rattle.gilmore_lawler.proofs.Lists.{IsArranged}
-use Rattle.gilmore_lawler.proofs.Rearrangement.{IsAscending-from_sort, IsDescending-reverse, AllInRange-arranged, IsArranged-from_copy, IsLeastProduct-sorted, product_along}
+use Rattle.gilmore_lawler.proofs.Rearrangement.{IsAscending-from_sort, IsDescending-reverse, AllWithin-arranged, IsArranged-from_copy, IsLeastProduct-sorted, product_along}
 use Rattle.gilmore_lawler.proofs.pairing.least_product.Goals as goal
 
 pub sum_of_products-requires-clause-xs_range : goal.sum_of_products-requires-clause-xs_range
@@ -14,14 +14,14 @@ sum_of_products-requires-clause-xs_range c =
     let x : IsArranged c.args.xs.now c.deref.result.now =
     subst (IsArranged c.args.xs.now) (sym c.deref.ensures.value)
     (IsArranged-from_copy _ _ _ c.in_ok-ascending.ensures.items c.sort_unstable.ensures.permutation) in
-    AllInRange-arranged _ _ x c.requires.xs_range
+    AllWithin-arranged _ _ _ x c.requires.xs_range
 
 pub sum_of_products-requires-clause-ys_range : goal.sum_of_products-requires-clause-ys_range
 sum_of_products-requires-clause-ys_range c =
     let y : IsArranged c.args.ys.now c.deref-2.result.now =
     subst (IsArranged c.args.ys.now) (sym c.deref-2.ensures.value)
     (IsArranged-from_copy _ _ _ c.in_ok-descending.ensures.items (IsPermutation-trans _ _ _ c.sort_unstable-2.ensures.permutation c.reverse.ensures.permutation)) in
-    AllInRange-arranged _ _ y c.requires.ys_range
+    AllWithin-arranged _ _ _ y c.requires.ys_range
 
 pub returns-clause-least : goal.returns-clause-least
 returns-clause-least c =

@@ -14,11 +14,11 @@ loop-c-preserved c =
     let w = length row in
     let k = c.loop-c.c in
     let old = c.args.entries.now.items in
-    let result = c.sum_by_eights.result in
+    let result = c.dot_product.result in
     let e : k * w + w - k * w ≡ w = omega arith in
     let is : result ≡ dot row (segment w others k) =
-    c.sum_by_eights.ensures.value ∙ ap (λ (m : ℕ). dot row (take m (drop (k * w) others))) e in
-    let value = to_z-of_z w128 result (fits_signed_from_abs w128 result (omega (arith, c.sum_by_eights.ensures.bounded, c.requires.width))) in
+    c.dot_product.ensures.value ∙ ap (λ (m : ℕ). dot row (take m (drop (k * w) others))) e in
+    let value = to_z-of_z w128 result (fits_signed_from_abs w128 result (omega (arith, c.dot_product.ensures.bounded, c.requires.width))) in
     let f : ℕ → ℤ = λ m. dot row (segment w others m) in
     let pushed : c.push.new.self.items ≡ c.loop-c.entries.items ++ f k ∷ [] =
     c.in_ok-push.ensures.items ∙ ap (λ (z : ℤ). c.loop-c.entries.items ++ z ∷ []) (value ∙ is) in

@@ -1,34 +1,51 @@
-use Rattle.std.proofs.Common.{length, sym, ◌∙◌, subst}
+use Rattle.std.proofs.Common.{length, refl, sym, ◌∙◌, ap, subst, ℕ}
 use Rattle.qap_cost.specs.Matrix.{Square}
+use Rattle.qap_cost.specs.Placement.{free_below}
 use Rattle.qap_cost.specs.Range.{AllWithin}
 use Rattle.gilmore_lawler.specs.ReducedMatrix.{IsReduced}
-use Rattle.gilmore_lawler.proofs.ReducedMatrices.{HasProducts, HasProducts-from_calls, made_is, IsReduced-from_products, AllWithin-from_products}
+use Rattle.gilmore_lawler.specs.declared.side.Side.TheVariants.{Flow, Distance}
+use Rattle.gilmore_lawler.proofs.Tables.{AllInRange-matrix}
+use Rattle.gilmore_lawler.proofs.ReducedMatrices.{HasProducts, HasProducts-from_calls, made_is, IsReduced-from_products, AllWithin-from_products, length-flow_rows}
 use Rattle.gilmore_lawler.proofs.reduction.reduced_from.Goals as goal
+
+pub products-requires-clause-a_size : goal.products-requires-clause-a_size
+products-requires-clause-a_size c =
+    length-flow_rows c.args.instance.now c.args.node.now c.size-n.result c.depth-depth.result c.args.a_rows.now c.depth-depth.ensures.placement c.requires.size c.size-n.ensures.value c.depth-depth.ensures.value c.requires.rows
+
+pub products-requires-clause-a_range : goal.products-requires-clause-a_range
+products-requires-clause-a_range c = c.requires.rows.range _ (AllInRange-matrix c.args.instance.now Flow c.requires.instance)
+
+pub products-requires-clause-b_range : goal.products-requires-clause-b_range
+products-requires-clause-b_range c = rw c.deref-2.ensures.value (c.in_ok-factor_rows.ensures.range _ (AllInRange-matrix c.args.instance.now Distance c.requires.instance))
 
 pub returns-clause-reduced : goal.returns-clause-reduced
 returns-clause-reduced c =
     let I = c.args.instance.now in
     let x = c.args.node.now in
-    let h : HasProducts I x c.factor_rows.new.table.items c.factor_rows-2.new.table.items c.in_ok-entries.entries.items =
-    HasProducts-from_calls I x c.size-n.result c.depth-depth.result c.facilities.result.now c.deref.result.now c.places.result.now c.deref-2.result.now c.factor_rows.new.table.items c.factor_rows-2.new.table.items c.deref-3.result.now c.deref-4.result.now c.in_ok-entries.entries.items
+    let a = c.args.a_rows.now in
+    let entries = c.in_ok-entries.entries.items in
+    let h : HasProducts I x a c.factor_rows.new.table.items entries =
+    HasProducts-from_calls I x c.size-n.result c.depth-depth.result x.facilities (free_below I.size x.facilities) c.places.result.now c.deref.result.now a c.factor_rows.new.table.items a c.deref-2.result.now entries
     (c.size-n.ensures.value ∙ c.requires.size) c.depth-depth.ensures.value
-    c.facilities.ensures.value (c.deref.ensures.value ∙ c.in_ok-facilities.ensures.value)
-    c.places.ensures.value (c.deref-2.ensures.value ∙ c.in_ok-locations.ensures.value)
-    c.in_ok-factor_rows.ensures.rows c.in_ok-factor_rows.ensures.range c.in_ok-factor_rows-2.ensures.rows c.in_ok-factor_rows-2.ensures.range
-    c.deref-3.ensures.value c.deref-4.ensures.value c.in_ok-entries.ensures in
-    let made = made_is c.new.result c.size-n.result c.depth-depth.result x.size (length x.facilities) c.in_ok-entries.entries.items c.unwrap.result c.new.ensures c.unwrap.ensures (c.size-n.ensures.value ∙ c.requires.size) c.depth-depth.ensures.value in
+    refl (ap (λ (n : ℕ). free_below n x.facilities) c.requires.size)
+    c.places.ensures.value (c.deref.ensures.value ∙ c.in_ok-locations.ensures.value)
+    c.requires.rows.table (c.requires.rows.range _ (AllInRange-matrix c.args.instance.now Flow c.requires.instance)) c.in_ok-factor_rows.ensures.rows (c.in_ok-factor_rows.ensures.range _ (AllInRange-matrix c.args.instance.now Distance c.requires.instance))
+    refl c.deref-2.ensures.value c.in_ok-entries.ensures in
+    let made = made_is c.new.result c.size-n.result c.depth-depth.result x.size (length x.facilities) entries c.unwrap.result c.new.ensures c.unwrap.ensures (c.size-n.ensures.value ∙ c.requires.size) c.depth-depth.ensures.value in
     subst (IsReduced I x) (sym made) (IsReduced-from_products I x _ _ _ c.depth-depth.ensures.placement h)
 
 pub returns-clause-bounded : goal.returns-clause-bounded
 returns-clause-bounded c =
     let I = c.args.instance.now in
     let x = c.args.node.now in
-    let h : HasProducts I x c.factor_rows.new.table.items c.factor_rows-2.new.table.items c.in_ok-entries.entries.items =
-    HasProducts-from_calls I x c.size-n.result c.depth-depth.result c.facilities.result.now c.deref.result.now c.places.result.now c.deref-2.result.now c.factor_rows.new.table.items c.factor_rows-2.new.table.items c.deref-3.result.now c.deref-4.result.now c.in_ok-entries.entries.items
+    let a = c.args.a_rows.now in
+    let entries = c.in_ok-entries.entries.items in
+    let h : HasProducts I x a c.factor_rows.new.table.items entries =
+    HasProducts-from_calls I x c.size-n.result c.depth-depth.result x.facilities (free_below I.size x.facilities) c.places.result.now c.deref.result.now a c.factor_rows.new.table.items a c.deref-2.result.now entries
     (c.size-n.ensures.value ∙ c.requires.size) c.depth-depth.ensures.value
-    c.facilities.ensures.value (c.deref.ensures.value ∙ c.in_ok-facilities.ensures.value)
-    c.places.ensures.value (c.deref-2.ensures.value ∙ c.in_ok-locations.ensures.value)
-    c.in_ok-factor_rows.ensures.rows c.in_ok-factor_rows.ensures.range c.in_ok-factor_rows-2.ensures.rows c.in_ok-factor_rows-2.ensures.range
-    c.deref-3.ensures.value c.deref-4.ensures.value c.in_ok-entries.ensures in
-    let made = made_is c.new.result c.size-n.result c.depth-depth.result x.size (length x.facilities) c.in_ok-entries.entries.items c.unwrap.result c.new.ensures c.unwrap.ensures (c.size-n.ensures.value ∙ c.requires.size) c.depth-depth.ensures.value in
+    refl (ap (λ (n : ℕ). free_below n x.facilities) c.requires.size)
+    c.places.ensures.value (c.deref.ensures.value ∙ c.in_ok-locations.ensures.value)
+    c.requires.rows.table (c.requires.rows.range _ (AllInRange-matrix c.args.instance.now Flow c.requires.instance)) c.in_ok-factor_rows.ensures.rows (c.in_ok-factor_rows.ensures.range _ (AllInRange-matrix c.args.instance.now Distance c.requires.instance))
+    refl c.deref-2.ensures.value c.in_ok-entries.ensures in
+    let made = made_is c.new.result c.size-n.result c.depth-depth.result x.size (length x.facilities) entries c.unwrap.result c.new.ensures c.unwrap.ensures (c.size-n.ensures.value ∙ c.requires.size) c.depth-depth.ensures.value in
     subst (λ (M : Square). AllWithin 512000000000000000000 M.entries) (sym made) (AllWithin-from_products I x _ _ _ c.depth-depth.ensures.placement h)

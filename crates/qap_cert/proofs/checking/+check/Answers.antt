@@ -10,6 +10,7 @@ use Rattle.qap_cert.specs.declared.tree.Tree.{Tree}
 use Rattle.qap_cert.specs.declared.version.Version.TheVariants.{Second}
 use Rattle.qap_cert.specs.Valid.{Valid}
 use Rattle.qap_cert.proofs.Trees.{node_of-Split, child_count-nodes_of, node_count-le}
+use Rattle.qap_cert.proofs.Bounds.{rows_of_child}
 use Rattle.qap_cert.proofs.Checks.{Checked-at, Checked-more, Checked-fault}
 use Rattle.qap_cert.proofs.checking.+check.Goals as goal
 
@@ -33,8 +34,11 @@ check_tree-check_children-requires t c =
           (
             subst (λ (ks : List ℕ). (i : ℕ) → i < length ks → IsFreeLocation x (get_or ks i 0)) (sym c.deref.ensures.value) listed.each,
             (
-              omega (arith, shape.3, listed.count, count, c.free_locations.ensures.placement.paired, ap length c.deref.ensures.value, ap length c.deref-in-Split.ensures.value),
-              subst (λ us. AllHaveShape Second x.size (x.facilities ++ f ∷ []) (nodes_of us)) (sym c.deref-in-Split.ensures.value) shape.4,
+              omega (arith, shape.0, listed.count, c.free_locations.ensures.placement.paired, ap length c.deref.ensures.value),
+              (
+                omega (arith, shape.3, listed.count, count, c.free_locations.ensures.placement.paired, ap length c.deref.ensures.value, ap length c.deref-in-Split.ensures.value),
+                subst (λ us. AllHaveShape Second x.size (x.facilities ++ f ∷ []) (nodes_of us)) (sym c.deref-in-Split.ensures.value) shape.4,
+              ),
             ),
           ),
         ),
@@ -74,7 +78,8 @@ check_children-check_tree-requires t c =
     let whole : 2 * nodes_count (nodes_of ts) + 1 ≡ t = c.decreases in
     let less : node_count (node_of child) ≤ nodes_count (nodes_of ts) = subst (λ (u : Tree). node_count (node_of u) ≤ nodes_count (nodes_of ts)) (sym c.index-children-i.is) (node_count-le ts i child below) in
     let smaller : 2 * node_count (node_of child) < t = omega (arith, whole, less) in
-    (smaller, (c.requires.same_size ∙ sym size, subst (λ (y : Placement). HasShape Second y.size y.facilities (node_of child)) (sym part_is) at.shape.0))
+    let rows = rows_of_child I x part f (get_or ks i 0) c.in_ok-rows.rows c.in_ok-rows.ensures part_is in
+    (smaller, (c.requires.same_size ∙ sym size, (rows, subst (λ (y : Placement). HasShape Second y.size y.facilities (node_of child)) (sym part_is) at.shape.0)))
 
 pub check_children-returns-in_err-next : goal.check_children-returns-in_err-next
 check_children-returns-in_err-next t c =

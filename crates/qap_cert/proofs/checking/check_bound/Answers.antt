@@ -17,13 +17,13 @@ pub returns-then-not-fits : goal.returns-then-not-fits
 returns-then-not-fits c =
     inr (inl (
       refl,
-      λ (h : Fits c.args.ranked.now c.args.node.now c.args.u.now c.args.v.now).
-          false≢true (c.if-not-fits.ensures.1 (Fits-reduced c.args.ranked.now c.args.node.now c.in_ok-matrix.matrix c.args.u.now c.args.v.now c.size.ensures.matrix c.in_ok-matrix.ensures.reduced h)),
+      λ (h : Fits c.args.rows.now.instance c.args.node.now c.args.u.now c.args.v.now).
+          false≢true (c.if-not-fits.ensures.1 (Fits-reduced c.args.rows.now.instance c.args.node.now c.in_ok-matrix.matrix c.args.u.now c.args.v.now c.size.ensures.matrix c.in_ok-matrix.ensures.reduced h)),
     ))
 
 pub returns-then-reached-bound : goal.returns-then-reached-bound
 returns-then-reached-bound c =
-    let I = c.args.ranked.now in
+    let I = c.args.rows.now.instance in
     let u = c.args.u.now in
     let v = c.args.v.now in
     let fixed = c.fixed_cost.ensures in
@@ -35,7 +35,7 @@ returns-then-reached-bound c =
 
 pub returns : goal.returns
 returns c =
-    let I = c.args.ranked.now in
+    let I = c.args.rows.now.instance in
     let u = c.args.u.now in
     let v = c.args.v.now in
     let fixed = c.fixed_cost.ensures in

@@ -2,7 +2,6 @@ use Rattle.std.proofs.Common.{◌≡◌, ◌-◌, List, ℕ, length, drop, ap, s
 use Rattle.std.proofs.lemmas.Result.{err_from_is_err_and}
 use Rattle.qap_text.specs.InstanceText.{IsInstanceText}
 use Rattle.qap_check.specs.Source.{IsOtherText, between}
-use Rattle.qap_text.specs.declared.whole.TheConstants.{MAX_INPUT}
 use Rattle.qap_check.proofs.Behind.{behind_ends, EndsWith-length, EndsWith-drop}
 use Rattle.qap_check.proofs.reading.read_texts.Goals as goal
 
@@ -48,5 +47,5 @@ returns g c =
         read = c.in_ok-text.ensures;
         instance_text = subst (λ (t : List ℕ). IsInstanceText t c.in_ok-instance.instance rest) c.deref.ensures.value c.in_ok-instance.ensures;
       };
-      second = subst (λ (b : List ℕ). IsOtherText g.S.Read.remaining MAX_INPUT c.args.second.now c.read_other.new.second b c.in_ok-other.other) is c.in_ok-other.ensures;
+      second = subst (λ (b : List ℕ). IsOtherText g.S.Read.remaining c.args.second.now c.read_other.new.second b c.in_ok-other.other) is c.in_ok-other.ensures;
     }

@@ -1,6 +1,7 @@
-use Rattle.std.proofs.Common.{◌≡◌, inl, to_z, of_z, ◌∙◌, sym, rules}
+use Rattle.std.proofs.Common.{◌≡◌, Some, inl, inr, to_z, of_z, ◌∙◌, sym, rules}
 use Rattle.std.specs.Int.{w128}
-use Rattle.qap_search.proofs.BestFacts.{best_stage, has_best}
+use Rattle.qap_search.specs.Hand.{hand_of, thought_of}
+use Rattle.qap_search.proofs.BestFacts.{best_stage, has_best, has_leased}
 use Rattle.qap_search.proofs.best.told_entry.Goals as goal
 
 pub returns-clause-turn : goal.returns-clause-turn
@@ -17,3 +18,8 @@ returns-clause-stage c = λ I h m.
     best_stage I c.args.last.now c.args.taking c.args.id c.args.txn c.write-written.new.txn c.in-Some.cost c.write-written.result c.told_written.result.told
     c.told_written.result.stage c.two_marks_law.ensures.taken c.two_marks_law.ensures.read h m c.in-Some.ensures
     (λ best there costs. c.write-written.ensures I best h.thought there (costs ∙ sym same)) c.told_written.ensures.stage
+
+pub returns-in_default-clause-turn : goal.returns-in_default-clause-turn
+returns-in_default-clause-turn c = λ I lease old h m.
+    inr (has_leased I lease c.args.last.now c.args.taking c.args.id c.args.txn old c.args.tally c.went_on.result.told
+    (hand_of I lease (Some (thought_of c.args.last.now)) c.went_on.result.stage c.went_on.result.tally) m c.in_default.ensures (search rules) (search rules))

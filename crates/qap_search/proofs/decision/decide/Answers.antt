@@ -1,4 +1,4 @@
-use Rattle.std.proofs.Common.{◌≡◌, ◌≤ℤ◌, ◌∷◌, [], ap, ap₂, ◌∙◌, arith, rules}
+use Rattle.std.proofs.Common.{◌≡◌, ◌≤ℤ◌, ◌<ℤ◌, ◌∷◌, [], ap, ap₂, ◌∙◌, arith, rules}
 use Rattle.std.proofs.lemmas.Int.{ints}
 use Rattle.qap_search.specs.Piece.{closed_tuple}
 use Rattle.qap_search.proofs.Deciding.{decides_closed, decides_split}
@@ -16,4 +16,7 @@ returns-then-thought-best c = λ I h.
 
 pub returns : goal.returns
 returns c = λ I h.
-    decides_split I c.args.best c.args.node.now c.in-Some.facility _ c.in_ok-split_tuples.ensures.placement (rw c.in-Some.is at h.branch) c.in_ok-split_tuples.ensures.value
+    let t = c.args.thought.now in
+    let below : t.value <ℤ c.args.best = omega (arith, ints, c.ranges.best, c.if-thought-best.false) in
+    decides_split I c.args.best c.args.node.now t c.in-Some.facility _ c.in_ok-split_tuples.ensures.placement (rw c.in-Some.is at h.branch) below c.in-Some.is
+    c.in_ok-split_tuples.ensures.value

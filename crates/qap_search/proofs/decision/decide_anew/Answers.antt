@@ -1,8 +1,8 @@
 use Rattle.std.proofs.Common.{◌≡◌, ◌<ℤ◌, ◌≤ℤ◌, inl, inr, ℤ, refl, subst, arith, rules, to_z, of_z}
 use Rattle.std.specs.Int.{w128}
 use Rattle.std.proofs.lemmas.Int.{ints, to_z-of_z}
-use Rattle.qap_search.specs.Decision.{candidate_of}
 use Rattle.qap_search.specs.Replacement.{Best}
+use Rattle.qap_search.specs.Thought.{candidate_of, thought_on}
 use Rattle.qap_search.proofs.Deciding.{better_candidate, better_old, made_then}
 use Rattle.qap_search.proofs.decision.decide_anew.Goals as goal
 
@@ -24,4 +24,4 @@ returns-else-thought-cost c =
     let same : to_z w128 (of_z w128 c.args.cost) ≡ c.args.cost = to_z-of_z w128 c.args.cost c.ranges.cost in
     let more : c.args.cost ≤ℤ t.cost = omega (arith, ints, c.ranges.cost, same, c.if-thought-cost.false) in
     made_then c.decide_beside-else-thought-cost.result _ _ _ _ (λ none. (old, inr (more, refl), none.0, subst (λ (z : ℤ). t.value <ℤ z) same none.1))
-    (λ ts d I h. better_old I (candidate_of t) old x _ ts.items same more (d I h)) c.decide_beside-else-thought-cost.ensures
+    (λ ts d I h. better_old I old (thought_on x t) _ ts.items same more (d I h)) c.decide_beside-else-thought-cost.ensures

@@ -21,6 +21,7 @@ returns-in-Ok c = λ commits tree.
       certified = c.stopped_law.ensures.certifies I tuples commits C tree s;
       tree = s.tree;
       closes = s.closes;
+      closed_before = c.stopped_law.ensures.closed_before I tuples commits C tree s;
       decided = counted.0;
       left = omega (arith, counted.1, c.requires.open);
       counted = omega (arith, counted.1, counted.2);

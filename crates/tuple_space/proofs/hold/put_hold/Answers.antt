@@ -1,5 +1,8 @@
 use Rattle.tuple_space.proofs.HoldLemmas.{with_found, with_none}
-use Rattle.std.proofs.Common.{◌∙◌}
+use Rattle.std.proofs.Common.{◌∙◌, eqb, sym}
+use Rattle.std.proofs.lemmas.Bool.{false≢true, ne_eqb}
+use Rattle.std.proofs.lemmas.List.Folds.{list_any_none}
+use Rattle.tuple_space.specs.declared.hold.Hold.{Hold}
 use Rattle.std.specs.Prelude.{◌≢◌}
 use Rattle.std.proofs.lemmas.List.Elements.{All-from_all_within}
 use Rattle.tuple_space.proofs.hold.put_hold.Goals as goal
@@ -14,3 +17,10 @@ returns-in_ok-push-in-None-clause-ok c =
     let none = rw c.deref.ensures.value at c.in-None.ensures in
     let items = c.in_ok-push-in-None.ensures.items in
     items ∙ with_none c.args.hold c.args.rows.now.items (All-from_all_within (λ h. h.by ≢ c.args.hold.by) c.args.rows.now.items none)
+
+pub returns-in_err-push-in-None-clause-ready : goal.returns-in_err-push-in-None-clause-ready
+returns-in_err-push-in-None-clause-ready c = λ held.
+    let by = c.args.hold.by in
+    let none = rw c.deref.ensures.value at c.in-None.ensures in
+    let other = All-from_all_within (λ (h : Hold). h.by ≢ by) c.args.rows.now.items none in
+    absurd (false≢true (sym (list_any_none (λ (h : Hold). eqb h.by by) c.args.rows.now.items (λ k d lt. ne_eqb _ _ (other k d lt))) ∙ held))

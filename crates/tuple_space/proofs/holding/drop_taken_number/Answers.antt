@@ -6,11 +6,11 @@ use Rattle.tuple_space.proofs.holding.drop_taken_number.Goals as goal
 pub returns-in-Some : goal.returns-in-Some
 returns-in-Some c =
     let es = c.args.entries.now.items in
-    let found = rw c.deref.ensures.value at c.in-Some.ensures in
+    let found = c.in-Some.ensures in
     let only = only_at c.args.number es c.in-Some.place c.requires found.place found.found in
     edited_place c.args.holder (without_taken c.args.holder) (taking_edits c.args.holder) c.args.number es c.drop_taken_at.new.entries.items c.in-Some.place only c.drop_taken_at.ensures
 
 pub returns-in_default : goal.returns-in_default
 returns-in_default c =
-    let none = rw c.deref.ensures.value at c.in_default.ensures.none in
+    let none = c.in_default.ensures.none in
     edited_nowhere c.args.holder (without_taken c.args.holder) (taking_edits c.args.holder) c.args.number c.args.entries.now.items none

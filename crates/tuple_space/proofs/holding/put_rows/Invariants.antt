@@ -1,17 +1,15 @@
-use Rattle.std.proofs.Common.{◌≡◌, ◌+◌, ◌^◌, ◌≤◌, vec_len}
-use Rattle.std.specs.Prelude.{vec_capacity}
-use Rattle.std.specs.Prelude.{reverse}
+use Rattle.std.proofs.Common.{◌≡◌, ◌+◌, ◌^◌, ◌≤◌}
+use Rattle.std.specs.Prelude.{All}
 use Rattle.tuple_space.specs.Space.{space_of}
+use Rattle.tuple_space.specs.Places.{items_in}
 use Rattle.tuple_space.specs.Writes.{put_count, put_each}
 use Rattle.tuple_space.proofs.holding.put_rows.Given as goal
 
-abbrev pub invariant-loop-write : goal.invariant-loop-write
-invariant-loop-write l = record {
-  same : put_each (space_of l.entries.items l.moment l.number) (reverse l.rest.items)
-      ≡ put_each (space_of l.fn.entries.items l.moment l.last) l.fn.writes.items;
-  few : l.number + put_count l.rest.items ≤ 2 ^ 62;
-  room : vec_len l.entries + put_count l.rest.items ≤ vec_capacity l.entries;
+abbrev pub invariant-loop-row : goal.invariant-loop-row
+invariant-loop-row l = record {
+  same : put_each (space_of l.entries.items l.moment l.number) (items_in l.row-iterator)
+      ≡ put_each (space_of l.fn.entries.items l.moment l.last) (items_in l.fn.rows.items);
+  few : l.number + put_count (items_in l.row-iterator) ≤ 2 ^ 62;
+  room : put_count (items_in l.row-iterator) ≤ l.entries.room;
+  new : All (λ e. e.number ≤ l.number) l.entries.items;
 }
-
-abbrev pub decreases-loop-write : goal.decreases-loop-write
-decreases-loop-write l = vec_len l.rest

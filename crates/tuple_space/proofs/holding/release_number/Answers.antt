@@ -6,11 +6,11 @@ use Rattle.tuple_space.proofs.holding.release_number.Goals as goal
 pub returns-in-Some : goal.returns-in-Some
 returns-in-Some c =
     let es = c.args.entries.now.items in
-    let found = rw c.deref.ensures.value at c.in-Some.ensures in
+    let found = c.in-Some.ensures in
     let only = only_at c.args.number es c.in-Some.place c.requires found.place found.found in
     edited_place c.args.holder (released c.args.holder c.args.moment) (release_edits c.args.holder c.args.moment) c.args.number es c.release_at.new.entries.items c.in-Some.place only c.release_at.ensures
 
 pub returns-in_default : goal.returns-in_default
 returns-in_default c =
-    let none = rw c.deref.ensures.value at c.in_default.ensures.none in
+    let none = c.in_default.ensures.none in
     edited_nowhere c.args.holder (released c.args.holder c.args.moment) (release_edits c.args.holder c.args.moment) c.args.number c.args.entries.now.items none

@@ -3,10 +3,10 @@ use Rattle.tuple_space.proofs.rows.entry_of.Goals as goal
 
 pub returns-in-Some : goal.returns-in-Some
 returns-in-Some c =
-    let es = c.args.entries.now in
+    let es = c.args.entries.now.items in
     let n = c.args.number in
     let i = c.in-Some.place in
-    find_place n es i c.index-entries-place.result (only_at n es i c.requires c.in-Some.ensures.place c.in-Some.ensures.found) c.index-entries-place.is
+    find_place n es i c.index-as_slice-place.result (only_at n es i c.requires c.in-Some.ensures.place c.in-Some.ensures.found) (rw c.as_slice.ensures at c.index-as_slice-place.is)
 
 pub returns-in-None : goal.returns-in-None
-returns-in-None c = find_none c.args.number c.args.entries.now c.in-None.ensures.none
+returns-in-None c = find_none c.args.number c.args.entries.now.items c.in-None.ensures.none

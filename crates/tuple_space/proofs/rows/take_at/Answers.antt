@@ -10,4 +10,4 @@ returns-clause-rest c =
     let n = c.remove.result.number in
     let within : c.args.place < length es = omega arith in
     let here = at_read es (λ e. e.number ≡ n) c.args.place c.remove.result within c.remove.ensures.value refl in
-    c.remove.ensures.items ∙ without_place n es c.args.place (only_at n es c.args.place c.requires.rising within here)
+    c.remove.ensures.rest ∙ without_place n es c.args.place (only_at n es c.args.place c.requires.rising within here)

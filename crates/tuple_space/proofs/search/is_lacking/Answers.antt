@@ -5,7 +5,7 @@ use Rattle.tuple_space.proofs.search.is_lacking.Goals as goal
 
 pub returns-in-Some : goal.returns-in-Some
 returns-in-Some c =
-    sym (count_some (is_counted c.args.moment c.args.template.now) c.args.entries.now c.in-Some.field-0 c.in-Some.ensures.place c.in-Some.ensures.can)
+    sym (count_some (is_counted c.args.moment c.args.template.now) c.args.entries.now.items c.in-Some.field-0 c.in-Some.ensures.place c.in-Some.ensures.can)
 
 pub returns-in-None : goal.returns-in-None
-returns-in-None c = sym (count_none (is_counted c.args.moment c.args.template.now) c.args.entries.now c.in-None.ensures.none)
+returns-in-None c = sym (count_none (is_counted c.args.moment c.args.template.now) c.args.entries.now.items c.in-None.ensures.none)

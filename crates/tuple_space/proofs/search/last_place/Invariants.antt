@@ -4,4 +4,4 @@ use Rattle.tuple_space.specs.Index.{IsUnwanted}
 use Rattle.tuple_space.proofs.search.last_place.Given as goal
 
 abbrev pub invariant-loop-i : goal.invariant-loop-i
-invariant-loop-i l = AllWithin (IsUnwanted l.wanted l.moment l.template l.entries) l.numbers l.i (length l.numbers)
+invariant-loop-i l = AllWithin (IsUnwanted l.wanted l.moment l.template l.entries.items) l.numbers l.i (length l.numbers)

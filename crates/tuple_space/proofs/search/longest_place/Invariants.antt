@@ -6,4 +6,4 @@ use Rattle.tuple_space.specs.Index.{IsUnwanted}
 use Rattle.tuple_space.proofs.search.longest_place.Given as goal
 
 abbrev pub invariant-loop-i : goal.invariant-loop-i
-invariant-loop-i l = AllWithin (λ (v : Vec ℕ). All (IsUnwanted l.wanted l.moment l.template l.entries) v.items) l.lists l.i (length l.lists)
+invariant-loop-i l = AllWithin (λ (v : Vec ℕ). All (IsUnwanted l.wanted l.moment l.template l.entries.items) v.items) l.lists l.i (length l.lists)

@@ -7,6 +7,6 @@ pub invariant_of-self : goal.invariant_of-self
 invariant_of-self g c =
     let law = g.L.Law in
     let old = c.self.inside.space in
-    let keeps = c.content_law.ensures.steps old c.args.txn abort (end_answer c.abort.result) c.abort.new.self c.args.txn c.abort.ensures.step tt in
+    let keeps = c.content_law.ensures.steps old c.args.txn abort (end_answer c.abort_leaving.result) c.abort_leaving.new.self c.args.txn c.abort_leaving.ensures.step tt in
     let counted = keeps.counted in
-    (stays_lawful law.lawful law.unordered old c.abort.new.self keeps c.self.invariant.0, omega arith)
+    (stays_lawful law.lawful law.unordered old c.abort_leaving.new.self keeps c.self.invariant.0, omega arith)

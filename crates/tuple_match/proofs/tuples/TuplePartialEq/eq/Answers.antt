@@ -6,7 +6,7 @@ use Rattle.tuple_match.proofs.tuples.TuplePartialEq.eq.Goals as goal
 
 pub returns-clause-test : goal.returns-clause-test
 returns-clause-test c =
-    rw (← c.self.view_is, ← c.other.view_is) (c.eq.ensures ∙ pointwise-map field_eq field_value c.self.inside.fields.items c.other.inside.fields.items)
+    rw (← c.fields.ensures.value, ← c.fields-2.ensures.value) (c.eq.ensures ∙ pointwise-map field_eq field_value c.fields.result.now c.fields-2.result.now)
 
 pub returns-clause-same : goal.returns-clause-same
 returns-clause-same c =

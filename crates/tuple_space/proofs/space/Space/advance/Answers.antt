@@ -14,8 +14,8 @@ invariant_of-self-2 c =
     rw c.keep_there.ensures (
       IsSpace-filter (is_there c.args.moment) s.entries.items s.moment s.last c.args.moment (omega arith) c.self.invariant.0,
       held_filter (is_there c.args.moment) s.held.items s.entries.items c.self.invariant.1,
-      indexed_filter (is_there c.args.moment) s.entries.items s.buckets.items _ c.self.invariant.2 (rw c.deref.ensures.value at c.drop_gone.ensures),
-      subst (AreLiveBefore c.first_end-self-inside.result) (c.deref-2.ensures.value ∙ c.keep_there.ensures) c.first_end-self-inside.ensures,
+      indexed_filter (is_there c.args.moment) s.entries.items s.buckets.items _ c.self.invariant.2 (rw c.as_slice.ensures at c.drop_gone.ensures),
+      subst (AreLiveBefore c.first_end-self-inside.result) (c.as_slice-2.ensures ∙ c.keep_there.ensures) c.first_end-self-inside.ensures,
     )
 
 pub returns-then-moment-self-2 : goal.returns-then-moment-self-2

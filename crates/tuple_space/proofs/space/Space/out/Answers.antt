@@ -11,9 +11,8 @@ pub invariant_of-self-2 : goal.invariant_of-self-2
 invariant_of-self-2 c =
     let s = c.self.inside in
     let w = space_of s.entries.items s.moment s.last in
-    let pushed = rw c.unwrap.ensures at c.push.ensures.items in
     let there = of_ok (is_indexed c.add_entry.new.buckets.items c.args.tuple (s.last + 1) ≡ true) c.add_entry.result c.add_entry.ensures.put (sym c.is_err-2.ensures.value ∙ c.if-is_err-2.false) in
-    rw (pushed, c.reserve.ensures.items, c.granted-end.ensures, c.new-holds.ensures) (
+    rw (c.push.ensures.items, c.reserve.ensures.items, c.granted-end.ensures, c.new-holds.ensures) (
       IsSpace-put w c.args.tuple c.args.lease (omega arith) c.self.invariant.0,
       held_put s.held.items w c.args.tuple c.args.lease c.self.invariant.1,
       indexed_put c.add_entry.new.buckets.items w c.args.tuple c.args.lease there (indexed_more s.buckets.items c.add_entry.new.buckets.items s.entries.items c.add_entry.ensures.stays c.self.invariant.2),

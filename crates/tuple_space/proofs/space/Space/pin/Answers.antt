@@ -1,11 +1,11 @@
-use Rattle.std.proofs.Common.{List, cond, eqb, refl, subst, sym}
+use Rattle.std.proofs.Common.{◌∙◌, List, cond, eqb, refl, subst, sym}
 use Rattle.tuple_space.specs.Held.{HasHeld}
 use Rattle.tuple_space.specs.declared.entry.Entry.{Entry}
 use Rattle.tuple_space.specs.declared.held.Held.{Held}
 use Rattle.tuple_space.specs.Space.{held_by}
 use Rattle.tuple_space.proofs.RowLemmas.{changed_number}
 use Rattle.tuple_space.proofs.EntryLemmas.{IsEntry-changed, IsEntry-held}
-use Rattle.tuple_space.proofs.HeldLemmas.{held_pinned}
+use Rattle.tuple_space.proofs.HeldLemmas.{held_again, held_pinned}
 use Rattle.tuple_space.proofs.IndexLemmas.{changed_tuple, indexed_map}
 use Rattle.tuple_space.proofs.EndLemmas.{live_changed, live_map}
 use Rattle.tuple_space.proofs.SpaceLemmas.{IsSpace-map}
@@ -16,10 +16,23 @@ invariant_of-self-2 c =
     let s = c.self.inside in
     let change = held_by c.args.holder c.args.taken in
     let n = c.number-number.result in
-    rw c.in_ok-hold_entry.ensures.ok (
+    rw c.in_ok-hold_entry-2.ensures.ok (
       IsSpace-map (λ (e : Entry). cond (eqb e.number n) (change e) e) (changed_number n change (λ e. refl)) (IsEntry-changed n change (IsEntry-held c.args.holder c.args.taken)) s.entries.items s.moment s.last c.self.invariant.0,
       held_pinned c.args.holder c.args.taken n c.reserve.new.self.items _ s.entries.items c.add_held.ensures.rising c.add_held.ensures.among
           (subst (λ (l : List Held). HasHeld l s.entries.items) (sym c.reserve.ensures.items) c.self.invariant.1),
+      indexed_map (λ (e : Entry). cond (eqb e.number n) (change e) e) (changed_number n change (λ e. refl)) (changed_tuple n change (λ e. refl)) s.buckets.items s.entries.items c.self.invariant.2,
+      live_map s.first_end (λ (e : Entry). cond (eqb e.number n) (change e) e) (live_changed s.first_end n change (λ e live. live)) s.entries.items c.self.invariant.3,
+    )
+
+pub invariant_of-self-then-is_entry_held_by : goal.invariant_of-self-then-is_entry_held_by
+invariant_of-self-then-is_entry_held_by c =
+    let s = c.self.inside in
+    let change = held_by c.args.holder c.args.taken in
+    let n = c.number-number.result in
+    let held = sym c.is_entry_held_by.ensures ∙ c.if-is_entry_held_by.true in
+    rw c.in_ok-hold_entry.ensures.ok (
+      IsSpace-map (λ (e : Entry). cond (eqb e.number n) (change e) e) (changed_number n change (λ e. refl)) (IsEntry-changed n change (IsEntry-held c.args.holder c.args.taken)) s.entries.items s.moment s.last c.self.invariant.0,
+      held_again c.args.holder c.args.taken n s.held.items s.entries.items held c.self.invariant.1,
       indexed_map (λ (e : Entry). cond (eqb e.number n) (change e) e) (changed_number n change (λ e. refl)) (changed_tuple n change (λ e. refl)) s.buckets.items s.entries.items c.self.invariant.2,
       live_map s.first_end (λ (e : Entry). cond (eqb e.number n) (change e) e) (live_changed s.first_end n change (λ e live. live)) s.entries.items c.self.invariant.3,
     )

@@ -14,6 +14,6 @@ invariant_of-self c =
     rw c.drop_taken.ensures (
       IsSpace-filter stays s.entries.items s.moment s.last s.moment c.self.invariant.0.early c.self.invariant.0,
       held_filter stays s.held.items s.entries.items c.self.invariant.1,
-      indexed_filter stays s.entries.items s.buckets.items _ c.self.invariant.2 (rw c.deref.ensures.value at c.drop_all_taken.ensures),
+      indexed_filter stays s.entries.items s.buckets.items _ c.self.invariant.2 c.drop_all_taken.ensures,
       live_filter s.first_end stays s.entries.items c.self.invariant.3,
     )

@@ -20,6 +20,6 @@ invariant_of-self c =
           (IsSpace-filter stays s.entries.items s.moment s.last s.moment c.self.invariant.0.early c.self.invariant.0),
       subst (λ (l : List Held). HasHeld l (released c.args.holder s.moment s.entries.items)) (sym c.drop_rows_by.ensures) (held_released c.args.holder s.moment s.held.items s.entries.items c.self.invariant.1),
       indexed_map (unheld c.args.holder) (λ e. refl) (λ e. refl) _ (filter stays s.entries.items)
-          (indexed_filter stays s.entries.items s.buckets.items _ c.self.invariant.2 (rw c.deref.ensures.value at c.drop_leaving.ensures)),
+          (indexed_filter stays s.entries.items s.buckets.items _ c.self.invariant.2 c.drop_leaving.ensures),
       live_map s.first_end (unheld c.args.holder) (λ e live. live) (filter stays s.entries.items) (live_filter s.first_end stays s.entries.items c.self.invariant.3),
     )

@@ -1,0 +1,19 @@
+-- What the nodes at which the same facilities are placed have in common: the rows of the free facilities.
+use Rattle.std.specs.Prelude.{ℕ, ◌*◌, ◌+◌, List, length, ℤ}
+use Rattle.qap_cost.specs.Instance.{Problem}
+use Rattle.qap_cost.specs.Placement.{free_below}
+use Rattle.qap_cost.specs.Range.{AllWithin}
+use Rattle.gilmore_lawler.specs.declared.side.Side.TheVariants.{Flow}
+use Rattle.gilmore_lawler.specs.Table.{IsTable, IsFactorRow}
+
+-- an instance, of which these facilities are placed
+pub record FlowSide : Type 0 where
+  pub instance : Problem
+  pub facilities : List ℕ
+
+-- a row of the matrix of flows for each free facility, in the form from which the entries of reduced matrices are products;
+-- no number is further from 0 than the flows are
+pub record HasFlowRows (s : FlowSide) (rows : List ℤ) : Type 0 where
+  pub table : IsTable (2 * length s.facilities + length (free_below s.instance.size s.facilities)) (length (free_below s.instance.size s.facilities))
+      (IsFactorRow s.instance Flow s.facilities (free_below s.instance.size s.facilities)) rows
+  pub range : (l : ℕ) → AllWithin l s.instance.a → AllWithin l rows

@@ -1,0 +1,67 @@
+//! The rows of the flows, kept for all nodes at which the same facilities are placed.
+
+ghost use Rattle.std.specs.Prelude.{◌≡◌, ◌-◌, ◌*◌, ◌^◌, length, IfOk};
+ghost use Rattle.qap_cost.specs.Instance.{IsInstance};
+ghost use Rattle.qap_cost.specs.Range.{AllWithin};
+ghost use Rattle.gilmore_lawler.specs.FlowRows.{FlowSide, HasFlowRows};
+ghost use Rattle.gilmore_lawler.specs.ReducedMatrix.{IsReduced};
+
+use crate::reduction::{RankedInstance, Workspace};
+use qap_cost::{Instance, Matrix, Partial};
+use std::alloc::AllocError;
+use std::marker::Model;
+
+/// The rows of the flows between facilities where certain ones are placed: what the reduced matrices of all nodes that place
+/// these have in common, wherever they place them.
+#[derive(Drop)]
+pub struct FlowRows<'a> {
+    ranked: &'a RankedInstance,
+    facilities: Vec<u16>,
+    rows: Vec<i32>,
+}
+
+impl<'a> Model for FlowRows<'a> {
+    ghost Value = { FlowSide };
+
+    ghost view = { λ r. record { instance = r.ranked.now; facilities = r.facilities.items } };
+
+    ghost invariant = { λ r. HasFlowRows (record { instance = r.ranked.now; facilities = r.facilities.items }) r.rows.items };
+}
+
+impl<'a> FlowRows<'a> {
+    /// The rows for each node that places the facilities of this one.
+    pub fn new(ranked: &'a RankedInstance, node: &Partial) -> Result<FlowRows<'a>, AllocError>
+        requires { ranked.now.size ≡ node.now.size }
+        ensures { IfOk result (λ r. r ≡ record { instance = ranked.now; facilities = node.now.facilities }) }
+    {
+        let alloc = ranked.allocator();
+        let facilities = Vec::from_slice(alloc, node.facilities())?;
+        let mut rows = Vec::new(alloc);
+        ranked.make_flow_rows(node, &mut rows)?;
+        Ok(FlowRows {
+            ranked,
+            facilities,
+            rows,
+        })
+    }
+
+    /// The instance itself.
+    pub fn instance(&self) -> &Instance
+        ensures value { result.now ≡ self.now.instance }
+        ensures instance { IsInstance self.now.instance }
+    {
+        self.ranked.instance()
+    }
+
+    /// The reduced matrix of a node that places these facilities, as the function `reduced` gives it for the instance.
+    pub fn reduced(&self, workspace: &mut Workspace, node: &Partial) -> Result<Matrix, AllocError>
+        requires size { self.now.instance.size ≡ node.now.size }
+        requires facilities { self.now.facilities ≡ node.now.facilities }
+        ensures reduced { IfOk result (IsReduced self.now.instance node.now) }
+        ensures size { IfOk result (λ M. M.size ≡ node.now.size - length node.now.facilities) }
+        ensures bounded { IfOk result (λ M. AllWithin (512 * 10 ^ 18) M.entries) }
+    {
+        self.ranked
+            .reduced_by(&self.rows, node, &mut workspace.b_rows)
+    }
+}

@@ -1,0 +1,5 @@
+mod Costs
+mod DoubleSums
+mod Exchanges
+mod Readings
+mod Rounds

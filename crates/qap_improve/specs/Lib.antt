@@ -1,0 +1,3 @@
+pub mod Difference
+pub mod Exchange
+pub mod Round

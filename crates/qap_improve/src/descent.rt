@@ -1,0 +1,100 @@
+//! Exchanges of two facilities' locations for as long as one gains (Armour and Buffa 1963).
+
+ghost use Rattle.std.specs.Prelude.{◌≡◌, ◌<◌, ◌≤ℤ◌, IfOk, length};
+ghost use Rattle.qap_cost.specs.Instance.{IsInstance};
+ghost use Rattle.qap_cost.specs.Objective.{Permutes, cost_of};
+ghost use Rattle.qap_improve.specs.Exchange.{IsLocallyLeast, exchanging};
+ghost use Rattle.qap_improve.specs.Round.{HasTried, NoneGainsWith};
+
+use crate::pair::difference_at;
+use qap_cost::{Instance, Perm, cost};
+use std::alloc::{AllocError, Global};
+
+/// A permutation and what it costs.
+#[derive(Drop)]
+pub struct Improved {
+    pub permutation: Perm,
+    pub cost: i128,
+}
+
+/// A permutation that costs no more than `start`, and none that differs from it by an exchange of two facilities'
+/// locations costs less than it.
+///
+/// It goes over all pairs of facilities in order, exchanges each that gains at once, and ends with a round in which none
+/// does. A round takes time in n^3 for n facilities; how many there are isn't known beforehand. The only error is want of
+/// memory.
+pub fn exchange(alloc: Global, instance: &Instance, start: &Perm) -> Result<Improved, AllocError>
+    requires { length start.now ≡ instance.now.size }
+    ensures permutation { IfOk result (λ x. Permutes instance.now x.permutation) }
+    ensures cost { IfOk result (λ x. x.cost ≡ cost_of instance.now x.permutation) }
+    ensures no_dearer { IfOk result (λ x. x.cost ≤ℤ cost_of instance.now start.now) }
+    ensures least { IfOk result (λ x. IsLocallyLeast instance.now x.permutation) }
+{
+    let locations = Vec::from_slice(alloc, start.locations())?;
+    let Ok(permutation) = Perm::new(descended(instance, locations)) else {
+        unreachable!()
+    };
+    let cost = cost(instance, &permutation);
+    Ok(Improved { permutation, cost })
+}
+
+/// These locations after all exchanges that gain.
+fn descended(instance: &Instance, mut locations: Vec<u16>) -> Vec<u16>
+    requires { Permutes instance.now locations.items }
+    ensures permutation { Permutes instance.now result.items }
+    ensures no_dearer { cost_of instance.now result.items ≤ℤ cost_of instance.now locations.items }
+    ensures least { IsLocallyLeast instance.now result.items }
+{
+    descend(instance, &mut locations);
+    locations
+}
+
+/// Goes over all pairs until a round has no gain.
+fn descend(instance: &Instance, locations: &mut [u16])
+    requires { Permutes instance.now locations.old }
+    ensures permutation { Permutes instance.now locations.new }
+    ensures no_dearer { cost_of instance.now locations.new ≤ℤ cost_of instance.now locations.old }
+    ensures least { IsLocallyLeast instance.now locations.new }
+{
+    while improve(instance, locations) {}
+}
+
+/// Goes over all pairs once and exchanges each that gains; whether one did.
+fn improve(instance: &Instance, locations: &mut [u16]) -> bool
+    requires { Permutes instance.now locations.old }
+    ensures tried { HasTried instance.now (IsLocallyLeast instance.now) locations.old locations.new result }
+    ensures instance { IsInstance instance.now }
+{
+    let mut gained = false;
+    for r in 0..instance.size() {
+        gained |= improve_with(instance, locations, r);
+    }
+    gained
+}
+
+/// The same for the pairs of facility `r` and a greater one.
+fn improve_with(instance: &Instance, locations: &mut [u16], r: usize) -> bool
+    requires permutation { Permutes instance.now locations.old }
+    requires first { r < instance.now.size }
+    ensures { HasTried instance.now (NoneGainsWith instance.now r instance.now.size) locations.old locations.new result }
+{
+    let mut gained = false;
+    for s in r + 1..instance.size() {
+        gained |= exchange_if_gain(instance, locations, r, s);
+    }
+    gained
+}
+
+/// Exchanges the locations of the two if that gains; whether it did.
+fn exchange_if_gain(instance: &Instance, locations: &mut [u16], r: usize, s: usize) -> bool
+    requires permutation { Permutes instance.now locations.old }
+    requires order { r < s }
+    requires second { s < instance.now.size }
+    ensures { HasTried instance.now (λ p. cost_of instance.now p ≤ℤ cost_of instance.now (exchanging p r s)) locations.old locations.new result }
+{
+    let gains = difference_at(instance, locations, r, s) < 0;
+    if gains {
+        locations.swap(r, s);
+    }
+    gains
+}

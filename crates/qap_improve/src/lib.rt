@@ -1,0 +1,8 @@
+//! From a permutation, one that costs no more.
+#![tactic(auto)]
+
+mod descent;
+mod pair;
+
+pub use descent::{Improved, exchange};
+pub use pair::difference;

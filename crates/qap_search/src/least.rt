@@ -1,0 +1,46 @@
+//! The best permutation among the tuples of a search.
+
+ghost use Rattle.std.specs.Prelude.{◌≡◌, ◌≢◌, All, Contains, IfOk, List, MatchOption, ℕ, ℤ};
+ghost use Rattle.qap_search.specs.CutTree.{IsCutTree};
+ghost use Rattle.qap_search.specs.Decided.{best_of};
+ghost use Rattle.tuple_match.specs.FieldValue.{FieldValue};
+
+use crate::assembling::permutation_of;
+use crate::best::best_fields;
+use qap_cost::{Instance, Perm};
+use std::alloc::{AllocError, Global};
+use tuple_match::Tuple;
+
+/// The best permutation of tuples that are a cut tree, and its cost.
+pub(crate) fn best_of(
+    alloc: Global,
+    instance: &Instance,
+    tuples: &[Tuple],
+) -> Result<(Perm, i128), AllocError>
+    requires { (commits : ℕ) × IsCutTree instance.now tuples.now commits }
+    ensures { IfOk result (λ best. (commits : ℕ) (tree : IsCutTree instance.now tuples.now commits) → (tree.permutation ≡ best.0) × (tree.cost ≡ best.1)) }
+{
+    // Its clause says that this is an instance.
+    let _size = instance.size();
+    let Some((cost, locations)) = first_best(tuples) else {
+        unreachable!()
+    };
+    let Some(permutation) = permutation_of(alloc, locations)? else {
+        unreachable!()
+    };
+    Ok((permutation, cost))
+}
+
+/// The cost and the locations of the first tuple of a best permutation.
+fn first_best(tuples: &[Tuple]) -> Option<(i128, &[i128])>
+    ensures { MatchOption result
+        (All (λ (tuple : List FieldValue). (c : ℤ) (ps : List ℤ) → tuple ≢ best_of c ps) tuples.now)
+        (λ told. Contains tuples.now (best_of told.0 told.1.now)) }
+{
+    for tuple in tuples {
+        if let Some(told) = best_fields(tuple) {
+            return Some(told);
+        }
+    }
+    None
+}

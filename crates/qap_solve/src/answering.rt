@@ -1,0 +1,102 @@
+//! A request answered, from the devices to the exit status.
+
+ghost use Rattle.std.specs.Prelude.{◌≡◌, MatchResult};
+ghost use Rattle.qap_solve.specs.Answering.{HasAnswered, HasNotAnswered, HasRun, HasTold};
+ghost use Rattle.qap_solve.specs.Options.{MayRun};
+ghost use Rattle.qap_solve.specs.Refusal.{status_of};
+ghost use Rattle.space_script.specs.Run.{Streams};
+
+use crate::command_line::Request;
+use crate::refusal::{RunError, fault_line, status};
+use crate::solving::solve_stream;
+use qap_io::{Counted, Status};
+use qap_search::{Clock, Gate};
+use space_script::run_script;
+use std::alloc::Global;
+use std::io::{Read, Write};
+use std::sync::Wait;
+use std::thread::Threads;
+use std::time;
+
+/// Answers a request on the output, and tells the exit status. Where there is no answer, the line of the refusal goes to the
+/// other writer; that it could not be written changes no status. `system` is what threads, waiting and the time are asked of.
+pub fn answered<T, R, W, E, C, G>(
+    system: &T,
+    alloc: Global,
+    request: Request,
+    input: &mut Counted<R>,
+    output: &mut Counted<W>,
+    errors: &mut Counted<E>,
+    clock: &C,
+    gate: &G,
+) -> u8
+where
+    T: Threads + Wait + time::Clock + Sync,
+    R: Read,
+    W: Write,
+    E: Write,
+    C: Clock,
+    G: Gate + Sync,
+    requires { MayRun request }
+    ensures { let s : Streams R W = record {
+      bytes_left = R.remaining;
+      bytes_taken = W.contents;
+      reader = input.old;
+      reader_after = input.new;
+      writer = output.old;
+      writer_after = output.new;
+    } in HasRun s request E.contents errors.old errors.new result }
+{
+    match answer(system, alloc, request, input, output, clock, gate) {
+        Ok(()) => Status::Done.code(),
+        Err(error) => refused(error, errors),
+    }
+}
+
+/// Answers a request on the output.
+fn answer<T, R, W, C, G>(
+    system: &T,
+    alloc: Global,
+    request: Request,
+    input: &mut Counted<R>,
+    output: &mut Counted<W>,
+    clock: &C,
+    gate: &G,
+) -> Result<(), RunError>
+where
+    T: Threads + Wait + time::Clock + Sync,
+    R: Read,
+    W: Write,
+    C: Clock,
+    G: Gate + Sync,
+    requires { MayRun request }
+    ensures { let s : Streams R W = record {
+      bytes_left = R.remaining;
+      bytes_taken = W.contents;
+      reader = input.old;
+      reader_after = input.new;
+      writer = output.old;
+      writer_after = output.new;
+    } in MatchResult result (λ _. HasAnswered s request) (HasNotAnswered s request) }
+{
+    match request {
+        Request::Solve(options) => {
+            solve_stream(system, alloc, input, output, &options, clock, gate)
+        }
+        Request::Script => match run_script(alloc, input, output) {
+            Ok(()) => Ok(()),
+            Err(error) => Err(RunError::from(error)),
+        },
+    }
+}
+
+/// Tells a refusal, and its exit status. Nothing is told of a search that was stopped: what it has come to stands on the output.
+pub fn refused<E: Write>(error: RunError, errors: &mut Counted<E>) -> u8
+    ensures status { result ≡ status_of error }
+    ensures told { HasTold E.contents errors.old errors.new error }
+{
+    if !matches!(error, RunError::Stopped) {
+        let _written = fault_line(&error, errors);
+    }
+    status(&error)
+}

@@ -1,0 +1,92 @@
+//! A transaction's marks in order.
+
+ghost use Rattle.std.specs.Prelude.{◌≡◌, ◌<◌, ◌≤◌, ◌+◌, [], insert, length, slice_get, slice_index_or, slice_set, true, OnErr, OnOk, Some};
+ghost use Rattle.space_txn.specs.declared.mark.Mark.{Mark};
+
+use crate::mark::Mark;
+use smallvec::SmallVec;
+use std::alloc::{AllocError, Global};
+use std::marker::Model;
+
+/// Marks in order, the first four of which take no memory; a place that isn't in use holds none.
+#[derive(Debug, Drop)]
+pub(crate) struct Marks {
+    places: SmallVec<Option<Mark>, 4>,
+}
+
+impl Model for Marks {
+    ghost use Rattle.tuple_space.specs.Places.{AreFilled, items_in};
+    ghost use Rattle.space_txn.specs.Marks.{MarksValue, room_of};
+
+    ghost Value = { MarksValue };
+
+    ghost view = { λ m. record { items = items_in m.places.items; room = room_of m.places } };
+
+    ghost invariant = { λ m. AreFilled 4 m.places };
+}
+
+impl Marks {
+    /// No marks. Takes no memory.
+    pub(crate) fn new(alloc: Global) -> Marks
+        ensures { result.items ≡ [] }
+    {
+        Marks {
+            places: SmallVec::new(alloc),
+        }
+    }
+
+    /// How many marks there are.
+    pub(crate) fn len(&self) -> usize
+        ensures { result ≡ length self.now.items }
+    {
+        self.places.len()
+    }
+
+    /// The mark at a place.
+    pub(crate) fn at(&self, place: usize) -> &Mark
+        requires { place < length self.now.items }
+        ensures { result.now ≡ slice_index_or self.now.items place result.now }
+    {
+        match &self.places[place] {
+            Some(mark) => mark,
+            None => unreachable!(),
+        }
+    }
+
+    /// Makes room for one more mark.
+    pub(crate) fn reserve(&mut self) -> Result<(), AllocError>
+        ensures items { self.new.items ≡ self.old.items }
+        ensures room { OnOk result (0 < self.new.room) }
+    {
+        self.places.reserve(1)
+    }
+
+    /// Puts a mark in the place of another one.
+    pub(crate) fn set(&mut self, place: usize, mark: Mark)
+        requires { place < length self.old.items }
+        ensures { self.new.items ≡ slice_set self.old.items place mark }
+    {
+        self.places[place] = Some(mark);
+    }
+
+    /// Makes the mark at a place one that takes its entry. Takes no memory.
+    pub(crate) fn take(&mut self, place: usize, permanent: bool)
+        requires { place < length self.old.items }
+        ensures { (m : Mark) → slice_get self.old.items place ≡ Some m → self.new.items ≡ slice_set self.old.items place (record m { taken = true; permanent = permanent }) }
+    {
+        let Some(mark) = &mut self.places[place] else {
+            unreachable!()
+        };
+        mark.taken = true;
+        mark.permanent = permanent;
+    }
+
+    /// Puts a mark between others, where there is room for it.
+    pub(crate) fn insert(&mut self, place: usize, mark: Mark)
+        requires within { place ≤ length self.old.items }
+        requires room { 0 < self.old.room }
+        ensures { self.new.items ≡ insert self.old.items place mark }
+    {
+        self.places.insert(place, Some(mark)).unwrap();
+    }
+}

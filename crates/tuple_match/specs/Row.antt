@@ -1,0 +1,11 @@
+use Rattle.std.specs.Arc.{arc_value}
+use Rattle.std.specs.Prelude.{List}
+use Rattle.tuple_match.specs.Field.{fields_value}
+use Rattle.tuple_match.specs.FieldValue.{FieldValue}
+use Rattle.tuple_match.specs.declared.row.Row.{Row}
+use Rattle.tuple_match.specs.declared.row.Row.TheVariants.{Own, Shared}
+
+-- what the fields of a tuple say, its own or shared ones
+abbrev pub row_value : Row → List FieldValue
+row_value (Own fields) = fields_value fields.items
+row_value (Shared fields) = fields_value (arc_value fields).items

@@ -1,0 +1,17 @@
+-- Entries, and things of other kinds, under their numbers.
+use Rattle.std.specs.Prelude.{◌≡◌, ℕ, List, map}
+use Rattle.std.specs.Map.{values_of}
+use Rattle.tuple_space.specs.declared.entry.Entry.{Entry}
+
+-- entries in order, and how many more fit with no allocation
+pub record EntriesValue : Type 0 where
+  pub items : List Entry
+  pub room : ℕ
+
+-- things, each under its number
+abbrev pub numbered : {A : Type 0} → (A → ℕ) → List A → List (ℕ × A)
+numbered number xs = map (λ x. (number x, x)) xs
+
+-- each value stands under its number
+abbrev pub AreNumbered : {A : Type 0} → (A → ℕ) → List (ℕ × A) → Type 0
+AreNumbered number pairs = pairs ≡ numbered number (values_of pairs)
