@@ -15,15 +15,15 @@ pub length-exchanging : (p : List ℕ) (r s : ℕ) → length (exchanging p r s)
 length-exchanging p r s =
     length-set (set p r (get_or p s 0)) s (get_or p r 0) ∙ length-set p r (get_or p s 0)
 
-exchanging-first : (p : List ℕ) (r s : ℕ) → r ≢ s → r < length p → get_or (exchanging p r s) r 0 ≡ get_or p s 0
+pub exchanging-first : (p : List ℕ) (r s : ℕ) → r ≢ s → r < length p → get_or (exchanging p r s) r 0 ≡ get_or p s 0
 exchanging-first p r s apart hr =
     get_or-set_other (set p r (get_or p s 0)) s r (get_or p r 0) 0 apart ∙ get_or-set_same p r (get_or p s 0) 0 hr
 
-exchanging-second : (p : List ℕ) (r s : ℕ) → s < length p → get_or (exchanging p r s) s 0 ≡ get_or p r 0
+pub exchanging-second : (p : List ℕ) (r s : ℕ) → s < length p → get_or (exchanging p r s) s 0 ≡ get_or p r 0
 exchanging-second p r s hs =
     get_or-set_same (set p r (get_or p s 0)) s (get_or p r 0) 0 (omega (arith, length-set p r (get_or p s 0)))
 
-exchanging-other : (p : List ℕ) (r s k : ℕ) → k ≢ r → k ≢ s → get_or (exchanging p r s) k 0 ≡ get_or p k 0
+pub exchanging-other : (p : List ℕ) (r s k : ℕ) → k ≢ r → k ≢ s → get_or (exchanging p r s) k 0 ≡ get_or p k 0
 exchanging-other p r s k kr ks =
     get_or-set_other (set p r (get_or p s 0)) s k (get_or p r 0) 0 ks ∙ get_or-set_other p r k (get_or p s 0) 0 kr
 

@@ -3,3 +3,5 @@ mod DoubleSums
 mod Exchanges
 mod Readings
 mod Rounds
+mod Tables
+mod Updates

@@ -36,7 +36,7 @@ reads_both x y hx hy = omega (arith, ints)
 pub reads_term : (z x : ℤ) → z ≡ to_z w64 (of_z w64 x) → unsigned_abs x ≤ 8000000000000000000 → z ≡ x
 reads_term z x is h = is ∙ to_z-of_z w64 x (fits_signed_from_abs w64 x (omega arith))
 
-reads_wide : (x : ℤ) → unsigned_abs x ≤ 3000000000000000000000 → to_z w128 (of_z w128 x) ≡ x
+pub reads_wide : (x : ℤ) → unsigned_abs x ≤ 3000000000000000000000 → to_z w128 (of_z w128 x) ≡ x
 reads_wide x h = to_z-of_z w128 x (fits_signed_from_abs w128 x (omega arith))
 
 -- what the sum of all changes, less two terms and with one more, is read as
@@ -81,3 +81,26 @@ is_negative x h test =
 
 pub falls : (x y z : ℤ) → x +ℤ y ≡ z → y <ℤ pos 0 → z <ℤ x
 falls x y z is h = omega (arith, ints)
+
+pub read_small : (x y : ℤ) → InRange x → InRange y → unsigned_abs (to_z w64 (of_z w64 (to_z w64 (of_z w64 x) -ℤ to_z w64 (of_z w64 y)))) ≤ 2000000000
+read_small x y hx hy = rw (reads_difference x y hx hy) (difference_small x y hx hy)
+
+-- the difference of two differences of entries
+pub reads_contrast : (x y : ℤ) → unsigned_abs x ≤ 2000000000 → unsigned_abs y ≤ 2000000000 → to_z w64 (of_z w64 (to_z w64 (of_z w64 x) -ℤ to_z w64 (of_z w64 y))) ≡ x -ℤ y
+reads_contrast x y hx hy = omega (arith, ints)
+
+pub fits_contrast : (x y : ℤ) → unsigned_abs x ≤ 2000000000 → unsigned_abs y ≤ 2000000000 → FitsSigned w64 (to_z w64 (of_z w64 x) -ℤ to_z w64 (of_z w64 y))
+fits_contrast x y hx hy = omega (arith, ints)
+
+-- what costs and their differences, and sums of two of those, are read as
+pub reads_large : (x : ℤ) → unsigned_abs x ≤ 1000000000000000000000000 → to_z w128 (of_z w128 x) ≡ x
+reads_large x h = to_z-of_z w128 x (fits_signed_from_abs w128 x (omega arith))
+
+pub reads_large_both : (x y : ℤ) → unsigned_abs x ≤ 400000000000000000000000 → unsigned_abs y ≤ 400000000000000000000000
+    → to_z w128 (of_z w128 (to_z w128 (of_z w128 x) +ℤ to_z w128 (of_z w128 y))) ≡ x +ℤ y
+reads_large_both x y hx hy =
+    ap₂ (λ (a b : ℤ). to_z w128 (of_z w128 (a +ℤ b))) (reads_large x (omega arith)) (reads_large y (omega arith)) ∙ reads_large (x +ℤ y) (omega (arith, ints))
+
+pub fits_large_both : (x y : ℤ) → unsigned_abs x ≤ 400000000000000000000000 → unsigned_abs y ≤ 400000000000000000000000
+    → FitsSigned w128 (to_z w128 (of_z w128 x) +ℤ to_z w128 (of_z w128 y))
+fits_large_both x y hx hy = let first = reads_large x (omega arith) in let second = reads_large y (omega arith) in omega (arith, ints)

@@ -1,3 +1,4 @@
 pub mod Difference
 pub mod Exchange
 pub mod Round
+pub mod Table

@@ -3,6 +3,7 @@
 
 mod descent;
 mod pair;
+mod table;
 
 pub use descent::{Improved, exchange};
 pub use pair::difference;

@@ -1,0 +1,6 @@
+use Rattle.qap_improve.specs.Exchange.{exchanging}
+use Rattle.qap_improve.proofs.Tables.{HasUpdated-row}
+use Rattle.qap_improve.proofs.table.update_row.Goals as goal
+
+pub loop-s-init : goal.loop-s-init
+loop-s-init c = HasUpdated-row c.args.instance.now (exchanging c.args.locations.now c.args.u c.args.v) c.args.locations.now c.args.entries.now c.args.r c.requires.above

@@ -1,0 +1,47 @@
+-- What each exchange of two facilities changes the cost by, and what another exchange changes that by
+-- (Taillard, Robust taboo search for the quadratic assignment problem, Parallel Computing 17, 1991).
+use Rattle.std.specs.Prelude.{◌≡◌, ℕ, ◌+◌, ◌*◌, ◌^◌, ◌<◌, ◌≤◌, List, length, ℤ, ◌+ℤ◌, ◌-ℤ◌, ◌*ℤ◌, unsigned_abs}
+use Rattle.qap_cost.specs.Instance.{Problem, entry}
+use Rattle.qap_cost.specs.Objective.{cost_of}
+use Rattle.qap_improve.specs.Difference.{flow, distance}
+use Rattle.qap_improve.specs.Exchange.{exchanging}
+use Rattle.qap_improve.specs.declared.table.Contrast.{Contrast}
+
+-- x is the cost after facilities r and s have exchanged their locations, less the cost before
+abbrev pub IsDifference : Problem → List ℕ → ℕ → ℕ → ℤ → Type 0
+IsDifference I p r s x = cost_of I p +ℤ x ≡ cost_of I (exchanging p r s)
+
+-- row r, column s is the difference of r and s, for all r < s
+pub record AreDifferences (I : Problem) (p : List ℕ) (table : List ℤ) : Type 0 where
+  pub count : length table ≡ I.size * I.size
+  pub each : (r s : ℕ) → r < s → s < I.size → IsDifference I p r s (entry I.size table r s)
+
+-- they are where they stand before place t
+pub record HasFilled (I : Problem) (p : List ℕ) (table : List ℤ) (t : ℕ) : Type 0 where
+  pub count : length table ≡ I.size * I.size
+  pub before : (r s : ℕ) → r < s → s < I.size → r * I.size + s < t → IsDifference I p r s (entry I.size table r s)
+
+-- before place t they are those of q, and from there on those of p
+pub record HasUpdated (I : Problem) (p q : List ℕ) (table : List ℤ) (t : ℕ) : Type 0 where
+  pub filled : HasFilled I q table t
+  pub behind : (r s : ℕ) → r < s → s < I.size → t ≤ r * I.size + s → IsDifference I p r s (entry I.size table r s)
+
+-- how the flows and the distances between k and two others, u and v, differ
+pub record IsContrast (I : Problem) (p : List ℕ) (u v k : ℕ) (x : Contrast) : Type 0 where
+  pub flows : x.flow ≡ flow I u k -ℤ flow I v k
+  pub flows_back : x.flow_back ≡ flow I k u -ℤ flow I k v
+  pub distances : x.distance ≡ distance I p u k -ℤ distance I p v k
+  pub distances_back : x.distance_back ≡ distance I p k u -ℤ distance I p k v
+
+-- no further from 0 than differences of two entries
+pub record IsSmall (x : Contrast) : Type 0 where
+  pub flow : unsigned_abs x.flow ≤ 2 * 10 ^ 9
+  pub flow_back : unsigned_abs x.flow_back ≤ 2 * 10 ^ 9
+  pub distance : unsigned_abs x.distance ≤ 2 * 10 ^ 9
+  pub distance_back : unsigned_abs x.distance_back ≤ 2 * 10 ^ 9
+
+-- what the difference of two facilities changes by, which are which contrast so with two that have exchanged
+abbrev pub change_of_difference : Contrast → Contrast → ℤ
+change_of_difference x y =
+    (x.flow -ℤ y.flow) *ℤ (y.distance -ℤ x.distance)
+    +ℤ (x.flow_back -ℤ y.flow_back) *ℤ (y.distance_back -ℤ x.distance_back)

@@ -1,0 +1,233 @@
+//! What each exchange of two facilities would change the cost by, kept from one exchange to the next (Taillard 1991).
+
+ghost use Rattle.std.specs.Prelude.{◌≡◌, ◌≢◌, false, ◌+◌, ◌*◌, ◌^◌, ◌<◌, ◌≤◌, ◌-ℤ◌, ◌*ℤ◌, ℤ, List, length, unsigned_abs, IfOk};
+ghost use Rattle.qap_cost.specs.Instance.{IsInstance};
+ghost use Rattle.qap_cost.specs.Objective.{Permutes};
+ghost use Rattle.qap_improve.specs.Exchange.{exchanging};
+ghost use Rattle.qap_improve.specs.Table.{AreDifferences, HasFilled, HasUpdated, IsContrast, IsSmall, change_of_difference};
+
+use crate::pair::difference_at;
+use qap_cost::Instance;
+use std::alloc::{AllocError, Global};
+use std::marker::Model;
+
+/// For each two facilities `r < s` of `n` what the cost changes by when they exchange their locations: at `r * n + s`.
+#[derive(Drop)]
+pub struct Differences {
+    entries: Vec<i128>,
+}
+
+impl Model for Differences {
+    ghost Value = { List ℤ };
+
+    ghost view = { λ d. d.entries.items };
+}
+
+impl Differences {
+    /// Those of the permutation with these locations, each by itself. Takes time in n^3.
+    pub fn new(
+        alloc: Global,
+        instance: &Instance,
+        locations: &[u16],
+    ) -> Result<Differences, AllocError>
+        requires { Permutes instance.now locations.now }
+        ensures { IfOk result (AreDifferences instance.now locations.now) }
+    {
+        let n = instance.size();
+        let entries = vec![in alloc; 0; n * n]?;
+        Ok(Differences {
+            entries: filled(instance, locations, entries),
+        })
+    }
+
+    /// All of them, listed by rows.
+    pub fn entries(&self) -> &[i128]
+        ensures { result.now ≡ self.now }
+    {
+        &self.entries
+    }
+
+    /// Those of the permutation with these locations, where they were those of the one that it came from when the
+    /// facilities `u` and `v` exchanged theirs.
+    ///
+    /// Takes time in n^2: the pairs that share a facility with the exchange are reckoned anew, the others in constant
+    /// time each.
+    pub fn update(&mut self, instance: &Instance, locations: &[u16], u: usize, v: usize)
+        requires permutation { Permutes instance.now locations.now }
+        requires first { u < instance.now.size }
+        requires second { v < instance.now.size }
+        requires two { u ≢ v }
+        requires before { AreDifferences instance.now (exchanging locations.now u v) self.old }
+        ensures { AreDifferences instance.now locations.now self.new }
+    {
+        update_rows(instance, locations, u, v, &mut self.entries);
+    }
+}
+
+/// The list with all differences written to it.
+fn filled(instance: &Instance, locations: &[u16], mut entries: Vec<i128>) -> Vec<i128>
+    requires permutation { Permutes instance.now locations.now }
+    requires count { length entries.items ≡ instance.now.size * instance.now.size }
+    ensures { AreDifferences instance.now locations.now result.items }
+{
+    fill_rows(instance, locations, &mut entries);
+    entries
+}
+
+/// Writes all differences.
+fn fill_rows(instance: &Instance, locations: &[u16], entries: &mut [i128])
+    requires permutation { Permutes instance.now locations.now }
+    requires count { length entries.old ≡ instance.now.size * instance.now.size }
+    ensures { AreDifferences instance.now locations.now entries.new }
+{
+    for r in 0..instance.size() {
+        fill_row(instance, locations, r, entries);
+    }
+}
+
+/// Writes the differences of row `r`, where those of the rows above are written.
+fn fill_row(instance: &Instance, locations: &[u16], r: usize, entries: &mut [i128])
+    requires permutation { Permutes instance.now locations.now }
+    requires row { r < instance.now.size }
+    requires above { HasFilled instance.now locations.now entries.old (r * instance.now.size) }
+    ensures { HasFilled instance.now locations.now entries.new ((r + 1) * instance.now.size) }
+{
+    let n = instance.size();
+    for s in r + 1..n {
+        entries[r * n + s] = difference_at(instance, locations, r, s);
+    }
+}
+
+/// Brings all rows up to the exchange of `u` and `v`.
+fn update_rows(instance: &Instance, locations: &[u16], u: usize, v: usize, entries: &mut [i128])
+    requires permutation { Permutes instance.now locations.now }
+    requires first { u < instance.now.size }
+    requires second { v < instance.now.size }
+    requires two { u ≢ v }
+    requires before { AreDifferences instance.now (exchanging locations.now u v) entries.old }
+    ensures { AreDifferences instance.now locations.now entries.new }
+{
+    for r in 0..instance.size() {
+        update_row(instance, locations, u, v, r, entries);
+    }
+}
+
+/// Brings row `r` up to the exchange of `u` and `v`, where the rows above are.
+fn update_row(
+    instance: &Instance,
+    locations: &[u16],
+    u: usize,
+    v: usize,
+    r: usize,
+    entries: &mut [i128],
+)
+    requires permutation { Permutes instance.now locations.now }
+    requires first { u < instance.now.size }
+    requires second { v < instance.now.size }
+    requires two { u ≢ v }
+    requires row { r < instance.now.size }
+    requires above { HasUpdated instance.now (exchanging locations.now u v) locations.now entries.old (r * instance.now.size) }
+    ensures { HasUpdated instance.now (exchanging locations.now u v) locations.now entries.new ((r + 1) * instance.now.size) }
+{
+    let with_r = contrast_of(instance, locations, u, v, r);
+    for s in r + 1..instance.size() {
+        update_entry(instance, locations, (u, v), (r, s), &with_r, entries);
+    }
+}
+
+/// Brings the difference of a pair up to the exchange of two facilities, where all before it are.
+fn update_entry(
+    instance: &Instance,
+    locations: &[u16],
+    exchanged: (usize, usize),
+    pair: (usize, usize),
+    with_first: &Contrast,
+    entries: &mut [i128],
+)
+    requires permutation { Permutes instance.now locations.now }
+    requires first { exchanged.0 < instance.now.size }
+    requires second { exchanged.1 < instance.now.size }
+    requires two { exchanged.0 ≢ exchanged.1 }
+    requires row { pair.0 < pair.1 }
+    requires column { pair.1 < instance.now.size }
+    requires contrast { IsContrast instance.now locations.now exchanged.0 exchanged.1 pair.0 with_first.now }
+    requires small { IsSmall with_first.now }
+    requires before { HasUpdated instance.now (exchanging locations.now exchanged.0 exchanged.1) locations.now entries.old
+        (pair.0 * instance.now.size + pair.1) }
+    ensures { HasUpdated instance.now (exchanging locations.now exchanged.0 exchanged.1) locations.now entries.new
+        (pair.0 * instance.now.size + (pair.1 + 1)) }
+{
+    let (u, v) = exchanged;
+    let (r, s) = pair;
+    let place = r * instance.size() + s;
+    if share_one(exchanged, pair) {
+        entries[place] = difference_at(instance, locations, r, s);
+    } else {
+        let with_second = contrast_of(instance, locations, u, v, s);
+        let old = entries[place];
+        entries[place] = old + change(with_first, &with_second);
+    }
+}
+
+/// Whether some facility belongs to both pairs.
+fn share_one(exchanged: (usize, usize), pair: (usize, usize)) -> bool
+    ensures { result ≡ false → (pair.0 ≢ exchanged.0) × (pair.0 ≢ exchanged.1) × (pair.1 ≢ exchanged.0) × (pair.1 ≢ exchanged.1) }
+{
+    let (u, v) = exchanged;
+    let (r, s) = pair;
+    r == u || r == v || s == u || s == v
+}
+
+/// How the flows, and the distances, between a facility and two exchanged ones differ.
+#[derive(Drop)]
+struct Contrast {
+    flow: i64,
+    flow_back: i64,
+    distance: i64,
+    distance_back: i64,
+}
+
+/// Those between facility `k` and the exchanged `u` and `v`.
+fn contrast_of(instance: &Instance, locations: &[u16], u: usize, v: usize, k: usize) -> Contrast
+    requires permutation { Permutes instance.now locations.now }
+    requires first { u < instance.now.size }
+    requires second { v < instance.now.size }
+    requires other { k < instance.now.size }
+    ensures value { IsContrast instance.now locations.now u v k result }
+    ensures small { IsSmall result }
+{
+    let at_u = usize::from(locations[u]);
+    let at_v = usize::from(locations[v]);
+    let at_k = usize::from(locations[k]);
+    Contrast {
+        flow: instance.a(u, k) - instance.a(v, k),
+        flow_back: instance.a(k, u) - instance.a(k, v),
+        distance: instance.b(at_u, at_k) - instance.b(at_v, at_k),
+        distance_back: instance.b(at_k, at_u) - instance.b(at_k, at_v),
+    }
+}
+
+/// What the difference of two facilities that take no part in an exchange changes by, where these are theirs.
+fn change(with_r: &Contrast, with_s: &Contrast) -> i128
+    requires first { IsSmall with_r.now }
+    requires second { IsSmall with_s.now }
+    ensures value { result ≡ change_of_difference with_r.now with_s.now }
+    ensures bounded { unsigned_abs result ≤ 32 * 10 ^ 18 }
+{
+    let there = wide_product(with_r.flow - with_s.flow, with_s.distance - with_r.distance);
+    let back = wide_product(
+        with_r.flow_back - with_s.flow_back,
+        with_s.distance_back - with_r.distance_back,
+    );
+    there + back
+}
+
+/// The product of two differences of differences of entries, which may not fit 64 bits.
+fn wide_product(x: i64, y: i64) -> i128
+    requires left { unsigned_abs x ≤ 4 * 10 ^ 9 }
+    requires right { unsigned_abs y ≤ 4 * 10 ^ 9 }
+    ensures value { result ≡ x *ℤ y }
+    ensures bounded { unsigned_abs result ≤ 16 * 10 ^ 18 }
+{
+    i128::from(x) * i128::from(y)
+}
