@@ -2,6 +2,7 @@
 use Rattle.std.proofs.Common.{◌≡◌, ◌≢◌, ℕ, ◌<◌, cond, List, length, get_or, set, sym, ◌∙◌, ap, ap₂, arith, nat_eq, inl, inr, get_or-set_same, get_or-set_other}
 use Rattle.std.specs.Prelude.{ℤ, ◌+ℤ◌, ◌-ℤ◌, ◌*ℤ◌}
 use Rattle.std.proofs.Math.ListN.{length-set}
+use Rattle.std.proofs.lemmas.Grind.{same_number_lists}
 use Rattle.std.proofs.lemmas.Int.{ints}
 use Rattle.std.proofs.lemmas.Bool.{cond-true, cond-false, ne_eqb, eq-eqb, cases_eq}
 use Rattle.qap_cost.specs.Sum.{sum_to}
@@ -74,6 +75,16 @@ exchanging-at p r s k apart hr hs =
         | inr b ↦ exchanging-other p r s k a b ∙ ap (λ x. get_or p x 0) (sym (partner-other r s k a b))
       ]
     ]
+
+-- an exchange made twice is none
+pub exchanging-twice : (p : List ℕ) (r s : ℕ) → r ≢ s → r < length p → s < length p → exchanging (exchanging p r s) r s ≡ p
+exchanging-twice p r s apart hr hs =
+    let q = exchanging p r s in
+    let long = length-exchanging p r s in
+    same_number_lists (exchanging q r s) p (length-exchanging q r s ∙ long) (λ k below.
+    exchanging-at q r s k apart (omega arith) (omega arith)
+    ∙ exchanging-at p r s (partner r s k) apart hr hs
+    ∙ ap (λ i. get_or p i 0) (partner-twice r s k apart))
 
 -- an exchange keeps a permutation
 pub Permutes-exchanging : (I : Problem) (p : List ℕ) (r s : ℕ) → r ≢ s → r < I.size → s < I.size → Permutes I p → Permutes I (exchanging p r s)

@@ -104,3 +104,7 @@ reads_large_both x y hx hy =
 pub fits_large_both : (x y : ℤ) → unsigned_abs x ≤ 400000000000000000000000 → unsigned_abs y ≤ 400000000000000000000000
     → FitsSigned w128 (to_z w128 (of_z w128 x) +ℤ to_z w128 (of_z w128 y))
 fits_large_both x y hx hy = let first = reads_large x (omega arith) in let second = reads_large y (omega arith) in omega (arith, ints)
+
+pub fits_large_less : (x y : ℤ) → unsigned_abs x ≤ 400000000000000000000000 → unsigned_abs y ≤ 400000000000000000000000
+    → FitsSigned w128 (to_z w128 (of_z w128 x) -ℤ to_z w128 (of_z w128 y))
+fits_large_less x y hx hy = let first = reads_large x (omega arith) in let second = reads_large y (omega arith) in omega (arith, ints)

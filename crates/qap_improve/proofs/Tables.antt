@@ -1,5 +1,5 @@
 -- Steps on the way through a table of differences.
-use Rattle.std.proofs.Common.{◌≡◌, ◌≢◌, ℕ, ◌+◌, ◌*◌, ◌/◌, ◌%◌, ◌<◌, ◌≤◌, List, length, get_or, set, sym, subst, ◌∙◌, ap, arith, inl, inr, get_or-set_same, get_or-set_other}
+use Rattle.std.proofs.Common.{◌≡◌, ◌≢◌, ℕ, ◌+◌, ◌*◌, ◌/◌, ◌%◌, ◌<◌, ◌≤◌, List, length, get_or, set, sym, subst, ◌∙◌, ap, ap₂, arith, inl, inr, get_or-set_same, get_or-set_other}
 use Rattle.std.specs.Prelude.{ℤ, pos, ◌+ℤ◌, unsigned_abs}
 use Rattle.std.proofs.Math.ListN.{length-set}
 use Rattle.std.proofs.lemmas.Int.{ints}
@@ -143,3 +143,9 @@ pub old_bounded : (I : Problem) (q : List ℕ) (table : List ℤ) (u v r s k : �
 old_bounded I q table u v r s k is h apart hu hv order below at before =
     IsDifference-bounded I (exchanging q u v) r s (get_or table k (pos 0)) is (Permutes-exchanging I q u v apart hu hv h) (λ e. omega arith) (omega arith) below
     (old_difference I (exchanging q u v) q table r s k order below at before)
+
+-- what the table tells, read by other words
+pub told_difference : (I : Problem) (p : List ℕ) (table told : List ℤ) (r s k : ℕ) → AreDifferences I p table → told ≡ table → k ≡ r * I.size + s → r < s → s < I.size
+    → IsDifference I p r s (get_or told k (pos 0))
+told_difference I p table told r s k h same at order below =
+    subst (λ (x : ℤ). cost_of I p +ℤ x ≡ cost_of I (exchanging p r s)) (sym (ap₂ (λ (xs : List ℤ) (i : ℕ). get_or xs i (pos 0)) same at)) (h.each r s order below)

@@ -1,4 +1,6 @@
 pub mod Difference
 pub mod Exchange
+pub mod Pair
 pub mod Round
 pub mod Table
+pub mod Walk

@@ -1,0 +1,8 @@
+-- Exchanges that a search may make.
+use Rattle.std.specs.Prelude.{ℕ, ◌<◌}
+use Rattle.qap_improve.specs.declared.choice.Choice.{Choice}
+
+-- of two of n facilities
+pub record IsPair (n : ℕ) (choice : Choice) : Type 0 where
+  pub order : choice.first < choice.second
+  pub within : choice.second < n

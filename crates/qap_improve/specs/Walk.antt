@@ -1,0 +1,17 @@
+-- What is known on a walk from one permutation to the next (Taillard, Robust taboo search for the quadratic assignment
+-- problem, Parallel Computing 17, 1991).
+use Rattle.std.specs.Prelude.{◌≡◌}
+use Rattle.qap_cost.specs.Instance.{IsInstance, Problem}
+use Rattle.qap_cost.specs.Objective.{Permutes, cost_of}
+use Rattle.qap_improve.specs.Table.{AreDifferences}
+use Rattle.qap_improve.specs.declared.tabu.Walk.{Walk}
+
+-- it stands at a permutation, with what that costs and what each exchange would change that by; the best permutation that
+-- it has come by is kept with its cost
+pub record IsWalk (I : Problem) (walk : Walk) : Type 0 where
+  pub instance : IsInstance I
+  pub permutation : Permutes I walk.locations.items
+  pub cost : walk.cost ≡ cost_of I walk.locations.items
+  pub differences : AreDifferences I walk.locations.items walk.differences
+  pub best : Permutes I walk.best.items
+  pub best_cost : walk.best_cost ≡ cost_of I walk.best.items

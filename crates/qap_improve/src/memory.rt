@@ -1,0 +1,107 @@
+//! What a tabu search remembers: when each facility may go back to each location (Taillard 1991).
+
+ghost use Rattle.std.specs.Prelude.{◌≡◌, ◌*◌, ◌<◌, ◌≤◌, IfOk, vec_len};
+
+use rand_core::{Rng, SeedableRng};
+use rand_xoshiro::Xoshiro256PlusPlus;
+use std::alloc::{AllocError, Global};
+
+/// How long both facilities of an exchange have to be away from where it would put them before it goes before others: in
+/// iterations, as a multiple of the square of the number of facilities.
+const PATIENCE: u64 = 5;
+
+/// What the memory says of an exchange.
+#[derive(Clone, Copy)]
+pub enum Verdict {
+    /// It would put both facilities where they left a short while ago.
+    Tabu,
+    Free,
+    /// It would put both where they haven't been for very long.
+    Due,
+}
+
+/// From when on each facility may go to each location.
+#[derive(Drop)]
+pub struct Memory {
+    pub size: usize,
+    /// The iteration at hand. The count begins with the square of the number of facilities.
+    now: u64,
+    /// Listed by facilities, from which iteration on they are free to go to each location.
+    free_from: Vec<u64>,
+    random: Xoshiro256PlusPlus,
+    ghost small: { size ≤ 256 },
+    ghost square: { vec_len free_from ≡ size * size },
+}
+
+impl Memory {
+    /// That of a search among `n` facilities that has made no exchange.
+    pub fn new(alloc: Global, n: usize, seed: u64) -> Result<Memory, AllocError>
+        requires { n ≤ 256 }
+        ensures { IfOk result (λ m. m.size ≡ n) }
+    {
+        let now = (n * n) as u64;
+        let free_from = numbers(alloc, now)?;
+        let random = Xoshiro256PlusPlus::seed_from_u64(seed);
+        Ok(Memory {
+            size: n,
+            now,
+            free_from,
+            random,
+        })
+    }
+
+    /// What it says of an exchange that puts facility `r` at location `to` and facility `s` at location `back`.
+    pub fn verdict(&self, r: usize, to: usize, s: usize, back: usize) -> Verdict
+        requires first { r < self.now.size }
+        requires second { s < self.now.size }
+        requires to { to < self.now.size }
+        requires back { back < self.now.size }
+    {
+        let first = self.free_from[r * self.size + to];
+        let second = self.free_from[s * self.size + back];
+        let square = (self.size * self.size) as u64;
+        let long_ago = self.now.saturating_sub(PATIENCE * square);
+        if first > self.now && second > self.now {
+            Verdict::Tabu
+        } else if first < long_ago && second < long_ago {
+            Verdict::Due
+        } else {
+            Verdict::Free
+        }
+    }
+
+    /// Begins the next iteration.
+    pub fn advance(&mut self)
+        ensures { self.new.size ≡ self.old.size }
+    {
+        self.now = self.now.saturating_add(1);
+    }
+
+    /// Keeps the facility from coming back to the location that it leaves for a number of iterations.
+    pub fn leave(&mut self, facility: usize, location: usize)
+        requires facility { facility < self.old.size }
+        requires location { location < self.old.size }
+        ensures { self.new.size ≡ self.old.size }
+    {
+        let tenure = self.tenure();
+        let place = facility * self.size + location;
+        self.free_from[place] = self.now.saturating_add(tenure);
+    }
+
+    /// A number of iterations between 0.9 and 1.1 times the number of facilities, at random.
+    fn tenure(&mut self) -> u64
+        ensures { self.new.size ≡ self.old.size }
+    {
+        let n = self.size as u64;
+        let least = 9 * n / 10;
+        let most = 11 * n / 10;
+        least + self.random.next_u64() % (most - least + 1)
+    }
+}
+
+/// The numbers from 0 to `count - 1`.
+fn numbers(alloc: Global, count: u64) -> Result<Vec<u64>, AllocError>
+    ensures { IfOk result (λ v. vec_len v ≡ count) }
+{
+    (0..count).collect(alloc)
+}

@@ -1,0 +1,156 @@
+//! Robust tabu search: the best exchange that isn't forbidden, over and over (Taillard 1991).
+
+ghost use Rattle.std.specs.Prelude.{◌≡◌, ◌+◌, ◌*◌, ◌<◌, ◌≤ℤ◌, IfOk, length};
+ghost use Rattle.qap_cost.specs.Instance.{IsInstance, Problem};
+ghost use Rattle.qap_cost.specs.Objective.{Permutes, cost_of};
+ghost use Rattle.qap_improve.specs.Walk.{IsWalk};
+ghost use Rattle.qap_cost.specs.Bijection.{IsPerm};
+
+use crate::choice::choose;
+use crate::descent::Improved;
+use crate::memory::Memory;
+use crate::table::Differences;
+use qap_cost::{Instance, Perm, cost};
+use std::alloc::{AllocError, Global};
+
+/// How a tabu search goes: the seed of its random numbers, and how many iterations it makes at most.
+pub struct TabuPlan {
+    pub seed: u64,
+    pub iterations: u64,
+}
+
+/// What is asked before each iteration of a search.
+pub trait Hook {
+    /// Whether the search goes on, where the least cost known so far is this.
+    fn goes_on(&mut self, best: i128) -> bool;
+}
+
+/// Lets a search make all its iterations.
+pub struct Always;
+
+impl Hook for Always {
+    fn goes_on(&mut self, _best: i128) -> bool {
+        true
+    }
+}
+
+/// Where a search stands, and the best that it has come by.
+#[derive(Drop)]
+struct Walk {
+    locations: Vec<u16>,
+    cost: i128,
+    differences: Differences,
+    best: Vec<u16>,
+    best_cost: i128,
+}
+
+/// The best permutation that a robust tabu search finds from `start`, and what it costs: no more than `start` (Taillard,
+/// Robust taboo search for the quadratic assignment problem, Parallel Computing 17, 1991).
+///
+/// Each iteration exchanges the locations of the two facilities for which that costs least, be it more than before. Left
+/// out are exchanges that would put both facilities where they left a short while ago, unless they lead below the best
+/// known cost; ones that would put both where they haven't been for very long go before others. An iteration takes time
+/// in n^2 for n facilities, and what comes before the first one in n^3. Equal plans give equal answers, unless `hook` ends
+/// the search. The only error is want of memory.
+pub fn tabu_search<H: Hook>(
+    alloc: Global,
+    instance: &Instance,
+    start: &Perm,
+    plan: &TabuPlan,
+    hook: &mut H,
+) -> Result<Improved, AllocError>
+    requires { length start.now ≡ instance.now.size }
+    ensures permutation { IfOk result (λ x. Permutes instance.now x.permutation) }
+    ensures cost { IfOk result (λ x. x.cost ≡ cost_of instance.now x.permutation) }
+    ensures no_dearer { IfOk result (λ x. x.cost ≤ℤ cost_of instance.now start.now) }
+{
+    let mut memory = Memory::new(alloc, instance.size(), plan.seed)?;
+    let mut walk = begun(alloc, instance, start)?;
+    for _ in 0..plan.iterations {
+        if !hook.goes_on(walk.best_cost) {
+            break;
+        }
+        memory.advance();
+        step(instance, &mut walk, &mut memory);
+    }
+    Ok(best_of(walk))
+}
+
+/// The walk that stands at its start.
+fn begun(alloc: Global, instance: &Instance, start: &Perm) -> Result<Walk, AllocError>
+    requires instance { IsInstance instance.now }
+    requires same_size { length start.now ≡ instance.now.size }
+    ensures walk { IfOk result (IsWalk instance.now) }
+    ensures cost { IfOk result (λ walk. walk.best_cost ≡ cost_of instance.now start.now) }
+{
+    let cost = cost(instance, start);
+    let locations = Vec::from_slice(alloc, start.locations())?;
+    let best = Vec::from_slice(alloc, start.locations())?;
+    let differences = Differences::new(alloc, instance, start.locations())?;
+    Ok(Walk {
+        locations,
+        cost,
+        differences,
+        best,
+        best_cost: cost,
+    })
+}
+
+/// The best permutation that the walk has come by, with its cost.
+fn best_of(walk: Walk) -> Improved
+    requires { IsPerm walk.best.items }
+    ensures permutation { result.permutation ≡ walk.best.items }
+    ensures cost { result.cost ≡ walk.best_cost }
+{
+    let Ok(permutation) = Perm::new(walk.best) else {
+        unreachable!()
+    };
+    Improved {
+        permutation,
+        cost: walk.best_cost,
+    }
+}
+
+/// Makes the exchange that is to be made next, if there is one.
+fn step(instance: &Instance, walk: &mut Walk, memory: &mut Memory)
+    requires walk { IsWalk instance.now walk.old }
+    requires size { memory.old.size ≡ instance.now.size }
+    ensures walk { IsWalk instance.now walk.new }
+    ensures no_dearer { walk.new.best_cost ≤ℤ walk.old.best_cost }
+    ensures size { memory.new.size ≡ instance.now.size }
+{
+    let bar = walk.best_cost - walk.cost;
+    let chosen = choose(memory, &walk.locations, walk.differences.entries(), bar);
+    if let Some(choice) = chosen {
+        let (r, s) = (choice.first, choice.second);
+        memory.leave(r, usize::from(walk.locations[r]));
+        memory.leave(s, usize::from(walk.locations[s]));
+        exchange(instance, walk, r, s);
+        keep_if_best(walk);
+    }
+}
+
+/// Exchanges the locations of `r` and `s`.
+fn exchange(instance: &Instance, walk: &mut Walk, r: usize, s: usize)
+    requires walk { IsWalk instance.now walk.old }
+    requires first { r < s }
+    requires second { s < instance.now.size }
+    ensures walk { IsWalk instance.now walk.new }
+    ensures best_cost { walk.new.best_cost ≡ walk.old.best_cost }
+{
+    walk.cost += walk.differences.entries()[r * instance.size() + s];
+    walk.locations.swap(r, s);
+    walk.differences.update(instance, &walk.locations, r, s);
+}
+
+/// Keeps where the walk stands if nothing as cheap is known.
+fn keep_if_best(walk: &mut Walk)
+    requires { length walk.old.best.items ≡ length walk.old.locations.items }
+    ensures walk { (I : Problem) → IsWalk I walk.old → IsWalk I walk.new }
+    ensures no_dearer { walk.new.best_cost ≤ℤ walk.old.best_cost }
+{
+    if walk.cost < walk.best_cost {
+        walk.best.copy_from_slice(&walk.locations);
+        walk.best_cost = walk.cost;
+    }
+}
