@@ -30,12 +30,6 @@ past_diagonal n i j r above within before =
       ]
     ]
 
-pub HasFilled-none : (I : Problem) (p : List ℕ) (table : List ℤ) → length table ≡ I.size * I.size → HasFilled I p table 0
-HasFilled-none I p table count = record {
-  count = count;
-  before = λ r s above within less. absurd (omega arith);
-}
-
 pub HasFilled-row : (I : Problem) (p : List ℕ) (table : List ℤ) (r : ℕ) → HasFilled I p table (r * I.size) → HasFilled I p table (r * I.size + (r + 1))
 HasFilled-row I p table r h = record {
   count = h.count;
@@ -73,20 +67,6 @@ HasFilled-written I p table r s k x d order below at is told h =
     subst (λ (place : ℕ). HasFilled I p (set table place x) (r * I.size + (s + 1))) (sym at)
     (HasFilled-more I p table r s x order below (subst (λ (y : ℤ). cost_of I p +ℤ y ≡ cost_of I (exchanging p r s)) (sym is) told) h)
 
-pub HasFilled-all : (I : Problem) (p : List ℕ) (table : List ℤ) (t : ℕ) → I.size * I.size ≤ t → HasFilled I p table t → AreDifferences I p table
-HasFilled-all I p table t whole h = record {
-  count = h.count;
-  each = λ r s order below.
-      let place = mul-add-lt r I.size s I.size (omega arith) below in
-      h.before r s order below (omega arith);
-}
-
-pub HasUpdated-none : (I : Problem) (p q : List ℕ) (table : List ℤ) → AreDifferences I p table → HasUpdated I p q table 0
-HasUpdated-none I p q table h = record {
-  filled = HasFilled-none I q table h.count;
-  behind = λ r s order below place. h.each r s order below;
-}
-
 pub HasUpdated-row : (I : Problem) (p q : List ℕ) (table : List ℤ) (r : ℕ) → HasUpdated I p q table (r * I.size) → HasUpdated I p q table (r * I.size + (r + 1))
 HasUpdated-row I p q table r h = record {
   filled = HasFilled-row I q table r h.filled;
@@ -111,9 +91,6 @@ HasUpdated-written I p q table r s k x d order below at is told h =
     subst (λ (place : ℕ). HasUpdated I p q (set table place x) (r * I.size + (s + 1))) (sym at)
     (HasUpdated-more I p q table r s x order below (subst (λ (y : ℤ). cost_of I q +ℤ y ≡ cost_of I (exchanging q r s)) (sym is) told) h)
 
-pub HasUpdated-all : (I : Problem) (p q : List ℕ) (table : List ℤ) (t : ℕ) → I.size * I.size ≤ t → HasUpdated I p q table t → AreDifferences I q table
-HasUpdated-all I p q table t whole h = HasFilled-all I q table t whole h.filled
-
 apart_at_most : (x y d : ℤ) → x +ℤ d ≡ y → unsigned_abs x ≤ 65536 * 1000000000000000000 → unsigned_abs y ≤ 65536 * 1000000000000000000
     → unsigned_abs d ≤ 131072 * 1000000000000000000
 apart_at_most x y d is hx hy = omega (arith, ints)
@@ -124,10 +101,6 @@ pub IsDifference-bounded : (I : Problem) (p : List ℕ) (r s : ℕ) (x : ℤ) �
 IsDifference-bounded I p r s x is h apart hr hs d =
     apart_at_most (cost_of I p) (cost_of I (exchanging p r s)) x d
     (cost_of-bounded I p is h) (cost_of-bounded I (exchanging p r s) is (Permutes-exchanging I p r s apart hr hs h))
-
--- behind its last column a row ends, and the next one begins
-pub row_ends : (n r s : ℕ) → n ≡ s → r * n + s ≡ (r + 1) * n
-row_ends n r s e = omega arith
 
 pub place_below : (n m r s l : ℕ) → m ≡ n → r < s → s < n → l ≡ n * n → r * m + s < l
 place_below n m r s l same order below count = let rows : r * m ≡ r * n = ap (λ k. r * k) same in omega (arith, mul-add-lt r n s n (omega arith) below)

@@ -14,6 +14,7 @@ use qap_cost::{Instance, Perm, cost};
 use std::alloc::{AllocError, Global};
 
 /// How a tabu search goes: the seed of its random numbers, and how many iterations it makes at most.
+#[derive(Clone, Copy, Debug)]
 pub struct TabuPlan {
     pub seed: u64,
     pub iterations: u64,
@@ -26,6 +27,7 @@ pub trait Hook {
 }
 
 /// Lets a search make all its iterations.
+#[derive(Clone, Copy, Debug)]
 pub struct Always;
 
 impl Hook for Always {
