@@ -13,10 +13,12 @@ use crate::table::Differences;
 use qap_cost::{Instance, Perm, cost};
 use std::alloc::{AllocError, Global};
 
-/// How a tabu search goes: the seed of its random numbers, and how many iterations it makes at most.
+/// How a tabu search goes.
 #[derive(Clone, Copy, Debug)]
 pub struct TabuPlan {
+    /// The seed of its random numbers.
     pub seed: u64,
+    /// How many iterations it makes at most; 0 answers the start.
     pub iterations: u64,
 }
 
@@ -127,13 +129,13 @@ fn step(instance: &Instance, walk: &mut Walk, memory: &mut Memory)
         let (r, s) = (choice.first, choice.second);
         memory.leave(r, usize::from(walk.locations[r]));
         memory.leave(s, usize::from(walk.locations[s]));
-        exchange(instance, walk, r, s);
+        make_exchange(instance, walk, r, s);
         keep_if_best(walk);
     }
 }
 
 /// Exchanges the locations of `r` and `s`.
-fn exchange(instance: &Instance, walk: &mut Walk, r: usize, s: usize)
+fn make_exchange(instance: &Instance, walk: &mut Walk, r: usize, s: usize)
     requires walk { IsWalk instance.now walk.old }
     requires first { r < s }
     requires second { s < instance.now.size }

@@ -12,7 +12,7 @@ use Rattle.qap_improve.proofs.Costs.{cost_of-bounded}
 use Rattle.qap_improve.proofs.Exchanges.{Permutes-exchanging, exchanging-twice}
 use Rattle.qap_improve.proofs.Readings.{fits_large_both, reads_large_both}
 use Rattle.qap_improve.proofs.Tables.{IsDifference-bounded, told_difference}
-use Rattle.qap_improve.proofs.tabu.exchange.Goals as goal
+use Rattle.qap_improve.proofs.tabu.make_exchange.Goals as goal
 
 -- what stands at the pair is its difference
 told : (I : Problem) (walk : Walk) (read : List ℤ) (r s n : ℕ) → IsWalk I walk → read ≡ walk.differences → n ≡ I.size → r < s → s < I.size
