@@ -160,11 +160,11 @@ fn update_entry(
     let (u, v) = exchanged;
     let (r, s) = pair;
     let place = r * instance.size() + s;
+    let old = entries[place];
     if share_one(exchanged, pair) {
         entries[place] = difference_at(instance, locations, r, s);
     } else {
         let with_second = contrast_of(instance, locations, u, v, s);
-        let old = entries[place];
         entries[place] = old + change(with_first, &with_second);
     }
 }

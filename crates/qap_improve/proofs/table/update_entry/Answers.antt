@@ -7,10 +7,6 @@ use Rattle.qap_improve.proofs.Tables.{HasUpdated-written, old_bounded, old_diffe
 use Rattle.qap_improve.proofs.Updates.{IsDifference-updated}
 use Rattle.qap_improve.proofs.table.update_entry.Goals as goal
 
-pub slice_copy_out-old : goal.slice_copy_out-old
-slice_copy_out-old c =
-    place_below c.args.instance.now.size c.size.result c.args.pair.0 c.args.pair.1 _ c.size.ensures.value c.requires.row c.requires.column c.requires.before.filled.count
-
 pub bounds-entries-place-else-share_one : goal.bounds-entries-place-else-share_one
 bounds-entries-place-else-share_one c =
     place_below c.args.instance.now.size c.size.result c.args.pair.0 c.args.pair.1 _ c.size.ensures.value c.requires.row c.requires.column c.requires.before.filled.count
