@@ -1,4 +1,5 @@
 mod Runs
+pub mod AcceptedTexts
 pub mod Assembled
 pub mod BestFacts
 pub mod Certificates
@@ -10,6 +11,7 @@ pub mod Fields
 pub mod Finishing
 pub mod Found
 pub mod Fronts
+pub mod Halves
 pub mod Identities
 pub mod Keys
 pub mod LeastDuals

@@ -9,12 +9,13 @@ ghost use Rattle.qap_search.specs.Stopped.{CertifiesStopped};
 
 use crate::answer::{Answer, Least, SolveError};
 use crate::assembling::{assemble_finished, open_nodes};
+use crate::closers::Closers;
 use crate::error::AssembleError;
 use crate::law::{certificate_law, stopped_law};
 use crate::least::best_of;
 use crate::report::Report;
 use crate::run::Run;
-use crate::stopping::assemble_stopped;
+use crate::stopping::assemble_stopped_by;
 use qap_cert::{Certificate, certified_law};
 use qap_cost::Instance;
 use std::alloc::{AllocError, Global};
@@ -28,16 +29,18 @@ pub(crate) struct Finished {
 }
 
 /// The certificate that a search comes to.
-pub(crate) fn answer_of(
+pub(crate) fn answer_of<K: Closers>(
+    closers: &K,
     alloc: Global,
     instance: &Instance,
     limit: Option<u64>,
     run: Run,
 ) -> Result<Answer, SolveError>
-    requires { IsEnded instance.now limit run }
+    requires ready { K.ready }
+    requires ended { IsEnded instance.now limit run }
     ensures { MatchResult result (IsAnswer instance.now (length run.reports.items) limit) (IsEndFault instance.now limit run) }
 {
-    let Finished { tuples, reports } = finished_run(alloc, instance, limit, run)?;
+    let Finished { tuples, reports } = finished_run(closers, alloc, instance, limit, run)?;
     let certificate = assembled(alloc, instance, tuples)?;
     Ok(Answer {
         certificate,
@@ -46,19 +49,21 @@ pub(crate) fn answer_of(
 }
 
 /// The permutation of least cost that a search comes to.
-pub(crate) fn least_of(
+pub(crate) fn least_of<K: Closers>(
+    closers: &K,
     alloc: Global,
     instance: &Instance,
     limit: Option<u64>,
     run: Run,
 ) -> Result<Least, SolveError>
-    requires { IsEnded instance.now limit run }
+    requires ready { K.ready }
+    requires ended { IsEnded instance.now limit run }
     ensures { MatchResult result (IsLeastAnswer instance.now (length run.reports.items) limit) (IsEndFault instance.now limit run) }
 {
     certified_law();
     // Its clause says that this is an instance.
     let _size = instance.size();
-    let Finished { tuples, reports } = finished_run(alloc, instance, limit, run)?;
+    let Finished { tuples, reports } = finished_run(closers, alloc, instance, limit, run)?;
     let (permutation, cost) = best_of(alloc, instance, &tuples)?;
     Ok(Least {
         permutation,
@@ -69,13 +74,15 @@ pub(crate) fn least_of(
 
 /// The tuples and the reports of a run that has gone on until no node was open. All runs end here: one that has reached its limit
 /// of commits while nodes were open was stopped, and any other with open nodes is unfinished.
-fn finished_run(
+fn finished_run<K: Closers>(
+    closers: &K,
     alloc: Global,
     instance: &Instance,
     limit: Option<u64>,
     run: Run,
 ) -> Result<Finished, SolveError>
-    requires { IsEnded instance.now limit run }
+    requires ready { K.ready }
+    requires ended { IsEnded instance.now limit run }
     ensures { MatchResult result (IsFinished run) (IsEndFault instance.now limit run) }
 {
     let Run { space, reports } = run;
@@ -90,7 +97,7 @@ fn finished_run(
     if !reached {
         return Err(SolveError::Unfinished(open));
     }
-    let certificate = closed(alloc, instance, tuples)?;
+    let certificate = closed(closers, alloc, instance, tuples)?;
     Err(SolveError::Stopped(Answer {
         certificate,
         reports,
@@ -118,7 +125,13 @@ fn assembled(
 }
 
 /// The certificate of tuples that are a cut tree, with each open node closed.
-fn closed(alloc: Global, instance: &Instance, tuples: Vec<Tuple>) -> Result<Certificate, AllocError>
+fn closed<K: Closers>(
+    closers: &K,
+    alloc: Global,
+    instance: &Instance,
+    tuples: Vec<Tuple>,
+) -> Result<Certificate, AllocError>
+    requires ready { K.ready }
     requires tree { (commits : ℕ) × IsCutTree instance.now tuples.items commits }
     requires open { 0 < open_count tuples.items }
     ensures { IfOk result (λ c. (commits : ℕ) → IsCutTree instance.now tuples.items commits → CertifiesStopped instance.now commits c) }
@@ -126,7 +139,7 @@ fn closed(alloc: Global, instance: &Instance, tuples: Vec<Tuple>) -> Result<Cert
     stopped_law();
     // Its clause says that this is an instance.
     let _size = instance.size();
-    match assemble_stopped(alloc, instance, tuples) {
+    match assemble_stopped_by(closers, alloc, instance, tuples) {
         Ok(certificate) => Ok(certificate),
         Err(AssembleError::OutOfMemory) => Err(AllocError),
         Err(AssembleError::Unfinished(_)) => unreachable!(),

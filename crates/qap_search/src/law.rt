@@ -4,9 +4,15 @@ ghost use Rattle.std.specs.Prelude.{◌≡◌, ◌+◌, ◌++◌, ◌∷◌, [],
 ghost use Rattle.qap_cost.specs.Instance.{Problem, IsInstance};
 ghost use Rattle.qap_cost.specs.Objective.{Permutes, cost_of};
 ghost use Rattle.qap_cost.specs.Placement.{IsPlacement, Placement, root_of};
+ghost use Rattle.qap_cert.specs.Acceptance.{IsRefused, ShowsVerdict};
 ghost use Rattle.qap_cert.specs.Certificate.{Claim, Certifies};
+ghost use Rattle.qap_cert.specs.Text.{certificate_text};
 ghost use Rattle.qap_cert.specs.Tree.{node_count};
 ghost use Rattle.qap_cert.specs.Valid.{Closes};
+ghost use Rattle.qap_cert.specs.declared.acceptance.Verdict.{Verdict};
+ghost use Rattle.qap_cert.specs.declared.acceptance.Verdict.TheVariants.{Optimal};
+ghost use Rattle.qap_cert.specs.declared.error.CertError.{CertError};
+ghost use Rattle.qap_cert.specs.declared.version.Version.TheVariants.{Second};
 ghost use Rattle.space_txn.specs.Content.{SameItems};
 ghost use Rattle.tuple_match.specs.FieldValue.{FieldValue};
 ghost use Rattle.qap_search.specs.Closing.{undecided_count};
@@ -69,6 +75,18 @@ pub fn certificate_law()
         IsCutTree I content commits → IsAssembled I.size content C → Certifies I C }
     ensures counted { (I : Problem) (content : List (List FieldValue)) (commits : ℕ) (C : Claim) →
         IsCutTree I content commits → IsAssembled I.size content C → node_count C.tree ≡ commits }
+{}
+
+/// Where a search has been driven to its end, as one worker drives it on a space of its own, the text of the certificate that
+/// `assemble` makes of its tuples, which is what `write` puts out, shows that its cost is the least one, and shows nothing else; and
+/// it has no fault. So `accept` tells of it that its cost is optimal.
+pub fn accepted_law()
+    ensures shown { (I : Problem) (content : List (List FieldValue)) (commits : ℕ) (C : Claim) →
+        IsCutTree I content commits → IsAssembled I.size content C → ShowsVerdict I (certificate_text Second C) (Optimal C.cost) }
+    ensures only { (I : Problem) (content : List (List FieldValue)) (commits : ℕ) (C : Claim) (v : Verdict) →
+        IsCutTree I content commits → IsAssembled I.size content C → ShowsVerdict I (certificate_text Second C) v → v ≡ Optimal C.cost }
+    ensures not_refused { (I : Problem) (content : List (List FieldValue)) (commits : ℕ) (C : Claim) (e : CertError) →
+        IsCutTree I content commits → IsAssembled I.size content C → IsRefused I (certificate_text Second C) e → ⊥ }
 {}
 
 /// A certificate that a cut tree gives where its open nodes are closed certifies its bound; the cut tree has a decided node for

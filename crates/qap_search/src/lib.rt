@@ -6,6 +6,7 @@ mod assembling;
 mod best;
 mod building;
 mod clock;
+mod closers;
 mod closing;
 mod completion;
 mod decided;
@@ -45,7 +46,8 @@ pub use error::AssembleError;
 pub use gate::{Always, Gate, Kind};
 pub use hand::Hand;
 pub use law::{
-    certificate_law, found_law, opening_law, order_law, replacement_law, replacing_law, stopped_law,
+    accepted_law, certificate_law, found_law, opening_law, order_law, replacement_law,
+    replacing_law, stopped_law,
 };
 pub use opening::opening_space;
 pub use putting::put_forever;

@@ -9,6 +9,7 @@ ghost use Rattle.qap_search.specs.SearchLaw.{IsSearchLaw};
 ghost use Rattle.space_txn.specs.Content.{content_of};
 
 use crate::answer::{Answer, SolveError};
+use crate::closers::One;
 use crate::ending::answer_of;
 use crate::gate::{Always, Kind};
 use crate::hand::Hand;
@@ -40,7 +41,7 @@ pub fn solve_alone<R: Wait>(
 {
     let space = opening_space(alloc, instance)?;
     let run = search::<Brand, R>(rt, alloc, instance, space, Blank::new(1), lease_ms)?;
-    answer_of(alloc, instance, None, run)
+    answer_of(&One, alloc, instance, None, run)
 }
 
 /// The run on a space that stands at the opening, under a law that is the search's.

@@ -4,7 +4,7 @@ ghost use Rattle.std.specs.Prelude.{MatchResult};
 ghost use Rattle.qap_search.specs.Stopped.{IsStopped, IsStoppedFault};
 
 use crate::assembling::assemble;
-use crate::closing::close_open;
+use crate::closers::{Closers, One};
 use crate::error::AssembleError;
 use crate::showing::bound_of;
 use gilmore_lawler::RankedInstance;
@@ -28,8 +28,23 @@ pub fn assemble_stopped(
         (λ c. IsStopped instance.now tuples.items c)
         (λ e. IsStoppedFault instance.now tuples.items e) }
 {
+    assemble_stopped_by(&One, alloc, instance, tuples)
+}
+
+/// The same, where these close the open nodes.
+pub(crate) fn assemble_stopped_by<K: Closers>(
+    closers: &K,
+    alloc: Global,
+    instance: &Instance,
+    tuples: Vec<Tuple>,
+) -> Result<Certificate, AssembleError>
+    requires { K.ready }
+    ensures { MatchResult result
+        (λ c. IsStopped instance.now tuples.items c)
+        (λ e. IsStoppedFault instance.now tuples.items e) }
+{
     let ranked = RankedInstance::new(alloc, instance)?;
-    let closed = close_open(alloc, &ranked, tuples)?;
+    let closed = closers.close_open(alloc, &ranked, tuples)?;
     let finished = assemble(alloc, instance.size(), closed)?;
     let bound = bound_of(alloc, instance, &finished)?;
     match finished.with_bound(bound) {

@@ -2,6 +2,7 @@
 
 ghost use Rattle.std.specs.Prelude.{◌≡◌, ◌<◌, ◌≤◌, [], All, IfOk, MatchResult, ℕ, length, replicate, sum, vec_capacity, vec_len};
 ghost use Rattle.std.specs.List.{sum_by};
+ghost use Rattle.qap_cost.specs.Instance.{Problem};
 ghost use Rattle.qap_search.specs.Answer.{IsAnswer, IsLeastAnswer, IsSolveFault};
 ghost use Rattle.qap_search.specs.Ending.{IsEnded};
 ghost use Rattle.qap_search.specs.Opening.{IsOpening};
@@ -11,6 +12,7 @@ ghost use Rattle.std.specs.Arc.{arc_value};
 
 use crate::answer::{Answer, Least, SolveError};
 use crate::clock::Clock;
+use crate::closers::Many;
 use crate::ending::{answer_of, least_of};
 use crate::gate::Gate;
 use crate::hand::Hand;
@@ -32,6 +34,7 @@ use std::sync::{Arc, Mutex, Wait};
 use std::thread::Threads;
 use std::time::Duration;
 use std::{thread, time};
+use tuple_match::Template;
 
 /// How many milliseconds the keeper pauses before it looks again.
 const PAUSE_MS: u64 = 1;
@@ -63,7 +66,7 @@ where
     ensures { MatchResult result (IsAnswer instance.now workers limit) (IsSolveFault instance.now workers limit) }
 {
     let run = run_of(rt, alloc, instance, workers, lease_ms, limit, clock, gate)?;
-    answer_of(alloc, instance, limit, run)
+    answer_of(&Many::new(rt, workers), alloc, instance, limit, run)
 }
 
 /// A permutation of an instance's least cost, by the same search: for whoever wants no certificate, which isn't put together
@@ -87,7 +90,7 @@ where
     ensures { MatchResult result (IsLeastAnswer instance.now workers limit) (IsSolveFault instance.now workers limit) }
 {
     let run = run_of(rt, alloc, instance, workers, lease_ms, limit, clock, gate)?;
-    least_of(alloc, instance, limit, run)
+    least_of(&Many::new(rt, workers), alloc, instance, limit, run)
 }
 
 /// The run of so many workers.
@@ -146,24 +149,97 @@ where
     ensures ended { IfOk result (IsEnded instance.now limit) }
     ensures one_each { IfOk result (λ run. length run.reports.items ≡ workers) }
 {
-    let ranked = shared_rows(alloc, instance)?;
-    let nodes = node_template(alloc)?;
-    let best = best_template(alloc)?;
     let count = usize::from(workers);
     let room = Left::with_capacity(alloc, count)?;
-    let (shared, shares) = shared_under::<L>(alloc, blank, space, count, limit)?;
+    let templates = Templates::new(alloc)?;
+    let staffed = staff::<L>(alloc, instance, space, blank, count, lease_ms, limit)?;
+    Ok(run_out(rt, staffed, room, &templates, clock, gate))
+}
+
+/// What workers wait for on the space.
+#[derive(Drop)]
+struct Templates {
+    nodes: Template,
+    best: Template,
+}
+
+impl Templates {
+    fn new(alloc: Global) -> Result<Templates, AllocError> {
+        Ok(Templates {
+            nodes: node_template(alloc)?,
+            best: best_template(alloc)?,
+        })
+    }
+}
+
+/// A space under its lock, with a seat for each worker.
+#[derive(Drop)]
+struct Staffed<L: Law> {
+    shared: Shared<L>,
+    seats: Vec<Mutex<Seat<L>>>,
+}
+
+/// The space under its lock and its limit, with so many workers that haven't begun.
+fn staff<L: Law>(
+    alloc: Global,
+    instance: &Instance,
+    space: TxnSpace,
+    blank: Blank,
+    workers: usize,
+    lease_ms: u64,
+    limit: Option<u64>,
+) -> Result<Staffed<L>, AllocError>
+    requires name { blank.name ≡ L.name }
+    requires parts { blank.parts ≡ L.parts }
+    requires one_each { workers ≡ L.parts }
+    requires few { workers ≤ 64 }
+    requires law { IsSearchLaw instance.now L.lawful L.allowed }
+    requires limit { L.limit ≡ limit }
+    requires lawful { L.lawful (content_of space) space.commits }
+    requires fresh { space.commits ≡ 0 }
+    ensures { IfOk result (λ made. vec_len made.seats ≡ workers) }
+{
+    let ranked = shared_rows(alloc, instance)?;
+    let (shared, shares) = shared_under::<L>(alloc, blank, space, workers, limit)?;
     let seats = seats_for(alloc, &ranked, lease_ms, shares)?;
+    Ok(Staffed { shared, seats })
+}
+
+/// What is left where all workers have worked until the space was closed.
+fn run_out<L, R, C, G>(
+    rt: &R,
+    staffed: Staffed<L>,
+    room: Left<L>,
+    templates: &Templates,
+    clock: &C,
+    gate: &G,
+) -> Run
+where
+    L: Law + Send + Sync,
+    R: Threads + Wait + time::Clock + Sync,
+    C: Clock,
+    G: Gate + Sync,
+    requires all { vec_len staffed.seats ≡ L.parts }
+    requires some { 0 < vec_len staffed.seats }
+    requires no_shares { room.shares.items ≡ [] }
+    requires no_reports { room.reports.items ≡ [] }
+    requires room_for_shares { vec_len staffed.seats ≤ vec_capacity room.shares }
+    requires room_for_reports { vec_len staffed.seats ≤ vec_capacity room.reports }
+    ensures ended { (I : Problem) → IsSearchLaw I L.lawful L.allowed → IsEnded I L.limit result }
+    ensures reports { length result.reports.items ≡ vec_len staffed.seats }
+{
+    let Staffed { shared, seats } = staffed;
     let place = Workplace {
         rt,
         shared: &shared,
-        nodes: &nodes,
-        best: &best,
+        nodes: &templates.nodes,
+        best: &templates.best,
         gate,
     };
     work_all(&place, &seats, clock);
     let Left { shares, reports } = left_by(room, seats);
     let (space, _) = shared.into_inner(shares);
-    Ok(Run { space, reports })
+    Run { space, reports }
 }
 
 /// The space with its lock and its limit, if there is one, and so many shares.

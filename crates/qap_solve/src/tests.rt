@@ -170,15 +170,30 @@ fn certificates(rt: HostRuntime) -> Result<(), Fail> {
     Ok(())
 }
 
-// The root is split on its second facility, and each of its three children is closed.
+// The root is split on its second facility, or its first, and each of its three children is closed.
 #[test]
 fn a_split_is_told(rt: HostRuntime) -> Result<(), Fail> {
-    let run = run(&rt, rt.alloc(), SPLIT, &PROVING);
-    let mut lines = run.output.split(|byte| *byte == b'\n');
-    assert_eq!(rt; lines.nth(2), Some(b"cost 6".as_slice()));
-    assert_eq!(rt; lines.nth(1), Some(b"s 2".as_slice()));
-    assert_eq!(rt; lines.nth(3), Some(b"end".as_slice()));
+    let cases: [(&[u8], &[u8], &[u8]); 2] = [(SPLIT, b"cost 6", b"s 2"), (EVEN, b"cost 1", b"s 1")];
+    for (text, cost, split) in cases {
+        let run = run(&rt, rt.alloc(), text, &PROVING);
+        let mut lines = run.output.split(|byte| *byte == b'\n');
+        assert_eq!(rt; lines.nth(2), Some(cost));
+        assert_eq!(rt; lines.nth(1), Some(split));
+        assert_eq!(rt; lines.nth(3), Some(b"end".as_slice()));
+    }
     Ok(())
+}
+
+// The one node of this search is its root, which is closed by the commit that reaches the limit.
+#[test]
+fn a_limit_that_is_just_enough(rt: HostRuntime) {
+    let options = Options {
+        nodes: Some(1),
+        ..ONE
+    };
+    let run = run(&rt, rt.alloc(), THREE, &options);
+    assert_eq!(rt; run.output.as_slice(), b"3 24\n1 2 3\n".as_slice());
+    assert_eq!(rt; run.status, 0);
 }
 
 /// A run under a limit of nodes, which is at most 5.

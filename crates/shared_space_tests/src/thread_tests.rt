@@ -2,8 +2,8 @@ ghost use Rattle.std.specs.Prelude.{◌≡◌, IfOk, None, vec_len};
 ghost use Rattle.shared_space.specs.Law.{IsFree};
 
 use crate::tests::{any_job, count_jobs, job, write};
-use shared_space::{Law, Room, Share, Shared, SharedError, Via};
-use space_txn::TxnSpace;
+use shared_space::{CommitError, Law, Room, Share, Shared, SharedError, Via};
+use space_txn::{TxnError, TxnSpace};
 use std::alloc::Global;
 use std::marker::Brand;
 use std::process::Abort;
@@ -333,6 +333,76 @@ fn close_in<L: Law, R: Wait>(
     Ok((closed, none, again))
 }
 
+/// Takes a job under a transaction and aborts it: what is read meanwhile, and then.
+fn take_and_abort<L: Law, R: Wait>(
+    rt: &R,
+    shared: &Shared<L>,
+    jobs: &Template,
+) -> Result<[Option<i128>; 2], Fail> {
+    let mut txn = shared.begin(rt, 1000)?;
+    shared.inp_in(rt, &mut txn, jobs)?;
+    let meanwhile = read(rt, shared, jobs)?;
+    if shared.abort(rt, txn).is_err() {
+        return Err(Fail::new("a transaction is to be aborted"));
+    }
+    Ok([meanwhile, read(rt, shared, jobs)?])
+}
+
+/// Takes a job under a transaction and commits it once its lease has ended: why that is refused, and what is read then.
+fn commit_late<L: Law, R: Wait>(
+    rt: &R,
+    shared: &Shared<L>,
+    share: &mut Share<L>,
+    jobs: &Template,
+) -> Result<(Option<CommitError>, Option<i128>), Fail>
+    requires { IsFree L.lawful L.allowed }
+{
+    let mut txn = shared.begin(rt, 10)?;
+    shared.inp_in(rt, &mut txn, jobs)?;
+    if shared.advance(rt, 10).is_err() {
+        return Err(Fail::new("the moment is to be moved on"));
+    }
+    let refused = match shared.commit(rt, share, txn) {
+        Ok(()) => None,
+        Err((error, _)) => Some(error),
+    };
+    Ok((refused, read(rt, shared, jobs)?))
+}
+
+/// Whether a space with a job is closed before its only worker has left, and behind that.
+fn close_and_leave<L: Law, R: Wait>(rt: &R, shared: &Shared<L>, jobs: &Template) -> [bool; 2] {
+    let before = shared.close(rt, jobs);
+    shared.leave(rt);
+    [before, shared.close(rt, jobs)]
+}
+
+/// What comes of an abort, of a late commit, and of leaving.
+fn end_in<L: Law, R: Wait>(
+    rt: &R,
+    alloc: Global,
+    blank: Blank,
+) -> Result<
+    (
+        [Option<i128>; 2],
+        (Option<CommitError>, Option<i128>),
+        [bool; 2],
+    ),
+    Fail,
+>
+    requires name { blank.name ≡ L.name }
+    requires parts { blank.parts ≡ L.parts }
+    requires limit { L.limit ≡ None }
+    requires one { blank.parts ≡ 1 }
+    requires free { IsFree L.lawful L.allowed }
+{
+    let (shared, mut shares) = new_shared::<L>(alloc, blank, 1)?;
+    let jobs = any_job(alloc)?;
+    put(rt, alloc, &shared, 1)?;
+    let aborted = take_and_abort(rt, &shared, &jobs)?;
+    let late = commit_late(rt, &shared, &mut shares[0], &jobs)?;
+    Ok((aborted, late, close_and_leave(rt, &shared, &jobs)))
+}
+
 #[test]
 fn four_threads_count_all_their_commits(rt: HostRuntime) -> Result<(), Fail> {
     let counted = count_in_four::<Brand, HostRuntime>(&rt, rt.alloc(), Blank::new(4))?;
@@ -359,5 +429,14 @@ fn read_back(rt: HostRuntime) -> Result<(), Fail> {
 fn a_space_without_jobs_is_closed(rt: HostRuntime) -> Result<(), Fail> {
     let told = close_in::<Brand, HostRuntime>(&rt, rt.alloc(), Blank::new(1))?;
     assert!(rt; told == ([false, false, true], Some(SharedError::Closed), Some(2)));
+    Ok(())
+}
+
+#[test]
+fn ended_transactions_free_what_they_took(rt: HostRuntime) -> Result<(), Fail> {
+    let (aborted, late, closed) = end_in::<Brand, HostRuntime>(&rt, rt.alloc(), Blank::new(1))?;
+    assert!(rt; aborted == [None, Some(1)]);
+    assert!(rt; late == (Some(CommitError::Txn(TxnError::Expired)), Some(1)));
+    assert!(rt; closed == [false, true]);
     Ok(())
 }

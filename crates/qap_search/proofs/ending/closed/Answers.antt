@@ -3,7 +3,7 @@ use Rattle.qap_search.specs.Stopped.{IsNotStopped, IsStopped, IsStoppedFault}
 use Rattle.qap_search.proofs.ending.closed.Goals as goal
 
 pub unreachable-requires-in-Err-NotATree : goal.unreachable-requires-in-Err-NotATree
-unreachable-requires-in-Err-NotATree c =
+unreachable-requires-in-Err-NotATree g c =
     let I = c.args.instance.now in
     let tuples = c.args.tuples.items in
     let fault : IsNotStopped I tuples = subst (IsStoppedFault I tuples) c.in-Err-NotATree.field-0-is (c.in-Err-NotATree.ensures {u = tt}) in
@@ -11,7 +11,7 @@ unreachable-requires-in-Err-NotATree c =
     c.stopped_law.ensures.not_refused I tuples tree.0 c.size-size.ensures.instance tree.1 fault
 
 pub returns-in-Ok : goal.returns-in-Ok
-returns-in-Ok c = λ commits tree.
+returns-in-Ok g c = λ commits tree.
     let I = c.args.instance.now in
     let tuples = c.args.tuples.items in
     let C = c.in-Ok.certificate in

@@ -9,10 +9,10 @@ use Rattle.qap_search.specs.ClosedTuples.{AreClosed}
 use Rattle.qap_search.specs.Finished.{IsAssembled}
 use Rattle.qap_search.specs.Stopped.{IsStoppedFault}
 use Rattle.qap_search.proofs.Stoppings.{closing_fault, stopped_fault, stopped_made, too_low}
-use Rattle.qap_search.proofs.stopping.assemble_stopped.Goals as goal
+use Rattle.qap_search.proofs.stopping.assemble_stopped_by.Goals as goal
 
 pub returns-in_err-closed : goal.returns-in_err-closed
-returns-in_err-closed c =
+returns-in_err-closed g c =
     let tuples = c.args.tuples.items in
     let p = err_from_is_err_and c.from_residual-in_err-closed.result c.from_residual-in_err-closed.ensures.1 in
     rw (p.1, p.2)
@@ -20,7 +20,7 @@ returns-in_err-closed c =
     (closing_fault c.in_ok-ranked.ranked tuples c.in_err-closed.field-0.0 (c.in_err-closed.ensures {u = tt})))
 
 pub returns-in_err-finished : goal.returns-in_err-finished
-returns-in_err-finished c =
+returns-in_err-finished g c =
     let I = c.args.instance.now in
     let tuples = c.args.tuples.items in
     let closed = c.in_ok-closed.closed.items in
@@ -31,7 +31,7 @@ returns-in_err-finished c =
     (subst (λ (n : ℕ). IsAssembleFault n closed c.in_err-finished.field-0.0) c.size.ensures.value (c.in_err-finished.ensures {u = tt})))
 
 pub returns-in-Ok : goal.returns-in-Ok
-returns-in-Ok c =
+returns-in-Ok g c =
     let I = c.args.instance.now in
     let tuples = c.args.tuples.items in
     let closed = c.in_ok-closed.closed.items in
@@ -43,7 +43,7 @@ returns-in-Ok c =
     (c.in-Ok.ensures.0 ∙ ap (λ (g : ℤ). claim_of A.cost g A.permutation A.tree) same) c.in-Ok.ensures.1
 
 pub returns : goal.returns
-returns c =
+returns g c =
     let I = c.args.instance.now in
     let tuples = c.args.tuples.items in
     let closed = c.in_ok-closed.closed.items in
