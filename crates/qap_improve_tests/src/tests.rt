@@ -22,19 +22,23 @@ fn entries_of(alloc: Global, n: usize, seed: u64) -> Result<Vec<i64>, AllocError
 }
 
 /// The instance of size `n` that the formula gives.
-pub fn instance_of(alloc: Global, n: usize, seed: u64) -> Result<Option<Instance>, AllocError> {
+pub(crate) fn instance_of(
+    alloc: Global,
+    n: usize,
+    seed: u64,
+) -> Result<Option<Instance>, AllocError> {
     let a = entries_of(alloc, n, seed)?;
     let b = entries_of(alloc, n, seed.wrapping_add(1))?;
     Ok(Instance::new(n, a, b).ok())
 }
 
 /// The permutation with these locations.
-pub fn permutation_of(alloc: Global, locations: &[u16]) -> Result<Option<Perm>, AllocError> {
+pub(crate) fn permutation_of(alloc: Global, locations: &[u16]) -> Result<Option<Perm>, AllocError> {
     Ok(Perm::new(Vec::from_slice(alloc, locations)?).ok())
 }
 
 /// What the double sum says of the permutation; `None` where the sizes differ.
-pub fn cost_by_sum(instance: &Instance, permutation: &Perm) -> Option<i128> {
+pub(crate) fn cost_by_sum(instance: &Instance, permutation: &Perm) -> Option<i128> {
     if permutation.len() != instance.size() {
         return None;
     }
