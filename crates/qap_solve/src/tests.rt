@@ -170,17 +170,14 @@ fn certificates(rt: HostRuntime) -> Result<(), Fail> {
     Ok(())
 }
 
-// The root is split on its second facility, or its first, and each of its three children is closed.
+// The root is split on its second facility, and each of its three children is closed.
 #[test]
 fn a_split_is_told(rt: HostRuntime) -> Result<(), Fail> {
-    let cases: [(&[u8], &[u8], &[u8]); 2] = [(SPLIT, b"cost 6", b"s 2"), (EVEN, b"cost 1", b"s 1")];
-    for (text, cost, split) in cases {
-        let run = run(&rt, rt.alloc(), text, &PROVING);
-        let mut lines = run.output.split(|byte| *byte == b'\n');
-        assert_eq!(rt; lines.nth(2), Some(cost));
-        assert_eq!(rt; lines.nth(1), Some(split));
-        assert_eq!(rt; lines.nth(3), Some(b"end".as_slice()));
-    }
+    let run = run(&rt, rt.alloc(), SPLIT, &PROVING);
+    let mut lines = run.output.split(|byte| *byte == b'\n');
+    assert_eq!(rt; lines.nth(2), Some(b"cost 6".as_slice()));
+    assert_eq!(rt; lines.nth(1), Some(b"s 2".as_slice()));
+    assert_eq!(rt; lines.nth(3), Some(b"end".as_slice()));
     Ok(())
 }
 
