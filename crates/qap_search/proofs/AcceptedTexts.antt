@@ -15,6 +15,8 @@ use Rattle.qap_cert.specs.declared.version.Version.TheVariants.{Second}
 use Rattle.tuple_match.specs.FieldValue.{FieldValue}
 use Rattle.qap_search.specs.CutTree.{IsCutTree}
 use Rattle.qap_search.specs.Finished.{IsAssembled}
+use Rattle.qap_search.specs.Replacement.{Best}
+use Rattle.qap_search.specs.Search.{from_root}
 use Rattle.qap_search.proofs.Certificates.{certificate_certifies}
 
 -- the text of what was assembled, in version 2
@@ -27,11 +29,11 @@ text_of n content C a = record {
   is = refl;
 }
 
-pub text_shown : (I : Problem) (content : List (List FieldValue)) (commits : ℕ) (C : Claim) → IsCutTree I content commits → IsAssembled I.size content C → ShowsVerdict I (certificate_text Second C) (Optimal C.cost)
-text_shown I content commits C h a = record {
+pub text_shown : (I : Problem) (known : Best) (content : List (List FieldValue)) (commits : ℕ) (C : Claim) → IsCutTree (from_root I known) content commits → IsAssembled I.size content C → ShowsVerdict I (certificate_text Second C) (Optimal C.cost)
+text_shown I known content commits C h a = record {
   certificate = C;
   is_text = text_of I.size content C a;
-  certified = certificate_certifies I content commits C h a;
+  certified = certificate_certifies I known content commits C h a;
   says = (a.closed, refl);
 }
 
@@ -44,13 +46,13 @@ only_optimal C (Gap g c) closed says =
     let below = says.2 in
     absurd (omega (arith, ints))
 
-pub only_shown : (I : Problem) (content : List (List FieldValue)) (commits : ℕ) (C : Claim) (v : Verdict) → IsCutTree I content commits → IsAssembled I.size content C → ShowsVerdict I (certificate_text Second C) v → v ≡ Optimal C.cost
-only_shown I content commits C v h a shows =
+pub only_shown : (I : Problem) (known : Best) (content : List (List FieldValue)) (commits : ℕ) (C : Claim) (v : Verdict) → IsCutTree (from_root I known) content commits → IsAssembled I.size content C → ShowsVerdict I (certificate_text Second C) v → v ≡ Optimal C.cost
+only_shown I known content commits C v h a shows =
     let same = one_certificate (certificate_text Second C) shows.certificate C shows.is_text (text_of I.size content C a) in
     only_optimal C v a.closed (subst (λ (D : Claim). IsVerdictOf D v) same shows.says)
 
-pub text_not_refused : (I : Problem) (content : List (List FieldValue)) (commits : ℕ) (C : Claim) (e : CertError) → IsCutTree I content commits → IsAssembled I.size content C → IsRefused I (certificate_text Second C) e → ⊥
-text_not_refused I content commits C e h a (inl fault) = no_text_fault (certificate_text Second C) C e (text_of I.size content C a) fault
-text_not_refused I content commits C e h a (inr has) =
+pub text_not_refused : (I : Problem) (known : Best) (content : List (List FieldValue)) (commits : ℕ) (C : Claim) (e : CertError) → IsCutTree (from_root I known) content commits → IsAssembled I.size content C → IsRefused I (certificate_text Second C) e → ⊥
+text_not_refused I known content commits C e h a (inl fault) = no_text_fault (certificate_text Second C) C e (text_of I.size content C a) fault
+text_not_refused I known content commits C e h a (inr has) =
     let same = one_certificate (certificate_text Second C) has.certificate C has.is_text (text_of I.size content C a) in
-    certificate_fault I C e (subst (λ (D : Claim). IsFault I D e) same has.fault) (certificate_certifies I content commits C h a)
+    certificate_fault I C e (subst (λ (D : Claim). IsFault I D e) same has.fault) (certificate_certifies I known content commits C h a)

@@ -27,6 +27,7 @@ use Rattle.qap_search.specs.Found.{IsBestFound, best_template}
 use Rattle.qap_search.specs.Hand.{HandValue, hand_of, thought_of}
 use Rattle.qap_search.specs.Piece.{node_tuple}
 use Rattle.qap_search.specs.Replacement.{Best, IsAsGood, MayReplace, tuple_of}
+use Rattle.qap_search.specs.Search.{search_of}
 use Rattle.qap_search.specs.SearchLaw.{IsSearchLaw}
 use Rattle.qap_search.specs.Standing.{HasNode, IsLastThought, IsStage}
 use Rattle.qap_search.specs.Thought.{IsThought, ThoughtValue, candidate_of}
@@ -238,7 +239,7 @@ found_best I lawful allowed taking x t t' (found (Stored number)) test instance 
   taken = f.2;
   best_is = λ permanent.
       let known = f.1.known permanent in
-      best_found_there I known.0 known.1 f.0.tuple instance (law.is_cut_tree known.0 known.1 known.2) known.3 ((test best_template f.0.tuple).1 f.1.matches);
+      best_found_there (search_of I law.0 law.1) known.0 known.1 f.0.tuple (law.2.is_cut_tree known.0 known.1 known.2) known.3 ((test best_template f.0.tuple).1 f.1.matches);
 }
 found_best I lawful allowed taking x t t' (found (Own place)) test instance law n f = tt
 found_best I lawful allowed taking x t t' nothing test instance law n f = tt

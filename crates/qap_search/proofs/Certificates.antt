@@ -21,6 +21,7 @@ use Rattle.qap_search.specs.CutTree.{IsCutTree}
 use Rattle.qap_search.specs.Finished.{IsAssembled}
 use Rattle.qap_search.specs.Piece.{node_tuple, split_tuple, closed_tuple, best_tuple, is_open, open_count, pieces, pieces_of_all}
 use Rattle.qap_search.specs.Replacement.{Best, tuple_of}
+use Rattle.qap_search.specs.Search.{from_root}
 use Rattle.qap_search.specs.SearchTree.{SearchTree, open_node, split_node, closed_node, SearchTrees, no_trees, tree, IsTreeAt, AreTreesAt, decided_count, decided_counts, searched, searched_all}
 use Rattle.qap_search.specs.Stopped.{HasDuals}
 use Rattle.qap_search.proofs.Replacing.{best_found, trees_by, weighed}
@@ -32,7 +33,7 @@ open_weight t = cond (is_open t) 1 0
 
 mutual
   -- a tree without open nodes is a certificate's
-  finished : (P : Placement → List ℤ → List ℤ → Type 0) (t : SearchTree) (y : Placement) → IsTreeAt P y t → sum_by open_weight (pieces y t) ≡ 0 → (s : Node) × (t ≡ searched s)
+  pub finished : (P : Placement → List ℤ → List ℤ → Type 0) (t : SearchTree) (y : Placement) → IsTreeAt P y t → sum_by open_weight (pieces y t) ≡ 0 → (s : Node) × (t ≡ searched s)
   finished P open_node y h none = absurd (omega arith)
   finished P (closed_node u v) y h none = (bound u v, refl)
   finished P (split_node f children) y h none =
@@ -201,8 +202,8 @@ root_placement n positive small = record {
 }
 
 -- a cut tree without open nodes is that of a certificate
-pub certificate_there : (I : Problem) (content : List (List FieldValue)) (commits : ℕ) → IsInstance I → IsCutTree I content commits → open_count content ≡ 0 → (C : Claim) × IsAssembled I.size content C
-certificate_there I content commits i h none =
+pub certificate_there : (I : Problem) (known : Best) (content : List (List FieldValue)) (commits : ℕ) → IsInstance I → IsCutTree (from_root I known) content commits → open_count content ≡ 0 → (C : Claim) × IsAssembled I.size content C
+certificate_there I known content commits i h none =
     let root = root_of I.size in
     let apart = h.taken_apart open_weight in
     let parts = sum_by-cons open_weight (best_tuple h.cost h.permutation) (pieces root h.tree) in
@@ -230,8 +231,8 @@ abbrev pub best_of : Claim → Best
 best_of C = record { cost = C.cost; permutation = C.permutation }
 
 -- where the tuples of a cut tree are those of a search tree and a permutation, that is the best permutation
-pub best_is : (I : Problem) (content : List (List FieldValue)) (commits : ℕ) (best : Best) (t : SearchTree) (h : IsCutTree I content commits) → SameItems content (tuple_of best ∷ pieces (root_of I.size) t) → record { cost = h.cost; permutation = h.permutation } ≡ best
-best_is I content commits best t h same =
+pub best_is : (I : Problem) (known : Best) (content : List (List FieldValue)) (commits : ℕ) (best : Best) (t : SearchTree) (h : IsCutTree (from_root I known) content commits) → SameItems content (tuple_of best ∷ pieces (root_of I.size) t) → record { cost = h.cost; permutation = h.permutation } ≡ best
+best_is I known content commits best t h same =
     let root = root_of I.size in
     let found : Best = record { cost = h.cost; permutation = h.permutation } in
     let w = is_it (tuple_of best) in
@@ -242,8 +243,8 @@ best_is I content commits best t h same =
     best_found best found h.tree root (Closes I h.cost) h.valid (omega arith)
 
 -- and a tuple of that tree's closed node is one of the cut tree's
-pub closed_in_both : (I : Problem) (content : List (List FieldValue)) (commits : ℕ) (best : Best) (t : SearchTree) (h : IsCutTree I content commits) → SameItems content (tuple_of best ∷ pieces (root_of I.size) t) → FoundClose I h.cost I.size (pieces (root_of I.size) t)
-closed_in_both I content commits best t h same x u v hx found =
+pub closed_in_both : (I : Problem) (known : Best) (content : List (List FieldValue)) (commits : ℕ) (best : Best) (t : SearchTree) (h : IsCutTree (from_root I known) content commits) → SameItems content (tuple_of best ∷ pieces (root_of I.size) t) → FoundClose I h.cost I.size (pieces (root_of I.size) t)
+closed_in_both I known content commits best t h same x u v hx found =
     let root = root_of I.size in
     let old : Best = record { cost = h.cost; permutation = h.permutation } in
     let w = is_it (closed_tuple x u v) in
@@ -255,25 +256,25 @@ closed_in_both I content commits best t h same x u v hx found =
     closed_found (Closes I h.cost) I.size x u v hx h.tree root (record { size = refl; paired = refl }) h.valid (omega arith)
 
 -- the bounds of a certificate whose tuples are a cut tree close their nodes
-certificate_valid : (I : Problem) (content : List (List FieldValue)) (commits : ℕ) (C : Claim) → IsCutTree I content commits → IsAssembled I.size content C → Valid I C.cost (root_of I.size) C.tree
-certificate_valid I content commits C h a =
+certificate_valid : (I : Problem) (known : Best) (content : List (List FieldValue)) (commits : ℕ) (C : Claim) → IsCutTree (from_root I known) content commits → IsAssembled I.size content C → Valid I C.cost (root_of I.size) C.tree
+certificate_valid I known content commits C h a =
     let n = I.size in
     let perm = a.certificate.permutation in
     let same = a.same_size in
     let positive = perm.positive in
     let small = perm.small in
     let shape = subst (λ (m : ℕ). HasShape Second m [] C.tree) a.same_size a.certificate.tree in
-    let costs = ap (λ (b : Best). b.cost) (best_is I content commits (best_of C) (searched C.tree) h a.taken_apart) in
+    let costs = ap (λ (b : Best). b.cost) (best_is I known content commits (best_of C) (searched C.tree) h a.taken_apart) in
     subst (λ (c : ℤ). Valid I c (root_of n) C.tree) costs
-    (valid_from I h.cost n C.tree (root_of n) (root_placement n (omega arith) (omega arith)) (record { size = refl; paired = refl }) shape (closed_in_both I content commits (best_of C) (searched C.tree) h a.taken_apart))
+    (valid_from I h.cost n C.tree (root_of n) (root_placement n (omega arith) (omega arith)) (record { size = refl; paired = refl }) shape (closed_in_both I known content commits (best_of C) (searched C.tree) h a.taken_apart))
 
-pub certificate_certifies : (I : Problem) (content : List (List FieldValue)) (commits : ℕ) (C : Claim) → IsCutTree I content commits → IsAssembled I.size content C → Certifies I C
-certificate_certifies I content commits C h a =
-    let same = best_is I content commits (best_of C) (searched C.tree) h a.taken_apart in
+pub certificate_certifies : (I : Problem) (known : Best) (content : List (List FieldValue)) (commits : ℕ) (C : Claim) → IsCutTree (from_root I known) content commits → IsAssembled I.size content C → Certifies I C
+certificate_certifies I known content commits C h a =
+    let same = best_is I known content commits (best_of C) (searched C.tree) h a.taken_apart in
     record {
       same_size = a.same_size;
       cost = subst (λ (b : Best). cost_of I b.permutation ≡ b.cost) same h.costs;
-      tree = subst (λ (g : ℤ). Valid I g (root_of I.size) C.tree) (sym a.closed) (certificate_valid I content commits C h a);
+      tree = subst (λ (g : ℤ). Valid I g (root_of I.size) C.tree) (sym a.closed) (certificate_valid I known content commits C h a);
     }
 
 -- 1 at the tuple of a split or closed node
@@ -281,10 +282,10 @@ abbrev pub decided_weight : List FieldValue → ℕ
 decided_weight t = cond (eqb (tag t) 115 || eqb (tag t) 99) 1 0
 
 -- it has a node for each commit
-pub certificate_counted : (I : Problem) (content : List (List FieldValue)) (commits : ℕ) (C : Claim) → IsCutTree I content commits → IsAssembled I.size content C → node_count C.tree ≡ commits
-certificate_counted I content commits C h a =
+pub certificate_counted : (I : Problem) (known : Best) (content : List (List FieldValue)) (commits : ℕ) (C : Claim) → IsCutTree (from_root I known) content commits → IsAssembled I.size content C → node_count C.tree ≡ commits
+certificate_counted I known content commits C h a =
     let root = root_of I.size in
-    let valid = tree_from_valid I C.cost C.tree root (certificate_valid I content commits C h a) in
+    let valid = tree_from_valid I C.cost C.tree root (certificate_valid I known content commits C h a) in
     let left = weighed decided_weight 1 (λ x. refl) (λ x f. refl) (λ x u v. refl) h.tree root (Closes I h.cost) h.valid in
     let right = weighed decided_weight 1 (λ x. refl) (λ x f. refl) (λ x u v. refl) (searched C.tree) root (Closes I C.cost) valid in
     let apart = h.taken_apart decided_weight in

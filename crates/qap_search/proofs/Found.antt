@@ -4,15 +4,15 @@ use Rattle.std.specs.Prelude.{Contains}
 use Rattle.std.specs.List.{sum_by}
 use Rattle.std.proofs.lemmas.Bool.{false≢true}
 use Rattle.std.proofs.lemmas.List.Sums.{sum_by-cons}
-use Rattle.qap_cost.specs.Instance.{Problem, IsInstance}
-use Rattle.qap_cost.specs.Placement.{Placement, IsPlacement, free_locations, placing, root_of}
+use Rattle.qap_cost.specs.Placement.{Placement, IsPlacement, free_locations, placing}
 use Rattle.qap_cert.specs.Valid.{Closes}
 use Rattle.tuple_match.specs.FieldValue.{FieldValue}
 use Rattle.qap_search.specs.CutTree.{IsCutTree}
 use Rattle.qap_search.specs.Found.{IsBestFound, IsOpenNode, is_best}
 use Rattle.qap_search.specs.Piece.{best_tuple, closed_tuple, is_open, node_tuple, pieces, pieces_of_all, split_tuple}
+use Rattle.qap_search.specs.Search.{Search}
 use Rattle.qap_search.specs.SearchTree.{SearchTree, open_node, split_node, closed_node, SearchTrees, no_trees, tree, IsTreeAt, AreTreesAt}
-use Rattle.qap_search.proofs.Certificates.{children_placed, root_placement}
+use Rattle.qap_search.proofs.Certificates.{children_placed}
 use Rattle.qap_search.proofs.Tuples.{found_in, is_it, is_it-found, is_it-itself}
 
 pub found_from_Contains : (xs : List (List FieldValue)) (t : List FieldValue) (k : ℕ) → k < length xs → get_or xs k t ≡ t → 1 ≤ sum_by (is_it t) xs
@@ -65,28 +65,31 @@ not_best n w (inr (inl split)) h = false≢true (sym (ap is_best split.2) ∙ h)
 not_best n w (inr (inr closed)) h = false≢true (sym (ap is_best closed.3) ∙ h)
 
 -- where the tuple is found: it is that of the best permutation, or of a node
-in_cut_tree : (I : Problem) (content : List (List FieldValue)) (commits : ℕ) (w : List FieldValue) → IsInstance I → IsCutTree I content commits → Contains content w → IsBestFound I w ⊎ (IsOpenNode I.size w ⊎ IsDecidedTuple w)
-in_cut_tree I content commits w i h at =
-    let root = root_of I.size in
+in_cut_tree : (S : Search) (content : List (List FieldValue)) (commits : ℕ) (w : List FieldValue) → IsCutTree S content commits → Contains content w → IsBestFound S.instance w ⊎ (IsOpenNode S.instance.size w ⊎ IsDecidedTuple w)
+in_cut_tree S content commits w h at =
+    let I = S.instance in
+    let root = S.root in
     let best = best_tuple h.cost h.permutation in
     let here = found_from_Contains content w at.0 at.1 at.2 in
     let apart = h.taken_apart (is_it w) in
     elim (found_in (is_it w) (best ∷ []) (pieces root h.tree) (omega arith)) as
     (λ (_ : (1 ≤ sum_by (is_it w) (best ∷ [])) ⊎ (1 ≤ sum_by (is_it w) (pieces root h.tree))). IsBestFound I w ⊎ (IsOpenNode I.size w ⊎ IsDecidedTuple w)) [
       | inl first ↦ inl (record { best = record { cost = h.cost; permutation = h.permutation }; permutes = h.permutes; costs = h.costs; is = sym (is_it-found w best (omega arith)) })
-      | inr later ↦ inr (piece_found (Closes I h.cost) I.size w h.tree root (root_placement I.size i.positive i.small) refl h.valid later)
+      | inr later ↦ inr (piece_found (Closes I h.cost) I.size w h.tree root h.root h.same_size h.valid later)
     ]
 
-pub node_found : (I : Problem) (content : List (List FieldValue)) (commits : ℕ) (w : List FieldValue) → IsInstance I → IsCutTree I content commits → Contains content w → is_open w ≡ true → IsOpenNode I.size w
-node_found I content commits w i h at asked =
-    elim (in_cut_tree I content commits w i h at) as (λ (_ : IsBestFound I w ⊎ (IsOpenNode I.size w ⊎ IsDecidedTuple w)). IsOpenNode I.size w) [
+pub node_found : (S : Search) (content : List (List FieldValue)) (commits : ℕ) (w : List FieldValue) → IsCutTree S content commits → Contains content w → is_open w ≡ true → IsOpenNode S.instance.size w
+node_found S content commits w h at asked =
+    let I = S.instance in
+    elim (in_cut_tree S content commits w h at) as (λ (_ : IsBestFound I w ⊎ (IsOpenNode I.size w ⊎ IsDecidedTuple w)). IsOpenNode I.size w) [
       | inl best ↦ absurd (false≢true (sym (ap is_open best.is) ∙ asked))
       | inr piece ↦ elim piece as (λ (_ : IsOpenNode I.size w ⊎ IsDecidedTuple w). IsOpenNode I.size w) [ inl node ↦ node | inr decided ↦ absurd (not_open w decided asked) ]
     ]
 
-pub best_found_there : (I : Problem) (content : List (List FieldValue)) (commits : ℕ) (w : List FieldValue) → IsInstance I → IsCutTree I content commits → Contains content w → is_best w ≡ true → IsBestFound I w
-best_found_there I content commits w i h at is =
-    elim (in_cut_tree I content commits w i h at) as (λ (_ : IsBestFound I w ⊎ (IsOpenNode I.size w ⊎ IsDecidedTuple w)). IsBestFound I w) [
+pub best_found_there : (S : Search) (content : List (List FieldValue)) (commits : ℕ) (w : List FieldValue) → IsCutTree S content commits → Contains content w → is_best w ≡ true → IsBestFound S.instance w
+best_found_there S content commits w h at is =
+    let I = S.instance in
+    elim (in_cut_tree S content commits w h at) as (λ (_ : IsBestFound I w ⊎ (IsOpenNode I.size w ⊎ IsDecidedTuple w)). IsBestFound I w) [
       | inl best ↦ best
       | inr piece ↦ absurd (not_best I.size w piece is)
     ]

@@ -7,6 +7,7 @@ pub mod Closings
 pub mod Completions
 pub mod Deciding
 pub mod Endings
+pub mod Entries
 pub mod Fields
 pub mod Finishing
 pub mod Found

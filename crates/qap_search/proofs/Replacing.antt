@@ -6,13 +6,14 @@ use Rattle.std.proofs.lemmas.List.Sums.{sum_by-append, sum_by-cons}
 use Rattle.qap_cost.specs.Instance.{Problem}
 use Rattle.qap_cost.specs.Matrix.{dual_value}
 use Rattle.qap_cost.specs.Objective.{Permutes, cost_of}
-use Rattle.qap_cost.specs.Placement.{Placement, fixed_cost_of, free_locations, placing, root_of}
+use Rattle.qap_cost.specs.Placement.{Placement, fixed_cost_of, free_locations, placing}
 use Rattle.qap_cert.specs.Valid.{Closes}
 use Rattle.space_txn.specs.Content.{SameItems}
 use Rattle.tuple_match.specs.FieldValue.{FieldValue}
 use Rattle.qap_search.specs.CutTree.{IsCutTree}
-use Rattle.qap_search.specs.Piece.{node_tuple, split_tuple, closed_tuple, best_tuple, pieces, pieces_of_all}
+use Rattle.qap_search.specs.Piece.{node_tuple, split_tuple, closed_tuple, pieces, pieces_of_all}
 use Rattle.qap_search.specs.Replacement.{Best, tuple_of, IsAsGood, IsOneNode, ReadsBest, TakesBest, MayReplace}
+use Rattle.qap_search.specs.Search.{Search, IsSearch}
 use Rattle.qap_search.specs.SearchTree.{SearchTree, open_node, split_node, closed_node, SearchTrees, no_trees, tree, IsTreeAt, AreTreesAt, AreOpen, decided_count, decided_counts}
 use Rattle.qap_search.proofs.Tuples.{IsNode, IsNode-placing, found_in, is_it, is_it-found, is_it-itself, is_it-other, list_at, map_pos-same, number_at, same_node}
 
@@ -210,10 +211,11 @@ one_decided (split_node f children) h = let none = none_decided children h in om
     none_decided (tree (closed_node u v) rest) h = absurd h
 one_decided (closed_node u v) h = refl
 
-pub replacement : (I : Problem) (gone kept added rest content : List (List FieldValue)) (commits : ℕ) → MayReplace I gone kept added → SameItems content (gone ++ (kept ++ rest)) → IsCutTree I content commits → IsCutTree I (added ++ (kept ++ rest)) (commits + 1)
-replacement I gone kept added rest content commits m s h =
+pub replacement : (S : Search) (gone kept added rest content : List (List FieldValue)) (commits : ℕ) → MayReplace S.instance gone kept added → SameItems content (gone ++ (kept ++ rest)) → IsCutTree S content commits → IsCutTree S (added ++ (kept ++ rest)) (commits + 1)
+replacement S gone kept added rest content commits m s h =
+    let I = S.instance in
     let x = m.at in
-    let root = root_of I.size in
+    let root = S.root in
     let best : Best = record { cost = h.cost; permutation = h.permutation } in
     let e = exchanges I x m.old m.new m.decided gone kept added m.tuples in
     let split : (w : List FieldValue → ℕ) → sum_by w content ≡ sum_by w gone + (sum_by w kept + sum_by w rest) = λ w.
@@ -241,15 +243,21 @@ replacement I gone kept added rest content commits m s h =
     let other = is_it-other (node_tuple x) (tuple_of best) (λ (d : 98 ≡ 110). omega arith) in
     omega arith in
     let node : IsNode I.size x = record { size = m.same_size; paired = m.placement.paired } in
-    let at_root : IsNode I.size root = record { size = refl; paired = refl } in
+    let at_root : IsNode I.size root = record { size = h.same_size; paired = h.root.paired } in
     let valid = trees_by (Closes I h.cost) (Closes I m.new.cost) (closes_by_less I h.cost m.new.cost good.at_most) h.tree root h.valid in
     let done = replaced (Closes I m.new.cost) I.size x m.decided node m.valid h.tree root at_root valid found in
     record {
       tree = done.0;
       cost = m.new.cost;
       permutation = m.new.permutation;
+      root = h.root;
+      same_size = h.same_size;
       permutes = good.permutes;
       costs = good.costs;
+      no_dearer =
+          let at_most : m.new.cost ≤ℤ h.cost = good.at_most in
+          let before : h.cost ≤ℤ S.known.cost = h.no_dearer in
+          omega (arith, ints);
       valid = done.1.valid;
       taken_apart = λ w.
           let outer = sum_by-append w added (kept ++ rest) in
@@ -270,14 +278,17 @@ replacement I gone kept added rest content commits m s h =
           omega arith;
     }
 
--- the open root, with any permutation
-pub opening : (I : Problem) (p : List ℕ) → Permutes I p → IsCutTree I (node_tuple (root_of I.size) ∷ best_tuple (cost_of I p) p ∷ []) 0
-opening I p h = record {
+-- the open root, with the known permutation
+pub opening : (S : Search) → IsSearch S → IsCutTree S (node_tuple S.root ∷ tuple_of S.known ∷ []) 0
+opening S h = record {
   tree = open_node;
-  cost = cost_of I p;
-  permutation = p;
-  permutes = h;
-  costs = refl;
+  cost = S.known.cost;
+  permutation = S.known.permutation;
+  root = h.root;
+  same_size = h.same_size;
+  permutes = h.permutes;
+  costs = h.costs;
+  no_dearer = omega (arith, ints);
   valid = tt;
   taken_apart = λ w. omega arith;
   counted = refl;

@@ -1,26 +1,29 @@
 -- Cut trees as the law of a space.
 use Rattle.std.proofs.Common.{refl, sym, ◌∙◌}
-use Rattle.qap_cost.specs.Instance.{Problem}
 use Rattle.shared_space.specs.Law.{IsKept, IsUnordered}
 use Rattle.qap_search.specs.CutTree.{IsCutTree}
 use Rattle.qap_search.specs.Replacement.{MayReplace}
-use Rattle.qap_search.specs.SearchLaw.{IsSearchLaw}
+use Rattle.qap_search.specs.Search.{Search}
+use Rattle.qap_search.specs.SearchLaw.{IsLawOf}
 use Rattle.qap_search.proofs.Replacing.{replacement}
 
-pub cut_trees_unordered : (I : Problem) → IsUnordered (IsCutTree I)
-cut_trees_unordered I xs ys commits same h = record {
+pub cut_trees_unordered : (S : Search) → IsUnordered (IsCutTree S)
+cut_trees_unordered S xs ys commits same h = record {
   tree = h.tree;
   cost = h.cost;
   permutation = h.permutation;
+  root = h.root;
+  same_size = h.same_size;
   permutes = h.permutes;
   costs = h.costs;
+  no_dearer = h.no_dearer;
   valid = h.valid;
   taken_apart = λ f. sym (same f) ∙ h.taken_apart f;
   counted = h.counted;
 }
 
-pub cut_trees_kept : (I : Problem) → IsKept (IsCutTree I) (MayReplace I)
-cut_trees_kept I gone kept added rest commits may h = replacement I gone kept added rest _ commits may (λ f. refl) h
+pub cut_trees_kept : (S : Search) → IsKept (IsCutTree S) (MayReplace S.instance)
+cut_trees_kept S gone kept added rest commits may h = replacement S gone kept added rest _ commits may (λ f. refl) h
 
-pub cut_trees_are_law : (I : Problem) → IsSearchLaw I (IsCutTree I) (MayReplace I)
-cut_trees_are_law I = record { is_cut_tree = λ xs commits h. h; is_lawful = λ xs commits h. h; may_replace = λ gone kept added h. h }
+pub cut_trees_are_law : (S : Search) → IsLawOf S (IsCutTree S) (MayReplace S.instance)
+cut_trees_are_law S = record { is_cut_tree = λ xs commits h. h; is_lawful = λ xs commits h. h; may_replace = λ gone kept added h. h }

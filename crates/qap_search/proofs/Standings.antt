@@ -12,6 +12,7 @@ use Rattle.space_txn.specs.Txn.{TxnValue}
 use Rattle.space_txn.specs.declared.txn.Found.TheVariants.{Entry as Stored, Own}
 use Rattle.qap_search.specs.Piece.{is_open, node_template}
 use Rattle.qap_search.specs.Replacement.{MayReplace}
+use Rattle.qap_search.specs.Search.{search_of}
 use Rattle.qap_search.specs.SearchLaw.{IsSearchLaw}
 use Rattle.qap_search.specs.Standing.{IsFoundNode}
 use Rattle.qap_search.specs.Hand.{HandValue}
@@ -49,7 +50,7 @@ found_node I lawful allowed t t' (found (Stored number)) test instance law no_ma
       taken = f.2;
       node = λ permanent.
           let known = f.1.known permanent in
-          node_found I known.0 known.1 f.0.tuple instance (law.is_cut_tree known.0 known.1 known.2) known.3 (matching_open f.0.tuple (test node_template f.0.tuple) f.1.matches);
+          node_found (search_of I law.0 law.1) known.0 known.1 f.0.tuple (law.2.is_cut_tree known.0 known.1 known.2) known.3 (matching_open f.0.tuple (test node_template f.0.tuple) f.1.matches);
     }
 found_node I lawful allowed t t' (found (Own place)) test instance law no_marks no_writes f = tt
 found_node I lawful allowed t t' nothing test instance law no_marks no_writes f = tt

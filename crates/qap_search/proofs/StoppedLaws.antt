@@ -21,6 +21,7 @@ use Rattle.qap_search.specs.Closing.{AllClosedTo, ClosedTo, undecided_count, und
 use Rattle.qap_search.specs.CutTree.{IsCutTree}
 use Rattle.qap_search.specs.Piece.{best_tuple, closed_tuple, open_count, pieces, pieces_of_all, split_tuple}
 use Rattle.qap_search.specs.Replacement.{Best}
+use Rattle.qap_search.specs.Search.{from_root}
 use Rattle.qap_search.specs.SearchTree.{SearchTree, open_node, split_node, closed_node, SearchTrees, no_trees, tree, IsTreeAt, AreTreesAt, decided_count}
 use Rattle.qap_search.specs.Stopped.{HasDuals, IsLeastOf, IsNotStopped, IsStopped, IsUnfinished, shown, shown_by_all}
 use Rattle.qap_search.proofs.Certificates.{FoundClose, best_is, best_of, children_placed, closed_in_both, cost_limited, decided_weight, open_weight, root_placement}
@@ -96,17 +97,23 @@ least_behind c xs g h k d below = h.least (suc k) d (omega arith)
 root_shape : (I : Problem) (content : List (List FieldValue)) (C : Claim) → IsStopped I content C → HasShape Second I.size [] C.tree
 root_shape I content C s = subst (λ (m : ℕ). HasShape Second m [] C.tree) s.closes.same_size s.closes.certificate.tree
 
-pub stopped_certifies : (I : Problem) (content : List (List FieldValue)) (commits : ℕ) (C : Claim) → IsCutTree I content commits → IsStopped I content C → Certifies I C
-stopped_certifies I content commits C h s =
-    let same = best_is I content commits (best_of C) s.tree h s.taken_apart in
+pub stopped_certifies : (I : Problem) (known : Best) (content : List (List FieldValue)) (commits : ℕ) (C : Claim) → IsCutTree (from_root I known) content commits → IsStopped I content C → Certifies I C
+stopped_certifies I known content commits C h s =
+    let same = best_is I known content commits (best_of C) s.tree h s.taken_apart in
     record {
       same_size = s.closes.same_size;
       cost = subst (λ (b : Best). cost_of I b.permutation ≡ b.cost) same h.costs;
       tree =
           closed_valid I h.cost C.bound I.size s.tree C.tree (root_of I.size) (record { size = refl; paired = refl }) (root_shape I content C s) s.closes.closed
-          (closed_in_both I content commits (best_of C) s.tree h s.taken_apart)
+          (closed_in_both I known content commits (best_of C) s.tree h s.taken_apart)
           (least_behind C.cost (shown I (root_of I.size) C.tree) C.bound s.closes.least);
     }
+
+-- its cost is that of the best permutation, which is no dearer than the one that was known
+pub stopped_no_dearer : (I : Problem) (known : Best) (content : List (List FieldValue)) (commits : ℕ) (C : Claim) → IsCutTree (from_root I known) content commits → IsStopped I content C → C.cost ≤ℤ known.cost
+stopped_no_dearer I known content commits C h s =
+    let same = best_is I known content commits (best_of C) s.tree h s.taken_apart in
+    subst (λ (b : Best). b.cost ≤ℤ known.cost) same h.no_dearer
 
 mutual
   -- a tree whose closed nodes' duals are found to close them
@@ -134,13 +141,13 @@ mutual
   )
 
 -- the leaves that were closed before show the certificate's cost at least
-pub stopped_closed_before : (I : Problem) (content : List (List FieldValue)) (commits : ℕ) (C : Claim) → IsCutTree I content commits → (s : IsStopped I content C) → IsTreeAt (Closes I C.cost) (root_of I.size) s.tree
-stopped_closed_before I content commits C h s =
+pub stopped_closed_before : (I : Problem) (known : Best) (content : List (List FieldValue)) (commits : ℕ) (C : Claim) → IsCutTree (from_root I known) content commits → (s : IsStopped I content C) → IsTreeAt (Closes I C.cost) (root_of I.size) s.tree
+stopped_closed_before I known content commits C h s =
     let root = root_of I.size in
-    let same = best_is I content commits (best_of C) s.tree h s.taken_apart in
+    let same = best_is I known content commits (best_of C) s.tree h s.taken_apart in
     let shaped = tree_from_closed I s.tree C.tree root (root_shape I content C s) s.closes.closed in
     subst (λ (b : Best). IsTreeAt (Closes I b.cost) root s.tree) same
-    (closing_tree I h.cost I.size s.tree root (record { size = refl; paired = refl }) shaped (closed_in_both I content commits (best_of C) s.tree h s.taken_apart))
+    (closing_tree I h.cost I.size s.tree root (record { size = refl; paired = refl }) shaped (closed_in_both I known content commits (best_of C) s.tree h s.taken_apart))
 
 mutual
   -- the open nodes of a tree, counted by their tuples
@@ -162,8 +169,8 @@ mutual
       let parts = sum_by-append open_weight (pieces (placing y f k) t) (pieces_of_all y f ks rest) in
       omega arith
 
-pub stopped_counted : (I : Problem) (content : List (List FieldValue)) (commits : ℕ) (C : Claim) → IsCutTree I content commits → (s : IsStopped I content C) → (decided_count s.tree ≡ commits) × (undecided_count s.tree ≡ open_count content) × (node_count C.tree ≡ commits + open_count content)
-stopped_counted I content commits C h s =
+pub stopped_counted : (I : Problem) (known : Best) (content : List (List FieldValue)) (commits : ℕ) (C : Claim) → IsCutTree (from_root I known) content commits → (s : IsStopped I content C) → (decided_count s.tree ≡ commits) × (undecided_count s.tree ≡ open_count content) × (node_count C.tree ≡ commits + open_count content)
+stopped_counted I known content commits C h s =
     let root = root_of I.size in
     let valid = tree_from_closed I s.tree C.tree root (root_shape I content C s) s.closes.closed in
     let left = weighed decided_weight 1 (λ x. refl) (λ x f. refl) (λ x u v. refl) h.tree root (Closes I h.cost) h.valid in
@@ -221,8 +228,8 @@ bound_limited c xs g limited above h =
     let at = h.one in
     limited_between c g limited (h.least 0 c (omega arith)) (subst (λ (z : ℤ). c ≤ℤ z ⊎ IsLimited z) at.2 (all at.0 g at.1))
 
-pub stopped_not_refused : (I : Problem) (content : List (List FieldValue)) (commits : ℕ) → IsInstance I → IsCutTree I content commits → IsNotStopped I content → ⊥
-stopped_not_refused I content commits i h none =
+pub stopped_not_refused : (I : Problem) (known : Best) (content : List (List FieldValue)) (commits : ℕ) → IsInstance I → IsCutTree (from_root I known) content commits → IsNotStopped I content → ⊥
+stopped_not_refused I known content commits i h none =
     let root = root_of I.size in
     let same = h.permutes.same_size in
     let positive = i.positive in

@@ -1,5 +1,5 @@
 -- What a search comes to.
-use Rattle.std.specs.Prelude.{◌≡◌, ℕ, ◌<◌, List, length, ℤ, Option, Some, IfSome}
+use Rattle.std.specs.Prelude.{◌≡◌, ◌≤ℤ◌, ℕ, ◌<◌, List, length, ℤ, Option, Some, IfSome}
 use Rattle.std.specs.List.{sum_by}
 use Rattle.qap_cost.specs.Instance.{Problem}
 use Rattle.qap_cost.specs.Objective.{NoneCostsLess, Permutes, cost_of}
@@ -9,6 +9,7 @@ use Rattle.shared_space.specs.Limit.{IsWithin}
 use Rattle.tuple_match.specs.FieldValue.{FieldValue}
 use Rattle.qap_search.specs.CutTree.{IsCutTree}
 use Rattle.qap_search.specs.Piece.{open_count}
+use Rattle.qap_search.specs.Search.{Search, NoneBelow, whole}
 use Rattle.qap_search.specs.Stopped.{CertifiesStopped}
 use Rattle.qap_search.specs.declared.answer.Answer.{Answer}
 use Rattle.qap_search.specs.declared.answer.Least.{Least}
@@ -34,13 +35,23 @@ pub record IsAnswer (I : Problem) (workers : ℕ) (limit : Option ℕ) (a : Answ
   pub one_each : length a.reports.items ≡ workers
   pub within : IsWithin limit (accepted_of a.reports.items)
 
--- after so many commits a search has left a cut tree of the instance without open nodes, with this best permutation of this cost
-pub record LeavesBest (I : Problem) (commits : ℕ) (p : List ℕ) (c : ℤ) : Type 0 where
+-- after so many commits the search has left a cut tree without open nodes, with this best permutation of this cost
+pub record LeavesBest (S : Search) (commits : ℕ) (p : List ℕ) (c : ℤ) : Type 0 where
   pub content : List (List FieldValue)
-  pub tree : IsCutTree I content commits
+  pub tree : IsCutTree S content commits
   pub none_open : open_count content ≡ 0
   pub best : tree.permutation ≡ p
   pub costs : tree.cost ≡ c
+
+-- a permutation of the instance with its cost, and none that completes the root costs less; and a report for each of so many
+-- workers, whose accepted commits are together those of the search that has left it, and at most the limit
+pub record IsLeastFrom (S : Search) (workers : ℕ) (limit : Option ℕ) (a : Least) : Type 0 where
+  pub permutes : Permutes S.instance a.permutation
+  pub costs : cost_of S.instance a.permutation ≡ a.cost
+  pub least : NoneBelow S a.cost
+  pub left : LeavesBest S (accepted_of a.reports.items) a.permutation a.cost
+  pub one_each : length a.reports.items ≡ workers
+  pub within : IsWithin limit (accepted_of a.reports.items)
 
 -- a permutation of the instance with its cost, and none costs less; and a report for each of so many workers, whose accepted
 -- commits are together those of the search that has left it, and at most the limit
@@ -48,16 +59,18 @@ pub record IsLeastAnswer (I : Problem) (workers : ℕ) (limit : Option ℕ) (a :
   pub permutes : Permutes I a.permutation
   pub costs : cost_of I a.permutation ≡ a.cost
   pub least : NoneCostsLess I a.cost
-  pub left : LeavesBest I (accepted_of a.reports.items) a.permutation a.cost
+  pub left : LeavesBest (whole I) (accepted_of a.reports.items) a.permutation a.cost
   pub one_each : length a.reports.items ≡ workers
   pub within : IsWithin limit (accepted_of a.reports.items)
 
--- what is left where the limit of commits was reached while nodes were open: a certificate with these nodes closed, and a report
--- for each of so many workers, whose accepted commits are together the limit
-pub record IsStoppedAnswer (I : Problem) (workers : ℕ) (limit : Option ℕ) (a : Answer) : Type 0 where
+-- what is left where the limit of commits was reached while nodes were open: a certificate with these nodes closed, whose
+-- permutation costs no more than the one that was known, and a report for each of so many workers, whose accepted commits are
+-- together the limit
+pub record IsStoppedAnswer (S : Search) (workers : ℕ) (limit : Option ℕ) (a : Answer) : Type 0 where
   pub reached : limit ≡ Some (accepted_of a.reports.items)
   pub one_each : length a.reports.items ≡ workers
-  pub stopped : CertifiesStopped I (accepted_of a.reports.items) a.certificate
+  pub stopped : CertifiesStopped S.instance (accepted_of a.reports.items) a.certificate
+  pub no_dearer : a.certificate.cost ≤ℤ S.known.cost
 
 -- so many nodes of the content are open, and its commits are fewer than the limit
 pub record IsOpenBelow (limit : Option ℕ) (content : List (List FieldValue)) (commits count : ℕ) : Type 0 where
@@ -65,16 +78,20 @@ pub record IsOpenBelow (limit : Option ℕ) (content : List (List FieldValue)) (
   pub counted : open_count content ≡ count
   pub below : IfSome limit (λ n. commits < n)
 
--- a search has left a cut tree of the instance so
-pub record LeavesOpen (I : Problem) (limit : Option ℕ) (count : ℕ) : Type 0 where
+-- the search has left a cut tree so
+pub record LeavesOpen (S : Search) (limit : Option ℕ) (count : ℕ) : Type 0 where
   pub content : List (List FieldValue)
   pub commits : ℕ
-  pub tree : IsCutTree I content commits
+  pub tree : IsCutTree S content commits
   pub so_many : IsOpenBelow limit content commits count
 
 -- why there is no answer: some nodes are open, so many, and the limit of commits was not reached; it was reached before; or memory
 -- ran out
+abbrev pub IsSearchFault : Search → ℕ → Option ℕ → SolveError → Type 0
+IsSearchFault S workers limit (Unfinished count) = LeavesOpen S limit count
+IsSearchFault S workers limit (Stopped a) = IsStoppedAnswer S workers limit a
+IsSearchFault S workers limit OutOfMemory = Unit {0}
+
+-- the same of a search of the whole instance
 abbrev pub IsSolveFault : Problem → ℕ → Option ℕ → SolveError → Type 0
-IsSolveFault I workers limit (Unfinished count) = LeavesOpen I limit count
-IsSolveFault I workers limit (Stopped a) = IsStoppedAnswer I workers limit a
-IsSolveFault I workers limit OutOfMemory = Unit {0}
+IsSolveFault I = IsSearchFault (whole I)

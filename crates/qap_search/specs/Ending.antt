@@ -1,19 +1,19 @@
 -- How a search ends, by what it leaves.
 use Rattle.std.specs.Prelude.{◌≡◌, ℕ, ◌<◌, length, Option}
-use Rattle.qap_cost.specs.Instance.{Problem}
 use Rattle.shared_space.specs.Limit.{IsWithin}
 use Rattle.space_txn.specs.Content.{content_of}
 use Rattle.qap_search.specs.Answer.{IsOpenBelow, IsStoppedAnswer, accepted_of}
 use Rattle.qap_search.specs.CutTree.{IsCutTree}
 use Rattle.qap_search.specs.Piece.{open_count}
+use Rattle.qap_search.specs.Search.{Search}
 use Rattle.qap_search.specs.declared.answer.SolveError.{SolveError}
 use Rattle.qap_search.specs.declared.answer.SolveError.TheVariants.{Unfinished, Stopped, OutOfMemory}
 use Rattle.qap_search.specs.declared.ending.Finished.{Finished}
 use Rattle.qap_search.specs.declared.run.Run.{Run}
 
--- a cut tree of the instance is left, and reports that tell its commits, at most the limit
-pub record IsEnded (I : Problem) (limit : Option ℕ) (r : Run) : Type 0 where
-  pub tree : IsCutTree I (content_of r.space) r.space.commits
+-- a cut tree of the search is left, and reports that tell its commits, at most the limit
+pub record IsEnded (S : Search) (limit : Option ℕ) (r : Run) : Type 0 where
+  pub tree : IsCutTree S (content_of r.space) r.space.commits
   pub within : IsWithin limit r.space.commits
   pub counted : accepted_of r.reports.items ≡ r.space.commits
 
@@ -25,8 +25,8 @@ pub record IsFinished (r : Run) (f : Finished) : Type 0 where
 
 -- what the run has left is no answer: so many of its nodes are open, and the limit of commits was not reached; it was reached while
 -- some were open; or memory ran out
-abbrev pub IsEndFault : Problem → Option ℕ → Run → SolveError → Type 0
-IsEndFault I limit r (Unfinished count) = IsOpenBelow limit (content_of r.space) r.space.commits count
-IsEndFault I limit r (Stopped a) =
-    (0 < open_count (content_of r.space)) × IsStoppedAnswer I (length r.reports.items) limit a
-IsEndFault I limit r OutOfMemory = Unit {0}
+abbrev pub IsEndFault : Search → Option ℕ → Run → SolveError → Type 0
+IsEndFault S limit r (Unfinished count) = IsOpenBelow limit (content_of r.space) r.space.commits count
+IsEndFault S limit r (Stopped a) =
+    (0 < open_count (content_of r.space)) × IsStoppedAnswer S (length r.reports.items) limit a
+IsEndFault S limit r OutOfMemory = Unit {0}

@@ -6,6 +6,7 @@ use Rattle.shared_space.specs.Place.{Place, place_of}
 use Rattle.qap_cost.specs.Instance.{Problem}
 use Rattle.qap_search.specs.Hand.{HandValue, is_due, new_hand}
 use Rattle.qap_search.specs.Opening.{opening_of}
+use Rattle.qap_search.specs.Search.{whole}
 use Rattle.qap_search.specs.Thinking.{Thinks}
 use Rattle.qap_search.specs.Turn.{Turn}
 use Rattle.space_txn.specs.Content.{content_of}
@@ -81,7 +82,7 @@ beginner I lease = record { hand = new_hand I lease; accepted = 0; refused = 0 }
 
 abbrev pub start_of : Problem → ℕ → ℕ → Moment
 start_of I lease workers =
-    record { posts = replicate workers (beginner I lease); place = place_of (opening_of I) workers 0 false }
+    record { posts = replicate workers (beginner I lease); place = place_of (opening_of (whole I)) workers 0 false }
 
 -- what is told of the workers at one place
 abbrev pub report_of : PostValue → Report
@@ -93,4 +94,4 @@ pub record IsRun (I : Problem) (workers : ℕ) (schedule : List Step) (r : Run) 
   pub runs : Runs I 1000 (start_of I 1000 workers) schedule end
   pub space : r.space ≡ end.place.world
   pub reports : r.reports.items ≡ map report_of end.posts
-  pub cut_tree : IsCutTree I (content_of r.space) r.space.commits
+  pub cut_tree : IsCutTree (whole I) (content_of r.space) r.space.commits

@@ -21,6 +21,7 @@ pub mod Pieces
 pub mod Putting
 pub mod Reading
 pub mod Replacement
+pub mod Search
 pub mod SearchLaw
 pub mod SearchTree
 pub mod Standing

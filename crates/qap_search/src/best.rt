@@ -21,7 +21,7 @@ ghost use Rattle.qap_search.specs.declared.stage.Stage.TheVariants.{Considered};
 use crate::assembling::permutation_of;
 use crate::decided::is_word;
 use crate::decision::{decide, decide_anew};
-use crate::putting::put_forever;
+use crate::putting::{by_entries, put_forever};
 use crate::stage::{LastThought, Outcome, Stage, Tally};
 use crate::turn::{refused, went_on};
 use qap_cost::Perm;
@@ -202,7 +202,7 @@ fn write_beside(
     let Some(tuples) = decide(alloc, &last.node, &last.thought, cost)? else {
         return Ok(None);
     };
-    put(txn, tuples)?;
+    put(alloc, txn, tuples, &last.thought.entries)?;
     Ok(Some(cost))
 }
 
@@ -225,15 +225,16 @@ fn write_anew(
     let Some(tuples) = decide_anew(alloc, &last.node, &last.thought, cost, &perm)? else {
         return Ok(None);
     };
-    put(txn, tuples)?;
+    put(alloc, txn, tuples, &last.thought.entries)?;
     Ok(Some(last.thought.cost.min(cost)))
 }
 
-/// Writes the tuples, to stay forever.
-fn put(txn: &mut Txn, tuples: Vec<Tuple>) -> Result<(), AllocError>
+/// Writes the tuples, to stay forever, those of children by the entries that are taken first behind the others.
+fn put(alloc: Global, txn: &mut Txn, tuples: Vec<Tuple>, entries: &[i128]) -> Result<(), AllocError>
     ensures same { HasMarksOf txn.old txn.new }
     ensures written { OnOk result (SameItems (added_of txn.new.writes) (added_of txn.old.writes ++ tuples.items)) }
 {
+    let tuples = by_entries(alloc, tuples, entries)?;
     match put_forever(txn, tuples) {
         Ok(()) => Ok(()),
         Err(_) => Err(AllocError),

@@ -1,10 +1,12 @@
 //! What a search comes to, by the space and the reports that it leaves.
 
-ghost use Rattle.std.specs.Prelude.{◌≡◌, ◌<◌, ℕ, IfOk, MatchResult, length};
-ghost use Rattle.qap_search.specs.Answer.{CertifiesLeast, IsAnswer, IsLeastAnswer};
+ghost use Rattle.std.specs.Prelude.{◌≡◌, ◌<◌, ◌≤ℤ◌, ℕ, IfOk, MatchResult, length};
+ghost use Rattle.qap_search.specs.Answer.{CertifiesLeast, IsAnswer, IsLeastFrom};
 ghost use Rattle.qap_search.specs.CutTree.{IsCutTree};
 ghost use Rattle.qap_search.specs.Ending.{IsEndFault, IsEnded, IsFinished};
 ghost use Rattle.qap_search.specs.Piece.{open_count};
+ghost use Rattle.qap_search.specs.Replacement.{Best};
+ghost use Rattle.qap_search.specs.Search.{from_root};
 ghost use Rattle.qap_search.specs.Stopped.{CertifiesStopped};
 
 use crate::answer::{Answer, Least, SolveError};
@@ -16,7 +18,7 @@ use crate::least::best_of;
 use crate::report::Report;
 use crate::run::Run;
 use crate::stopping::assemble_stopped_by;
-use qap_cert::{Certificate, certified_law};
+use qap_cert::Certificate;
 use qap_cost::Instance;
 use std::alloc::{AllocError, Global};
 use tuple_match::Tuple;
@@ -37,8 +39,9 @@ pub(crate) fn answer_of<K: Closers>(
     run: Run,
 ) -> Result<Answer, SolveError>
     requires ready { K.ready }
-    requires ended { IsEnded instance.now limit run }
-    ensures { MatchResult result (IsAnswer instance.now (length run.reports.items) limit) (IsEndFault instance.now limit run) }
+    requires ended { (known : Best) × IsEnded (from_root instance.now known) limit run }
+    ensures { (known : Best) → IsEnded (from_root instance.now known) limit run →
+        MatchResult result (IsAnswer instance.now (length run.reports.items) limit) (IsEndFault (from_root instance.now known) limit run) }
 {
     let Finished { tuples, reports } = finished_run(closers, alloc, instance, limit, run)?;
     let certificate = assembled(alloc, instance, tuples)?;
@@ -57,14 +60,13 @@ pub(crate) fn least_of<K: Closers>(
     run: Run,
 ) -> Result<Least, SolveError>
     requires ready { K.ready }
-    requires ended { IsEnded instance.now limit run }
-    ensures { MatchResult result (IsLeastAnswer instance.now (length run.reports.items) limit) (IsEndFault instance.now limit run) }
+    requires ended { (known : Best) × IsEnded (from_root instance.now known) limit run }
+    ensures { (known : Best) → IsEnded (from_root instance.now known) limit run →
+        MatchResult result (IsLeastFrom (from_root instance.now known) (length run.reports.items) limit)
+        (IsEndFault (from_root instance.now known) limit run) }
 {
-    certified_law();
-    // Its clause says that this is an instance.
-    let _size = instance.size();
     let Finished { tuples, reports } = finished_run(closers, alloc, instance, limit, run)?;
-    let (permutation, cost) = best_of(alloc, instance, &tuples)?;
+    let (permutation, cost) = best_of(alloc, &tuples)?;
     Ok(Least {
         permutation,
         cost,
@@ -82,8 +84,9 @@ fn finished_run<K: Closers>(
     run: Run,
 ) -> Result<Finished, SolveError>
     requires ready { K.ready }
-    requires ended { IsEnded instance.now limit run }
-    ensures { MatchResult result (IsFinished run) (IsEndFault instance.now limit run) }
+    requires ended { (known : Best) × IsEnded (from_root instance.now known) limit run }
+    ensures { (known : Best) → IsEnded (from_root instance.now known) limit run →
+        MatchResult result (IsFinished run) (IsEndFault (from_root instance.now known) limit run) }
 {
     let Run { space, reports } = run;
     let reached = limit == Some(space.commits());
@@ -110,9 +113,10 @@ fn assembled(
     instance: &Instance,
     tuples: Vec<Tuple>,
 ) -> Result<Certificate, AllocError>
-    requires tree { (commits : ℕ) × IsCutTree instance.now tuples.items commits }
+    requires tree { (known : Best) × (commits : ℕ) × IsCutTree (from_root instance.now known) tuples.items commits }
     requires none_open { open_count tuples.items ≡ 0 }
-    ensures { IfOk result (λ c. (commits : ℕ) → IsCutTree instance.now tuples.items commits → CertifiesLeast instance.now commits c) }
+    ensures { IfOk result (λ c. (known : Best) (commits : ℕ) →
+        IsCutTree (from_root instance.now known) tuples.items commits → CertifiesLeast instance.now commits c) }
 {
     certificate_law();
     let size = instance.size();
@@ -132,9 +136,10 @@ fn closed<K: Closers>(
     tuples: Vec<Tuple>,
 ) -> Result<Certificate, AllocError>
     requires ready { K.ready }
-    requires tree { (commits : ℕ) × IsCutTree instance.now tuples.items commits }
+    requires tree { (known : Best) × (commits : ℕ) × IsCutTree (from_root instance.now known) tuples.items commits }
     requires open { 0 < open_count tuples.items }
-    ensures { IfOk result (λ c. (commits : ℕ) → IsCutTree instance.now tuples.items commits → CertifiesStopped instance.now commits c) }
+    ensures { IfOk result (λ c. (known : Best) (commits : ℕ) → IsCutTree (from_root instance.now known) tuples.items commits →
+        CertifiesStopped instance.now commits c × (c.cost ≤ℤ known.cost)) }
 {
     stopped_law();
     // Its clause says that this is an instance.

@@ -8,6 +8,7 @@ ghost use Rattle.qap_search.specs.Thinking.{Thinks};
 ghost use Rattle.qap_search.specs.Turn.{Turn};
 ghost use Rattle.qap_search.specs.declared.report.Ended.TheVariants.{Done};
 
+use crate::branching::Branching;
 use crate::gate::{Gate, Kind};
 use crate::report::{Ended, Report};
 use crate::stage::{LastThought, Stage, Tally, Tools};
@@ -61,6 +62,7 @@ impl Hand {
         let tools = Tools {
             alloc,
             lease_ms,
+            branching: Branching::GreatestMatched,
             node: node_template(alloc)?,
             best: best_template(alloc)?,
         };
@@ -74,6 +76,14 @@ impl Hand {
             stage: Stage::Idle,
             tally: Tally::new(),
         })
+    }
+
+    /// The same worker, which splits nodes by this rule.
+    pub fn with_branching(mut self, branching: Branching) -> Hand
+        ensures { result ≡ self }
+    {
+        self.tools.branching = branching;
+        self
     }
 
     /// Whether a thought is due: it comes before the next step.
@@ -137,12 +147,13 @@ impl Hand {
         ensures instance { self.new.instance ≡ self.old.instance }
     {
         let considered = think_in(
-            self.tools.alloc,
+            &self.tools,
             gate,
             self.worker,
             &self.instance,
             &mut self.workspace,
             &self.stage,
+            self.tally.best,
             &mut self.last,
         )?;
         let stage = std::mem::replace(&mut self.stage, Stage::Idle);

@@ -1,8 +1,7 @@
 //! Why the tuples of a search stay a cut tree, and why those of a finished or a stopped one give a certificate.
 
-ghost use Rattle.std.specs.Prelude.{◌≡◌, ◌+◌, ◌++◌, ◌∷◌, [], ℕ, List, Contains, true};
+ghost use Rattle.std.specs.Prelude.{◌≡◌, ◌≤ℤ◌, ◌+◌, ◌++◌, ◌∷◌, [], ℕ, List, Contains, true};
 ghost use Rattle.qap_cost.specs.Instance.{Problem, IsInstance};
-ghost use Rattle.qap_cost.specs.Objective.{Permutes, cost_of};
 ghost use Rattle.qap_cost.specs.Placement.{IsPlacement, Placement, root_of};
 ghost use Rattle.qap_cert.specs.Acceptance.{IsRefused, ShowsVerdict};
 ghost use Rattle.qap_cert.specs.Certificate.{Claim, Certifies};
@@ -20,37 +19,37 @@ ghost use Rattle.qap_search.specs.CutTree.{IsCutTree};
 ghost use Rattle.qap_search.specs.Decision.{Decides};
 ghost use Rattle.qap_search.specs.Finished.{IsAssembled};
 ghost use Rattle.qap_search.specs.Found.{IsBestFound, IsOpenNode, is_best};
-ghost use Rattle.qap_search.specs.Piece.{node_tuple, best_tuple, is_open, open_count};
+ghost use Rattle.qap_search.specs.Piece.{node_tuple, is_open, open_count};
 ghost use Rattle.qap_search.specs.Replacement.{Best, IsAsGood, MayReplace, tuple_of};
+ghost use Rattle.qap_search.specs.Search.{Search, IsSearch, from_root};
 ghost use Rattle.qap_search.specs.SearchTree.{IsTreeAt, decided_count};
 ghost use Rattle.qap_search.specs.Stopped.{IsNotStopped, IsStopped};
 
-/// The open root and any permutation with its cost are a cut tree, before any commit.
+/// The open root and the permutation that is known are a cut tree, before any commit.
 pub fn opening_law()
-    ensures { (I : Problem) (p : List ℕ) → Permutes I p →
-        IsCutTree I (node_tuple (root_of I.size) ∷ best_tuple (cost_of I p) p ∷ []) 0 }
+    ensures { (S : Search) → IsSearch S → IsCutTree S (node_tuple S.root ∷ tuple_of S.known ∷ []) 0 }
 {}
 
 /// Whether tuples are a cut tree doesn't depend on their order.
 pub fn order_law()
-    ensures { (I : Problem) (content other : List (List FieldValue)) (commits : ℕ) →
-        SameItems content other → IsCutTree I content commits → IsCutTree I other commits }
+    ensures { (S : Search) (content other : List (List FieldValue)) (commits : ℕ) →
+        SameItems content other → IsCutTree S content commits → IsCutTree S other commits }
 {}
 
 /// A cut tree in which an open node gives way to a decided one is a cut tree, of one commit more.
 pub fn replacement_law()
-    ensures { (I : Problem) (gone kept added rest content : List (List FieldValue)) (commits : ℕ) →
-        MayReplace I gone kept added → SameItems content (gone ++ (kept ++ rest)) → IsCutTree I content commits →
-        IsCutTree I (added ++ (kept ++ rest)) (commits + 1) }
+    ensures { (S : Search) (gone kept added rest content : List (List FieldValue)) (commits : ℕ) →
+        MayReplace S.instance gone kept added → SameItems content (gone ++ (kept ++ rest)) → IsCutTree S content commits →
+        IsCutTree S (added ++ (kept ++ rest)) (commits + 1) }
 {}
 
 /// What a cut tree holds and an open node's template asks for is a node of the instance's size; and what the best permutation's
 /// template asks for is a permutation of the instance, with its cost.
 pub fn found_law()
-    ensures node { (I : Problem) (content : List (List FieldValue)) (commits : ℕ) (tuple : List FieldValue) → IsInstance I →
-        IsCutTree I content commits → Contains content tuple → is_open tuple ≡ true → IsOpenNode I.size tuple }
-    ensures best { (I : Problem) (content : List (List FieldValue)) (commits : ℕ) (tuple : List FieldValue) → IsInstance I →
-        IsCutTree I content commits → Contains content tuple → is_best tuple ≡ true → IsBestFound I tuple }
+    ensures node { (S : Search) (content : List (List FieldValue)) (commits : ℕ) (tuple : List FieldValue) →
+        IsCutTree S content commits → Contains content tuple → is_open tuple ≡ true → IsOpenNode S.instance.size tuple }
+    ensures best { (S : Search) (content : List (List FieldValue)) (commits : ℕ) (tuple : List FieldValue) →
+        IsCutTree S content commits → Contains content tuple → is_best tuple ≡ true → IsBestFound S.instance tuple }
 {}
 
 /// A decided node may take the place of an open one: beside the best permutation that was read, or with one that is as good in
@@ -66,41 +65,44 @@ pub fn replacing_law()
         MayReplace I gone kept added }
 {}
 
-/// A cut tree without open nodes is that of a certificate; and a certificate whose tuples are a cut tree certifies its cost,
-/// with a node for each commit.
+/// A cut tree of all permutations without open nodes is that of a certificate; and a certificate whose tuples are such a tree
+/// certifies its cost, with a node for each commit.
 pub fn certificate_law()
-    ensures there { (I : Problem) (content : List (List FieldValue)) (commits : ℕ) → IsInstance I →
-        IsCutTree I content commits → open_count content ≡ 0 → (C : Claim) × IsAssembled I.size content C }
-    ensures certifies { (I : Problem) (content : List (List FieldValue)) (commits : ℕ) (C : Claim) →
-        IsCutTree I content commits → IsAssembled I.size content C → Certifies I C }
-    ensures counted { (I : Problem) (content : List (List FieldValue)) (commits : ℕ) (C : Claim) →
-        IsCutTree I content commits → IsAssembled I.size content C → node_count C.tree ≡ commits }
+    ensures there { (I : Problem) (known : Best) (content : List (List FieldValue)) (commits : ℕ) → IsInstance I →
+        IsCutTree (from_root I known) content commits → open_count content ≡ 0 → (C : Claim) × IsAssembled I.size content C }
+    ensures certifies { (I : Problem) (known : Best) (content : List (List FieldValue)) (commits : ℕ) (C : Claim) →
+        IsCutTree (from_root I known) content commits → IsAssembled I.size content C → Certifies I C }
+    ensures counted { (I : Problem) (known : Best) (content : List (List FieldValue)) (commits : ℕ) (C : Claim) →
+        IsCutTree (from_root I known) content commits → IsAssembled I.size content C → node_count C.tree ≡ commits }
 {}
 
-/// Where a search has been driven to its end, as one worker drives it on a space of its own, the text of the certificate that
-/// `assemble` makes of its tuples, which is what `write` puts out, shows that its cost is the least one, and shows nothing else; and
-/// it has no fault. So `accept` tells of it that its cost is optimal.
+/// Where a search of all permutations has been driven to its end, as one worker drives it on a space of its own, the text of the
+/// certificate that `assemble` makes of its tuples, which is what `write` puts out, shows that its cost is the least one, and shows
+/// nothing else; and it has no fault. So `accept` tells of it that its cost is optimal.
 pub fn accepted_law()
-    ensures shown { (I : Problem) (content : List (List FieldValue)) (commits : ℕ) (C : Claim) →
-        IsCutTree I content commits → IsAssembled I.size content C → ShowsVerdict I (certificate_text Second C) (Optimal C.cost) }
-    ensures only { (I : Problem) (content : List (List FieldValue)) (commits : ℕ) (C : Claim) (v : Verdict) →
-        IsCutTree I content commits → IsAssembled I.size content C → ShowsVerdict I (certificate_text Second C) v → v ≡ Optimal C.cost }
-    ensures not_refused { (I : Problem) (content : List (List FieldValue)) (commits : ℕ) (C : Claim) (e : CertError) →
-        IsCutTree I content commits → IsAssembled I.size content C → IsRefused I (certificate_text Second C) e → ⊥ }
+    ensures shown { (I : Problem) (known : Best) (content : List (List FieldValue)) (commits : ℕ) (C : Claim) →
+        IsCutTree (from_root I known) content commits → IsAssembled I.size content C → ShowsVerdict I (certificate_text Second C) (Optimal C.cost) }
+    ensures only { (I : Problem) (known : Best) (content : List (List FieldValue)) (commits : ℕ) (C : Claim) (v : Verdict) →
+        IsCutTree (from_root I known) content commits → IsAssembled I.size content C → ShowsVerdict I (certificate_text Second C) v → v ≡ Optimal C.cost }
+    ensures not_refused { (I : Problem) (known : Best) (content : List (List FieldValue)) (commits : ℕ) (C : Claim) (e : CertError) →
+        IsCutTree (from_root I known) content commits → IsAssembled I.size content C → IsRefused I (certificate_text Second C) e → ⊥ }
 {}
 
-/// A certificate that a cut tree gives where its open nodes are closed certifies its bound; the cut tree has a decided node for
-/// each commit, and the certificate's tree one for each of these and for each open node. The leaves that were closed before close
-/// their parts for the certificate's cost. No cut tree is refused.
+/// A certificate that a cut tree of all permutations gives where its open nodes are closed certifies its bound, and costs no more
+/// than the permutation that was known; the cut tree has a decided node for each commit, and the certificate's tree one for each of
+/// these and for each open node. The leaves that were closed before close their parts for the certificate's cost. No cut tree is
+/// refused.
 pub fn stopped_law()
-    ensures certifies { (I : Problem) (content : List (List FieldValue)) (commits : ℕ) (C : Claim) →
-        IsCutTree I content commits → IsStopped I content C → Certifies I C }
-    ensures closed_before { (I : Problem) (content : List (List FieldValue)) (commits : ℕ) (C : Claim) →
-        IsCutTree I content commits → (s : IsStopped I content C) → IsTreeAt (Closes I C.cost) (root_of I.size) s.tree }
-    ensures counted { (I : Problem) (content : List (List FieldValue)) (commits : ℕ) (C : Claim) →
-        IsCutTree I content commits → (s : IsStopped I content C) →
+    ensures certifies { (I : Problem) (known : Best) (content : List (List FieldValue)) (commits : ℕ) (C : Claim) →
+        IsCutTree (from_root I known) content commits → IsStopped I content C → Certifies I C }
+    ensures no_dearer { (I : Problem) (known : Best) (content : List (List FieldValue)) (commits : ℕ) (C : Claim) →
+        IsCutTree (from_root I known) content commits → IsStopped I content C → C.cost ≤ℤ known.cost }
+    ensures closed_before { (I : Problem) (known : Best) (content : List (List FieldValue)) (commits : ℕ) (C : Claim) →
+        IsCutTree (from_root I known) content commits → (s : IsStopped I content C) → IsTreeAt (Closes I C.cost) (root_of I.size) s.tree }
+    ensures counted { (I : Problem) (known : Best) (content : List (List FieldValue)) (commits : ℕ) (C : Claim) →
+        IsCutTree (from_root I known) content commits → (s : IsStopped I content C) →
         (decided_count s.tree ≡ commits) × (undecided_count s.tree ≡ open_count content)
         × (node_count C.tree ≡ commits + open_count content) }
-    ensures not_refused { (I : Problem) (content : List (List FieldValue)) (commits : ℕ) → IsInstance I →
-        IsCutTree I content commits → IsNotStopped I content → ⊥ }
+    ensures not_refused { (I : Problem) (known : Best) (content : List (List FieldValue)) (commits : ℕ) → IsInstance I →
+        IsCutTree (from_root I known) content commits → IsNotStopped I content → ⊥ }
 {}

@@ -3,25 +3,21 @@
 ghost use Rattle.std.specs.Prelude.{◌≡◌, ◌≢◌, All, Contains, IfOk, List, MatchOption, ℕ, ℤ};
 ghost use Rattle.qap_search.specs.CutTree.{IsCutTree};
 ghost use Rattle.qap_search.specs.Decided.{best_of};
+ghost use Rattle.qap_search.specs.Search.{Search};
 ghost use Rattle.tuple_match.specs.FieldValue.{FieldValue};
 
 use crate::assembling::permutation_of;
 use crate::best::best_fields;
-use qap_cost::{Instance, Perm};
+use qap_cost::Perm;
 use std::alloc::{AllocError, Global};
 use tuple_match::Tuple;
 
 /// The best permutation of tuples that are a cut tree, and its cost.
-pub(crate) fn best_of(
-    alloc: Global,
-    instance: &Instance,
-    tuples: &[Tuple],
-) -> Result<(Perm, i128), AllocError>
-    requires { (commits : ℕ) × IsCutTree instance.now tuples.now commits }
-    ensures { IfOk result (λ best. (commits : ℕ) (tree : IsCutTree instance.now tuples.now commits) → (tree.permutation ≡ best.0) × (tree.cost ≡ best.1)) }
+pub(crate) fn best_of(alloc: Global, tuples: &[Tuple]) -> Result<(Perm, i128), AllocError>
+    requires { (S : Search) × (commits : ℕ) × IsCutTree S tuples.now commits }
+    ensures { IfOk result (λ best. (S : Search) (commits : ℕ) (tree : IsCutTree S tuples.now commits) →
+        (tree.permutation ≡ best.0) × (tree.cost ≡ best.1)) }
 {
-    // Its clause says that this is an instance.
-    let _size = instance.size();
     let Some((cost, locations)) = first_best(tuples) else {
         unreachable!()
     };

@@ -4,6 +4,7 @@
 mod answer;
 mod assembling;
 mod best;
+mod branching;
 mod building;
 mod clock;
 mod closers;
@@ -20,6 +21,7 @@ mod least;
 mod opening;
 mod ordering;
 mod pieces;
+mod plan;
 mod post;
 mod putting;
 mod reading;
@@ -40,6 +42,7 @@ mod writing;
 
 pub use answer::{Answer, Least, SolveError};
 pub use assembling::assemble;
+pub use branching::Branching;
 pub use clock::Clock;
 pub use decision::{decide, decide_anew, decide_beside};
 pub use error::AssembleError;
@@ -49,7 +52,8 @@ pub use law::{
     accepted_law, certificate_law, found_law, opening_law, order_law, replacement_law,
     replacing_law, stopped_law,
 };
-pub use opening::opening_space;
+pub use opening::{opening_from, opening_space};
+pub use plan::Plan;
 pub use putting::put_forever;
 pub use reading::read_node;
 pub use report::{Ended, Report};
@@ -59,5 +63,5 @@ pub use solving::solve_alone;
 pub use stopping::assemble_stopped;
 pub use templates::{best_template, node_template};
 pub use thought::Thought;
-pub use workers::{solve, solve_least};
+pub use workers::{solve, solve_from, solve_least};
 pub use writing::tuple_of_best;

@@ -3,46 +3,51 @@
 ghost use Rattle.std.specs.Prelude.{◌≡◌, ◌<◌, ◌≤◌, ℕ, IfOk, OnOk};
 ghost use Rattle.std.specs.List.{range_with_len};
 ghost use Rattle.qap_cost.specs.Objective.{Permutes};
-ghost use Rattle.qap_cost.specs.Placement.{root_of};
 ghost use Rattle.tuple_space.specs.Space.{most, put};
 ghost use Rattle.space_txn.specs.World.{with_space};
 ghost use Rattle.tuple_space.specs.declared.lease.Lease.TheVariants.{Forever};
 ghost use Rattle.qap_search.specs.Opening.{IsOpening};
-ghost use Rattle.qap_search.specs.Piece.{node_tuple};
+ghost use Rattle.qap_search.specs.Search.{best_with, search_of, whole};
 
 use crate::law::opening_law;
-use crate::writing::{tuple_of_best, word_field};
-use qap_cost::{Instance, Perm, cost};
+use crate::writing::{tuple_of_best, tuple_of_node};
+use qap_cost::{Instance, Partial, Perm, cost};
 use space_txn::TxnSpace;
 use std::alloc::{AllocError, Global};
-use tuple_match::{Field, Tuple};
+use tuple_match::Tuple;
 use tuple_space::{Lease, SpaceError};
 
-/// A space that holds the open root, and the permutation that sends each facility to the location of its own number as the
-/// best one; both forever.
+/// A space that holds the open root of all permutations, and the permutation that sends each facility to the location of its own
+/// number as the best one; both forever.
 pub fn opening_space(alloc: Global, instance: &Instance) -> Result<TxnSpace, AllocError>
-    ensures { IfOk result (IsOpening instance.now) }
+    ensures { IfOk result (IsOpening (whole instance.now)) }
+{
+    let root = Partial::root(alloc, instance.size())?;
+    let start = identity(alloc, instance)?;
+    opening_from(alloc, instance, &root, &start)
+}
+
+/// A space that holds the root as an open node, and the permutation to start from as the best one; both forever.
+pub fn opening_from(
+    alloc: Global,
+    instance: &Instance,
+    root: &Partial,
+    start: &Perm,
+) -> Result<TxnSpace, AllocError>
+    requires same_size { root.now.size ≡ instance.now.size }
+    requires permutes { Permutes instance.now start.now }
+    ensures { IfOk result (IsOpening (search_of instance.now root.now (best_with instance.now start.now))) }
 {
     opening_law();
-    let permutation = identity(alloc, instance)?;
-    let best = tuple_of_best(alloc, cost(instance, &permutation), &permutation)?;
+    let best = tuple_of_best(alloc, cost(instance, start), start)?;
     let mut space = TxnSpace::new(alloc);
-    put_forever(&mut space, root_tuple(alloc)?)?;
+    put_forever(&mut space, tuple_of_node(alloc, root)?)?;
     put_forever(&mut space, best)?;
     Ok(space)
 }
 
-/// The tuple of the open root, whose list is empty.
-fn root_tuple(alloc: Global) -> Result<Tuple, AllocError>
-    ensures { IfOk result (λ t. (n : ℕ) → t ≡ node_tuple (root_of n)) }
-{
-    let name = word_field(alloc, "node")?;
-    let fields = vec![in alloc; name, Field::List(Vec::new(alloc))]?;
-    Ok(Tuple::new(fields).unwrap())
-}
-
 /// The permutation of the instance that sends each facility to the location of its own number.
-fn identity(alloc: Global, instance: &Instance) -> Result<Perm, AllocError>
+pub(crate) fn identity(alloc: Global, instance: &Instance) -> Result<Perm, AllocError>
     ensures value { IfOk result (λ p. p ≡ range_with_len 0 instance.now.size) }
     ensures permutes { IfOk result (Permutes instance.now) }
 {

@@ -6,7 +6,8 @@ ghost use Rattle.qap_search.specs.Hand.{is_due};
 ghost use Rattle.qap_search.specs.Interleaving.{IsRun, Moment, Moves, PostValue, TurnOf, beginner, report_of, without_worker};
 ghost use Rattle.shared_space.specs.Place.{Place};
 ghost use Rattle.qap_search.specs.Opening.{IsOpening};
-ghost use Rattle.qap_search.specs.SearchLaw.{IsSearchLaw};
+ghost use Rattle.qap_search.specs.Search.{whole};
+ghost use Rattle.qap_search.specs.SearchLaw.{IsLawOf, IsSearchLaw};
 
 use crate::opening::opening_space;
 use crate::post::Post;
@@ -66,8 +67,8 @@ fn follow<L: Law>(
     requires parts { blank.parts ≡ L.parts }
     requires one_each { blank.parts ≡ workers }
     requires few { workers ≤ 64 }
-    requires law { IsSearchLaw instance.now L.lawful L.allowed }
-    requires opening { IsOpening instance.now space }
+    requires law { IsLawOf (whole instance.now) L.lawful L.allowed }
+    requires opening { IsOpening (whole instance.now) space }
     ensures { IfOk result (IsRun instance.now workers steps.now) }
 {
     let rows = shared_rows(alloc, instance)?;

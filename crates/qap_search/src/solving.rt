@@ -5,7 +5,8 @@ ghost use Rattle.std.specs.Arc.{arc_value};
 ghost use Rattle.qap_search.specs.Answer.{IsAnswer, IsSolveFault};
 ghost use Rattle.qap_search.specs.Ending.{IsEnded};
 ghost use Rattle.qap_search.specs.Opening.{IsOpening};
-ghost use Rattle.qap_search.specs.SearchLaw.{IsSearchLaw};
+ghost use Rattle.qap_search.specs.Search.{Search, whole};
+ghost use Rattle.qap_search.specs.SearchLaw.{IsLawOf, IsSearchLaw};
 ghost use Rattle.space_txn.specs.Content.{content_of};
 
 use crate::answer::{Answer, SolveError};
@@ -56,9 +57,9 @@ fn search<L: Law, R: Wait>(
     requires name { blank.name ≡ L.name }
     requires parts { blank.parts ≡ L.parts }
     requires one { blank.parts ≡ 1 }
-    requires law { IsSearchLaw instance.now L.lawful L.allowed }
-    requires opening { IsOpening instance.now space }
-    ensures ended { IfOk result (IsEnded instance.now None) }
+    requires law { IsLawOf (whole instance.now) L.lawful L.allowed }
+    requires opening { IsOpening (whole instance.now) space }
+    ensures ended { IfOk result (IsEnded (whole instance.now) None) }
     ensures one { IfOk result (λ run. length run.reports.items ≡ 1) }
 {
     let hand = Hand::new(alloc, 0, shared_rows(alloc, instance)?, lease_ms)?;
@@ -99,7 +100,7 @@ fn worked<L: Law, R: Wait>(
     requires fresh { hand.accepted ≡ 0 }
     requires one { L.parts ≡ 1 }
     requires share { shares.items ≡ 0 ∷ [] }
-    ensures ended { IfOk result (IsEnded hand.instance None) }
+    ensures ended { (S : Search) → IsLawOf S L.lawful L.allowed → IfOk result (IsEnded S None) }
     ensures one { IfOk result (λ run. length run.reports.items ≡ 1) }
 {
     let ended = work(rt, &mut hand, &mut room, &mut shares[0], nodes);

@@ -3,6 +3,7 @@
 ghost use Rattle.std.specs.Prelude.{◌≡◌, ◌+◌, ◌<◌, ◌-◌, ◌^◌, None, Some};
 ghost use Rattle.qap_search.specs.Turn.{one_more};
 
+use crate::branching::Branching;
 use crate::thought::Thought;
 use qap_cost::Partial;
 use space_txn::Txn;
@@ -40,6 +41,8 @@ pub(crate) struct Tools {
     pub(crate) alloc: Global,
     /// How many milliseconds its transactions ask for.
     pub(crate) lease_ms: u64,
+    /// By which rule nodes are split.
+    pub(crate) branching: Branching,
     /// Asks for any open node.
     pub(crate) node: Template,
     /// Asks for the best permutation.

@@ -10,7 +10,7 @@ ghost use Rattle.qap_search.specs.declared.stage.Stage.TheVariants.{Taken};
 use crate::decided::is_word;
 use crate::gate::Gate;
 use crate::reading::read_node;
-use crate::stage::{LastThought, Stage};
+use crate::stage::{LastThought, Stage, Tools};
 use crate::thought::Thought;
 use gilmore_lawler::{RankedInstance, Workspace};
 use qap_cost::Partial;
@@ -19,14 +19,15 @@ use std::alloc::{AllocError, Global};
 use tuple_match::{Field, Tuple};
 use tuple_space::EntryId;
 
-/// Thinks on the node that was taken; `false` where its entry's lease ends. At an error nothing changed.
+/// Thinks on the node that was taken, where this best cost is known; `false` where its entry's lease ends. At an error nothing changed.
 pub(crate) fn think_in<G: Gate>(
-    alloc: Global,
+    tools: &Tools,
     gate: &G,
     worker: u16,
     instance: &RankedInstance,
     workspace: &mut Workspace,
     stage: &Stage,
+    best: Option<i128>,
     last: &mut Option<LastThought>,
 ) -> Result<bool, AllocError>
     ensures { Considers instance.now stage.now last.old result last.new }
@@ -35,21 +36,22 @@ pub(crate) fn think_in<G: Gate>(
         return Ok(false);
     };
     let size = instance.instance().size();
-    let Some(node) = node_at(alloc, size, txn, *id)? else {
+    let Some(node) = node_at(tools.alloc, size, txn, *id)? else {
         return Ok(false);
     };
-    think_on(alloc, gate, worker, instance, workspace, node, last)?;
+    think_on(tools, gate, worker, instance, workspace, node, best, last)?;
     Ok(true)
 }
 
 /// Thinks on the node, where that isn't the one of the last thought. At an error nothing changed.
 fn think_on<G: Gate>(
-    alloc: Global,
+    tools: &Tools,
     gate: &G,
     worker: u16,
     instance: &RankedInstance,
     workspace: &mut Workspace,
     node: Partial,
+    best: Option<i128>,
     last: &mut Option<LastThought>,
 ) -> Result<(), AllocError>
     requires size { node.size ≡ instance.now.size }
@@ -62,7 +64,14 @@ fn think_on<G: Gate>(
     }
     let matrix = instance.reduced(workspace, &node)?;
     gate.thinking(worker);
-    let thought = Thought::new(alloc, instance.instance(), &node, &matrix)?;
+    let thought = Thought::by(
+        tools.alloc,
+        tools.branching,
+        instance.instance(),
+        &node,
+        &matrix,
+        best,
+    )?;
     *last = Some(LastThought { node, thought });
     Ok(())
 }

@@ -2,29 +2,33 @@
 
 ghost use Rattle.std.specs.Prelude.{◌≡◌, ◌<◌, ◌≤◌, [], All, IfOk, MatchResult, ℕ, length, replicate, sum, vec_capacity, vec_len};
 ghost use Rattle.std.specs.List.{sum_by};
-ghost use Rattle.qap_cost.specs.Instance.{Problem};
-ghost use Rattle.qap_search.specs.Answer.{IsAnswer, IsLeastAnswer, IsSolveFault};
+ghost use Rattle.qap_cost.specs.Objective.{Permutes};
+ghost use Rattle.qap_cost.specs.Placement.{root_of};
+ghost use Rattle.qap_search.specs.Answer.{IsAnswer, IsLeastAnswer, IsSearchFault, IsSolveFault};
 ghost use Rattle.qap_search.specs.Ending.{IsEnded};
 ghost use Rattle.qap_search.specs.Opening.{IsOpening};
-ghost use Rattle.qap_search.specs.SearchLaw.{IsSearchLaw};
+ghost use Rattle.qap_search.specs.Search.{Search, best_with, from_root, identity_of, search_of};
+ghost use Rattle.qap_search.specs.SearchLaw.{IsLawOf, IsSearchLaw};
 ghost use Rattle.space_txn.specs.Content.{content_of};
 ghost use Rattle.std.specs.Arc.{arc_value};
 
 use crate::answer::{Answer, Least, SolveError};
+use crate::branching::Branching;
 use crate::clock::Clock;
 use crate::closers::Many;
 use crate::ending::{answer_of, least_of};
 use crate::gate::Gate;
 use crate::hand::Hand;
-use crate::opening::opening_space;
+use crate::opening::{identity, opening_from};
 use crate::ordering::turned_round;
+use crate::plan::Plan;
 use crate::report::Report;
 use crate::run::Run;
 use crate::seat::{Seat, Workplace};
 use crate::solving::shared_rows;
 use crate::templates::{best_template, node_template};
 use gilmore_lawler::RankedInstance;
-use qap_cost::Instance;
+use qap_cost::{Instance, Partial, Perm};
 use shared_space::{Law, Share, Shared};
 use space_txn::TxnSpace;
 use std::alloc::{AllocError, Global};
@@ -65,8 +69,16 @@ where
     requires few { workers ≤ 64 }
     ensures { MatchResult result (IsAnswer instance.now workers limit) (IsSolveFault instance.now workers limit) }
 {
-    let run = run_of(rt, alloc, instance, workers, lease_ms, limit, clock, gate)?;
-    answer_of(&Many::new(rt, workers), alloc, instance, limit, run)
+    let Beginning { root, start } = all_permutations(alloc, instance)?;
+    let plan = Plan {
+        workers,
+        lease_ms,
+        limit,
+        root: &root,
+        start: &start,
+        branching: Branching::GreatestMatched,
+    };
+    solve_from(rt, alloc, instance, &plan, clock, gate)
 }
 
 /// A permutation of an instance's least cost, by the same search: for whoever wants no certificate, which isn't put together
@@ -89,18 +101,75 @@ where
     requires few { workers ≤ 64 }
     ensures { MatchResult result (IsLeastAnswer instance.now workers limit) (IsSolveFault instance.now workers limit) }
 {
-    let run = run_of(rt, alloc, instance, workers, lease_ms, limit, clock, gate)?;
+    let Beginning { root, start } = all_permutations(alloc, instance)?;
+    let plan = Plan {
+        workers,
+        lease_ms,
+        limit,
+        root: &root,
+        start: &start,
+        branching: Branching::GreatestMatched,
+    };
+    let run = run_of(rt, alloc, instance, &plan, clock, gate)?;
     least_of(&Many::new(rt, workers), alloc, instance, limit, run)
 }
 
-/// The run of so many workers.
+/// The certificate of an instance's least cost, as `solve` answers it, by a search that goes as the plan says, over all
+/// permutations. That the plan's start is one of the instance is a condition.
+pub fn solve_from<R, C, G>(
+    rt: &R,
+    alloc: Global,
+    instance: &Instance,
+    plan: &Plan<'_>,
+    clock: &C,
+    gate: &G,
+) -> Result<Answer, SolveError>
+where
+    R: Threads + Wait + time::Clock + Sync,
+    C: Clock,
+    G: Gate + Sync,
+    requires some { 0 < plan.now.workers }
+    requires few { plan.now.workers ≤ 64 }
+    requires start { Permutes instance.now plan.now.start.now }
+    requires whole { plan.now.root.now ≡ root_of instance.now.size }
+    ensures { MatchResult result (IsAnswer instance.now plan.now.workers plan.now.limit)
+        (IsSearchFault (from_root instance.now (best_with instance.now plan.now.start.now)) plan.now.workers plan.now.limit) }
+{
+    let run = run_of(rt, alloc, instance, plan, clock, gate)?;
+    answer_of(
+        &Many::new(rt, plan.workers),
+        alloc,
+        instance,
+        plan.limit,
+        run,
+    )
+}
+
+/// What a search of all permutations begins with.
+#[derive(Drop)]
+struct Beginning {
+    root: Partial,
+    start: Perm,
+}
+
+/// The empty node, and the permutation that sends each facility to the location of its own number.
+fn all_permutations(alloc: Global, instance: &Instance) -> Result<Beginning, AllocError>
+    ensures root { IfOk result (λ begun. begun.root ≡ root_of instance.now.size) }
+    ensures start { IfOk result (λ begun. begun.start ≡ identity_of instance.now) }
+    ensures permutes { IfOk result (λ begun. Permutes instance.now begun.start) }
+{
+    Ok(Beginning {
+        root: Partial::root(alloc, instance.size())?,
+        start: identity(alloc, instance)?,
+    })
+}
+
+/// The run that goes as the plan says.
 fn run_of<R, C, G>(
     rt: &R,
     alloc: Global,
     instance: &Instance,
-    workers: u16,
-    lease_ms: u64,
-    limit: Option<u64>,
+    plan: &Plan<'_>,
     clock: &C,
     gate: &G,
 ) -> Result<Run, AllocError>
@@ -108,16 +177,16 @@ where
     R: Threads + Wait + time::Clock + Sync,
     C: Clock,
     G: Gate + Sync,
-    requires some { 0 < workers }
-    requires few { workers ≤ 64 }
-    ensures ended { IfOk result (IsEnded instance.now limit) }
-    ensures one_each { IfOk result (λ run. length run.reports.items ≡ workers) }
+    requires some { 0 < plan.now.workers }
+    requires few { plan.now.workers ≤ 64 }
+    requires start { Permutes instance.now plan.now.start.now }
+    requires same_size { plan.now.root.now.size ≡ instance.now.size }
+    ensures ended { IfOk result (IsEnded (search_of instance.now plan.now.root.now (best_with instance.now plan.now.start.now)) plan.now.limit) }
+    ensures one_each { IfOk result (λ run. length run.reports.items ≡ plan.now.workers) }
 {
-    let space = opening_space(alloc, instance)?;
-    let blank = Blank::new(u64::from(workers));
-    search::<Brand, R, C, G>(
-        rt, alloc, instance, space, blank, workers, lease_ms, limit, clock, gate,
-    )
+    let space = opening_from(alloc, instance, plan.root, plan.start)?;
+    let blank = Blank::new(u64::from(plan.workers));
+    search::<Brand, R, C, G>(rt, alloc, instance, space, blank, plan, clock, gate)
 }
 
 /// The same, on a space that stands at the opening, under a law that is the search's.
@@ -127,9 +196,7 @@ fn search<L, R, C, G>(
     instance: &Instance,
     space: TxnSpace,
     blank: Blank,
-    workers: u16,
-    lease_ms: u64,
-    limit: Option<u64>,
+    plan: &Plan<'_>,
     clock: &C,
     gate: &G,
 ) -> Result<Run, AllocError>
@@ -138,21 +205,21 @@ where
     R: Threads + Wait + time::Clock + Sync,
     C: Clock,
     G: Gate + Sync,
-    requires some { 0 < workers }
+    requires some { 0 < plan.now.workers }
     requires name { blank.name ≡ L.name }
     requires parts { blank.parts ≡ L.parts }
-    requires one_each { blank.parts ≡ workers }
-    requires few { workers ≤ 64 }
-    requires law { IsSearchLaw instance.now L.lawful L.allowed }
-    requires limit { L.limit ≡ limit }
-    requires opening { IsOpening instance.now space }
-    ensures ended { IfOk result (IsEnded instance.now limit) }
-    ensures one_each { IfOk result (λ run. length run.reports.items ≡ workers) }
+    requires one_each { blank.parts ≡ plan.now.workers }
+    requires few { plan.now.workers ≤ 64 }
+    requires law { IsLawOf (search_of instance.now plan.now.root.now (best_with instance.now plan.now.start.now)) L.lawful L.allowed }
+    requires limit { L.limit ≡ plan.now.limit }
+    requires opening { IsOpening (search_of instance.now plan.now.root.now (best_with instance.now plan.now.start.now)) space }
+    ensures ended { IfOk result (IsEnded (search_of instance.now plan.now.root.now (best_with instance.now plan.now.start.now)) plan.now.limit) }
+    ensures one_each { IfOk result (λ run. length run.reports.items ≡ plan.now.workers) }
 {
-    let count = usize::from(workers);
+    let count = usize::from(plan.workers);
     let room = Left::with_capacity(alloc, count)?;
     let templates = Templates::new(alloc)?;
-    let staffed = staff::<L>(alloc, instance, space, blank, count, lease_ms, limit)?;
+    let staffed = staff::<L>(alloc, instance, space, blank, plan)?;
     Ok(run_out(rt, staffed, room, &templates, clock, gate))
 }
 
@@ -179,29 +246,28 @@ struct Staffed<L: Law> {
     seats: Vec<Mutex<Seat<L>>>,
 }
 
-/// The space under its lock and its limit, with so many workers that haven't begun.
+/// The space under its lock and its limit, with the plan's workers, who haven't begun.
 fn staff<L: Law>(
     alloc: Global,
     instance: &Instance,
     space: TxnSpace,
     blank: Blank,
-    workers: usize,
-    lease_ms: u64,
-    limit: Option<u64>,
+    plan: &Plan<'_>,
 ) -> Result<Staffed<L>, AllocError>
     requires name { blank.name ≡ L.name }
     requires parts { blank.parts ≡ L.parts }
-    requires one_each { workers ≡ L.parts }
-    requires few { workers ≤ 64 }
+    requires one_each { plan.now.workers ≡ L.parts }
+    requires few { plan.now.workers ≤ 64 }
     requires law { IsSearchLaw instance.now L.lawful L.allowed }
-    requires limit { L.limit ≡ limit }
+    requires limit { L.limit ≡ plan.now.limit }
     requires lawful { L.lawful (content_of space) space.commits }
     requires fresh { space.commits ≡ 0 }
-    ensures { IfOk result (λ made. vec_len made.seats ≡ workers) }
+    ensures { IfOk result (λ made. vec_len made.seats ≡ plan.now.workers) }
 {
     let ranked = shared_rows(alloc, instance)?;
-    let (shared, shares) = shared_under::<L>(alloc, blank, space, workers, limit)?;
-    let seats = seats_for(alloc, &ranked, lease_ms, shares)?;
+    let workers = usize::from(plan.workers);
+    let (shared, shares) = shared_under::<L>(alloc, blank, space, workers, plan.limit)?;
+    let seats = seats_for(alloc, &ranked, plan, shares)?;
     Ok(Staffed { shared, seats })
 }
 
@@ -225,7 +291,7 @@ where
     requires no_reports { room.reports.items ≡ [] }
     requires room_for_shares { vec_len staffed.seats ≤ vec_capacity room.shares }
     requires room_for_reports { vec_len staffed.seats ≤ vec_capacity room.reports }
-    ensures ended { (I : Problem) → IsSearchLaw I L.lawful L.allowed → IsEnded I L.limit result }
+    ensures ended { (S : Search) → IsLawOf S L.lawful L.allowed → IsEnded S L.limit result }
     ensures reports { length result.reports.items ≡ vec_len staffed.seats }
 {
     let Staffed { shared, seats } = staffed;
@@ -272,7 +338,7 @@ fn shared_under<L: Law>(
 fn seats_for<L: Law>(
     alloc: Global,
     ranked: &Arc<RankedInstance>,
-    lease_ms: u64,
+    plan: &Plan<'_>,
     shares: Vec<Share<L>>,
 ) -> Result<Vec<Mutex<Seat<L>>>, AllocError>
     requires law { IsSearchLaw (arc_value ranked.now) L.lawful L.allowed }
@@ -284,7 +350,8 @@ fn seats_for<L: Law>(
     let mut rest = shares;
     let mut worker = 0;
     while let Some(share) = rest.pop() {
-        let hand = Hand::new(alloc, worker, ranked.clone()?, lease_ms)?;
+        let hand = Hand::new(alloc, worker, ranked.clone()?, plan.lease_ms)?;
+        let hand = hand.with_branching(plan.branching);
         seats.push(Mutex::new(Seat::new(worker, hand, share)))?;
         worker += 1;
     }

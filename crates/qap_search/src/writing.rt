@@ -57,6 +57,17 @@ fn tuple_of_split(alloc: Global, node: &Partial, facility: u16) -> Result<Tuple,
     Ok(Tuple::new(fields).unwrap())
 }
 
+/// The tuple of an open node.
+pub(crate) fn tuple_of_node(alloc: Global, node: &Partial) -> Result<Tuple, AllocError>
+    ensures value { IfOk result (λ t. t ≡ node_tuple node.now) }
+    ensures placement { IfOk result (λ _. IsPlacement node.now) }
+{
+    let name = word_field(alloc, "node")?;
+    let list = Field::List(node_numbers(alloc, node, 0)?);
+    let fields = vec![in alloc; name, list]?;
+    shared(alloc, Tuple::new(fields).unwrap())
+}
+
 /// The tuple of the open node that puts the facility at the location too.
 fn tuple_of_child(
     alloc: Global,

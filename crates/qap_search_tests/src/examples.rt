@@ -5,7 +5,8 @@ ghost use Rattle.std.specs.Prelude.{◌≡◌, ◌≤◌, IfOk};
 ghost use Rattle.std.specs.Arc.{arc_value};
 ghost use Rattle.qap_search.specs.Decision.{IsOn};
 ghost use Rattle.qap_search.specs.Opening.{IsOpening};
-ghost use Rattle.qap_search.specs.SearchLaw.{IsSearchLaw};
+ghost use Rattle.qap_search.specs.Search.{whole};
+ghost use Rattle.qap_search.specs.SearchLaw.{IsLawOf};
 
 use gilmore_lawler::RankedInstance;
 use qap_cert::{Certificate, check};
@@ -96,8 +97,8 @@ pub(crate) fn room_for_one<L: Law>(
     requires name { blank.name ≡ L.name }
     requires parts { blank.parts ≡ L.parts }
     requires one { blank.parts ≡ 1 }
-    requires law { IsSearchLaw instance.now L.lawful L.allowed }
-    requires opening { IsOpening instance.now space }
+    requires law { IsLawOf (whole instance.now) L.lawful L.allowed }
+    requires opening { IsOpening (whole instance.now) space }
 {
     let (room, mut shares) = Alone::<L>::new(alloc, blank, space, 1).map_err(|back| back.0)?;
     match shares.pop() {

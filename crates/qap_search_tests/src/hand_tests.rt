@@ -2,7 +2,8 @@
 
 ghost use Rattle.std.specs.Prelude.{◌≡◌, ◌≤◌};
 ghost use Rattle.qap_search.specs.Opening.{IsOpening};
-ghost use Rattle.qap_search.specs.SearchLaw.{IsSearchLaw};
+ghost use Rattle.qap_search.specs.Search.{whole};
+ghost use Rattle.qap_search.specs.SearchLaw.{IsLawOf, IsSearchLaw};
 
 use crate::examples::{FIRST, room_for_one, shared_rows, three, told};
 use qap_cost::Instance;
@@ -88,8 +89,8 @@ fn one_worker<L: Law>(
     requires name { blank.name ≡ L.name }
     requires parts { blank.parts ≡ L.parts }
     requires one { blank.parts ≡ 1 }
-    requires law { IsSearchLaw instance.now L.lawful L.allowed }
-    requires opening { IsOpening instance.now space }
+    requires law { IsLawOf (whole instance.now) L.lawful L.allowed }
+    requires opening { IsOpening (whole instance.now) space }
 {
     let mut hand = Hand::new(alloc, 0, shared_rows(alloc, instance)?, LEASE)?;
     let (mut room, mut share) = room_for_one::<L>(alloc, instance, space, blank)?;
@@ -147,8 +148,8 @@ fn two_workers<L: Law>(
     requires name { blank.name ≡ L.name }
     requires parts { blank.parts ≡ L.parts }
     requires two { blank.parts ≡ 2 }
-    requires law { IsSearchLaw instance.now L.lawful L.allowed }
-    requires opening { IsOpening instance.now space }
+    requires law { IsLawOf (whole instance.now) L.lawful L.allowed }
+    requires opening { IsOpening (whole instance.now) space }
 {
     let mut late = Hand::new(alloc, 0, shared_rows(alloc, instance)?, LEASE)?;
     let mut other = Hand::new(alloc, 1, shared_rows(alloc, instance)?, LEASE)?;

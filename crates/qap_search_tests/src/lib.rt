@@ -6,6 +6,8 @@ mod examples;
 #[cfg(test)]
 mod hand_tests;
 #[cfg(test)]
+mod plan_tests;
+#[cfg(test)]
 mod schedule_tests;
 #[cfg(test)]
 mod solving_tests;

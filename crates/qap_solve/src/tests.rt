@@ -181,6 +181,14 @@ fn a_split_is_told(rt: HostRuntime) -> Result<(), Fail> {
     Ok(())
 }
 
+// All entries of the root's reduced matrix are equal, so that it is split on the lowest facility.
+#[test]
+fn an_even_split_is_on_the_lowest_facility(rt: HostRuntime) {
+    let run = run(&rt, rt.alloc(), EVEN, &PROVING);
+    let mut lines = run.output.split(|byte| *byte == b'\n');
+    assert_eq!(rt; lines.nth(4), Some(b"s 1".as_slice()));
+}
+
 // The one node of this search is its root, which is closed by the commit that reaches the limit.
 #[test]
 fn a_limit_that_is_just_enough(rt: HostRuntime) {

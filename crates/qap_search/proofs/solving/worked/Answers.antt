@@ -6,11 +6,11 @@ use Rattle.qap_search.specs.CutTree.{IsCutTree}
 use Rattle.qap_search.proofs.solving.worked.Goals as goal
 
 pub returns-clause-ended : goal.returns-clause-ended
-returns-clause-ended g c =
+returns-clause-ended g c = λ S law.
     let left = c.into_inner-space.ensures in
     let counted : c.report.result.accepted ≡ c.into_inner-space.result.0.commits = search rules in
     IfOk-weaker c.only_run.result _ _ (λ run is. record {
-      tree = subst (λ (w : World). IsCutTree c.args.hand.instance (content_of w) w.commits) (sym is.0) (c.requires.law.is_cut_tree _ _ left.lawful);
+      tree = subst (λ (w : World). IsCutTree S (content_of w) w.commits) (sym is.0) (law.is_cut_tree _ _ left.lawful);
       within = tt;
       counted = search rules;
     }) c.only_run.ensures

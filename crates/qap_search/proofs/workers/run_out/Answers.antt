@@ -2,7 +2,7 @@ use Rattle.std.proofs.Common.{◌∙◌, sym}
 use Rattle.qap_search.proofs.workers.run_out.Goals as goal
 
 pub returns-clause-ended : goal.returns-clause-ended
-returns-clause-ended g c = λ I law.
+returns-clause-ended g c = λ S law.
     let left = c.into_inner-space.ensures in
     record {
       tree = law.is_cut_tree _ _ left.lawful;
