@@ -204,7 +204,7 @@ impl Space {
     pub fn entry(&self, id: EntryId) -> Option<&Entry>
         ensures { option_copied result ≡ find (λ e. e.number == id) self.now.entries }
     {
-        entry_of(&self.entries, id.number())
+        self.entry_numbered(id.number())
     }
 
     /// The entries, in rising order of number.
