@@ -9,7 +9,7 @@ use Rattle.tuple_space.specs.Entry.{is_held_by}
 use Rattle.tuple_space.specs.Rows.{IsRising, changed}
 use Rattle.tuple_space.specs.Held.{AreRising, HasHeld, is_among, numbers_by}
 use Rattle.tuple_space.specs.Space.{held_by}
-use Rattle.tuple_space.proofs.HeldLemmas.{numbers_mine, numbers_other}
+use Rattle.tuple_space.proofs.HeldLemmas.{held_each, numbers_mine, numbers_other}
 use Rattle.tuple_space.proofs.RowLemmas.{HasNone, changed_none, find_none, rising_head, rising_tail}
 use Rattle.std.proofs.Math.ListN.{drop_of_length-le, set}
 use Rattle.std.proofs.Math.Seq.{drop-length}
@@ -289,7 +289,7 @@ marks_by number (r ∷ rs) es =
 pub marks_held : (number : ℕ) (rows : List Held) (es : List Entry) → IsRising es → HasHeld rows es → marks_of number es ≡ filter_map (mark_in number es) rows
 marks_held number rows es rising h =
     let mine = h.of number in
-    marks_noted number (numbers_by number rows) es mine.each ∙ marks_numbered number (numbers_by number rows) es mine.rising rising ∙ marks_by number rows es
+    marks_noted number (numbers_by number rows) es (held_each number (numbers_by number rows) es mine) ∙ marks_numbered number (numbers_by number rows) es mine.rising rising ∙ marks_by number rows es
 
 -- no mark on a later entry is on this one
 pub find_above : (number : ℕ) (ms : List Mark) → All (λ (m : Mark). number < m.entry) ms → find (λ (m : Mark). eqb m.entry number) ms ≡ None

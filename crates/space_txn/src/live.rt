@@ -3,10 +3,7 @@
 ghost use Rattle.std.specs.Prelude.{◌≡◌, ◌≤◌, ◌^◌, nat_lt, if◌then◌else◌};
 ghost use Rattle.space_txn.specs.Live.{abort_each, ended_at, granted_end, renewed_row, unmarked};
 
-use tuple_space::Space;
-
-/// The longest lease of a transaction, in milliseconds: one day.
-const LONGEST_LEASE: u64 = 86_400_000;
+use tuple_space::{LONGEST_LEASE, Space};
 
 /// A transaction that was begun and hasn't ended.
 #[derive(Clone, Copy, Debug, PartialEq, Eq)]
@@ -17,7 +14,7 @@ pub struct Live {
     pub end: u64,
 }
 
-/// The end of a lease that is granted at the moment.
+/// The end of a transaction's lease that is granted at the moment, for as long as a tuple's is at most.
 pub(crate) fn granted_end(moment: u64, asked: u64) -> u64
     requires { moment ≤ 2 ^ 62 }
     ensures { result ≡ granted_end moment asked }

@@ -1,25 +1,30 @@
 -- The buckets in which the numbers of entries stand.
 use Rattle.std.proofs.Common.{◌≡◌, ℕ, zero, suc, ◌+◌, ◌<◌, ◌≤◌, Bool, true, false, List, [], ◌∷◌, ◌++◌, length, get_or, refl, sym, ap, subst, ◌∙◌, cond, eqb, ⊎_elim, arith}
-use Rattle.std.specs.Prelude.{◌≢◌, ◌&&◌, not, All, count_by, Option, Some, None, OnOk, Result, Ok, Err, filter, map, remove}
+use Rattle.std.specs.Prelude.{◌≢◌, ◌&&◌, ◌||◌, not, All, AllPairs, count_by, Some, None, OnErr, OnOk, Result, Ok, Err, filter, map, remove, string_bytes}
 use Rattle.std.specs.Global.{Vec}
 use Rattle.std.specs.Result.{is_err}
-use Rattle.std.specs.List.{AllZip, HoldsAt, list_any}
+use Rattle.std.specs.List.{AllWithin, AllZip, HoldsAt, list_any}
+use Rattle.std.specs.Str.{bytes_eq}
 use Rattle.std.proofs.Math.ListN.{set}
-use Rattle.std.proofs.lemmas.Bool.{cases_lt, cond-false, cond-true, cond_both, eq-eqb, eqb-false, eqb-true, ne_eqb, false≢true, or_cases, or_left, or_right}
-use Rattle.std.proofs.lemmas.List.{get_or_default}
-use Rattle.std.proofs.lemmas.List.Elements.{All-cons, All-head, All-map, All-nil, All-push, All-tail}
+use Rattle.std.proofs.lemmas.Bool.{cases_Bool, cases_lt, cond-false, cond-true, cond_both, eq-eqb, eqb-false, eqb-true, ne_eqb, false≢true, or_cases, or_left, or_right}
+use Rattle.std.proofs.lemmas.List.{append-nil, get_or-map, get_or_default, length-map}
+use Rattle.std.proofs.lemmas.List.Elements.{All-head, All-push, All-tail}
 use Rattle.std.proofs.lemmas.List.Folds.{list_any-append}
+use Rattle.std.proofs.lemmas.List.Kept.{AllPairs-filter}
+use Rattle.std.proofs.lemmas.List.Quantifiers.{all_pairs_push}
 use Rattle.std.proofs.lemmas.List.Sums.{sum_by-cons}
+use Rattle.std.proofs.lemmas.Map.Views.{any-filter_same}
+use Rattle.std.proofs.lemmas.Slice.Eq.{bytes_eq-Decides}
 use Rattle.tuple_match.specs.FieldValue.{FieldValue, number, word, numbers}
 use Rattle.tuple_match.specs.Matching.{does_match}
 use Rattle.tuple_match.specs.PatternValue.{FieldMatches, Matches, PatternValue, actual, any_number, any_word, any_numbers}
 use Rattle.tuple_match.proofs.Deciding.{Decides-does_match}
 use Rattle.tuple_space.specs.Wanted.{is_free, is_wanted}
-use Rattle.tuple_space.specs.Held.{is_among}
-use Rattle.tuple_space.specs.Index.{AreIndexed, AreWritesIndexed, HasNoneWanted, IsUnwanted, StayIndexed, StaysIndexed, StaysIndexedBut, StaysIndexedTo, first_word, is_in, is_indexed, is_of, is_put, is_put_by, last_after, sought_word}
-use Rattle.tuple_space.proofs.RowLemmas.{only_at}
+use Rattle.tuple_space.specs.Held.{AreRising, is_among}
+use Rattle.tuple_space.specs.Index.{AreIndexed, AreOnce, AreOrdered, AreSame, AreUpTo, Class, HasNoneWanted, IsAdded, IsDropped, IsUnwanted, first_word, has_class, is_next, is_numbered, is_of, is_put, is_to_be, is_word, key, last_after, list_at, numbers_of, second_length, sought_word}
+use Rattle.tuple_space.proofs.RowLemmas.{HasNone, any_place, none_head, none_tail, only_at, rising_head, rising_tail}
 use Rattle.tuple_space.specs.Lease.{granted}
-use Rattle.tuple_space.specs.Rows.{IsRising}
+use Rattle.tuple_space.specs.Rows.{IsRising, without}
 use Rattle.tuple_space.specs.Space.{SpaceValue, put}
 use Rattle.tuple_space.specs.Writes.{put_count, put_each}
 use Rattle.tuple_space.specs.declared.search.Wanted.{Wanted}
@@ -37,47 +42,14 @@ same_lengths R [] (y ∷ ys) h = absurd h
 same_lengths R (x ∷ xs) [] h = absurd h
 same_lengths R (x ∷ xs) (y ∷ ys) h = ap suc (same_lengths R xs ys h.1)
 
--- what some element of a list passes, where another is written in one place
-any_set : {X : Type 0} (p : X → Bool) (xs : List X) (i : ℕ) (x y : X) → x ≡ get_or xs i x → (p x ≡ true → p y ≡ true) → list_any p xs ≡ true → list_any p (set xs i y) ≡ true
-any_set p [] i x y is h any = absurd (false≢true any)
-any_set p (z ∷ zs) zero x y is h any = ⊎_elim
-    (λ here. or_left (p y) (list_any p zs) (h (ap p is ∙ here)))
-    (λ rest. or_right (p y) (list_any p zs) rest)
-    (or_cases (p z) (list_any p zs) any)
-any_set p (z ∷ zs) (suc i) x y is h any = ⊎_elim
-    (λ here. or_left (p z) (list_any p (set zs i y)) here)
-    (λ rest. or_right (p z) (list_any p (set zs i y)) (any_set p zs i x y is h rest))
-    (or_cases (p z) (list_any p zs) any)
+eqb_swap : (a b : ℕ) → eqb a b ≡ eqb b a
+eqb_swap a b = ⊎_elim
+    (λ same. same ∙ sym (eq-eqb b a (sym (eqb-true a b same))))
+    (λ other. other ∙ sym (ne_eqb b a (λ is. eqb-false a b other (sym is))))
+    (cases_Bool (eqb a b))
 
-any_set_here : {X : Type 0} (p : X → Bool) (xs : List X) (i : ℕ) (x : X) → i < length xs → p x ≡ true → list_any p (set xs i x) ≡ true
-any_set_here p [] i x lt here = absurd (omega arith)
-any_set_here p (y ∷ ys) zero x lt here = or_left (p x) (list_any p ys) here
-any_set_here p (y ∷ ys) (suc i) x lt here = or_right (p y) (list_any p (set ys i x)) (any_set_here p ys i x (omega arith) here)
-
-pub any_push : {X : Type 0} (p : X → Bool) (xs : List X) (x : X) → list_any p xs ≡ true → list_any p (xs ++ x ∷ []) ≡ true
-any_push p xs x any = list_any-append p xs (x ∷ []) ∙ or_left (list_any p xs) (list_any p (x ∷ [])) any
-
-pub any_push_here : {X : Type 0} (p : X → Bool) (xs : List X) (x : X) → p x ≡ true → list_any p (xs ++ x ∷ []) ≡ true
-any_push_here p xs x here = list_any-append p xs (x ∷ []) ∙ or_right (list_any p xs) (list_any p (x ∷ [])) (or_left (p x) false here)
-
--- a number stays among others where another is taken out
-pub among_removed : (ns : List ℕ) (i n m : ℕ) → m ≢ n → get_or ns i n ≡ n → is_among m ns ≡ true → is_among m (remove ns i) ≡ true
-among_removed [] i n m other is among = absurd (false≢true among)
-among_removed (x ∷ xs) zero n m other is among = ⊎_elim
-    (λ same. absurd (other (eqb-true m x same ∙ is)))
-    (λ rest. rest)
-    (or_cases (eqb m x) (is_among m xs) among)
-among_removed (x ∷ xs) (suc i) n m other is among = ⊎_elim
-    (λ same. or_left (eqb m x) (is_among m (remove xs i)) same)
-    (λ rest. or_right (eqb m x) (is_among m (remove xs i)) (among_removed xs i n m other is rest))
-    (or_cases (eqb m x) (is_among m xs) among)
-
--- a number in one of several lists, where one of them changes
-pub in_set : (lists : List (Vec ℕ)) (i n : ℕ) (x y : Vec ℕ) → x ≡ get_or lists i x → (is_among n x.items ≡ true → is_among n y.items ≡ true) → is_in n lists ≡ true → is_in n (set lists i y) ≡ true
-in_set lists i n x y is h any = any_set (λ (k : Vec ℕ). is_among n k.items) lists i x y is h any
-
-pub in_set_here : (lists : List (Vec ℕ)) (i n : ℕ) (l : Vec ℕ) → i < length lists → is_among n l.items ≡ true → is_in n (set lists i l) ≡ true
-in_set_here lists i n l lt here = any_set_here (λ (k : Vec ℕ). is_among n k.items) lists i l lt here
+both : (a b : Bool) → a ≡ true → b ≡ true → (a && b) ≡ true
+both a b p q = rw (p, q) refl
 
 both_left : (a b : Bool) → (a && b) ≡ true → a ≡ true
 both_left true b e = refl
@@ -87,122 +59,612 @@ both_right : (a b : Bool) → (a && b) ≡ true → b ≡ true
 both_right true b e = e
 both_right false b e = absurd (false≢true e)
 
-both : (a b : Bool) → a ≡ true → b ≡ true → (a && b) ≡ true
-both a b p q = rw (p, q) refl
+and_false : (a : Bool) → (a && false) ≡ false
+and_false true = refl
+and_false false = refl
 
--- what holds for each word and count holds for each tuple
-put_by : (old new : List Bucket) (o : Option (List ℕ)) (count n : ℕ) → ((bytes : List ℕ) (count : ℕ) → is_put bytes count n old ≡ true → is_put bytes count n new ≡ true)
-    → is_put_by o count n old ≡ true → is_put_by o count n new ≡ true
-put_by old new (Some bytes) count n h any = h bytes count any
-put_by old new None count n h any = refl
+and_true : (a : Bool) → (a && true) ≡ a
+and_true true = refl
+and_true false = refl
 
--- a bucket is made behind the others
-pub stays_push : (old : List Bucket) (b : Bucket) → StaysIndexed old (old ++ b ∷ [])
-stays_push old b = λ tuple n any.
-    put_by old (old ++ b ∷ []) (first_word tuple) (length tuple) n
-    (λ bytes count put. any_push (λ (x : Bucket). is_of bytes count x && is_in n x.by_length.items) old b put) any
+or_false : (a : Bool) → (a || false) ≡ a
+or_false true = refl
+or_false false = refl
+
+-- numbers among others
+among_filter : (test : ℕ → Bool) (n : ℕ) (ns : List ℕ) → is_among n (filter test ns) ≡ (test n && is_among n ns)
+among_filter test n ns = any-filter_same (λ m. eqb n m) test (test n) (λ m same. ap test (sym (eqb-true n m same))) ns
+
+among_push : (n m : ℕ) (ns : List ℕ) → is_among n (ns ++ m ∷ []) ≡ (is_among n ns || eqb n m)
+among_push n m ns = list_any-append (λ k. eqb n k) ns (m ∷ []) ∙ ap (λ b. is_among n ns || b) (or_false (eqb n m))
+
+among_at : (ns : List ℕ) (i d : ℕ) → i < length ns → is_among (get_or ns i d) ns ≡ true
+among_at [] i d lt = absurd (omega arith)
+among_at (n ∷ ns) zero d lt = or_left (eqb n n) (is_among n ns) (eq-eqb n n refl)
+among_at (n ∷ ns) (suc i) d lt = or_right (eqb (get_or ns i d) n) (is_among (get_or ns i d) ns) (among_at ns i d (omega arith))
+
+filter_all : (ns : List ℕ) → filter (λ n. true) ns ≡ ns
+filter_all [] = refl
+filter_all (n ∷ ns) = ap (λ l. n ∷ l) (filter_all ns)
+
+-- a number of numbers that rise is taken out at its place, or it is none of them
+filter_above : (n : ℕ) (ns : List ℕ) → All (λ m. m ≢ n) ns → filter (λ m. not (eqb m n)) ns ≡ ns
+filter_above n [] h = refl
+filter_above n (m ∷ ns) h =
+    let P : ℕ → Type 0 = λ k. k ≢ n in
+    cond-true (not (eqb m n)) (m ∷ filter (λ k. not (eqb k n)) ns) (filter (λ k. not (eqb k n)) ns) (ap not (ne_eqb m n (All-head P m ns h)))
+    ∙ ap (λ l. m ∷ l) (filter_above n ns (All-tail P m ns h))
+
+pub number_removed : (ns : List ℕ) (i n : ℕ) → AreRising ns → i < length ns → get_or ns i 0 ≡ n → remove ns i ≡ filter (λ m. not (eqb m n)) ns
+number_removed [] i n rising lt is = absurd (omega arith)
+number_removed (m ∷ ns) zero n rising lt is =
+    sym (cond-false (not (eqb m n)) (m ∷ filter (λ k. not (eqb k n)) ns) (filter (λ k. not (eqb k n)) ns) (ap not (eq-eqb m n is))
+    ∙ filter_above n ns (λ k d within same. (let less = rising 0 (suc k) d (omega arith) (omega arith) in omega arith)))
+number_removed (m ∷ ns) (suc i) n rising lt is =
+    let less : m < get_or ns i 0 = rising 0 (suc i) 0 (omega arith) (omega arith) in
+    let rest : get_or ns i 0 ≡ n = is in
+    ap (λ l. m ∷ l) (number_removed ns i n (λ j k d below within. rising (suc j) (suc k) d (omega arith) (omega arith)) (omega arith) is)
+    ∙ sym (cond-true (not (eqb m n)) (m ∷ filter (λ k. not (eqb k n)) ns) (filter (λ k. not (eqb k n)) ns) (ap not (ne_eqb m n (λ same. omega arith))))
+
+pub number_absent : (ns : List ℕ) (n i : ℕ) → ((k : ℕ) → k < i → get_or ns k 0 < n) → ((k : ℕ) → i ≤ k → k < length ns → n < get_or ns k 0) → ns ≡ filter (λ m. not (eqb m n)) ns
+number_absent ns n i below above = sym (filter_above n ns (λ k d lt same.
+    let at : get_or ns k d ≡ get_or ns k 0 = get_or_default ns k d 0 lt in
+    ⊎_elim
+    (λ before. let less = below k before in absurd (omega arith))
+    (λ after. let more = above k (omega arith) lt in absurd (omega arith))
+    (cases_lt k i)))
+
+pub rises_at : (ns : List ℕ) → AreRising ns → (i j : ℕ) → i ≤ j → j < length ns → get_or ns i 0 ≤ get_or ns j 0
+rises_at ns rising i j le lt = ⊎_elim
+    (λ less. let more = rising i j 0 less lt in omega arith)
+    (λ same. let at : i ≡ j = omega arith in (let equal = ap (λ k. get_or ns k 0) at in omega arith))
+    (cases_lt i j)
+
+-- lists of which each stands at its length
+pub list_at_push : (ls : List (Vec ℕ)) (l : ℕ) (v : Vec ℕ) → v.items ≡ [] → list_at l (ls ++ v ∷ []) ≡ list_at l ls
+list_at_push [] zero v none = none
+list_at_push [] (suc l) v none = refl
+list_at_push (x ∷ xs) zero v none = refl
+list_at_push (x ∷ xs) (suc l) v none = list_at_push xs l v none
+
+pub list_at_set : (ls : List (Vec ℕ)) (i : ℕ) (v : Vec ℕ) → i < length ls → list_at i (set ls i v) ≡ v.items
+list_at_set [] i v lt = absurd (omega arith)
+list_at_set (x ∷ xs) zero v lt = refl
+list_at_set (x ∷ xs) (suc i) v lt = list_at_set xs i v (omega arith)
+
+pub list_at_other : (ls : List (Vec ℕ)) (i l : ℕ) (v : Vec ℕ) → l ≢ i → list_at l (set ls i v) ≡ list_at l ls
+list_at_other [] i l v ne = refl
+list_at_other (x ∷ xs) zero zero v ne = absurd (ne refl)
+list_at_other (x ∷ xs) zero (suc l) v ne = refl
+list_at_other (x ∷ xs) (suc i) zero v ne = refl
+list_at_other (x ∷ xs) (suc i) (suc l) v ne = list_at_other xs i l v (λ e. ne (ap suc e))
+
+pub list_at_is : (ls : List (Vec ℕ)) (i : ℕ) (x : Vec ℕ) → i < length ls → x ≡ get_or ls i x → list_at i ls ≡ x.items
+list_at_is [] i x lt is = absurd (omega arith)
+list_at_is (y ∷ ys) zero x lt is = ap (λ (v : Vec ℕ). v.items) (sym is)
+list_at_is (y ∷ ys) (suc i) x lt is = list_at_is ys i x (omega arith) is
+
+pub list_at_past : (ls : List (Vec ℕ)) (l : ℕ) → length ls ≤ l → list_at l ls ≡ []
+list_at_past [] l le = refl
+list_at_past (x ∷ xs) zero le = absurd (omega arith)
+list_at_past (x ∷ xs) (suc l) le = list_at_past xs l (omega arith)
+
+-- what a bucket is of
+of_parts : (bytes : List ℕ) (count : ℕ) (b : Bucket) → is_of bytes count b ≡ true → (b.count ≡ count) × (string_bytes b.word ≡ bytes)
+of_parts bytes count b is = (
+  eqb-true b.count count (both_left (eqb b.count count) (bytes_eq (string_bytes b.word) bytes) is),
+  (bytes_eq-Decides (string_bytes b.word) bytes).0 (both_right (eqb b.count count) (bytes_eq (string_bytes b.word) bytes) is),
+)
+
+of_from : (bytes : List ℕ) (count : ℕ) (b : Bucket) → b.count ≡ count → string_bytes b.word ≡ bytes → is_of bytes count b ≡ true
+of_from bytes count b counted spelled =
+    both (eqb b.count count) (bytes_eq (string_bytes b.word) bytes) (eq-eqb b.count count counted) ((bytes_eq-Decides (string_bytes b.word) bytes).1 spelled)
 
 -- a bucket with other numbers
 abbrev pub with_lists : Bucket → Vec (Vec ℕ) → Bucket
 with_lists b lists = record { word = b.word; count = b.count; by_length = lists }
 
-bucket_set : (old : List Bucket) (i n : ℕ) (b : Bucket) (lists : Vec (Vec ℕ)) → b ≡ get_or old i b → (is_in n b.by_length.items ≡ true → is_in n lists.items ≡ true)
-    → (bytes : List ℕ) (count : ℕ) → is_put bytes count n old ≡ true → is_put bytes count n (set old i (with_lists b lists)) ≡ true
-bucket_set old i n b lists is h bytes count put =
-    any_set (λ (y : Bucket). is_of bytes count y && is_in n y.by_length.items) old i b (with_lists b lists) is
-    (λ here. both (is_of bytes count b) (is_in n lists.items)
-    (both_left (is_of bytes count b) (is_in n b.by_length.items) here)
-    (h (both_right (is_of bytes count b) (is_in n b.by_length.items) here))) put
+-- an empty bucket behind the others
+pub numbers_push : (bs : List Bucket) (b : Bucket) → b.by_length.items ≡ [] → AreSame bs (bs ++ b ∷ [])
+numbers_push [] b none = λ k. cond_both (is_of k.word k.count b) (list_at k.length b.by_length.items) [] (λ (l : List ℕ). l ≡ []) (λ t. ap (list_at k.length) none) (λ f. refl)
+numbers_push (x ∷ xs) b none = λ k. ap (λ (l : List ℕ). cond (is_of k.word k.count x) (list_at k.length x.by_length.items) l) (numbers_push xs b none k)
 
--- a bucket changes in its numbers, which stay
-pub stays_set : (old : List Bucket) (i : ℕ) (b : Bucket) (lists : Vec (Vec ℕ)) → b ≡ get_or old i b
-    → ((n : ℕ) → is_in n b.by_length.items ≡ true → is_in n lists.items ≡ true) → StaysIndexed old (set old i (with_lists b lists))
-stays_set old i b lists is h = λ tuple n any.
-    put_by old (set old i (with_lists b lists)) (first_word tuple) (length tuple) n (bucket_set old i n b lists is (h n)) any
+keys_push : (bs : List Bucket) (b : Bucket) → map key (bs ++ b ∷ []) ≡ map key bs ++ key b ∷ []
+keys_push [] b = refl
+keys_push (x ∷ xs) b = ap (λ l. key x ∷ l) (keys_push xs b)
 
--- but for one
-pub stays_set_but : (gone : ℕ) (old : List Bucket) (i : ℕ) (b : Bucket) (lists : Vec (Vec ℕ)) → b ≡ get_or old i b
-    → ((n : ℕ) → n ≢ gone → is_in n b.by_length.items ≡ true → is_in n lists.items ≡ true) → StaysIndexedBut gone old (set old i (with_lists b lists))
-stays_set_but gone old i b lists is h = λ tuple n other any.
-    put_by old (set old i (with_lists b lists)) (first_word tuple) (length tuple) n (bucket_set old i n b lists is (h n other)) any
+pub once_push : (bs : List Bucket) (b : Bucket) (bytes : List ℕ) (count : ℕ) → string_bytes b.word ≡ bytes → b.count ≡ count → All (λ (x : Bucket). is_of bytes count x ≡ false) bs
+    → AreOnce bs → AreOnce (bs ++ b ∷ [])
+once_push bs b bytes count spelled counted none once =
+    let R : List ℕ × ℕ → List ℕ × ℕ → Type 0 = λ k j. k ≢ j in
+    subst (λ (l : List (List ℕ × ℕ)). AllPairs R l) (sym (keys_push bs b)) (all_pairs_push R (map key bs) (key b) once (λ k d lt same.
+    let long : length (map key bs) ≡ length bs = length-map bs key in
+    let x = get_or bs k b in
+    let is : key x ≡ key b = sym (get_or-map key bs k b d (omega arith)) ∙ same in
+    false≢true (sym (none k b (omega arith)) ∙ of_from bytes count x (ap (λ (p : List ℕ × ℕ). p.1) is ∙ counted) (ap (λ (p : List ℕ × ℕ). p.0) is ∙ spelled))))
 
--- the number that was put into a bucket is there
-pub put_here : (old : List Bucket) (i n : ℕ) (b : Bucket) (lists : Vec (Vec ℕ)) (tuple : List FieldValue) (bytes : List ℕ) → Some bytes ≡ first_word tuple → i < length old → b ≡ get_or old i b
-    → HoldsAt (λ (x : Bucket). is_of bytes (length tuple) x ≡ true) old i → is_in n lists.items ≡ true → is_indexed (set old i (with_lists b lists)) tuple n ≡ true
-put_here old i n b lists tuple bytes first lt is of there =
-    let here : is_of bytes (length tuple) b ≡ true = ap (is_of bytes (length tuple)) is ∙ of b in
-    ap (λ o. is_put_by o (length tuple) n (set old i (with_lists b lists))) (sym first)
-    ∙ any_set_here (λ (x : Bucket). is_of bytes (length tuple) x && is_in n x.by_length.items) old i (with_lists b lists) lt (both (is_of bytes (length tuple) b) (is_in n lists.items) here there)
+keys_set : (bs : List Bucket) (i : ℕ) (b : Bucket) (lists : Vec (Vec ℕ)) → b ≡ get_or bs i b → map key (set bs i (with_lists b lists)) ≡ map key bs
+keys_set [] i b lists is = refl
+keys_set (x ∷ xs) zero b lists is = ap (λ (y : Bucket). key y ∷ map key xs) is
+keys_set (x ∷ xs) (suc i) b lists is = ap (λ l. key x ∷ l) (keys_set xs i b lists is)
 
--- where the number of an entry that doesn't pass a test is taken out, those that pass it stay
-pub stay_but : (test : Entry → Bool) (es : List Entry) (i : ℕ) (x : Entry) (old new : List Bucket) → IsRising es → i < length es → x ≡ get_or es i x → test x ≡ false
-    → StaysIndexedBut x.number old new → StayIndexed test es old new
-stay_but test es i x old new rising lt is fails h = λ k d within passes put.
-    let e = get_or es k d in
-    let here : x ≡ get_or es i d = is ∙ get_or_default es i x d lt in
-    h e.tuple e.number (λ same. ⊎_elim
-    (λ before. let less : (get_or es k d).number < (get_or es i d).number = rising k i d before lt in let at = ap (λ (y : Entry). y.number) here in absurd (omega arith))
-    (λ after. ⊎_elim
-    (λ behind. let less : (get_or es i d).number < (get_or es k d).number = rising i k d behind within in let at = ap (λ (y : Entry). y.number) here in absurd (omega arith))
-    (λ both_ways. let at : k ≡ i = omega arith in
-    false≢true (sym fails ∙ ap test (here ∙ ap (λ j. get_or es j d) (sym at)) ∙ passes))
-    (cases_lt i k))
-    (cases_lt k i)) put
+pub once_set : (bs : List Bucket) (i : ℕ) (b : Bucket) (lists : Vec (Vec ℕ)) → b ≡ get_or bs i b → AreOnce bs → AreOnce (set bs i (with_lists b lists))
+once_set bs i b lists is once = subst (λ (l : List (List ℕ × ℕ)). AllPairs (λ k j. k ≢ j) l) (sym (keys_set bs i b lists is)) once
 
--- entries that stay in the space stay in the buckets
-pub indexed_filter : (test : Entry → Bool) (es : List Entry) (old new : List Bucket) → AreIndexed old es → StayIndexed test es old new → AreIndexed new (filter test es)
-indexed_filter test [] old new put stays = All-nil (λ (e : Entry). is_indexed new e.tuple e.number ≡ true)
-indexed_filter test (x ∷ xs) old new put stays =
-    let Old : Entry → Type 0 = λ e. is_indexed old e.tuple e.number ≡ true in
-    let New : Entry → Type 0 = λ e. is_indexed new e.tuple e.number ≡ true in
-    let Stay : Entry → Type 0 = λ e. test e ≡ true → Old e → New e in
-    let rest = indexed_filter test xs old new (All-tail Old x xs put) (All-tail Stay x xs stays) in
-    cond_both (test x) (x ∷ filter test xs) (filter test xs) (All New)
-    (λ t. All-cons New x (filter test xs) (All-head Stay x xs stays t (All-head Old x xs put)) rest)
-    (λ f. rest)
+-- the first bucket of a word and a count
+pub record IsFirstOf (bytes : List ℕ) (count : ℕ) (bs : List Bucket) (i : ℕ) (b : Bucket) : Type 0 where
+  pub within : i < length bs
+  pub is : b ≡ get_or bs i b
+  pub of : is_of bytes count b ≡ true
+  pub before : AllWithin (λ x. is_of bytes count x ≡ false) bs 0 i
 
--- where all but one number stay, the entries of other numbers do
-pub stay_without : (gone : ℕ) (es : List Entry) (old new : List Bucket) → StaysIndexedBut gone old new → StayIndexed (λ e. not (eqb e.number gone)) es old new
-stay_without gone es old new h = λ k d lt passes put.
-    let e = get_or es k d in
-    h e.tuple e.number (λ same. false≢true (sym (ap not (eq-eqb e.number gone same)) ∙ passes)) put
+first_behind : (bytes : List ℕ) (count : ℕ) (x : Bucket) (xs : List Bucket) (i : ℕ) (b : Bucket) → IsFirstOf bytes count (x ∷ xs) (suc i) b → IsFirstOf bytes count xs i b
+first_behind bytes count x xs i b h = record {
+  within = let w = h.within in omega arith;
+  is = h.is;
+  of = h.of;
+  before = λ k d from to. h.before (suc k) d (omega arith) (omega arith);
+}
+
+-- a bucket before it is of another class
+other_before : (k : Class) (bytes : List ℕ) (count : ℕ) (x : Bucket) (xs : List Bucket) (i : ℕ) (b : Bucket) → IsFirstOf bytes count (x ∷ xs) (suc i) b
+    → is_of k.word k.count b ≡ true → is_of k.word k.count x ≡ false
+other_before k bytes count x xs i b h mine = ⊎_elim
+    (λ both_are.
+    let a = of_parts k.word k.count x both_are in
+    let c = of_parts k.word k.count b mine in
+    let f = of_parts bytes count b h.of in
+    absurd (false≢true (sym (h.before zero x (omega arith) (omega arith)) ∙ of_from bytes count x (a.0 ∙ sym c.0 ∙ f.0) (a.1 ∙ sym c.1 ∙ f.1))))
+    (λ other. other)
+    (cases_Bool (is_of k.word k.count x))
+
+numbers_there : (k : Class) (bytes : List ℕ) (count : ℕ) (bs : List Bucket) (i : ℕ) (b : Bucket) → IsFirstOf bytes count bs i b → is_of k.word k.count b ≡ true
+    → numbers_of k bs ≡ list_at k.length b.by_length.items
+numbers_there k bytes count [] i b h mine = let w = h.within in absurd (omega arith)
+numbers_there k bytes count (x ∷ xs) zero b h mine =
+    cond-true (is_of k.word k.count x) (list_at k.length x.by_length.items) (numbers_of k xs) (ap (is_of k.word k.count) (sym h.is) ∙ mine)
+    ∙ ap (λ (y : Bucket). list_at k.length y.by_length.items) (sym h.is)
+numbers_there k bytes count (x ∷ xs) (suc i) b h mine =
+    cond-false (is_of k.word k.count x) (list_at k.length x.by_length.items) (numbers_of k xs) (other_before k bytes count x xs i b h mine)
+    ∙ numbers_there k bytes count xs i b (first_behind bytes count x xs i b h) mine
+
+-- its numbers written anew
+numbers_mine : (k : Class) (bytes : List ℕ) (count : ℕ) (bs : List Bucket) (i : ℕ) (b : Bucket) (lists : Vec (Vec ℕ)) → IsFirstOf bytes count bs i b → is_of k.word k.count b ≡ true
+    → numbers_of k (set bs i (with_lists b lists)) ≡ list_at k.length lists.items
+numbers_mine k bytes count [] i b lists h mine = let w = h.within in absurd (omega arith)
+numbers_mine k bytes count (x ∷ xs) zero b lists h mine = cond-true (is_of k.word k.count b) (list_at k.length lists.items) (numbers_of k xs) mine
+numbers_mine k bytes count (x ∷ xs) (suc i) b lists h mine =
+    cond-false (is_of k.word k.count x) (list_at k.length x.by_length.items) (numbers_of k (set xs i (with_lists b lists))) (other_before k bytes count x xs i b h mine)
+    ∙ numbers_mine k bytes count xs i b lists (first_behind bytes count x xs i b h) mine
+
+-- those under other classes stay
+numbers_other : (k : Class) (bs : List Bucket) (i : ℕ) (b : Bucket) (lists : Vec (Vec ℕ)) → b ≡ get_or bs i b → is_of k.word k.count b ≡ false
+    → numbers_of k (set bs i (with_lists b lists)) ≡ numbers_of k bs
+numbers_other k [] i b lists is other = refl
+numbers_other k (x ∷ xs) zero b lists is other =
+    cond-false (is_of k.word k.count b) (list_at k.length lists.items) (numbers_of k xs) other
+    ∙ sym (cond-false (is_of k.word k.count x) (list_at k.length x.by_length.items) (numbers_of k xs) (ap (is_of k.word k.count) (sym is) ∙ other))
+numbers_other k (x ∷ xs) (suc i) b lists is other =
+    ap (λ (l : List ℕ). cond (is_of k.word k.count x) (list_at k.length x.by_length.items) l) (numbers_other k xs i b lists is other)
+
+-- under a class of no bucket stands nothing
+numbers_none : (k : Class) (bs : List Bucket) → All (λ (b : Bucket). is_of k.word k.count b ≡ false) bs → numbers_of k bs ≡ []
+numbers_none k [] none = refl
+numbers_none k (x ∷ xs) none =
+    let P : Bucket → Type 0 = λ b. is_of k.word k.count b ≡ false in
+    cond-false (is_of k.word k.count x) (list_at k.length x.by_length.items) (numbers_of k xs) (All-head P x xs none) ∙ numbers_none k xs (All-tail P x xs none)
+
+-- a tuple's class, by its bucket
+class_of : (k : Class) (tuple : List FieldValue) (bytes : List ℕ) (b : Bucket) → Some bytes ≡ first_word tuple → is_of bytes (length tuple) b ≡ true
+    → has_class k tuple ≡ (is_of k.word k.count b && eqb (second_length tuple) k.length)
+class_of k tuple bytes b first of =
+    let parts = of_parts bytes (length tuple) b of in
+    ap (λ o. (eqb (length tuple) k.count && is_word o k.word) && eqb (second_length tuple) k.length) (sym first)
+    ∙ ap (λ n. (eqb n k.count && bytes_eq bytes k.word) && eqb (second_length tuple) k.length) (sym parts.0)
+    ∙ ap (λ w. (eqb b.count k.count && bytes_eq w k.word) && eqb (second_length tuple) k.length) (sym parts.1)
+
+classless : (k : Class) (tuple : List FieldValue) → None ≡ first_word tuple → has_class k tuple ≡ false
+classless k tuple none =
+    ap (λ o. (eqb (length tuple) k.count && is_word o k.word) && eqb (second_length tuple) k.length) (sym none)
+    ∙ ap (λ b. b && eqb (second_length tuple) k.length) (and_false (eqb (length tuple) k.count))
+
+added_other : (k : Class) (tuple : List FieldValue) (n : ℕ) (ns : List ℕ) → has_class k tuple ≡ false → ns ≡ ns ++ cond (has_class k tuple) (n ∷ []) []
+added_other k tuple n ns other = sym (ap (λ c. ns ++ cond c (n ∷ []) []) other ∙ append-nil ns)
+
+dropped_other : (k : Class) (tuple : List FieldValue) (n : ℕ) (ns : List ℕ) → has_class k tuple ≡ false → ns ≡ filter (λ m. not (has_class k tuple && eqb m n)) ns
+dropped_other k tuple n ns other = sym (ap (λ c. filter (λ m. not (c && eqb m n)) ns) other ∙ filter_all ns)
+
+pub added_classless : (bs : List Bucket) (tuple : List FieldValue) (n : ℕ) → None ≡ first_word tuple → IsAdded tuple n bs bs
+added_classless bs tuple n none = λ k. added_other k tuple n (numbers_of k bs) (classless k tuple none)
+
+pub dropped_classless : (bs : List Bucket) (tuple : List FieldValue) (n : ℕ) → None ≡ first_word tuple → IsDropped tuple n bs bs
+dropped_classless bs tuple n none = λ k. dropped_other k tuple n (numbers_of k bs) (classless k tuple none)
+
+-- no bucket is that of a tuple
+pub dropped_nowhere : (bs : List Bucket) (tuple : List FieldValue) (n : ℕ) (bytes : List ℕ) → Some bytes ≡ first_word tuple → All (λ (b : Bucket). is_of bytes (length tuple) b ≡ false) bs
+    → IsDropped tuple n bs bs
+dropped_nowhere bs tuple n bytes first none = λ k. ⊎_elim
+    (λ mine.
+    let parts = both_left (eqb (length tuple) k.count && is_word (first_word tuple) k.word) (eqb (second_length tuple) k.length) mine in
+    let counted = eqb-true (length tuple) k.count (both_left (eqb (length tuple) k.count) (is_word (first_word tuple) k.word) parts) in
+    let spelled = (bytes_eq-Decides bytes k.word).0 (ap (λ o. is_word o k.word) first ∙ both_right (eqb (length tuple) k.count) (is_word (first_word tuple) k.word) parts) in
+    let empty = numbers_none k bs (λ i d lt. subst (λ w. is_of w k.count (get_or bs i d) ≡ false) spelled (subst (λ c. is_of bytes c (get_or bs i d) ≡ false) counted (none i d lt))) in
+    empty ∙ sym (ap (filter (λ m. not (has_class k tuple && eqb m n))) empty))
+    (λ other. dropped_other k tuple n (numbers_of k bs) other)
+    (cases_Bool (has_class k tuple))
+
+-- a number put into its bucket, or taken out of it
+module _ (bs : List Bucket) (i : ℕ) (b : Bucket) (lists : Vec (Vec ℕ)) (tuple : List FieldValue) (bytes : List ℕ) (first : Some bytes ≡ first_word tuple)
+    (h : IsFirstOf bytes (length tuple) bs i b) (others : (l : ℕ) → l ≢ second_length tuple → list_at l lists.items ≡ list_at l b.by_length.items) where
+  by_length : (k : Class) (P : Bool → List ℕ → Type 0) → (has_class k tuple ≡ false → numbers_of k (set bs i (with_lists b lists)) ≡ numbers_of k bs → P false (numbers_of k (set bs i (with_lists b lists))))
+      → (second_length tuple ≡ k.length → numbers_of k bs ≡ list_at k.length b.by_length.items → numbers_of k (set bs i (with_lists b lists)) ≡ list_at k.length lists.items
+      → P true (numbers_of k (set bs i (with_lists b lists)))) → P (has_class k tuple) (numbers_of k (set bs i (with_lists b lists)))
+  by_length k P outside inside =
+      let new = numbers_of k (set bs i (with_lists b lists)) in
+      let class = class_of k tuple bytes b first h.of in
+      let at_false : has_class k tuple ≡ false → numbers_of k (set bs i (with_lists b lists)) ≡ numbers_of k bs → P (has_class k tuple) new =
+      λ other same. subst (λ c. P c new) (sym other) (outside other same) in
+      ⊎_elim
+      (λ mine. ⊎_elim
+      (λ long.
+      let is = class ∙ both (is_of k.word k.count b) (eqb (second_length tuple) k.length) mine long in
+      subst (λ c. P c new) (sym is)
+      (inside (eqb-true (second_length tuple) k.length long) (numbers_there k bytes (length tuple) bs i b h mine) (numbers_mine k bytes (length tuple) bs i b lists h mine)))
+      (λ short. at_false (class ∙ ap (λ c. is_of k.word k.count b && c) short ∙ and_false (is_of k.word k.count b))
+      (numbers_mine k bytes (length tuple) bs i b lists h mine ∙ others k.length (λ e. eqb-false (second_length tuple) k.length short (sym e))
+      ∙ sym (numbers_there k bytes (length tuple) bs i b h mine)))
+      (cases_Bool (eqb (second_length tuple) k.length)))
+      (λ other. at_false (class ∙ ap (λ c. c && eqb (second_length tuple) k.length) other) (numbers_other k bs i b lists h.is other))
+      (cases_Bool (is_of k.word k.count b))
+
+  pub added_there : (n : ℕ) → list_at (second_length tuple) lists.items ≡ list_at (second_length tuple) b.by_length.items ++ n ∷ [] → IsAdded tuple n bs (set bs i (with_lists b lists))
+  added_there n put = λ k. by_length k (λ c ns. ns ≡ numbers_of k bs ++ cond c (n ∷ []) [])
+      (λ other same. same ∙ sym (append-nil (numbers_of k bs)))
+      (λ long before after. after ∙ subst (λ l. list_at l lists.items ≡ list_at l b.by_length.items ++ n ∷ []) long put ∙ ap (λ l. l ++ n ∷ []) (sym before))
+
+  pub dropped_there : (n : ℕ) → list_at (second_length tuple) lists.items ≡ filter (λ m. not (eqb m n)) (list_at (second_length tuple) b.by_length.items)
+      → IsDropped tuple n bs (set bs i (with_lists b lists))
+  dropped_there n gone = λ k. by_length k (λ c ns. ns ≡ filter (λ m. not (c && eqb m n)) (numbers_of k bs))
+      (λ other same. same ∙ sym (filter_all (numbers_of k bs)))
+      (λ long before after. after ∙ subst (λ l. list_at l lists.items ≡ filter (λ m. not (eqb m n)) (list_at l b.by_length.items)) long gone
+      ∙ ap (filter (λ m. not (eqb m n))) (sym before))
+
+  pub same_there : list_at (second_length tuple) lists.items ≡ list_at (second_length tuple) b.by_length.items → AreSame bs (set bs i (with_lists b lists))
+  same_there same = λ k. by_length k (λ c ns. ns ≡ numbers_of k bs)
+      (λ other is. is)
+      (λ long before after. after ∙ subst (λ l. list_at l lists.items ≡ list_at l b.by_length.items) long same ∙ sym before)
+
+-- the list that a drop works on rises
+pub rising_there : (bs : List Bucket) (i : ℕ) (b : Bucket) (tuple : List FieldValue) (bytes : List ℕ) → Some bytes ≡ first_word tuple → IsFirstOf bytes (length tuple) bs i b → AreOrdered bs
+    → AreRising (list_at (second_length tuple) b.by_length.items)
+rising_there bs i b tuple bytes first h rising =
+    let k : Class = record { word = bytes; count = length tuple; length = second_length tuple } in
+    subst AreRising (numbers_there k bytes (length tuple) bs i b h h.of) (rising k)
+
+pub same_order : (old new : List Bucket) → AreSame old new → AreOrdered old → AreOrdered new
+same_order old new same rising = λ k. subst AreRising (sym (same k)) (rising k)
+
+pub same_put : (old new : List Bucket) → AreSame old new → (k : Class) (n : ℕ) → is_put k n new ≡ is_put k n old
+same_put old new same = λ k n. ap (is_among n) (same k)
+
+pub dropped_order : (tuple : List FieldValue) (n : ℕ) (old new : List Bucket) → IsDropped tuple n old new → AreOrdered old → AreOrdered new
+dropped_order tuple n old new gone rising = λ k.
+    subst AreRising (sym (gone k)) (AllPairs-filter (λ (x y : ℕ). x < y) (λ m. not (has_class k tuple && eqb m n)) (numbers_of k old) (rising k))
+
+pub dropped_put : (tuple : List FieldValue) (m : ℕ) (old new : List Bucket) → IsDropped tuple m old new → (k : Class) (n : ℕ)
+    → is_put k n new ≡ (is_put k n old && not (has_class k tuple && eqb n m))
+dropped_put tuple m old new gone = λ k n.
+    ap (is_among n) (gone k) ∙ among_filter (λ j. not (has_class k tuple && eqb j m)) n (numbers_of k old) ∙ and_swap (not (has_class k tuple && eqb n m)) (is_put k n old)
+  where
+    and_swap : (a b : Bool) → (a && b) ≡ (b && a)
+    and_swap true b = sym (and_true b)
+    and_swap false b = sym (and_false b)
+
+pub added_put : (tuple : List FieldValue) (m : ℕ) (old new : List Bucket) → IsAdded tuple m old new → (k : Class) (n : ℕ)
+    → is_put k n new ≡ (is_put k n old || (has_class k tuple && eqb n m))
+added_put tuple m old new put = λ k n. ap (is_among n) (put k) ∙ by (has_class k tuple) n (numbers_of k old)
+  where
+    by : (c : Bool) (n : ℕ) (ns : List ℕ) → is_among n (ns ++ cond c (m ∷ []) []) ≡ (is_among n ns || (c && eqb n m))
+    by true n ns = among_push n m ns
+    by false n ns = ap (is_among n) (append-nil ns) ∙ sym (or_false (is_among n ns))
+
+pub added_up : (tuple : List FieldValue) (last m : ℕ) (old new : List Bucket) → last < m → IsAdded tuple m old new → AreUpTo last old → AreUpTo m new
+added_up tuple last m old new less put h = record {
+  rising = λ k. subst AreRising (sym (put k)) (rises (has_class k tuple) (numbers_of k old) (h.rising k) (h.most k));
+  most = λ k. subst (All (λ n. n ≤ m)) (sym (put k)) (ends (has_class k tuple) (numbers_of k old) (h.most k));
+}
+  where
+    rises : (c : Bool) (ns : List ℕ) → AreRising ns → All (λ n. n ≤ last) ns → AreRising (ns ++ cond c (m ∷ []) [])
+    rises true ns rising most = all_pairs_push (λ (x y : ℕ). x < y) ns m rising (λ k d lt. let up = most k d lt in omega arith)
+    rises false ns rising most = subst AreRising (sym (append-nil ns)) rising
+
+    ends : (c : Bool) (ns : List ℕ) → All (λ n. n ≤ last) ns → All (λ n. n ≤ m) (ns ++ cond c (m ∷ []) [])
+    ends true ns most = All-push (λ n. n ≤ m) ns m (λ k d lt. let up = most k d lt in omega arith) (omega arith)
+    ends false ns most = subst (All (λ n. n ≤ m)) (sym (append-nil ns)) (λ k d lt. let up = most k d lt in omega arith)
+
+pub up_more : (last m : ℕ) (old new : List Bucket) → last ≤ m → AreSame old new → AreUpTo last old → AreUpTo m new
+up_more last m old new le same h = record {
+  rising = same_order old new same h.rising;
+  most = λ k. subst (All (λ n. n ≤ m)) (sym (same k)) (λ j d lt. let up = h.most k j d lt in omega arith);
+}
+
+-- no entry's number is above the one last given, and so none that stands under a class
+most_of : (last n : ℕ) (k : Class) (es : List Entry) → All (λ (e : Entry). (0 < e.number) × (e.number ≤ last)) es → is_numbered k n es ≡ true → n ≤ last
+most_of last n k [] h is = absurd (false≢true is)
+most_of last n k (e ∷ es) h is =
+    let P : Entry → Type 0 = λ x. (0 < x.number) × (x.number ≤ last) in
+    ⊎_elim
+    (λ here. let same = eqb-true e.number n (both_left (eqb e.number n) (has_class k e.tuple) here) in let own = (All-head P e es h).1 in omega arith)
+    (λ rest. most_of last n k es (All-tail P e es h) rest)
+    (or_cases (eqb e.number n && has_class k e.tuple) (is_numbered k n es) is)
+
+pub indexed_up : (last : ℕ) (bs : List Bucket) (es : List Entry) → All (λ (e : Entry). (0 < e.number) × (e.number ≤ last)) es → AreIndexed bs es → AreUpTo last bs
+indexed_up last bs es numbered h = record {
+  rising = h.rising;
+  most = λ k i d lt. most_of last (get_or (numbers_of k bs) i d) k es numbered (sym (h.exact k _) ∙ among_at (numbers_of k bs) i d lt);
+}
+
+pub indexed_same : (old new : List Bucket) (es : List Entry) → AreSame old new → AreOnce new → AreIndexed old es → AreIndexed new es
+indexed_same old new es same once h = record {
+  once = once;
+  rising = same_order old new same h.rising;
+  exact = λ k n. same_put old new same k n ∙ h.exact k n;
+}
+
+-- the entry at a place is taken out
+pub indexed_without : (es : List Entry) (i : ℕ) (x : Entry) (old new : List Bucket) → IsRising es → i < length es → x ≡ get_or es i x → IsDropped x.tuple x.number old new → AreOnce new
+    → AreIndexed old es → AreIndexed new (without x.number es)
+indexed_without es i x old new rising lt is gone once h = record {
+  once = once;
+  rising = dropped_order x.tuple x.number old new gone h.rising;
+  exact = λ k n.
+      let only = only_at x.number es i rising lt (λ d. ap (λ (e : Entry). e.number) (sym (is ∙ get_or_default es i x d lt))) in
+      let kept = any-filter_same (λ (e : Entry). eqb e.number n && has_class k e.tuple) (λ (e : Entry). not (eqb e.number x.number)) (not (eqb n x.number))
+      (λ e mine. ap (λ (m : ℕ). not (eqb m x.number)) (eqb-true e.number n (both_left (eqb e.number n) (has_class k e.tuple) mine))) es in
+      dropped_put x.tuple x.number old new gone k n ∙ ap (λ b. b && not (has_class k x.tuple && eqb n x.number)) (h.exact k n)
+      ∙ by (eqb n x.number) (is_numbered k n es) (has_class k x.tuple)
+      (λ same. ap (λ (m : ℕ). is_numbered k m es) (eqb-true n x.number same) ∙ any_place x.number (λ (e : Entry). has_class k e.tuple) es i x only is)
+      ∙ sym kept;
+}
+  where
+    by : (same there class : Bool) → (same ≡ true → there ≡ class) → (there && not (class && same)) ≡ (not same && there)
+    by true there true h = and_false there
+    by true there false h = and_true there ∙ h refl
+    by false there true h = and_true there
+    by false there false h = and_true there
 
 -- entries change in other things than their numbers and tuples
 pub indexed_map : (change : Entry → Entry) → ((e : Entry) → (change e).number ≡ e.number) → ((e : Entry) → (change e).tuple ≡ e.tuple) → (buckets : List Bucket) (es : List Entry)
     → AreIndexed buckets es → AreIndexed buckets (map change es)
-indexed_map change same_number same_tuple buckets es h = All-map (λ (e : Entry). is_indexed buckets e.tuple e.number ≡ true) change es (λ k d lt.
-    let e = get_or es k d in
-    rw (same_number e, same_tuple e) (h k d lt))
+indexed_map change same_number same_tuple buckets es h = record {
+  once = h.once;
+  rising = h.rising;
+  exact = λ k n. h.exact k n ∙ by k n es;
+}
+  where
+    by : (k : Class) (n : ℕ) (xs : List Entry) → is_numbered k n xs ≡ is_numbered k n (map change xs)
+    by k n [] = refl
+    by k n (x ∷ xs) = rw (same_number x, same_tuple x) (ap (λ b. (eqb x.number n && has_class k x.tuple) || b) (by k n xs))
+
+-- the entry at a place does
+pub indexed_set : (buckets : List Bucket) (es : List Entry) (i : ℕ) (x y : Entry) → x ≡ get_or es i x → y.number ≡ x.number → y.tuple ≡ x.tuple → AreIndexed buckets es
+    → AreIndexed buckets (set es i y)
+indexed_set buckets es i x y is same_number same_tuple h = record {
+  once = h.once;
+  rising = h.rising;
+  exact = λ k n. h.exact k n ∙ by k n es i is;
+}
+  where
+    by : (k : Class) (n : ℕ) (xs : List Entry) (j : ℕ) → x ≡ get_or xs j x → is_numbered k n xs ≡ is_numbered k n (set xs j y)
+    by k n [] j at = refl
+    by k n (z ∷ zs) zero at = rw (same_number, same_tuple) (ap (λ (e : Entry). (eqb e.number n && has_class k e.tuple) || is_numbered k n zs) (sym at))
+    by k n (z ∷ zs) (suc j) at = ap (λ b. (eqb z.number n && has_class k z.tuple) || b) (by k n zs j at)
 
 -- an entry of a number is changed in other things
 pub changed_tuple : (n : ℕ) (change : Entry → Entry) → ((e : Entry) → (change e).tuple ≡ e.tuple) → (e : Entry) → (cond (eqb e.number n) (change e) e).tuple ≡ e.tuple
 changed_tuple n change keeps e = cond_both (eqb e.number n) (change e) e (λ (x : Entry). x.tuple ≡ e.tuple) (λ t. keeps e) (λ t. refl)
 
--- the buckets grow
-pub indexed_more : (old new : List Bucket) (es : List Entry) → StaysIndexed old new → AreIndexed old es → AreIndexed new es
-indexed_more old new es stays h = λ k d lt. (let e = get_or es k d in stays e.tuple e.number (h k d lt))
-
 -- a tuple is put out
-pub indexed_put : (buckets : List Bucket) (w : SpaceValue) (tuple : List FieldValue) (lease : Lease) → is_indexed buckets tuple (w.last + 1) ≡ true → AreIndexed buckets w.entries
-    → AreIndexed buckets (put w tuple lease).entries
-indexed_put buckets w tuple lease there h =
+pub numbered_put : (k : Class) (n : ℕ) (w : SpaceValue) (tuple : List FieldValue) (lease : Lease)
+    → is_numbered k n (put w tuple lease).entries ≡ (is_numbered k n w.entries || (has_class k tuple && eqb n (w.last + 1)))
+numbered_put k n w tuple lease =
     let new : Entry = record { number = w.last + 1; tuple = tuple; end = granted w.moment lease; holds = [] } in
-    All-push (λ (e : Entry). is_indexed buckets e.tuple e.number ≡ true) w.entries new h there
+    list_any-append (λ (e : Entry). eqb e.number n && has_class k e.tuple) w.entries (new ∷ [])
+    ∙ ap (λ b. is_numbered k n w.entries || b) (or_false (eqb (w.last + 1) n && has_class k tuple) ∙ turned (eqb (w.last + 1) n) (has_class k tuple)
+    ∙ ap (λ b. has_class k tuple && b) (eqb_swap (w.last + 1) n))
+  where
+    turned : (a b : Bool) → (a && b) ≡ (b && a)
+    turned true b = sym (and_true b)
+    turned false b = sym (and_false b)
+
+pub indexed_put : (old new : List Bucket) (w : SpaceValue) (tuple : List FieldValue) (lease : Lease) → All (λ (e : Entry). (0 < e.number) × (e.number ≤ w.last)) w.entries
+    → IsAdded tuple (w.last + 1) old new → AreOnce new → AreIndexed old w.entries → AreIndexed new (put w tuple lease).entries
+indexed_put old new w tuple lease numbered put_there once h = record {
+  once = once;
+  rising = (added_up tuple w.last (w.last + 1) old new (omega arith) put_there (indexed_up w.last old w.entries numbered h)).rising;
+  exact = λ k n. added_put tuple (w.last + 1) old new put_there k n ∙ ap (λ b. b || (has_class k tuple && eqb n (w.last + 1))) (h.exact k n) ∙ sym (numbered_put k n w tuple lease);
+}
 
 -- several are
-pub indexed_put_each : (buckets : List Bucket) (w : SpaceValue) (writes : List Write) → AreWritesIndexed buckets w.last writes → AreIndexed buckets w.entries
-    → AreIndexed buckets (put_each w writes).entries
-indexed_put_each buckets w [] there h = h
-indexed_put_each buckets w (x ∷ xs) there h =
-    let P : SpaceValue → Type 0 = λ v. AreIndexed buckets (put_each v xs).entries in
-    cond_both x.taken w (put w x.tuple x.lease) P
-    (λ t. indexed_put_each buckets w xs (subst (λ n. AreWritesIndexed buckets n xs) (cond-true x.taken w.last (w.last + 1) t) there.1) h)
-    (λ f. indexed_put_each buckets (put w x.tuple x.lease) xs (subst (λ n. AreWritesIndexed buckets n xs) (cond-false x.taken w.last (w.last + 1) f) there.1)
-    (indexed_put buckets w x.tuple x.lease (there.0 f) h))
+numbered_put_each : (k : Class) (n : ℕ) (w : SpaceValue) (writes : List Write) → is_numbered k n (put_each w writes).entries ≡ (is_numbered k n w.entries || is_to_be k n w.last writes)
+numbered_put_each k n w [] = sym (or_false (is_numbered k n w.entries))
+numbered_put_each k n w (x ∷ xs) =
+    cond_both x.taken w (put w x.tuple x.lease) (λ (v : SpaceValue). is_numbered k n (put_each v xs).entries ≡ (is_numbered k n w.entries || is_to_be k n w.last (x ∷ xs)))
+    (λ t. numbered_put_each k n w xs ∙ ap (λ b. is_numbered k n w.entries || b)
+    (sym (ap (λ b. (not b && (has_class k x.tuple && eqb n (w.last + 1))) || is_to_be k n (cond b w.last (w.last + 1)) xs) t)))
+    (λ f. numbered_put_each k n (put w x.tuple x.lease) xs ∙ ap (λ b. b || is_to_be k n (w.last + 1) xs) (numbered_put k n w x.tuple x.lease)
+    ∙ joined (is_numbered k n w.entries) (has_class k x.tuple && eqb n (w.last + 1)) (is_to_be k n (w.last + 1) xs)
+    ∙ ap (λ b. is_numbered k n w.entries || b)
+    (sym (ap (λ b. (not b && (has_class k x.tuple && eqb n (w.last + 1))) || is_to_be k n (cond b w.last (w.last + 1)) xs) f)))
+  where
+    joined : (a b c : Bool) → ((a || b) || c) ≡ (a || (b || c))
+    joined true b c = refl
+    joined false b c = refl
 
--- the numbers that are given stay in the buckets
-pub indexed_to : (last : ℕ) (old new : List Bucket) (es : List Entry) → All (λ (e : Entry). (0 < e.number) × (e.number ≤ last)) es → StaysIndexedTo last old new → AreIndexed old es → AreIndexed new es
-indexed_to last old new es numbered stays h = λ k d lt. (let e = get_or es k d in stays e.tuple e.number (numbered k d lt).1 (h k d lt))
+pub indexed_put_each : (old new : List Bucket) (w : SpaceValue) (writes : List Write) → AreOrdered new → AreOnce new
+    → ((k : Class) (n : ℕ) → is_put k n new ≡ (is_put k n old || is_to_be k n w.last writes)) → AreIndexed old w.entries → AreIndexed new (put_each w writes).entries
+indexed_put_each old new w writes rising once there h = record {
+  once = once;
+  rising = rising;
+  exact = λ k n. there k n ∙ ap (λ b. b || is_to_be k n w.last writes) (h.exact k n) ∙ sym (numbered_put_each k n w writes);
+}
+
+-- the numbers that writes are to have are above the one last given
+next_above : (k : Class) (n last : ℕ) (x : Write) → is_next k n last x ≡ true → last < n
+next_above k n last x is =
+    let same = eqb-true n (last + 1) (both_right (has_class k x.tuple) (eqb n (last + 1)) (both_right (not x.taken) (has_class k x.tuple && eqb n (last + 1)) is)) in
+    omega arith
+
+to_be_above : (k : Class) (n last : ℕ) (writes : List Write) → is_to_be k n last writes ≡ true → last < n
+to_be_above k n last [] is = absurd (false≢true is)
+to_be_above k n last (x ∷ xs) is = ⊎_elim
+    (λ here. next_above k n last x here)
+    (λ rest. let more = to_be_above k n (last_after last x) xs rest in let least = after_least x.taken last in omega arith)
+    (or_cases (is_next k n last x) (is_to_be k n (last_after last x) xs) is)
+  where
+    after_least : (taken : Bool) (m : ℕ) → m ≤ cond taken m (m + 1)
+    after_least true m = omega arith
+    after_least false m = omega arith
+
+-- the first of several writes
+pub to_be_more : (k : Class) (n last next : ℕ) (x : Write) (rest l : List Write) → l ≡ x ∷ rest → next ≡ last_after last x
+    → is_to_be k n last l ≡ (is_next k n last x || is_to_be k n next rest)
+to_be_more k n last next x rest l is after =
+    ap (is_to_be k n last) is ∙ ap (λ m. is_next k n last x || is_to_be k n m rest) (sym after)
+
+pub put_more : (new mid here rest l : Bool) (whole : Bool) → l ≡ (here || rest) → new ≡ (mid || here) → (mid || l) ≡ whole → (new || rest) ≡ whole
+put_more new mid here rest l whole is put before = ap (λ b. b || rest) put ∙ joined mid here rest ∙ ap (λ b. mid || b) (sym is) ∙ before
+  where
+    joined : (a b c : Bool) → ((a || b) || c) ≡ (a || (b || c))
+    joined true b c = refl
+    joined false b c = refl
+
+pub later_more : (here rest l whole : Bool) → l ≡ (here || rest) → (l ≡ true → whole ≡ true) → rest ≡ true → whole ≡ true
+later_more here rest l whole is before later = before (is ∙ or_right here rest later)
+
+pub gone_more : (new mid here rest l : Bool) (whole : Bool) → l ≡ (here || rest) → new ≡ (mid && not here) → (mid && not l) ≡ whole → (new && not rest) ≡ whole
+gone_more new mid here rest l whole is gone before = ap (λ b. b && not rest) gone ∙ joined mid here rest ∙ ap (λ b. mid && not b) (sym is) ∙ before
+  where
+    joined : (a b c : Bool) → ((a && not b) && not c) ≡ (a && not (b || c))
+    joined false b c = refl
+    joined true true c = refl
+    joined true false c = refl
+
+-- what stands there where not all numbers were put
+pub put_partly : (new mid rest whole old : Bool) → new ≡ mid → (rest ≡ true → whole ≡ true) → (mid || rest) ≡ (old || whole) → (new || whole) ≡ (old || whole)
+put_partly new mid rest true old is later before = always new ∙ sym (always old)
+  where
+    always : (a : Bool) → (a || true) ≡ true
+    always true = refl
+    always false = refl
+put_partly new mid rest false old is later before = ap (λ b. b || false) is ∙ by rest later before
+  where
+    by : (r : Bool) → (r ≡ true → false ≡ true) → (mid || r) ≡ (old || false) → (mid || false) ≡ (old || false)
+    by true never e = absurd (false≢true (never refl))
+    by false never e = e
+
+-- writes that were put there and taken out again leave what stood there
+pub indexed_undone : (old mid new : List Bucket) (last : ℕ) (es : List Entry) (writes : List Write) → All (λ (e : Entry). (0 < e.number) × (e.number ≤ last)) es → AreOrdered new → AreOnce new
+    → ((k : Class) (n : ℕ) → (is_put k n mid || is_to_be k n last writes) ≡ (is_put k n old || is_to_be k n last writes))
+    → ((k : Class) (n : ℕ) → is_put k n new ≡ (is_put k n mid && not (is_to_be k n last writes))) → AreIndexed old es → AreIndexed new es
+indexed_undone old mid new last es writes numbered rising once put_there gone h = record {
+  once = once;
+  rising = rising;
+  exact = λ k n.
+      gone k n ∙ by (is_to_be k n last writes) (is_put k n old) (is_put k n mid) (put_there k n)
+      (λ was to_be. (let up = most_of last n k es numbered (sym (h.exact k n) ∙ was) in let above = to_be_above k n last writes to_be in omega arith))
+      ∙ h.exact k n;
+}
+  where
+    by : (t o m : Bool) → (m || t) ≡ (o || t) → (o ≡ true → t ≡ true → ⊥) → (m && not t) ≡ o
+    by true true m e never = absurd (never refl refl)
+    by true false m e never = and_false m
+    by false o m e never = and_true m ∙ sym (or_false m) ∙ e ∙ or_false o
+
+-- entries that aren't kept, of a class and under a number
+abbrev pub is_dropped : (Entry → Bool) → Class → ℕ → List Entry → Bool
+is_dropped test k n es = list_any (λ e. not (test e) && (eqb e.number n && has_class k e.tuple)) es
+
+none_numbered : (k : Class) (n : ℕ) (test : Entry → Bool) (es : List Entry) → HasNone n es
+    → (is_numbered k n es ≡ false) × (is_numbered k n (filter test es) ≡ false) × (is_dropped test k n es ≡ false)
+none_numbered k n test [] none = (refl, refl, refl)
+none_numbered k n test (e ∷ es) none =
+    let rest = none_numbered k n test es (none_tail n e es none) in
+    let other = none_head n e es none in
+    let here : (eqb e.number n && has_class k e.tuple) ≡ false = ap (λ b. b && has_class k e.tuple) other in (
+      ap (λ b. b || is_numbered k n es) here ∙ rest.0,
+      cond_both (test e) (e ∷ filter test es) (filter test es) (λ (l : List Entry). is_numbered k n l ≡ false)
+          (λ t. ap (λ b. b || is_numbered k n (filter test es)) here ∙ rest.1) (λ f. rest.1),
+      ap (λ b. (not (test e) && b) || is_dropped test k n es) here ∙ ap (λ b. b || is_dropped test k n es) (and_false (not (test e))) ∙ rest.2,
+    )
+
+kept_numbered : (k : Class) (n : ℕ) (test : Entry → Bool) (es : List Entry) → IsRising es
+    → (is_numbered k n es && not (is_dropped test k n es)) ≡ is_numbered k n (filter test es)
+kept_numbered k n test [] rising = refl
+kept_numbered k n test (e ∷ es) rising =
+    let rest = kept_numbered k n test es (rising_tail e es rising) in
+    let above = rising_head e es rising in
+    ⊎_elim
+    (λ same.
+    let none = none_numbered k n test es (λ i d lt is. (let less = above i d lt in let at = eqb-true e.number n same in omega arith)) in
+    (tail_case (test e) (eqb e.number n && has_class k e.tuple) (is_numbered k n es) (is_numbered k n (filter test es)) (is_dropped test k n es) none.0 none.1 none.2)
+    ∙ sym (kept_head (test e)))
+    (λ other.
+    let off : (eqb e.number n && has_class k e.tuple) ≡ false = ap (λ b. b && has_class k e.tuple) other in
+    ap (λ b. (b || is_numbered k n es) && not ((not (test e) && b) || is_dropped test k n es)) off
+    ∙ ap (λ b. is_numbered k n es && not (b || is_dropped test k n es)) (and_false (not (test e)))
+    ∙ rest
+    ∙ cond_both (test e) (e ∷ filter test es) (filter test es) (λ (l : List Entry). is_numbered k n (filter test es) ≡ is_numbered k n l)
+    (λ t. sym (ap (λ b. b || is_numbered k n (filter test es)) off)) (λ f. refl))
+    (cases_Bool (eqb e.number n))
+  where
+    kept_head : (t : Bool) → is_numbered k n (cond t (e ∷ filter test es) (filter test es))
+        ≡ cond t ((eqb e.number n && has_class k e.tuple) || is_numbered k n (filter test es)) (is_numbered k n (filter test es))
+    kept_head true = refl
+    kept_head false = refl
+
+    tail_case : (t q here kept gone : Bool) → here ≡ false → kept ≡ false → gone ≡ false → ((q || here) && not ((not t && q) || gone)) ≡ cond t (q || kept) kept
+    tail_case true true here kept gone h k g = ap not g
+    tail_case true false here kept gone h k g = rw (h, k) refl
+    tail_case false true here kept gone h k g = sym k
+    tail_case false false here kept gone h k g = rw (h, k) refl
+
+-- the entries that a test drops leave their buckets, where all others stay
+pub indexed_kept : (test : Entry → Bool) (es : List Entry) (old new : List Bucket) → IsRising es → AreOrdered new → AreOnce new
+    → ((k : Class) (n : ℕ) → is_put k n new ≡ (is_put k n old && not (is_dropped test k n es))) → AreIndexed old es → AreIndexed new (filter test es)
+indexed_kept test es old new rising ordered once gone h = record {
+  once = once;
+  rising = ordered;
+  exact = λ k n. gone k n ∙ ap (λ b. b && not (is_dropped test k n es)) (h.exact k n) ∙ kept_numbered k n test es rising;
+}
+
+-- one entry's number is taken out where the entry isn't kept
+pub gone_put : (kept : Bool) (tuple : List FieldValue) (m : ℕ) (old new : List Bucket) → kept ≡ false → IsDropped tuple m old new → (k : Class) (n : ℕ)
+    → is_put k n new ≡ (is_put k n old && not (not kept && (eqb m n && has_class k tuple)))
+gone_put kept tuple m old new goes gone = λ k n.
+    dropped_put tuple m old new gone k n
+    ∙ ap (λ b. is_put k n old && not b) (turned (has_class k tuple) (eqb n m) ∙ ap (λ b. b && has_class k tuple) (eqb_swap n m)
+    ∙ sym (ap (λ b. not b && (eqb m n && has_class k tuple)) goes))
+  where
+    turned : (a b : Bool) → (a && b) ≡ (b && a)
+    turned true b = sym (and_true b)
+    turned false b = sym (and_false b)
+
+-- the numbers of the entries behind a place that aren't kept are taken out, and that of the one before them
+pub dropped_none : (test : Entry → Bool) (k : Class) (n : ℕ) (l : List Entry) (b : Bool) → l ≡ [] → b ≡ (b && not (is_dropped test k n l))
+dropped_none test k n l b none = sym (ap (λ (m : List Entry). b && not (is_dropped test k n m)) none ∙ and_true b)
+
+pub dropped_more : (test : Entry → Bool) (k : Class) (n : ℕ) (x : Entry) (rest l : List Entry) (old mid new : Bool) → l ≡ x ∷ rest → mid ≡ (old && not (is_dropped test k n rest))
+    → new ≡ (mid && not (not (test x) && (eqb x.number n && has_class k x.tuple))) → new ≡ (old && not (is_dropped test k n l))
+dropped_more test k n x rest l old mid new is before here =
+    here ∙ ap (λ b. b && not (not (test x) && (eqb x.number n && has_class k x.tuple))) before
+    ∙ by old (is_dropped test k n rest) (not (test x) && (eqb x.number n && has_class k x.tuple))
+    ∙ ap (λ (m : List Entry). old && not (is_dropped test k n m)) (sym is)
+  where
+    by : (o r t : Bool) → ((o && not r) && not t) ≡ (o && not (t || r))
+    by false r t = refl
+    by true r true = and_false (not r)
+    by true r false = and_true (not r)
 
 -- what holds of all numbers of a bucket holds of one that is in it
 of_among : (P : ℕ → Type 0) (ns : List ℕ) (n : ℕ) → All P ns → is_among n ns ≡ true → P n
@@ -212,24 +674,28 @@ of_among P (x ∷ xs) n h among = ⊎_elim
     (λ rest. of_among P xs n (All-tail P x xs h) rest)
     (or_cases (eqb n x) (is_among n xs) among)
 
-of_in : (P : ℕ → Type 0) (lists : List (Vec ℕ)) (n : ℕ) → All (λ (l : Vec ℕ). All P l.items) lists → is_in n lists ≡ true → P n
-of_in P [] n h there = absurd (false≢true there)
-of_in P (l ∷ ls) n h there =
-    let Q : Vec ℕ → Type 0 = λ l. All P l.items in
-    ⊎_elim
-    (λ here. of_among P l.items n (All-head Q l ls h) here)
-    (λ rest. of_in P ls n (All-tail Q l ls h) rest)
-    (or_cases (is_among n l.items) (is_in n ls) there)
+of_at : (P : ℕ → Type 0) (lists : List (Vec ℕ)) (l n : ℕ) → All (λ (v : Vec ℕ). All P v.items) lists → is_among n (list_at l lists) ≡ true → P n
+of_at P [] l n h there = absurd (false≢true there)
+of_at P (v ∷ vs) zero n h there = of_among P v.items n (All-head (λ (x : Vec ℕ). All P x.items) v vs h) there
+of_at P (v ∷ vs) (suc l) n h there = of_at P vs l n (All-tail (λ (x : Vec ℕ). All P x.items) v vs h) there
 
-of_put : (P : ℕ → Type 0) (bytes : List ℕ) (count : ℕ) (buckets : List Bucket) (n : ℕ)
-    → All (λ (b : Bucket). is_of bytes count b ≡ true → All (λ (l : Vec ℕ). All P l.items) b.by_length.items) buckets → is_put bytes count n buckets ≡ true → P n
-of_put P bytes count [] n h there = absurd (false≢true there)
-of_put P bytes count (b ∷ bs) n h there =
-    let Q : Bucket → Type 0 = λ b. is_of bytes count b ≡ true → All (λ (l : Vec ℕ). All P l.items) b.by_length.items in
-    ⊎_elim
-    (λ here. of_in P b.by_length.items n (All-head Q b bs h (both_left (is_of bytes count b) (is_in n b.by_length.items) here)) (both_right (is_of bytes count b) (is_in n b.by_length.items) here))
-    (λ rest. of_put P bytes count bs n (All-tail Q b bs h) rest)
-    (or_cases (is_of bytes count b && is_in n b.by_length.items) (is_put bytes count n bs) there)
+of_put : (P : ℕ → Type 0) (k : Class) (buckets : List Bucket) (n : ℕ)
+    → All (λ (b : Bucket). is_of k.word k.count b ≡ true → All (λ (l : Vec ℕ). All P l.items) b.by_length.items) buckets → is_put k n buckets ≡ true → P n
+of_put P k [] n h there = absurd (false≢true there)
+of_put P k (b ∷ bs) n h there =
+    let Q : Bucket → Type 0 = λ b. is_of k.word k.count b ≡ true → All (λ (l : Vec ℕ). All P l.items) b.by_length.items in
+    cond_both (is_of k.word k.count b) (list_at k.length b.by_length.items) (numbers_of k bs) (λ (l : List ℕ). is_among n l ≡ true → P n)
+    (λ t among. of_at P b.by_length.items k.length n (All-head Q b bs h t) among)
+    (λ f among. of_put P k bs n (All-tail Q b bs h) among)
+    there
+
+-- the number of an entry of a class is that of an entry of it
+numbered_at : (k : Class) (es : List Entry) (i : ℕ) (d : Entry) → i < length es → has_class k (get_or es i d).tuple ≡ true → is_numbered k (get_or es i d).number es ≡ true
+numbered_at k [] i d lt is = absurd (omega arith)
+numbered_at k (e ∷ es) zero d lt is = or_left (eqb e.number e.number && has_class k e.tuple) (is_numbered k e.number es) (both (eqb e.number e.number) (has_class k e.tuple) (eq-eqb e.number e.number refl) is)
+numbered_at k (e ∷ es) (suc i) d lt is =
+    let n = (get_or es i d).number in
+    or_right (eqb e.number n && has_class k e.tuple) (is_numbered k n es) (numbered_at k es i d (omega arith) is)
 
 -- a template that asks for a word first matches tuples that begin with it and are as long as it is
 first_of : (template : List PatternValue) (tuple : List FieldValue) (bytes : List ℕ) → Some bytes ≡ sought_word template → Matches template tuple
@@ -252,12 +718,15 @@ not_both false matches h = refl
 -- where nothing in the bucket of a word is wanted, nothing is
 pub none_wanted : (bytes : List ℕ) (wanted : Wanted) (moment : ℕ) (template : List PatternValue) (es : List Entry) (buckets : List Bucket) → Some bytes ≡ sought_word template
     → AreIndexed buckets es → All (HasNoneWanted bytes wanted moment template es) buckets → All (λ (e : Entry). is_wanted wanted moment template e ≡ false) es
-none_wanted bytes wanted moment template es buckets sought indexed none = λ k d lt.
-    let e = get_or es k d in
+none_wanted bytes wanted moment template es buckets sought indexed none = λ i d lt.
+    let e = get_or es i d in
     not_both (is_free wanted moment e) (does_match template e.tuple) (λ matched.
     let first = first_of template e.tuple bytes sought ((Decides-does_match template e.tuple).0 matched) in
-    let there : is_put bytes (length template) e.number buckets ≡ true = rw (sym first.1) (subst (λ o. is_put_by o (length e.tuple) e.number buckets ≡ true) first.0 (indexed k d lt)) in
-    of_put (IsUnwanted wanted moment template es) bytes (length template) buckets e.number none there k d lt refl)
+    let k : Class = record { word = bytes; count = length template; length = second_length e.tuple } in
+    let spelled = ap (λ o. is_word o bytes) first.0 ∙ (bytes_eq-Decides bytes bytes).1 refl in
+    let class = both (eqb (length e.tuple) k.count && is_word (first_word e.tuple) bytes) (eqb (second_length e.tuple) k.length)
+    (both (eqb (length e.tuple) k.count) (is_word (first_word e.tuple) bytes) (eq-eqb (length e.tuple) k.count first.1) spelled) (eq-eqb (second_length e.tuple) k.length refl) in
+    of_put (IsUnwanted wanted moment template es) k buckets e.number none (indexed.exact k e.number ∙ numbered_at k es i d lt class) i d lt refl)
 
 -- the entry of a number isn't wanted where the one at its place isn't
 pub unwanted_at : (wanted : Wanted) (moment : ℕ) (template : List PatternValue) (es : List Entry) (n i : ℕ) (x : Entry) → IsRising es → i < length es → HoldsAt (λ (e : Entry). e.number ≡ n) es i
@@ -289,6 +758,11 @@ few_more last limit x xs h =
 pub of_ok : {A E : Type 0} (P : Type 0) (r : Result A E) → OnOk r P → is_err r ≡ false → P
 of_ok P (Ok x) h e = h
 of_ok P (Err x) h e = absurd (false≢true (sym e))
+
+-- what a refusal says
+pub of_err : {A E : Type 0} (P : Type 0) (r : Result A E) → OnErr r P → is_err r ≡ true → P
+of_err P (Ok x) h e = absurd (false≢true e)
+of_err P (Err x) h e = h
 
 -- none is counted where none passes, and not none where one does
 pub count_none : (test : Entry → Bool) (es : List Entry) → All (λ (e : Entry). test e ≡ false) es → eqb (count_by test es) 0 ≡ true

@@ -16,7 +16,7 @@ use Rattle.tuple_space.specs.Space.{released, stays_without, without_taken}
 use Rattle.tuple_space.specs.declared.entry.Entry.{Entry}
 use Rattle.tuple_space.specs.declared.held.Held.{Held}
 use Rattle.tuple_space.specs.declared.hold.Hold.{Hold}
-use Rattle.tuple_space.proofs.HeldLemmas.{numbers_mine, numbers_other}
+use Rattle.tuple_space.proofs.HeldLemmas.{held_each, numbers_mine, numbers_other}
 use Rattle.tuple_space.proofs.RowLemmas.{HasNone, IsOnlyAt, none_behind, none_head, none_tail, only_tail, other_head, rising_head, rising_tail, same_head}
 
 pub remove_seam : (front : List Entry) (e : Entry) (behind : List Entry) → remove (front ++ e ∷ behind) (length front) ≡ front ++ behind
@@ -238,7 +238,7 @@ module _ (holder : ℕ) (edit : List Entry → List Entry) (edits : IsEdit holde
   pub edited_begin : (rows : List Held) (es : List Entry) → IsRising es → HasHeld rows es → IsEditedBut edit (numbers_by holder rows) es es
   edited_begin rows es rising h = record {
     rising = rising;
-    left = λ k d lt none. edits.quiet (get_or es k d) (free (is_held_by holder (get_or es k d)) _ ((h.of holder).each k d lt) none);
+    left = λ k d lt none. edits.quiet (get_or es k d) (free (is_held_by holder (get_or es k d)) _ (held_each holder (numbers_by holder rows) es (h.of holder) k d lt) none);
     same = refl;
   }
 

@@ -2,10 +2,11 @@ use Rattle.std.proofs.Common.{◌≡◌, ℕ, zero, suc, ◌<◌, Bool, true, fa
 use Rattle.std.specs.Prelude.{not, ◌≢◌, ◌&&◌, ◌||◌, is_some, All, filter, find, map, remove}
 use Rattle.std.proofs.Math.ListN.{set}
 use Rattle.std.specs.List.{list_any, HoldsAt}
-use Rattle.std.proofs.lemmas.Bool.{cond-true, cond-false, cond_both, eq-eqb, ne_eqb, cases_lt, false≢true, or_from}
+use Rattle.std.proofs.lemmas.Bool.{cond-true, cond-false, cond_both, eq-eqb, ne_eqb, cases_lt, false≢true, or_from, or_left, or_right}
 use Rattle.std.proofs.lemmas.List.{get_or-map, length-map}
 use Rattle.std.proofs.lemmas.List.Elements.{All-head, All-tail}
 use Rattle.std.proofs.lemmas.List.Kept.{AllPairs-filter}
+use Rattle.std.proofs.lemmas.Option.{none-some}
 use Rattle.tuple_space.specs.Rows.{IsRising, without, changed}
 use Rattle.tuple_space.specs.declared.entry.Entry.{Entry}
 
@@ -91,6 +92,16 @@ find_place number (y ∷ ys) zero x h is = ap Some is ∙ sym (cond-true (eqb y.
 find_place number (y ∷ ys) (suc i) x h is =
     find_place number ys i x (only_tail number y ys i h) is ∙ sym (cond-false (eqb y.number number) _ _ (other_head number y ys i h))
 
+-- where none is found, there is nothing to leave out
+pub find_nothing : (number : ℕ) (es : List Entry) → find (λ (e : Entry). eqb e.number number) es ≡ None → without number es ≡ es
+find_nothing number [] none = refl
+find_nothing number (x ∷ xs) none = by (eqb x.number number) none (find_nothing number xs)
+  where
+    by : (b : Bool) → cond b (Some x) (find (λ (e : Entry). eqb e.number number) xs) ≡ None → (find (λ (e : Entry). eqb e.number number) xs ≡ None → without number xs ≡ xs)
+        → cond (not b) (x ∷ without number xs) (without number xs) ≡ x ∷ xs
+    by true e h = absurd (none-some x (sym e))
+    by false e h = ap (λ l. x ∷ l) (h e)
+
 by_head : (a t r : Bool) → a ≡ true → r ≡ false → ((a && t) || r) ≡ t
 by_head true true r e f = refl
 by_head true false r e f = f
@@ -143,6 +154,12 @@ changed_number number change keeps e = cond_both (eqb e.number number) (change e
 pub number_none : (number : ℕ) (es : List Entry) → HasNone number es → list_any (λ (e : Entry). eqb e.number number) es ≡ false
 number_none number [] h = refl
 number_none number (x ∷ xs) h = or_from _ _ (none_head number x xs h) (number_none number xs (none_tail number x xs h))
+
+-- the entry at a place has it
+pub number_at : (number : ℕ) (es : List Entry) (i : ℕ) → i < length es → HoldsAt (λ (e : Entry). e.number ≡ number) es i → list_any (λ (e : Entry). eqb e.number number) es ≡ true
+number_at number [] i lt here = absurd (omega arith)
+number_at number (x ∷ xs) zero lt here = or_left (eqb x.number number) (list_any (λ (e : Entry). eqb e.number number) xs) (eq-eqb x.number number (here x))
+number_at number (x ∷ xs) (suc i) lt here = or_right (eqb x.number number) (list_any (λ (e : Entry). eqb e.number number) xs) (number_at number xs i (omega arith) (λ d. here d))
 
 either : (b : Bool) (x : Entry) (o : Option Entry) (rest : Bool) → is_some o ≡ rest → is_some (cond b (Some x) o) ≡ (b || rest)
 either true x o rest h = refl

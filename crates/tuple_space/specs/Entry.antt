@@ -26,6 +26,10 @@ is_taken e = list_any (λ h. h.taken) e.holds
 abbrev pub is_taken_by : ℕ → Entry → Bool
 is_taken_by holder e = list_any (λ h. (h.by == holder) && h.taken) e.holds
 
+-- a holder took it, and somebody else holds it too
+abbrev pub is_shared : ℕ → Entry → Bool
+is_shared holder e = is_taken_by holder e && list_any (λ h. not (h.by == holder)) e.holds
+
 -- it is there: its lease is live, or somebody holds it
 abbrev pub is_there : ℕ → Entry → Bool
 is_there moment e = is_live moment e.end || is_held e

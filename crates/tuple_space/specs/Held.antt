@@ -1,7 +1,8 @@
 -- Who holds which entries, by their numbers.
-use Rattle.std.specs.Prelude.{◌≡◌, ℕ, ◌<◌, ◌==◌, Bool, true, List, All, AllPairs, filter, map}
+use Rattle.std.specs.Prelude.{◌≡◌, ℕ, ◌<◌, ◌==◌, ◌&&◌, ◌||◌, not, Bool, List, AllPairs, filter, map}
 use Rattle.std.specs.List.{list_any}
 use Rattle.tuple_space.specs.Entry.{is_held_by}
+use Rattle.tuple_space.specs.Rows.{has_number}
 use Rattle.tuple_space.specs.declared.entry.Entry.{Entry}
 use Rattle.tuple_space.specs.declared.held.Held.{Held}
 
@@ -17,11 +18,19 @@ AreRising numbers = AllPairs (λ x y. x < y) numbers
 abbrev pub numbers_by : ℕ → List Held → List ℕ
 numbers_by holder rows = map (λ r. r.entry) (filter (λ r. r.by == holder) rows)
 
--- these numbers rise, and each entry that the holder holds has one of them
+-- a holder holds the entry of a number
+abbrev pub holds_number : ℕ → ℕ → List Entry → Bool
+holds_number holder number entries = list_any (λ e. (e.number == number) && is_held_by holder e) entries
+
+-- these numbers rise, and they are those of the entries that the holder holds
 pub record HasHeldBy (holder : ℕ) (numbers : List ℕ) (entries : List Entry) : Type 0 where
   pub rising : AreRising numbers
-  pub each : All (λ e. is_held_by holder e ≡ true → is_among e.number numbers ≡ true) entries
+  pub exact : (number : ℕ) → is_among number numbers ≡ holds_number holder number entries
 
--- beside each holder stand, in rising order, the numbers of all entries that it holds
+-- beside each holder stand, in rising order, the numbers of the entries that it holds, and no others
 pub record HasHeld (rows : List Held) (entries : List Entry) : Type 0 where
   pub of : (holder : ℕ) → HasHeldBy holder (numbers_by holder rows) entries
+
+-- a row stays where entries are gone, and with them all rows of a holder, or of everybody, that are of none of these
+abbrev pub stays_noted : ℕ → Bool → List Entry → Held → Bool
+stays_noted holder all entries row = (not all && not (row.by == holder)) || has_number row.entry entries

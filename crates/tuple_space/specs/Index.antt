@@ -1,11 +1,11 @@
 -- Where the numbers of entries stand: by the word that a tuple begins with, and how many fields it has.
-use Rattle.std.specs.Prelude.{◌≡◌, ◌≢◌, ◌≤◌, ℕ, ◌+◌, ◌==◌, ◌&&◌, if◌then◌else◌, Bool, true, false, List, [], ◌∷◌, All, Option, Some, None, length, string_bytes}
+use Rattle.std.specs.Prelude.{◌≡◌, ◌≢◌, ◌≤◌, ℕ, zero, suc, ◌+◌, ◌==◌, ◌&&◌, ◌||◌, not, if◌then◌else◌, Bool, true, false, List, [], ◌∷◌, ◌++◌, All, AllPairs, Option, Some, None, filter, length, map, string_bytes}
 use Rattle.std.specs.Global.{Vec}
 use Rattle.std.specs.List.{list_any}
 use Rattle.std.specs.Str.{bytes_eq}
 use Rattle.tuple_match.specs.FieldValue.{FieldValue, word, numbers}
 use Rattle.tuple_match.specs.PatternValue.{PatternValue, actual}
-use Rattle.tuple_space.specs.Held.{is_among}
+use Rattle.tuple_space.specs.Held.{AreRising, is_among}
 use Rattle.tuple_space.specs.Wanted.{is_wanted}
 use Rattle.tuple_space.specs.declared.search.Wanted.{Wanted}
 use Rattle.tuple_space.specs.declared.entry.Entry.{Entry}
@@ -31,52 +31,86 @@ sought_word _ = None
 abbrev pub is_of : List ℕ → ℕ → Bucket → Bool
 is_of bytes count bucket = (bucket.count == count) && bytes_eq (string_bytes bucket.word) bytes
 
--- a number is in one of these lists
-abbrev pub is_in : ℕ → List (Vec ℕ) → Bool
-is_in number lists = list_any (λ (l : Vec ℕ). is_among number l.items) lists
+-- the numbers under a length, among lists of which each stands at its length
+abbrev pub list_at : ℕ → List (Vec ℕ) → List ℕ
+list_at length [] = []
+list_at zero (l ∷ ls) = l.items
+list_at (suc length) (l ∷ ls) = list_at length ls
 
--- a number is in a bucket of a word and a count
-abbrev pub is_put : List ℕ → ℕ → ℕ → List Bucket → Bool
-is_put bytes count number buckets = list_any (λ (b : Bucket). is_of bytes count b && is_in number b.by_length.items) buckets
+-- a class of tuples: the word that they begin with, how many fields they have, and the length of the second, 0 where it is no list
+pub record Class : Type 0 where
+  pub word : List ℕ
+  pub count : ℕ
+  pub length : ℕ
 
-abbrev pub is_put_by : Option (List ℕ) → ℕ → ℕ → List Bucket → Bool
-is_put_by (Some bytes) count number buckets = is_put bytes count number buckets
-is_put_by None count number buckets = true
+abbrev pub is_word : Option (List ℕ) → List ℕ → Bool
+is_word (Some bytes) sought = bytes_eq bytes sought
+is_word None sought = false
 
--- the number of a tuple is in the bucket where each template looks that asks for its first word
-abbrev pub is_indexed : List Bucket → List FieldValue → ℕ → Bool
-is_indexed buckets tuple number = is_put_by (first_word tuple) (length tuple) number buckets
+-- a tuple is one of a class; one that begins with no word is of none
+abbrev pub has_class : Class → List FieldValue → Bool
+has_class class tuple = ((length tuple == class.count) && is_word (first_word tuple) class.word) && (second_length tuple == class.length)
 
--- all entries are
-abbrev pub AreIndexed : List Bucket → List Entry → Type 0
-AreIndexed buckets entries = All (λ e. is_indexed buckets e.tuple e.number ≡ true) entries
+-- the numbers that stand under a class
+abbrev pub numbers_of : Class → List Bucket → List ℕ
+numbers_of class [] = []
+numbers_of class (b ∷ bs) = if is_of class.word class.count b then list_at class.length b.by_length.items else numbers_of class bs
 
--- what is in the buckets stays there
-abbrev pub StaysIndexed : List Bucket → List Bucket → Type 0
-StaysIndexed old new = (tuple : List FieldValue) (number : ℕ) → is_indexed old tuple number ≡ true → is_indexed new tuple number ≡ true
+-- a number is one of them
+abbrev pub is_put : Class → ℕ → List Bucket → Bool
+is_put class number buckets = is_among number (numbers_of class buckets)
 
--- but for one number
-abbrev pub StaysIndexedBut : ℕ → List Bucket → List Bucket → Type 0
-StaysIndexedBut gone old new =
-    (tuple : List FieldValue) (number : ℕ) → number ≢ gone → is_indexed old tuple number ≡ true → is_indexed new tuple number ≡ true
+-- what a bucket is found by
+abbrev pub key : Bucket → List ℕ × ℕ
+key bucket = (string_bytes bucket.word, bucket.count)
 
--- up to a number
-abbrev pub StaysIndexedTo : ℕ → List Bucket → List Bucket → Type 0
-StaysIndexedTo last old new = (tuple : List FieldValue) (number : ℕ) → number ≤ last → is_indexed old tuple number ≡ true → is_indexed new tuple number ≡ true
+-- no two buckets are of the same word and count
+abbrev pub AreOnce : List Bucket → Type 0
+AreOnce buckets = AllPairs (λ k j. k ≢ j) (map key buckets)
+
+-- the numbers under each class rise
+abbrev pub AreOrdered : List Bucket → Type 0
+AreOrdered buckets = (class : Class) → AreRising (numbers_of class buckets)
+
+-- some entry of a class has the number
+abbrev pub is_numbered : Class → ℕ → List Entry → Bool
+is_numbered class number entries = list_any (λ e. (e.number == number) && has_class class e.tuple) entries
+
+-- under each class stand, in rising order, the numbers of the entries whose tuples are of it, and no others
+pub record AreIndexed (buckets : List Bucket) (entries : List Entry) : Type 0 where
+  pub once : AreOnce buckets
+  pub rising : AreOrdered buckets
+  pub exact : (class : Class) (number : ℕ) → is_put class number buckets ≡ is_numbered class number entries
+
+-- the same numbers stand there
+abbrev pub AreSame : List Bucket → List Bucket → Type 0
+AreSame old new = (class : Class) → numbers_of class new ≡ numbers_of class old
+
+-- the number of a tuple was put behind those of its class
+abbrev pub IsAdded : List FieldValue → ℕ → List Bucket → List Bucket → Type 0
+IsAdded tuple number old new = (class : Class) → numbers_of class new ≡ numbers_of class old ++ (if has_class class tuple then number ∷ [] else [])
+
+-- the number of a tuple was taken out
+abbrev pub IsDropped : List FieldValue → ℕ → List Bucket → List Bucket → Type 0
+IsDropped tuple number old new = (class : Class) → numbers_of class new ≡ filter (λ n. not (has_class class tuple && (n == number))) (numbers_of class old)
 
 -- the number last given after a write
 abbrev pub last_after : ℕ → Write → ℕ
 last_after last write = if write.taken then last else last + 1
 
--- writes are in the buckets under the numbers that they are to have
-abbrev pub AreWritesIndexed : List Bucket → ℕ → List Write → Type 0
-AreWritesIndexed buckets last [] = Unit {0}
-AreWritesIndexed buckets last (x ∷ xs) =
-    (x.taken ≡ false → is_indexed buckets x.tuple (last + 1) ≡ true) × AreWritesIndexed buckets (last_after last x) xs
+-- a write is to have this number, and its tuple is of this class
+abbrev pub is_next : Class → ℕ → ℕ → Write → Bool
+is_next class number last write = not write.taken && (has_class class write.tuple && (number == last + 1))
 
--- the entries that pass a test stay in the buckets
-abbrev pub StayIndexed : (Entry → Bool) → List Entry → List Bucket → List Bucket → Type 0
-StayIndexed test entries old new = All (λ e. test e ≡ true → is_indexed old e.tuple e.number ≡ true → is_indexed new e.tuple e.number ≡ true) entries
+-- one of several is
+abbrev pub is_to_be : Class → ℕ → ℕ → List Write → Bool
+is_to_be class number last [] = false
+is_to_be class number last (x ∷ xs) = is_next class number last x || is_to_be class number (last_after last x) xs
+
+-- the numbers under each class rise, up to one
+pub record AreUpTo (last : ℕ) (buckets : List Bucket) : Type 0 where
+  pub rising : AreOrdered buckets
+  pub most : (class : Class) → All (λ n. n ≤ last) (numbers_of class buckets)
 
 -- the entry of a number isn't wanted
 abbrev pub IsUnwanted : Wanted → ℕ → List PatternValue → List Entry → ℕ → Type 0

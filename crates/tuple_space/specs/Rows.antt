@@ -1,5 +1,6 @@
 -- Rows of entries.
-use Rattle.std.specs.Prelude.{ℕ, ◌<◌, ◌==◌, not, List, [], ◌∷◌, ◌++◌, AllPairs, filter, map, if◌then◌else◌}
+use Rattle.std.specs.Prelude.{Bool, ℕ, ◌<◌, ◌==◌, not, List, [], ◌∷◌, ◌++◌, AllPairs, filter, map, if◌then◌else◌}
+use Rattle.std.specs.List.{list_any}
 use Rattle.tuple_match.specs.FieldValue.{FieldValue}
 use Rattle.tuple_space.specs.Lease.{is_permanent, later}
 use Rattle.tuple_space.specs.declared.lease.LeaseEnd.{LeaseEnd}
@@ -8,6 +9,10 @@ use Rattle.tuple_space.specs.declared.entry.Entry.{Entry}
 -- each number is below those behind it
 abbrev pub IsRising : List Entry → Type 0
 IsRising entries = AllPairs (λ x y. x.number < y.number) entries
+
+-- some entry has the number
+abbrev pub has_number : ℕ → List Entry → Bool
+has_number number entries = list_any (λ e. e.number == number) entries
 
 -- all entries but that of a number
 abbrev pub without : ℕ → List Entry → List Entry

@@ -2,7 +2,10 @@
 
 ghost use Rattle.std.specs.Prelude.{ℕ, ◌≡◌, ◌≢◌, ◌<◌, ◌≤◌, ◌+◌, ◌==◌, ◌||◌, ◌&&◌, MatchBool, filter, length, not, vec_capacity, vec_len};
 ghost use Rattle.std.specs.List.{AllWithin, HoldsAt};
-ghost use Rattle.tuple_space.specs.Held.{AreRising, is_among, numbers_by};
+ghost use Rattle.tuple_space.specs.Held.{AreRising, is_among, numbers_by, stays_noted};
+
+use crate::entries::Entries;
+use crate::rows::has_number;
 
 /// That somebody holds an entry.
 #[derive(Clone, Copy, Debug, PartialEq, Eq)]
@@ -52,6 +55,28 @@ pub(crate) fn add_held(rows: &mut Vec<Held>, new: Held)
         return;
     }
     rows.insert(place, new).unwrap();
+}
+
+/// Drops the rows of an entry.
+pub(crate) fn drop_rows_of(rows: &mut Vec<Held>, number: u64)
+    ensures { rows.new.items ≡ filter (λ r. not (r.entry == number)) rows.old.items }
+{
+    rows.retain(|row| row.entry != number);
+}
+
+/// Drops the rows of entries that are gone: those of a holder, and where it is asked those of all others too, which is then
+/// looked up for each row.
+pub(crate) fn drop_rows_gone(rows: &mut Vec<Held>, entries: &Entries, holder: u64, all: bool)
+    ensures { rows.new.items ≡ filter (stays_noted holder all entries.now.items) rows.old.items }
+{
+    rows.retain(|row| is_row_left(row, entries, holder, all));
+}
+
+/// Whether a row stays where entries are gone.
+fn is_row_left(row: &Held, entries: &Entries, holder: u64, all: bool) -> bool
+    ensures { result ≡ stays_noted holder all entries.now.items row.now }
+{
+    !all && row.by != holder || has_number(entries, row.entry)
 }
 
 /// Drops the rows of a holder.

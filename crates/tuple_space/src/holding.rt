@@ -1,9 +1,10 @@
 //! What holding entries does to rows of them.
 
-ghost use Rattle.std.specs.Prelude.{◌≡◌, All, ◌+◌, ◌<◌, ◌≤◌, ◌^◌, ◌==◌, ◌&&◌, true, IsOk, [], ◌∷◌, ◌++◌, List, length, OnErr, OnOk};
+ghost use Rattle.std.specs.Prelude.{◌≡◌, All, ◌+◌, ◌<◌, ◌≤◌, ◌^◌, ◌==◌, ◌&&◌, true, false, IsOk, [], ◌∷◌, ◌++◌, List, length, OnErr, OnOk};
 ghost use Rattle.std.specs.List.{list_any};
-ghost use Rattle.tuple_space.specs.Entry.{is_held_by, is_taken_by};
+ghost use Rattle.tuple_space.specs.Entry.{is_held_by, is_shared};
 ghost use Rattle.tuple_space.specs.Held.{HasHeld};
+ghost use Rattle.tuple_space.specs.Index.{AreIndexed};
 ghost use Rattle.tuple_space.specs.Rows.{IsRising, changed, edited_at};
 ghost use Rattle.tuple_space.specs.Space.{held_by, released, space_of, stays_without, without_taken};
 ghost use Rattle.tuple_space.specs.Places.{items_in};
@@ -13,6 +14,8 @@ use crate::entries::Entries;
 use crate::entry::Entry;
 use crate::held::Held;
 use crate::hold::{Hold, Holds};
+use crate::index::Bucket;
+use crate::rows::take_at;
 use crate::write::{Rows, Write, Writes};
 use std::alloc::AllocError;
 
@@ -67,72 +70,142 @@ pub(crate) fn stays_without(entry: &Entry, holder: u64, moment: u64) -> bool
 }
 
 /// Ends the holds of a holder, and drops the entries that go with them, where these rows tell who holds which entries.
-pub(crate) fn release_all(entries: &mut Entries, held: &[Held], holder: u64, moment: u64)
+pub(crate) fn release_all(
+    entries: &mut Entries,
+    buckets: &mut Vec<Bucket>,
+    held: &[Held],
+    holder: u64,
+    moment: u64,
+)
     requires rising { IsRising entries.old.items }
     requires held { HasHeld held.now entries.old.items }
-    ensures { entries.new.items ≡ released holder moment entries.old.items }
+    requires indexed { AreIndexed buckets.old.items entries.old.items }
+    ensures released { entries.new.items ≡ released holder moment entries.old.items }
+    ensures indexed { AreIndexed buckets.new.items entries.new.items }
 {
     for row in held {
         if row.by == holder {
-            release_number(entries, row.entry, holder, moment);
+            release_number(entries, buckets, row.entry, holder, moment);
         }
     }
 }
 
 /// Ends a holder's hold of the entry of a number, and drops the entry where it goes with it.
-fn release_number(entries: &mut Entries, number: u64, holder: u64, moment: u64)
-    requires { IsRising entries.old.items }
-    ensures { entries.new.items ≡ edited_at number (released holder moment) entries.old.items }
+fn release_number(
+    entries: &mut Entries,
+    buckets: &mut Vec<Bucket>,
+    number: u64,
+    holder: u64,
+    moment: u64,
+)
+    requires rising { IsRising entries.old.items }
+    requires indexed { AreIndexed buckets.old.items entries.old.items }
+    ensures edited { entries.new.items ≡ edited_at number (released holder moment) entries.old.items }
+    ensures indexed { AreIndexed buckets.new.items entries.new.items }
 {
     if let Some(place) = entries.place_of(number) {
-        release_at(entries, place, holder, moment);
+        release_at(entries, buckets, place, holder, moment);
     }
 }
 
 /// Ends a holder's hold of the entry at a place, and drops the entry where it goes with it.
-fn release_at(entries: &mut Entries, place: usize, holder: u64, moment: u64)
-    requires { place < length entries.old.items }
-    ensures { (front : List Entry) (e : Entry) (behind : List Entry) → entries.old.items ≡ front ++ e ∷ behind → length front ≡ place
+fn release_at(
+    entries: &mut Entries,
+    buckets: &mut Vec<Bucket>,
+    place: usize,
+    holder: u64,
+    moment: u64,
+)
+    requires rising { IsRising entries.old.items }
+    requires within { place < length entries.old.items }
+    requires indexed { AreIndexed buckets.old.items entries.old.items }
+    ensures released { (front : List Entry) (e : Entry) (behind : List Entry) → entries.old.items ≡ front ++ e ∷ behind → length front ≡ place
         → entries.new.items ≡ front ++ (released holder moment (e ∷ []) ++ behind) }
+    ensures indexed { AreIndexed buckets.new.items entries.new.items }
 {
     if !stays_without(&entries.as_slice()[place], holder, moment) {
-        entries.remove(place);
+        take_at(entries, buckets, place);
         return;
     }
     entries.release(place, holder);
 }
 
+/// Whether somebody else holds the entry of a number, which a holder took.
+fn is_shared(entries: &Entries, number: u64, holder: u64) -> bool
+    requires { IsRising entries.now.items }
+    ensures { result ≡ list_any (λ e. (e.number == number) && is_shared holder e) entries.now.items }
+{
+    match entries.place_of(number) {
+        Some(place) => is_entry_shared(&entries.as_slice()[place], holder),
+        None => false,
+    }
+}
+
+/// Whether somebody else holds an entry that a holder took.
+fn is_entry_shared(entry: &Entry, holder: u64) -> bool
+    ensures { result ≡ is_shared holder entry.now }
+{
+    entry.holds.is_taken_by(holder) && entry.holds.is_held_besides(holder)
+}
+
+/// Whether somebody else holds one of the entries that a holder took, where these rows tell who holds which entries.
+pub(crate) fn is_any_shared(entries: &Entries, held: &[Held], holder: u64) -> bool
+    requires rising { IsRising entries.now.items }
+    requires held { HasHeld held.now entries.now.items }
+    ensures { result ≡ false → All (λ e. is_shared holder e ≡ false) entries.now.items }
+{
+    for place in 0..held.len() {
+        let row = held[place];
+        if row.by == holder && is_shared(entries, row.entry, holder) {
+            return true;
+        }
+    }
+    false
+}
+
 /// Drops the entries that a holder took, where these rows tell who holds which entries.
-pub(crate) fn drop_taken(entries: &mut Entries, held: &[Held], holder: u64)
+pub(crate) fn drop_taken(
+    entries: &mut Entries,
+    buckets: &mut Vec<Bucket>,
+    held: &[Held],
+    holder: u64,
+)
     requires rising { IsRising entries.old.items }
     requires held { HasHeld held.now entries.old.items }
-    ensures { entries.new.items ≡ without_taken holder entries.old.items }
+    requires indexed { AreIndexed buckets.old.items entries.old.items }
+    ensures taken { entries.new.items ≡ without_taken holder entries.old.items }
+    ensures indexed { AreIndexed buckets.new.items entries.new.items }
 {
     for row in held {
         if row.by == holder {
-            drop_taken_number(entries, row.entry, holder);
+            drop_taken_number(entries, buckets, row.entry, holder);
         }
     }
 }
 
 /// Drops the entry of a number where a holder took it.
-fn drop_taken_number(entries: &mut Entries, number: u64, holder: u64)
-    requires { IsRising entries.old.items }
-    ensures { entries.new.items ≡ edited_at number (without_taken holder) entries.old.items }
+fn drop_taken_number(entries: &mut Entries, buckets: &mut Vec<Bucket>, number: u64, holder: u64)
+    requires rising { IsRising entries.old.items }
+    requires indexed { AreIndexed buckets.old.items entries.old.items }
+    ensures edited { entries.new.items ≡ edited_at number (without_taken holder) entries.old.items }
+    ensures indexed { AreIndexed buckets.new.items entries.new.items }
 {
     if let Some(place) = entries.place_of(number) {
-        drop_taken_at(entries, place, holder);
+        drop_taken_at(entries, buckets, place, holder);
     }
 }
 
 /// Drops the entry at a place where a holder took it.
-fn drop_taken_at(entries: &mut Entries, place: usize, holder: u64)
-    requires { place < length entries.old.items }
-    ensures { (front : List Entry) (e : Entry) (behind : List Entry) → entries.old.items ≡ front ++ e ∷ behind → length front ≡ place
+fn drop_taken_at(entries: &mut Entries, buckets: &mut Vec<Bucket>, place: usize, holder: u64)
+    requires rising { IsRising entries.old.items }
+    requires within { place < length entries.old.items }
+    requires indexed { AreIndexed buckets.old.items entries.old.items }
+    ensures taken { (front : List Entry) (e : Entry) (behind : List Entry) → entries.old.items ≡ front ++ e ∷ behind → length front ≡ place
         → entries.new.items ≡ front ++ (without_taken holder (e ∷ []) ++ behind) }
+    ensures indexed { AreIndexed buckets.new.items entries.new.items }
 {
     if entries.as_slice()[place].holds.is_taken_by(holder) {
-        entries.remove(place);
+        take_at(entries, buckets, place);
     }
 }
 

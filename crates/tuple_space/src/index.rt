@@ -1,10 +1,10 @@
 //! Where entries stand: the numbers of those whose tuples begin with a word, by that word and how many fields they have.
 
-ghost use Rattle.std.specs.Prelude.{ℕ, ◌≡◌, ◌≢◌, ◌<◌, true, false, All, IfNone, IfOk, IfSome, OnOk, length, vec_len};
-ghost use Rattle.std.specs.List.{HoldsAt};
+ghost use Rattle.std.specs.Prelude.{ℕ, ◌≡◌, ◌≢◌, ◌<◌, ◌==◌, ◌++◌, ◌∷◌, [], true, false, not, All, IfNone, IfOk, IfSome, OnErr, OnOk, filter, length, vec_len};
+ghost use Rattle.std.specs.List.{AllWithin, HoldsAt};
 ghost use Rattle.std.specs.Option.{option_copied};
-ghost use Rattle.tuple_space.specs.Held.{is_among};
-ghost use Rattle.tuple_space.specs.Index.{StaysIndexed, StaysIndexedBut, first_word, is_in, is_indexed, is_of, second_length, sought_word};
+ghost use Rattle.tuple_space.specs.Held.{AreRising};
+ghost use Rattle.tuple_space.specs.Index.{AreOnce, AreOrdered, AreSame, IsAdded, IsDropped, first_word, is_of, list_at, second_length, sought_word};
 
 use std::alloc::AllocError;
 use tuple_match::{Field, Pattern, Template, Tuple};
@@ -62,6 +62,7 @@ fn place_of_bucket(buckets: &[Bucket], word: &str, count: usize) -> Option<usize
     ensures none { IfNone result (All (λ b. is_of word.now count b ≡ false) buckets.now) }
     ensures place { IfSome result (λ i. i < length buckets.now) }
     ensures is { IfSome result (HoldsAt (λ b. is_of word.now count b ≡ true) buckets.now) }
+    ensures before { IfSome result (AllWithin (λ b. is_of word.now count b ≡ false) buckets.now 0) }
 {
     for place in 0..buckets.len() {
         if is_of(&buckets[place], word, count) {
@@ -75,7 +76,9 @@ fn place_of_bucket(buckets: &[Bucket], word: &str, count: usize) -> Option<usize
 fn place_for(buckets: &mut Vec<Bucket>, word: &str, count: usize) -> Result<usize, AllocError>
     ensures place { IfOk result (λ i. i < length buckets.new.items) }
     ensures is { IfOk result (HoldsAt (λ b. is_of word.now count b ≡ true) buckets.new.items) }
-    ensures stays { StaysIndexed buckets.old.items buckets.new.items }
+    ensures before { IfOk result (AllWithin (λ b. is_of word.now count b ≡ false) buckets.new.items 0) }
+    ensures same { AreSame buckets.old.items buckets.new.items }
+    ensures once { AreOnce buckets.old.items → AreOnce buckets.new.items }
 {
     if let Some(place) = place_of_bucket(buckets, word, count) {
         return Ok(place);
@@ -95,7 +98,7 @@ fn place_for(buckets: &mut Vec<Bucket>, word: &str, count: usize) -> Result<usiz
 /// Sees to it that there is a list for a length.
 fn grow(lists: &mut Vec<Vec<u64>>, length: usize) -> Result<(), AllocError>
     ensures long { OnOk result (length < vec_len lists.new) }
-    ensures stays { (n : ℕ) → is_in n lists.old.items ≡ true → is_in n lists.new.items ≡ true }
+    ensures same { (l : ℕ) → list_at l lists.new.items ≡ list_at l lists.old.items }
 {
     let alloc = *lists.allocator();
     while lists.len() <= length {
@@ -106,8 +109,9 @@ fn grow(lists: &mut Vec<Vec<u64>>, length: usize) -> Result<(), AllocError>
 
 /// Puts a number behind those of a length.
 fn put_number(lists: &mut Vec<Vec<u64>>, length: usize, number: u64) -> Result<(), AllocError>
-    ensures put { OnOk result (is_in number lists.new.items ≡ true) }
-    ensures stays { (n : ℕ) → is_in n lists.old.items ≡ true → is_in n lists.new.items ≡ true }
+    ensures put { OnOk result (list_at length lists.new.items ≡ list_at length lists.old.items ++ number ∷ []) }
+    ensures err { OnErr result (list_at length lists.new.items ≡ list_at length lists.old.items) }
+    ensures others { (l : ℕ) → l ≢ length → list_at l lists.new.items ≡ list_at l lists.old.items }
 {
     grow(lists, length)?;
     lists[length].push(number)?;
@@ -116,7 +120,9 @@ fn put_number(lists: &mut Vec<Vec<u64>>, length: usize, number: u64) -> Result<(
 
 /// Takes a number out of those of a length.
 fn take_number(lists: &mut Vec<Vec<u64>>, length: usize, number: u64)
-    ensures { (n : ℕ) → n ≢ number → is_in n lists.old.items ≡ true → is_in n lists.new.items ≡ true }
+    requires { AreRising (list_at length lists.old.items) }
+    ensures gone { list_at length lists.new.items ≡ filter (λ n. not (n == number)) (list_at length lists.old.items) }
+    ensures others { (l : ℕ) → l ≢ length → list_at l lists.new.items ≡ list_at l lists.old.items }
 {
     if length < lists.len() {
         drop_number(&mut lists[length], number);
@@ -125,7 +131,8 @@ fn take_number(lists: &mut Vec<Vec<u64>>, length: usize, number: u64)
 
 /// Takes a number out of numbers in rising order.
 fn drop_number(numbers: &mut Vec<u64>, number: u64)
-    ensures { (n : ℕ) → n ≢ number → is_among n numbers.old.items ≡ true → is_among n numbers.new.items ≡ true }
+    requires { AreRising numbers.old.items }
+    ensures { numbers.new.items ≡ filter (λ n. not (n == number)) numbers.old.items }
 {
     if let Ok(place) = numbers.binary_search(&number) {
         numbers.remove(place);
@@ -139,8 +146,9 @@ pub(crate) fn add_entry(
     tuple: &Tuple,
     number: u64,
 ) -> Result<(), AllocError>
-    ensures put { OnOk result (is_indexed buckets.new.items tuple.now number ≡ true) }
-    ensures stays { StaysIndexed buckets.old.items buckets.new.items }
+    ensures put { OnOk result (IsAdded tuple.now number buckets.old.items buckets.new.items) }
+    ensures err { OnErr result (AreSame buckets.old.items buckets.new.items) }
+    ensures once { AreOnce buckets.old.items → AreOnce buckets.new.items }
 {
     let Some(word) = first_word(tuple) else {
         return Ok(());
@@ -152,7 +160,9 @@ pub(crate) fn add_entry(
 
 /// Takes the number of a tuple out of its bucket.
 pub(crate) fn drop_entry(buckets: &mut Vec<Bucket>, tuple: &Tuple, number: u64)
-    ensures { StaysIndexedBut number buckets.old.items buckets.new.items }
+    requires { AreOrdered buckets.old.items }
+    ensures dropped { IsDropped tuple.now number buckets.old.items buckets.new.items }
+    ensures once { AreOnce buckets.old.items → AreOnce buckets.new.items }
 {
     let Some(word) = first_word(tuple) else {
         return;

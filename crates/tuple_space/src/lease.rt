@@ -4,7 +4,7 @@ ghost use Rattle.std.specs.Prelude.{◌≡◌, ◌+◌, ◌≤◌, ◌<◌, ◌^
 ghost use Rattle.tuple_space.specs.Lease.{granted, is_live, is_permanent, later};
 
 /// The longest lease that is granted, in milliseconds: one day.
-const LONGEST_LEASE: u64 = 86_400_000;
+pub const LONGEST_LEASE: u64 = 86_400_000;
 
 /// How long a tuple is asked to stay.
 #[derive(Clone, Copy, Debug, PartialEq, Eq)]

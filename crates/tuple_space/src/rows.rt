@@ -1,15 +1,17 @@
 //! Rows of entries in rising order of number.
 
-ghost use Rattle.std.specs.Prelude.{◌≡◌, ◌<◌, ◌==◌, ◌&&◌, true, false, MatchBool, count_by, filter, find, length, slice_index_or};
+ghost use Rattle.std.specs.Prelude.{◌≡◌, ◌<◌, ◌==◌, ◌&&◌, true, false, MatchBool, count_by, filter, find, length, remove, slice_index_or};
 ghost use Rattle.std.specs.List.{list_any};
 ghost use Rattle.std.specs.Option.{option_copied};
 ghost use Rattle.tuple_space.specs.Lease.{is_live, later};
 ghost use Rattle.tuple_space.specs.Entry.{is_counted};
-ghost use Rattle.tuple_space.specs.Rows.{IsRising, changed, with_end, without};
+ghost use Rattle.tuple_space.specs.Index.{AreIndexed};
+ghost use Rattle.tuple_space.specs.Rows.{IsRising, changed, has_number, with_end, without};
 
 use crate::admission::is_counted;
 use crate::entries::Entries;
 use crate::entry::Entry;
+use crate::index::{Bucket, drop_entry};
 use crate::lease::LeaseEnd;
 use tuple_match::Template;
 
@@ -24,24 +26,45 @@ pub(crate) fn entry_of(entries: &Entries, number: u64) -> Option<&Entry>
     }
 }
 
-/// Takes out the entry at a place.
-pub(crate) fn take_at(entries: &mut Entries, place: usize) -> Entry
-    requires rising { IsRising entries.old.items }
-    requires within { place < length entries.old.items }
-    ensures value { result ≡ slice_index_or entries.old.items place result }
-    ensures rest { entries.new.items ≡ without result.number entries.old.items }
-{
-    entries.remove(place)
-}
-
-/// Takes out the entry of a number.
-pub(crate) fn take_number(entries: &mut Entries, number: u64) -> Option<Entry>
-    requires { IsRising entries.old.items }
-    ensures value { result ≡ find (λ e. e.number == number) entries.old.items }
-    ensures rest { entries.new.items ≡ without number entries.old.items }
+/// Whether there is an entry of a number.
+pub(crate) fn has_number(entries: &Entries, number: u64) -> bool
+    ensures { result ≡ has_number number entries.now.items }
 {
     match entries.place_of(number) {
-        Some(place) => Some(take_at(entries, place)),
+        Some(_) => true,
+        None => false,
+    }
+}
+
+/// Takes out the entry at a place, and its number out of its bucket.
+pub(crate) fn take_at(entries: &mut Entries, buckets: &mut Vec<Bucket>, place: usize) -> Entry
+    requires rising { IsRising entries.old.items }
+    requires within { place < length entries.old.items }
+    requires indexed { AreIndexed buckets.old.items entries.old.items }
+    ensures value { result ≡ slice_index_or entries.old.items place result }
+    ensures removed { entries.new.items ≡ remove entries.old.items place }
+    ensures rest { entries.new.items ≡ without result.number entries.old.items }
+    ensures indexed { AreIndexed buckets.new.items entries.new.items }
+{
+    let entry = entries.remove(place);
+    drop_entry(buckets, &entry.tuple, entry.number);
+    entry
+}
+
+/// Takes out the entry of a number, and the number out of its bucket.
+pub(crate) fn take_number(
+    entries: &mut Entries,
+    buckets: &mut Vec<Bucket>,
+    number: u64,
+) -> Option<Entry>
+    requires rising { IsRising entries.old.items }
+    requires indexed { AreIndexed buckets.old.items entries.old.items }
+    ensures value { result ≡ find (λ e. e.number == number) entries.old.items }
+    ensures rest { entries.new.items ≡ without number entries.old.items }
+    ensures indexed { AreIndexed buckets.new.items entries.new.items }
+{
+    match entries.place_of(number) {
+        Some(place) => Some(take_at(entries, buckets, place)),
         None => None,
     }
 }

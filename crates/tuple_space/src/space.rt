@@ -14,11 +14,13 @@ use crate::ends::{end_with, end_with_all, first_end};
 use crate::entries::Entries;
 use crate::entry::{Claim, Entry, EntryId};
 use crate::error::SpaceError;
-use crate::held::{Held, add_held, drop_rows_by};
+use crate::held::{Held, add_held, drop_rows_by, drop_rows_gone, drop_rows_of};
 use crate::hold::Holds;
-use crate::holding::{count_puts, drop_taken, hold_entry, is_entry_held_by, put_rows, release_all};
-use crate::index::{Bucket, add_entry, drop_entry};
-use crate::indexing::{add_writes, drop_all_taken, drop_gone, drop_leaving, drop_writes};
+use crate::holding::{
+    count_puts, drop_taken, hold_entry, is_any_shared, is_entry_held_by, put_rows, release_all,
+};
+use crate::index::{Bucket, add_entry};
+use crate::indexing::{add_writes, drop_gone, drop_writes};
 use crate::lease::Lease;
 use crate::permanent::permanent_of;
 use crate::rows::{change_end, count_of, entry_of, take_at, take_number};
@@ -121,8 +123,7 @@ impl Space {
             self.moment,
             template,
         )?;
-        let entry = take_at(&mut self.entries, place);
-        drop_entry(&mut self.buckets, &entry.tuple, entry.number);
+        let entry = take_at(&mut self.entries, &mut self.buckets, place);
         Some((EntryId::new(entry.number), entry.tuple))
     }
 
@@ -203,7 +204,7 @@ impl Space {
     pub fn entry(&self, id: EntryId) -> Option<&Entry>
         ensures { option_copied result ≡ find (λ e. e.number == id) self.now.entries }
     {
-        entry_of(&self.entries, id.number())
+        self.entry_numbered(id.number())
     }
 
     /// The entries, in rising order of number.
@@ -213,7 +214,7 @@ impl Space {
         self.entries.as_slice()
     }
 
-    /// Who holds which entries: beside each holder the numbers of all that it holds, in rising order.
+    /// Who holds which entries: beside each holder the numbers of all that it holds, in rising order, and no others.
     pub fn held(&self) -> &[Held]
         ensures held { HasHeld result.now self.now.entries }
         ensures rising { IsRising self.now.entries }
@@ -265,14 +266,13 @@ impl Space {
     pub fn unpin(&mut self, holder: u64)
         ensures { self.new ≡ with_entries self.old (released holder self.old.moment self.old.entries) }
     {
-        drop_leaving(
+        release_all(
+            &mut self.entries,
             &mut self.buckets,
-            &self.entries,
             &self.held,
             holder,
             self.moment,
         );
-        release_all(&mut self.entries, &self.held, holder, self.moment);
         drop_rows_by(&mut self.held, holder);
     }
 
@@ -280,8 +280,9 @@ impl Space {
     pub fn remove_taken(&mut self, holder: u64)
         ensures { self.new ≡ with_entries self.old (without_taken holder self.old.entries) }
     {
-        drop_all_taken(&mut self.buckets, &self.entries, &self.held, holder);
-        drop_taken(&mut self.entries, &self.held, holder);
+        let shared = is_any_shared(&self.entries, &self.held, holder);
+        drop_taken(&mut self.entries, &mut self.buckets, &self.held, holder);
+        drop_rows_gone(&mut self.held, &self.entries, holder, shared);
     }
 
     /// Takes out the entry of a number, whoever holds it, or answers `None` where there is none. Takes no memory.
@@ -290,8 +291,10 @@ impl Space {
         ensures rest { self.new ≡ with_entries self.old (without id self.old.entries) }
     {
         let number = id.number();
-        let entry = take_number(&mut self.entries, number)?;
-        drop_entry(&mut self.buckets, &entry.tuple, number);
+        let entry = take_number(&mut self.entries, &mut self.buckets, number)?;
+        if entry.holds.is_held() {
+            drop_rows_of(&mut self.held, number);
+        }
         Some(entry.tuple)
     }
 

@@ -1,16 +1,18 @@
-use Rattle.std.proofs.Common.{◌≡◌, ap, subst, ◌∙◌, get_or}
-use Rattle.std.specs.Ordering.{MatchOrdering}
-use Rattle.std.specs.Cmp.{ranks}
-use Rattle.std.specs.Prelude.{◌<◌}
-use Rattle.tuple_space.specs.Held.{is_among}
-use Rattle.tuple_space.proofs.IndexLemmas.{among_removed}
+use Rattle.std.proofs.Common.{◌∙◌}
+use Rattle.std.proofs.lemmas.List.Sorted.{searched}
+use Rattle.tuple_space.proofs.IndexLemmas.{number_absent, number_removed, rises_at}
 use Rattle.tuple_space.proofs.index.drop_number.Goals as goal
 
 pub returns-in-Ok : goal.returns-in-Ok
-returns-in-Ok c = λ n other among.
+returns-in-Ok c =
     let ns = c.args.numbers.now.items in
-    let gone = c.args.number in
-    let ok = rw c.deref.ensures.value at c.in-Ok.ensures.ok in
-    let here : get_or ns c.in-Ok.place gone ≡ gone =
-    subst (λ o. MatchOrdering o (get_or ns c.in-Ok.place gone < gone) (get_or ns c.in-Ok.place gone ≡ gone) (gone < get_or ns c.in-Ok.place gone)) (ok gone) (ranks (get_or ns c.in-Ok.place gone) gone) in
-    ap (is_among n) c.remove.ensures.items ∙ among_removed ns c.in-Ok.place gone n other here among
+    let found = searched ns c.args.number c.binary_search.result (rw c.deref.ensures.value at c.binary_search.ensures.position) (rises_at ns c.requires) in
+    let here = rw c.in-Ok.is at found in
+    c.remove.ensures.items ∙ number_removed ns c.in-Ok.place c.args.number c.requires here.0 here.1
+
+pub returns-in_default : goal.returns-in_default
+returns-in_default c =
+    let ns = c.args.numbers.now.items in
+    let found = searched ns c.args.number c.binary_search.result (rw c.deref.ensures.value at c.binary_search.ensures.position) (rises_at ns c.requires) in
+    let none = rw c.in_default.is at found in
+    number_absent ns c.args.number c.in_default.field-0 none.1 none.2

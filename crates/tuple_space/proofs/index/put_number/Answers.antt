@@ -1,24 +1,25 @@
-use Rattle.std.proofs.Common.{◌∙◌, ap, arith}
-use Rattle.tuple_space.specs.Held.{is_among}
-use Rattle.tuple_space.proofs.IndexLemmas.{any_push, any_push_here, in_set, in_set_here}
-use Rattle.std.proofs.Common.{ℕ, refl, eqb}
-use Rattle.std.proofs.lemmas.Bool.{eq-eqb}
+use Rattle.std.proofs.lemmas.Result.{err_from_is_err_and}
+use Rattle.std.proofs.Common.{◌∙◌, ◌∷◌, ◌++◌, [], ap, sym, arith}
+use Rattle.tuple_space.proofs.IndexLemmas.{list_at_is, list_at_other, list_at_set}
 use Rattle.tuple_space.proofs.index.put_number.Goals as goal
-
-pub returns-in_err-push-clause-stays : goal.returns-in_err-push-clause-stays
-returns-in_err-push-clause-stays c = λ n any.
-    let x = c.index_mut.result.now in
-    in_set c.grow.new.lists.items c.args.length n x c.push.new.self c.index_mut.ensures.value (λ among. ap (is_among n) c.in_err-push.ensures.items ∙ among) (c.grow.ensures.stays n any)
 
 pub returns-clause-put : goal.returns-clause-put
 returns-clause-put c =
-    let n = c.args.number in
-    let x = c.index_mut.result.now in
-    in_set_here c.grow.new.lists.items c.args.length n c.push.new.self (omega (arith, c.in_ok-grow.ensures.long))
-    (ap (is_among n) c.in_ok-push.ensures.items ∙ any_push_here (λ (m : ℕ). eqb n m) x.items n (eq-eqb n n refl))
+    let lists = c.grow.new.lists.items in
+    let long = c.in_ok-grow.ensures.long in
+    list_at_set lists c.args.length c.push.new.self (omega arith) ∙ c.in_ok-push.ensures.items
+    ∙ ap (λ l. l ++ c.args.number ∷ []) (sym (list_at_is lists c.args.length c.index_mut.result.now (omega arith) c.index_mut.ensures.value) ∙ c.grow.ensures.same c.args.length)
 
-pub returns-clause-stays : goal.returns-clause-stays
-returns-clause-stays c = λ n any.
-    let x = c.index_mut.result.now in
-    in_set c.grow.new.lists.items c.args.length n x c.push.new.self c.index_mut.ensures.value
-    (λ among. ap (is_among n) c.in_ok-push.ensures.items ∙ any_push (λ (m : ℕ). eqb n m) x.items c.args.number among) (c.grow.ensures.stays n any)
+pub returns-clause-others : goal.returns-clause-others
+returns-clause-others c = λ l ne. list_at_other c.grow.new.lists.items c.args.length l c.push.new.self ne ∙ c.grow.ensures.same l
+
+pub returns-in_err-push-clause-err : goal.returns-in_err-push-clause-err
+returns-in_err-push-clause-err c =
+    let lists = c.grow.new.lists.items in
+    let long = c.in_ok-grow.ensures.long in
+    let p = err_from_is_err_and c.from_residual-in_err-push.result c.from_residual-in_err-push.ensures.1 in
+    rw p.1 (list_at_set lists c.args.length c.push.new.self (omega arith) ∙ c.in_err-push.ensures.items
+    ∙ sym (list_at_is lists c.args.length c.index_mut.result.now (omega arith) c.index_mut.ensures.value) ∙ c.grow.ensures.same c.args.length)
+
+pub returns-in_err-push-clause-others : goal.returns-in_err-push-clause-others
+returns-in_err-push-clause-others c = λ l ne. list_at_other c.grow.new.lists.items c.args.length l c.push.new.self ne ∙ c.grow.ensures.same l

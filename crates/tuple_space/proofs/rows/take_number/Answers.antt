@@ -9,7 +9,7 @@ returns-in-Some-clause-value c =
     let es = c.args.entries.now.items in
     let n = c.args.number in
     let found = c.in-Some.ensures in
-    find_place n es c.in-Some.place c.take_at.result (only_at n es c.in-Some.place c.requires found.place found.found) c.take_at.ensures.value
+    find_place n es c.in-Some.place c.take_at.result (only_at n es c.in-Some.place c.requires.rising found.place found.found) c.take_at.ensures.value
 
 pub returns-in-Some-clause-rest : goal.returns-in-Some-clause-rest
 returns-in-Some-clause-rest c =

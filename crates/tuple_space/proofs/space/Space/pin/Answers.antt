@@ -1,8 +1,9 @@
-use Rattle.std.proofs.Common.{◌∙◌, List, cond, eqb, refl, subst, sym}
+use Rattle.std.proofs.Common.{◌≡◌, ◌∙◌, ℕ, List, ap, cond, eqb, refl, subst, sym, true}
+use Rattle.tuple_space.specs.Rows.{has_number}
 use Rattle.tuple_space.specs.Held.{HasHeld}
 use Rattle.tuple_space.specs.declared.entry.Entry.{Entry}
 use Rattle.tuple_space.specs.declared.held.Held.{Held}
-use Rattle.tuple_space.specs.Space.{held_by}
+use Rattle.tuple_space.specs.Space.{SpaceValue, held_by}
 use Rattle.tuple_space.proofs.RowLemmas.{changed_number}
 use Rattle.tuple_space.proofs.EntryLemmas.{IsEntry-changed, IsEntry-held}
 use Rattle.tuple_space.proofs.HeldLemmas.{held_again, held_pinned}
@@ -16,9 +17,10 @@ invariant_of-self-2 c =
     let s = c.self.inside in
     let change = held_by c.args.holder c.args.taken in
     let n = c.number-number.result in
+    let there : has_number n s.entries.items ≡ true = ap (has_number n) (ap (λ (v : SpaceValue). v.entries) c.self.view_is) ∙ ap (λ (m : ℕ). has_number m c.args.self.now.entries) c.number-number.ensures ∙ c.requires in
     rw c.in_ok-hold_entry-2.ensures.ok (
       IsSpace-map (λ (e : Entry). cond (eqb e.number n) (change e) e) (changed_number n change (λ e. refl)) (IsEntry-changed n change (IsEntry-held c.args.holder c.args.taken)) s.entries.items s.moment s.last c.self.invariant.0,
-      held_pinned c.args.holder c.args.taken n c.reserve.new.self.items _ s.entries.items c.add_held.ensures.rising c.add_held.ensures.among
+      held_pinned c.args.holder c.args.taken n c.reserve.new.self.items _ s.entries.items there c.add_held.ensures.rising c.add_held.ensures.among
           (subst (λ (l : List Held). HasHeld l s.entries.items) (sym c.reserve.ensures.items) c.self.invariant.1),
       indexed_map (λ (e : Entry). cond (eqb e.number n) (change e) e) (changed_number n change (λ e. refl)) (changed_tuple n change (λ e. refl)) s.buckets.items s.entries.items c.self.invariant.2,
       live_map s.first_end (λ (e : Entry). cond (eqb e.number n) (change e) e) (live_changed s.first_end n change (λ e live. live)) s.entries.items c.self.invariant.3,
@@ -29,10 +31,11 @@ invariant_of-self-then-is_entry_held_by c =
     let s = c.self.inside in
     let change = held_by c.args.holder c.args.taken in
     let n = c.number-number.result in
+    let there : has_number n s.entries.items ≡ true = ap (has_number n) (ap (λ (v : SpaceValue). v.entries) c.self.view_is) ∙ ap (λ (m : ℕ). has_number m c.args.self.now.entries) c.number-number.ensures ∙ c.requires in
     let held = sym c.is_entry_held_by.ensures ∙ c.if-is_entry_held_by.true in
     rw c.in_ok-hold_entry.ensures.ok (
       IsSpace-map (λ (e : Entry). cond (eqb e.number n) (change e) e) (changed_number n change (λ e. refl)) (IsEntry-changed n change (IsEntry-held c.args.holder c.args.taken)) s.entries.items s.moment s.last c.self.invariant.0,
-      held_again c.args.holder c.args.taken n s.held.items s.entries.items held c.self.invariant.1,
+      held_again c.args.holder c.args.taken n s.held.items s.entries.items there held c.self.invariant.1,
       indexed_map (λ (e : Entry). cond (eqb e.number n) (change e) e) (changed_number n change (λ e. refl)) (changed_tuple n change (λ e. refl)) s.buckets.items s.entries.items c.self.invariant.2,
       live_map s.first_end (λ (e : Entry). cond (eqb e.number n) (change e) e) (live_changed s.first_end n change (λ e live. live)) s.entries.items c.self.invariant.3,
     )

@@ -5,8 +5,9 @@ use Rattle.tuple_space.specs.Held.{HasHeld}
 use Rattle.tuple_space.specs.Places.{items_in}
 use Rattle.tuple_space.specs.Writes.{put_count, put_each}
 use Rattle.tuple_space.proofs.HeldLemmas.{held_put_each}
-use Rattle.tuple_space.specs.Index.{AreIndexed, AreWritesIndexed}
-use Rattle.tuple_space.proofs.IndexLemmas.{indexed_more, indexed_put_each, of_ok}
+use Rattle.tuple_space.specs.Index.{AreIndexed, Class, is_put, is_to_be}
+use Rattle.std.specs.Prelude.{◌||◌, ℕ}
+use Rattle.tuple_space.proofs.IndexLemmas.{indexed_put_each, indexed_undone, indexed_up, of_err, of_ok}
 use Rattle.tuple_space.specs.Ends.{AreLiveBefore}
 use Rattle.tuple_space.proofs.EndLemmas.{live_less, live_put_each}
 use Rattle.tuple_space.proofs.SpaceLemmas.{IsSpace-put_each}
@@ -22,12 +23,12 @@ invariant_of-self-2 c =
     let rows = items_in c.into_rows.result.items in
     let written : rows ≡ c.args.writes = ap items_in c.into_rows.ensures ∙ items_in-map c.args.writes in
     let room : s.last + put_count c.args.writes ≤ most = omega arith in
-    let there = of_ok (AreWritesIndexed c.add_writes.new.buckets.items s.last c.args.writes) c.add_writes.result c.add_writes.ensures.put (sym c.is_err-2.ensures.value ∙ c.if-is_err-2.false) in
+    let there = of_ok ((k : Class) (n : ℕ) → is_put k n c.add_writes.new.buckets.items ≡ (is_put k n s.buckets.items || is_to_be k n s.last c.args.writes)) c.add_writes.result c.add_writes.ensures.put (sym c.is_err-2.ensures.value ∙ c.if-is_err-2.false) in
     let same = c.put_rows-self-inside.ensures ∙ ap (λ (es : List Entry). put_each (space_of es s.moment s.last) rows) c.reserve.ensures.items ∙ ap (put_each w) written in (
       subst IsSpace (sym same) (IsSpace-put_each w c.args.writes room c.self.invariant.0),
       subst (λ (v : SpaceValue). HasHeld s.held.items v.entries) (sym same) (held_put_each s.held.items w c.args.writes c.self.invariant.1),
-      subst (λ (v : SpaceValue). AreIndexed c.add_writes.new.buckets.items v.entries) (sym same) (indexed_put_each c.add_writes.new.buckets.items w c.args.writes there
-          (indexed_more s.buckets.items c.add_writes.new.buckets.items s.entries.items c.add_writes.ensures.stays c.self.invariant.2)),
+      subst (λ (v : SpaceValue). AreIndexed c.add_writes.new.buckets.items v.entries) (sym same) (indexed_put_each s.buckets.items c.add_writes.new.buckets.items w c.args.writes c.add_writes.ensures.ordered
+          (c.add_writes.ensures.once c.self.invariant.2.once) there c.self.invariant.2),
       subst (λ (v : SpaceValue). AreLiveBefore c.end_with_all-self-inside.result v.entries) (sym same) (live_put_each c.end_with_all-self-inside.result w c.args.writes
           c.end_with_all-self-inside.ensures.live
           (live_less c.end_with_all-self-inside.result s.first_end s.entries.items c.end_with_all-self-inside.ensures.less c.self.invariant.3)),
@@ -37,3 +38,21 @@ pub returns-then-count-eq0-clause-ok : goal.returns-then-count-eq0-clause-ok
 returns-then-count-eq0-clause-ok c =
     let none : put_count c.args.writes ≡ 0 = sym c.count_puts-count.ensures ∙ c.if-count-eq0.true in
     (omega (arith, none, ap (λ (v : SpaceValue). v.last) c.self.view_is), sym (put_none _ c.args.writes none))
+
+pub add_writes-requires-clause-ordered : goal.add_writes-requires-clause-ordered
+add_writes-requires-clause-ordered c =
+    let s = c.self.inside in
+    indexed_up s.last s.buckets.items s.entries.items c.self.invariant.0.numbered c.self.invariant.2
+
+pub invariant_of-self-then-is_err-2 : goal.invariant_of-self-then-is_err-2
+invariant_of-self-then-is_err-2 c =
+    let s = c.self.inside in
+    let mixed = of_err ((k : Class) (n : ℕ) → (is_put k n c.add_writes.new.buckets.items || is_to_be k n s.last c.args.writes) ≡ (is_put k n s.buckets.items || is_to_be k n s.last c.args.writes))
+    c.add_writes.result c.add_writes.ensures.err (sym c.is_err-2.ensures.value ∙ c.if-is_err-2.true) in
+    rw c.reserve.ensures.items (
+      c.self.invariant.0,
+      c.self.invariant.1,
+      indexed_undone s.buckets.items c.add_writes.new.buckets.items c.drop_writes.new.buckets.items s.last s.entries.items c.args.writes c.self.invariant.0.numbered c.drop_writes.ensures.ordered
+          (c.drop_writes.ensures.once (c.add_writes.ensures.once c.self.invariant.2.once)) mixed c.drop_writes.ensures.dropped c.self.invariant.2,
+      c.self.invariant.3,
+    )

@@ -1,4 +1,4 @@
-use Rattle.std.proofs.Common.{◌≡◌, true, cond, eqb, refl}
+use Rattle.std.proofs.Common.{◌≡◌, cond, eqb, refl}
 use Rattle.std.proofs.lemmas.Bool.{cond_both}
 use Rattle.tuple_space.specs.Entry.{is_held_by}
 use Rattle.tuple_space.specs.declared.entry.Entry.{Entry}
@@ -19,7 +19,7 @@ invariant_of-self c =
     rw c.if-change_end.ensures.changed (
       IsSpace-map (λ (e : Entry). cond (eqb e.number n) (change e) e) (changed_number n change (λ e. refl)) (IsEntry-changed n change (IsEntry-end c.granted-end.result)) s.entries.items s.moment s.last c.self.invariant.0,
       held_map (λ (e : Entry). cond (eqb e.number n) (change e) e) (changed_number n change (λ e. refl))
-          (λ holder e held. cond_both (eqb e.number n) (change e) e (λ (x : Entry). is_held_by holder x ≡ true → is_held_by holder e ≡ true) (λ t h. h) (λ t h. h) held) s.held.items s.entries.items c.self.invariant.1,
+          (λ holder e. cond_both (eqb e.number n) (change e) e (λ (x : Entry). is_held_by holder x ≡ is_held_by holder e) (λ t. refl) (λ t. refl)) s.held.items s.entries.items c.self.invariant.1,
       indexed_map (λ (e : Entry). cond (eqb e.number n) (change e) e) (changed_number n change (λ e. refl)) (changed_tuple n change (λ e. refl)) s.buckets.items s.entries.items c.self.invariant.2,
       live_map s.first_end (λ (e : Entry). cond (eqb e.number n) (change e) e) (live_changed s.first_end n change (λ e live. live_later s.first_end e.end c.granted-end.result live)) s.entries.items c.self.invariant.3,
     )

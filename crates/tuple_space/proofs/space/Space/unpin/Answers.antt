@@ -6,7 +6,6 @@ use Rattle.tuple_space.specs.Space.{released, stays_without}
 use Rattle.tuple_space.specs.declared.held.Held.{Held}
 use Rattle.tuple_space.proofs.EntryLemmas.{IsEntry-unheld}
 use Rattle.tuple_space.proofs.HeldLemmas.{held_released}
-use Rattle.tuple_space.proofs.IndexLemmas.{indexed_filter, indexed_map}
 use Rattle.tuple_space.proofs.EndLemmas.{live_filter, live_map}
 use Rattle.tuple_space.proofs.SpaceLemmas.{IsSpace-filter, IsSpace-map}
 use Rattle.tuple_space.proofs.space.Space.unpin.Goals as goal
@@ -15,11 +14,10 @@ pub invariant_of-self : goal.invariant_of-self
 invariant_of-self c =
     let s = c.self.inside in
     let stays = stays_without c.args.holder s.moment in
-    rw c.release_all.ensures (
+    rw c.release_all.ensures.released (
       IsSpace-map (unheld c.args.holder) (λ e. refl) (IsEntry-unheld c.args.holder) (filter stays s.entries.items) s.moment s.last
           (IsSpace-filter stays s.entries.items s.moment s.last s.moment c.self.invariant.0.early c.self.invariant.0),
       subst (λ (l : List Held). HasHeld l (released c.args.holder s.moment s.entries.items)) (sym c.drop_rows_by.ensures) (held_released c.args.holder s.moment s.held.items s.entries.items c.self.invariant.1),
-      indexed_map (unheld c.args.holder) (λ e. refl) (λ e. refl) _ (filter stays s.entries.items)
-          (indexed_filter stays s.entries.items s.buckets.items _ c.self.invariant.2 c.drop_leaving.ensures),
+      rw c.release_all.ensures.released at c.release_all.ensures.indexed,
       live_map s.first_end (unheld c.args.holder) (λ e live. live) (filter stays s.entries.items) (live_filter s.first_end stays s.entries.items c.self.invariant.3),
     )
