@@ -5,6 +5,7 @@ mod blocks;
 mod bound;
 mod duals;
 mod factors;
+mod fitting;
 mod flow_rows;
 mod kept_rows;
 mod pairing;
