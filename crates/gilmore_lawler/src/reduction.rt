@@ -11,9 +11,8 @@ ghost use Rattle.gilmore_lawler.specs.Small.{AllSmall};
 ghost use Rattle.gilmore_lawler.specs.Table.{IsTable, IsProductRow, product_row};
 ghost use Rattle.gilmore_lawler.specs.declared.side.Side.TheVariants.{Distance};
 
-use crate::blocks::dot_product;
 use crate::factors::factor_rows;
-use crate::fitting::products_fit;
+use crate::fitting::{product_with, products_fit};
 use crate::ranking::{Ranked, ranked_rows};
 use crate::side::Side;
 use crate::small::has_small_entries;
@@ -283,11 +282,9 @@ fn push_products(
     requires known { IsTrue are_small → (AllSmall row.now × AllSmall others.now) }
     ensures { OnOk result (entries.new.items ≡ entries.old.items ++ product_row (length row.now) count row.now others.now) }
 {
-    let width = row.len();
     for c in 0..count {
-        let start = c * width;
-        let other = &others[start..start + width];
-        entries.push(dot_product(row, other, are_small))?;
+        let product = product_with(row, others, c, are_small);
+        entries.push(product)?;
     }
     Ok(())
 }
