@@ -1,23 +1,24 @@
 -- The products of the rows of factors are the reduced matrix.
-use Rattle.std.proofs.Common.{◌≡◌, ℕ, ◌+◌, ◌-◌, ◌*◌, ◌/◌, ◌%◌, ◌<◌, ◌≤◌, sym, ◌∙◌, ap, ap₂, subst, arith, List, length, get_or}
-use Rattle.std.specs.Prelude.{ℤ, pos, unsigned_abs, Option, Some, MatchOption}
+use Rattle.std.proofs.Common.{◌≡◌, ℕ, zero, suc, ◌++◌, [], refl, ◌+◌, ◌-◌, ◌*◌, ◌/◌, ◌%◌, ◌<◌, ◌≤◌, sym, ◌∙◌, ap, ap₂, subst, arith, List, length, get_or}
+use Rattle.std.specs.Prelude.{ℤ, pos, ◌+ℤ◌, ◌≤ℤ◌, ◌↔◌, Bool, IsTrue, unsigned_abs, Option, Some, MatchOption}
 use Rattle.std.specs.List.Sorted.{IsStrictlyIncreasing}
-use Rattle.std.proofs.lemmas.List.FromFn.{get_or-map-range_with_len}
+use Rattle.std.proofs.lemmas.List.FromFn.{get_or-map-range_with_len, length-map-range_with_len}
 use Rattle.std.proofs.lemmas.Nat.{mod_below}
 use Rattle.std.proofs.Math.Nat.{div-add-mod, mul_comm}
-use Rattle.qap_cost.specs.Instance.{Problem}
+use Rattle.qap_cost.specs.Instance.{Problem, IsInstance}
 use Rattle.qap_cost.specs.Range.{AllInRange, AllWithin}
 use Rattle.qap_cost.specs.Matrix.{Square, IsMatrix}
 use Rattle.qap_cost.specs.Bijection.{AreDifferent}
 use Rattle.qap_cost.specs.Placement.{Placement, IsPlacement, ListsFree, free_below, free_facilities, free_locations}
 use Rattle.qap_cost.proofs.Placements.{ListsFree-free_below}
 use Rattle.gilmore_lawler.specs.declared.side.Side.TheVariants.{Flow, Distance}
-use Rattle.gilmore_lawler.specs.FlowRows.{HasFlowRows}
+use Rattle.gilmore_lawler.specs.FlowRows.{HasFlowRows, HasDistanceRows}
+use Rattle.gilmore_lawler.specs.Duals.{ProductsFit, TellsFit}
 use Rattle.gilmore_lawler.specs.ReducedMatrix.{IsReducedEntry, IsReduced}
-use Rattle.gilmore_lawler.specs.Table.{segment, dot, AllBelow, IsTable, IsFactorRow, IsProductRow}
+use Rattle.gilmore_lawler.specs.Table.{segment, dot, AllBelow, IsTable, IsFactorRow, IsProductRow, product_row}
 use Rattle.gilmore_lawler.proofs.Dots.{dot-bound, IsReducedEntry-from_rows}
 use Rattle.gilmore_lawler.proofs.OneMatrix.{positive_root, row_below}
-use Rattle.gilmore_lawler.proofs.Tables.{get_or-segment, length-segment, AllWithin-segment}
+use Rattle.gilmore_lawler.proofs.Tables.{get_or-segment, length-segment, AllWithin-segment, AllInRange-matrix, IsTable-none, IsTable-more}
 
 -- a node's placed facilities and places, and its free ones, are below its size
 pub AllBelow-different : (n : ℕ) (xs : List ℕ) → AreDifferent n xs → AllBelow n xs
@@ -131,3 +132,54 @@ length-flow_rows I x n d a node same en ed h =
     let free = length (free_below I.size x.facilities) in
     let count : free + length x.facilities ≡ x.size = subst (λ (k : ℕ). length (free_below k x.facilities) + length x.facilities ≡ x.size) (sym same) (ListsFree-free_below x.size x.facilities node.facilities).count in
     h.table.size ∙ ap₂ ◌*◌ (omega (arith, count, same, en, ed)) (omega (arith, count, same, en, ed))
+
+pub length-distance_rows : (I : Problem) (x : Placement) (n d : ℕ) (b : List ℤ) → IsPlacement x → I.size ≡ x.size → n ≡ I.size → d ≡ length x.facilities → HasDistanceRows I x.places b → length b ≡ (n - d) * (n + d)
+length-distance_rows I x n d b node same en ed h =
+    let free = length (free_below I.size x.places) in
+    let count : free + length x.places ≡ x.size = subst (λ (k : ℕ). length (free_below k x.places) + length x.places ≡ x.size) (sym same) (ListsFree-free_below x.size x.places node.places).count in
+    h.table.size ∙ ap₂ ◌*◌ (omega (arith, count, same, en, ed, node.paired)) (omega (arith, count, same, en, ed, node.paired))
+
+-- the products of two tables
+pub products_of : (w m : ℕ) (a b : List ℤ) (r : ℕ) → (entries : List ℤ) × IsTable m r (IsProductRow w m a b) entries
+products_of w m a b zero = ([], IsTable-none m (IsProductRow w m a b))
+products_of w m a b (suc r) =
+    let before = products_of w m a b r in
+    let row = product_row w m (segment w a r) b in
+    let e : r + 1 ≡ suc r = omega arith in (
+      before.0 ++ row,
+      subst (λ (k : ℕ). IsTable m k (IsProductRow w m a b) (before.0 ++ row)) e
+          (IsTable-more m r (IsProductRow w m a b) before.0 row before.1 (length-map-range_with_len (λ k. dot (segment w a r) (segment w b k)) 0 m) refl),
+    )
+
+-- whether the products fit tells whether the duals fit the matrix that they are
+pub TellsFit-from_products : (I : Problem) (x : Placement) (a b u v : List ℤ) (fit : Bool) → IsPlacement x → I.size ≡ x.size → IsInstance I → HasFlowRows (record { instance = I; facilities = x.facilities }) a → HasDistanceRows I x.places b → length u ≡ x.size - length x.facilities → length v ≡ x.size - length x.facilities
+    → (IsTrue fit ↔ ProductsFit (x.size + length x.facilities) a b u v) → TellsFit I x u v fit
+TellsFit-from_products I x a b u v fit node same instance flows distances u_count v_count told =
+    let m = x.size - length x.facilities in
+    let w = x.size + length x.facilities in
+    let made = products_of w m a b m in
+    let h : HasProducts I x a b made.0 =
+    HasProducts-from_calls I x x.size (length x.facilities) x.facilities (free_below I.size x.facilities) x.places (free_below I.size x.places) a b a b made.0
+    refl refl refl (ap (λ (n : ℕ). free_below n x.facilities) same) refl (ap (λ (n : ℕ). free_below n x.places) same)
+    flows.table (flows.range _ (AllInRange-matrix I Flow instance)) distances.table (distances.range _ (AllInRange-matrix I Distance instance)) refl refl made.1 in
+    let M : Square = record { size = m; entries = made.0 } in
+    record {
+      matrix = M;
+      square = record { small = omega (arith, node.small); count = made.1.size };
+      reduced = IsReduced-from_products I x a b made.0 node h;
+      tells = (
+        λ yes_it_is. record {
+          u_count = u_count;
+          v_count = v_count;
+          below = λ i k hi hk.
+              subst (λ (z : ℤ). (get_or u i (pos 0) +ℤ get_or v k (pos 0)) ≤ℤ z) (sym (entry_is I x a b made.0 i k h hi hk))
+              ((told.0 yes_it_is).below i k (omega (arith, u_count)) (omega (arith, v_count)));
+        },
+        λ fits. told.1 (record {
+          below = λ i k hi hk.
+              let ri : i < m = omega (arith, u_count) in
+              let rk : k < m = omega (arith, v_count) in
+              subst (λ (z : ℤ). (get_or u i (pos 0) +ℤ get_or v k (pos 0)) ≤ℤ z) (entry_is I x a b made.0 i k h ri rk) (fits.below i k ri rk);
+        }),
+      );
+    }

@@ -176,3 +176,15 @@ HasFactors-more I side placed free r i table linear sorted new h below e first m
       rows = IsTable-more (2 * length placed + length free) r (IsFactorRow I side placed free) table row h.rows width here;
       range = λ l within. AllWithin-append l table row (h.range l within) (range l within);
     })
+
+-- behind the rows so far there is room for what is placed, and behind that for a row of the matrix
+pub room_for_row : (I : Problem) (side : Side) (placed free : List ℕ) (r end : ℕ) (table : List ℤ) → HasFactors I side placed free r (take end table) → end ≤ length table → r < length free → length table ≡ length free * (2 * length placed + length free) + I.size
+    → (end + 1 + 2 * length placed ≤ length table) × (end + 1 + 2 * length placed + I.size ≤ length table)
+room_for_row I side placed free r end table h within below room =
+    let w = 2 * length placed + length free in
+    let at : end ≡ r * w = sym (length-take-le end table within) ∙ h.rows.size in
+    let inside = row_end-le r (length free) w below in
+    let fits : end + 1 + 2 * length placed + I.size ≤ length table = omega (arith, at, inside, room, below) in (
+      omega (arith, fits),
+      fits,
+    )

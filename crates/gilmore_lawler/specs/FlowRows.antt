@@ -1,9 +1,9 @@
 -- What the nodes at which the same facilities are placed have in common: the rows of the free facilities.
-use Rattle.std.specs.Prelude.{ℕ, ◌*◌, ◌+◌, List, length, ℤ}
+use Rattle.std.specs.Prelude.{ℕ, ◌*◌, ◌+◌, Bool, IsTrue, List, length, ℤ}
 use Rattle.qap_cost.specs.Instance.{Problem}
 use Rattle.qap_cost.specs.Placement.{free_below}
 use Rattle.qap_cost.specs.Range.{AllWithin}
-use Rattle.gilmore_lawler.specs.declared.side.Side.TheVariants.{Flow}
+use Rattle.gilmore_lawler.specs.declared.side.Side.TheVariants.{Flow, Distance}
 use Rattle.gilmore_lawler.specs.Table.{IsTable, IsFactorRow}
 
 -- an instance, of which these facilities are placed
@@ -17,3 +17,13 @@ pub record HasFlowRows (s : FlowSide) (rows : List ℤ) : Type 0 where
   pub table : IsTable (2 * length s.facilities + length (free_below s.instance.size s.facilities)) (length (free_below s.instance.size s.facilities))
       (IsFactorRow s.instance Flow s.facilities (free_below s.instance.size s.facilities)) rows
   pub range : (l : ℕ) → AllWithin l s.instance.a → AllWithin l rows
+
+-- the same of the matrix of distances for each free location, where these are taken
+pub record HasDistanceRows (I : Problem) (places : List ℕ) (rows : List ℤ) : Type 0 where
+  pub table : IsTable (2 * length places + length (free_below I.size places)) (length (free_below I.size places))
+      (IsFactorRow I Distance places (free_below I.size places)) rows
+  pub range : (l : ℕ) → AllWithin l I.b → AllWithin l rows
+
+-- the rows are these, where it is said that they were made
+pub record KeepsFlowRows (made : Bool) (s : FlowSide) (rows : List ℤ) : Type 0 where
+  pub are_those : IsTrue made → HasFlowRows s rows

@@ -1,13 +1,13 @@
 //! The rows from which the entries of a reduced matrix are products.
 
-ghost use Rattle.std.specs.Prelude.{◌≡◌, ◌<◌, ◌≤◌, ◌==◌, ◌+◌, ◌*◌, ◌++◌, false, length, map, OnOk, slice_index, slice_index_or, ℕ};
+ghost use Rattle.std.specs.Prelude.{◌≡◌, ◌<◌, ◌≤◌, ◌==◌, ◌+◌, ◌*◌, ◌++◌, ◌∷◌, [], false, length, map, take, OnOk, slice_index, slice_index_or, ℕ};
 ghost use Rattle.std.specs.List.Sorted.{IsStrictlyIncreasing};
 ghost use Rattle.qap_cost.specs.Instance.{entry, IsInstance};
 ghost use Rattle.qap_cost.specs.Range.{AllWithin};
 ghost use Rattle.gilmore_lawler.specs.Ranking.{IsRankings};
 ghost use Rattle.gilmore_lawler.specs.Table.{IsTable, AllBelow, matrix_of, linear_row, IsFactorRow};
 
-use crate::ranking::{Ranked, push_others, ranking_of};
+use crate::ranking::{Ranked, pick_others, ranking_of};
 use crate::side::{Side, entry_at, narrow, row_of};
 use qap_cost::{Instance, marked};
 use std::alloc::AllocError;
@@ -33,70 +33,124 @@ pub fn factor_rows(
     ensures rows { OnOk result (IsTable (2 * length placed.now + length free.now) (length free.now) (IsFactorRow instance.now side placed.now free.now) table.new.items) }
     ensures range { OnOk result ((l : ℕ) → AllWithin l (matrix_of instance.now side) → AllWithin l table.new.items) }
 {
-    let is_free = marked(free);
+    let count = free.len() * (2 * placed.len() + free.len());
     table.clear();
-    table.try_reserve(free.len() * (2 * placed.len() + free.len()))?;
-    for r in 0..free.len() {
-        let own = free[r];
-        push_linear(instance, side, placed, own, table)?;
-        let row = ranking_of(instance, side, rankings, usize::from(own));
-        push_others(row, &is_free, own, table)?;
-    }
+    table.resize(count + instance.size(), 0)?;
+    let end = fill_rows(instance, side, rankings, placed, free, table);
+    table.truncate(end);
     Ok(())
 }
 
-/// Adds the entry of `i` with itself, those of `i` with the placed ones, and those of the placed ones with `i`.
-fn push_linear(
+/// Writes these rows from the front on, and tells the place behind them. There is room for one more row of the matrix.
+fn fill_rows(
+    instance: &Instance,
+    side: Side,
+    rankings: &[Ranked],
+    placed: &[u16],
+    free: &[u16],
+    table: &mut [i32],
+) -> usize
+    requires instance { IsInstance instance.now }
+    requires rankings { IsRankings instance.now side rankings.now }
+    requires placed { AllBelow instance.now.size placed.now }
+    requires free { AllBelow instance.now.size free.now }
+    requires rising { IsStrictlyIncreasing free.now }
+    requires room { length table.old ≡ length free.now * (2 * length placed.now + length free.now) + instance.now.size }
+    ensures within { result ≤ length table.new }
+    ensures rows { IsTable (2 * length placed.now + length free.now) (length free.now) (IsFactorRow instance.now side placed.now free.now) (take result table.new) }
+    ensures range { (l : ℕ) → AllWithin l (matrix_of instance.now side) → AllWithin l (take result table.new) }
+{
+    let is_free = marked(free);
+    let mut end = 0;
+    for r in 0..free.len() {
+        let own = free[r];
+        let row = ranking_of(instance, side, rankings, usize::from(own));
+        let behind = write_linear(instance, side, placed, own, table, end);
+        end = pick_others(row, &is_free, own, table, behind);
+    }
+    end
+}
+
+/// Writes the entry of `i` with itself, those of `i` with the placed ones, and those of the placed ones with `i`, from this
+/// place on, and tells the place behind them.
+fn write_linear(
     instance: &Instance,
     side: Side,
     placed: &[u16],
     i: u16,
-    table: &mut Vec<i32>,
-) -> Result<(), AllocError>
+    numbers: &mut [i32],
+    start: usize,
+) -> usize
     requires own { i < instance.now.size }
     requires placed { AllBelow instance.now.size placed.now }
-    ensures { OnOk result (table.new.items ≡ table.old.items ++ linear_row instance.now.size (matrix_of instance.now side) placed.now i) }
+    requires room { start + 1 + 2 * length placed.now ≤ length numbers.old }
+    ensures end { result ≡ start + 1 + 2 * length placed.now }
+    ensures count { length numbers.new ≡ length numbers.old }
+    ensures written { take result numbers.new ≡ take start numbers.old ++ linear_row instance.now.size (matrix_of instance.now side) placed.now i }
 {
-    let row = usize::from(i);
-    table.push(narrow(entry_at(instance, side, row, row)))?;
-    push_row(instance, side, row, placed, table)?;
-    push_column(instance, side, placed, row, table)?;
-    Ok(())
+    let own = usize::from(i);
+    let with_itself = narrow(entry_at(instance, side, own, own));
+    let first = write_one(with_itself, numbers, start);
+    let middle = write_row(instance, side, own, placed, numbers, first);
+    write_column(instance, side, placed, own, numbers, middle)
 }
 
-/// Adds the entries of row `i` in these columns.
-fn push_row(
+/// Writes one number at this place, and tells the place behind it.
+fn write_one(number: i32, numbers: &mut [i32], start: usize) -> usize
+    requires room { start < length numbers.old }
+    ensures end { result ≡ start + 1 }
+    ensures count { length numbers.new ≡ length numbers.old }
+    ensures written { take result numbers.new ≡ take start numbers.old ++ number ∷ [] }
+{
+    numbers[start] = number;
+    start + 1
+}
+
+/// Writes the entries of row `i` in these columns from this place on, and tells the place behind them.
+fn write_row(
     instance: &Instance,
     side: Side,
     i: usize,
     columns: &[u16],
-    numbers: &mut Vec<i32>,
-) -> Result<(), AllocError>
+    numbers: &mut [i32],
+    start: usize,
+) -> usize
     requires row { i < instance.now.size }
     requires columns { AllBelow instance.now.size columns.now }
-    ensures { OnOk result (numbers.new.items ≡ numbers.old.items ++ map (entry instance.now.size (matrix_of instance.now side) i) columns.now) }
+    requires room { start + length columns.now ≤ length numbers.old }
+    ensures end { result ≡ start + length columns.now }
+    ensures count { length numbers.new ≡ length numbers.old }
+    ensures written { take result numbers.new ≡ take start numbers.old ++ map (entry instance.now.size (matrix_of instance.now side) i) columns.now }
 {
     let row = row_of(instance, side, i);
+    let mut place = start;
     for &column in columns {
-        numbers.push(narrow(row[usize::from(column)]))?;
+        numbers[place] = narrow(row[usize::from(column)]);
+        place += 1;
     }
-    Ok(())
+    place
 }
 
-/// Adds the entries of column `i` in these rows.
-fn push_column(
+/// Writes the entries of column `i` in these rows from this place on, and tells the place behind them.
+fn write_column(
     instance: &Instance,
     side: Side,
     rows: &[u16],
     i: usize,
-    numbers: &mut Vec<i32>,
-) -> Result<(), AllocError>
+    numbers: &mut [i32],
+    start: usize,
+) -> usize
     requires column { i < instance.now.size }
     requires rows { AllBelow instance.now.size rows.now }
-    ensures { OnOk result (numbers.new.items ≡ numbers.old.items ++ map (λ (h : ℕ). entry instance.now.size (matrix_of instance.now side) h i) rows.now) }
+    requires room { start + length rows.now ≤ length numbers.old }
+    ensures end { result ≡ start + length rows.now }
+    ensures count { length numbers.new ≡ length numbers.old }
+    ensures written { take result numbers.new ≡ take start numbers.old ++ map (λ (h : ℕ). entry instance.now.size (matrix_of instance.now side) h i) rows.now }
 {
+    let mut place = start;
     for &row in rows {
-        numbers.push(narrow(entry_at(instance, side, usize::from(row), i)))?;
+        numbers[place] = narrow(entry_at(instance, side, usize::from(row), i));
+        place += 1;
     }
-    Ok(())
+    place
 }

@@ -2,7 +2,8 @@
 
 ghost use Rattle.std.specs.Prelude.{◌≡◌, ◌-◌, ◌*◌, ◌^◌, length, IfOk};
 ghost use Rattle.qap_cost.specs.Instance.{IsInstance};
-ghost use Rattle.qap_cost.specs.Range.{AllWithin};
+ghost use Rattle.qap_cost.specs.Range.{AllLimited, AllWithin};
+ghost use Rattle.gilmore_lawler.specs.Duals.{TellsFit};
 ghost use Rattle.gilmore_lawler.specs.FlowRows.{FlowSide, HasFlowRows};
 ghost use Rattle.gilmore_lawler.specs.ReducedMatrix.{IsReduced};
 
@@ -63,5 +64,26 @@ impl<'a> FlowRows<'a> {
     {
         self.ranked
             .reduced_by(&self.rows, node, &mut workspace.b_rows)
+    }
+
+    /// Whether `(u, v)` fits the reduced matrix of a node that places these facilities: as `fits` tells it of the matrix, which
+    /// isn't made here.
+    pub fn fits(
+        &self,
+        workspace: &mut Workspace,
+        node: &Partial,
+        u: &[i128],
+        v: &[i128],
+    ) -> Result<bool, AllocError>
+        requires size { self.now.instance.size ≡ node.now.size }
+        requires facilities { self.now.facilities ≡ node.now.facilities }
+        requires u_count { length u.now ≡ node.now.size - length node.now.facilities }
+        requires v_count { length v.now ≡ node.now.size - length node.now.facilities }
+        requires u_range { AllLimited u.now }
+        requires v_range { AllLimited v.now }
+        ensures { IfOk result (TellsFit self.now.instance node.now u.now v.now) }
+    {
+        self.ranked
+            .fit_by(&self.rows, node, &mut workspace.b_rows, u, v)
     }
 }

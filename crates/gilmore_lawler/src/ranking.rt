@@ -95,33 +95,18 @@ pub fn ranking_of<'a>(
     requires rankings { IsRankings instance.now side rankings.now }
     ensures ranking { IsRanking instance.now side i result.now }
     ensures columns { All (λ x. x.column < 256) result.now }
+    ensures count { length result.now ≡ instance.now.size }
 {
     let n = instance.size();
     let start = i * n;
     &rankings[start..start + n]
 }
 
-/// Adds the values of a row in order, but those in column `own` and in columns that aren't free.
+/// Writes the values of a row in order, but those in column `own` and in columns that aren't free, from this place on, and
+/// tells the place behind them. What stands behind that is of no meaning.
 ///
 /// Each value is written, and the place behind it kept where it belongs there, so that no branch waits for the test.
-pub fn push_others(
-    row: &[Ranked],
-    is_free: &[bool],
-    own: u16,
-    numbers: &mut Vec<i32>,
-) -> Result<(), AllocError>
-    requires columns { All (λ x. x.column < length is_free.now) row.now }
-    ensures { OnOk result (numbers.new.items ≡ numbers.old.items ++ others_in is_free.now own row.now) }
-{
-    let start = numbers.len();
-    numbers.resize(start + row.len(), 0)?;
-    let end = pick_others(row, is_free, own, numbers, start);
-    numbers.truncate(end);
-    Ok(())
-}
-
-/// Writes them from this place on, and tells the place behind them. What stands behind that is of no meaning.
-fn pick_others(
+pub fn pick_others(
     row: &[Ranked],
     is_free: &[bool],
     own: u16,
@@ -130,6 +115,7 @@ fn pick_others(
 ) -> usize
     requires columns { All (λ x. x.column < length is_free.now) row.now }
     requires room { start + length row.now ≤ length numbers.old }
+    ensures count { length numbers.new ≡ length numbers.old }
     ensures within { result ≤ length numbers.new }
     ensures picked { take result numbers.new ≡ take start numbers.old ++ others_in is_free.now own row.now }
 {

@@ -2,16 +2,17 @@
 
 ghost use Rattle.std.specs.Prelude.{◌≡◌, ◌<◌, ◌≤◌, ◌*◌, ◌-◌, ◌^◌, ◌++◌, length, IfOk, IsTrue, OnOk};
 ghost use Rattle.qap_cost.specs.Instance.{IsInstance, Problem};
-ghost use Rattle.qap_cost.specs.Range.{AllInRange, AllWithin};
-ghost use Rattle.gilmore_lawler.specs.FlowRows.{HasFlowRows};
+ghost use Rattle.qap_cost.specs.Range.{AllInRange, AllLimited, AllWithin};
+ghost use Rattle.gilmore_lawler.specs.Duals.{TellsFit};
+ghost use Rattle.gilmore_lawler.specs.FlowRows.{HasDistanceRows, HasFlowRows};
 ghost use Rattle.gilmore_lawler.specs.Ranking.{HasRankings, IsRankings};
 ghost use Rattle.gilmore_lawler.specs.ReducedMatrix.{IsReduced};
 ghost use Rattle.gilmore_lawler.specs.Small.{AllSmall};
 ghost use Rattle.gilmore_lawler.specs.Table.{IsTable, IsProductRow, product_row};
 ghost use Rattle.gilmore_lawler.specs.declared.side.Side.TheVariants.{Distance};
 
-use crate::blocks::dot_product;
 use crate::factors::factor_rows;
+use crate::fitting::{product_with, products_fit};
 use crate::ranking::{Ranked, ranked_rows};
 use crate::side::Side;
 use crate::small::has_small_entries;
@@ -107,6 +108,22 @@ impl RankedInstance {
         )
     }
 
+    /// Makes `rows` those of the distances for each node that takes the locations of this one.
+    fn make_distance_rows(&self, node: &Partial, rows: &mut Vec<i32>) -> Result<(), AllocError>
+        requires { self.now.size ≡ node.now.size }
+        ensures { OnOk result (HasDistanceRows self.now node.now.places rows.new.items) }
+    {
+        let free = node.free_locations()?;
+        factor_rows(
+            &self.instance,
+            Side::Distance,
+            &self.b_rankings,
+            node.places(),
+            &free,
+            rows,
+        )
+    }
+
     /// The reduced matrix of the node, from its rows of the flows; those of the distances are made.
     pub(crate) fn reduced_by(
         &self,
@@ -120,14 +137,38 @@ impl RankedInstance {
         ensures size { IfOk result (λ M. M.size ≡ node.now.size - length node.now.facilities) }
         ensures bounded { IfOk result (λ M. AllWithin (512 * 10 ^ 18) M.entries) }
     {
+        self.make_distance_rows(node, b_rows)?;
         reduced_from(
+            self.allocator(),
             &self.instance,
             a_rows,
-            &self.b_rankings,
+            b_rows,
             self.are_small,
             node,
-            b_rows,
         )
+    }
+
+    /// Whether `(u, v)` fits the reduced matrix of the node, from its rows of the flows; those of the distances are made, and
+    /// no matrix.
+    pub(crate) fn fit_by(
+        &self,
+        a_rows: &[i32],
+        node: &Partial,
+        b_rows: &mut Vec<i32>,
+        u: &[i128],
+        v: &[i128],
+    ) -> Result<bool, AllocError>
+        requires size { self.now.size ≡ node.now.size }
+        requires rows { HasFlowRows (record { instance = self.now; facilities = node.now.facilities }) a_rows.now }
+        requires u_count { length u.now ≡ node.now.size - length node.now.facilities }
+        requires v_count { length v.now ≡ node.now.size - length node.now.facilities }
+        requires u_range { AllLimited u.now }
+        requires v_range { AllLimited v.now }
+        ensures { IfOk result (TellsFit self.now node.now u.now v.now) }
+    {
+        self.make_distance_rows(node, b_rows)?;
+        let fit = fit_from(&self.instance, a_rows, b_rows, self.are_small, node, u, v);
+        Ok(fit)
     }
 }
 
@@ -148,19 +189,19 @@ impl Workspace {
     }
 }
 
-/// The reduced matrix of the node, from its rows of the flows and the rows of the distances in order.
+/// The reduced matrix of the node, from its rows of both sides.
 fn reduced_from(
+    alloc: Global,
     instance: &Instance,
     a_rows: &[i32],
-    b_rankings: &[Ranked],
+    b_rows: &[i32],
     are_small: bool,
     node: &Partial,
-    b_rows: &mut Vec<i32>,
 ) -> Result<Matrix, AllocError>
     requires size { instance.now.size ≡ node.now.size }
     requires instance { IsInstance instance.now }
-    requires rows { HasFlowRows (record { instance = instance.now; facilities = node.now.facilities }) a_rows.now }
-    requires rankings { IsRankings instance.now Distance b_rankings.now }
+    requires a_rows { HasFlowRows (record { instance = instance.now; facilities = node.now.facilities }) a_rows.now }
+    requires b_rows { HasDistanceRows instance.now node.now.places b_rows.now }
     requires known { IsTrue are_small → (AllSmall instance.now.a × AllSmall instance.now.b) }
     ensures reduced { IfOk result (IsReduced instance.now node.now) }
     ensures size { IfOk result (λ M. M.size ≡ node.now.size - length node.now.facilities) }
@@ -168,18 +209,34 @@ fn reduced_from(
 {
     let n = instance.size();
     let depth = node.depth();
-    let locations = node.free_locations()?;
-    factor_rows(
-        instance,
-        Side::Distance,
-        b_rankings,
-        node.places(),
-        &locations,
-        b_rows,
-    )?;
-    let alloc = *locations.allocator();
     let entries = products(alloc, a_rows, b_rows, n - depth, n + depth, are_small)?;
     Ok(Matrix::new(n - depth, entries).unwrap())
+}
+
+/// Whether `(u, v)` fits the reduced matrix of the node, from its rows of both sides.
+fn fit_from(
+    instance: &Instance,
+    a_rows: &[i32],
+    b_rows: &[i32],
+    are_small: bool,
+    node: &Partial,
+    u: &[i128],
+    v: &[i128],
+) -> bool
+    requires size { instance.now.size ≡ node.now.size }
+    requires instance { IsInstance instance.now }
+    requires a_rows { HasFlowRows (record { instance = instance.now; facilities = node.now.facilities }) a_rows.now }
+    requires b_rows { HasDistanceRows instance.now node.now.places b_rows.now }
+    requires known { IsTrue are_small → (AllSmall instance.now.a × AllSmall instance.now.b) }
+    requires u_count { length u.now ≡ node.now.size - length node.now.facilities }
+    requires v_count { length v.now ≡ node.now.size - length node.now.facilities }
+    requires u_range { AllLimited u.now }
+    requires v_range { AllLimited v.now }
+    ensures { TellsFit instance.now node.now u.now v.now result }
+{
+    let n = instance.size();
+    let depth = node.depth();
+    products_fit(a_rows, b_rows, n + depth, are_small, u, v)
 }
 
 /// The products of each row of the one table with each of the other: so many rows of this width each.
@@ -225,11 +282,9 @@ fn push_products(
     requires known { IsTrue are_small → (AllSmall row.now × AllSmall others.now) }
     ensures { OnOk result (entries.new.items ≡ entries.old.items ++ product_row (length row.now) count row.now others.now) }
 {
-    let width = row.len();
     for c in 0..count {
-        let start = c * width;
-        let other = &others[start..start + width];
-        entries.push(dot_product(row, other, are_small))?;
+        let product = product_with(row, others, c, are_small);
+        entries.push(product)?;
     }
     Ok(())
 }

@@ -15,7 +15,7 @@ ghost use Rattle.qap_cert.specs.declared.version.Version.TheVariants.{Second};
 use crate::line_number::{COST_LINE, SIZE_LINE};
 use crate::tree::Tree;
 use crate::{CertError, Certificate};
-use gilmore_lawler::{FlowRows, RankedInstance, Workspace, dual_sum, fits};
+use gilmore_lawler::{FlowRows, RankedInstance, Workspace, dual_sum};
 use qap_cost::{Instance, Partial, Perm, cost};
 use std::alloc::{AllocError, Global};
 
@@ -177,9 +177,8 @@ pub(crate) fn check_bound(
         (λ done. Closes rows.now.instance bound node.now u.now v.now)
         (λ e. (e ≡ OutOfMemory) ⊎ IsBoundFault rows.now.instance bound node.now line u.now v.now e) }
 {
-    let matrix = rows.reduced(workspace, node)?;
-    prove_eq!(matrix.size(), u.len());
-    if !fits(&matrix, u, v) {
+    let fit = rows.fits(workspace, node, u, v)?;
+    if !fit {
         return Err(CertError::NotFeasible(line));
     }
     let reached = node.fixed_cost(rows.instance()) + dual_sum(u, v);

@@ -5,6 +5,7 @@ ghost use Rattle.qap_cert.specs.Line.{HasNoLine, IsLine};
 ghost use Rattle.qap_cert.specs.declared.error.CertError.TheVariants.{Truncated};
 
 use crate::CertError;
+use memchr::memchr;
 
 /// A line of a text, without the line feed that ends it, and what follows that.
 #[derive(Clone, Copy)]
@@ -17,15 +18,13 @@ pub(crate) struct Line<'a> {
 pub(crate) fn first_line(text: &[u8]) -> Option<Line<'_>>
     ensures { MatchOption result (HasNoLine text.now) (λ l. IsLine text.now l.bytes.now l.rest.now) }
 {
-    for i in 0..text.len() {
-        if text[i] == b'\n' {
-            return Some(Line {
-                bytes: &text[..i],
-                rest: &text[i + 1..],
-            });
-        }
+    match memchr(b'\n', text) {
+        Some(end) => Some(Line {
+            bytes: &text[..end],
+            rest: &text[end + 1..],
+        }),
+        None => None,
     }
-    None
 }
 
 /// The first line of a text, which is the line of this number. The text is `Truncated` where no line feed ends one.

@@ -1,4 +1,4 @@
-use Rattle.std.proofs.Common.{◌≡◌, ℕ, List, ◌++◌, ◌∷◌, [], ◌+◌, ◌-◌, ◌*◌, length, take, drop, map, ap, sym, ◌∙◌, arith, append_assoc}
+use Rattle.std.proofs.Common.{◌≡◌, ℕ, List, ◌++◌, ◌∷◌, [], length, map, ap, sym, ◌∙◌, arith, append_assoc}
 use Rattle.std.specs.Prelude.{ℤ}
 use Rattle.std.specs.Int.{w128}
 use Rattle.std.specs.List.{range_with_len}
@@ -14,11 +14,9 @@ loop-c-preserved c =
     let w = length row in
     let k = c.loop-c.c in
     let old = c.args.entries.now.items in
-    let result = c.dot_product.result in
-    let e : k * w + w - k * w ≡ w = omega arith in
-    let is : result ≡ dot row (segment w others k) =
-    c.dot_product.ensures.value ∙ ap (λ (m : ℕ). dot row (take m (drop (k * w) others))) e in
-    let value = to_z-of_z w128 result (fits_signed_from_abs w128 result (omega (arith, c.dot_product.ensures.bounded, c.requires.width))) in
+    let result = c.product_with-product.result in
+    let is : result ≡ dot row (segment w others k) = c.product_with-product.ensures.value in
+    let value = to_z-of_z w128 result (fits_signed_from_abs w128 result (omega (arith, c.product_with-product.ensures.bounded, c.requires.width))) in
     let f : ℕ → ℤ = λ m. dot row (segment w others m) in
     let pushed : c.push.new.self.items ≡ c.loop-c.entries.items ++ f k ∷ [] =
     c.in_ok-push.ensures.items ∙ ap (λ (z : ℤ). c.loop-c.entries.items ++ z ∷ []) (value ∙ is) in

@@ -9,16 +9,14 @@ use Rattle.qap_cert.specs.Valid.{Fits}
 use Rattle.qap_cert.proofs.Bounds.{Fits-reduced}
 use Rattle.qap_cert.proofs.checking.check_bound.Goals as goal
 
-pub prove_eq-unreachable-requires : goal.prove_eq-unreachable-requires
-prove_eq-unreachable-requires c =
-    c.if-prove_eq.true (c.size.ensures.value ∙ c.in_ok-matrix.ensures.size ∙ sym c.requires.duals.rows)
-
-pub returns-then-not-fits : goal.returns-then-not-fits
-returns-then-not-fits c =
+pub returns-then-not-fit : goal.returns-then-not-fit
+returns-then-not-fit c =
+    let I = c.args.rows.now.instance in
+    let told = c.in_ok-fit.ensures in
     inr (inl (
       refl,
-      λ (h : Fits c.args.rows.now.instance c.args.node.now c.args.u.now c.args.v.now).
-          false≢true (c.if-not-fits.ensures.1 (Fits-reduced c.args.rows.now.instance c.args.node.now c.in_ok-matrix.matrix c.args.u.now c.args.v.now c.size.ensures.matrix c.in_ok-matrix.ensures.reduced h)),
+      λ (h : Fits I c.args.node.now c.args.u.now c.args.v.now).
+          false≢true (sym c.if-not-fit.true ∙ told.tells.1 (Fits-reduced I c.args.node.now told.matrix c.args.u.now c.args.v.now told.square told.reduced h)),
     ))
 
 pub returns-then-reached-bound : goal.returns-then-reached-bound
@@ -31,7 +29,7 @@ returns-then-reached-bound c =
     let duals = c.dual_sum.ensures in
     let low : (fixed_cost_of I c.args.node.now +ℤ dual_value u v) <ℤ c.args.bound =
     omega (arith, ints, value, fixed.bounded, duals.value, duals.bounded, c.ranges.bound, c.if-reached-bound.true) in
-    inr (inr (refl, record { matrix = c.in_ok-matrix.matrix; square = c.size.ensures.matrix; reduced = c.in_ok-matrix.ensures.reduced; fits = c.if-not-fits.ensures.0 refl }, low))
+    inr (inr (refl, record { matrix = c.in_ok-fit.ensures.matrix; square = c.in_ok-fit.ensures.square; reduced = c.in_ok-fit.ensures.reduced; fits = c.in_ok-fit.ensures.tells.0 c.if-not-fit.false }, low))
 
 pub returns : goal.returns
 returns c =
@@ -43,6 +41,6 @@ returns c =
     let duals = c.dual_sum.ensures in
     record {
       duals = c.requires.duals;
-      fits = record { matrix = c.in_ok-matrix.matrix; square = c.size.ensures.matrix; reduced = c.in_ok-matrix.ensures.reduced; fits = c.if-not-fits.ensures.0 refl };
+      fits = record { matrix = c.in_ok-fit.ensures.matrix; square = c.in_ok-fit.ensures.square; reduced = c.in_ok-fit.ensures.reduced; fits = c.in_ok-fit.ensures.tells.0 c.if-not-fit.false };
       enough = omega (arith, ints, value, fixed.bounded, duals.value, duals.bounded, c.ranges.bound, c.if-reached-bound.false);
     }
