@@ -15,7 +15,7 @@ use crate::stage::{LastThought, Stage, Tally, Tools};
 use crate::templates::{best_template, node_template};
 use crate::thinking::{stage_thought, think_in};
 use crate::turn::{is_hopeful, turn};
-use gilmore_lawler::{RankedInstance, Workspace};
+use gilmore_lawler::{KeptRows, RankedInstance};
 use shared_space::{Law, Room, Share};
 use std::alloc::{AllocError, Global};
 use std::marker::Model;
@@ -26,24 +26,22 @@ use std::sync::Arc;
 #[derive(Drop)]
 pub struct Hand {
     worker: u16,
-    instance: Arc<RankedInstance>,
+    rows: KeptRows,
     tools: Tools,
-    workspace: Workspace,
     last: Option<LastThought>,
     stage: Stage,
     tally: Tally,
 }
 
 impl Model for Hand {
-    ghost use Rattle.std.specs.Arc.{arc_value};
     ghost use Rattle.qap_search.specs.Hand.{HandValue, hand_of, last_of};
     ghost use Rattle.qap_search.specs.Standing.{IsHand};
 
     ghost Value = { HandValue };
 
-    ghost view = { λ h. hand_of (arc_value h.instance) h.tools.lease_ms (last_of h.last) h.stage h.tally };
+    ghost view = { λ h. hand_of h.rows h.tools.lease_ms (last_of h.last) h.stage h.tally };
 
-    ghost invariant = { λ h. IsHand (arc_value h.instance) h.tools h.last h.stage };
+    ghost invariant = { λ h. IsHand h.rows h.tools h.last h.stage };
 }
 
 impl Hand {
@@ -66,12 +64,10 @@ impl Hand {
             node: node_template(alloc)?,
             best: best_template(alloc)?,
         };
-        let workspace = Workspace::new(alloc);
         Ok(Hand {
             worker,
-            instance,
+            rows: KeptRows::new(alloc, instance),
             tools,
-            workspace,
             last: None,
             stage: Stage::Idle,
             tally: Tally::new(),
@@ -150,8 +146,7 @@ impl Hand {
             &self.tools,
             gate,
             self.worker,
-            &self.instance,
-            &mut self.workspace,
+            &mut self.rows,
             &self.stage,
             self.tally.best,
             &mut self.last,

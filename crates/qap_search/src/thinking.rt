@@ -12,7 +12,7 @@ use crate::gate::Gate;
 use crate::reading::read_node;
 use crate::stage::{LastThought, Stage, Tools};
 use crate::thought::Thought;
-use gilmore_lawler::{RankedInstance, Workspace};
+use gilmore_lawler::KeptRows;
 use qap_cost::Partial;
 use space_txn::Txn;
 use std::alloc::{AllocError, Global};
@@ -24,22 +24,22 @@ pub(crate) fn think_in<G: Gate>(
     tools: &Tools,
     gate: &G,
     worker: u16,
-    instance: &RankedInstance,
-    workspace: &mut Workspace,
+    rows: &mut KeptRows,
     stage: &Stage,
     best: Option<i128>,
     last: &mut Option<LastThought>,
 ) -> Result<bool, AllocError>
-    ensures { Considers instance.now stage.now last.old result last.new }
+    ensures considers { Considers rows.old stage.now last.old result last.new }
+    ensures same { rows.new ≡ rows.old }
 {
     let Stage::Taken(txn, id) = stage else {
         return Ok(false);
     };
-    let size = instance.instance().size();
+    let size = rows.instance().size();
     let Some(node) = node_at(tools.alloc, size, txn, *id)? else {
         return Ok(false);
     };
-    think_on(tools, gate, worker, instance, workspace, node, best, last)?;
+    think_on(tools, gate, worker, rows, node, best, last)?;
     Ok(true)
 }
 
@@ -48,26 +48,26 @@ fn think_on<G: Gate>(
     tools: &Tools,
     gate: &G,
     worker: u16,
-    instance: &RankedInstance,
-    workspace: &mut Workspace,
+    rows: &mut KeptRows,
     node: Partial,
     best: Option<i128>,
     last: &mut Option<LastThought>,
 ) -> Result<(), AllocError>
-    requires size { node.size ≡ instance.now.size }
+    requires size { node.size ≡ rows.old.size }
     requires placement { IsPlacement node }
-    ensures thought { OnOk result (IsThoughtOn instance.now node last.old last.new) }
+    ensures thought { OnOk result (IsThoughtOn rows.old node last.old last.new) }
+    ensures same { rows.new ≡ rows.old }
     ensures unchanged { OnErr result (last.new ≡ last.old) }
 {
     if is_on(last, &node) {
         return Ok(());
     }
-    let matrix = instance.reduced(workspace, &node)?;
+    let matrix = rows.reduced(&node)?;
     gate.thinking(worker);
     let thought = Thought::by(
         tools.alloc,
         tools.branching,
-        instance.instance(),
+        rows.instance(),
         &node,
         &matrix,
         best,
