@@ -1,9 +1,8 @@
 // Robust tabu search (Taillard 1991), timed on an instance of each size: prints for each size the nanoseconds and the least
 // cost that was found. It draws the same random numbers as ours and breaks ties alike, so it goes the same way.
 //
-// The distances are kept in the order of the facilities, with both matrices transposed beside them, so that differences are
-// read from left to right; entries have 32 bits, products and sums 64. What an exchange changes is prepared once for each
-// facility, and then a pair takes two products.
+// What an exchange changes is prepared once for each facility, and then a pair takes two products; sums have 64 bits.
+#include "arrangement.hpp"
 #include <algorithm>
 #include <chrono>
 #include <cstdint>
@@ -40,38 +39,22 @@ class Random {
     }
 };
 
-class Search {
-    const int n;
-    std::vector<int32_t> a, across, b, backward;
+class Search : Arrangement {
     std::vector<int64_t> differences, flow, flow_back, distance, distance_back;
     std::vector<uint64_t> free_from;
-    std::vector<uint16_t> locations;
     Random random;
     uint64_t now;
     int64_t cost = 0, best;
 
-    int64_t difference(int r, int s) const {
-        const int32_t *__restrict ar = &a[size_t(r) * n], *__restrict as = &a[size_t(s) * n];
-        const int32_t *__restrict cr = &across[size_t(r) * n], *__restrict cs = &across[size_t(s) * n];
-        const int32_t *__restrict br = &b[size_t(r) * n], *__restrict bs = &b[size_t(s) * n];
-        const int32_t *__restrict dr = &backward[size_t(r) * n], *__restrict ds = &backward[size_t(s) * n];
-        auto with = [&](int k) {
-            return int64_t(cr[k] - cs[k]) * (ds[k] - dr[k]) + int64_t(ar[k] - as[k]) * (bs[k] - br[k]);
-        };
-        int64_t total = 0;
-        for (int k = 0; k < n; k++) total += with(k);
-        total -= with(r);
-        total -= with(s);
-        return total + int64_t(ar[r] - as[s]) * (bs[s] - br[r]) + int64_t(ar[s] - as[r]) * (bs[r] - br[s]);
+    static std::vector<uint16_t> identity(int n) {
+        std::vector<uint16_t> locations(n);
+        std::iota(locations.begin(), locations.end(), 0);
+        return locations;
     }
 
     // Exchanges the two, and brings all differences up to that.
-    void exchange(int u, int v) {
-        std::swap(locations[u], locations[v]);
-        for (auto *matrix : {&b, &backward}) {
-            std::swap_ranges(&(*matrix)[size_t(u) * n], &(*matrix)[size_t(u) * n] + n, &(*matrix)[size_t(v) * n]);
-            for (int k = 0; k < n; k++) std::swap((*matrix)[size_t(k) * n + u], (*matrix)[size_t(k) * n + v]);
-        }
+    void bring_up(int u, int v) {
+        exchange(u, v);
         for (int k = 0; k < n; k++) {
             flow[k] = a[size_t(u) * n + k] - a[size_t(v) * n + k];
             flow_back[k] = across[size_t(u) * n + k] - across[size_t(v) * n + k];
@@ -84,7 +67,7 @@ class Search {
                                                   (flow_back[r] - flow_back[s]) * (distance_back[s] - distance_back[r]);
         for (int k = 0; k < n; k++)
             for (int w : {u, v})
-                if (k != w) differences[size_t(std::min(k, w)) * n + std::max(k, w)] = difference(std::min(k, w), std::max(k, w));
+                if (k != w) differences[size_t(std::min(k, w)) * n + std::max(k, w)] = difference<int64_t>(std::min(k, w), std::max(k, w));
     }
 
     void leave(int facility) {
@@ -110,25 +93,19 @@ class Search {
         if (first < 0) return;
         leave(first);
         leave(second);
-        exchange(first, second);
+        bring_up(first, second);
         cost += least;
         best = std::min(best, cost);
     }
 
   public:
     Search(int n, const std::vector<int64_t> &flows, const std::vector<int64_t> &distances)
-        : n(n), a(size_t(n) * n), across(a), b(a), backward(a), differences(size_t(n) * n), flow(n), flow_back(n),
-          distance(n), distance_back(n), free_from(size_t(n) * n), locations(n), random(1), now(uint64_t(n) * n) {
-        std::iota(locations.begin(), locations.end(), 0);
+        : Arrangement(n, flows, distances, identity(n)), differences(size_t(n) * n), flow(n), flow_back(n), distance(n),
+          distance_back(n), free_from(size_t(n) * n), random(1), now(uint64_t(n) * n) {
         std::iota(free_from.begin(), free_from.end(), 0);
-        for (int i = 0; i < n; i++)
-            for (int j = 0; j < n; j++) {
-                a[size_t(i) * n + j] = across[size_t(j) * n + i] = int32_t(flows[size_t(i) * n + j]);
-                b[size_t(i) * n + j] = backward[size_t(j) * n + i] = int32_t(distances[size_t(i) * n + j]);
-                cost += flows[size_t(i) * n + j] * distances[size_t(i) * n + j];
-            }
+        for (size_t k = 0; k < flows.size(); k++) cost += flows[k] * distances[k];
         for (int r = 0; r < n; r++)
-            for (int s = r + 1; s < n; s++) differences[size_t(r) * n + s] = difference(r, s);
+            for (int s = r + 1; s < n; s++) differences[size_t(r) * n + s] = difference<int64_t>(r, s);
         best = cost;
     }
 
@@ -140,18 +117,6 @@ class Search {
         return best;
     }
 };
-
-static uint64_t next(uint64_t state) { return state * 6364136223846793005u + 1442695040888963407u; }
-
-static std::vector<int64_t> entries(int n, uint64_t seed) {
-    std::vector<int64_t> entries;
-    uint64_t state = seed;
-    for (int k = 0; k < n * n; k++) {
-        state = next(state);
-        entries.push_back(uint32_t(state >> 33) % 100);
-    }
-    return entries;
-}
 
 int main() {
     const std::pair<int, int> rows[] = {{12, 100000}, {20, 50000}, {30, 20000}, {64, 5000}, {128, 1000}};
