@@ -4,6 +4,7 @@ use Rattle.qap_cost.specs.Instance.{Problem}
 use Rattle.qap_io.specs.Counting.{CountedDevice, FailedBetween}
 use Rattle.qap_io.specs.Writing.{AppendsBeginning, Sends}
 use Rattle.qap_search.specs.Answer.{LeavesOpen}
+use Rattle.qap_search.specs.Search.{whole}
 use Rattle.qap_text.specs.Input.{HasInstance, HasNoInstance, Input}
 use Rattle.qap_text.specs.declared.error.TextError.{TextError}
 use Rattle.qap_solve.specs.Refusal.{of_text}
@@ -40,7 +41,7 @@ pub record IsUnfinished {R : Type 0} (s : Input R) (nodes : Option ℕ) (e : Run
   pub instance : Problem
   pub rest : List ℕ
   pub input : HasInstance s instance rest
-  pub left : LeavesOpen instance nodes count
+  pub left : LeavesOpen (whole instance) nodes count
 
 -- memory ran out, and no call of the reader failed
 pub record WantsMemory {R : Type 0} (s : Input R) (e : RunError) : Type 0 where

@@ -7,6 +7,7 @@ ghost use Rattle.qap_cert.specs.declared.version.Version.TheVariants.{Second};
 ghost use Rattle.qap_cost.specs.Instance.{Problem};
 ghost use Rattle.qap_io.specs.Writing.{Sends};
 ghost use Rattle.qap_search.specs.Answer.{IsSolveFault, LeavesOpen};
+ghost use Rattle.qap_search.specs.Search.{whole};
 ghost use Rattle.qap_search.specs.Stopped.{CertifiesStopped};
 ghost use Rattle.qap_solve.specs.Options.{AreLimited};
 ghost use Rattle.qap_solve.specs.Outcome.{IsLeastFound, IsOutcome};
@@ -104,7 +105,7 @@ where
     requires { AreLimited options.now }
     ensures { MatchResult result
         (IsOutcome instance.now options.now.nodes options.now.cert)
-        (λ e. ((count : ℕ) × LeavesOpen instance.now options.now.nodes count × (e ≡ Unfinished count)) ⊎ (e ≡ OutOfMemory)) }
+        (λ e. ((count : ℕ) × LeavesOpen (whole instance.now) options.now.nodes count × (e ≡ Unfinished count)) ⊎ (e ≡ OutOfMemory)) }
 {
     match searched(rt, alloc, instance, options, clock, gate) {
         Ok(outcome) => Ok(outcome),

@@ -1,4 +1,4 @@
-use Rattle.std.proofs.Common.{subst}
+use Rattle.std.proofs.Common.{◌∙◌, subst}
 use Rattle.qap_cost.specs.Instance.{Problem}
 use Rattle.qap_search.specs.Thought.{IsThought}
 use Rattle.qap_search.proofs.Thinkings.{anew_on, kept_on}
@@ -10,5 +10,5 @@ returns-then-is_on-clause-thought g c = kept_on c.args.rows.now c.args.last.now 
 pub returns-clause-thought : goal.returns-clause-thought
 returns-clause-thought g c =
     anew_on c.args.rows.now c.args.last.now c.args.node c.in_ok-thought.thought c.is_on.result c.requires.placement c.requires.size
-    (subst (λ (I : Problem). IsThought I c.args.node c.in_ok-thought.thought) c.instance.ensures.value c.in_ok-thought.ensures)
+    (subst (λ (I : Problem). IsThought I c.args.node c.in_ok-thought.thought) (c.instance.ensures.value ∙ c.reduced.ensures.same) c.in_ok-thought.ensures)
     c.if-is_on.false c.is_on.ensures.1
