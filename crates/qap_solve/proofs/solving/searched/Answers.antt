@@ -1,4 +1,5 @@
 use Rattle.qap_search.specs.Answer.{accepted_of}
+use Rattle.qap_search.specs.Search.{whole}
 use Rattle.qap_solve.proofs.Texts.{least_found}
 use Rattle.qap_solve.proofs.solving.searched.Goals as goal
 
@@ -11,13 +12,14 @@ returns-in_ok-found g c =
     let law = c.certificate_law.ensures in
     let left = h.left in
     let commits = accepted_of a.reports.items in
-    let made = law.there I left.content commits c.size-size.ensures.instance left.tree left.none_open in (
+    let known = (whole I).known in
+    let made = law.there I known left.content commits c.size-size.ensures.instance left.tree left.none_open in (
       c.if-cert.false,
       least_found I options.workers options.nodes a made.0 h
           (record {
             certificate = made.1.certificate;
-            certified = law.certifies I left.content commits made.0 left.tree made.1;
+            certified = law.certifies I known left.content commits made.0 left.tree made.1;
             closed = made.1.closed;
-            nodes_are = law.counted I left.content commits made.0 left.tree made.1;
+            nodes_are = law.counted I known left.content commits made.0 left.tree made.1;
           }),
     )
