@@ -1,14 +1,8 @@
 -- The refusals that faults of certificates are told as.
-use Rattle.std.specs.Prelude.{ℕ, List, Some, None, codes}
-use Rattle.qap_io.specs.Refusal.{RefusalText, memory_refusal, device_refusal}
+use Rattle.std.specs.Prelude.{codes}
+use Rattle.qap_io.specs.Refusal.{RefusalText, memory_refusal, device_refusal, refused, refused_at}
 use Rattle.qap_cert.specs.declared.error.CertError.{CertError}
 use Rattle.qap_cert.specs.declared.error.CertError.TheVariants.{SizeDiffers, BadHeader, BadVersion, BadLine, Truncated, TrailingText, CostDiffers, PermBad, SplitTooDeep, FacilityTaken, DualCount, DualRange, NotFeasible, BoundTooLow, SplitWidth, OutOfMemory, Device}
-
-abbrev refused : ℕ → List ℕ → RefusalText
-refused number name = record { number = number; name = name; at = None }
-
-abbrev refused_at : ℕ → List ℕ → ℕ → RefusalText
-refused_at number name line = record { number = number; name = name; at = Some line }
 
 abbrev pub certificate_refusal : CertError → RefusalText
 certificate_refusal (SizeDiffers line) = refused_at 8 (codes "SizeDiffers") line

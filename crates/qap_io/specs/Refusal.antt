@@ -8,6 +8,13 @@ pub record RefusalText : Type 0 where
   pub name : List ℕ
   pub at : Option ℕ
 
+-- a refusal that carries no number, and one that carries such a number
+abbrev pub refused : ℕ → List ℕ → RefusalText
+refused number name = record { number = number; name = name; at = None }
+
+abbrev pub refused_at : ℕ → List ℕ → ℕ → RefusalText
+refused_at number name k = record { number = number; name = name; at = Some k }
+
 abbrev pub at_text : Option ℕ → List ℕ
 at_text None = []
 at_text (Some k) = codes " at " ++ decimal k
@@ -18,7 +25,7 @@ refusal_line r = codes "refused " ++ decimal r.number ++ codes " " ++ r.name ++ 
 
 -- want of memory, and a failed device, which every program and crate refuses by the same number and name
 abbrev pub memory_refusal : RefusalText
-memory_refusal = record { number = 50; name = codes "OutOfMemory"; at = None }
+memory_refusal = refused 50 (codes "OutOfMemory")
 
 abbrev pub device_refusal : RefusalText
-device_refusal = record { number = 51; name = codes "Device"; at = None }
+device_refusal = refused 51 (codes "Device")

@@ -1,6 +1,6 @@
 -- Why a run is broken off, and how that is told.
-use Rattle.std.specs.Prelude.{ℕ, Some, None, codes}
-use Rattle.qap_io.specs.Refusal.{RefusalText, memory_refusal, device_refusal}
+use Rattle.std.specs.Prelude.{ℕ, codes}
+use Rattle.qap_io.specs.Refusal.{RefusalText, memory_refusal, device_refusal, refused, refused_at}
 use Rattle.qap_search.specs.declared.answer.SolveError.{SolveError}
 use Rattle.qap_search.specs.declared.answer.SolveError.TheVariants.{Unfinished as SearchUnfinished, Stopped as SearchStopped, OutOfMemory as SearchMemory}
 use Rattle.qap_text.specs.Refusal.{text_refusal}
@@ -30,8 +30,8 @@ of_search SearchMemory = OutOfMemory
 -- the refusal that a run is told as
 abbrev pub refusal_of : RunError → RefusalText
 refusal_of (Text e) = text_refusal e
-refusal_of (Unfinished count) = record { number = 41; name = codes "Unfinished"; at = Some count }
-refusal_of Stopped = record { number = 43; name = codes "Stopped"; at = None }
+refusal_of (Unfinished count) = refused_at 41 (codes "Unfinished") count
+refusal_of Stopped = refused 43 (codes "Stopped")
 refusal_of OutOfMemory = memory_refusal
 refusal_of Device = device_refusal
 

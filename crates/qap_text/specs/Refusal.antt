@@ -1,14 +1,8 @@
 -- The refusals that faults of texts are told as.
-use Rattle.std.specs.Prelude.{ℕ, List, Some, None, codes}
-use Rattle.qap_io.specs.Refusal.{RefusalText, memory_refusal, device_refusal}
+use Rattle.std.specs.Prelude.{codes}
+use Rattle.qap_io.specs.Refusal.{RefusalText, memory_refusal, device_refusal, refused, refused_at}
 use Rattle.qap_text.specs.declared.error.TextError.{TextError}
 use Rattle.qap_text.specs.declared.error.TextError.TheVariants.{Empty, NotANumber, SizeZero, SizeTooLarge, EntryRange, CountDiffers, SizeDiffers, NotPermutation, ValueRange, InputTooLong, OutOfMemory, Device}
-
-abbrev refused : ℕ → List ℕ → RefusalText
-refused number name = record { number = number; name = name; at = None }
-
-abbrev refused_at : ℕ → List ℕ → ℕ → RefusalText
-refused_at number name place = record { number = number; name = name; at = Some place }
 
 abbrev pub text_refusal : TextError → RefusalText
 text_refusal Empty = refused 1 (codes "Empty")

@@ -1,6 +1,7 @@
 //! A worker's share of the accepted commits.
 
-ghost use Rattle.std.specs.Prelude.{◌≡◌, ◌<◌, ◌≤◌, ◌^◌, [], replicate, sum, vec_capacity, vec_len};
+ghost use Rattle.std.specs.Prelude.{◌≡◌, ◌<◌, ◌≤◌, [], replicate, sum, vec_capacity, vec_len};
+ghost use Rattle.tuple_space.specs.Space.{most};
 
 use crate::law::Law;
 use std::marker::Model;
@@ -52,7 +53,7 @@ pub(crate) fn handed_out<L: Law>(room: Vec<Share<L>>, part: Part<L>, shares: usi
 
 /// The number of commits that all shares of a book have counted.
 pub(crate) fn gathered<L: Law>(book: Book<L>, shares: Vec<Share<L>>) -> u64
-    requires few { book.total ≤ 2 ^ 62 }
+    requires few { book.total ≤ most }
     requires all { vec_len shares ≡ L.parts }
     requires some { 0 < vec_len shares }
     ensures sum { result ≡ sum shares.items }

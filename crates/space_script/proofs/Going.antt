@@ -9,9 +9,10 @@ use Rattle.std.proofs.lemmas.List.Folds.{list_any-append}
 use Rattle.std.proofs.lemmas.Map.Views.{any-filter_same}
 use Rattle.std.proofs.lemmas.Option.{none-some, same_Some}
 use Rattle.tuple_match.specs.PatternValue.{PatternValue}
+use Rattle.tuple_space.specs.Lease.{granted_end}
 use Rattle.space_txn.specs.declared.live.Live.{Live}
 use Rattle.space_txn.specs.declared.txn.Found.TheVariants.{Entry as Stored, Own}
-use Rattle.space_txn.specs.Live.{granted_end, is_live_in, others, renewed_row, renewed_rows}
+use Rattle.space_txn.specs.Live.{is_live_in, others, renewed_row, renewed_rows}
 use Rattle.space_txn.specs.Machine.{Answer, Call, Step, inp_in, rdp_in, renew_txn, commit, abort, found, nothing, done, refused}
 use Rattle.space_txn.specs.Txn.{TxnValue}
 use Rattle.space_txn.specs.World.{World, advance_at, begin_at, is_live_transaction}

@@ -8,14 +8,14 @@ use Rattle.std.proofs.lemmas.List.Elements.{All-cons, All-contains, All-filter, 
 use Rattle.std.proofs.lemmas.List.Folds.{list_any-append, list_any_none}
 use Rattle.tuple_space.specs.Entry.{is_held, is_held_by, is_open, is_there, unheld}
 use Rattle.tuple_space.specs.Holds.{holds_without}
-use Rattle.tuple_space.specs.Lease.{is_live}
+use Rattle.tuple_space.specs.Lease.{granted_end, is_live}
 use Rattle.tuple_space.specs.Space.{SpaceValue, advanced, stays_without}
 use Rattle.tuple_space.specs.declared.entry.Claim.TheVariants.{Take}
 use Rattle.tuple_space.specs.declared.entry.Entry.{Entry}
 use Rattle.tuple_space.specs.declared.hold.Hold.{Hold}
 use Rattle.tuple_space.specs.declared.lease.LeaseEnd.{LeaseEnd}
 use Rattle.tuple_space.specs.declared.lease.LeaseEnd.TheVariants.{Never, At}
-use Rattle.space_txn.specs.Live.{AreHeldBy, abort_each, ended_at, going_at, granted_end, is_listed, is_live_in, unmarked}
+use Rattle.space_txn.specs.Live.{AreHeldBy, abort_each, ended_at, going_at, is_listed, is_live_in, unmarked}
 use Rattle.space_txn.specs.Machine.{BeginStep, IsAccepted}
 use Rattle.space_txn.specs.Marks.{mark_from, marks_of}
 use Rattle.space_txn.specs.Txn.{TxnValue, txn_of}

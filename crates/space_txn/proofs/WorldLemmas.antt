@@ -11,7 +11,7 @@ use Rattle.tuple_match.specs.FieldValue.{FieldValue}
 use Rattle.tuple_match.specs.PatternValue.{PatternValue}
 use Rattle.tuple_space.specs.Entry.{is_taken_by, is_there, unheld}
 use Rattle.tuple_space.specs.Holds.{holds_with, holds_without}
-use Rattle.tuple_space.specs.Lease.{granted, is_permanent}
+use Rattle.tuple_space.specs.Lease.{granted, granted_end, is_permanent}
 use Rattle.tuple_space.specs.Rows.{changed, with_end}
 use Rattle.tuple_space.specs.Space.{SpaceValue, advanced, held_by, most, put, stays_without, with_entries, without_taken}
 use Rattle.tuple_space.specs.Step as space
@@ -23,7 +23,7 @@ use Rattle.tuple_space.specs.declared.error.SpaceError.TheVariants.{Exhausted as
 use Rattle.tuple_space.specs.declared.hold.Hold.{Hold}
 use Rattle.tuple_space.specs.declared.lease.Lease.{Lease}
 use Rattle.tuple_space.specs.declared.write.Write.{Write}
-use Rattle.space_txn.specs.Live.{AreHeldBy, abort_each, ended_at, going_at, granted_end, is_listed, is_live_in, others, renewed_rows, unmarked}
+use Rattle.space_txn.specs.Live.{AreHeldBy, abort_each, ended_at, going_at, is_listed, is_live_in, others, renewed_rows, unmarked}
 use Rattle.space_txn.specs.Machine.{Step, BeginStep, AdvanceStep, Call, inp_in, rdp_in, renew_txn, commit, abort, Answer, found, nothing, done, refused, commit_at, read_space, taken_space}
 use Rattle.space_txn.specs.Txn.{TxnValue}
 use Rattle.space_txn.specs.World.{IsWorld, World, abort_at, advance_at, begin_at, is_live_transaction, renew_at, with_space, world_of}

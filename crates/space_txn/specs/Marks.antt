@@ -17,12 +17,13 @@ pub record MarksValue : Type 0 where
 abbrev pub room_of : {A : Type 0} → SmallVec A → ℕ
 room_of places = places.capacity - small_vec_len places
 
--- the mark that a hold of an entry is, with the entry's tuple
-abbrev pub mark_from : Entry → Hold → Mark
-mark_from e h = record { entry = e.number; tuple = e.tuple; taken = h.taken; permanent = h.permanent }
+-- a mark on an entry, with the entry's tuple
+abbrev pub mark_as : Entry → Bool → Bool → Mark
+mark_as e taken permanent = record { entry = e.number; tuple = e.tuple; taken = taken; permanent = permanent }
 
-abbrev pub IsMarkOf : Mark → Entry → Hold → Type 0
-IsMarkOf m e h = m ≡ mark_from e h
+-- the mark that a hold of an entry is
+abbrev pub mark_from : Entry → Hold → Mark
+mark_from e h = mark_as e h.taken h.permanent
 
 -- a transaction's mark on an entry
 abbrev pub mark_of : ℕ → Entry → Option Mark
@@ -42,7 +43,7 @@ mark_in number entries row = if row.by == number then mark_at number entries row
 
 -- the mark that a transaction puts on an entry now
 abbrev pub new_mark : Entry → Bool → Mark
-new_mark e taken = record { entry = e.number; tuple = e.tuple; taken = taken; permanent = is_permanent e.end }
+new_mark e taken = mark_as e taken (is_permanent e.end)
 
 -- it is such a mark on one of the entries
 abbrev pub IsNewMark : List Entry → Mark → Type 0

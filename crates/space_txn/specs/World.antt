@@ -1,9 +1,10 @@
 -- The world: the space, in which each entry tells who took it or read it, and the live transactions.
 use Rattle.std.specs.Prelude.{ℕ, ◌+◌, ◌<◌, ◌≤◌, nat_lt, All, Bool, List, [], ◌∷◌, ◌++◌, if◌then◌else◌}
 use Rattle.std.specs.List.{AllPairs}
+use Rattle.tuple_space.specs.Lease.{granted_end}
 use Rattle.tuple_space.specs.Space as space
 use Rattle.tuple_space.specs.Space.{SpaceValue, most, advanced}
-use Rattle.space_txn.specs.Live.{AreHeldBy, abort_each, ended_at, going_at, granted_end, is_live_in, others, renewed_rows, unmarked}
+use Rattle.space_txn.specs.Live.{AreHeldBy, abort_each, ended_at, going_at, is_live_in, others, renewed_rows, unmarked}
 use Rattle.space_txn.specs.declared.live.Live.{Live}
 
 -- begun is the number of the transaction that was begun last, commits how many were accepted

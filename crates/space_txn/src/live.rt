@@ -1,9 +1,9 @@
 //! The live transactions.
 
-ghost use Rattle.std.specs.Prelude.{◌≡◌, ◌≤◌, ◌^◌, nat_lt, if◌then◌else◌};
-ghost use Rattle.space_txn.specs.Live.{abort_each, ended_at, granted_end, renewed_row, unmarked};
+ghost use Rattle.std.specs.Prelude.{◌≡◌, nat_lt, if◌then◌else◌};
+ghost use Rattle.space_txn.specs.Live.{abort_each, ended_at, renewed_row, unmarked};
 
-use tuple_space::{LONGEST_LEASE, Space};
+use tuple_space::Space;
 
 /// A transaction that was begun and hasn't ended.
 #[derive(Clone, Copy, Debug, PartialEq, Eq)]
@@ -12,14 +12,6 @@ pub struct Live {
     pub number: u64,
     /// When its lease ends.
     pub end: u64,
-}
-
-/// The end of a transaction's lease that is granted at the moment, for as long as a tuple's is at most.
-pub(crate) fn granted_end(moment: u64, asked: u64) -> u64
-    requires { moment ≤ 2 ^ 62 }
-    ensures { result ≡ granted_end moment asked }
-{
-    moment + asked.min(LONGEST_LEASE)
 }
 
 /// A transaction with its end moved to another one, where it has the number and that is later.

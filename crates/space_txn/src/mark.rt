@@ -4,7 +4,7 @@ ghost use Rattle.std.specs.Prelude.{◌≡◌, ◌≤◌, ◌<◌, ◌≢◌, �
 ghost use Rattle.std.specs.List.{AllPairs, AllWithin, HoldsAt, cons_option, filter_map};
 ghost use Rattle.std.specs.Option.{option_copied};
 ghost use Rattle.space_txn.specs.declared.mark.Mark.{Mark};
-ghost use Rattle.space_txn.specs.Marks.{IsMarkOf, mark_in, mark_of, marks_of, with_mark};
+ghost use Rattle.space_txn.specs.Marks.{mark_from, mark_in, mark_of, marks_of, with_mark};
 
 use crate::marks::Marks;
 use tuple_match::Tuple;
@@ -25,7 +25,7 @@ pub struct Mark {
 
 /// Whether a mark is that of a hold of an entry.
 fn is_mark_of(mark: &Mark, entry: &Entry, hold: &Hold) -> bool
-    ensures { IsTrue result ↔ IsMarkOf mark.now entry.now hold.now }
+    ensures { IsTrue result ↔ (mark.now ≡ mark_from entry.now hold.now) }
 {
     mark.entry == entry.number
         && mark.taken == hold.taken

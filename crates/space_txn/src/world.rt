@@ -11,7 +11,7 @@ ghost use Rattle.space_txn.specs.Machine.{IsAccepted, IsRefused, Step, BeginStep
 
 use crate::error::{TxnError, refusal_of};
 use crate::finding::{find_own, mark_for, put_mark_on, take_marked, take_own};
-use crate::live::{Live, abort_ended, granted_end};
+use crate::live::{Live, abort_ended};
 use crate::mark::{are_marks_in, has_mark_on};
 use crate::marks::Marks;
 use crate::transactions::Transactions;
@@ -19,7 +19,7 @@ use crate::txn::{Found, Spent, Txn};
 use std::alloc::{AllocError, Global};
 use std::marker::Model;
 use tuple_match::{Template, Tuple};
-use tuple_space::{Claim, EntryId, Lease, MOST, Space, SpaceError, Writes};
+use tuple_space::{Claim, EntryId, Lease, MOST, Space, SpaceError, Writes, granted_end};
 
 /// A space of tuples with transactions.
 #[derive(Debug, Drop)]

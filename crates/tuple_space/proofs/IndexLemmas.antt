@@ -19,7 +19,8 @@ use Rattle.tuple_match.specs.FieldValue.{FieldValue, number, word, numbers}
 use Rattle.tuple_match.specs.Matching.{does_match}
 use Rattle.tuple_match.specs.PatternValue.{FieldMatches, Matches, PatternValue, actual, any_number, any_word, any_numbers}
 use Rattle.tuple_match.proofs.Deciding.{Decides-does_match}
-use Rattle.tuple_space.specs.Wanted.{is_free, is_wanted}
+use Rattle.tuple_space.specs.Entry.{is_open, is_there}
+use Rattle.tuple_space.specs.Wanted.{is_wanted}
 use Rattle.tuple_space.specs.Held.{AreRising, is_among}
 use Rattle.tuple_space.specs.Index.{AreIndexed, AreOnce, AreOrdered, AreSame, AreUpTo, Class, HasNoneWanted, IsAdded, IsDropped, IsUnwanted, first_word, has_class, is_next, is_numbered, is_of, is_put, is_to_be, is_word, key, last_after, list_at, numbers_of, second_length, sought_word}
 use Rattle.tuple_space.proofs.RowLemmas.{HasNone, any_place, none_head, none_tail, only_at, rising_head, rising_tail}
@@ -28,6 +29,7 @@ use Rattle.tuple_space.specs.Rows.{IsRising, without}
 use Rattle.tuple_space.specs.Space.{SpaceValue, put}
 use Rattle.tuple_space.specs.Writes.{put_count, put_each}
 use Rattle.tuple_space.specs.declared.search.Wanted.{Wanted}
+use Rattle.tuple_space.specs.declared.search.Wanted.TheVariants.{Allowed, There}
 use Rattle.tuple_space.specs.declared.entry.Entry.{Entry}
 use Rattle.tuple_space.specs.declared.index.Bucket.{Bucket}
 use Rattle.tuple_space.specs.declared.lease.Lease.{Lease}
@@ -715,12 +717,17 @@ not_both true true h = h refl
 not_both true false h = refl
 not_both false matches h = refl
 
+-- an entry isn't wanted where it isn't among those that the template matches
+not_wanted : (wanted : Wanted) (moment : ℕ) (template : List PatternValue) (e : Entry) → (does_match template e.tuple ≡ true → is_wanted wanted moment template e ≡ false) → is_wanted wanted moment template e ≡ false
+not_wanted (Allowed claim) moment template e h = not_both (is_open claim moment e) (does_match template e.tuple) h
+not_wanted There moment template e h = not_both (is_there moment e) (does_match template e.tuple) h
+
 -- where nothing in the bucket of a word is wanted, nothing is
 pub none_wanted : (bytes : List ℕ) (wanted : Wanted) (moment : ℕ) (template : List PatternValue) (es : List Entry) (buckets : List Bucket) → Some bytes ≡ sought_word template
     → AreIndexed buckets es → All (HasNoneWanted bytes wanted moment template es) buckets → All (λ (e : Entry). is_wanted wanted moment template e ≡ false) es
 none_wanted bytes wanted moment template es buckets sought indexed none = λ i d lt.
     let e = get_or es i d in
-    not_both (is_free wanted moment e) (does_match template e.tuple) (λ matched.
+    not_wanted wanted moment template e (λ matched.
     let first = first_of template e.tuple bytes sought ((Decides-does_match template e.tuple).0 matched) in
     let k : Class = record { word = bytes; count = length template; length = second_length e.tuple } in
     let spelled = ap (λ o. is_word o bytes) first.0 ∙ (bytes_eq-Decides bytes bytes).1 refl in

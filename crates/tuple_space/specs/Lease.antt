@@ -9,10 +9,14 @@ use Rattle.tuple_space.specs.declared.lease.LeaseEnd.TheVariants.{Never, At}
 abbrev pub longest_lease : ℕ
 longest_lease = 86400000
 
--- a lease asked for at a moment is granted for the time asked, or for a day where that is less, and ends then
+-- the end of a lease of so many milliseconds that is granted at a moment: for the time asked, or for a day where that is less
+abbrev pub granted_end : ℕ → ℕ → ℕ
+granted_end moment asked = moment + min asked longest_lease
+
+-- the end of a tuple's lease that is granted at a moment
 abbrev pub granted : ℕ → Lease → LeaseEnd
 granted moment Forever = Never
-granted moment (Ms asked) = At (moment + min asked longest_lease)
+granted moment (Ms asked) = At (granted_end moment asked)
 
 -- a lease is live while the moment is smaller than its end
 abbrev pub is_live : ℕ → LeaseEnd → Bool

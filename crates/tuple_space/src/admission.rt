@@ -1,7 +1,7 @@
 //! Which entries are there, and which can be had.
 
 ghost use Rattle.std.specs.Prelude.{◌≡◌};
-ghost use Rattle.tuple_space.specs.Entry.{is_counted, is_open, is_there};
+ghost use Rattle.tuple_space.specs.Entry.{can_be_had, is_counted, is_open, is_there};
 
 use crate::entry::{Claim, Entry};
 use tuple_match::{Template, matches};
@@ -14,7 +14,7 @@ pub(crate) fn is_there(entry: &Entry, moment: u64) -> bool
 }
 
 /// Whether the claim allows the entry.
-pub(crate) fn is_open(entry: &Entry, claim: Claim, moment: u64) -> bool
+fn is_open(entry: &Entry, claim: Claim, moment: u64) -> bool
     ensures { result ≡ is_open claim moment entry.now }
 {
     if !entry.end.is_live(moment) || entry.holds.is_taken() {
@@ -25,6 +25,13 @@ pub(crate) fn is_open(entry: &Entry, claim: Claim, moment: u64) -> bool
         Claim::Take => !entry.holds.is_held(),
         Claim::TakeBy(holder) => entry.holds.are_all_by(holder),
     }
+}
+
+/// Whether the claim allows the entry and the template asks for its tuple.
+pub(crate) fn can_be_had(entry: &Entry, claim: Claim, moment: u64, template: &Template) -> bool
+    ensures { result ≡ can_be_had claim moment template.now entry.now }
+{
+    is_open(entry, claim, moment) && matches(template, &entry.tuple)
 }
 
 /// Whether the entry is there and the template asks for its tuple.

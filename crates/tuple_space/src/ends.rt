@@ -1,8 +1,9 @@
 //! When the first lease of several ends.
 
-ghost use Rattle.std.specs.Prelude.{◌≤◌, ◌^◌, All};
+ghost use Rattle.std.specs.Prelude.{◌≤◌, All};
 ghost use Rattle.tuple_space.specs.Ends.{AreLiveBefore, IsLiveBefore};
 ghost use Rattle.tuple_space.specs.Lease.{granted};
+ghost use Rattle.tuple_space.specs.Space.{most};
 
 use crate::entry::Entry;
 use crate::lease::{Lease, LeaseEnd};
@@ -40,7 +41,7 @@ pub(crate) fn first_end(entries: &[Entry]) -> u64
 
 /// The earlier of a moment and the end of a lease that is granted now.
 pub(crate) fn end_with(first: u64, lease: Lease, moment: u64) -> u64
-    requires { moment ≤ 2 ^ 62 }
+    requires { moment ≤ most }
     ensures less { result ≤ first }
     ensures live { IsLiveBefore result (granted moment lease) }
 {
@@ -49,7 +50,7 @@ pub(crate) fn end_with(first: u64, lease: Lease, moment: u64) -> u64
 
 /// The earliest of a moment and the ends of leases that are granted now.
 pub(crate) fn end_with_all(first: u64, writes: &Writes, moment: u64) -> u64
-    requires { moment ≤ 2 ^ 62 }
+    requires { moment ≤ most }
     ensures less { result ≤ first }
     ensures live { All (λ x. IsLiveBefore result (granted moment x.lease)) writes.now }
 {

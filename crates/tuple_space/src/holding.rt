@@ -1,12 +1,12 @@
 //! What holding entries does to rows of them.
 
-ghost use Rattle.std.specs.Prelude.{◌≡◌, All, ◌+◌, ◌<◌, ◌≤◌, ◌^◌, ◌==◌, ◌&&◌, true, false, IsOk, [], ◌∷◌, ◌++◌, List, length, OnErr, OnOk};
+ghost use Rattle.std.specs.Prelude.{◌≡◌, All, ◌+◌, ◌<◌, ◌≤◌, ◌==◌, ◌&&◌, true, false, IsOk, [], ◌∷◌, ◌++◌, List, length, OnErr, OnOk};
 ghost use Rattle.std.specs.List.{list_any};
 ghost use Rattle.tuple_space.specs.Entry.{is_held_by, is_shared};
 ghost use Rattle.tuple_space.specs.Held.{HasHeld};
 ghost use Rattle.tuple_space.specs.Index.{AreIndexed};
 ghost use Rattle.tuple_space.specs.Rows.{IsRising, changed, edited_at};
-ghost use Rattle.tuple_space.specs.Space.{held_by, released, space_of, stays_without, without_taken};
+ghost use Rattle.tuple_space.specs.Space.{held_by, most, released, space_of, stays_without, without_taken};
 ghost use Rattle.tuple_space.specs.Places.{items_in};
 ghost use Rattle.tuple_space.specs.Writes.{put_count, put_each};
 
@@ -224,8 +224,8 @@ pub(crate) fn count_puts(writes: &Writes) -> usize
 
 /// Puts out what a place holds, where there is room for it, and tells the number last given.
 fn put_row(entries: &mut Entries, row: Option<Write>, moment: u64, last: u64) -> u64
-    requires early { moment ≤ 2 ^ 62 }
-    requires few { last + put_count (items_in (row ∷ [])) ≤ 2 ^ 62 }
+    requires early { moment ≤ most }
+    requires few { last + put_count (items_in (row ∷ [])) ≤ most }
     requires room { put_count (items_in (row ∷ [])) ≤ entries.old.room }
     requires new { All (λ e. e.number ≤ last) entries.old.items }
     ensures put { space_of entries.new.items moment result ≡ put_each (space_of entries.old.items moment last) (items_in (row ∷ [])) }
@@ -254,8 +254,8 @@ fn put_row(entries: &mut Entries, row: Option<Write>, moment: u64, last: u64) ->
 
 /// Puts writes out in order, where there is room for them, and tells the number last given.
 pub(crate) fn put_rows(entries: &mut Entries, rows: Rows, moment: u64, last: u64) -> u64
-    requires early { moment ≤ 2 ^ 62 }
-    requires few { last + put_count (items_in rows.items) ≤ 2 ^ 62 }
+    requires early { moment ≤ most }
+    requires few { last + put_count (items_in rows.items) ≤ most }
     requires room { put_count (items_in rows.items) ≤ entries.old.room }
     requires new { All (λ e. e.number ≤ last) entries.old.items }
     ensures { space_of entries.new.items moment result ≡ put_each (space_of entries.old.items moment last) (items_in rows.items) }

@@ -1,10 +1,11 @@
 //! What the calls of the space do to the buckets.
 
-ghost use Rattle.std.specs.Prelude.{ℕ, ◌≡◌, ◌+◌, ◌≤◌, ◌^◌, ◌==◌, ◌&&◌, ◌||◌, true, not, IfOk, OnErr, OnOk, filter};
+ghost use Rattle.std.specs.Prelude.{ℕ, ◌≡◌, ◌+◌, ◌≤◌, ◌==◌, ◌&&◌, ◌||◌, true, not, IfOk, OnErr, OnOk, filter};
 ghost use Rattle.tuple_space.specs.Entry.{is_there};
 ghost use Rattle.tuple_space.specs.Index.{AreIndexed, AreOnce, AreOrdered, AreUpTo, Class, has_class, is_next, is_put, is_to_be, last_after};
 ghost use Rattle.tuple_space.specs.Rows.{IsRising};
 ghost use Rattle.tuple_space.specs.Writes.{put_count};
+ghost use Rattle.tuple_space.specs.Space.{most};
 
 use crate::admission::is_there;
 use crate::entry::Entry;
@@ -38,7 +39,7 @@ pub(crate) fn drop_gone(buckets: &mut Vec<Bucket>, entries: &[Entry], moment: u6
 
 /// Puts the number that a write is to have into its bucket, and tells the number that is then the last.
 fn add_write(buckets: &mut Vec<Bucket>, write: &Write, last: u64) -> Result<u64, AllocError>
-    requires few { last ≤ 2 ^ 62 }
+    requires few { last ≤ most }
     requires ordered { AreUpTo last buckets.old.items }
     ensures number { IfOk result (λ number. number ≡ last_after last write.now) }
     ensures put { OnOk result ((class : Class) (n : ℕ) → is_put class n buckets.new.items ≡ (is_put class n buckets.old.items || is_next class n last write.now)) }
@@ -60,7 +61,7 @@ pub(crate) fn add_writes(
     writes: &Writes,
     last: u64,
 ) -> Result<(), AllocError>
-    requires few { last + put_count writes.now ≤ 2 ^ 62 }
+    requires few { last + put_count writes.now ≤ most }
     requires ordered { AreUpTo last buckets.old.items }
     ensures put { OnOk result ((class : Class) (n : ℕ) → is_put class n buckets.new.items ≡ (is_put class n buckets.old.items || is_to_be class n last writes.now)) }
     ensures err { OnErr result ((class : Class) (n : ℕ) →
@@ -77,7 +78,7 @@ pub(crate) fn add_writes(
 
 /// Takes the number that a write was to have out of its bucket, and tells the number that is then the last.
 fn drop_write(buckets: &mut Vec<Bucket>, write: &Write, last: u64) -> u64
-    requires few { last ≤ 2 ^ 62 }
+    requires few { last ≤ most }
     requires ordered { AreOrdered buckets.old.items }
     ensures number { result ≡ last_after last write.now }
     ensures dropped { (class : Class) (n : ℕ) → is_put class n buckets.new.items ≡ (is_put class n buckets.old.items && not (is_next class n last write.now)) }
@@ -94,7 +95,7 @@ fn drop_write(buckets: &mut Vec<Bucket>, write: &Write, last: u64) -> u64
 
 /// Takes the numbers that writes were to have out of their buckets.
 pub(crate) fn drop_writes(buckets: &mut Vec<Bucket>, writes: &Writes, last: u64)
-    requires few { last + put_count writes.now ≤ 2 ^ 62 }
+    requires few { last + put_count writes.now ≤ most }
     requires ordered { AreOrdered buckets.old.items }
     ensures dropped { (class : Class) (n : ℕ) → is_put class n buckets.new.items ≡ (is_put class n buckets.old.items && not (is_to_be class n last writes.now)) }
     ensures ordered { AreOrdered buckets.new.items }

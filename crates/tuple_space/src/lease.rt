@@ -1,10 +1,11 @@
 //! How long a tuple stays.
 
-ghost use Rattle.std.specs.Prelude.{◌≡◌, ◌+◌, ◌≤◌, ◌<◌, ◌^◌};
-ghost use Rattle.tuple_space.specs.Lease.{granted, is_live, is_permanent, later};
+ghost use Rattle.std.specs.Prelude.{◌≡◌, ◌≤◌, ◌<◌};
+ghost use Rattle.tuple_space.specs.Lease.{granted, granted_end, is_live, is_permanent, later};
+ghost use Rattle.tuple_space.specs.Space.{most};
 
 /// The longest lease that is granted, in milliseconds: one day.
-pub const LONGEST_LEASE: u64 = 86_400_000;
+const LONGEST_LEASE: u64 = 86_400_000;
 
 /// How long a tuple is asked to stay.
 #[derive(Clone, Copy, Debug, PartialEq, Eq)]
@@ -27,14 +28,23 @@ pub enum LeaseEnd {
 impl Lease {
     /// The end of this lease where it is granted at the moment.
     pub fn granted(self, moment: u64) -> LeaseEnd
-        requires { moment ≤ 2 ^ 62 }
+        requires { moment ≤ most }
         ensures { result ≡ granted moment self }
     {
         match self {
             Lease::Forever => LeaseEnd::Never,
-            Lease::Ms(asked) => LeaseEnd::At(moment + asked.min(LONGEST_LEASE)),
+            Lease::Ms(asked) => LeaseEnd::At(granted_end(moment, asked)),
         }
     }
+}
+
+/// The end of a lease of so many milliseconds that is granted at the moment: for a day at most. A tuple's lease and a
+/// transaction's end so.
+pub fn granted_end(moment: u64, asked: u64) -> u64
+    requires { moment ≤ most }
+    ensures { result ≡ granted_end moment asked }
+{
+    moment + asked.min(LONGEST_LEASE)
 }
 
 impl LeaseEnd {

@@ -25,6 +25,6 @@ pub use entry::{Claim, Entry, EntryId};
 pub use error::SpaceError;
 pub use held::Held;
 pub use hold::{Hold, Holds};
-pub use lease::{LONGEST_LEASE, Lease, LeaseEnd};
+pub use lease::{Lease, LeaseEnd, granted_end};
 pub use space::{MOST, Space};
 pub use write::{Write, Writes};

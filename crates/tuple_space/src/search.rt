@@ -4,14 +4,14 @@ ghost use Rattle.std.specs.Prelude.{◌≡◌, ◌<◌, ◌==◌, true, false, A
 ghost use Rattle.std.specs.List.{HoldsAt};
 ghost use Rattle.tuple_space.specs.Entry.{is_counted};
 ghost use Rattle.tuple_space.specs.Index.{AreIndexed, HasNoneWanted, IsUnwanted};
-ghost use Rattle.tuple_space.specs.Wanted.{is_free, is_wanted};
+ghost use Rattle.tuple_space.specs.Wanted.{is_wanted};
 ghost use Rattle.tuple_space.specs.Rows.{IsRising};
 
-use crate::admission::{is_open, is_there};
+use crate::admission::{can_be_had, is_counted};
 use crate::entries::Entries;
 use crate::entry::{Claim, Entry};
 use crate::index::{Bucket, is_of, sought_word};
-use tuple_match::{Template, matches};
+use tuple_match::Template;
 
 /// Which entries are wanted, of those whose tuples a template asks for.
 #[derive(Clone, Copy, Debug, PartialEq, Eq)]
@@ -22,21 +22,14 @@ pub(crate) enum Wanted {
     There,
 }
 
-/// Whether the entry is wanted, if the template asks for its tuple.
-fn is_free(entry: &Entry, wanted: Wanted, moment: u64) -> bool
-    ensures { result ≡ is_free wanted moment entry.now }
-{
-    match wanted {
-        Wanted::Allowed(claim) => is_open(entry, claim, moment),
-        Wanted::There => is_there(entry, moment),
-    }
-}
-
 /// Whether the entry is wanted, and the template asks for its tuple.
 fn is_wanted(entry: &Entry, wanted: Wanted, moment: u64, template: &Template) -> bool
     ensures { result ≡ is_wanted wanted moment template.now entry.now }
 {
-    is_free(entry, wanted, moment) && matches(template, &entry.tuple)
+    match wanted {
+        Wanted::Allowed(claim) => can_be_had(entry, claim, moment, template),
+        Wanted::There => is_counted(entry, moment, template),
+    }
 }
 
 /// The place of the newest entry that is wanted.

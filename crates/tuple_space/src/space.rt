@@ -3,7 +3,7 @@
 ghost use Rattle.std.specs.Prelude.{◌≡◌, ◌≤◌, ◌+◌, ◌^◌, ◌==◌, ◌&&◌, true, IsOk, IfErr, IfSome, IfNone, IfOk, OnErr, OnOk, count_by, find, option_map};
 ghost use Rattle.std.specs.Option.{option_copied};
 ghost use Rattle.tuple_space.specs.Entry.{is_counted, is_held_by};
-ghost use Rattle.tuple_space.specs.Space.{IsSpace, held_by, opening, released, with_entries, without_taken};
+ghost use Rattle.tuple_space.specs.Space.{IsSpace, held_by, most, opening, released, with_entries, without_taken};
 ghost use Rattle.std.specs.List.{list_any};
 ghost use Rattle.tuple_space.specs.Held.{HasHeld};
 ghost use Rattle.tuple_space.specs.Rows.{IsRising, changed, permanent_tuples, without};
@@ -301,7 +301,7 @@ impl Space {
     /// Puts out tuples in order, but for those that were taken again: all of them, or none. Refusals: 33 where too few
     /// numbers are left, 50; the writes come back. Takes no memory where nothing is put out.
     pub fn put_all(&mut self, writes: Writes) -> Result<(), (SpaceError, Writes)>
-        ensures ok { OnOk result ((self.old.last + put_count writes ≤ 2 ^ 62) × (self.new ≡ put_each self.old writes)) }
+        ensures ok { OnOk result ((self.old.last + put_count writes ≤ most) × (self.new ≡ put_each self.old writes)) }
         ensures err { OnErr result (self.new ≡ self.old) }
         ensures handed_back { IfErr result (λ back. back.1 ≡ writes) }
         ensures kind { IfErr result (λ back. IsPutRefusal self.old writes back.0) }
