@@ -63,7 +63,7 @@ impl<'a> FlowRows<'a> {
         ensures bounded { IfOk result (λ M. AllWithin (512 * 10 ^ 18) M.entries) }
     {
         self.ranked
-            .reduced_by(&self.rows, node, &mut workspace.b_rows)
+            .reduced_by(&self.rows, node, &mut workspace.distances)
     }
 
     /// Whether `(u, v)` fits the reduced matrix of a node that places these facilities: as `fits` tells it of the matrix, which
@@ -84,6 +84,6 @@ impl<'a> FlowRows<'a> {
         ensures { IfOk result (TellsFit self.now.instance node.now u.now v.now) }
     {
         self.ranked
-            .fit_by(&self.rows, node, &mut workspace.b_rows, u, v)
+            .fit_by(&self.rows, node, &mut workspace.distances, u, v)
     }
 }

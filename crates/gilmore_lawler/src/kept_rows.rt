@@ -7,7 +7,7 @@ ghost use Rattle.qap_cost.specs.Range.{AllWithin};
 ghost use Rattle.gilmore_lawler.specs.FlowRows.{HasFlowRows, KeepsFlowRows};
 ghost use Rattle.gilmore_lawler.specs.ReducedMatrix.{IsReduced};
 
-use crate::reduction::RankedInstance;
+use crate::reduction::{DistanceRows, RankedInstance};
 use qap_cost::{Instance, Matrix, Partial};
 use std::alloc::{AllocError, Global};
 use std::marker::Model;
@@ -20,7 +20,7 @@ pub struct KeptRows {
     ranked: Arc<RankedInstance>,
     facilities: Vec<u16>,
     a_rows: Vec<i32>,
-    b_rows: Vec<i32>,
+    distances: DistanceRows,
     are_made: bool,
 }
 
@@ -45,7 +45,7 @@ impl KeptRows {
             ranked,
             facilities: Vec::new(alloc),
             a_rows: Vec::new(alloc),
-            b_rows: Vec::new(alloc),
+            distances: DistanceRows::new(alloc),
             are_made: false,
         }
     }
@@ -73,7 +73,8 @@ impl KeptRows {
             &mut self.a_rows,
             &mut self.are_made,
         )?;
-        self.ranked.reduced_by(&self.a_rows, node, &mut self.b_rows)
+        self.ranked
+            .reduced_by(&self.a_rows, node, &mut self.distances)
     }
 }
 

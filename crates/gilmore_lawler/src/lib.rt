@@ -7,6 +7,7 @@ mod duals;
 mod factors;
 mod fitting;
 mod flow_rows;
+mod free;
 mod kept_rows;
 mod pairing;
 mod ranking;

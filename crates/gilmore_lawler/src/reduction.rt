@@ -13,6 +13,7 @@ ghost use Rattle.gilmore_lawler.specs.declared.side.Side.TheVariants.{Distance};
 
 use crate::factors::factor_rows;
 use crate::fitting::{product_with, products_fit};
+use crate::free::list_free;
 use crate::ranking::{Ranked, ranked_rows};
 use crate::side::Side;
 use crate::small::has_small_entries;
@@ -80,7 +81,7 @@ impl RankedInstance {
         ensures bounded { IfOk result (λ M. AllWithin (512 * 10 ^ 18) M.entries) }
     {
         self.make_flow_rows(node, &mut workspace.a_rows)?;
-        self.reduced_by(&workspace.a_rows, node, &mut workspace.b_rows)
+        self.reduced_by(&workspace.a_rows, node, &mut workspace.distances)
     }
 
     /// Where the memory of its rows comes from.
@@ -108,19 +109,23 @@ impl RankedInstance {
         )
     }
 
-    /// Makes `rows` those of the distances for each node that takes the locations of this one.
-    fn make_distance_rows(&self, node: &Partial, rows: &mut Vec<i32>) -> Result<(), AllocError>
+    /// Makes the rows those of the distances for each node that takes the locations of this one.
+    fn make_distance_rows(
+        &self,
+        node: &Partial,
+        distances: &mut DistanceRows,
+    ) -> Result<(), AllocError>
         requires { self.now.size ≡ node.now.size }
-        ensures { OnOk result (HasDistanceRows self.now node.now.places rows.new.items) }
+        ensures { OnOk result (HasDistanceRows self.now node.now.places distances.new.rows.items) }
     {
-        let free = node.free_locations()?;
+        list_free(node.size(), node.places(), &mut distances.free)?;
         factor_rows(
             &self.instance,
             Side::Distance,
             &self.b_rankings,
             node.places(),
-            &free,
-            rows,
+            &distances.free,
+            &mut distances.rows,
         )
     }
 
@@ -129,7 +134,7 @@ impl RankedInstance {
         &self,
         a_rows: &[i32],
         node: &Partial,
-        b_rows: &mut Vec<i32>,
+        distances: &mut DistanceRows,
     ) -> Result<Matrix, AllocError>
         requires size { self.now.size ≡ node.now.size }
         requires rows { HasFlowRows (record { instance = self.now; facilities = node.now.facilities }) a_rows.now }
@@ -137,12 +142,12 @@ impl RankedInstance {
         ensures size { IfOk result (λ M. M.size ≡ node.now.size - length node.now.facilities) }
         ensures bounded { IfOk result (λ M. AllWithin (512 * 10 ^ 18) M.entries) }
     {
-        self.make_distance_rows(node, b_rows)?;
+        self.make_distance_rows(node, distances)?;
         reduced_from(
             self.allocator(),
             &self.instance,
             a_rows,
-            b_rows,
+            &distances.rows,
             self.are_small,
             node,
         )
@@ -154,7 +159,7 @@ impl RankedInstance {
         &self,
         a_rows: &[i32],
         node: &Partial,
-        b_rows: &mut Vec<i32>,
+        distances: &mut DistanceRows,
         u: &[i128],
         v: &[i128],
     ) -> Result<bool, AllocError>
@@ -166,7 +171,8 @@ impl RankedInstance {
         requires v_range { AllLimited v.now }
         ensures { IfOk result (TellsFit self.now node.now u.now v.now) }
     {
-        self.make_distance_rows(node, b_rows)?;
+        self.make_distance_rows(node, distances)?;
+        let b_rows = &distances.rows;
         let fit = fit_from(&self.instance, a_rows, b_rows, self.are_small, node, u, v);
         Ok(fit)
     }
@@ -176,7 +182,7 @@ impl RankedInstance {
 #[derive(Drop)]
 pub struct Workspace {
     a_rows: Vec<i32>,
-    pub(crate) b_rows: Vec<i32>,
+    pub(crate) distances: DistanceRows,
 }
 
 impl Workspace {
@@ -184,7 +190,24 @@ impl Workspace {
     pub fn new(alloc: Global) -> Workspace {
         Workspace {
             a_rows: Vec::new(alloc),
-            b_rows: Vec::new(alloc),
+            distances: DistanceRows::new(alloc),
+        }
+    }
+}
+
+/// Memory for the rows of the distances, and for the list of the free locations that they belong to.
+#[derive(Drop)]
+pub(crate) struct DistanceRows {
+    free: Vec<u16>,
+    rows: Vec<i32>,
+}
+
+impl DistanceRows {
+    /// No memory yet.
+    pub(crate) fn new(alloc: Global) -> DistanceRows {
+        DistanceRows {
+            free: Vec::new(alloc),
+            rows: Vec::new(alloc),
         }
     }
 }
