@@ -3,6 +3,7 @@ use Rattle.std.proofs.Common.{◌≡◌, ℕ, ◌+◌, ◌*◌, ◌-◌, ◌^◌
 use Rattle.std.proofs.lemmas.Bool.{cases_lt}
 use Rattle.std.proofs.lemmas.List.{get_or_append_left, get_or-append_right}
 use Rattle.std.specs.Prelude.{codes, unsigned_abs}
+use Rattle.qap_cost.specs.Placement.{Placement}
 use Rattle.qap_cost.specs.Range.{AllLimited}
 use Rattle.qap_cert.proofs.Held.{held-all_within}
 use Rattle.qap_cert.proofs.Numbers.{numbers_text-is}
@@ -63,6 +64,17 @@ pub AreDuals-read : (m : ℕ) (line : List ℕ) (first u v : List ℤ) → HasDu
 AreDuals-read m line first u v h u_is v_is =
     let all : first ≡ h.numbers = h.is ∙ take_all (2 * m) h.numbers (omega (arith, h.counted)) in
     AreDuals-halves m line h.numbers u v h.named h.counted h.limited (u_is ∙ ap (take m) all) (v_is ∙ ap (drop m) all)
+
+-- and where all were read for a node
+pub AreDuals-at : (n count : ℕ) (x : Placement) (placed line : List ℕ) (first u v : List ℤ) → n ≡ x.size → placed ≡ x.facilities → count ≡ length placed → HasDuals (n - length placed) (2 * (n - count)) line first
+    → u ≡ take (n - count) first → v ≡ drop (n - count) first → AreDuals (x.size - length x.facilities) u v × (line ≡ codes "b" ++ numbers_text (u ++ v))
+AreDuals-at n count x placed line first u v size facilities counted h u_is v_is =
+    let m = n - length placed in
+    let free : n - count ≡ m = omega (arith, counted) in
+    let here : m ≡ x.size - length x.facilities = omega (arith, size, ap length facilities) in
+    let read : HasDuals m (2 * m) line first = subst (λ (k : ℕ). HasDuals m (2 * k) line first) free h in
+    let halves = AreDuals-read m line first u v read (u_is ∙ ap (λ k. take k first) free) (v_is ∙ ap (λ k. drop k first) free) in
+    (subst (λ (k : ℕ). AreDuals k u v) here halves.0, halves.1)
 
 -- and whichever are wanted, there are such duals
 pub duals_there : (m wanted : ℕ) (line : List ℕ) (first : List ℤ) → HasDuals m wanted line first → (u : List ℤ) × (v : List ℤ) × AreDuals m u v × (line ≡ codes "b" ++ numbers_text (u ++ v))

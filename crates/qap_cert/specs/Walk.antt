@@ -4,10 +4,10 @@ use Rattle.qap_cost.specs.Instance.{Problem}
 use Rattle.qap_cost.specs.Placement.{Placement}
 use Rattle.qap_cert.specs.Fault.{IsTreeFault, IsTreeFaultAmong}
 use Rattle.qap_cert.specs.Line.{line_after}
-use Rattle.qap_cert.specs.Shape.{HasShape, AllHaveShape, child_count}
-use Rattle.qap_cert.specs.Text.{tree_text, trees_text}
+use Rattle.qap_cert.specs.Shape.{AreDuals, HasShape, AllHaveShape, child_count}
+use Rattle.qap_cert.specs.Text.{numbers_text, tree_text, trees_text}
 use Rattle.qap_cert.specs.TextFault.{IsTreeTextFault}
-use Rattle.qap_cert.specs.Tree.{Node, Nodes, node_count, nodes_count}
+use Rattle.qap_cert.specs.Tree.{Node, bound, Nodes, node_count, nodes_count}
 use Rattle.qap_cert.specs.Valid.{Valid, AllValid}
 use Rattle.qap_cert.specs.declared.error.CertError.{CertError}
 use Rattle.qap_cert.specs.declared.version.Version.{Version}
@@ -49,6 +49,14 @@ IsToldOf I g x line (Some e) t = IsTreeFault I g x line t e
 abbrev pub IsToldOfAll : Problem → ℤ → Placement → ℕ → List ℕ → ℕ → Option CertError → Nodes → Type 0
 IsToldOfAll I g x f ks line None ts = AllValid I g x f ks ts
 IsToldOfAll I g x f ks line (Some e) ts = IsTreeFaultAmong I g x f ks line ts e
+
+-- the line is spelled by duals for the node, and whether they close it is told, and what keeps them from it
+pub record ClosesOrTells (I : Problem) (g : ℤ) (x : Placement) (line : ℕ) (bytes : List ℕ) (fault : Option CertError) : Type 0 where
+  pub u : List ℤ
+  pub v : List ℤ
+  pub duals : AreDuals (x.size - length x.facilities) u v
+  pub spelled : bytes ≡ codes "b" ++ numbers_text (u ++ v)
+  pub told : IsToldOf I g x line fault (bound u v)
 
 -- fewer than so many trees stand at the front, and behind them there is a fault
 abbrev pub IsFaultBefore : Version → ℕ → List ℕ → ℕ → ℕ → List ℕ → CertError → Type 0

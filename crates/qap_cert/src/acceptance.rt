@@ -15,8 +15,8 @@ use crate::error::CertError;
 use crate::placed::Placed;
 use crate::reader::{Head, read_end, read_head};
 use crate::skimming::skim_tree;
-use crate::walking::{Task, judge_tree};
-use gilmore_lawler::{FlowRows, RankedInstance, Workspace};
+use crate::walking::{Buffers, Task, judge_tree};
+use gilmore_lawler::{FlowRows, RankedInstance};
 use qap_cost::{Instance, Partial};
 use std::alloc::Global;
 
@@ -77,7 +77,7 @@ fn judge_to_end(
     let root = Partial::root(alloc, instance.size())?;
     let ranked = RankedInstance::new(alloc, instance)?;
     let rows = FlowRows::new(&ranked, &root)?;
-    let mut workspace = Workspace::new(alloc);
+    let mut buffers = Buffers::new(alloc);
     let task = Task {
         grammar: head.grammar,
         ranked: &ranked,
@@ -85,7 +85,7 @@ fn judge_to_end(
     };
     let judged = judge_tree(
         alloc,
-        &mut workspace,
+        &mut buffers,
         &task,
         &rows,
         &root,

@@ -110,13 +110,14 @@ fn judge_permutation(alloc: Global, line: &[u8], n: usize) -> Result<Perm, CertE
         (λ p. IsPerm p × (length p ≡ n) × IsNamed (codes "perm") line.now (counted_from_one p))
         (λ e. (e ≡ OutOfMemory) ⊎ IsPermFault n line.now e) }
 {
-    let Some(numbers) = read_numbers(alloc, b"perm", line, n)? else {
+    let mut locations = Vec::new(alloc);
+    let Some(numbers) = read_numbers(b"perm", line, n, &mut locations)? else {
         return Err(CertError::BadLine(PERM_LINE));
     };
     if numbers.count != n {
         return Err(CertError::BadLine(PERM_LINE));
     }
-    permutation_from_one(alloc, &numbers.first)
+    permutation_from_one(alloc, &locations)
 }
 
 /// The permutation whose locations are counted from 1.

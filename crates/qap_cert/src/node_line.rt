@@ -15,7 +15,6 @@ use crate::placed::Placed;
 use crate::shape::judge_facility;
 use crate::version::Version;
 use qap_io::from_one;
-use std::alloc::Global;
 
 /// How the lines of a tree are read: in this version, for a certificate of this size.
 #[derive(Clone, Copy)]
@@ -93,23 +92,23 @@ fn split_facility(line: &[u8], grammar: Grammar, placed: &Placed) -> Option<u16>
 }
 
 /// Judges the line of a bound: `b` and a number for each free facility and each free location. The first `wanted` of the
-/// numbers are kept; where none is wanted, no memory is taken.
+/// numbers are put into `first`, in place of what it was; where none is wanted, no memory is taken.
 pub(crate) fn bound_numbers(
-    alloc: Global,
     line: &[u8],
     grammar: Grammar,
     placed: &Placed,
     number: u64,
     wanted: usize,
-) -> Result<Vec<i128>, CertError>
+    first: &mut Vec<i128>,
+) -> Result<(), CertError>
     requires small { grammar.size ≤ 256 }
     requires depth { length placed.now ≤ grammar.size }
     requires no_split { (f : ℕ) → IsSplitLine grammar.version grammar.size placed.now line.now f → ⊥ }
     ensures { MatchResult result
-        (λ first. HasDuals (grammar.size - length placed.now) wanted line.now first.items)
+        (λ done. HasDuals (grammar.size - length placed.now) wanted line.now first.new.items)
         (λ e. (e ≡ CertError.OutOfMemory) ⊎ IsNodeFault grammar.version grammar.size placed.now number line.now e) }
 {
-    let Some(numbers) = read_numbers(alloc, b"b", line, wanted)? else {
+    let Some(numbers) = read_numbers(b"b", line, wanted, first)? else {
         return Err(CertError::BadLine(number));
     };
     if numbers.count != 2 * (grammar.size - placed.count()) {
@@ -118,5 +117,5 @@ pub(crate) fn bound_numbers(
     if !numbers.limited {
         return Err(CertError::DualRange(number));
     }
-    Ok(numbers.first)
+    Ok(())
 }

@@ -7,7 +7,7 @@ ghost use Rattle.qap_cert.specs.Numeral.{IsFrontDecimal, IsFrontNumber, HasNoFro
 
 use qap_cost::MAX_VALUE;
 use qap_io::{Digits, MAX_READ, front_digits, negated};
-use std::alloc::{AllocError, Global};
+use std::alloc::AllocError;
 
 /// A number at the front of a text: how many bytes spell it, and its value, held to -10^25 to 10^25.
 #[derive(Clone, Copy)]
@@ -107,32 +107,32 @@ pub(crate) fn one_number(name: &[u8], line: &[u8]) -> Option<i128>
     }
 }
 
-/// The numbers of a line: how many they are, whether all are within -10^24 to 10^24, and the first of them, each held to
-/// -10^25 to 10^25.
-#[derive(Drop)]
+/// The numbers of a line: how many they are, and whether all are within -10^24 to 10^24.
+#[derive(Clone, Copy)]
 pub(crate) struct Numbers {
     pub(crate) count: usize,
     pub(crate) limited: bool,
-    pub(crate) first: Vec<i128>,
 }
 
-/// The numbers of a line of a name and numbers, of which the first `wanted` are kept; `None` where the line is none such.
+/// The numbers of a line of a name and numbers; `None` where the line is none such. The first `wanted` of them, each held to
+/// -10^25 to 10^25, are put into `first`, in place of what it was.
 ///
 /// Room for `wanted` numbers is taken at once, and no more. The one error is want of memory.
 pub(crate) fn read_numbers(
-    alloc: Global,
     name: &[u8],
     line: &[u8],
     wanted: usize,
+    first: &mut Vec<i128>,
 ) -> Result<Option<Numbers>, AllocError>
     ensures { IfOk result (λ found. MatchOption found
         ((zs : List ℤ) → IsNamed name.now line.now zs → ⊥)
-        (λ r. (zs : List ℤ) × IsNamed name.now line.now zs × (r.count ≡ length zs) × (IsTrue r.limited ↔ AllLimited zs) × (r.first.items ≡ map held (take wanted zs)))) }
+        (λ r. (zs : List ℤ) × IsNamed name.now line.now zs × (r.count ≡ length zs) × (IsTrue r.limited ↔ AllLimited zs) × (first.new.items ≡ map held (take wanted zs)))) }
 {
     let Some(text) = behind_name(name, line) else {
         return Ok(None);
     };
-    let mut first = Vec::with_capacity(alloc, wanted)?;
+    first.clear();
+    first.reserve(wanted)?;
     let mut count = 0;
     let mut limited = true;
     let mut rest = text;
@@ -150,11 +150,7 @@ pub(crate) fn read_numbers(
         count += 1;
         rest = &after[numeral.count..];
     }
-    Ok(Some(Numbers {
-        count,
-        limited,
-        first,
-    }))
+    Ok(Some(Numbers { count, limited }))
 }
 
 /// Whether numbers are within -10^24 to 10^24, where those before were, or weren't, and one more comes.

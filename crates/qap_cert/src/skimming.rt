@@ -35,7 +35,8 @@ pub(crate) fn skim_tree<'a>(
     let first = node_line(text, grammar, placed, line)?;
     let next = line.saturating_add(1);
     let Some(facility) = first.facility else {
-        bound_numbers(alloc, first.bytes, grammar, placed, line, 0)?;
+        let mut none = Vec::new(alloc);
+        bound_numbers(first.bytes, grammar, placed, line, 0, &mut none)?;
         let rest = first.rest;
         return Ok(Behind { rest, next });
     };

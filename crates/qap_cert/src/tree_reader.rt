@@ -126,7 +126,8 @@ pub(crate) fn read_duals(
         (λ e. (e ≡ CertError.OutOfMemory) ⊎ IsNodeFault grammar.version grammar.size placed.now number line.now e) }
 {
     let free = grammar.size - placed.count();
-    let mut u = bound_numbers(alloc, line, grammar, placed, number, 2 * free)?;
+    let mut u = Vec::new(alloc);
+    bound_numbers(line, grammar, placed, number, 2 * free, &mut u)?;
     let v = u.split_off(free)?;
     Ok(Duals { u, v })
 }

@@ -3,16 +3,15 @@
 ghost use Rattle.std.specs.Prelude.{◌≡◌, ◌⊎◌, ◌++◌, ◌∷◌, [], ◌+◌, ◌-◌, ◌<◌, ◌≤◌, length, slice_index, ℕ, MatchResult};
 ghost use Rattle.qap_cost.specs.Placement.{IsFreeFacility, IsFreeLocation};
 ghost use Rattle.qap_cert.specs.Shape.{AreDuals};
-ghost use Rattle.qap_cert.specs.TextFault.{IsTreeTextFault};
+ghost use Rattle.qap_cert.specs.TextFault.{IsNodeFault, IsSplitLine, IsTreeTextFault};
 ghost use Rattle.qap_cert.specs.Tree.{bound};
-ghost use Rattle.qap_cert.specs.Walk.{BeginsWithTree, BeginsWithTrees, IsFaultBefore, IsToldOf, IsToldOfAll};
+ghost use Rattle.qap_cert.specs.Walk.{ClosesOrTells, BeginsWithTree, BeginsWithTrees, IsFaultBefore, IsToldOf, IsToldOfAll};
 
 use crate::checking::{check_bound, child_rows};
 use crate::error::CertError;
-use crate::node_line::{Grammar, node_line};
+use crate::node_line::{Grammar, bound_numbers, node_line};
 use crate::placed::Placed;
 use crate::skimming::skim_trees;
-use crate::tree_reader::read_duals;
 use gilmore_lawler::{FlowRows, RankedInstance, Workspace};
 use qap_cost::Partial;
 use std::alloc::Global;
@@ -33,12 +32,29 @@ pub(crate) struct Judged<'a> {
     pub(crate) fault: Option<CertError>,
 }
 
+/// Memory that is kept from one line to the next: for the rows of a node, and for the duals of a bound.
+#[derive(Drop)]
+pub(crate) struct Buffers {
+    workspace: Workspace,
+    duals: Vec<i128>,
+}
+
+impl Buffers {
+    /// No memory yet.
+    pub(crate) fn new(alloc: Global) -> Buffers {
+        Buffers {
+            workspace: Workspace::new(alloc),
+            duals: Vec::new(alloc),
+        }
+    }
+}
+
 /// Judges the tree at the front of a text, whose first line has this number, for a node at which these facilities are placed.
 /// Behind the first bound that fails, lines are judged by the grammar alone.
 #[cycle(walking)]
 pub(crate) fn judge_tree<'a>(
     alloc: Global,
-    workspace: &mut Workspace,
+    buffers: &mut Buffers,
     task: &Task<'_>,
     rows: &FlowRows<'_>,
     node: &Partial,
@@ -59,15 +75,14 @@ pub(crate) fn judge_tree<'a>(
     let first = node_line(text, task.grammar, placed, line)?;
     let next = line.saturating_add(1);
     let Some(facility) = first.facility else {
-        let duals = read_duals(alloc, first.bytes, task.grammar, placed, line)?;
-        let fault = bound_fault(workspace, task, rows, node, &duals.u, &duals.v, line)?;
+        let fault = judge_bound(buffers, task, rows, node, first.bytes, placed, line)?;
         let rest = first.rest;
         return Ok(Judged { rest, next, fault });
     };
     let inner = placed.with(facility);
     let locations = node.free_locations()?;
     judge_children(
-        alloc, workspace, task, node, facility, &locations, first.rest, &inner, next,
+        alloc, buffers, task, node, facility, &locations, first.rest, &inner, next,
     )
 }
 
@@ -75,7 +90,7 @@ pub(crate) fn judge_tree<'a>(
 #[cycle(walking)]
 fn judge_children<'a>(
     alloc: Global,
-    workspace: &mut Workspace,
+    buffers: &mut Buffers,
     task: &Task<'_>,
     node: &Partial,
     facility: u16,
@@ -104,7 +119,7 @@ fn judge_children<'a>(
     let mut next = line;
     for i in 0..locations.len() {
         let part = node.place(facility, locations[i])?;
-        let child = judge_tree(alloc, workspace, task, &rows, &part, rest, placed, next)?;
+        let child = judge_tree(alloc, buffers, task, &rows, &part, rest, placed, next)?;
         rest = child.rest;
         next = child.next;
         if let Some(fault) = child.fault {
@@ -122,6 +137,34 @@ fn judge_children<'a>(
         next,
         fault: None,
     })
+}
+
+/// Judges the line of a bound, and tells what keeps its duals from closing the node, if something does.
+fn judge_bound(
+    buffers: &mut Buffers,
+    task: &Task<'_>,
+    rows: &FlowRows<'_>,
+    node: &Partial,
+    bytes: &[u8],
+    placed: &Placed,
+    line: u64,
+) -> Result<Option<CertError>, CertError>
+    requires small { task.now.grammar.size ≤ 256 }
+    requires depth { length placed.now ≤ task.now.grammar.size }
+    requires no_split { (f : ℕ) → IsSplitLine task.now.grammar.version task.now.grammar.size placed.now bytes.now f → ⊥ }
+    requires rows_size { rows.now.instance.size ≡ node.now.size }
+    requires facilities { rows.now.facilities ≡ node.now.facilities }
+    requires size { task.now.grammar.size ≡ node.now.size }
+    requires placed { placed.now ≡ node.now.facilities }
+    ensures { MatchResult result
+        (λ fault. ClosesOrTells rows.now.instance task.now.bound node.now line bytes.now fault)
+        (λ e. (e ≡ CertError.OutOfMemory) ⊎ IsNodeFault task.now.grammar.version task.now.grammar.size placed.now line bytes.now e) }
+{
+    let free = task.grammar.size - placed.count();
+    let duals = &mut buffers.duals;
+    bound_numbers(bytes, task.grammar, placed, line, 2 * free, duals)?;
+    let (u, v) = (&duals[..free], &duals[free..]);
+    bound_fault(&mut buffers.workspace, task, rows, node, u, v, line)
 }
 
 /// What keeps a bound from closing its node, if something does.

@@ -9,4 +9,4 @@ read_of P Q o x h is = subst (λ o. MatchOption o P Q) is h
 pub returns : goal.returns
 returns c =
     let r = read_of _ _ c.in_ok-numbers.field-0 c.in-Some.numbers c.in_ok-numbers.ensures c.in-Some.is in
-    HasDuals-read _ c.args.wanted c.args.line.now c.in-Some.numbers.first.items r.0 r.1 (omega (arith, r.2, c.count.ensures.value, c.if-numbers-grammar.false)) (r.3.0 (search rules)) r.4
+    HasDuals-read _ c.args.wanted c.args.line.now c.read_numbers.new.first.items r.0 r.1 (omega (arith, r.2, c.count.ensures.value, c.if-numbers-grammar.false)) (r.3.0 (search rules)) r.4

@@ -14,7 +14,7 @@ pub skim_tree-returns-in_default : goal.skim_tree-returns-in_default
 skim_tree-returns-in_default t c =
     let m = c.args.grammar.size - length c.args.placed.now in
     let first = c.in_ok-first.first in
-    let duals = duals_there m 0 first.bytes.now c.in_ok-bound_numbers.field-0.items c.in_ok-bound_numbers.ensures in
+    let duals = duals_there m 0 first.bytes.now c.bound_numbers.new.first.items c.in_ok-bound_numbers.ensures in
     BeginsWithTree-bound c.args.grammar.version c.args.grammar.size c.args.placed.now c.args.line c.args.text.now first.bytes.now first.rest.now c.saturating_add-next.result Any duals.0 duals.1
     c.in_ok-first.ensures.0 duals.2 duals.3 c.saturating_add-next.ensures tt
 

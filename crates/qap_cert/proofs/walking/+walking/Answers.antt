@@ -3,15 +3,17 @@ use Rattle.std.specs.Prelude.{codes, Option, Some, None}
 use Rattle.std.proofs.lemmas.Result.{err_from_is_err_and}
 use Rattle.qap_cost.specs.Instance.{Problem}
 use Rattle.qap_cost.specs.Placement.{Placement, IsFree, IsFreeFacility, free_locations}
+use Rattle.gilmore_lawler.specs.FlowRows.{FlowSide}
 use Rattle.qap_cert.proofs.Judgements.{AllValid-more, IsTreeFaultAmong-at}
 use Rattle.qap_cert.proofs.Numbers.{line_text-is}
 use Rattle.qap_cert.proofs.Readings.{IsTreeTextFault-among, with_last}
 use Rattle.qap_cert.proofs.Versions.{AllLimited-split_numbers}
-use Rattle.qap_cert.proofs.Walks.{map_result, split_of, BeginsWithTree-split, BeginsWithTrees-none, BeginsWithTrees-more, joined, BeginsWithTrees-joined, IsFaultBefore-joined, IsFaultAmong-before}
+use Rattle.qap_cert.proofs.Walks.{map_result, split_of, BeginsWithTree-bound, BeginsWithTree-split, BeginsWithTrees-none, BeginsWithTrees-more, joined, BeginsWithTrees-joined, IsFaultBefore-joined, IsFaultAmong-before}
 use Rattle.qap_cert.specs.Fault.{IsTreeFault, IsTreeFaultAmong}
 use Rattle.qap_cert.specs.Line.{line_after}
+use Rattle.qap_cert.specs.Shape.{AreDuals}
 use Rattle.qap_cert.specs.Text.{line_text}
-use Rattle.qap_cert.specs.Tree.{Node, split, Nodes}
+use Rattle.qap_cert.specs.Tree.{Node, bound, split, Nodes}
 use Rattle.qap_cert.specs.Valid.{Valid, AllValid}
 use Rattle.qap_cert.specs.Version.{split_numbers}
 use Rattle.qap_cert.specs.Walk.{Any, IsToldOf, IsToldOfAll}
@@ -92,6 +94,19 @@ told_split I g x f ks line next None ts ks_is some free next_is h = (some, free,
 told_split I g x f ks line next (Some e) ts ks_is some free next_is h =
     subst (λ (js : List ℕ). IsTreeFaultAmong I g x f js (line_after line 1) ts e) ks_is (subst (λ (k : ℕ). IsTreeFaultAmong I g x f ks k ts e) next_is h)
 
+pub judge_tree-returns-in_default : goal.judge_tree-returns-in_default
+judge_tree-returns-in_default t c =
+    let first = c.in_ok-first.first in
+    let g = c.args.task.now.bound in
+    let fault = c.in_ok-fault.fault in
+    let told = c.in_ok-fault.ensures in
+    let here : IsToldOf c.args.task.now.ranked.now g c.args.node.now c.args.line fault (bound told.u told.v) =
+    subst (λ (s : FlowSide). IsToldOf s.instance g c.args.node.now c.args.line fault (bound told.u told.v)) c.requires.rows told.told in
+    let duals : AreDuals (c.args.task.now.grammar.size - length c.args.placed.now) told.u told.v =
+    subst (λ (k : ℕ). AreDuals k told.u told.v) (omega (arith, c.requires.size, ap length c.requires.placed)) told.duals in
+    BeginsWithTree-bound c.args.task.now.grammar.version c.args.task.now.grammar.size c.args.placed.now c.args.line c.args.text.now first.bytes.now first.rest.now c.saturating_add-next.result
+    (IsToldOf c.args.task.now.ranked.now g c.args.node.now c.args.line fault) told.u told.v c.in_ok-first.ensures.0 duals told.spelled c.saturating_add-next.ensures here
+
 pub judge_tree-returns : goal.judge_tree-returns
 judge_tree-returns t c =
     let v = c.args.task.now.grammar.version in
@@ -102,8 +117,8 @@ judge_tree-returns t c =
     let placed = c.args.placed.now in
     let f = c.in-Some.facility in
     let first = c.in_ok-first.first in
-    let ks = c.deref-2.result.now in
-    let ks_is : ks ≡ free_locations x = c.deref-2.ensures.value ∙ c.in_ok-locations.ensures.value in
+    let ks = c.deref.result.now in
+    let ks_is : ks ≡ free_locations x = c.deref.ensures.value ∙ c.in_ok-locations.ensures.value in
     let named = split_of v n placed first.bytes.now first.facility f c.in_ok-first.ensures.1 c.in-Some.is in
     let some : length x.facilities < x.size = omega (arith, named.1, c.requires.size, ap length c.requires.placed) in
     let free : IsFreeFacility x f = subst (λ (m : ℕ). IsFree m x.facilities f) c.requires.size (subst (λ (xs : List ℕ). IsFree n xs f) c.requires.placed named.2) in
