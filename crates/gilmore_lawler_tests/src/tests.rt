@@ -1,8 +1,9 @@
 //! What no clause says: that calls succeed, and that the numbers are those of worked examples.
 
-use gilmore_lawler::{RankedInstance, Workspace, fits, least_product, reduced};
+use gilmore_lawler::{KeptRows, RankedInstance, Workspace, fits, least_product, reduced};
 use qap_cost::{Instance, Matrix, Partial};
 use std::alloc::{AllocError, Global};
+use std::sync::Arc;
 use std::test::Fail;
 
 fn instance(alloc: Global, n: usize, a: &[i64], b: &[i64]) -> Result<Option<Instance>, AllocError> {
@@ -336,6 +337,51 @@ fn entries_by_their_definition(rt: HostRuntime) -> Result<(), Fail> {
                 }
             }
         }
+    }
+    Ok(())
+}
+
+/// The entries of the reduced matrix at this node, from rows that are kept from node to node.
+fn entries_kept(
+    alloc: Global,
+    kept: &mut KeptRows,
+    node: &Partial,
+) -> Result<Option<Vec<i128>>, AllocError> {
+    if kept.instance().size() != node.size() {
+        return Ok(None);
+    }
+    let matrix = kept.reduced(node)?;
+    Ok(Some(entries_of(alloc, &matrix)?))
+}
+
+#[test]
+fn kept_rows_in_turn(rt: HostRuntime) -> Result<(), Fail> {
+    let alloc = rt.alloc();
+    let a = mixed(alloc, 5, 5)?;
+    let b = mixed(alloc, 5, 70)?;
+    let Some(five) = instance(alloc, 5, &a, &b)? else {
+        panic!(rt; "an instance is refused");
+    };
+    let ranked = Arc::new(alloc, RankedInstance::new(alloc, &five)?)?;
+    let mut kept = KeptRows::new(alloc, ranked);
+    // Siblings, a child and its sibling, another branch, the root, and the same facilities in another order.
+    let turns: [&[(u16, u16)]; 7] = [
+        &[(2, 0)],
+        &[(2, 3)],
+        &[(2, 3), (0, 1)],
+        &[(2, 3), (0, 4)],
+        &[(2, 1)],
+        &[],
+        &[(0, 3), (2, 1)],
+    ];
+    for pairs in turns {
+        let Some(node) = node(alloc, 5, pairs)? else {
+            panic!(rt; "a node is refused");
+        };
+        let found = entries_kept(alloc, &mut kept, &node)?;
+        let want = slow_entries(alloc, (5, &a, &b), pairs)?;
+        assert!(rt; found.is_some(), "no matrix at {pairs:?}");
+        assert_eq!(rt; found.as_deref(), want.as_deref(), "at {pairs:?}");
     }
     Ok(())
 }
