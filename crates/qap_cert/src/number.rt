@@ -64,6 +64,9 @@ fn front_positive(text: &[u8]) -> Option<Numeral>
 }
 
 /// The number at the front of a text.
+///
+/// It stands in the loop over a line's numbers without a call: each would go through memory with its 128 bits.
+#[inline(always)]
 fn front_number(text: &[u8]) -> Option<Numeral>
     ensures { MatchOption result (HasNoFrontNumber text.now) (λ m. IsFrontNumber text.now m.count m.value) }
 {
