@@ -75,6 +75,13 @@ impl<L: Law> Limited<L> {
         self.alone.is_closed()
     }
 
+    /// Closes the space, whatever it holds. Takes no memory.
+    pub fn shut(&mut self)
+        ensures { self.new ≡ record self.old { closed = true } }
+    {
+        self.alone.shut();
+    }
+
     /// What the transaction held that was ended last, unless it has been taken before.
     pub(crate) fn take_spent(&mut self) -> Option<Spent>
         ensures { self.new ≡ self.old }

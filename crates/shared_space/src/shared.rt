@@ -269,8 +269,14 @@ impl<L: Law> Shared<L> {
         closed
     }
 
-    /// Whether the space is closed, by `close` or since its limit of commits is reached. It changes nothing. With a limit of 0 the
-    /// space always is.
+    /// Closes the space, whatever it holds and whoever works on it. A closed space stays closed. Takes no memory.
+    pub fn shut<R: Wait>(&self, rt: &R) {
+        locked(rt, &self.limited).shut();
+        self.changed.notify_all();
+    }
+
+    /// Whether the space is closed, by `close` or `shut` or since its limit of commits is reached. It changes nothing. With a limit of
+    /// 0 the space always is.
     pub fn closed<R: Wait>(&self, rt: &R) -> bool
         ensures { L.limit ≡ Some 0 → result ≡ true }
     {
