@@ -56,7 +56,7 @@ no_certificate_there n tuples (inl memory) = absurd (let other : ⊥ = cc in oth
 no_certificate_there n tuples (inr fault) = fault.1
 
 -- what is counted among tuples is one of them
-contained : (xs : List (List FieldValue)) (w : List FieldValue) → 1 ≤ sum_by (is_it w) xs → Contains xs w
+pub contained : (xs : List (List FieldValue)) (w : List FieldValue) → 1 ≤ sum_by (is_it w) xs → Contains xs w
 contained [] w found = absurd (omega arith)
 contained (x ∷ xs) w found =
     elim (found_in (is_it w) (x ∷ []) xs found) as

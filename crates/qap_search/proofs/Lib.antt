@@ -18,6 +18,7 @@ pub mod Keys
 pub mod LeastDuals
 pub mod NodeLists
 pub mod OneTree
+pub mod OpenBounds
 pub mod Parts
 pub mod Reorderings
 pub mod Replacing

@@ -1,6 +1,7 @@
 pub mod Answer
 pub mod Assembling
 pub mod Best
+pub mod BoundedAnswer
 pub mod Building
 pub mod ClosedTuples
 pub mod Closing
@@ -15,6 +16,7 @@ pub mod Found
 pub mod Hand
 pub mod InOrder
 pub mod Interleaving
+pub mod OpenBound
 pub mod Opening
 pub mod Piece
 pub mod Pieces

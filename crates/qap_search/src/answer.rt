@@ -55,3 +55,17 @@ pub struct Least {
     /// One for each worker, in their order.
     pub reports: Vec<Report>,
 }
+
+/// A permutation of an instance, a bound on what a search's root lets a permutation cost, and what each worker tells of the search.
+#[derive(Drop)]
+pub struct Bounded {
+    /// The best permutation found; where none that completes the root is found that is cheaper, the one that the search began with.
+    pub permutation: Perm,
+    pub cost: i128,
+    /// No permutation that completes the root costs less. At most the cost, and the cost where no node is open.
+    pub bound: i128,
+    /// How many nodes are left open.
+    pub open_nodes: u64,
+    /// One for each worker, in their order.
+    pub reports: Vec<Report>,
+}

@@ -3,6 +3,7 @@
 ghost use Rattle.std.specs.Prelude.{◌≡◌, ◌⊎◌, IfOk, MatchResult};
 ghost use Rattle.qap_cost.specs.Placement.{IsPlacement};
 ghost use Rattle.qap_search.specs.ClosedTuples.{AreClosed, HasNoNode, IsClosedBy, IsClosedTuple, IsNoNode};
+ghost use Rattle.qap_search.specs.Closing.{AreLeastDuals};
 ghost use Rattle.qap_search.specs.declared.error.AssembleError.TheVariants.{NotATree, OutOfMemory};
 
 use crate::error::AssembleError;
@@ -65,7 +66,22 @@ fn close(
     requires placement { IsPlacement node.now }
     ensures { IfOk result (IsClosedBy instance.now node.now) }
 {
+    let (u, v) = least_duals(alloc, instance, workspace, node)?;
+    tuple_of_closed(alloc, node, u, v)
+}
+
+/// The duals of a least assignment of the node's reduced matrix, those of its rows first.
+pub(crate) fn least_duals(
+    alloc: Global,
+    instance: &RankedInstance,
+    workspace: &mut Workspace,
+    node: &Partial,
+) -> Result<(Vec<i128>, Vec<i128>), AllocError>
+    requires same_size { instance.now.size ≡ node.now.size }
+    requires placement { IsPlacement node.now }
+    ensures { IfOk result (λ duals. AreLeastDuals instance.now node.now duals.0.items duals.1.items) }
+{
     let matrix = instance.reduced(workspace, node)?;
     let Assignment { u, v, .. } = solve(alloc, &matrix)?;
-    tuple_of_closed(alloc, node, u, v)
+    Ok((u, v))
 }

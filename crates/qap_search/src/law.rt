@@ -1,6 +1,6 @@
 //! Why the tuples of a search stay a cut tree, and why those of a finished or a stopped one give a certificate.
 
-ghost use Rattle.std.specs.Prelude.{◌≡◌, ◌≤ℤ◌, ◌+◌, ◌++◌, ◌∷◌, [], ℕ, List, Contains, true};
+ghost use Rattle.std.specs.Prelude.{◌≡◌, ◌≤ℤ◌, ◌+◌, ◌++◌, ◌∷◌, [], ℕ, ℤ, List, Contains, true};
 ghost use Rattle.qap_cost.specs.Instance.{Problem, IsInstance};
 ghost use Rattle.qap_cost.specs.Placement.{IsPlacement, Placement, root_of};
 ghost use Rattle.qap_cert.specs.Acceptance.{IsRefused, ShowsVerdict};
@@ -19,9 +19,10 @@ ghost use Rattle.qap_search.specs.CutTree.{IsCutTree};
 ghost use Rattle.qap_search.specs.Decision.{Decides};
 ghost use Rattle.qap_search.specs.Finished.{IsAssembled};
 ghost use Rattle.qap_search.specs.Found.{IsBestFound, IsOpenNode, is_best};
+ghost use Rattle.qap_search.specs.OpenBound.{IsOpenBound};
 ghost use Rattle.qap_search.specs.Piece.{node_tuple, is_open, open_count};
 ghost use Rattle.qap_search.specs.Replacement.{Best, IsAsGood, MayReplace, tuple_of};
-ghost use Rattle.qap_search.specs.Search.{Search, IsSearch, from_root};
+ghost use Rattle.qap_search.specs.Search.{Search, IsSearch, NoneBelow, from_root};
 ghost use Rattle.qap_search.specs.SearchTree.{IsTreeAt, decided_count};
 ghost use Rattle.qap_search.specs.Stopped.{IsNotStopped, IsStopped};
 
@@ -105,4 +106,13 @@ pub fn stopped_law()
         × (node_count C.tree ≡ commits + open_count content) }
     ensures not_refused { (I : Problem) (known : Best) (content : List (List FieldValue)) (commits : ℕ) → IsInstance I →
         IsCutTree (from_root I known) content commits → IsNotStopped I content → ⊥ }
+{}
+
+/// No permutation that completes the root of a search costs less than the least of its best permutation's cost and of what its open
+/// nodes' least assignments show; and that is the cost where no node is open.
+pub fn open_bound_law()
+    ensures bounds { (S : Search) (content : List (List FieldValue)) (commits : ℕ) (g : ℤ) →
+        (h : IsCutTree S content commits) → IsOpenBound S.instance content h.cost g → NoneBelow S g }
+    ensures finished { (I : Problem) (content : List (List FieldValue)) (c g : ℤ) →
+        IsOpenBound I content c g → open_count content ≡ 0 → g ≡ c }
 {}

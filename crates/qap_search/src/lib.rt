@@ -4,6 +4,7 @@
 mod answer;
 mod assembling;
 mod best;
+mod bounding;
 mod branching;
 mod building;
 mod clock;
@@ -32,6 +33,7 @@ mod seat;
 mod showing;
 mod solving;
 mod stage;
+mod stop;
 mod stopping;
 mod templates;
 mod thinking;
@@ -40,7 +42,7 @@ mod turn;
 mod workers;
 mod writing;
 
-pub use answer::{Answer, Least, SolveError};
+pub use answer::{Answer, Bounded, Least, SolveError};
 pub use assembling::assemble;
 pub use branching::Branching;
 pub use clock::Clock;
@@ -49,8 +51,8 @@ pub use error::AssembleError;
 pub use gate::{Always, Gate, Kind};
 pub use hand::Hand;
 pub use law::{
-    accepted_law, certificate_law, found_law, opening_law, order_law, replacement_law,
-    replacing_law, stopped_law,
+    accepted_law, certificate_law, found_law, open_bound_law, opening_law, order_law,
+    replacement_law, replacing_law, stopped_law,
 };
 pub use opening::{opening_from, opening_space};
 pub use plan::Plan;
@@ -60,8 +62,9 @@ pub use report::{Ended, Report};
 pub use run::Run;
 pub use schedule::{Step, play};
 pub use solving::solve_alone;
+pub use stop::{Never, Stop};
 pub use stopping::assemble_stopped;
 pub use templates::{best_template, node_template};
 pub use thought::Thought;
-pub use workers::{solve, solve_from, solve_least};
+pub use workers::{solve, solve_from, solve_least, solve_least_from};
 pub use writing::tuple_of_best;

@@ -5,6 +5,7 @@ ghost use Rattle.std.specs.List.{sum_by};
 ghost use Rattle.qap_cost.specs.Objective.{Permutes};
 ghost use Rattle.qap_cost.specs.Placement.{root_of};
 ghost use Rattle.qap_search.specs.Answer.{IsAnswer, IsLeastAnswer, IsSearchFault, IsSolveFault};
+ghost use Rattle.qap_search.specs.BoundedAnswer.{IsBoundedFrom};
 ghost use Rattle.qap_search.specs.Ending.{IsEnded};
 ghost use Rattle.qap_search.specs.Opening.{IsOpening};
 ghost use Rattle.qap_search.specs.Search.{Search, best_with, from_root, identity_of, search_of};
@@ -12,7 +13,8 @@ ghost use Rattle.qap_search.specs.SearchLaw.{IsLawOf, IsSearchLaw};
 ghost use Rattle.space_txn.specs.Content.{content_of};
 ghost use Rattle.std.specs.Arc.{arc_value};
 
-use crate::answer::{Answer, Least, SolveError};
+use crate::answer::{Answer, Bounded, Least, SolveError};
+use crate::bounding::bounded_of;
 use crate::branching::Branching;
 use crate::clock::Clock;
 use crate::closers::Many;
@@ -26,6 +28,7 @@ use crate::report::Report;
 use crate::run::Run;
 use crate::seat::{Seat, Workplace};
 use crate::solving::shared_rows;
+use crate::stop::{Never, Stop};
 use crate::templates::{best_template, node_template};
 use gilmore_lawler::RankedInstance;
 use qap_cost::{Instance, Partial, Perm};
@@ -110,12 +113,12 @@ where
         start: &start,
         branching: Branching::GreatestMatched,
     };
-    let run = run_of(rt, alloc, instance, &plan, clock, gate)?;
+    let run = run_of(rt, alloc, instance, &plan, clock, gate, &Never)?;
     least_of(&Many::new(rt, workers), alloc, instance, limit, run)
 }
 
 /// The certificate of an instance's least cost, as `solve` answers it, by a search that goes as the plan says, over all
-/// permutations. That the plan's start is one of the instance is a condition.
+/// permutations: the plan's root is the empty node. That its start is a permutation of the instance is a condition.
 pub fn solve_from<R, C, G>(
     rt: &R,
     alloc: Global,
@@ -135,7 +138,7 @@ where
     ensures { MatchResult result (IsAnswer instance.now plan.now.workers plan.now.limit)
         (IsSearchFault (from_root instance.now (best_with instance.now plan.now.start.now)) plan.now.workers plan.now.limit) }
 {
-    let run = run_of(rt, alloc, instance, plan, clock, gate)?;
+    let run = run_of(rt, alloc, instance, plan, clock, gate, &Never)?;
     answer_of(
         &Many::new(rt, plan.workers),
         alloc,
@@ -143,6 +146,38 @@ where
         plan.limit,
         run,
     )
+}
+
+/// The best permutation that a search below the plan's root comes to, and a bound that no permutation which completes the root costs
+/// less than: for whoever searches below any node, and for whoever may stop a search before its end.
+///
+/// What `solve` says of the workers, the gate, the lease and the limit holds here too. Where the stop is wanted the space is closed
+/// though nodes are open; no worker begins on another node then, and none waits for a lease to end. For whatever reason nodes are
+/// left, by the stop or the gate, at the limit or for want of memory, the least assignments of their reduced matrices bound the answer;
+/// where none is left, the bound is the cost. No certificate is put together. The only error is want of memory.
+pub fn solve_least_from<R, C, G, S>(
+    rt: &R,
+    alloc: Global,
+    instance: &Instance,
+    plan: &Plan<'_>,
+    clock: &C,
+    gate: &G,
+    stop: &S,
+) -> Result<Bounded, AllocError>
+where
+    R: Threads + Wait + time::Clock + Sync,
+    C: Clock,
+    G: Gate + Sync,
+    S: Stop,
+    requires some { 0 < plan.now.workers }
+    requires few { plan.now.workers ≤ 64 }
+    requires start { Permutes instance.now plan.now.start.now }
+    requires same_size { plan.now.root.now.size ≡ instance.now.size }
+    ensures { IfOk result
+        (IsBoundedFrom (search_of instance.now plan.now.root.now (best_with instance.now plan.now.start.now)) plan.now.workers plan.now.limit) }
+{
+    let run = run_of(rt, alloc, instance, plan, clock, gate, stop)?;
+    bounded_of(alloc, instance, run)
 }
 
 /// What a search of all permutations begins with.
@@ -165,18 +200,20 @@ fn all_permutations(alloc: Global, instance: &Instance) -> Result<Beginning, All
 }
 
 /// The run that goes as the plan says.
-fn run_of<R, C, G>(
+fn run_of<R, C, G, S>(
     rt: &R,
     alloc: Global,
     instance: &Instance,
     plan: &Plan<'_>,
     clock: &C,
     gate: &G,
+    stop: &S,
 ) -> Result<Run, AllocError>
 where
     R: Threads + Wait + time::Clock + Sync,
     C: Clock,
     G: Gate + Sync,
+    S: Stop,
     requires some { 0 < plan.now.workers }
     requires few { plan.now.workers ≤ 64 }
     requires start { Permutes instance.now plan.now.start.now }
@@ -186,11 +223,11 @@ where
 {
     let space = opening_from(alloc, instance, plan.root, plan.start)?;
     let blank = Blank::new(u64::from(plan.workers));
-    search::<Brand, R, C, G>(rt, alloc, instance, space, blank, plan, clock, gate)
+    search::<Brand, R, C, G, S>(rt, alloc, instance, space, blank, plan, clock, gate, stop)
 }
 
 /// The same, on a space that stands at the opening, under a law that is the search's.
-fn search<L, R, C, G>(
+fn search<L, R, C, G, S>(
     rt: &R,
     alloc: Global,
     instance: &Instance,
@@ -199,12 +236,14 @@ fn search<L, R, C, G>(
     plan: &Plan<'_>,
     clock: &C,
     gate: &G,
+    stop: &S,
 ) -> Result<Run, AllocError>
 where
     L: Law + Send + Sync,
     R: Threads + Wait + time::Clock + Sync,
     C: Clock,
     G: Gate + Sync,
+    S: Stop,
     requires some { 0 < plan.now.workers }
     requires name { blank.name ≡ L.name }
     requires parts { blank.parts ≡ L.parts }
@@ -220,7 +259,7 @@ where
     let room = Left::with_capacity(alloc, count)?;
     let templates = Templates::new(alloc)?;
     let staffed = staff::<L>(alloc, instance, space, blank, plan)?;
-    Ok(run_out(rt, staffed, room, &templates, clock, gate))
+    Ok(run_out(rt, staffed, room, &templates, clock, gate, stop))
 }
 
 /// What workers wait for on the space.
@@ -272,19 +311,21 @@ fn staff<L: Law>(
 }
 
 /// What is left where all workers have worked until the space was closed.
-fn run_out<L, R, C, G>(
+fn run_out<L, R, C, G, S>(
     rt: &R,
     staffed: Staffed<L>,
     room: Left<L>,
     templates: &Templates,
     clock: &C,
     gate: &G,
+    stop: &S,
 ) -> Run
 where
     L: Law + Send + Sync,
     R: Threads + Wait + time::Clock + Sync,
     C: Clock,
     G: Gate + Sync,
+    S: Stop,
     requires all { vec_len staffed.seats ≡ L.parts }
     requires some { 0 < vec_len staffed.seats }
     requires no_shares { room.shares.items ≡ [] }
@@ -302,7 +343,7 @@ where
         best: &templates.best,
         gate,
     };
-    work_all(&place, &seats, clock);
+    work_all(&place, &seats, clock, stop);
     let Left { shares, reports } = left_by(room, seats);
     let (space, _) = shared.into_inner(shares);
     Run { space, reports }
@@ -360,12 +401,18 @@ fn seats_for<L: Law>(
 
 /// Lets each worker work in a thread of its own, and keeps the space until it is closed. A worker whose thread can't be started
 /// has left.
-fn work_all<R, L, C, G>(place: &Workplace<'_, R, L, G>, seats: &[Mutex<Seat<L>>], clock: &C)
+fn work_all<R, L, C, G, S>(
+    place: &Workplace<'_, R, L, G>,
+    seats: &[Mutex<Seat<L>>],
+    clock: &C,
+    stop: &S,
+)
 where
     R: Threads + Wait + time::Clock + Sync,
     L: Law + Send + Sync,
     C: Clock,
     G: Gate + Sync,
+    S: Stop,
 {
     thread::scope(thread::scope_env(), place.rt, |scope| {
         for seat in seats {
@@ -373,7 +420,7 @@ where
                 place.shared.leave(place.rt);
             }
         }
-        keep(place, clock);
+        keep(place, clock, stop);
     });
 }
 
@@ -383,15 +430,19 @@ fn work<R: Wait, L: Law, G: Gate>(place: &Workplace<'_, R, L, G>, seat: &Mutex<S
     place.shared.leave(place.rt);
 }
 
-/// Moves the moment on by the clock, until the space is closed.
-fn keep<R, L, C, G>(place: &Workplace<'_, R, L, G>, clock: &C)
+/// Moves the moment on by the clock, until the space is closed, by itself or since the stop is wanted.
+fn keep<R, L, C, G, S>(place: &Workplace<'_, R, L, G>, clock: &C, stop: &S)
 where
     R: Wait + time::Clock,
     L: Law,
     C: Clock,
     G: Gate,
+    S: Stop,
 {
     for _ in place.rt.forever() {
+        if stop.is_wanted() {
+            place.shared.shut(place.rt);
+        }
         if place.shared.close(place.rt, place.nodes) {
             return;
         }

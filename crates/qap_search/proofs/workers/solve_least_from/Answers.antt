@@ -1,0 +1,15 @@
+use Rattle.std.proofs.Common.{ℕ, subst}
+use Rattle.std.proofs.lemmas.Result.{IfOk-weaker}
+use Rattle.qap_search.specs.BoundedAnswer.{IsBoundedFrom}
+use Rattle.qap_search.specs.Search.{Search, best_with, search_of}
+use Rattle.qap_search.proofs.workers.solve_least_from.Goals as goal
+
+pub returns : goal.returns
+returns g c =
+    let I = c.args.instance.now in
+    let plan = c.args.plan.now in
+    let known = best_with I plan.start.now in
+    let S : Search = search_of I plan.root.now known in
+    IfOk-weaker c.bounded_of.result _ _
+    (λ a h. subst (λ (n : ℕ). IsBoundedFrom S n plan.limit a) c.in_ok-run.ensures.one_each (h plan.root.now known plan.limit c.in_ok-run.ensures.ended))
+    c.bounded_of.ensures

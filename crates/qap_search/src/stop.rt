@@ -1,0 +1,22 @@
+//! Who may stop a search before its end.
+
+ghost use Rattle.std.specs.Prelude.{◌≡◌, false};
+
+/// May stop a search before its end.
+pub trait Stop {
+    /// Whether the search is to stop now, though nodes are open. The thread that keeps the space asks in each of its rounds, outside
+    /// the space's lock, and no more once it is wanted.
+    fn is_wanted(&self) -> bool;
+}
+
+/// Lets each search go on to its end.
+#[derive(Clone, Copy, Debug)]
+pub struct Never;
+
+impl Stop for Never {
+    fn is_wanted(&self) -> bool
+        ensures { result ≡ false }
+    {
+        false
+    }
+}
