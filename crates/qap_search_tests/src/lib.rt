@@ -2,6 +2,8 @@
 #![tactic(auto)]
 
 #[cfg(test)]
+mod bound_tests;
+#[cfg(test)]
 mod examples;
 #[cfg(test)]
 mod hand_tests;

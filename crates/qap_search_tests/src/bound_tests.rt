@@ -1,0 +1,248 @@
+//! Bounded answers over roots at each depth, against all completions of the root; and a search that is stopped.
+
+ghost use Rattle.std.specs.Prelude.{◌≡◌, IfOk, IfSome};
+ghost use Rattle.qap_cost.specs.Objective.{Permutes};
+
+use crate::worker_tests::{LEASE_MS, Stopped};
+use qap_cost::{Instance, Partial, Perm, cost};
+use qap_search::{Always, Branching, Gate, Kind, Never, Plan, Stop, read_node, solve_least_from};
+use std::alloc::{AllocError, Global};
+use std::process::Abort;
+use std::sync::Wait;
+use std::sync::atomic::{AtomicBool, Ordering};
+use std::test::Fail;
+use std::thread::Threads;
+use std::time;
+
+/// The flows and the distances of four facilities.
+const FLOWS: [i64; 16] = [3, -2, 5, 0, 1, 0, -4, 6, -3, 2, 1, 5, 4, -1, 2, -2];
+
+const DISTANCES: [i64; 16] = [1, 4, -3, 2, -5, 0, 6, 1, 2, -1, 3, -4, 5, 2, 0, -2];
+
+/// Facilities and their locations, of which a root places the first ones.
+const FACILITIES: [u16; 4] = [2, 0, 3, 1];
+
+const PLACES: [u16; 4] = [1, 3, 0, 2];
+
+fn signed(alloc: Global) -> Result<Instance, Fail>
+    ensures { IfOk result (λ I. I.size ≡ 4) }
+{
+    let a = Vec::from_slice(alloc, &FLOWS)?;
+    let b = Vec::from_slice(alloc, &DISTANCES)?;
+    Ok(Instance::new(4, a, b)?)
+}
+
+/// The node that places the first facilities, so many of them.
+fn root_at(alloc: Global, depth: usize) -> Result<Partial, Fail>
+    ensures { IfOk result (λ x. x.size ≡ 4) }
+{
+    let mut list = Vec::new(alloc);
+    for t in 0..depth.min(4) {
+        list.push(i128::from(FACILITIES[t]))?;
+        list.push(i128::from(PLACES[t]))?;
+    }
+    match read_node(alloc, 4, &list)? {
+        Some(root) => Ok(root),
+        None => Err(Fail::new("the list is that of a node")),
+    }
+}
+
+/// The permutation of the instance that these locations are; `None` where they are none.
+fn perm_of(
+    alloc: Global,
+    instance: &Instance,
+    locations: &[u16],
+) -> Result<Option<Perm>, AllocError>
+    ensures { IfOk result (λ found. IfSome found (Permutes instance.now)) }
+{
+    let Ok(perm) = Perm::new(Vec::from_slice(alloc, locations)?) else {
+        return Ok(None);
+    };
+    if perm.len() != instance.size() {
+        return Ok(None);
+    }
+    Ok(Some(perm))
+}
+
+/// Each facility at the location of its own number.
+fn in_order(alloc: Global, instance: &Instance) -> Result<Perm, Fail>
+    ensures { IfOk result (Permutes instance.now) }
+{
+    match perm_of(alloc, instance, &[0, 1, 2, 3])? {
+        Some(perm) => Ok(perm),
+        None => Err(Fail::new("the instance has four facilities")),
+    }
+}
+
+/// Whether the permutation of these locations completes the node that places the first facilities, so many of them.
+fn completes(locations: &[u16], depth: usize) -> bool {
+    for t in 0..depth.min(4) {
+        if locations.get(usize::from(FACILITIES[t])) != Some(&PLACES[t]) {
+            return false;
+        }
+    }
+    true
+}
+
+/// The least cost of the permutations that complete the node, of which each is tried.
+fn least_below(alloc: Global, instance: &Instance, depth: usize) -> Result<i128, AllocError> {
+    let mut least = i128::MAX;
+    for code in 0..256u16 {
+        let locations = [code % 4, code / 4 % 4, code / 16 % 4, code / 64];
+        if completes(&locations, depth) {
+            if let Some(perm) = perm_of(alloc, instance, &locations)? {
+                least = least.min(cost(instance, &perm));
+            }
+        }
+    }
+    Ok(least)
+}
+
+/// What a search by two workers tells: the cost, the bound, and how many nodes it leaves open.
+fn told<R, G, S>(
+    rt: &R,
+    alloc: Global,
+    instance: &Instance,
+    depth: usize,
+    start: &Perm,
+    limit: Option<u64>,
+    gate: &G,
+    stop: &S,
+) -> Result<(i128, i128, u64), Fail>
+where
+    R: Threads + Wait + time::Clock + Sync,
+    G: Gate + Sync,
+    S: Stop,
+    requires start { Permutes instance.now start.now }
+    requires four { instance.now.size ≡ 4 }
+{
+    let root = root_at(alloc, depth)?;
+    let plan = Plan {
+        workers: 2,
+        lease_ms: LEASE_MS,
+        limit,
+        root: &root,
+        start,
+        branching: Branching::GreatestMatched,
+    };
+    let answer = solve_least_from(rt, alloc, instance, &plan, &Stopped, gate, stop)?;
+    Ok((answer.cost, answer.bound, answer.open_nodes))
+}
+
+/// Asserts that a search to its end finds the least cost below the root, or keeps its start where that costs less.
+fn assert_finished<R>(
+    rt: &R,
+    alloc: Global,
+    instance: &Instance,
+    depth: usize,
+    limit: Option<u64>,
+) -> Result<(), Fail>
+where
+    R: Threads + Wait + time::Clock + Sync + Abort,
+    requires four { instance.now.size ≡ 4 }
+{
+    let start = in_order(alloc, instance)?;
+    let least = least_below(alloc, instance, depth)?.min(cost(instance, &start));
+    let found = told(rt, alloc, instance, depth, &start, limit, &Always, &Never)?;
+    assert_eq!(rt; found, (least, least, 0));
+    Ok(())
+}
+
+#[test]
+fn finds_the_least_below_each_root(rt: HostRuntime) -> Result<(), Fail> {
+    let alloc = rt.alloc();
+    let instance = signed(alloc)?;
+    for depth in 0..=4 {
+        assert_finished(&rt, alloc, &instance, depth, None)?;
+        assert_finished(&rt, alloc, &instance, depth, Some(1000))?;
+    }
+    Ok(())
+}
+
+/// Asserts that a search which is stopped after so many commits bounds all that completes the root.
+fn assert_bounded<R>(
+    rt: &R,
+    alloc: Global,
+    instance: &Instance,
+    depth: usize,
+    limit: u64,
+) -> Result<(), Fail>
+where
+    R: Threads + Wait + time::Clock + Sync + Abort,
+    requires four { instance.now.size ≡ 4 }
+{
+    let start = in_order(alloc, instance)?;
+    let least = least_below(alloc, instance, depth)?;
+    let first = cost(instance, &start);
+    let (cost, bound, open_nodes) = told(
+        rt,
+        alloc,
+        instance,
+        depth,
+        &start,
+        Some(limit),
+        &Always,
+        &Never,
+    )?;
+    assert!(rt; bound <= least && bound <= cost && least.min(first) <= cost && cost <= first);
+    assert!(rt; open_nodes > 0 || bound == cost);
+    assert!(rt; limit > 0 || (cost, open_nodes) == (first, 1));
+    // The node in which all facilities are placed shows what its one completion costs.
+    assert!(rt; depth < 4 || bound == least.min(first));
+    Ok(())
+}
+
+#[test]
+fn bounds_each_root_where_it_is_stopped(rt: HostRuntime) -> Result<(), Fail> {
+    let alloc = rt.alloc();
+    let instance = signed(alloc)?;
+    for depth in 0..=4 {
+        assert_bounded(&rt, alloc, &instance, depth, 0)?;
+        assert_bounded(&rt, alloc, &instance, depth, 1)?;
+    }
+    Ok(())
+}
+
+/// Ends each worker that comes to a commit, so that the root stays with it, and wants the search to stop then.
+#[derive(Drop)]
+struct AtTheFirstCommit {
+    reached: AtomicBool,
+}
+
+impl Gate for AtTheFirstCommit {
+    fn pass(&self, _worker: u16, kind: Kind) -> bool {
+        if kind != Kind::Commit {
+            return true;
+        }
+        self.reached.store(true, Ordering::SeqCst);
+        false
+    }
+
+    fn after(&self, _worker: u16, _kind: Kind, _accepted: bool) {}
+
+    fn thinking(&self, _worker: u16) {}
+}
+
+impl Stop for AtTheFirstCommit {
+    fn is_wanted(&self) -> bool {
+        self.reached.load(Ordering::SeqCst)
+    }
+}
+
+/// The clock stands, so that the lease of the worker that is lost with the root never ends: the other one waits for the root until
+/// the search is stopped.
+#[test]
+fn stops_while_a_lease_lasts(rt: HostRuntime) -> Result<(), Fail> {
+    let alloc = rt.alloc();
+    let instance = signed(alloc)?;
+    let start = in_order(alloc, &instance)?;
+    let least = least_below(alloc, &instance, 0)?;
+    let gate = AtTheFirstCommit {
+        reached: AtomicBool::new(false),
+    };
+    let (found, bound, open_nodes) = told(&rt, alloc, &instance, 0, &start, None, &gate, &gate)?;
+    assert_eq!(rt; found, cost(&instance, &start));
+    assert!(rt; bound <= least);
+    assert_eq!(rt; open_nodes, 1);
+    Ok(())
+}
