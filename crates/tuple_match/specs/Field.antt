@@ -1,13 +1,16 @@
-use Rattle.std.specs.Prelude.{List, map, string_bytes}
+use Rattle.std.specs.Prelude.{List, map, pos, string_bytes}
 use Rattle.tuple_match.specs.FieldValue.{FieldValue, number, word, numbers}
 use Rattle.tuple_match.specs.declared.fields.Field.{Field}
-use Rattle.tuple_match.specs.declared.fields.Field.TheVariants.{Int, Word, List as Numbers}
+use Rattle.tuple_match.specs.declared.fields.Field.TheVariants.{Int, Word, List as Numbers, Bytes, Shorts, Narrow}
 
 -- what a field says, wherever it lies in memory
 abbrev pub field_value : Field → FieldValue
 field_value (Int n) = number n
 field_value (Word text) = word (string_bytes text)
 field_value (Numbers ns) = numbers ns.items
+field_value (Bytes few) = numbers (map pos few)
+field_value (Shorts few) = numbers few
+field_value (Narrow ns) = numbers ns.items
 
 -- what a row of fields says
 abbrev pub fields_value : List Field → List FieldValue

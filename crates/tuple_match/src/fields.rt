@@ -1,13 +1,17 @@
 //! One field of a tuple, and its limits.
 
-ghost use Rattle.std.specs.Prelude.{◌≡◌, ◌↔◌, IsTrue, IfOk};
-ghost use Rattle.std.specs.Option.{option_copied};
+ghost use Rattle.std.specs.Prelude.{◌≡◌, ◌↔◌, IsTrue, IfOk, IfSome};
+ghost use Rattle.std.specs.Option.{option_copied, option_map};
 ghost use Rattle.std.specs.Cmp.{on_equiv, on_per};
-ghost use Rattle.tuple_match.specs.Equality.{field_eq, field_eq_equiv, field_eq_per};
+ghost use Rattle.tuple_match.specs.Equality.{field_eq, field_eq_equiv, field_eq_per, same_list};
 ghost use Rattle.tuple_match.specs.Field.{field_value};
 ghost use Rattle.tuple_match.specs.Word.{IsWord, IsWordByte};
-ghost use Rattle.tuple_match.specs.FieldValue.{IsField, number_of, numbers_of, word_of};
+ghost use Rattle.tuple_match.specs.FieldValue.{IsField, number_of, numbers, numbers_of, word_of};
+ghost use Rattle.tuple_match.specs.Numbers.{numbers_in};
 
+use crate::few::{FewBytes, FewShorts};
+use crate::numbers::Numbers;
+use crate::widths::fill;
 use std::alloc::AllocError;
 
 /// The most bytes of a word.
@@ -24,6 +28,12 @@ pub enum Field {
     Word(String),
     /// In a tuple, at most 1,024 numbers.
     List(Vec<i128>),
+    /// A short list of numbers from 0 to 255, in place.
+    Bytes(FewBytes),
+    /// A short list of numbers of 16 bits, in place.
+    Shorts(FewShorts),
+    /// The same as a `List` for numbers of 32 bits.
+    Narrow(Vec<i32>),
 }
 
 impl Field {
@@ -36,6 +46,9 @@ impl Field {
             Field::Int(_) => true,
             Field::Word(word) => is_word(word.as_bytes()),
             Field::List(numbers) => numbers.len() <= LONGEST_LIST,
+            Field::Bytes(few) => few.as_slice().len() <= LONGEST_LIST,
+            Field::Shorts(few) => few.as_slice().len() <= LONGEST_LIST,
+            Field::Narrow(numbers) => numbers.len() <= LONGEST_LIST,
         }
     }
 
@@ -45,7 +58,7 @@ impl Field {
     {
         match self {
             Field::Int(number) => Some(*number),
-            Field::Word(_) | Field::List(_) => None,
+            _ => None,
         }
     }
 
@@ -55,18 +68,59 @@ impl Field {
     {
         match self {
             Field::Word(word) => Some(word.as_str()),
-            Field::Int(_) | Field::List(_) => None,
+            _ => None,
         }
     }
 
     /// The numbers of the list that this field is, or `None` where it is none.
-    pub fn as_list(&self) -> Option<&[i128]>
-        ensures { option_copied result ≡ numbers_of (field_value self.now) }
+    pub fn as_list(&self) -> Option<Numbers<'_>>
+        ensures { option_map numbers_in result ≡ numbers_of (field_value self.now) }
     {
         match self {
-            Field::List(numbers) => Some(numbers.as_slice()),
+            Field::List(numbers) => Some(Numbers::Wide(numbers.as_slice())),
+            Field::Bytes(few) => Some(Numbers::Bytes(few.as_slice())),
+            Field::Shorts(few) => Some(Numbers::Shorts(few.as_slice())),
+            Field::Narrow(numbers) => Some(Numbers::Narrow(numbers.as_slice())),
             Field::Int(_) | Field::Word(_) => None,
         }
+    }
+
+    /// The field with the numbers of a list in fewer bits, where they fit and there is memory for them; else as it is.
+    pub fn narrowed(self) -> Field
+        ensures { field_value result ≡ field_value self }
+    {
+        match self {
+            Field::List(numbers) => narrow_list(numbers),
+            field => field,
+        }
+    }
+}
+
+/// The list with its numbers in fewer bits, where they fit and there is memory for them.
+fn narrow_list(list: Vec<i128>) -> Field
+    ensures { field_value result ≡ numbers list.items }
+{
+    if let Some(few) = FewBytes::of(&list) {
+        return Field::Bytes(few);
+    }
+    if let Some(few) = FewShorts::of(&list) {
+        return Field::Shorts(few);
+    }
+    match in_32_bits(&list) {
+        Ok(Some(narrow)) => Field::Narrow(narrow),
+        _ => Field::List(list),
+    }
+}
+
+/// The numbers in 32 bits each, or `None` where one of them takes more.
+fn in_32_bits(numbers: &Vec<i128>) -> Result<Option<Vec<i32>>, AllocError>
+    ensures { IfOk result (λ found. IfSome found (λ narrow. narrow.items ≡ numbers.now.items)) }
+{
+    let mut narrow = vec![in *numbers.allocator(); 0; numbers.len()]?;
+    if fill(&mut narrow, numbers) {
+        Ok(Some(narrow))
+    } else {
+        Ok(None)
     }
 }
 
@@ -85,8 +139,7 @@ impl PartialEq for Field {
         match (self, other) {
             (Field::Int(number), Field::Int(other)) => number == other,
             (Field::Word(word), Field::Word(other)) => word == other,
-            (Field::List(numbers), Field::List(other)) => numbers == other,
-            _ => false,
+            _ => is_same_list(self, other),
         }
     }
 }
@@ -107,7 +160,20 @@ impl Clone for Field {
             Field::Int(number) => Ok(Field::Int(*number)),
             Field::Word(word) => Ok(Field::Word(word.clone()?)),
             Field::List(numbers) => Ok(Field::List(numbers.clone()?)),
+            Field::Bytes(few) => Ok(Field::Bytes(few.copy())),
+            Field::Shorts(few) => Ok(Field::Shorts(few.copy())),
+            Field::Narrow(numbers) => Ok(Field::Narrow(numbers.clone()?)),
         }
+    }
+}
+
+/// Whether both are lists, and the same.
+fn is_same_list(field: &Field, other: &Field) -> bool
+    ensures { result ≡ same_list (field_value field.now) (field_value other.now) }
+{
+    match (field.as_list(), other.as_list()) {
+        (Some(numbers), Some(other)) => numbers.is_same(&other),
+        (None, _) | (_, None) => false,
     }
 }
 

@@ -5,15 +5,20 @@
 //! `matches` says whether a tuple is one that a template asks for.
 #![tactic(auto)]
 
+mod few;
 mod fields;
 mod matching;
+mod numbers;
 mod refusal;
 mod row;
 mod templates;
 mod tuples;
+mod widths;
 
+pub use few::{FewBytes, FewShorts};
 pub use fields::Field;
 pub use matching::{does_match_law, matches};
+pub use numbers::Numbers;
 pub use refusal::MatchError;
 pub use templates::{Pattern, Template};
 pub use tuples::Tuple;

@@ -1,5 +1,6 @@
 use crate::fields::Field;
 use crate::matching::matches;
+use crate::numbers::Numbers;
 use crate::refusal::MatchError;
 use crate::templates::{Pattern, Template};
 use crate::tuples::Tuple;
@@ -177,6 +178,63 @@ fn tells_the_refusal(rt: HostRuntime) -> Result<(), Fail> {
     Ok(())
 }
 
+/// The numbers of the list that the field is.
+fn numbers_of(alloc: Global, field: &Field) -> Result<Option<Vec<i128>>, AllocError> {
+    match field.as_list() {
+        Some(numbers) => Ok(Some(numbers.to_vec(alloc)?)),
+        None => Ok(None),
+    }
+}
+
+fn numbers_at(numbers: &Numbers<'_>, place: usize) -> Option<i128> {
+    if place < numbers.len() {
+        Some(numbers.at(place))
+    } else {
+        None
+    }
+}
+
+/// Lists at the edges of each width, and at those of the lengths that lie in place.
+static LISTS: [&[i128]; 12] = [
+    &[],
+    &[0, 255],
+    &[256],
+    &[-1, 32767],
+    &[-32768],
+    &[32768],
+    &[-32769],
+    &[2147483647, -2147483648],
+    &[2147483648],
+    &[i128::MIN, i128::MAX],
+    &[
+        9, 9, 9, 9, 9, 9, 9, 9, 9, 9, 9, 9, 9, 9, 9, 9, 9, 9, 9, 9, 9, 9, 9, 9, 9, 9, 9, 9, 9, 9, 9,
+    ],
+    &[-1, 2, -3, 4, -5, 6, -7, 8, -9, 10, -11, 12, -13, 14, -15],
+];
+
+#[test]
+fn narrows_lists(rt: HostRuntime) -> Result<(), Fail> {
+    for (row, numbers) in LISTS.iter().enumerate() {
+        let wide = field(rt.alloc(), List(numbers))?;
+        let narrow = field(rt.alloc(), List(numbers))?.narrowed();
+        assert!(rt; wide == narrow, "row {row}");
+        assert!(rt; narrow == narrow.clone()?, "row {row}");
+        assert_eq!(rt;
+            numbers_of(rt.alloc(), &narrow)?,
+            Some(numbers.to_vec(rt.alloc())?),
+            "row {row}"
+        );
+    }
+    let list = field(rt.alloc(), List(&[5, -300]))?.narrowed();
+    let told = list
+        .as_list()
+        .map(|numbers| (numbers.len(), numbers_at(&numbers, 1)));
+    assert_eq!(rt; told, Some((2, Some(-300))));
+    assert!(rt; field(rt.alloc(), List(&[1, 2]))?.narrowed() != field(rt.alloc(), List(&[1, 3]))?);
+    assert!(rt; field(rt.alloc(), List(&[1]))?.narrowed() != field(rt.alloc(), Int(1))?);
+    Ok(())
+}
+
 #[test]
 fn lends_what_a_field_holds(rt: HostRuntime) -> Result<(), Fail> {
     let fields = fields(rt.alloc(), &[Int(-5), JOB, List(&[3, 1])])?;
@@ -193,9 +251,9 @@ fn lends_what_a_field_holds(rt: HostRuntime) -> Result<(), Fail> {
             "row {row}"
         );
         assert_eq!(rt;
-            field.as_list(),
+            numbers_of(rt.alloc(), field)?,
             if row == 2 {
-                Some(numbers.as_slice())
+                Some(numbers.to_vec(rt.alloc())?)
             } else {
                 None
             },

@@ -7,7 +7,7 @@ ghost use Rattle.tuple_space.specs.Held.{AreRising};
 ghost use Rattle.tuple_space.specs.Index.{AreOnce, AreOrdered, AreSame, IsAdded, IsDropped, first_word, is_of, list_at, second_length, sought_word};
 
 use std::alloc::AllocError;
-use tuple_match::{Field, Pattern, Template, Tuple};
+use tuple_match::{Pattern, Template, Tuple};
 
 /// The numbers of the entries whose tuples begin with one word and have one count of fields.
 #[derive(Debug, Drop)]
@@ -35,7 +35,10 @@ fn second_length(tuple: &Tuple) -> usize
     ensures { result ≡ second_length tuple.now }
 {
     match tuple.fields() {
-        [_, Field::List(numbers), ..] => numbers.len(),
+        [_, second, ..] => match second.as_list() {
+            Some(numbers) => numbers.len(),
+            None => 0,
+        },
         _ => 0,
     }
 }
@@ -45,7 +48,7 @@ pub(crate) fn sought_word(template: &Template) -> Option<&str>
     ensures { option_copied result ≡ sought_word template.now }
 {
     match template.patterns() {
-        [Pattern::Is(Field::Word(word)), ..] => Some(word.as_str()),
+        [Pattern::Is(field), ..] => field.as_word(),
         _ => None,
     }
 }

@@ -1,0 +1,111 @@
+//! The numbers of a list, in whatever width they lie.
+
+ghost use Rattle.std.specs.Prelude.{◌≡◌, ◌<◌, ◌↔◌, IfOk, IsTrue, length, map, pos, slice_index_or};
+ghost use Rattle.std.specs.Cmp.Lexicographic.{pointwise};
+ghost use Rattle.std.specs.Ordering.{int_eq};
+ghost use Rattle.tuple_match.specs.Numbers.{numbers_in};
+
+use crate::widths::widened;
+use std::alloc::{AllocError, Global};
+
+/// The numbers of a list that a field lends, in the width in which they lie there.
+#[derive(Clone, Copy, Debug)]
+pub enum Numbers<'a> {
+    /// From 0 to 255.
+    Bytes(&'a [u8]),
+    /// Of 16 bits.
+    Shorts(&'a [i16]),
+    /// Of 32 bits.
+    Narrow(&'a [i32]),
+    /// Of 128 bits.
+    Wide(&'a [i128]),
+}
+
+impl Numbers<'_> {
+    /// How many there are.
+    pub fn len(&self) -> usize
+        ensures { result ≡ length (numbers_in self.now) }
+    {
+        match self {
+            Numbers::Bytes(numbers) => numbers.len(),
+            Numbers::Shorts(numbers) => numbers.len(),
+            Numbers::Narrow(numbers) => numbers.len(),
+            Numbers::Wide(numbers) => numbers.len(),
+        }
+    }
+
+    /// The number at a place.
+    pub fn at(&self, place: usize) -> i128
+        requires { place < length (numbers_in self.now) }
+        ensures { result ≡ slice_index_or (numbers_in self.now) place (pos 0) }
+    {
+        match self {
+            Numbers::Bytes(numbers) => byte_at(numbers, place),
+            Numbers::Shorts(numbers) => short_at(numbers, place),
+            Numbers::Narrow(numbers) => narrow_at(numbers, place),
+            Numbers::Wide(numbers) => wide_at(numbers, place),
+        }
+    }
+
+    /// The numbers in 128 bits each, or `AllocError` where there is no memory for them.
+    pub fn to_vec(&self, alloc: Global) -> Result<Vec<i128>, AllocError>
+        ensures { IfOk result (λ numbers. numbers.items ≡ numbers_in self.now) }
+    {
+        match self {
+            Numbers::Bytes(numbers) => widened(alloc, numbers),
+            Numbers::Shorts(numbers) => widened(alloc, numbers),
+            Numbers::Narrow(numbers) => widened(alloc, numbers),
+            Numbers::Wide(numbers) => numbers.to_vec(alloc),
+        }
+    }
+
+    /// Whether both are equal lists.
+    pub(crate) fn is_same(&self, other: &Numbers<'_>) -> bool
+        ensures { result ≡ pointwise int_eq (numbers_in self.now) (numbers_in other.now) }
+    {
+        are_same(self, other)
+    }
+}
+
+/// Whether both are equal lists, number by number.
+fn are_same(numbers: &Numbers<'_>, other: &Numbers<'_>) -> bool
+    ensures { IsTrue result ↔ (numbers_in numbers.now ≡ numbers_in other.now) }
+{
+    if numbers.len() != other.len() {
+        return false;
+    }
+    for place in 0..numbers.len() {
+        if numbers.at(place) != other.at(place) {
+            return false;
+        }
+    }
+    true
+}
+
+fn byte_at(numbers: &[u8], place: usize) -> i128
+    requires { place < length (map pos numbers.now) }
+    ensures { result ≡ slice_index_or (map pos numbers.now) place (pos 0) }
+{
+    i128::from(numbers[place])
+}
+
+fn short_at(numbers: &[i16], place: usize) -> i128
+    requires { place < length numbers.now }
+    ensures { result ≡ slice_index_or numbers.now place (pos 0) }
+{
+    i128::from(numbers[place])
+}
+
+fn narrow_at(numbers: &[i32], place: usize) -> i128
+    requires { place < length numbers.now }
+    ensures { result ≡ slice_index_or numbers.now place (pos 0) }
+{
+    i128::from(numbers[place])
+}
+
+fn wide_at(numbers: &[i128], place: usize) -> i128
+    requires { place < length numbers.now }
+    ensures { result ≡ slice_index_or numbers.now place (pos 0) }
+{
+    numbers[place]
+}
