@@ -1,7 +1,9 @@
 -- Texts that grow at their end.
 use Rattle.std.proofs.Common.{◌≡◌, ℕ, List, [], ◌∷◌, ◌++◌, ℤ, sym, ap, ◌∙◌, append_assoc, append-nil}
+use Rattle.std.specs.Prelude.{Option, Some, None}
 use Rattle.std.specs.Fmt.{signed_decimal}
-use Rattle.tuple_match.specs.FieldValue.{FieldValue}
+use Rattle.std.proofs.lemmas.Option.{none-some}
+use Rattle.tuple_match.specs.FieldValue.{FieldValue, number, numbers, numbers_of, word}
 use Rattle.space_script.specs.Reply.{behind_commas, field_text, fields_text}
 
 behind_commas-push : (zs : List ℤ) (z : ℤ) → behind_commas (zs ++ z ∷ []) ≡ behind_commas zs ++ 44 ∷ signed_decimal z
@@ -29,3 +31,17 @@ pub field_pushed : (start before after : List ℕ) (fields : List FieldValue) (f
 field_pushed start before after fields field is pushed =
     pushed ∙ ap (λ l. l ++ 32 ∷ field_text field) is ∙ append_assoc start (fields_text fields) (32 ∷ field_text field)
     ∙ ap (λ l. start ++ l) (sym (fields_text-push fields field))
+
+abbrev list_in : Option (List ℤ) → List ℤ
+list_in (Some ns) = ns
+list_in None = []
+
+-- the list that a field's numbers are, where it has some
+pub numbers_from : (field : FieldValue) (ns : List ℤ) → Some ns ≡ numbers_of field → field ≡ numbers ns
+numbers_from (number m) ns e = absurd (none-some ns (sym e))
+numbers_from (word s) ns e = absurd (none-some ns (sym e))
+numbers_from (numbers ms) ns e = ap numbers (sym (ap (λ (o : Option (List ℤ)). list_in o) e))
+
+-- a list has numbers
+pub no_numbers : (field : FieldValue) (ns : List ℤ) → None ≡ numbers_of field → field ≡ numbers ns → ⊥
+no_numbers field ns none is = none-some ns (none ∙ ap numbers_of is)

@@ -1,8 +1,9 @@
 //! The replies of a script.
 
-ghost use Rattle.std.specs.Prelude.{◌≡◌, ◌++◌, ◌∷◌, OnOk, IfOk, codes};
+ghost use Rattle.std.specs.Prelude.{◌≡◌, ◌++◌, ◌∷◌, List, ℤ, OnOk, IfOk, codes};
 ghost use Rattle.std.specs.Fmt.{decimal, signed_decimal};
 ghost use Rattle.tuple_match.specs.Field.{field_value, fields_value};
+ghost use Rattle.tuple_match.specs.FieldValue.{numbers};
 ghost use Rattle.space_script.specs.Reply.{behind_commas, between_commas, field_text, fields_text, reply_text};
 
 use itoa::Buffer;
@@ -76,7 +77,23 @@ fn push_field(line: &mut Vec<u8>, field: &Field) -> Result<(), AllocError>
         Field::Int(number) => push_number(line, *number),
         Field::Word(word) => line.extend_from_slice(word.as_bytes()),
         Field::List(numbers) => push_list(line, numbers),
+        Field::Bytes(_) => push_lean_list(line, field),
+        Field::Shorts(_) => push_lean_list(line, field),
+        Field::Narrow(_) => push_lean_list(line, field),
     }
+}
+
+/// Puts the list that a field is at the end of a line.
+#[tactic(auto, using(crate::proofs::Replies::numbers_from, crate::proofs::Replies::no_numbers))]
+fn push_lean_list(line: &mut Vec<u8>, field: &Field) -> Result<(), AllocError>
+    requires { (ns : List ℤ) × (field_value field.now ≡ numbers ns) }
+    ensures { OnOk result (line.new.items ≡ line.old.items ++ field_text (field_value field.now)) }
+{
+    let Some(numbers) = field.as_list() else {
+        unreachable!()
+    };
+    let numbers = numbers.to_vec(*line.allocator())?;
+    push_list(line, &numbers)
 }
 
 /// Puts a list of numbers at the end of a line, in brackets.
