@@ -1,10 +1,12 @@
 -- Nodes that are decided and the best permutation found, as tuples say them.
-use Rattle.std.specs.Prelude.{◌≢◌, List, [], ◌∷◌, codes, ℤ}
+use Rattle.std.specs.Prelude.{◌≡◌, ◌≢◌, List, [], ◌∷◌, codes, ℕ, ℤ}
 use Rattle.tuple_match.specs.FieldValue.{FieldValue, number, word, numbers}
 use Rattle.qap_search.specs.declared.decided.Decision.{Decision}
 use Rattle.qap_search.specs.declared.decided.Decision.TheVariants.{Split, Closed}
 use Rattle.qap_search.specs.declared.decided.DecidedNode.{DecidedNode}
 use Rattle.qap_search.specs.declared.decided.BestFound.{BestFound}
+use Rattle.qap_search.specs.declared.decided.Part.{Part}
+use Rattle.qap_search.specs.declared.decided.Part.TheVariants.{Number, Numbers, Word}
 use Rattle.qap_search.specs.declared.decided.Piece.{Piece}
 use Rattle.qap_search.specs.declared.decided.Piece.TheVariants.{Best, Decided}
 
@@ -33,6 +35,12 @@ found_tuple b = best_of b.cost b.locations.items
 abbrev pub piece_tuple : Piece → List FieldValue
 piece_tuple (Best b) = found_tuple b
 piece_tuple (Decided d) = decided_tuple d
+
+-- a part is what the field says; of a word, that it is one
+abbrev pub IsPart : Part → FieldValue → Type 0
+IsPart (Number m) field = field ≡ number m
+IsPart (Numbers ms) field = field ≡ numbers ms.items
+IsPart Word field = (bytes : List ℕ) × (field ≡ word bytes)
 
 -- no decided node and no best permutation is said so
 pub record IsNoPiece (tuple : List FieldValue) : Type 0 where

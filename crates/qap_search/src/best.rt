@@ -2,6 +2,7 @@
 
 ghost use Rattle.std.specs.Prelude.{◌≡◌, ◌≢◌, ◌==◌, ℕ, ℤ, Bool, true, false, ◌++◌, Some, IfOk, MatchOption, OnOk, List};
 ghost use Rattle.qap_cost.specs.Instance.{IsInstance, Problem};
+ghost use Rattle.tuple_match.specs.Numbers.{numbers_in};
 ghost use Rattle.space_txn.specs.Content.{SameItems, added_of};
 ghost use Rattle.space_txn.specs.Machine.{find_answer, found};
 ghost use Rattle.space_txn.specs.Txn.{TxnValue};
@@ -28,7 +29,7 @@ use qap_cost::Perm;
 use shared_space::{Law, Room, two_marks_law};
 use space_txn::{Found, Txn, TxnError};
 use std::alloc::{AllocError, Global};
-use tuple_match::{Field, Template, Tuple, does_match_law};
+use tuple_match::{Field, Numbers, Template, Tuple, does_match_law};
 use tuple_space::EntryId;
 
 /// Takes the tuple of the best permutation.
@@ -264,18 +265,19 @@ fn perm_at(alloc: Global, txn: &Txn, id: EntryId) -> Result<Option<Perm>, AllocE
     let Some((_, locations)) = best_fields(tuple) else {
         return Ok(None);
     };
-    permutation_of(alloc, locations)
+    let locations = locations.to_vec(alloc)?;
+    permutation_of(alloc, &locations)
 }
 
 /// The cost and the locations of a tuple of a best permutation.
-pub(crate) fn best_fields(tuple: &Tuple) -> Option<(i128, &[i128])>
+pub(crate) fn best_fields(tuple: &Tuple) -> Option<(i128, Numbers<'_>)>
     ensures { MatchOption result
         ((c : ℤ) (ps : List ℤ) → tuple.now ≢ best_of c ps)
-        (λ told. tuple.now ≡ best_of told.0 told.1.now) }
+        (λ told. tuple.now ≡ best_of told.0 (numbers_in told.1)) }
 {
     match tuple.fields() {
-        [name, Field::Int(cost), Field::List(locations)] if is_word("best", name) => {
-            Some((*cost, locations.as_slice()))
+        [name, Field::Int(cost), list] if is_word("best", name) => {
+            list.as_list().map(|locations| (*cost, locations))
         }
         _ => None,
     }

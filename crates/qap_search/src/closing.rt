@@ -46,10 +46,10 @@ fn closed_tuple(
         (λ new. IsClosedTuple instance.now tuple new)
         (λ e. (e ≡ OutOfMemory) ⊎ ((e ≡ NotATree) × IsNoNode instance.now.size tuple)) }
 {
-    let Some(list) = node_fields(&tuple) else {
+    let Some(list) = node_fields(alloc, &tuple)? else {
         return Ok(tuple);
     };
-    let Some(node) = read_node(alloc, instance.instance().size(), list)? else {
+    let Some(node) = read_node(alloc, instance.instance().size(), &list)? else {
         return Err(AssembleError::NotATree);
     };
     Ok(close(alloc, instance, workspace, &node)?)

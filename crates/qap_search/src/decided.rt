@@ -3,9 +3,9 @@
 ghost use Rattle.std.specs.Prelude.{◌≡◌, ◌≢◌, ◌↔◌, ◌++◌, ◌∷◌, [], List, ℤ, IfOk, IsTrue, MatchOption, string_bytes};
 ghost use Rattle.tuple_match.specs.Field.{field_value, fields_value};
 ghost use Rattle.tuple_match.specs.FieldValue.{number, numbers, word};
-ghost use Rattle.qap_search.specs.Decided.{IsNoPiece, best_of, closed_of, piece_tuple};
+ghost use Rattle.qap_search.specs.Decided.{IsNoPiece, IsPart, best_of, closed_of, piece_tuple};
 
-use std::alloc::AllocError;
+use std::alloc::{AllocError, Global};
 use tuple_match::{Field, Tuple};
 
 /// What was decided at a node.
@@ -38,75 +38,114 @@ pub(crate) enum Piece {
     Decided(DecidedNode),
 }
 
-/// What the tuple says; `None` where it is no tuple of a best permutation or a decided node. No number is copied unless another
-/// tuple shares it.
-pub(crate) fn piece_of(tuple: Tuple) -> Result<Option<Piece>, AllocError>
+/// What the tuple says; `None` where it is no tuple of a best permutation or a decided node.
+pub(crate) fn piece_of(alloc: Global, tuple: Tuple) -> Result<Option<Piece>, AllocError>
     ensures { IfOk result (λ told. MatchOption told (IsNoPiece tuple) (λ piece. piece_tuple piece ≡ tuple)) }
 {
-    let fields = tuple.into_fields()?;
-    Ok(piece_in(fields))
+    piece_in(alloc, tuple.into_fields()?)
 }
 
 /// The same of a tuple of these fields.
-fn piece_in(mut fields: Vec<Field>) -> Option<Piece>
-    ensures { MatchOption result (IsNoPiece (fields_value fields.items)) (λ piece. piece_tuple piece ≡ fields_value fields.items) }
+fn piece_in(alloc: Global, mut fields: Vec<Field>) -> Result<Option<Piece>, AllocError>
+    ensures { IfOk result (λ told. MatchOption told
+        (IsNoPiece (fields_value fields.items))
+        (λ piece. piece_tuple piece ≡ fields_value fields.items)) }
 {
-    match fields.pop() {
-        Some(Field::Int(facility)) => match node_behind("split", fields) {
-            Some(node) => Some(Piece::Decided(DecidedNode {
+    let Some(last) = fields.pop() else {
+        return Ok(None);
+    };
+    match part_of(alloc, &last)? {
+        Part::Number(facility) => match node_behind(alloc, "split", fields)? {
+            Some(node) => Ok(Some(Piece::Decided(DecidedNode {
                 node,
                 decision: Decision::Split(facility),
-            })),
-            None => None,
+            }))),
+            None => Ok(None),
         },
-        Some(Field::List(last)) => piece_before(fields, last),
-        Some(Field::Word(_)) | None => None,
+        Part::Numbers(last) => piece_before(alloc, fields, last),
+        Part::Word => Ok(None),
     }
 }
 
 /// The same for a tuple that ends in this list, behind these fields.
-fn piece_before(mut fields: Vec<Field>, last: Vec<i128>) -> Option<Piece>
-    ensures { MatchOption result
+fn piece_before(
+    alloc: Global,
+    mut fields: Vec<Field>,
+    last: Vec<i128>,
+) -> Result<Option<Piece>, AllocError>
+    ensures { IfOk result (λ told. MatchOption told
         (IsNoPiece (fields_value fields.items ++ numbers last.items ∷ []))
-        (λ piece. piece_tuple piece ≡ fields_value fields.items ++ numbers last.items ∷ []) }
+        (λ piece. piece_tuple piece ≡ fields_value fields.items ++ numbers last.items ∷ [])) }
 {
-    match fields.pop() {
-        Some(Field::Int(cost)) => {
+    let Some(field) = fields.pop() else {
+        return Ok(None);
+    };
+    match part_of(alloc, &field)? {
+        Part::Number(cost) => {
             if is_only_word("best", &fields) {
-                Some(Piece::Best(BestFound {
+                Ok(Some(Piece::Best(BestFound {
                     cost,
                     locations: last,
-                }))
+                })))
             } else {
-                None
+                Ok(None)
             }
         }
-        Some(Field::List(u)) => match node_behind("closed", fields) {
-            Some(node) => Some(Piece::Decided(DecidedNode {
+        Part::Numbers(u) => match node_behind(alloc, "closed", fields)? {
+            Some(node) => Ok(Some(Piece::Decided(DecidedNode {
                 node,
                 decision: Decision::Closed { u, v: last },
-            })),
-            None => None,
+            }))),
+            None => Ok(None),
         },
-        Some(Field::Word(_)) | None => None,
+        Part::Word => Ok(None),
+    }
+}
+
+/// What a field is, with its numbers in 128 bits each.
+#[derive(Drop)]
+pub(crate) enum Part {
+    Number(i128),
+    Numbers(Vec<i128>),
+    Word,
+}
+
+/// What the field is.
+#[tactic(auto, using(crate::proofs::Fields::number_from, crate::proofs::Fields::numbers_from, crate::proofs::Fields::word_from))]
+pub(crate) fn part_of(alloc: Global, field: &Field) -> Result<Part, AllocError>
+    ensures { IfOk result (λ part. IsPart part (field_value field.now)) }
+{
+    if let Some(number) = field.as_int() {
+        return Ok(Part::Number(number));
+    }
+    match field.as_list() {
+        Some(list) => Ok(Part::Numbers(list.to_vec(alloc)?)),
+        None => Ok(Part::Word),
     }
 }
 
 /// The list of a row that is this word and a list.
-fn node_behind(name: &str, mut fields: Vec<Field>) -> Option<Vec<i128>>
-    ensures { MatchOption result
+fn node_behind(
+    alloc: Global,
+    name: &str,
+    mut fields: Vec<Field>,
+) -> Result<Option<Vec<i128>>, AllocError>
+    ensures { IfOk result (λ told. MatchOption told
         ((xs : List ℤ) → fields_value fields.items ≢ word name.now ∷ numbers xs ∷ [])
-        (λ node. fields_value fields.items ≡ word name.now ∷ numbers node.items ∷ []) }
+        (λ node. fields_value fields.items ≡ word name.now ∷ numbers node.items ∷ [])) }
 {
-    match fields.pop() {
-        Some(Field::List(node)) => {
+    let Some(field) = fields.pop() else {
+        return Ok(None);
+    };
+    match part_of(alloc, &field)? {
+        Part::Numbers(node) => {
             if is_only_word(name, &fields) {
-                Some(node)
+                Ok(Some(node))
             } else {
-                None
+                Ok(None)
             }
         }
-        Some(Field::Word(_) | Field::Int(_)) | None => None,
+        Part::Number(_) | Part::Word => Ok(None),
     }
 }
 
@@ -126,6 +165,6 @@ pub(crate) fn is_word(name: &str, field: &Field) -> bool
 {
     match field {
         Field::Word(found) => found.as_str() == name,
-        Field::Int(_) | Field::List(_) => false,
+        _ => false,
     }
 }

@@ -5,12 +5,13 @@ ghost use Rattle.qap_search.specs.CutTree.{IsCutTree};
 ghost use Rattle.qap_search.specs.Decided.{best_of};
 ghost use Rattle.qap_search.specs.Search.{Search};
 ghost use Rattle.tuple_match.specs.FieldValue.{FieldValue};
+ghost use Rattle.tuple_match.specs.Numbers.{numbers_in};
 
 use crate::assembling::permutation_of;
 use crate::best::best_fields;
 use qap_cost::Perm;
 use std::alloc::{AllocError, Global};
-use tuple_match::Tuple;
+use tuple_match::{Numbers, Tuple};
 
 /// The best permutation of tuples that are a cut tree, and its cost.
 pub(crate) fn best_of(alloc: Global, tuples: &[Tuple]) -> Result<(Perm, i128), AllocError>
@@ -21,17 +22,18 @@ pub(crate) fn best_of(alloc: Global, tuples: &[Tuple]) -> Result<(Perm, i128), A
     let Some((cost, locations)) = first_best(tuples) else {
         unreachable!()
     };
-    let Some(permutation) = permutation_of(alloc, locations)? else {
+    let locations = locations.to_vec(alloc)?;
+    let Some(permutation) = permutation_of(alloc, &locations)? else {
         unreachable!()
     };
     Ok((permutation, cost))
 }
 
 /// The cost and the locations of the first tuple of a best permutation.
-fn first_best(tuples: &[Tuple]) -> Option<(i128, &[i128])>
+fn first_best(tuples: &[Tuple]) -> Option<(i128, Numbers<'_>)>
     ensures { MatchOption result
         (All (λ (tuple : List FieldValue). (c : ℤ) (ps : List ℤ) → tuple ≢ best_of c ps) tuples.now)
-        (λ told. Contains tuples.now (best_of told.0 told.1.now)) }
+        (λ told. Contains tuples.now (best_of told.0 (numbers_in told.1))) }
 {
     for tuple in tuples {
         if let Some(told) = best_fields(tuple) {

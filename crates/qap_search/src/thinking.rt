@@ -7,7 +7,7 @@ ghost use Rattle.space_txn.specs.Txn.{TxnValue};
 ghost use Rattle.qap_search.specs.Considering.{Considers, HasNoNode, IsNodeAt, IsOnNode, IsThoughtOn, stage_after};
 ghost use Rattle.qap_search.specs.declared.stage.Stage.TheVariants.{Taken};
 
-use crate::decided::is_word;
+use crate::decided::{Part, is_word, part_of};
 use crate::gate::Gate;
 use crate::reading::read_node;
 use crate::stage::{LastThought, Stage, Tools};
@@ -16,7 +16,7 @@ use gilmore_lawler::KeptRows;
 use qap_cost::Partial;
 use space_txn::Txn;
 use std::alloc::{AllocError, Global};
-use tuple_match::{Field, Tuple};
+use tuple_match::Tuple;
 use tuple_space::EntryId;
 
 /// Thinks on the node that was taken, where this best cost is known; `false` where its entry's lease ends. At an error nothing changed.
@@ -107,21 +107,24 @@ fn node_at(alloc: Global, n: usize, txn: &Txn, id: EntryId) -> Result<Option<Par
     let Some(tuple) = txn.tuple(id) else {
         return Ok(None);
     };
-    let Some(list) = node_fields(tuple) else {
+    let Some(list) = node_fields(alloc, tuple)? else {
         return Ok(None);
     };
-    read_node(alloc, n, list)
+    read_node(alloc, n, &list)
 }
 
 /// The list of an open node's tuple.
-pub(crate) fn node_fields(tuple: &Tuple) -> Option<&[i128]>
-    ensures { MatchOption result
+pub(crate) fn node_fields(alloc: Global, tuple: &Tuple) -> Result<Option<Vec<i128>>, AllocError>
+    ensures { IfOk result (λ told. MatchOption told
         ((xs : List ℤ) → tuple.now ≢ word (codes "node") ∷ numbers xs ∷ [])
-        (λ list. tuple.now ≡ word (codes "node") ∷ numbers list.now ∷ []) }
+        (λ list. tuple.now ≡ word (codes "node") ∷ numbers list.items ∷ [])) }
 {
     match tuple.fields() {
-        [name, Field::List(list)] if is_word("node", name) => Some(list.as_slice()),
-        _ => None,
+        [name, field] if is_word("node", name) => match part_of(alloc, field)? {
+            Part::Numbers(list) => Ok(Some(list)),
+            Part::Number(_) | Part::Word => Ok(None),
+        },
+        _ => Ok(None),
     }
 }
 

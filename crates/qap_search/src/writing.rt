@@ -42,9 +42,10 @@ pub(crate) fn tuple_of_closed(
     ensures { IfOk result (λ t. t ≡ closed_tuple node.now u.items v.items) }
 {
     let name = word_field(alloc, "closed")?;
-    let list = Field::List(node_numbers(alloc, node, 0)?);
-    let fields = vec![in alloc; name, list, Field::List(u), Field::List(v)]?;
-    Ok(Tuple::new(fields).unwrap())
+    let list = Field::List(node_numbers(alloc, node, 0)?).narrowed();
+    let (u, v) = (Field::List(u).narrowed(), Field::List(v).narrowed());
+    let fields = vec![in alloc; name, list, u, v]?;
+    shared(alloc, Tuple::new(fields).unwrap())
 }
 
 /// The tuple of a node that is split on this facility.
@@ -52,9 +53,9 @@ fn tuple_of_split(alloc: Global, node: &Partial, facility: u16) -> Result<Tuple,
     ensures { IfOk result (λ t. t ≡ split_tuple node.now facility) }
 {
     let name = word_field(alloc, "split")?;
-    let list = Field::List(node_numbers(alloc, node, 0)?);
+    let list = Field::List(node_numbers(alloc, node, 0)?).narrowed();
     let fields = vec![in alloc; name, list, Field::Int(i128::from(facility))]?;
-    Ok(Tuple::new(fields).unwrap())
+    shared(alloc, Tuple::new(fields).unwrap())
 }
 
 /// The tuple of an open node.
@@ -63,7 +64,7 @@ pub(crate) fn tuple_of_node(alloc: Global, node: &Partial) -> Result<Tuple, Allo
     ensures placement { IfOk result (λ _. IsPlacement node.now) }
 {
     let name = word_field(alloc, "node")?;
-    let list = Field::List(node_numbers(alloc, node, 0)?);
+    let list = Field::List(node_numbers(alloc, node, 0)?).narrowed();
     let fields = vec![in alloc; name, list]?;
     shared(alloc, Tuple::new(fields).unwrap())
 }
@@ -78,7 +79,7 @@ fn tuple_of_child(
     ensures { IfOk result (λ t. t ≡ node_tuple (placing node.now facility location)) }
 {
     let name = word_field(alloc, "node")?;
-    let list = Field::List(child_numbers(alloc, node, facility, location)?);
+    let list = Field::List(child_numbers(alloc, node, facility, location)?).narrowed();
     let fields = vec![in alloc; name, list]?;
     shared(alloc, Tuple::new(fields).unwrap())
 }

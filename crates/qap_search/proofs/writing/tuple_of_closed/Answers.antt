@@ -11,4 +11,6 @@ unwrap-requires c =
     let is = c.in_ok-fields.ensures.items in
     let name : IsField (word (codes "closed")) = search rules in
     c.new.ensures.accepted.1 (subst IsTuple (sym (ap fields_value is)) (four_fields _ _ _ _ (subst IsField (sym c.in_ok-name.ensures) name)
-    (omega (arith, c.in_ok-node_numbers.ensures.short)) (omega (arith, c.requires.u_count)) (omega (arith, c.requires.v_count))))
+    (subst IsField (sym c.narrowed-list.ensures) (omega (arith, c.in_ok-node_numbers.ensures.short)))
+    (subst IsField (sym c.narrowed-u.ensures) (omega (arith, c.requires.u_count)))
+    (subst IsField (sym c.narrowed-v.ensures) (omega (arith, c.requires.v_count)))))
