@@ -38,7 +38,8 @@ pub(crate) enum Piece {
     Decided(DecidedNode),
 }
 
-/// What the tuple says; `None` where it is no tuple of a best permutation or a decided node.
+/// What the tuple says; `None` where it is no tuple of a best permutation or a decided node. No list in 128 bits is copied unless
+/// another tuple shares it.
 pub(crate) fn piece_of(alloc: Global, tuple: Tuple) -> Result<Option<Piece>, AllocError>
     ensures { IfOk result (λ told. MatchOption told (IsNoPiece tuple) (λ piece. piece_tuple piece ≡ tuple)) }
 {
@@ -54,7 +55,7 @@ fn piece_in(alloc: Global, mut fields: Vec<Field>) -> Result<Option<Piece>, Allo
     let Some(last) = fields.pop() else {
         return Ok(None);
     };
-    match part_of(alloc, &last)? {
+    match part_of(alloc, last)? {
         Part::Number(facility) => match node_behind(alloc, "split", fields)? {
             Some(node) => Ok(Some(Piece::Decided(DecidedNode {
                 node,
@@ -80,7 +81,7 @@ fn piece_before(
     let Some(field) = fields.pop() else {
         return Ok(None);
     };
-    match part_of(alloc, &field)? {
+    match part_of(alloc, field)? {
         Part::Number(cost) => {
             if is_only_word("best", &fields) {
                 Ok(Some(Piece::Best(BestFound {
@@ -104,7 +105,7 @@ fn piece_before(
 
 /// What a field is, with its numbers in 128 bits each.
 #[derive(Drop)]
-pub(crate) enum Part {
+enum Part {
     Number(i128),
     Numbers(Vec<i128>),
     Word,
@@ -112,14 +113,14 @@ pub(crate) enum Part {
 
 /// What the field is.
 #[tactic(auto, using(crate::proofs::Fields::number_from, crate::proofs::Fields::numbers_from, crate::proofs::Fields::word_from))]
-pub(crate) fn part_of(alloc: Global, field: &Field) -> Result<Part, AllocError>
-    ensures { IfOk result (λ part. IsPart part (field_value field.now)) }
+fn part_of(alloc: Global, field: Field) -> Result<Part, AllocError>
+    ensures { IfOk result (λ part. IsPart part (field_value field)) }
 {
     if let Some(number) = field.as_int() {
         return Ok(Part::Number(number));
     }
-    match field.as_list() {
-        Some(list) => Ok(Part::Numbers(list.to_vec(alloc)?)),
+    match field.into_list(alloc)? {
+        Some(list) => Ok(Part::Numbers(list)),
         None => Ok(Part::Word),
     }
 }
@@ -137,7 +138,7 @@ fn node_behind(
     let Some(field) = fields.pop() else {
         return Ok(None);
     };
-    match part_of(alloc, &field)? {
+    match part_of(alloc, field)? {
         Part::Numbers(node) => {
             if is_only_word(name, &fields) {
                 Ok(Some(node))

@@ -7,7 +7,7 @@ ghost use Rattle.space_txn.specs.Txn.{TxnValue};
 ghost use Rattle.qap_search.specs.Considering.{Considers, HasNoNode, IsNodeAt, IsOnNode, IsThoughtOn, stage_after};
 ghost use Rattle.qap_search.specs.declared.stage.Stage.TheVariants.{Taken};
 
-use crate::decided::{Part, is_word, part_of};
+use crate::decided::is_word;
 use crate::gate::Gate;
 use crate::reading::read_node;
 use crate::stage::{LastThought, Stage, Tools};
@@ -114,15 +114,16 @@ fn node_at(alloc: Global, n: usize, txn: &Txn, id: EntryId) -> Result<Option<Par
 }
 
 /// The list of an open node's tuple.
+#[tactic(auto, using(crate::proofs::Fields::numbers_from))]
 pub(crate) fn node_fields(alloc: Global, tuple: &Tuple) -> Result<Option<Vec<i128>>, AllocError>
     ensures { IfOk result (λ told. MatchOption told
         ((xs : List ℤ) → tuple.now ≢ word (codes "node") ∷ numbers xs ∷ [])
         (λ list. tuple.now ≡ word (codes "node") ∷ numbers list.items ∷ [])) }
 {
     match tuple.fields() {
-        [name, field] if is_word("node", name) => match part_of(alloc, field)? {
-            Part::Numbers(list) => Ok(Some(list)),
-            Part::Number(_) | Part::Word => Ok(None),
+        [name, field] if is_word("node", name) => match field.as_list() {
+            Some(list) => Ok(Some(list.to_vec(alloc)?)),
+            None => Ok(None),
         },
         _ => Ok(None),
     }

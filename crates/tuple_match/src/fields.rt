@@ -1,6 +1,7 @@
 //! One field of a tuple, and its limits.
 
-ghost use Rattle.std.specs.Prelude.{◌≡◌, ◌↔◌, IsTrue, IfOk, IfSome};
+ghost use Rattle.std.specs.Prelude.{◌≡◌, ◌↔◌, ℤ, IsTrue, IfOk, IfSome};
+ghost use Rattle.std.specs.Global.{Vec};
 ghost use Rattle.std.specs.Option.{option_copied, option_map};
 ghost use Rattle.std.specs.Cmp.{on_equiv, on_per};
 ghost use Rattle.tuple_match.specs.Equality.{field_eq, field_eq_equiv, field_eq_per, same_list};
@@ -12,7 +13,7 @@ ghost use Rattle.tuple_match.specs.Numbers.{numbers_in};
 use crate::few::{FewBytes, FewShorts};
 use crate::numbers::Numbers;
 use crate::widths::fill;
-use std::alloc::AllocError;
+use std::alloc::{AllocError, Global};
 
 /// The most bytes of a word.
 const LONGEST_WORD: usize = 32;
@@ -82,6 +83,20 @@ impl Field {
             Field::Shorts(few) => Some(Numbers::Shorts(few.as_slice())),
             Field::Narrow(numbers) => Some(Numbers::Narrow(numbers.as_slice())),
             Field::Int(_) | Field::Word(_) => None,
+        }
+    }
+
+    /// The numbers of the list that this field is, or `None` where it is none. They are moved out where they lie in 128 bits, and
+    /// else copied, for which there may be no memory.
+    pub fn into_list(self, alloc: Global) -> Result<Option<Vec<i128>>, AllocError>
+        ensures { IfOk result (λ found. option_map (λ (list : Vec ℤ). list.items) found ≡ numbers_of (field_value self)) }
+    {
+        match self {
+            Field::List(numbers) => Ok(Some(numbers)),
+            field => match field.as_list() {
+                Some(list) => Ok(Some(list.to_vec(alloc)?)),
+                None => Ok(None),
+            },
         }
     }
 
