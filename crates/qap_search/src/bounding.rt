@@ -75,10 +75,10 @@ fn bound_with(
     requires { IsSoundTuple instance.now.size tuple.now }
     ensures { IfOk result (IsOpenBound instance.now (tuple.now ∷ []) bound) }
 {
-    let Some(list) = node_fields(tuple) else {
+    let Some(list) = node_fields(alloc, tuple)? else {
         return Ok(bound);
     };
-    let Some(node) = read_node(alloc, instance.instance().size(), list)? else {
+    let Some(node) = read_node(alloc, instance.instance().size(), &list)? else {
         unreachable!()
     };
     let value = node_value(alloc, instance, workspace, &node)?;

@@ -3,6 +3,7 @@ use Rattle.std.specs.Int.{w128}
 use Rattle.std.specs.Prelude.{ℤ}
 use Rattle.std.proofs.lemmas.Int.{to_z-of_z}
 use Rattle.qap_cost.specs.Instance.{Problem}
+use Rattle.qap_search.specs.ClosedTuples.{named_node}
 use Rattle.qap_search.specs.OpenBound.{IsOpenBound}
 use Rattle.qap_search.proofs.OpenBounds.{open_bound_read}
 use Rattle.qap_search.proofs.bounding.bound_with.Goals as goal
@@ -18,6 +19,8 @@ returns c =
     let read = rw c.in-Some-2.is at c.in_ok-node.ensures in
     let size = c.size.ensures.value ∙ ap (λ (J : Problem). J.size) c.instance.ensures.value in
     let least = c.min.ensures in
+    let told = rw c.in-Some.is at c.in_ok-list.ensures in
+    let is = told ∙ ap named_node (sym c.deref.ensures.value) in
     subst (λ (z : ℤ). IsOpenBound I (c.args.tuple.now ∷ []) bound z) (sym same)
-    (open_bound_read I c.in-Some-2.node c.args.tuple.now c.in-Some.list.now c.size.result bound value g _ _ read size c.in-Some.ensures c.in_ok-value.ensures
+    (open_bound_read I c.in-Some-2.node c.args.tuple.now c.deref.result.now c.size.result bound value g _ _ read size is c.in_ok-value.ensures
     (to_z-of_z w128 bound c.ranges.bound) same_value least.value least.self_bound least.other_bound)
