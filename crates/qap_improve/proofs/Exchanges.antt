@@ -9,7 +9,7 @@ use Rattle.qap_cost.specs.Sum.{sum_to}
 use Rattle.qap_cost.specs.Instance.{Problem, entry}
 use Rattle.qap_cost.specs.Objective.{Permutes, pair_cost, cost_of}
 use Rattle.qap_improve.specs.Difference.{flow, distance, change_with, change_between}
-use Rattle.qap_improve.specs.Exchange.{exchanging}
+use Rattle.qap_improve.specs.Exchange.{exchanging, partner}
 use Rattle.qap_improve.proofs.DoubleSums.{among, crossed_products, double_sum-changed, with_both}
 
 pub length-exchanging : (p : List ℕ) (r s : ℕ) → length (exchanging p r s) ≡ length p
@@ -28,25 +28,18 @@ pub exchanging-other : (p : List ℕ) (r s k : ℕ) → k ≢ r → k ≢ s → 
 exchanging-other p r s k kr ks =
     get_or-set_other (set p r (get_or p s 0)) s k (get_or p r 0) 0 ks ∙ get_or-set_other p r k (get_or p s 0) 0 kr
 
--- the facility whose location facility k takes
-partner : ℕ → ℕ → ℕ → ℕ
-partner r s k = cond (nat_eq k r) s (cond (nat_eq k s) r k)
-
-partner-first : (r s k : ℕ) → k ≡ r → partner r s k ≡ s
-unfolding partner
+pub partner-first : (r s k : ℕ) → k ≡ r → partner r s k ≡ s
 partner-first r s k e = cond-true (nat_eq k r) s (cond (nat_eq k s) r k) (eq-eqb k r e)
 
-partner-second : (r s k : ℕ) → k ≢ r → k ≡ s → partner r s k ≡ r
-unfolding partner
+pub partner-second : (r s k : ℕ) → k ≢ r → k ≡ s → partner r s k ≡ r
 partner-second r s k n e =
     cond-false (nat_eq k r) s (cond (nat_eq k s) r k) (ne_eqb k r n) ∙ cond-true (nat_eq k s) r k (eq-eqb k s e)
 
-partner-other : (r s k : ℕ) → k ≢ r → k ≢ s → partner r s k ≡ k
-unfolding partner
+pub partner-other : (r s k : ℕ) → k ≢ r → k ≢ s → partner r s k ≡ k
 partner-other r s k n m =
     cond-false (nat_eq k r) s (cond (nat_eq k s) r k) (ne_eqb k r n) ∙ cond-false (nat_eq k s) r k (ne_eqb k s m)
 
-partner-twice : (r s k : ℕ) → r ≢ s → partner r s (partner r s k) ≡ k
+pub partner-twice : (r s k : ℕ) → r ≢ s → partner r s (partner r s k) ≡ k
 partner-twice r s k apart =
     elim (cases_eq k r) [
       | inl e ↦ ap (partner r s) (partner-first r s k e) ∙ partner-second r s s (λ h. apart (sym h)) (λ i. s) ∙ sym e
@@ -56,7 +49,7 @@ partner-twice r s k apart =
       ]
     ]
 
-partner-below : (r s k n : ℕ) → r < n → s < n → k < n → partner r s k < n
+pub partner-below : (r s k n : ℕ) → r < n → s < n → k < n → partner r s k < n
 partner-below r s k n hr hs hk =
     elim (cases_eq k r) [
       | inl e ↦ let is = partner-first r s k e in omega arith
@@ -66,7 +59,7 @@ partner-below r s k n hr hs hk =
       ]
     ]
 
-exchanging-at : (p : List ℕ) (r s k : ℕ) → r ≢ s → r < length p → s < length p → get_or (exchanging p r s) k 0 ≡ get_or p (partner r s k) 0
+pub exchanging-at : (p : List ℕ) (r s k : ℕ) → r ≢ s → r < length p → s < length p → get_or (exchanging p r s) k 0 ≡ get_or p (partner r s k) 0
 exchanging-at p r s k apart hr hs =
     elim (cases_eq k r) [
       | inl e ↦ ap (λ x. get_or (exchanging p r s) x 0) e ∙ exchanging-first p r s apart hr ∙ ap (λ x. get_or p x 0) (sym (partner-first r s k e))

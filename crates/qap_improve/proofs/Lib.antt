@@ -1,7 +1,10 @@
+mod Arrangements
 mod Costs
 mod DoubleSums
 mod Exchanges
+mod FacilityTables
 mod Readings
 mod Rounds
+mod RowProducts
 mod Tables
 mod Updates

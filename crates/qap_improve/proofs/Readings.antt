@@ -1,7 +1,7 @@
 -- Entries, and products of their differences, in the widths that the code holds them in.
 use Rattle.std.proofs.Common.{◌≡◌, ℕ, ◌≤◌, true, List, refl, sym, ◌∙◌, ap, ap₂, arith, w64, to_z, of_z}
 use Rattle.std.specs.Prelude.{ℤ, pos, ◌+ℤ◌, ◌-ℤ◌, ◌*ℤ◌, ◌<ℤ◌, int_lt, unsigned_abs, FitsSigned}
-use Rattle.std.specs.Int.{w128}
+use Rattle.std.specs.Int.{w32, w128}
 use Rattle.std.proofs.lemmas.Int.{ints, to_z-of_z, fits_signed_from_abs}
 use Rattle.qap_cost.specs.Instance.{entry}
 use Rattle.qap_cost.specs.Range.{InRange}
@@ -23,6 +23,11 @@ reads_as z x is h = reads_entry z h ∙ is
 -- an entry whose row and column were read before it
 pub reads_at : (n : ℕ) (xs : List ℤ) (i j k l : ℕ) (z : ℤ) → z ≡ entry n xs k l → InRange z → k ≡ i → l ≡ j → to_z w64 (of_z w64 z) ≡ entry n xs i j
 reads_at n xs i j k l z is h row column = reads_entry z h ∙ is ∙ ap₂ (entry n xs) row column
+
+-- an entry made narrower
+pub reads_narrow : (z y x : ℤ) → z ≡ to_z w64 (of_z w64 y) → y ≡ x → InRange y → to_z w32 (of_z w32 z) ≡ x
+reads_narrow z y x is same h =
+    ap (λ (t : ℤ). to_z w32 (of_z w32 t)) (is ∙ reads_entry y h) ∙ to_z-of_z w32 y (fits_signed_from_abs w32 y (omega arith)) ∙ same
 
 pub reads_crossed : (z x y u v a b c d : ℤ) → z ≡ (x -ℤ y) *ℤ (u -ℤ v) → x ≡ a → y ≡ b → u ≡ c → v ≡ d → z ≡ (a -ℤ b) *ℤ (c -ℤ d)
 reads_crossed z x y u v a b c d is xa yb uc vd = is ∙ ap₂ ◌*ℤ◌ (ap₂ ◌-ℤ◌ xa yb) (ap₂ ◌-ℤ◌ uc vd)

@@ -13,10 +13,10 @@ use Rattle.qap_improve.proofs.Costs.{cost_of-bounded}
 use Rattle.qap_improve.proofs.Exchanges.{Permutes-exchanging}
 
 -- each row and column has a place of its own
-same_row : (n i j r s : ℕ) → j < n → s < n → i * n + j ≡ r * n + s → i ≡ r
+pub same_row : (n i j r s : ℕ) → j < n → s < n → i * n + j ≡ r * n + s → i ≡ r
 same_row n i j r s hj hs e = sym (div-mul-add i n j hj) ∙ ap (λ k. k / n) e ∙ div-mul-add r n s hs
 
-same_column : (n i j r s : ℕ) → j < n → s < n → i * n + j ≡ r * n + s → j ≡ s
+pub same_column : (n i j r s : ℕ) → j < n → s < n → i * n + j ≡ r * n + s → j ≡ s
 same_column n i j r s hj hs e = sym (mod-mul-add i n j hj) ∙ ap (λ k. k % n) e ∙ mod-mul-add r n s hs
 
 -- the diagonal of a row and what is left of it hold no pair

@@ -1,10 +1,14 @@
 //! From a permutation, one that costs no more.
 #![tactic(auto)]
 
+mod arrangement;
 mod choice;
 mod descent;
+mod facility_table;
 mod memory;
 mod pair;
+mod rows;
+mod small;
 mod table;
 mod tabu;
 

@@ -7,5 +7,5 @@ pub loop-smaller : goal.loop-smaller
 loop-smaller c =
     let I = c.args.instance.now in
     let tried = c.improve.ensures.tried in
-    height-falls I c.loop.locations c.improve.new.locations c.improve.ensures.instance c.loop.invariant.permutation tried.permutation
-    (has_gained I (IsLocallyLeast I) c.loop.locations c.improve.new.locations c.improve.result tried c.loop-test.true)
+    height-falls I c.loop.arrangement.locations.items c.improve.new.arrangement.locations.items c.improve.ensures.instance c.loop.invariant.1.permutation tried.permutation
+    (has_gained I (IsLocallyLeast I) c.loop.arrangement.locations.items c.improve.new.arrangement.locations.items c.improve.result tried c.loop-test.true)

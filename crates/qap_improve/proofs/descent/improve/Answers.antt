@@ -7,5 +7,8 @@ pub loop-r-preserved : goal.loop-r-preserved
 loop-r-preserved c =
     let I = c.args.instance.now in
     let r = c.loop-r.r in
-    HasTried-more I (NoneGainsBelow I r) (NoneGainsWith I r I.size) (NoneGainsBelow I (r + 1)) _ _ _ _ _ c.loop-r.invariant c.improve_with-gained.ensures
-    (NoneGainsBelow-more I r c.improve_with-gained.new.locations)
+    let step = c.improve_with-gained.ensures in (
+      step.arrangement,
+      HasTried-more I (NoneGainsBelow I r) (NoneGainsWith I r I.size) (NoneGainsBelow I (r + 1)) _ _ _ _ _ c.loop-r.invariant.1 step.tried
+          (NoneGainsBelow-more I r c.improve_with-gained.new.arrangement.locations.items),
+    )
