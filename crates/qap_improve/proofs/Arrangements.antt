@@ -50,6 +50,7 @@ row-within l n i f table row hi t r small = record {
 pub rows-within : (l : ℕ) (I : Problem) (p : List ℕ) (fk dk : Content) (flows distances : List ℤ) (r s : ℕ) (x : Rows) → HasEntriesWithin l I → Permutes I p → r < I.size → s < I.size
     → IsTable I.size (content I p fk) flows → IsTable I.size (content I p dk) distances → AreRowsOf I.size flows distances r s x → AreRowsWithin l I.size x
 rows-within l I p fk dk flows distances r s x h perm hr hs ft dt rows = record {
+  size = rows.size;
   flow_first = row-within l I.size r (content I p fk) flows x.flow_first.now hr ft rows.flow_first (λ j hj. content-within l I p fk r j h perm hr hj);
   flow_second = row-within l I.size s (content I p fk) flows x.flow_second.now hs ft rows.flow_second (λ j hj. content-within l I p fk s j h perm hs hj);
   distance_first = row-within l I.size r (content I p dk) distances x.distance_first.now hr dt rows.distance_first (λ j hj. content-within l I p dk r j h perm hr hj);

@@ -1,5 +1,5 @@
 -- Products of the differences of entries, in the widths that hold them.
-use Rattle.std.proofs.Common.{◌≡◌, ℕ, ◌<◌, ◌≤◌, ◌*◌, List, get_or, arith, w64, to_z, of_z}
+use Rattle.std.proofs.Common.{◌≡◌, ℕ, ◌<◌, ◌≤◌, ◌*◌, List, get_or, arith, subst, sym, w64, to_z, of_z}
 use Rattle.std.specs.Prelude.{ℤ, pos, ◌+ℤ◌, ◌-ℤ◌, unsigned_abs}
 use Rattle.std.proofs.lemmas.Int.{ints, unsigned_abs-mul}
 use Rattle.std.proofs.lemmas.Nat.{mul-le}
@@ -19,6 +19,7 @@ row-wider n xs h = record {
 
 pub rows-wider : (n : ℕ) (x : Rows) → AreRowsWithin 50000000 n x → AreRowsWithin 1000000000 n x
 rows-wider n x h = record {
+  size = h.size;
   flow_first = row-wider n x.flow_first.now h.flow_first;
   flow_second = row-wider n x.flow_second.now h.flow_second;
   distance_first = row-wider n x.distance_first.now h.distance_first;
@@ -49,3 +50,7 @@ crossed_with-small n there back k h g below =
 -- a term more, in 64 bits
 pub reads_sum : (x y : ℤ) → unsigned_abs x ≤ 5120000000000000000 → unsigned_abs y ≤ 20000000000000000 → to_z w64 (of_z w64 (x +ℤ to_z w64 (of_z w64 y))) ≡ x +ℤ y
 reads_sum x y hx hy = omega (arith, ints)
+
+-- rows as long as others
+pub rows-own : (l n : ℕ) (x : Rows) → AreRowsWithin l n x → AreRowsWithin l x.size x
+rows-own l n x h = subst (λ (m : ℕ). AreRowsWithin l m x) (sym h.size) h

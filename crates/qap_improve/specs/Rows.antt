@@ -11,6 +11,7 @@ pub record IsRowWithin (limit n : ℕ) (xs : List ℤ) : Type 0 where
   pub within : AllWithin limit xs
 
 pub record AreRowsWithin (limit n : ℕ) (x : Rows) : Type 0 where
+  pub size : x.size ≡ n
   pub flow_first : IsRowWithin limit n x.flow_first.now
   pub flow_second : IsRowWithin limit n x.flow_second.now
   pub distance_first : IsRowWithin limit n x.distance_first.now
@@ -18,6 +19,7 @@ pub record AreRowsWithin (limit n : ℕ) (x : Rows) : Type 0 where
 
 -- rows r and s of two n by n tables
 pub record AreRowsOf (n : ℕ) (flows distances : List ℤ) (r s : ℕ) (x : Rows) : Type 0 where
+  pub size : x.size ≡ n
   pub flow_first : IsRow n flows r x.flow_first.now
   pub flow_second : IsRow n flows s x.flow_second.now
   pub distance_first : IsRow n distances r x.distance_first.now

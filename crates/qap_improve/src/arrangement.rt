@@ -65,7 +65,7 @@ pub(crate) fn change_at(instance: &Instance, arrangement: &Arrangement, r: usize
         r,
         s,
     );
-    change_of(n, &there, &back, arrangement.are_small, r, s)
+    change_of(&there, &back, arrangement.are_small, r, s)
 }
 
 /// The rows of `r` and `s` in two n by n tables.
@@ -77,6 +77,7 @@ fn rows_of<'a>(n: usize, flows: &'a [i32], distances: &'a [i32], r: usize, s: us
     ensures { AreRowsOf n flows.now distances.now r s result }
 {
     Rows {
+        size: n,
         flow_first: row(n, flows, r),
         flow_second: row(n, flows, s),
         distance_first: row(n, distances, r),

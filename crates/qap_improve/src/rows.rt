@@ -8,121 +8,116 @@ ghost use Rattle.qap_improve.specs.Rows.{AreRowsWithin, change_by_rows, crossed,
 /// The rows of two facilities in a table of flows and in one of distances.
 #[derive(Clone, Copy)]
 pub(crate) struct Rows<'a> {
+    /// How many entries each has.
+    pub size: usize,
     pub flow_first: &'a [i32],
     pub flow_second: &'a [i32],
     pub distance_first: &'a [i32],
     pub distance_second: &'a [i32],
 }
 
-/// What the cost changes by when facilities `r` and `s` of `n` exchange their locations, where these are their rows in the
+/// What the cost changes by when facilities `r` and `s` exchange their locations, where these are their rows in the
 /// tables and in the transposed ones.
 ///
 /// The sum is made in 64 bits where the entries are known to be small, so that terms are added side by side.
-pub(crate) fn change_of(
-    n: usize,
-    there: &Rows,
-    back: &Rows,
-    are_small: bool,
-    r: usize,
-    s: usize,
-) -> i128
-    requires few { n ≤ 256 }
-    requires there { AreRowsWithin (10 ^ 9) n there.now }
-    requires back { AreRowsWithin (10 ^ 9) n back.now }
-    requires there_small { IsTrue are_small → AreRowsWithin (5 * 10 ^ 7) n there.now }
-    requires back_small { IsTrue are_small → AreRowsWithin (5 * 10 ^ 7) n back.now }
-    requires first { r < n }
-    requires second { s < n }
-    ensures value { result ≡ change_by_rows n there.now back.now r s }
+pub(crate) fn change_of(there: &Rows, back: &Rows, are_small: bool, r: usize, s: usize) -> i128
+    requires few { there.now.size ≤ 256 }
+    requires there { AreRowsWithin (10 ^ 9) there.now.size there.now }
+    requires back { AreRowsWithin (10 ^ 9) there.now.size back.now }
+    requires there_small { IsTrue are_small → AreRowsWithin (5 * 10 ^ 7) there.now.size there.now }
+    requires back_small { IsTrue are_small → AreRowsWithin (5 * 10 ^ 7) there.now.size back.now }
+    requires first { r < there.now.size }
+    requires second { s < there.now.size }
+    ensures value { result ≡ change_by_rows there.now.size there.now back.now r s }
     ensures bounded { unsigned_abs result ≤ 259 * (8 * 10 ^ 18) }
 {
-    let with_all = sum_of(n, there, back, are_small);
-    let with_first = product_with(n, there, back, r);
-    let with_second = product_with(n, there, back, s);
-    let between = product_between(n, there, r, s);
+    let with_all = sum_of(there, back, are_small);
+    let with_first = product_with(there, back, r);
+    let with_second = product_with(there, back, s);
+    let between = product_between(there, r, s);
     with_all - i128::from(with_first) - i128::from(with_second) + i128::from(between)
 }
 
 /// The sum of `product_with` over all facilities, `r` and `s` too.
-fn sum_of(n: usize, there: &Rows, back: &Rows, are_small: bool) -> i128
-    requires few { n ≤ 256 }
-    requires there { AreRowsWithin (10 ^ 9) n there.now }
-    requires back { AreRowsWithin (10 ^ 9) n back.now }
-    requires there_small { IsTrue are_small → AreRowsWithin (5 * 10 ^ 7) n there.now }
-    requires back_small { IsTrue are_small → AreRowsWithin (5 * 10 ^ 7) n back.now }
-    ensures value { result ≡ sum_to (crossed_with there.now back.now) n }
+fn sum_of(there: &Rows, back: &Rows, are_small: bool) -> i128
+    requires few { there.now.size ≤ 256 }
+    requires there { AreRowsWithin (10 ^ 9) there.now.size there.now }
+    requires back { AreRowsWithin (10 ^ 9) there.now.size back.now }
+    requires there_small { IsTrue are_small → AreRowsWithin (5 * 10 ^ 7) there.now.size there.now }
+    requires back_small { IsTrue are_small → AreRowsWithin (5 * 10 ^ 7) there.now.size back.now }
+    ensures value { result ≡ sum_to (crossed_with there.now back.now) there.now.size }
     ensures bounded { unsigned_abs result ≤ 256 * (8 * 10 ^ 18) }
 {
     if are_small {
-        i128::from(small_sum(n, there, back))
+        i128::from(small_sum(there, back))
     } else {
-        wide_sum(n, there, back)
+        wide_sum(there, back)
     }
 }
 
 /// The same of small entries, in 64 bits.
-fn small_sum(n: usize, there: &Rows, back: &Rows) -> i64
-    requires few { n ≤ 256 }
-    requires there { AreRowsWithin (5 * 10 ^ 7) n there.now }
-    requires back { AreRowsWithin (5 * 10 ^ 7) n back.now }
-    ensures value { result ≡ sum_to (crossed_with there.now back.now) n }
+fn small_sum(there: &Rows, back: &Rows) -> i64
+    requires few { there.now.size ≤ 256 }
+    requires there { AreRowsWithin (5 * 10 ^ 7) there.now.size there.now }
+    requires back { AreRowsWithin (5 * 10 ^ 7) there.now.size back.now }
+    ensures value { result ≡ sum_to (crossed_with there.now back.now) there.now.size }
     ensures bounded { unsigned_abs result ≤ 256 * (2 * 10 ^ 16) }
 {
     let mut total = 0;
-    for k in 0..n {
-        let with_each = product_with(n, there, back, k);
+    for k in 0..there.size {
+        let with_each = product_with(there, back, k);
         total += with_each;
     }
     total
 }
 
 /// The same of any entries.
-fn wide_sum(n: usize, there: &Rows, back: &Rows) -> i128
-    requires few { n ≤ 256 }
-    requires there { AreRowsWithin (10 ^ 9) n there.now }
-    requires back { AreRowsWithin (10 ^ 9) n back.now }
-    ensures value { result ≡ sum_to (crossed_with there.now back.now) n }
+fn wide_sum(there: &Rows, back: &Rows) -> i128
+    requires few { there.now.size ≤ 256 }
+    requires there { AreRowsWithin (10 ^ 9) there.now.size there.now }
+    requires back { AreRowsWithin (10 ^ 9) there.now.size back.now }
+    ensures value { result ≡ sum_to (crossed_with there.now back.now) there.now.size }
     ensures bounded { unsigned_abs result ≤ 256 * (8 * 10 ^ 18) }
 {
     let mut total = 0;
-    for k in 0..n {
-        let with_each = product_with(n, there, back, k);
+    for k in 0..there.size {
+        let with_each = product_with(there, back, k);
         total += i128::from(with_each);
     }
     total
 }
 
 /// What the cost between facility `k` and the two changes by, where `k` is neither.
-fn product_with(n: usize, there: &Rows, back: &Rows, k: usize) -> i64
-    requires there { AreRowsWithin (10 ^ 9) n there.now }
-    requires back { AreRowsWithin (10 ^ 9) n back.now }
-    requires place { k < n }
+fn product_with(there: &Rows, back: &Rows, k: usize) -> i64
+    requires there { AreRowsWithin (10 ^ 9) there.now.size there.now }
+    requires back { AreRowsWithin (10 ^ 9) there.now.size back.now }
+    requires place { k < there.now.size }
     ensures value { result ≡ crossed_with there.now back.now k }
     ensures bounded { unsigned_abs result ≤ 8 * 10 ^ 18 }
 {
-    let to_both = product_at(n, back, k, k);
-    let from_both = product_at(n, there, k, k);
+    let to_both = product_at(back, k, k);
+    let from_both = product_at(there, k, k);
     to_both + from_both
 }
 
 /// What the cost of the two, with themselves and each other, changes by.
-fn product_between(n: usize, there: &Rows, r: usize, s: usize) -> i64
-    requires there { AreRowsWithin (10 ^ 9) n there.now }
-    requires first { r < n }
-    requires second { s < n }
+fn product_between(there: &Rows, r: usize, s: usize) -> i64
+    requires there { AreRowsWithin (10 ^ 9) there.now.size there.now }
+    requires first { r < there.now.size }
+    requires second { s < there.now.size }
     ensures value { result ≡ crossed there.now r s +ℤ crossed there.now s r }
     ensures bounded { unsigned_abs result ≤ 8 * 10 ^ 18 }
 {
-    let own = product_at(n, there, r, s);
-    let mutual = product_at(n, there, s, r);
+    let own = product_at(there, r, s);
+    let mutual = product_at(there, s, r);
     own + mutual
 }
 
 /// The difference of two flows times that of two distances.
-fn product_at(n: usize, rows: &Rows, i: usize, j: usize) -> i64
-    requires rows { AreRowsWithin (10 ^ 9) n rows.now }
-    requires first { i < n }
-    requires second { j < n }
+fn product_at(rows: &Rows, i: usize, j: usize) -> i64
+    requires rows { AreRowsWithin (10 ^ 9) rows.now.size rows.now }
+    requires first { i < rows.now.size }
+    requires second { j < rows.now.size }
     ensures value { result ≡ crossed rows.now i j }
     ensures bounded { unsigned_abs result ≤ 4 * 10 ^ 18 }
 {

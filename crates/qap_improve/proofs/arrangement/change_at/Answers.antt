@@ -16,19 +16,19 @@ rows_back c =
     AreRowsOf-same _ _ _ _ _ _ c.args.r c.args.s c.rows_of-back.result c.size-n.ensures.value c.deref-3.ensures.value c.deref-4.ensures.value c.rows_of-back.ensures
 
 pub change_of-requires-clause-few : goal.change_of-requires-clause-few
-change_of-requires-clause-few c = omega (arith, c.size-n.ensures.value, c.size-n.ensures.instance.small)
+change_of-requires-clause-few c = let size = (rows c).size in omega (arith, c.size-n.ensures.instance.small)
 
 pub change_of-requires-clause-there : goal.change_of-requires-clause-there
 change_of-requires-clause-there c =
     let a = c.requires.arrangement in
-    subst (λ (m : ℕ). AreRowsWithin 1000000000 m c.rows_of-there.result) (sym c.size-n.ensures.value)
+    subst (λ (m : ℕ). AreRowsWithin 1000000000 m c.rows_of-there.result) (sym (rows c).size)
     (rows-within 1000000000 c.args.instance.now c.args.arrangement.now.locations.items Flows Distances _ _ c.args.r c.args.s c.rows_of-there.result
     (entries-within c.args.instance.now c.size-n.ensures.instance) a.permutation c.requires.first c.requires.second a.flows a.distances (rows c))
 
 pub change_of-requires-clause-back : goal.change_of-requires-clause-back
 change_of-requires-clause-back c =
     let a = c.requires.arrangement in
-    subst (λ (m : ℕ). AreRowsWithin 1000000000 m c.rows_of-back.result) (sym c.size-n.ensures.value)
+    subst (λ (m : ℕ). AreRowsWithin 1000000000 m c.rows_of-back.result) (sym (rows c).size)
     (rows-within 1000000000 c.args.instance.now c.args.arrangement.now.locations.items FlowsBack DistancesBack _ _ c.args.r c.args.s c.rows_of-back.result
     (entries-within c.args.instance.now c.size-n.ensures.instance) a.permutation c.requires.first c.requires.second a.flows_back a.distances_back (rows_back c))
 
@@ -36,7 +36,7 @@ pub change_of-requires-clause-there_small : goal.change_of-requires-clause-there
 change_of-requires-clause-there_small c =
     let a = c.requires.arrangement in
     λ are_small.
-    subst (λ (m : ℕ). AreRowsWithin 50000000 m c.rows_of-there.result) (sym c.size-n.ensures.value)
+    subst (λ (m : ℕ). AreRowsWithin 50000000 m c.rows_of-there.result) (sym (rows c).size)
     (rows-within 50000000 c.args.instance.now c.args.arrangement.now.locations.items Flows Distances _ _ c.args.r c.args.s c.rows_of-there.result
     (a.small are_small) a.permutation c.requires.first c.requires.second a.flows a.distances (rows c))
 
@@ -44,7 +44,7 @@ pub change_of-requires-clause-back_small : goal.change_of-requires-clause-back_s
 change_of-requires-clause-back_small c =
     let a = c.requires.arrangement in
     λ are_small.
-    subst (λ (m : ℕ). AreRowsWithin 50000000 m c.rows_of-back.result) (sym c.size-n.ensures.value)
+    subst (λ (m : ℕ). AreRowsWithin 50000000 m c.rows_of-back.result) (sym (rows c).size)
     (rows-within 50000000 c.args.instance.now c.args.arrangement.now.locations.items FlowsBack DistancesBack _ _ c.args.r c.args.s c.rows_of-back.result
     (a.small are_small) a.permutation c.requires.first c.requires.second a.flows_back a.distances_back (rows_back c))
 
@@ -56,7 +56,7 @@ returns-clause-value c =
     let told = c.change_of.ensures in
     ap (λ (x : ℤ). cost_of I p +ℤ x)
     (reads_wide c.change_of.result (omega (arith, told.bounded)) ∙ told.value
-    ∙ ap (λ (m : ℕ). change_by_rows m c.rows_of-there.result c.rows_of-back.result c.args.r c.args.s) c.size-n.ensures.value)
+    ∙ ap (λ (m : ℕ). change_by_rows m c.rows_of-there.result c.rows_of-back.result c.args.r c.args.s) (c.rows_of-there.ensures.size ∙ c.size-n.ensures.value))
     ∙ change_by_rows-is I p _ _ _ _ c.args.r c.args.s c.rows_of-there.result c.rows_of-back.result a.permutation.same_size c.requires.two c.requires.first c.requires.second
     a.flows a.flows_back a.distances a.distances_back
     (AreRowsOf-same _ _ _ _ _ _ c.args.r c.args.s c.rows_of-there.result c.size-n.ensures.value c.deref.ensures.value c.deref-2.ensures.value c.rows_of-there.ensures)

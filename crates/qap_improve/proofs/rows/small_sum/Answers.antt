@@ -6,15 +6,15 @@ use Rattle.qap_improve.proofs.RowProducts.{crossed_with-small, reads_sum, rows-w
 use Rattle.qap_improve.proofs.rows.small_sum.Goals as goal
 
 pub product_with-with_each-requires-clause-there : goal.product_with-with_each-requires-clause-there
-product_with-with_each-requires-clause-there c = rows-wider c.args.n c.args.there.now c.requires.there
+product_with-with_each-requires-clause-there c = rows-wider c.args.there.now.size c.args.there.now c.requires.there
 
 pub product_with-with_each-requires-clause-back : goal.product_with-with_each-requires-clause-back
-product_with-with_each-requires-clause-back c = rows-wider c.args.n c.args.back.now c.requires.back
+product_with-with_each-requires-clause-back c = rows-wider c.args.there.now.size c.args.back.now c.requires.back
 
 small : (c : goal.After-product_with-with_each) → unsigned_abs c.product_with-with_each.result ≤ 20000000000000000
 small c =
     rw (c.product_with-with_each.ensures.value)
-    (crossed_with-small c.args.n c.args.there.now c.args.back.now c.loop-k.k c.requires.there c.requires.back (omega arith))
+    (crossed_with-small c.args.there.now.size c.args.there.now c.args.back.now c.loop-k.k c.requires.there c.requires.back (omega arith))
 
 pub overflow_add-total : goal.overflow_add-total
 overflow_add-total c =
