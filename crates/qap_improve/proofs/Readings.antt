@@ -87,8 +87,9 @@ is_negative x h test =
 pub falls : (x y z : ℤ) → x +ℤ y ≡ z → y <ℤ pos 0 → z <ℤ x
 falls x y z is h = omega (arith, ints)
 
-pub read_small : (x y : ℤ) → InRange x → InRange y → unsigned_abs (to_z w64 (of_z w64 (to_z w64 (of_z w64 x) -ℤ to_z w64 (of_z w64 y)))) ≤ 2000000000
-read_small x y hx hy = rw (reads_difference x y hx hy) (difference_small x y hx hy)
+-- the difference of two entries, passed on
+pub reads_contrasted : (x : ℤ) → unsigned_abs x ≤ 2000000000 → to_z w64 (of_z w64 x) ≡ x
+reads_contrasted x h = to_z-of_z w64 x (fits_signed_from_abs w64 x (omega arith))
 
 -- the difference of two differences of entries
 pub reads_contrast : (x y : ℤ) → unsigned_abs x ≤ 2000000000 → unsigned_abs y ≤ 2000000000 → to_z w64 (of_z w64 (to_z w64 (of_z w64 x) -ℤ to_z w64 (of_z w64 y))) ≡ x -ℤ y

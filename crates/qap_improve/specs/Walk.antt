@@ -3,6 +3,7 @@
 use Rattle.std.specs.Prelude.{◌≡◌}
 use Rattle.qap_cost.specs.Instance.{IsInstance, Problem}
 use Rattle.qap_cost.specs.Objective.{Permutes, cost_of}
+use Rattle.qap_improve.specs.Arrangement.{IsArrangement}
 use Rattle.qap_improve.specs.Table.{AreDifferences}
 use Rattle.qap_improve.specs.declared.tabu.Walk.{Walk}
 
@@ -10,8 +11,8 @@ use Rattle.qap_improve.specs.declared.tabu.Walk.{Walk}
 -- it has come by is kept with its cost
 pub record IsWalk (I : Problem) (walk : Walk) : Type 0 where
   pub instance : IsInstance I
-  pub permutation : Permutes I walk.locations.items
-  pub cost : walk.cost ≡ cost_of I walk.locations.items
-  pub differences : AreDifferences I walk.locations.items walk.differences
+  pub arrangement : IsArrangement I walk.arrangement
+  pub cost : walk.cost ≡ cost_of I walk.arrangement.locations.items
+  pub differences : AreDifferences I walk.arrangement.locations.items walk.differences
   pub best : Permutes I walk.best.items
   pub best_cost : walk.best_cost ≡ cost_of I walk.best.items

@@ -4,11 +4,12 @@
 //! difference reads eight rows from left to right.
 
 ghost use Rattle.std.specs.Prelude.{◌≡◌, ◌≢◌, ◌*◌, ◌^◌, ◌<◌, ◌≤◌, ◌+ℤ◌, IfOk, length, unsigned_abs};
+ghost use Rattle.qap_cost.specs.Instance.{IsInstance};
 ghost use Rattle.qap_cost.specs.Objective.{Permutes, cost_of};
 ghost use Rattle.qap_cost.specs.Row.{IsRow};
 ghost use Rattle.qap_improve.specs.Arrangement.{IsArrangement};
 ghost use Rattle.qap_improve.specs.Exchange.{exchanging};
-ghost use Rattle.qap_improve.specs.Rows.{AreRowsOf};
+ghost use Rattle.qap_improve.specs.Rows.{AreRowsOf, AreRowsWithin};
 
 use crate::facility_table::{Content, exchange_in, new_table};
 use crate::rows::{Rows, change_of};
@@ -56,16 +57,50 @@ pub(crate) fn change_at(instance: &Instance, arrangement: &Arrangement, r: usize
     ensures value { cost_of instance.now arrangement.now.locations.items +ℤ result ≡ cost_of instance.now (exchanging arrangement.now.locations.items r s) }
     ensures bounded { unsigned_abs result ≤ 259 * (8 * 10 ^ 18) }
 {
+    let there = rows_there(instance, arrangement, r, s);
+    let back = rows_back(instance, arrangement, r, s);
+    change_of(&there, &back, arrangement.are_small, r, s)
+}
+
+/// The rows of `r` and `s` in the tables.
+pub(crate) fn rows_there<'a>(
+    instance: &Instance,
+    arrangement: &'a Arrangement,
+    r: usize,
+    s: usize,
+) -> Rows<'a>
+    requires arrangement { IsArrangement instance.now arrangement.now }
+    requires first { r < instance.now.size }
+    requires second { s < instance.now.size }
+    ensures rows { AreRowsOf instance.now.size arrangement.now.flows.items arrangement.now.distances.items r s result }
+    ensures within { AreRowsWithin (10 ^ 9) result.size result }
+    ensures instance { IsInstance instance.now }
+{
     let n = instance.size();
-    let there = rows_of(n, &arrangement.flows, &arrangement.distances, r, s);
-    let back = rows_of(
+    rows_of(n, &arrangement.flows, &arrangement.distances, r, s)
+}
+
+/// The rows of `r` and `s` in the transposed tables.
+pub(crate) fn rows_back<'a>(
+    instance: &Instance,
+    arrangement: &'a Arrangement,
+    r: usize,
+    s: usize,
+) -> Rows<'a>
+    requires arrangement { IsArrangement instance.now arrangement.now }
+    requires first { r < instance.now.size }
+    requires second { s < instance.now.size }
+    ensures rows { AreRowsOf instance.now.size arrangement.now.flows_back.items arrangement.now.distances_back.items r s result }
+    ensures within { AreRowsWithin (10 ^ 9) result.size result }
+{
+    let n = instance.size();
+    rows_of(
         n,
         &arrangement.flows_back,
         &arrangement.distances_back,
         r,
         s,
-    );
-    change_of(&there, &back, arrangement.are_small, r, s)
+    )
 }
 
 /// The rows of `r` and `s` in two n by n tables.

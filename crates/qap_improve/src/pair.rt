@@ -25,7 +25,7 @@ pub fn difference(instance: &Instance, permutation: &Perm, r: usize, s: usize) -
 }
 
 /// The same, where these are the locations of the facilities.
-pub(crate) fn difference_at(instance: &Instance, locations: &[u16], r: usize, s: usize) -> i128
+fn difference_at(instance: &Instance, locations: &[u16], r: usize, s: usize) -> i128
     requires permutation { Permutes instance.now locations.now }
     requires first { r < instance.now.size }
     requires second { s < instance.now.size }

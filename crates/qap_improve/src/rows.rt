@@ -1,6 +1,6 @@
 //! What the exchange of two facilities changes the cost by, where rows of 32 bits are read from left to right.
 
-ghost use Rattle.std.specs.Prelude.{◌≡◌, ◌*◌, ◌^◌, ◌<◌, ◌≤◌, ◌+ℤ◌, ◌-ℤ◌, ◌*ℤ◌, IsTrue, length, unsigned_abs};
+ghost use Rattle.std.specs.Prelude.{◌≡◌, ◌*◌, ◌^◌, ◌<◌, ◌≤◌, ◌+ℤ◌, ◌-ℤ◌, ◌*ℤ◌, IsTrue, pos, slice_index_or, unsigned_abs};
 ghost use Rattle.qap_cost.specs.Range.{InRange};
 ghost use Rattle.qap_cost.specs.Sum.{sum_to};
 ghost use Rattle.qap_improve.specs.Rows.{AreRowsWithin, change_by_rows, crossed, crossed_with};
@@ -124,6 +124,26 @@ fn product_at(rows: &Rows, i: usize, j: usize) -> i64
     let flow = less(rows.flow_first[i], rows.flow_second[j]);
     let distance = less(rows.distance_second[j], rows.distance_first[i]);
     product(flow, distance)
+}
+
+/// How the flows of the two with facility `k` differ.
+pub(crate) fn flow_contrast(rows: &Rows, k: usize) -> i64
+    requires rows { AreRowsWithin (10 ^ 9) rows.now.size rows.now }
+    requires place { k < rows.now.size }
+    ensures value { result ≡ slice_index_or rows.now.flow_first.now k (pos 0) -ℤ slice_index_or rows.now.flow_second.now k (pos 0) }
+    ensures bounded { unsigned_abs result ≤ 2 * 10 ^ 9 }
+{
+    i64::from(less(rows.flow_first[k], rows.flow_second[k]))
+}
+
+/// How their distances differ.
+pub(crate) fn distance_contrast(rows: &Rows, k: usize) -> i64
+    requires rows { AreRowsWithin (10 ^ 9) rows.now.size rows.now }
+    requires place { k < rows.now.size }
+    ensures value { result ≡ slice_index_or rows.now.distance_first.now k (pos 0) -ℤ slice_index_or rows.now.distance_second.now k (pos 0) }
+    ensures bounded { unsigned_abs result ≤ 2 * 10 ^ 9 }
+{
+    i64::from(less(rows.distance_first[k], rows.distance_second[k]))
 }
 
 /// The difference of two entries, which fits 32 bits.

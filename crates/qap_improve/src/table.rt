@@ -2,11 +2,12 @@
 
 ghost use Rattle.std.specs.Prelude.{◌≡◌, ◌≢◌, false, ◌+◌, ◌*◌, ◌^◌, ◌<◌, ◌≤◌, ◌-ℤ◌, ◌*ℤ◌, ℤ, List, length, unsigned_abs, IfOk};
 ghost use Rattle.qap_cost.specs.Instance.{IsInstance};
-ghost use Rattle.qap_cost.specs.Objective.{Permutes};
+ghost use Rattle.qap_improve.specs.Arrangement.{IsArrangement};
 ghost use Rattle.qap_improve.specs.Exchange.{exchanging};
 ghost use Rattle.qap_improve.specs.Table.{AreDifferences, HasFilled, HasUpdated, IsContrast, IsSmall, change_of_difference};
 
-use crate::pair::difference_at;
+use crate::arrangement::{Arrangement, change_at, rows_back, rows_there};
+use crate::rows::{distance_contrast, flow_contrast};
 use qap_cost::Instance;
 use std::alloc::{AllocError, Global};
 use std::marker::Model;
@@ -28,15 +29,15 @@ impl Differences {
     pub fn new(
         alloc: Global,
         instance: &Instance,
-        locations: &[u16],
+        arrangement: &Arrangement,
     ) -> Result<Differences, AllocError>
-        requires { Permutes instance.now locations.now }
-        ensures { IfOk result (AreDifferences instance.now locations.now) }
+        requires { IsArrangement instance.now arrangement.now }
+        ensures { IfOk result (AreDifferences instance.now arrangement.now.locations.items) }
     {
         let n = instance.size();
         let entries = vec![in alloc; 0; n * n]?;
         Ok(Differences {
-            entries: filled(instance, locations, entries),
+            entries: filled(instance, arrangement, entries),
         })
     }
 
@@ -52,109 +53,115 @@ impl Differences {
     ///
     /// Takes time in n^2: the pairs that share a facility with the exchange are reckoned anew, the others in constant
     /// time each.
-    pub fn update(&mut self, instance: &Instance, locations: &[u16], u: usize, v: usize)
-        requires permutation { Permutes instance.now locations.now }
+    pub fn update(&mut self, instance: &Instance, arrangement: &Arrangement, u: usize, v: usize)
+        requires arrangement { IsArrangement instance.now arrangement.now }
         requires first { u < instance.now.size }
         requires second { v < instance.now.size }
         requires two { u ≢ v }
-        requires before { AreDifferences instance.now (exchanging locations.now u v) self.old }
-        ensures { AreDifferences instance.now locations.now self.new }
+        requires before { AreDifferences instance.now (exchanging arrangement.now.locations.items u v) self.old }
+        ensures { AreDifferences instance.now arrangement.now.locations.items self.new }
     {
-        update_rows(instance, locations, u, v, &mut self.entries);
+        update_rows(instance, arrangement, u, v, &mut self.entries);
     }
 }
 
 /// The list with all differences written to it.
-fn filled(instance: &Instance, locations: &[u16], mut entries: Vec<i128>) -> Vec<i128>
-    requires permutation { Permutes instance.now locations.now }
+fn filled(instance: &Instance, arrangement: &Arrangement, mut entries: Vec<i128>) -> Vec<i128>
+    requires arrangement { IsArrangement instance.now arrangement.now }
     requires count { length entries.items ≡ instance.now.size * instance.now.size }
-    ensures { AreDifferences instance.now locations.now result.items }
+    ensures { AreDifferences instance.now arrangement.now.locations.items result.items }
 {
-    fill_rows(instance, locations, &mut entries);
+    fill_rows(instance, arrangement, &mut entries);
     entries
 }
 
 /// Writes all differences.
-fn fill_rows(instance: &Instance, locations: &[u16], entries: &mut [i128])
-    requires permutation { Permutes instance.now locations.now }
+fn fill_rows(instance: &Instance, arrangement: &Arrangement, entries: &mut [i128])
+    requires arrangement { IsArrangement instance.now arrangement.now }
     requires count { length entries.old ≡ instance.now.size * instance.now.size }
-    ensures { AreDifferences instance.now locations.now entries.new }
+    ensures { AreDifferences instance.now arrangement.now.locations.items entries.new }
 {
     for r in 0..instance.size() {
-        fill_row(instance, locations, r, entries);
+        fill_row(instance, arrangement, r, entries);
     }
 }
 
 /// Writes the differences of row `r`, where those of the rows above are written.
-fn fill_row(instance: &Instance, locations: &[u16], r: usize, entries: &mut [i128])
-    requires permutation { Permutes instance.now locations.now }
+fn fill_row(instance: &Instance, arrangement: &Arrangement, r: usize, entries: &mut [i128])
+    requires arrangement { IsArrangement instance.now arrangement.now }
     requires row { r < instance.now.size }
-    requires above { HasFilled instance.now locations.now entries.old (r * instance.now.size) }
-    ensures { HasFilled instance.now locations.now entries.new ((r + 1) * instance.now.size) }
+    requires above { HasFilled instance.now arrangement.now.locations.items entries.old (r * instance.now.size) }
+    ensures { HasFilled instance.now arrangement.now.locations.items entries.new ((r + 1) * instance.now.size) }
 {
     let n = instance.size();
     for s in r + 1..n {
-        entries[r * n + s] = difference_at(instance, locations, r, s);
+        entries[r * n + s] = change_at(instance, arrangement, r, s);
     }
 }
 
 /// Brings all rows up to the exchange of `u` and `v`.
-fn update_rows(instance: &Instance, locations: &[u16], u: usize, v: usize, entries: &mut [i128])
-    requires permutation { Permutes instance.now locations.now }
+fn update_rows(
+    instance: &Instance,
+    arrangement: &Arrangement,
+    u: usize,
+    v: usize,
+    entries: &mut [i128],
+)
+    requires arrangement { IsArrangement instance.now arrangement.now }
     requires first { u < instance.now.size }
     requires second { v < instance.now.size }
     requires two { u ≢ v }
-    requires before { AreDifferences instance.now (exchanging locations.now u v) entries.old }
-    ensures { AreDifferences instance.now locations.now entries.new }
+    requires before { AreDifferences instance.now (exchanging arrangement.now.locations.items u v) entries.old }
+    ensures { AreDifferences instance.now arrangement.now.locations.items entries.new }
 {
     for r in 0..instance.size() {
-        update_row(instance, locations, u, v, r, entries);
+        update_row(instance, arrangement, u, v, r, entries);
     }
 }
 
 /// Brings row `r` up to the exchange of `u` and `v`, where the rows above are.
 fn update_row(
     instance: &Instance,
-    locations: &[u16],
+    arrangement: &Arrangement,
     u: usize,
     v: usize,
     r: usize,
     entries: &mut [i128],
 )
-    requires permutation { Permutes instance.now locations.now }
+    requires arrangement { IsArrangement instance.now arrangement.now }
     requires first { u < instance.now.size }
     requires second { v < instance.now.size }
     requires two { u ≢ v }
     requires row { r < instance.now.size }
-    requires above { HasUpdated instance.now (exchanging locations.now u v) locations.now entries.old (r * instance.now.size) }
-    ensures { HasUpdated instance.now (exchanging locations.now u v) locations.now entries.new ((r + 1) * instance.now.size) }
+    requires above { HasUpdated instance.now (exchanging arrangement.now.locations.items u v) arrangement.now.locations.items entries.old (r * instance.now.size) }
+    ensures { HasUpdated instance.now (exchanging arrangement.now.locations.items u v) arrangement.now.locations.items entries.new ((r + 1) * instance.now.size) }
 {
-    let with_r = contrast_of(instance, locations, u, v, r);
+    let with_r = contrast_of(instance, arrangement, u, v, r);
     for s in r + 1..instance.size() {
-        update_entry(instance, locations, (u, v), (r, s), &with_r, entries);
+        update_entry(instance, arrangement, (u, v), (r, s), &with_r, entries);
     }
 }
 
 /// Brings the difference of a pair up to the exchange of two facilities, where all before it are.
 fn update_entry(
     instance: &Instance,
-    locations: &[u16],
+    arrangement: &Arrangement,
     exchanged: (usize, usize),
     pair: (usize, usize),
     with_first: &Contrast,
     entries: &mut [i128],
 )
-    requires permutation { Permutes instance.now locations.now }
+    requires arrangement { IsArrangement instance.now arrangement.now }
     requires first { exchanged.0 < instance.now.size }
     requires second { exchanged.1 < instance.now.size }
     requires two { exchanged.0 ≢ exchanged.1 }
     requires row { pair.0 < pair.1 }
     requires column { pair.1 < instance.now.size }
-    requires contrast { IsContrast instance.now locations.now exchanged.0 exchanged.1 pair.0 with_first.now }
+    requires contrast { IsContrast instance.now arrangement.now.locations.items exchanged.0 exchanged.1 pair.0 with_first.now }
     requires small { IsSmall with_first.now }
-    requires before { HasUpdated instance.now (exchanging locations.now exchanged.0 exchanged.1) locations.now entries.old
+    requires before { HasUpdated instance.now (exchanging arrangement.now.locations.items exchanged.0 exchanged.1) arrangement.now.locations.items entries.old
         (pair.0 * instance.now.size + pair.1) }
-    ensures { HasUpdated instance.now (exchanging locations.now exchanged.0 exchanged.1) locations.now entries.new
+    ensures { HasUpdated instance.now (exchanging arrangement.now.locations.items exchanged.0 exchanged.1) arrangement.now.locations.items entries.new
         (pair.0 * instance.now.size + (pair.1 + 1)) }
 {
     let (u, v) = exchanged;
@@ -162,9 +169,9 @@ fn update_entry(
     let place = r * instance.size() + s;
     let old = entries[place];
     if share_one(exchanged, pair) {
-        entries[place] = difference_at(instance, locations, r, s);
+        entries[place] = change_at(instance, arrangement, r, s);
     } else {
-        let with_second = contrast_of(instance, locations, u, v, s);
+        let with_second = contrast_of(instance, arrangement, u, v, s);
         entries[place] = old + change(with_first, &with_second);
     }
 }
@@ -188,22 +195,27 @@ struct Contrast {
 }
 
 /// Those between facility `k` and the exchanged `u` and `v`.
-fn contrast_of(instance: &Instance, locations: &[u16], u: usize, v: usize, k: usize) -> Contrast
-    requires permutation { Permutes instance.now locations.now }
+fn contrast_of(
+    instance: &Instance,
+    arrangement: &Arrangement,
+    u: usize,
+    v: usize,
+    k: usize,
+) -> Contrast
+    requires arrangement { IsArrangement instance.now arrangement.now }
     requires first { u < instance.now.size }
     requires second { v < instance.now.size }
     requires other { k < instance.now.size }
-    ensures value { IsContrast instance.now locations.now u v k result }
+    ensures value { IsContrast instance.now arrangement.now.locations.items u v k result }
     ensures small { IsSmall result }
 {
-    let at_u = usize::from(locations[u]);
-    let at_v = usize::from(locations[v]);
-    let at_k = usize::from(locations[k]);
+    let there = rows_there(instance, arrangement, u, v);
+    let back = rows_back(instance, arrangement, u, v);
     Contrast {
-        flow: instance.a(u, k) - instance.a(v, k),
-        flow_back: instance.a(k, u) - instance.a(k, v),
-        distance: instance.b(at_u, at_k) - instance.b(at_v, at_k),
-        distance_back: instance.b(at_k, at_u) - instance.b(at_k, at_v),
+        flow: flow_contrast(&there, k),
+        flow_back: flow_contrast(&back, k),
+        distance: distance_contrast(&there, k),
+        distance_back: distance_contrast(&back, k),
     }
 }
 

@@ -6,6 +6,7 @@ ghost use Rattle.qap_cost.specs.Objective.{Permutes, cost_of};
 ghost use Rattle.qap_improve.specs.Walk.{IsWalk};
 ghost use Rattle.qap_cost.specs.Bijection.{IsPerm};
 
+use crate::arrangement::{Arrangement, arranged, exchange_two};
 use crate::choice::choose;
 use crate::descent::Improved;
 use crate::memory::Memory;
@@ -41,7 +42,7 @@ impl Hook for Always {
 /// Where a search stands, and the best that it has come by.
 #[derive(Drop)]
 struct Walk {
-    locations: Vec<u16>,
+    arrangement: Arrangement,
     cost: i128,
     differences: Differences,
     best: Vec<u16>,
@@ -88,11 +89,11 @@ fn begun(alloc: Global, instance: &Instance, start: &Perm) -> Result<Walk, Alloc
     ensures cost { IfOk result (λ walk. walk.best_cost ≡ cost_of instance.now start.now) }
 {
     let cost = cost(instance, start);
-    let locations = Vec::from_slice(alloc, start.locations())?;
+    let arrangement = arranged(alloc, instance, start.locations())?;
     let best = Vec::from_slice(alloc, start.locations())?;
-    let differences = Differences::new(alloc, instance, start.locations())?;
+    let differences = Differences::new(alloc, instance, &arrangement)?;
     Ok(Walk {
-        locations,
+        arrangement,
         cost,
         differences,
         best,
@@ -124,11 +125,16 @@ fn step(instance: &Instance, walk: &mut Walk, memory: &mut Memory)
     ensures size { memory.new.size ≡ instance.now.size }
 {
     let bar = walk.best_cost - walk.cost;
-    let chosen = choose(memory, &walk.locations, walk.differences.entries(), bar);
+    let chosen = choose(
+        memory,
+        &walk.arrangement.locations,
+        walk.differences.entries(),
+        bar,
+    );
     if let Some(choice) = chosen {
         let (r, s) = (choice.first, choice.second);
-        memory.leave(r, usize::from(walk.locations[r]));
-        memory.leave(s, usize::from(walk.locations[s]));
+        memory.leave(r, usize::from(walk.arrangement.locations[r]));
+        memory.leave(s, usize::from(walk.arrangement.locations[s]));
         make_exchange(instance, walk, r, s);
         keep_if_best(walk);
     }
@@ -143,18 +149,18 @@ fn make_exchange(instance: &Instance, walk: &mut Walk, r: usize, s: usize)
     ensures best_cost { walk.new.best_cost ≡ walk.old.best_cost }
 {
     walk.cost += walk.differences.entries()[r * instance.size() + s];
-    walk.locations.swap(r, s);
-    walk.differences.update(instance, &walk.locations, r, s);
+    exchange_two(instance, &mut walk.arrangement, r, s);
+    walk.differences.update(instance, &walk.arrangement, r, s);
 }
 
 /// Keeps where the walk stands if nothing as cheap is known.
 fn keep_if_best(walk: &mut Walk)
-    requires { length walk.old.best.items ≡ length walk.old.locations.items }
+    requires { length walk.old.best.items ≡ length walk.old.arrangement.locations.items }
     ensures walk { (I : Problem) → IsWalk I walk.old → IsWalk I walk.new }
     ensures no_dearer { walk.new.best_cost ≤ℤ walk.old.best_cost }
 {
     if walk.cost < walk.best_cost {
-        walk.best.copy_from_slice(&walk.locations);
+        walk.best.copy_from_slice(&walk.arrangement.locations);
         walk.best_cost = walk.cost;
     }
 }

@@ -1,26 +1,46 @@
-use Rattle.std.proofs.Common.{◌∙◌, ap₂}
+use Rattle.std.proofs.Common.{◌∙◌, ap₂, arith}
 use Rattle.std.specs.Prelude.{◌-ℤ◌}
-use Rattle.qap_cost.specs.Instance.{entry}
-use Rattle.qap_improve.proofs.Readings.{read_small, reads_difference}
+use Rattle.qap_improve.proofs.Readings.{reads_contrasted}
 use Rattle.qap_improve.proofs.table.contrast_of.Goals as goal
+
+pub flow_contrast-requires-clause-place : goal.flow_contrast-requires-clause-place
+flow_contrast-requires-clause-place c = let size = c.rows_there-there.ensures.rows.size in omega (arith, c.requires.other)
+
+pub flow_contrast-requires-2-clause-place : goal.flow_contrast-requires-2-clause-place
+flow_contrast-requires-2-clause-place c = let size = c.rows_back-back.ensures.rows.size in omega (arith, c.requires.other)
+
+pub distance_contrast-requires-clause-place : goal.distance_contrast-requires-clause-place
+distance_contrast-requires-clause-place c = let size = c.rows_there-there.ensures.rows.size in omega (arith, c.requires.other)
+
+pub distance_contrast-requires-2-clause-place : goal.distance_contrast-requires-2-clause-place
+distance_contrast-requires-2-clause-place c = let size = c.rows_back-back.ensures.rows.size in omega (arith, c.requires.other)
 
 pub returns-clause-value : goal.returns-clause-value
 returns-clause-value c =
-    let n = c.args.instance.now.size in
-    let b = c.args.instance.now.b in
+    let a = c.requires.arrangement in
+    let there = c.rows_there-there.ensures.rows in
+    let back = c.rows_back-back.ensures.rows in
+    let u = c.args.u in
+    let v = c.args.v in
+    let k = c.args.k in
+    let hu = c.requires.first in
+    let hv = c.requires.second in
+    let hk = c.requires.other in
     record {
-      flows = reads_difference c.a.result c.a-2.result c.a.ensures.range c.a-2.ensures.range ∙ ap₂ ◌-ℤ◌ c.a.ensures.value c.a-2.ensures.value;
-      flows_back = reads_difference c.a-3.result c.a-4.result c.a-3.ensures.range c.a-4.ensures.range ∙ ap₂ ◌-ℤ◌ c.a-3.ensures.value c.a-4.ensures.value;
-      distances = reads_difference c.b.result c.b-2.result c.b.ensures.range c.b-2.ensures.range
-          ∙ ap₂ ◌-ℤ◌ (c.b.ensures.value ∙ ap₂ (entry n b) c.from-at_u.ensures c.from-at_k.ensures) (c.b-2.ensures.value ∙ ap₂ (entry n b) c.from-at_v.ensures c.from-at_k.ensures);
-      distances_back = reads_difference c.b-3.result c.b-4.result c.b-3.ensures.range c.b-4.ensures.range
-          ∙ ap₂ ◌-ℤ◌ (c.b-3.ensures.value ∙ ap₂ (entry n b) c.from-at_k.ensures c.from-at_u.ensures) (c.b-4.ensures.value ∙ ap₂ (entry n b) c.from-at_k.ensures c.from-at_v.ensures);
+      flows = reads_contrasted c.flow_contrast.result c.flow_contrast.ensures.bounded ∙ c.flow_contrast.ensures.value
+          ∙ ap₂ ◌-ℤ◌ (there.flow_first.entries k hk ∙ a.flows.each u k hu hk) (there.flow_second.entries k hk ∙ a.flows.each v k hv hk);
+      flows_back = reads_contrasted c.flow_contrast-2.result c.flow_contrast-2.ensures.bounded ∙ c.flow_contrast-2.ensures.value
+          ∙ ap₂ ◌-ℤ◌ (back.flow_first.entries k hk ∙ a.flows_back.each u k hu hk) (back.flow_second.entries k hk ∙ a.flows_back.each v k hv hk);
+      distances = reads_contrasted c.distance_contrast.result c.distance_contrast.ensures.bounded ∙ c.distance_contrast.ensures.value
+          ∙ ap₂ ◌-ℤ◌ (there.distance_first.entries k hk ∙ a.distances.each u k hu hk) (there.distance_second.entries k hk ∙ a.distances.each v k hv hk);
+      distances_back = reads_contrasted c.distance_contrast-2.result c.distance_contrast-2.ensures.bounded ∙ c.distance_contrast-2.ensures.value
+          ∙ ap₂ ◌-ℤ◌ (back.distance_first.entries k hk ∙ a.distances_back.each u k hu hk) (back.distance_second.entries k hk ∙ a.distances_back.each v k hv hk);
     }
 
 pub returns-clause-small : goal.returns-clause-small
 returns-clause-small c = record {
-  flow = read_small c.a.result c.a-2.result c.a.ensures.range c.a-2.ensures.range;
-  flow_back = read_small c.a-3.result c.a-4.result c.a-3.ensures.range c.a-4.ensures.range;
-  distance = read_small c.b.result c.b-2.result c.b.ensures.range c.b-2.ensures.range;
-  distance_back = read_small c.b-3.result c.b-4.result c.b-3.ensures.range c.b-4.ensures.range;
+  flow = rw (reads_contrasted c.flow_contrast.result c.flow_contrast.ensures.bounded) c.flow_contrast.ensures.bounded;
+  flow_back = rw (reads_contrasted c.flow_contrast-2.result c.flow_contrast-2.ensures.bounded) c.flow_contrast-2.ensures.bounded;
+  distance = rw (reads_contrasted c.distance_contrast.result c.distance_contrast.ensures.bounded) c.distance_contrast.ensures.bounded;
+  distance_back = rw (reads_contrasted c.distance_contrast-2.result c.distance_contrast-2.ensures.bounded) c.distance_contrast-2.ensures.bounded;
 }

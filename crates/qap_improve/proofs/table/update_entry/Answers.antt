@@ -14,25 +14,25 @@ bounds-entries-place-else-share_one c =
 pub overflow_add-entries : goal.overflow_add-entries
 overflow_add-entries c =
     let place = c.args.pair.0 * c.size.result + c.args.pair.1 in
-    let bounded = old_bounded c.args.instance.now c.args.locations.now c.args.entries.now c.args.exchanged.0 c.args.exchanged.1 c.args.pair.0 c.args.pair.1 place
-    c.size.ensures.instance c.requires.permutation c.requires.two c.requires.first c.requires.second c.requires.row c.requires.column
+    let bounded = old_bounded c.args.instance.now c.args.arrangement.now.locations.items c.args.entries.now c.args.exchanged.0 c.args.exchanged.1 c.args.pair.0 c.args.pair.1 place
+    c.size.ensures.instance c.requires.arrangement.permutation c.requires.two c.requires.first c.requires.second c.requires.row c.requires.column
     (ap (λ n. c.args.pair.0 * n + c.args.pair.1) c.size.ensures.value) c.requires.before in
     fits_large_both (get_or c.args.entries.now place (pos 0)) c.change.result (omega (arith, bounded)) (omega (arith, c.change.ensures.bounded))
 
 pub returns-then-share_one : goal.returns-then-share_one
 returns-then-share_one c =
-    let q = c.args.locations.now in
+    let q = c.args.arrangement.now.locations.items in
     let r = c.args.pair.0 in
     let s = c.args.pair.1 in
-    HasUpdated-written c.args.instance.now (exchanging q c.args.exchanged.0 c.args.exchanged.1) q c.args.entries.now r s (r * c.size.result + s) _ c.difference_at.result
+    HasUpdated-written c.args.instance.now (exchanging q c.args.exchanged.0 c.args.exchanged.1) q c.args.entries.now r s (r * c.size.result + s) _ c.change_at.result
     c.requires.row c.requires.column (ap (λ n. r * n + s) c.size.ensures.value)
-    (reads_wide c.difference_at.result (omega (arith, c.difference_at.ensures.bounded)))
-    c.difference_at.ensures.value c.requires.before
+    (reads_wide c.change_at.result (omega (arith, c.change_at.ensures.bounded)))
+    c.change_at.ensures.value c.requires.before
 
 pub returns-else-share_one : goal.returns-else-share_one
 returns-else-share_one c =
     let I = c.args.instance.now in
-    let q = c.args.locations.now in
+    let q = c.args.arrangement.now.locations.items in
     let u = c.args.exchanged.0 in
     let v = c.args.exchanged.1 in
     let r = c.args.pair.0 in
@@ -43,13 +43,13 @@ returns-else-share_one c =
     let old = get_or c.args.entries.now place (pos 0) in
     let others = c.share_one.ensures c.if-share_one.false in
     let at = ap (λ n. r * n + s) c.size.ensures.value in
-    let bounded = old_bounded I q c.args.entries.now u v r s place c.size.ensures.instance c.requires.permutation c.requires.two c.requires.first c.requires.second
+    let bounded = old_bounded I q c.args.entries.now u v r s place c.size.ensures.instance c.requires.arrangement.permutation c.requires.two c.requires.first c.requires.second
     c.requires.row c.requires.column at c.requires.before in
     HasUpdated-written I (exchanging q u v) q c.args.entries.now r s place _ (old +ℤ change_of_difference x y)
     c.requires.row c.requires.column at
     (reads_large_both old c.change.result (omega (arith, bounded)) (omega (arith, c.change.ensures.bounded))
     ∙ ap (λ (z : ℤ). old +ℤ z) c.change.ensures.value)
-    (IsDifference-updated I q u v r s x y old c.requires.two c.requires.first c.requires.second c.requires.permutation.same_size
+    (IsDifference-updated I q u v r s x y old c.requires.two c.requires.first c.requires.second c.requires.arrangement.permutation.same_size
     (λ e. omega arith) (omega arith) c.requires.column others.0 others.1 others.2 others.3
     c.requires.contrast c.contrast_of-with_second.ensures.value
     (old_difference I (exchanging q u v) q c.args.entries.now r s place c.requires.row c.requires.column at c.requires.before))

@@ -9,5 +9,5 @@ overflow_sub-bar c =
     let walk = c.args.walk.now in
     let w = c.requires.walk in
     let best = cost_of-bounded I walk.best.items w.instance w.best in
-    let here = cost_of-bounded I walk.locations.items w.instance w.permutation in
+    let here = cost_of-bounded I walk.arrangement.locations.items w.instance w.arrangement.permutation in
     fits_large_less walk.best_cost walk.cost (rw (w.best_cost) (omega (arith, best))) (rw (w.cost) (omega (arith, here)))
