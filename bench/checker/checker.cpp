@@ -91,6 +91,8 @@ struct Checker {
     std::vector<char> taken;
     std::vector<std::vector<Entry>> a_rows;  // for each depth; empty until they are asked for
     std::vector<Entry> b_rows;
+    std::vector<std::vector<Entry>> parents;  // the rows of the locations at each depth, where they are made
+    std::vector<char> made;
     std::vector<Number> found;
 
     std::string_view line() {
@@ -123,8 +125,10 @@ struct Checker {
              const std::vector<char>& used, int i, Entry* row) {
         int n = instance.n;
         *row++ = matrix[i * n + i];
-        for (int h : placed) *row++ = matrix[i * n + h];
-        for (int h : placed) *row++ = matrix[h * n + i];
+        for (int h : placed) {
+                *row++ = matrix[i * n + h];
+                *row++ = matrix[h * n + i];
+            }
         const Ranked* rank = &ranked[i * n];
         for (int r = 0; r < n; ++r) {
             *row = rank[r].value;
@@ -172,12 +176,52 @@ struct Checker {
         return true;
     }
 
+    // The rows of the locations at depth d, where the last one placed is taken back.
+    void make_parent(int d) {
+        int n = instance.n, last = places[d];
+        std::vector<Entry>& rows = parents[d];
+        rows.resize((n - d) * (n + d) + n + 8);
+        places.pop_back();
+        taken[last] = 0;
+        for (int k = 0, c = 0; k < n; ++k)
+            if (!taken[k]) row(instance.b, instance.b_ranked, places, taken, k, &rows[c++ * (n + d)]);
+        places.push_back(last);
+        taken[last] = 1;
+        made[d] = 1;
+    }
+
+    // The rows of the locations from those of the parent, which stands at depth d.
+    void child_rows(int d) {
+        if (!made[d]) make_parent(d);
+        int n = instance.n, k0 = places[d], linear = 1 + 2 * d, rest = n - d - 2, width = n + d;
+        const Entry* in = parents[d].data();
+        Entry* out = b_rows.data();
+        for (int k = 0; k < n; ++k) {
+            if (taken[k] & (k != k0)) continue;
+            if (k != k0) {
+                Entry gone = instance.b[k * n + k0];
+                for (int t = 0; t < linear; t += 4) std::memcpy(out + t, in + t, 16);
+                out[linear] = gone;
+                out[linear + 1] = instance.b[k0 * n + k];
+                const Entry* from = in + linear;
+                Entry* to = out + linear + 2;
+                // Blocks of four may read and write past a row's end: what follows is written over, and the lists are longer.
+                for (int t = 0; t < rest; t += 4)
+                    for (int s = 0; s < 4; ++s) to[t + s] = from[t + s] > gone ? from[t + s] : from[t + s + 1];
+                out += width + 1;
+            }
+            in += width;
+        }
+    }
+
     // Judges the bound whose duals were found.
     void bound() {
         int n = instance.n, d = static_cast<int>(places.size()), m = n - d, width = n + d;
         if (static_cast<int>(found.size()) != 2 * m) refuse();
-        for (int k = 0, c = 0; k < n; ++k)
-            if (!taken[k]) row(instance.b, instance.b_ranked, places, taken, k, &b_rows[c++ * width]);
+        if (d == 0)
+            for (int k = 0; k < n; ++k) row(instance.b, instance.b_ranked, places, taken, k, &b_rows[k * width]);
+        else
+            child_rows(d - 1);
         if (!fits(facility_rows(d), m, width)) refuse();
         Wide value = 0;
         for (Number dual : found) value += dual;
@@ -194,6 +238,7 @@ struct Checker {
             return;
         }
         if (static_cast<int>(places.size()) == instance.n) refuse();
+        made[places.size()] = 0;
         for (int k = 0; k < instance.n; ++k) {
             if (taken[k]) continue;
             taken[k] = 1;
@@ -222,7 +267,9 @@ struct Checker {
         if (reached != cost) refuse();
         taken.assign(n, 0);
         a_rows.resize(n + 1);
-        b_rows.resize(2 * n * n + n);
+        b_rows.resize(2 * n * n + n + 16);
+        parents.resize(n + 1);
+        made.resize(n + 1);
         tree();
         if (line() != "end" || at != end) refuse();
     }

@@ -2,6 +2,8 @@
 use Rattle.std.proofs.Common.{◌≡◌, ◌++◌, ◌∷◌, [], ◌∙◌, ap, List, append_assoc}
 use Rattle.std.specs.Prelude.{ℤ}
 
-pub joined : (T R C A B D : List ℤ) (x : ℤ) → A ≡ T ++ x ∷ [] → B ≡ A ++ R → D ≡ B ++ C → D ≡ T ++ (((x ∷ []) ++ R) ++ C)
-joined T R C A B D x a b d =
-    d ∙ ap (λ l. l ++ C) (b ∙ ap (λ l. l ++ R) a) ∙ simp append_assoc
+pub joined : (T A D P : List ℤ) (x : ℤ) → A ≡ T ++ x ∷ [] → D ≡ A ++ P → D ≡ T ++ x ∷ P
+joined T A D P x a d = d ∙ ap (λ l. l ++ P) a ∙ append_assoc T (x ∷ []) P
+
+pub joined_pair : (T A D : List ℤ) (x y : ℤ) → A ≡ T ++ x ∷ [] → D ≡ A ++ y ∷ [] → D ≡ T ++ x ∷ y ∷ []
+joined_pair T A D x y a d = joined T A D (y ∷ []) x a d

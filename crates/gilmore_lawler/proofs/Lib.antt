@@ -1,7 +1,9 @@
+pub mod ChildRows
 pub mod Completions
 pub mod DotBlocks
 pub mod Dots
 pub mod FactorRows
+pub mod LeftOut
 pub mod Lists
 pub mod OneMatrix
 pub mod Rankings

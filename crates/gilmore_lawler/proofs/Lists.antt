@@ -8,6 +8,7 @@ use Rattle.std.proofs.lemmas.List.Edits.{swapped_from_swap}
 use Rattle.std.proofs.lemmas.List.Sorted.{IsPermutation-keeps, IsPermutation-swap, length_permutation}
 use Rattle.std.proofs.lemmas.Bool.{cases_eq, cond-true, cond-false, eq-eqb, ne_eqb}
 use Rattle.qap_cost.specs.Bijection.{IsBijection}
+use Rattle.gilmore_lawler.specs.Order.{IsArranged}
 
 -- the list f 0, .., f (n - 1)
 pub list_of : (ℕ → ℕ) → ℕ → List ℕ
@@ -96,14 +97,6 @@ exchanged_at-twice i j t =
         | inr o ↦ ap (exchanged_at i j) (exchanged_at-other i j t m o) ∙ exchanged_at-other i j t m o
       ]
     ]
-
--- ys has the numbers of xs in another order: at each place i that at order(i) of xs
-pub record IsArranged (xs ys : List ℤ) : Type 0 where
-  pub order : List ℕ
-  pub bijection : IsBijection order
-  pub count : length order ≡ length xs
-  pub same_length : length ys ≡ length xs
-  pub reads : (i : ℕ) → i < length xs → get_or ys i (pos 0) ≡ get_or xs (get_or order i 0) (pos 0)
 
 IsArranged-refl : (xs : List ℤ) → IsArranged xs xs
 IsArranged-refl xs = record {

@@ -122,10 +122,10 @@ filter-map f p (y ∷ ys) = filter-map_step f y (p (f y)) (filter p (map f ys)) 
 
 -- two lists that rise and have the same numbers are one
 
-abbrev Rises : List ℕ → Type 0
+abbrev pub Rises : List ℕ → Type 0
 Rises xs = (i j : ℕ) → i < j → j < length xs → get_or xs i 0 < get_or xs j 0
 
-abbrev IsWithin : List ℕ → List ℕ → Type 0
+abbrev pub IsWithin : List ℕ → List ℕ → Type 0
 IsWithin xs ys = (i : ℕ) → i < length xs → (j : ℕ) × (j < length ys) × (get_or ys j 0 ≡ get_or xs i 0)
 
 -- a number of a list that rises, but its first
@@ -138,7 +138,7 @@ first-le : (x y : ℕ) (ys : List ℕ) → Rises (y ∷ ys) → (j : ℕ) → j 
 first-le x y ys up zero below e = omega arith
 first-le x y ys up (suc j) below e = omega (arith, up 0 (suc j) (omega arith) below)
 
-same_rising : (xs ys : List ℕ) → Rises xs → Rises ys → IsWithin xs ys → IsWithin ys xs → xs ≡ ys
+pub same_rising : (xs ys : List ℕ) → Rises xs → Rises ys → IsWithin xs ys → IsWithin ys xs → xs ≡ ys
 same_rising [] [] up_x up_y there back = refl
 same_rising [] (y ∷ ys) up_x up_y there back = absurd (omega (arith, (back 0 (omega arith)).1))
 same_rising (x ∷ xs) [] up_x up_y there back = absurd (omega (arith, (there 0 (omega arith)).1))
@@ -161,7 +161,7 @@ same_picks p n xs ys x y =
     (λ i h. x.all (get_or ys i 0) (y.within i h) (y.passes i h))
 
 -- the places of the others rise
-skip-rises : (r i j : ℕ) → i < j → skip r i < skip r j
+pub skip-rises : (r i j : ℕ) → i < j → skip r i < skip r j
 skip-rises r i j h =
     elim (cases_lt i r) [
       | inl a ↦ elim (cases_lt j r) [

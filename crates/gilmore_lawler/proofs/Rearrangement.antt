@@ -17,9 +17,9 @@ use Rattle.qap_cost.specs.Range.{AllWithin}
 use Rattle.qap_cost.specs.Row.{product_at}
 use Rattle.qap_cost.proofs.Sums.{*ℤ-+ℤ, sum_to-same, sum_to-add, sum_to-monotone}
 use Rattle.qap_cost.proofs.Bijections.{sum_to-in_order, inverse_of, inverse-IsBijection}
-use Rattle.gilmore_lawler.specs.Order.{IsAscending, IsDescending}
+use Rattle.gilmore_lawler.specs.Order.{IsArranged, IsAscending, IsDescending}
 use Rattle.gilmore_lawler.specs.LeastProduct.{paired_sum, IsLeastProduct}
-use Rattle.gilmore_lawler.proofs.Lists.{IsArranged, IsArranged-from_permutation, composed, length-composed, get_or-composed, IsBijection-composed}
+use Rattle.gilmore_lawler.proofs.Lists.{IsArranged-from_permutation, composed, length-composed, get_or-composed, IsBijection-composed}
 
 -- an array in which crossing two rows and two columns never lowers their sum (Monge 1781; Hoffman 1963)
 pub record IsMonge (f : ℕ → ℕ → ℤ) (n : ℕ) : Type 0 where

@@ -51,6 +51,14 @@ skip-injective r i j e =
       ]
     ]
 
+-- of two that are left out, either may go first
+pub skip-skip : (a b j : ℕ) → a ≤ b → skip (suc b) (skip a j) ≡ skip a (skip b j)
+unfolding skip
+skip-skip zero b j h = refl
+skip-skip (suc a) zero j h = absurd (omega arith)
+skip-skip (suc a) (suc b) zero h = refl
+skip-skip (suc a) (suc b) (suc j) h = ap suc (skip-skip a b j (omega arith))
+
 pub skip-within : (r j n : ℕ) → j < n → skip r j < suc n
 skip-within r j n h =
     elim (cases_lt j r) [

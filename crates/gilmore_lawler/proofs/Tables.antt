@@ -1,20 +1,19 @@
 -- Lists of rows of one length: a row more, and a row read; and numbers that stay in the range of entries.
 use Rattle.std.proofs.Common.{◌≡◌, ℕ, suc, ◌+◌, ◌-◌, ◌*◌, ◌/◌, ◌%◌, ◌<◌, ◌≤◌, ◌++◌, ◌∷◌, [], refl, sym, ◌∙◌, ap, subst, arith, List, map, take, drop, length, get_or, inl, inr, append_assoc}
 use Rattle.std.specs.Prelude.{ℤ, pos, remove, unsigned_abs}
-use Rattle.std.specs.List.Sorted.{IsPermutation}
+use Rattle.std.specs.List.{flat_map}
 use Rattle.std.proofs.lemmas.Bool.{cases_lt, cases_eq}
 use Rattle.std.proofs.lemmas.Nat.{mul-le, mod_below}
 use Rattle.std.proofs.Math.Nat.{div-add-mod, mul_comm}
 use Rattle.std.proofs.lemmas.List.{length-append, length-map, length-drop, length-take-le, drop-append-le, take-append-le, drop_at, take_all, get_or_append_left, get_or-append_right, get_or-map, get_or_past, get_or-take, get_or-drop}
-use Rattle.std.proofs.lemmas.List.Sorted.{length_permutation}
 use Rattle.qap_cost.specs.Instance.{Problem, IsInstance, entry}
 use Rattle.qap_cost.specs.Range.{AllInRange, AllWithin}
 use Rattle.gilmore_lawler.specs.declared.side.Side.{Side}
 use Rattle.gilmore_lawler.specs.declared.side.Side.TheVariants.{Flow, Distance}
 use Rattle.gilmore_lawler.specs.ReducedMatrix.{others}
-use Rattle.gilmore_lawler.specs.Table.{segment, IsTable, matrix_of, IsOrdered, linear_row, IsFactorRow}
+use Rattle.gilmore_lawler.specs.Table.{segment, IsTable, matrix_of, IsOrdered, pair_with, linear_row, IsFactorRow}
 use Rattle.gilmore_lawler.proofs.OneMatrix.{positive_root, row_below}
-use Rattle.gilmore_lawler.proofs.Lists.{IsArranged-from_permutation}
+use Rattle.gilmore_lawler.specs.Order.{IsArranged}
 use Rattle.gilmore_lawler.proofs.Rearrangement.{AllWithin-arranged}
 use Rattle.gilmore_lawler.proofs.Skips.{length-remove}
 
@@ -93,13 +92,19 @@ within-read l xs k h =
       | inr more ↦ subst (λ (z : ℤ). unsigned_abs z ≤ l) (sym (get_or_past xs k (pos 0) (omega arith))) (omega arith)
     ]
 
+AllWithin-pairs : (l n : ℕ) (matrix : List ℤ) (placed : List ℕ) (i : ℕ) → AllWithin l matrix → AllWithin l (flat_map (pair_with n matrix i) placed)
+AllWithin-pairs l n matrix [] i h = AllWithin-none l
+AllWithin-pairs l n matrix (g ∷ placed) i h =
+    let there : AllWithin l (entry n matrix i g ∷ []) = AllWithin-map l (entry n matrix i) (g ∷ []) (λ k. within-read l matrix (i * n + k) h) in
+    let back : AllWithin l (entry n matrix g i ∷ []) = AllWithin-map l (λ k. entry n matrix k i) (g ∷ []) (λ k. within-read l matrix (k * n + i) h) in
+    AllWithin-append l (entry n matrix i g ∷ entry n matrix g i ∷ []) (flat_map (pair_with n matrix i) placed)
+    (AllWithin-append l (entry n matrix i g ∷ []) (entry n matrix g i ∷ []) there back)
+    (AllWithin-pairs l n matrix placed i h)
+
 AllWithin-linear_row : (l n : ℕ) (matrix : List ℤ) (placed : List ℕ) (i : ℕ) → AllWithin l matrix → AllWithin l (linear_row n matrix placed i)
 AllWithin-linear_row l n matrix placed i h =
     let own : AllWithin l (entry n matrix i i ∷ []) = AllWithin-map l (λ k. entry n matrix i k) (i ∷ []) (λ k. within-read l matrix (i * n + k) h) in
-    AllWithin-append l ((entry n matrix i i ∷ []) ++ map (entry n matrix i) placed) (map (λ g. entry n matrix g i) placed)
-    (AllWithin-append l (entry n matrix i i ∷ []) (map (entry n matrix i) placed) own
-    (AllWithin-map l (entry n matrix i) placed (λ k. within-read l matrix (i * n + k) h)))
-    (AllWithin-map l (λ g. entry n matrix g i) placed (λ k. within-read l matrix (k * n + i) h))
+    AllWithin-append l (entry n matrix i i ∷ []) (flat_map (pair_with n matrix i) placed) own (AllWithin-pairs l n matrix placed i h)
 
 AllWithin-others : (l n : ℕ) (matrix : List ℤ) (free : List ℕ) (r : ℕ) → AllWithin l matrix → AllWithin l (others n matrix free r)
 AllWithin-others l n matrix free r h =
@@ -125,15 +130,13 @@ AllWithin-entries l n matrix count h = record {
       subst (λ (m : ℕ). unsigned_abs (get_or matrix m (pos 0)) ≤ l) at (h i j (row_below n i j k inside at) (mod_below k n (positive_root n k inside)));
 }
 
+length-pairs : (n : ℕ) (matrix : List ℤ) (placed : List ℕ) (i : ℕ) → length (flat_map (pair_with n matrix i) placed) ≡ 2 * length placed
+length-pairs n matrix [] i = refl
+length-pairs n matrix (h ∷ placed) i =
+    omega (arith, length-append (pair_with n matrix i h) (flat_map (pair_with n matrix i) placed), length-pairs n matrix placed i)
+
 pub length-linear_row : (n : ℕ) (matrix : List ℤ) (placed : List ℕ) (i : ℕ) → length (linear_row n matrix placed i) ≡ 1 + 2 * length placed
-length-linear_row n matrix placed i =
-    omega (
-      arith,
-      length-append ((entry n matrix i i ∷ []) ++ map (entry n matrix i) placed) (map (λ h. entry n matrix h i) placed),
-      length-append (entry n matrix i i ∷ []) (map (entry n matrix i) placed),
-      length-map placed (entry n matrix i),
-      length-map placed (λ h. entry n matrix h i),
-    )
+length-linear_row n matrix placed i = omega (arith, length-pairs n matrix placed i)
 
 pub length-others : (n : ℕ) (matrix : List ℤ) (free : List ℕ) (r : ℕ) → r < length free → length (others n matrix free r) + 1 ≡ length free
 length-others n matrix free r h =
@@ -150,7 +153,7 @@ HasFactors-none I side placed free = record {
   range = λ l h. AllWithin-none l;
 }
 
-pub HasFactors-more : (I : Problem) (side : Side) (placed free : List ℕ) (r i : ℕ) (table linear sorted new : List ℤ) → HasFactors I side placed free r table → r < length free → i ≡ get_or free r 0 → linear ≡ table ++ linear_row I.size (matrix_of I side) placed i → IsPermutation (others I.size (matrix_of I side) free r) sorted → IsOrdered side sorted → new ≡ linear ++ sorted → HasFactors I side placed free (r + 1) new
+pub HasFactors-more : (I : Problem) (side : Side) (placed free : List ℕ) (r i : ℕ) (table linear sorted new : List ℤ) → HasFactors I side placed free r table → r < length free → i ≡ get_or free r 0 → linear ≡ table ++ linear_row I.size (matrix_of I side) placed i → IsArranged (others I.size (matrix_of I side) free r) sorted → IsOrdered side sorted → new ≡ linear ++ sorted → HasFactors I side placed free (r + 1) new
 HasFactors-more I side placed free r i table linear sorted new h below e first moved ordered whole =
     let n = I.size in
     let matrix : List ℤ = matrix_of I side in
@@ -164,14 +167,14 @@ HasFactors-more I side placed free r i table linear sorted new h below e first m
       arith,
       length-append (linear_row n matrix placed (get_or free r 0)) sorted,
       length-linear_row n matrix placed (get_or free r 0),
-      length_permutation (others n matrix free r) sorted moved,
+      moved.same_length,
       length-others n matrix free r below,
     ) in
     let here : IsFactorRow I side placed free r row = record { sorted = sorted; moved = moved; ordered = ordered; is = refl } in
     let range : (l : ℕ) → AllWithin l matrix → AllWithin l row = λ l within.
     AllWithin-append l (linear_row n matrix placed (get_or free r 0)) sorted
     (AllWithin-linear_row l n matrix placed (get_or free r 0) within)
-    (AllWithin-arranged l (others n matrix free r) sorted (IsArranged-from_permutation (others n matrix free r) sorted moved) (AllWithin-others l n matrix free r within)) in
+    (AllWithin-arranged l (others n matrix free r) sorted moved (AllWithin-others l n matrix free r within)) in
     subst (HasFactors I side placed free (r + 1)) (sym new_is) (record {
       rows = IsTable-more (2 * length placed + length free) r (IsFactorRow I side placed free) table row h.rows width here;
       range = λ l within. AllWithin-append l table row (h.range l within) (range l within);

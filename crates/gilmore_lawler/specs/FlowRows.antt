@@ -1,5 +1,6 @@
 -- What the nodes at which the same facilities are placed have in common: the rows of the free facilities.
-use Rattle.std.specs.Prelude.{ℕ, ◌*◌, ◌+◌, Bool, IsTrue, List, length, ℤ}
+use Rattle.std.specs.Prelude.{◌≡◌, ℕ, ◌*◌, ◌+◌, Bool, IsTrue, List, length, ℤ}
+use Rattle.qap_cost.specs.Bijection.{AreDifferent}
 use Rattle.qap_cost.specs.Instance.{Problem}
 use Rattle.qap_cost.specs.Placement.{free_below}
 use Rattle.qap_cost.specs.Range.{AllWithin}
@@ -27,3 +28,9 @@ pub record HasDistanceRows (I : Problem) (places : List ℕ) (rows : List ℤ) :
 -- the rows are these, where it is said that they were made
 pub record KeepsFlowRows (made : Bool) (s : FlowSide) (rows : List ℤ) : Type 0 where
   pub are_those : IsTrue made → HasFlowRows s rows
+
+-- these different locations are taken, those are free, and these are the rows of the distances then
+pub record HasLocationRows (I : Problem) (places free : List ℕ) (rows : List ℤ) : Type 0 where
+  pub different : AreDifferent I.size places
+  pub are_free : free ≡ free_below I.size places
+  pub are_theirs : HasDistanceRows I places rows

@@ -1,12 +1,11 @@
 -- Lists that hold rows of one length, and the rows from which the entries of a reduced matrix are products.
 use Rattle.std.specs.Prelude.{◌≡◌, ℕ, ◌*◌, ◌<◌, ◌++◌, ◌∷◌, [], List, length, map, take, drop, ℤ, pos, ◌*ℤ◌, slice_index, slice_index_or}
-use Rattle.std.specs.List.{range_with_len}
-use Rattle.std.specs.List.Sorted.{IsPermutation}
+use Rattle.std.specs.List.{flat_map, range_with_len}
 use Rattle.qap_cost.specs.Sum.{sum_to}
 use Rattle.qap_cost.specs.Instance.{Problem, entry}
 use Rattle.gilmore_lawler.specs.declared.side.Side.{Side}
 use Rattle.gilmore_lawler.specs.declared.side.Side.TheVariants.{Flow, Distance}
-use Rattle.gilmore_lawler.specs.Order.{IsAscending, IsDescending}
+use Rattle.gilmore_lawler.specs.Order.{IsArranged, IsAscending, IsDescending}
 use Rattle.gilmore_lawler.specs.ReducedMatrix.{others}
 
 -- row r of a list of rows of this length
@@ -35,14 +34,18 @@ abbrev pub IsOrdered : Side → List ℤ → Type 0
 IsOrdered Flow xs = IsAscending xs
 IsOrdered Distance xs = IsDescending xs
 
--- the entry of i with itself, with each placed one, and of each placed one with it
+-- the entry of i with another one, and of that one with it
+abbrev pub pair_with : ℕ → List ℤ → ℕ → ℕ → List ℤ
+pair_with n matrix i h = entry n matrix i h ∷ entry n matrix h i ∷ []
+
+-- the entry of i with itself, and the pairs with each placed one in turn
 abbrev pub linear_row : ℕ → List ℤ → List ℕ → ℕ → List ℤ
-linear_row n matrix placed i = ((entry n matrix i i ∷ []) ++ map (entry n matrix i) placed) ++ map (λ h. entry n matrix h i) placed
+linear_row n matrix placed i = entry n matrix i i ∷ flat_map (pair_with n matrix i) placed
 
 -- the row of the free one of number r: with itself and the placed ones, and then, in order, with the other free ones
 pub record IsFactorRow (I : Problem) (side : Side) (placed free : List ℕ) (r : ℕ) (row : List ℤ) : Type 0 where
   pub sorted : List ℤ
-  pub moved : IsPermutation (others I.size (matrix_of I side) free r) sorted
+  pub moved : IsArranged (others I.size (matrix_of I side) free r) sorted
   pub ordered : IsOrdered side sorted
   pub is : row ≡ linear_row I.size (matrix_of I side) placed (slice_index free r) ++ sorted
 

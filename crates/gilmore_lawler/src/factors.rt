@@ -1,19 +1,20 @@
 //! The rows from which the entries of a reduced matrix are products.
 
 ghost use Rattle.std.specs.Prelude.{◌≡◌, ◌<◌, ◌≤◌, ◌==◌, ◌+◌, ◌*◌, ◌++◌, ◌∷◌, [], false, length, map, take, OnOk, slice_index, slice_index_or, ℕ};
+ghost use Rattle.std.specs.List.{flat_map};
 ghost use Rattle.std.specs.List.Sorted.{IsStrictlyIncreasing};
 ghost use Rattle.qap_cost.specs.Instance.{entry, IsInstance};
 ghost use Rattle.qap_cost.specs.Range.{AllWithin};
 ghost use Rattle.gilmore_lawler.specs.Ranking.{IsRankings};
-ghost use Rattle.gilmore_lawler.specs.Table.{IsTable, AllBelow, matrix_of, linear_row, IsFactorRow};
+ghost use Rattle.gilmore_lawler.specs.Table.{IsTable, AllBelow, matrix_of, pair_with, linear_row, IsFactorRow};
 
 use crate::ranking::{Ranked, pick_others, ranking_of};
-use crate::side::{Side, entry_at, narrow, row_of};
+use crate::side::{Side, entry_at, narrow};
 use qap_cost::{Instance, marked};
 use std::alloc::AllocError;
 
-/// Makes `table` a row for each free facility, or for each free location: its entry with itself, its entries with the
-/// placed ones and theirs with it, and then its entries with the other free ones in order.
+/// Makes `table` a row for each free facility, or for each free location: its entry with itself, its entries with each
+/// placed one and that one's with it, and then its entries with the other free ones in order.
 ///
 /// `rankings` are the rows of the matrix in order of their entries, and `free` ascends.
 pub fn factor_rows(
@@ -71,8 +72,7 @@ fn fill_rows(
     end
 }
 
-/// Writes the entry of `i` with itself, those of `i` with the placed ones, and those of the placed ones with `i`, from this
-/// place on, and tells the place behind them.
+/// Writes the entry of `i` with itself, and the pairs with each placed one, from this place on, and tells the place behind them.
 fn write_linear(
     instance: &Instance,
     side: Side,
@@ -91,8 +91,52 @@ fn write_linear(
     let own = usize::from(i);
     let with_itself = narrow(entry_at(instance, side, own, own));
     let first = write_one(with_itself, numbers, start);
-    let middle = write_row(instance, side, own, placed, numbers, first);
-    write_column(instance, side, placed, own, numbers, middle)
+    write_pairs(instance, side, own, placed, numbers, first)
+}
+
+/// Writes the entries of `i` with each of these and theirs with it from this place on, and tells the place behind them.
+fn write_pairs(
+    instance: &Instance,
+    side: Side,
+    i: usize,
+    others: &[u16],
+    numbers: &mut [i32],
+    start: usize,
+) -> usize
+    requires row { i < instance.now.size }
+    requires others { AllBelow instance.now.size others.now }
+    requires room { start + 2 * length others.now ≤ length numbers.old }
+    ensures end { result ≡ start + 2 * length others.now }
+    ensures count { length numbers.new ≡ length numbers.old }
+    ensures written { take result numbers.new ≡ take start numbers.old ++ flat_map (pair_with instance.now.size (matrix_of instance.now side) i) others.now }
+{
+    let mut place = start;
+    for &other in others {
+        place = write_pair(instance, side, i, usize::from(other), numbers, place);
+    }
+    place
+}
+
+/// Writes the entry of `i` with another one, and of that one with it, at this place, and tells the place behind them.
+pub(crate) fn write_pair(
+    instance: &Instance,
+    side: Side,
+    i: usize,
+    other: usize,
+    numbers: &mut [i32],
+    start: usize,
+) -> usize
+    requires row { i < instance.now.size }
+    requires other { other < instance.now.size }
+    requires room { start + 2 ≤ length numbers.old }
+    ensures end { result ≡ start + 2 }
+    ensures count { length numbers.new ≡ length numbers.old }
+    ensures written { take result numbers.new ≡ take start numbers.old ++ pair_with instance.now.size (matrix_of instance.now side) i other }
+{
+    let there = narrow(entry_at(instance, side, i, other));
+    let back = narrow(entry_at(instance, side, other, i));
+    let middle = write_one(there, numbers, start);
+    write_one(back, numbers, middle)
 }
 
 /// Writes one number at this place, and tells the place behind it.
@@ -104,53 +148,4 @@ fn write_one(number: i32, numbers: &mut [i32], start: usize) -> usize
 {
     numbers[start] = number;
     start + 1
-}
-
-/// Writes the entries of row `i` in these columns from this place on, and tells the place behind them.
-fn write_row(
-    instance: &Instance,
-    side: Side,
-    i: usize,
-    columns: &[u16],
-    numbers: &mut [i32],
-    start: usize,
-) -> usize
-    requires row { i < instance.now.size }
-    requires columns { AllBelow instance.now.size columns.now }
-    requires room { start + length columns.now ≤ length numbers.old }
-    ensures end { result ≡ start + length columns.now }
-    ensures count { length numbers.new ≡ length numbers.old }
-    ensures written { take result numbers.new ≡ take start numbers.old ++ map (entry instance.now.size (matrix_of instance.now side) i) columns.now }
-{
-    let row = row_of(instance, side, i);
-    let mut place = start;
-    for &column in columns {
-        numbers[place] = narrow(row[usize::from(column)]);
-        place += 1;
-    }
-    place
-}
-
-/// Writes the entries of column `i` in these rows from this place on, and tells the place behind them.
-fn write_column(
-    instance: &Instance,
-    side: Side,
-    rows: &[u16],
-    i: usize,
-    numbers: &mut [i32],
-    start: usize,
-) -> usize
-    requires column { i < instance.now.size }
-    requires rows { AllBelow instance.now.size rows.now }
-    requires room { start + length rows.now ≤ length numbers.old }
-    ensures end { result ≡ start + length rows.now }
-    ensures count { length numbers.new ≡ length numbers.old }
-    ensures written { take result numbers.new ≡ take start numbers.old ++ map (λ (h : ℕ). entry instance.now.size (matrix_of instance.now side) h i) rows.now }
-{
-    let mut place = start;
-    for &row in rows {
-        numbers[place] = narrow(entry_at(instance, side, usize::from(row), i));
-        place += 1;
-    }
-    place
 }

@@ -1,24 +1,28 @@
 //! The rows of the flows, kept for all nodes at which the same facilities are placed.
 
 ghost use Rattle.std.specs.Prelude.{◌≡◌, ◌-◌, ◌*◌, ◌^◌, length, IfOk};
+ghost use Rattle.qap_cost.specs.Bijection.{AreDifferent};
 ghost use Rattle.qap_cost.specs.Instance.{IsInstance};
 ghost use Rattle.qap_cost.specs.Range.{AllLimited, AllWithin};
 ghost use Rattle.gilmore_lawler.specs.Duals.{TellsFit};
-ghost use Rattle.gilmore_lawler.specs.FlowRows.{FlowSide, HasFlowRows};
+ghost use Rattle.gilmore_lawler.specs.FlowRows.{FlowSide, HasFlowRows, HasLocationRows};
 ghost use Rattle.gilmore_lawler.specs.ReducedMatrix.{IsReduced};
 
+use crate::child_rows::LocationRows;
 use crate::reduction::{RankedInstance, Workspace};
 use qap_cost::{Instance, Matrix, Partial};
 use std::alloc::AllocError;
 use std::marker::Model;
 
 /// The rows of the flows between facilities where certain ones are placed: what the reduced matrices of all nodes that place
-/// these have in common, wherever they place them.
+/// these have in common, wherever they place them; and the rows of the distances but for the last location, which siblings have in
+/// common too.
 #[derive(Drop)]
 pub struct FlowRows<'a> {
     ranked: &'a RankedInstance,
     facilities: Vec<u16>,
     rows: Vec<i32>,
+    before: LocationRows,
 }
 
 impl<'a> Model for FlowRows<'a> {
@@ -26,7 +30,8 @@ impl<'a> Model for FlowRows<'a> {
 
     ghost view = { λ r. record { instance = r.ranked.now; facilities = r.facilities.items } };
 
-    ghost invariant = { λ r. HasFlowRows (record { instance = r.ranked.now; facilities = r.facilities.items }) r.rows.items };
+    ghost invariant = { λ r. HasFlowRows (record { instance = r.ranked.now; facilities = r.facilities.items }) r.rows.items
+        × HasLocationRows r.ranked.now r.before.places.items r.before.free.items r.before.rows.items };
 }
 
 impl<'a> FlowRows<'a> {
@@ -39,10 +44,12 @@ impl<'a> FlowRows<'a> {
         let facilities = Vec::from_slice(alloc, node.facilities())?;
         let mut rows = Vec::new(alloc);
         ranked.make_flow_rows(node, &mut rows)?;
+        let before = ranked.location_rows(but_last(node))?;
         Ok(FlowRows {
             ranked,
             facilities,
             rows,
+            before,
         })
     }
 
@@ -62,8 +69,9 @@ impl<'a> FlowRows<'a> {
         ensures size { IfOk result (λ M. M.size ≡ node.now.size - length node.now.facilities) }
         ensures bounded { IfOk result (λ M. AllWithin (512 * 10 ^ 18) M.entries) }
     {
-        self.ranked
-            .reduced_by(&self.rows, node, &mut workspace.distances)
+        let distances = &mut workspace.distances;
+        self.ranked.make_rows_behind(&self.before, node, distances)?;
+        self.ranked.reduced_by(&self.rows, &distances.rows, node)
     }
 
     /// Whether `(u, v)` fits the reduced matrix of a node that places these facilities: as `fits` tells it of the matrix, which
@@ -83,7 +91,16 @@ impl<'a> FlowRows<'a> {
         requires v_range { AllLimited v.now }
         ensures { IfOk result (TellsFit self.now.instance node.now u.now v.now) }
     {
-        self.ranked
-            .fit_by(&self.rows, node, &mut workspace.distances, u, v)
+        let distances = &mut workspace.distances;
+        self.ranked.make_rows_behind(&self.before, node, distances)?;
+        Ok(self.ranked.fit_by(&self.rows, &distances.rows, node, u, v))
     }
+}
+
+/// The locations of the node but the last, which its siblings share; none where it has none.
+fn but_last(node: &Partial) -> &[u16]
+    ensures { AreDifferent node.now.size result.now }
+{
+    let places = node.places();
+    &places[..places.len().saturating_sub(1)]
 }

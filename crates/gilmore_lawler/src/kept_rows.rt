@@ -73,8 +73,9 @@ impl KeptRows {
             &mut self.a_rows,
             &mut self.are_made,
         )?;
+        self.ranked.make_distance_rows(node, &mut self.distances)?;
         self.ranked
-            .reduced_by(&self.a_rows, node, &mut self.distances)
+            .reduced_by(&self.a_rows, &self.distances.rows, node)
     }
 }
 

@@ -3,12 +3,14 @@
 
 mod blocks;
 mod bound;
+mod child_rows;
 mod duals;
 mod factors;
 mod fitting;
 mod flow_rows;
 mod free;
 mod kept_rows;
+mod left_out;
 mod pairing;
 mod ranking;
 mod reduction;

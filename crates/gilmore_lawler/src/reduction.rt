@@ -1,16 +1,18 @@
 //! The reduced matrix of a node.
 
 ghost use Rattle.std.specs.Prelude.{◌≡◌, ◌<◌, ◌≤◌, ◌*◌, ◌-◌, ◌^◌, ◌++◌, length, IfOk, IsTrue, OnOk};
+ghost use Rattle.qap_cost.specs.Bijection.{AreDifferent};
 ghost use Rattle.qap_cost.specs.Instance.{IsInstance, Problem};
 ghost use Rattle.qap_cost.specs.Range.{AllInRange, AllLimited, AllWithin};
 ghost use Rattle.gilmore_lawler.specs.Duals.{TellsFit};
-ghost use Rattle.gilmore_lawler.specs.FlowRows.{HasDistanceRows, HasFlowRows};
+ghost use Rattle.gilmore_lawler.specs.FlowRows.{HasDistanceRows, HasFlowRows, HasLocationRows};
 ghost use Rattle.gilmore_lawler.specs.Ranking.{HasRankings, IsRankings};
 ghost use Rattle.gilmore_lawler.specs.ReducedMatrix.{IsReduced};
 ghost use Rattle.gilmore_lawler.specs.Small.{AllSmall};
 ghost use Rattle.gilmore_lawler.specs.Table.{IsTable, IsProductRow, product_row};
 ghost use Rattle.gilmore_lawler.specs.declared.side.Side.TheVariants.{Distance};
 
+use crate::child_rows::{LocationRows, child_rows, place_behind};
 use crate::factors::factor_rows;
 use crate::fitting::{product_with, products_fit};
 use crate::free::list_free;
@@ -81,7 +83,8 @@ impl RankedInstance {
         ensures bounded { IfOk result (λ M. AllWithin (512 * 10 ^ 18) M.entries) }
     {
         self.make_flow_rows(node, &mut workspace.a_rows)?;
-        self.reduced_by(&workspace.a_rows, node, &mut workspace.distances)
+        self.make_distance_rows(node, &mut workspace.distances)?;
+        self.reduced_by(&workspace.a_rows, &workspace.distances.rows, node)
     }
 
     /// Where the memory of its rows comes from.
@@ -110,7 +113,7 @@ impl RankedInstance {
     }
 
     /// Makes the rows those of the distances for each node that takes the locations of this one.
-    fn make_distance_rows(
+    pub(crate) fn make_distance_rows(
         &self,
         node: &Partial,
         distances: &mut DistanceRows,
@@ -129,52 +132,82 @@ impl RankedInstance {
         )
     }
 
-    /// The reduced matrix of the node, from its rows of the flows; those of the distances are made.
+    /// The same from the rows where one location fewer is taken, if these are such.
+    pub(crate) fn make_rows_behind(
+        &self,
+        before: &LocationRows,
+        node: &Partial,
+        distances: &mut DistanceRows,
+    ) -> Result<(), AllocError>
+        requires size { self.now.size ≡ node.now.size }
+        requires before { HasLocationRows self.now before.now.places.items before.now.free.items before.now.rows.items }
+        ensures { OnOk result (HasDistanceRows self.now node.now.places distances.new.rows.items) }
+    {
+        let LocationRows { places, free, rows } = before;
+        match place_behind(places, free, node.places()) {
+            Some(s) => child_rows(&self.instance, places, free, rows, s, &mut distances.rows),
+            None => self.make_distance_rows(node, distances),
+        }
+    }
+
+    /// The rows of the distances where these locations are taken, with the locations.
+    pub(crate) fn location_rows(&self, places: &[u16]) -> Result<LocationRows, AllocError>
+        requires { AreDifferent self.now.size places.now }
+        ensures { IfOk result (λ r. HasLocationRows self.now r.places.items r.free.items r.rows.items) }
+    {
+        let alloc = self.allocator();
+        let mut free = Vec::new(alloc);
+        list_free(self.instance.size(), places, &mut free)?;
+        let mut rows = Vec::new(alloc);
+        factor_rows(
+            &self.instance,
+            Side::Distance,
+            &self.b_rankings,
+            places,
+            &free,
+            &mut rows,
+        )?;
+        let places = Vec::from_slice(alloc, places)?;
+        Ok(LocationRows { places, free, rows })
+    }
+
+    /// The reduced matrix of the node, from its rows of both sides.
     pub(crate) fn reduced_by(
         &self,
         a_rows: &[i32],
+        b_rows: &[i32],
         node: &Partial,
-        distances: &mut DistanceRows,
     ) -> Result<Matrix, AllocError>
         requires size { self.now.size ≡ node.now.size }
-        requires rows { HasFlowRows (record { instance = self.now; facilities = node.now.facilities }) a_rows.now }
+        requires a_rows { HasFlowRows (record { instance = self.now; facilities = node.now.facilities }) a_rows.now }
+        requires b_rows { HasDistanceRows self.now node.now.places b_rows.now }
         ensures reduced { IfOk result (IsReduced self.now node.now) }
         ensures size { IfOk result (λ M. M.size ≡ node.now.size - length node.now.facilities) }
         ensures bounded { IfOk result (λ M. AllWithin (512 * 10 ^ 18) M.entries) }
     {
-        self.make_distance_rows(node, distances)?;
-        reduced_from(
-            self.allocator(),
-            &self.instance,
-            a_rows,
-            &distances.rows,
-            self.are_small,
-            node,
-        )
+        let alloc = self.allocator();
+        reduced_from(alloc, &self.instance, a_rows, b_rows, self.are_small, node)
     }
 
-    /// Whether `(u, v)` fits the reduced matrix of the node, from its rows of the flows; those of the distances are made, and
-    /// no matrix.
+    /// Whether `(u, v)` fits the reduced matrix of the node, from its rows of both sides; the matrix isn't made.
     pub(crate) fn fit_by(
         &self,
         a_rows: &[i32],
+        b_rows: &[i32],
         node: &Partial,
-        distances: &mut DistanceRows,
         u: &[i128],
         v: &[i128],
-    ) -> Result<bool, AllocError>
+    ) -> bool
         requires size { self.now.size ≡ node.now.size }
-        requires rows { HasFlowRows (record { instance = self.now; facilities = node.now.facilities }) a_rows.now }
+        requires a_rows { HasFlowRows (record { instance = self.now; facilities = node.now.facilities }) a_rows.now }
+        requires b_rows { HasDistanceRows self.now node.now.places b_rows.now }
         requires u_count { length u.now ≡ node.now.size - length node.now.facilities }
         requires v_count { length v.now ≡ node.now.size - length node.now.facilities }
         requires u_range { AllLimited u.now }
         requires v_range { AllLimited v.now }
-        ensures { IfOk result (TellsFit self.now node.now u.now v.now) }
+        ensures { TellsFit self.now node.now u.now v.now result }
     {
-        self.make_distance_rows(node, distances)?;
-        let b_rows = &distances.rows;
-        let fit = fit_from(&self.instance, a_rows, b_rows, self.are_small, node, u, v);
-        Ok(fit)
+        fit_from(&self.instance, a_rows, b_rows, self.are_small, node, u, v)
     }
 }
 
@@ -199,7 +232,7 @@ impl Workspace {
 #[derive(Drop)]
 pub(crate) struct DistanceRows {
     free: Vec<u16>,
-    rows: Vec<i32>,
+    pub(crate) rows: Vec<i32>,
 }
 
 impl DistanceRows {

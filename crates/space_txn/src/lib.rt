@@ -22,6 +22,3 @@ pub use laws::{
 pub use mark::Mark;
 pub use txn::{Found, Spent, Txn};
 pub use world::TxnSpace;
-
-#[cfg(test)]
-mod tests;

@@ -340,16 +340,3 @@ impl TxnSpace {
         }
     }
 }
-
-#[cfg(test)]
-impl TxnSpace {
-    /// A space in which two more transactions can be begun and one more commit is accepted.
-    pub(crate) fn nearly_used_up(alloc: Global) -> TxnSpace {
-        TxnSpace {
-            space: Space::new(alloc),
-            live: Transactions::new(alloc),
-            begun: MOST - 2,
-            commits: MOST - 1,
-        }
-    }
-}

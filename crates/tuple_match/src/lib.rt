@@ -22,6 +22,3 @@ pub use numbers::Numbers;
 pub use refusal::MatchError;
 pub use templates::{Pattern, Template};
 pub use tuples::Tuple;
-
-#[cfg(test)]
-mod tests;

@@ -1,8 +1,9 @@
 use Rattle.std.proofs.Common.{◌∙◌, subst, get_or, refl, arith, take}
-use Rattle.std.specs.List.Sorted.{IsPermutation}
+use Rattle.gilmore_lawler.specs.Order.{IsArranged}
 use Rattle.gilmore_lawler.specs.Ranking.{IsRanking, others_in}
 use Rattle.gilmore_lawler.specs.ReducedMatrix.{others}
 use Rattle.gilmore_lawler.specs.Table.{matrix_of, IsOrdered}
+use Rattle.gilmore_lawler.proofs.Lists.{IsArranged-from_permutation}
 use Rattle.gilmore_lawler.proofs.Rankings.{Flags, IsPermutation-others_in, IsOrdered-filter}
 use Rattle.gilmore_lawler.proofs.Tables.{HasFactors-none, HasFactors-more, room_for_row}
 use Rattle.gilmore_lawler.proofs.factors.fill_rows.Goals as goal
@@ -34,8 +35,8 @@ loop-r-preserved c =
     let row = c.ranking_of-row.result.now in
     let ranking : IsRanking I c.args.side own row = subst (λ k. IsRanking I c.args.side k row) c.from.ensures c.ranking_of-row.ensures.ranking in
     let told : Flags free flags = record { tells = c.marked-is_free.ensures } in
-    let moved : IsPermutation (others I.size (matrix_of I c.args.side) free r) (others_in flags own row) =
-    IsPermutation-others_in I c.args.side free r flags row c.requires.instance.small c.loop-r-test.true c.requires.rising c.requires.free told ranking in
+    let moved : IsArranged (others I.size (matrix_of I c.args.side) free r) (others_in flags own row) =
+    IsArranged-from_permutation _ _ (IsPermutation-others_in I c.args.side free r flags row c.requires.instance.small c.loop-r-test.true c.requires.rising c.requires.free told ranking) in
     let ordered : IsOrdered c.args.side (others_in flags own row) = IsOrdered-filter c.args.side _ row ranking.ordered in
     record {
       count = c.pick_others-end.ensures.count ∙ c.write_linear-behind.ensures.count ∙ c.loop-r.invariant.count;

@@ -15,5 +15,5 @@ returns-clause-written c =
     let own : take c.write_one-first.result c.write_one-first.new.numbers ≡ before ++ entry n matrix i i ∷ [] =
     c.write_one-first.ensures.written
     ∙ ap (λ (x : ℤ). before ++ x ∷ []) (narrowed c.entry_at.result c.narrow-with_itself.result c.entry_at.ensures.range c.narrow-with_itself.ensures ∙ c.entry_at.ensures.value) in
-    subst (λ (k : ℕ). take c.write_column.result c.write_column.new.numbers ≡ before ++ linear_row n matrix c.args.placed.now k) c.from-own.ensures
-    (joined _ _ _ _ _ _ _ own c.write_row-middle.ensures.written c.write_column.ensures.written)
+    subst (λ (k : ℕ). take c.write_pairs.result c.write_pairs.new.numbers ≡ before ++ linear_row n matrix c.args.placed.now k) c.from-own.ensures
+    (joined _ _ _ _ _ own c.write_pairs.ensures.written)

@@ -5,7 +5,7 @@ use Rattle.std.proofs.lemmas.List.Sorted.{IsPermutation-trans}
 use Rattle.qap_cost.specs.Sum.{sum_to}
 use Rattle.gilmore_lawler.specs.Order.{IsAscending, IsDescending}
 use Rattle.gilmore_lawler.specs.LeastProduct.{IsLeastProduct}
-use Rattle.gilmore_lawler.proofs.Lists.{IsArranged}
+use Rattle.gilmore_lawler.specs.Order.{IsArranged}
 use Rattle.gilmore_lawler.proofs.Rearrangement.{IsAscending-from_sort, IsDescending-reverse, AllWithin-arranged, IsArranged-from_copy, IsLeastProduct-sorted, product_along}
 use Rattle.gilmore_lawler.proofs.pairing.least_product.Goals as goal
 

@@ -1,7 +1,5 @@
-use crate::error::TxnError;
-use crate::txn::{Found, Txn};
-use crate::world::TxnSpace;
 use Act::{Abort, Advance, Begin, Commit, Inp, Out, OutForever, Rdp};
+use space_txn::{Found, Txn, TxnError, TxnSpace};
 use std::alloc::Global;
 use std::process::Abort as Ending;
 use std::test::Fail;
@@ -55,10 +53,11 @@ struct Run {
 
 impl Run {
     fn new(alloc: Global) -> Result<Run, Fail> {
+        let jobs = any_job(alloc)?;
         Ok(Run {
             space: TxnSpace::new(alloc),
             begun: Vec::new(alloc),
-            jobs: any_job(alloc)?,
+            jobs,
         })
     }
 
@@ -209,12 +208,22 @@ fn count_in(space: &TxnSpace, jobs: &Template) -> u64 {
     space.count(jobs)
 }
 
-fn play(rt: &impl Ending, alloc: Global, acts: &[Act]) -> Result<(), Fail> {
-    let mut run = Run::new(alloc)?;
+/// Asserts that each call is answered as its row says.
+fn assert_answers(
+    rt: &impl Ending,
+    alloc: Global,
+    run: &mut Run,
+    acts: &[Act],
+) -> Result<(), Fail> {
     for (row, act) in acts.iter().enumerate() {
         assert!(rt; run.answers(alloc, *act)?, "act {row}: {act:?}");
     }
     Ok(())
+}
+
+fn play(rt: &impl Ending, alloc: Global, acts: &[Act]) -> Result<(), Fail> {
+    let mut run = Run::new(alloc)?;
+    assert_answers(rt, alloc, &mut run, acts)
 }
 
 static ROWS: [&[Act]; 7] = [
@@ -298,15 +307,14 @@ fn plays_each_row(rt: HostRuntime) -> Result<(), Fail> {
     Ok(())
 }
 
-/// A space of one job, and a transaction that has taken it.
-fn with_job_taken(alloc: Global, number: i128) -> Result<(TxnSpace, Txn), Fail> {
-    let mut space = TxnSpace::new(alloc);
-    if !put_outside(&mut space, job(alloc, number)?, Lease::Forever) {
+/// A transaction that has taken the one job of a space.
+fn take_job(alloc: Global, space: &mut TxnSpace, number: i128) -> Result<Txn, Fail> {
+    if !put_outside(space, job(alloc, number)?, Lease::Forever) {
         return Err(Fail::new("a job is to be put out"));
     }
-    let mut txn = begin_in(&mut space, 100)?;
-    match get_inside(&mut space, &mut txn, &any_job(alloc)?, true)? {
-        Some(_) => Ok((space, txn)),
+    let mut txn = begin_in(space, 100)?;
+    match get_inside(space, &mut txn, &any_job(alloc)?, true)? {
+        Some(_) => Ok(txn),
         None => Err(Fail::new("a job is to be taken")),
     }
 }
@@ -335,25 +343,35 @@ fn assert_foreign(rt: &impl Ending, own: &mut TxnSpace, other: &mut TxnSpace, tx
 }
 
 /// The commits of a space, and its jobs.
-fn counts_of(space: &TxnSpace, jobs: &Template) -> (u64, u64) {
-    (space.commits(), count_in(space, jobs))
+fn counts_of(alloc: Global, space: &TxnSpace) -> Result<(u64, u64), Fail> {
+    Ok((space.commits(), count_in(space, &any_job(alloc)?)))
+}
+
+/// Asserts that a transaction of one space is refused in another one, whose own transaction differs in the tuple that it took alone.
+fn assert_refused(
+    rt: &impl Ending,
+    alloc: Global,
+    one: &mut TxnSpace,
+    other: &mut TxnSpace,
+) -> Result<(), Fail> {
+    let txn = take_job(alloc, one, 1)?;
+    let _twin = take_job(alloc, other, 2)?;
+    assert_foreign(rt, one, other, txn);
+    assert_eq!(rt; counts_of(alloc, one)?, (1, 0));
+    assert_eq!(rt; counts_of(alloc, other)?, (0, 1));
+    Ok(())
 }
 
 #[test]
 fn refuses_a_transaction_of_another_space(rt: HostRuntime) -> Result<(), Fail> {
-    let alloc = rt.alloc();
-    let (mut one, txn) = with_job_taken(alloc, 1)?;
-    // The marks differ in the tuple alone.
-    let (mut other, _twin) = with_job_taken(alloc, 2)?;
-    assert_foreign(&rt, &mut one, &mut other, txn);
-    let jobs = any_job(alloc)?;
-    assert_eq!(rt; counts_of(&one, &jobs), (1, 0));
-    assert_eq!(rt; counts_of(&other, &jobs), (0, 1));
-    Ok(())
+    let mut one = TxnSpace::new(rt.alloc());
+    let mut other = TxnSpace::new(rt.alloc());
+    assert_refused(&rt, rt.alloc(), &mut one, &mut other)
 }
 
 /// Asserts that a transaction's lease, of ten milliseconds at first, goes on as it is renewed.
-fn assert_renewals(rt: &impl Ending, space: &mut TxnSpace, txn: &Txn) {
+fn assert_renewals(rt: &impl Ending, space: &mut TxnSpace) -> Result<(), Fail> {
+    let txn = begin_in(space, 10)?;
     let rows = [
         (5, 100, Ok(())),
         (104, 0, Ok(())),
@@ -362,19 +380,17 @@ fn assert_renewals(rt: &impl Ending, space: &mut TxnSpace, txn: &Txn) {
     for (moment, asked, want) in rows {
         assert_eq!(rt; advance_in(space, moment), Ok(()));
         assert_eq!(rt; space.now(), moment);
-        assert_eq!(rt; renew_in(space, txn, asked), want, "at {moment}");
+        assert_eq!(rt; renew_in(space, &txn, asked), want, "at {moment}");
     }
     assert_eq!(rt; (txn.writes().len(), txn.mark(0).is_some()), (0, false));
     let too_late = advance_in(space, (1 << 62) + 1);
     assert_eq!(rt; too_late, Err(SpaceError::Exhausted));
+    Ok(())
 }
 
 #[test]
 fn renews_a_transaction(rt: HostRuntime) -> Result<(), Fail> {
-    let mut space = TxnSpace::new(rt.alloc());
-    let txn = begin_in(&mut space, 10)?;
-    assert_renewals(&rt, &mut space, &txn);
-    Ok(())
+    assert_renewals(&rt, &mut TxnSpace::new(rt.alloc()))
 }
 
 #[test]
@@ -392,33 +408,5 @@ fn tells_each_refusal(rt: HostRuntime) -> Result<(), Fail> {
         let text = format!(in rt.alloc(); "{error}")?;
         assert_eq!(rt; text.as_str(), want);
     }
-    Ok(())
-}
-
-/// Commits a transaction, and aborts it where that is refused: the refusal, and whether it is aborted.
-fn commit_or_abort(space: &mut TxnSpace, txn: Txn) -> (Option<TxnError>, bool) {
-    match commit_in(space, txn) {
-        Ok(()) => (None, false),
-        Err((error, back)) => (Some(error), abort_in(space, back).is_ok()),
-    }
-}
-
-/// Asserts that of the last two transactions one commit is accepted, and that no third one begins.
-fn assert_used_up(rt: &impl Ending, space: &mut TxnSpace, first: Txn, second: Txn) {
-    assert_eq!(rt; second.number(), 1 << 62);
-    assert!(rt; begin_in(space, 10).is_err());
-    assert!(rt; commit_in(space, first).is_ok());
-    assert_eq!(rt; space.commits(), 1 << 62);
-    let ended = commit_or_abort(space, second);
-    assert_eq!(rt; ended, (Some(TxnError::Exhausted), true));
-    assert_eq!(rt; space.commits(), 1 << 62);
-}
-
-#[test]
-fn stops_at_the_last_numbers(rt: HostRuntime) -> Result<(), Fail> {
-    let mut space = TxnSpace::nearly_used_up(rt.alloc());
-    let first = begin_in(&mut space, 10)?;
-    let second = begin_in(&mut space, 10)?;
-    assert_used_up(&rt, &mut space, first, second);
     Ok(())
 }
