@@ -7,6 +7,7 @@ use crate::tests::{asked, run};
 use qap_cert::CertError;
 use qap_io::{Counted, FailAt, OneByte, Status};
 use std::alloc::{AllocError, Global};
+use std::io::Read;
 use std::process::Abort;
 use std::test::Fail;
 
@@ -99,30 +100,71 @@ fn proper_beginnings(rt: HostRuntime) -> Result<(), Fail> {
     Ok(())
 }
 
+/// A device that passes a byte a call, and fails at the call of this number, counted from 1.
+fn failing<T>(device: T, call: usize) -> Counted<OneByte<FailAt<T>>> {
+    Counted::new(OneByte::new(FailAt::new(device, call.max(1) as u64)))
+}
+
+/// What a question comes to: the answer, how many calls of each reader and of the writer failed, and what went out.
+#[derive(Drop)]
+struct Reply {
+    answer: Result<Status, RunError>,
+    failed: [u64; 3],
+    written: Vec<u8>,
+}
+
+/// Asks a question, and keeps what goes out in memory.
+fn reply_of<R: Read, S: Read>(
+    alloc: Global,
+    question: Question,
+    reader: &mut Counted<R>,
+    second: &mut Option<Counted<S>>,
+) -> Reply {
+    let mut output = Counted::new(Vec::new(alloc));
+    let answer = asked(alloc, question, reader, second, &mut output);
+    let of_second = match second {
+        Some(second) => second.failed(),
+        None => 0,
+    };
+    Reply {
+        answer,
+        failed: [reader.failed(), of_second, output.failed()],
+        written: output.into_inner(),
+    }
+}
+
+/// Asserts that these calls failed, so that nothing went out, or that none failed and all of the answer went out.
+fn assert_reply(rt: &impl Abort, told: &Reply, failed: [u64; 3], answer: &[u8]) {
+    let (want, written) = if failed == [0, 0, 0] {
+        (Ok(Status::Done), answer)
+    } else {
+        (Err(RunError::Device), b"".as_slice())
+    };
+    assert_eq!(rt; told.answer, want);
+    assert_eq!(rt; told.failed, failed);
+    assert_eq!(rt; told.written.as_slice(), written);
+}
+
+/// What comes of a first reader that fails so, and what is left of the second one's text.
+fn first_fails(alloc: Global, worked: &Worked, call: usize) -> (Reply, Option<&'static [u8]>) {
+    let mut reader = failing(worked.first, call);
+    let mut second = Some(Counted::new(worked.second));
+    let told = reply_of(alloc, worked.question, &mut reader, &mut second);
+    (told, second.map(|second| second.into_inner()))
+}
+
 /// Asserts what a question is answered where each call of the first reader in turn fails, and that the second one stays unread.
 fn assert_first_fails(rt: &impl Abort, alloc: Global, worked: &Worked) {
     let calls = worked.first.len() + 1;
     for call in 1..=calls + 1 {
-        let mut reader = Counted::new(OneByte::new(FailAt::new(worked.first, call as u64)));
-        let mut second = Some(Counted::new(worked.second));
-        let mut output = Counted::new(Vec::new(alloc));
-        let answer = asked(
-            alloc,
-            worked.question,
-            &mut reader,
-            &mut second,
-            &mut output,
-        );
-        let fails = call <= calls;
-        let (want, left, written) = if fails {
-            (Err(RunError::Device), worked.second, b"".as_slice())
+        let (told, left) = first_fails(alloc, worked, call);
+        let (failed, want) = if call <= calls {
+            ([1, 0, 0], worked.second)
         } else {
-            (Ok(Status::Done), b"".as_slice(), worked.answer)
+            ([0, 0, 0], b"".as_slice())
         };
-        assert_eq!(rt; answer, want, "at call {call}");
-        assert_eq!(rt; (reader.failed() == 1, output.failed()), (fails, 0));
-        assert_eq!(rt; second.map(|second| second.into_inner()), Some(left));
-        assert_eq!(rt; output.into_inner().as_slice(), written);
+        assert_reply(rt, &told, failed, worked.answer);
+        assert_eq!(rt; left, Some(want), "at call {call}");
     }
 }
 
@@ -134,31 +176,20 @@ fn first_input_fails(rt: HostRuntime) {
     }
 }
 
+/// What comes of a second reader that fails so.
+fn second_fails(alloc: Global, worked: &Worked, call: usize) -> Reply {
+    let mut reader = Counted::new(worked.first);
+    let mut second = Some(failing(worked.second, call));
+    reply_of(alloc, worked.question, &mut reader, &mut second)
+}
+
 /// Asserts what a question is answered where each call of the second reader in turn fails.
 fn assert_second_fails(rt: &impl Abort, alloc: Global, worked: &Worked) {
     let calls = worked.second.len() + 1;
     for call in 1..=calls + 1 {
-        let mut reader = Counted::new(worked.first);
-        let failing = OneByte::new(FailAt::new(worked.second, call as u64));
-        let mut second = Some(Counted::new(failing));
-        let mut output = Counted::new(Vec::new(alloc));
-        let answer = asked(
-            alloc,
-            worked.question,
-            &mut reader,
-            &mut second,
-            &mut output,
-        );
-        let fails = call <= calls;
-        let (want, count, written) = if fails {
-            (Err(RunError::Device), 1, b"".as_slice())
-        } else {
-            (Ok(Status::Done), 0, worked.answer)
-        };
-        assert_eq!(rt; answer, want, "at call {call}");
-        assert_eq!(rt; second.map(|second| second.failed()), Some(count));
-        assert_eq!(rt; (reader.failed(), output.failed()), (0, 0));
-        assert_eq!(rt; output.into_inner().as_slice(), written);
+        let told = second_fails(alloc, worked, call);
+        let failed = [0, u64::from(call <= calls), 0];
+        assert_reply(rt, &told, failed, worked.answer);
     }
 }
 
@@ -169,25 +200,22 @@ fn second_input_fails(rt: HostRuntime) {
     }
 }
 
+/// What comes of the one reader of both texts where it fails so.
+fn one_fails(alloc: Global, question: Question, text: &[u8], call: usize) -> Reply {
+    let mut reader = failing(text, call);
+    let mut none: Option<Counted<&[u8]>> = None;
+    reply_of(alloc, question, &mut reader, &mut none)
+}
+
 /// Asserts the same of the one reader of both texts.
 fn assert_one_fails(rt: &impl Abort, alloc: Global, worked: &Worked) -> Result<(), AllocError> {
     let mut text = Vec::from_slice(alloc, worked.first)?;
     text.extend_from_slice(worked.second)?;
     let calls = text.len().saturating_add(1);
     for call in 1..=calls.saturating_add(1) {
-        let failing = OneByte::new(FailAt::new(text.as_slice(), call as u64));
-        let mut reader = Counted::new(failing);
-        let mut none: Option<Counted<&[u8]>> = None;
-        let mut output = Counted::new(Vec::new(alloc));
-        let answer = asked(alloc, worked.question, &mut reader, &mut none, &mut output);
-        let (want, count, written) = if call <= calls {
-            (Err(RunError::Device), 1, b"".as_slice())
-        } else {
-            (Ok(Status::Done), 0, worked.answer)
-        };
-        assert_eq!(rt; answer, want, "at call {call}");
-        assert_eq!(rt; (reader.failed(), output.failed()), (count, 0));
-        assert_eq!(rt; output.into_inner().as_slice(), written);
+        let told = one_fails(alloc, worked.question, &text, call);
+        let failed = [u64::from(call <= calls), 0, 0];
+        assert_reply(rt, &told, failed, worked.answer);
     }
     Ok(())
 }
@@ -201,37 +229,62 @@ fn one_input_fails(rt: HostRuntime) -> Result<(), Fail> {
     Ok(())
 }
 
+/// What became of a writer: how many of its calls failed, whether it was flushed, and what went out.
+type Ended = (u64, bool, Vec<u8>);
+
+fn end_of(output: Counted<OneByte<FailAt<Vec<u8>>>>) -> Ended {
+    let (failed, flushed) = (output.failed(), output.is_flushed());
+    (
+        failed,
+        flushed,
+        output.into_inner().into_inner().into_inner(),
+    )
+}
+
+/// Asserts that a writer's call of this number failed, so that it holds what went out before, or that none failed and it holds all of
+/// the text, and was flushed.
+fn assert_ended(rt: &impl Abort, (failed, flushed, written): &Ended, call: usize, text: &[u8]) {
+    let fails = call <= text.len() + 1;
+    let length = text.len().min(call.saturating_sub(1));
+    assert_eq!(rt;
+        (*failed, *flushed),
+        (u64::from(fails), !fails),
+        "at call {call}"
+    );
+    assert_eq!(rt; text.get(..length), Some(written.as_slice()));
+}
+
+/// What a question is answered where a call of the writer fails so, and what became of the writer.
+fn output_fails_at(
+    alloc: Global,
+    worked: &Worked,
+    call: usize,
+) -> (Result<Status, RunError>, Ended) {
+    let mut reader = Counted::new(worked.first);
+    let mut second = Some(Counted::new(worked.second));
+    let mut output = failing(Vec::new(alloc), call);
+    let answer = asked(
+        alloc,
+        worked.question,
+        &mut reader,
+        &mut second,
+        &mut output,
+    );
+    (answer, end_of(output))
+}
+
 /// Asserts what goes out where each call of the writer in turn fails.
 fn assert_output_fails(rt: &impl Abort, alloc: Global, worked: &Worked) {
     let calls = worked.answer.len() + 1;
     for call in 1..=calls + 1 {
-        let mut reader = Counted::new(worked.first);
-        let mut second = Some(Counted::new(worked.second));
-        let failing = OneByte::new(FailAt::new(Vec::new(alloc), call as u64));
-        let mut output = Counted::new(failing);
-        let answer = asked(
-            alloc,
-            worked.question,
-            &mut reader,
-            &mut second,
-            &mut output,
-        );
-        let fails = call <= calls;
-        let want = if fails {
+        let (answer, left) = output_fails_at(alloc, worked, call);
+        let want = if call <= calls {
             Err(RunError::Device)
         } else {
             Ok(Status::Done)
         };
         assert_eq!(rt; answer, want, "at call {call}");
-        assert_eq!(rt;
-            (output.failed() == 1, output.is_flushed()),
-            (fails, !fails)
-        );
-        let written = output.into_inner().into_inner().into_inner();
-        assert_eq!(rt;
-            written.as_slice(),
-            &worked.answer[..worked.answer.len().min(call - 1)]
-        );
+        assert_ended(rt, &left, call, worked.answer);
     }
 }
 
@@ -243,26 +296,21 @@ fn output_fails(rt: HostRuntime) {
     }
 }
 
-/// Asserts what goes out of the line that tells an error, where each call of the writer in turn fails.
-fn assert_line_fails(rt: &impl Abort, alloc: Global, error: &RunError, line: &[u8]) {
-    for call in 1..=line.len() + 2 {
-        let failing = OneByte::new(FailAt::new(Vec::new(alloc), call as u64));
-        let mut errors = Counted::new(failing);
-        let failed = fault_line(error, &mut errors).is_err();
-        assert_eq!(rt; failed, call <= line.len() + 1);
-        assert_eq!(rt;
-            (errors.failed() == 1, errors.is_flushed()),
-            (failed, !failed)
-        );
-        let written = errors.into_inner().into_inner().into_inner();
-        assert_eq!(rt; written.as_slice(), &line[..line.len().min(call - 1)]);
-    }
+/// Whether the line that tells an error fails where a call of the writer fails so, and what became of the writer.
+fn line_fails_at(alloc: Global, error: &RunError, call: usize) -> (bool, Ended) {
+    let mut errors = failing(Vec::new(alloc), call);
+    let failed = fault_line(error, &mut errors).is_err();
+    (failed, end_of(errors))
 }
 
 // Each write of a refusal's line, a byte at a time, and the flush fail in turn.
 #[test]
 fn refusal_fails(rt: HostRuntime) {
     let error = RunError::Certificate(CertError::BoundTooLow(5));
-    let line = b"refused 22 BoundTooLow at 5\n";
-    assert_line_fails(&rt, rt.alloc(), &error, line);
+    let line = b"refused 22 BoundTooLow at 5\n".as_slice();
+    for call in 1..=line.len() + 2 {
+        let (failed, left) = line_fails_at(rt.alloc(), &error, call);
+        assert_eq!(rt; failed, call <= line.len() + 1);
+        assert_ended(&rt, &left, call, line);
+    }
 }

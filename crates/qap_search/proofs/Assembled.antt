@@ -11,21 +11,21 @@ use Rattle.qap_cert.specs.declared.version.Version.TheVariants.{Second}
 use Rattle.space_txn.specs.Content.{SameItems}
 use Rattle.tuple_match.specs.FieldValue.{FieldValue}
 use Rattle.qap_search.specs.Assembling.{IsNoCertificate, IsTreeFault}
-use Rattle.qap_search.specs.Building.{AnyDuals}
-use Rattle.qap_search.specs.Decided.{IsNoPiece, decided_tuple, decision_tuple, found_tuple}
+use Rattle.qap_search.specs.TreeBuilding.{AnyDuals}
+use Rattle.qap_search.specs.DecidedTuples.{IsNoPiece, decided_tuple, decision_tuple, found_tuple}
 use Rattle.qap_search.specs.Finished.{IsAssembled}
 use Rattle.qap_search.specs.Piece.{node_list, split_tuple, closed_tuple, best_tuple, pieces, pieces_of_all}
 use Rattle.qap_search.specs.Pieces.{decided_tuples, told_tuples}
 use Rattle.qap_search.specs.SearchTree.{IsTreeAt, AreTreesAt, searched, searched_all}
-use Rattle.qap_search.specs.declared.decided.BestFound.{BestFound}
-use Rattle.qap_search.specs.declared.decided.DecidedNode.{DecidedNode}
-use Rattle.qap_search.specs.declared.decided.Decision.{Decision}
-use Rattle.qap_search.specs.declared.decided.Decision.TheVariants.{Split, Closed}
-use Rattle.qap_search.specs.declared.error.AssembleError.{AssembleError}
-use Rattle.qap_search.specs.declared.error.AssembleError.TheVariants.{NotATree, OutOfMemory}
+use Rattle.qap_search.specs.declared.tuples.parsing.BestFound.{BestFound}
+use Rattle.qap_search.specs.declared.tuples.parsing.DecidedNode.{DecidedNode}
+use Rattle.qap_search.specs.declared.tuples.parsing.Decision.{Decision}
+use Rattle.qap_search.specs.declared.tuples.parsing.Decision.TheVariants.{Split, Closed}
+use Rattle.qap_search.specs.declared.certificate.error.AssembleError.{AssembleError}
+use Rattle.qap_search.specs.declared.certificate.error.AssembleError.TheVariants.{NotATree, OutOfMemory}
 use Rattle.qap_search.proofs.Certificates.{children_placed, free_count, root_placement}
 use Rattle.qap_search.proofs.Replacing.{weighed}
-use Rattle.qap_search.proofs.Tuples.{found_in, is_it, is_it-found, is_it-itself, tag}
+use Rattle.qap_search.proofs.TupleReadings.{found_in, is_it, is_it-found, is_it-itself, tag}
 
 mutual
   -- a tree of a certificate's shape is one at its node

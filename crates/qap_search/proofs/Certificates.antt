@@ -25,7 +25,7 @@ use Rattle.qap_search.specs.Search.{from_root}
 use Rattle.qap_search.specs.SearchTree.{SearchTree, open_node, split_node, closed_node, SearchTrees, no_trees, tree, IsTreeAt, AreTreesAt, decided_count, decided_counts, searched, searched_all}
 use Rattle.qap_search.specs.Stopped.{HasDuals}
 use Rattle.qap_search.proofs.Replacing.{best_found, trees_by, weighed}
-use Rattle.qap_search.proofs.Tuples.{IsNode, IsNode-placing, found_in, is_it, is_it-found, is_it-itself, is_it-other, list_at, same_node, tag}
+use Rattle.qap_search.proofs.TupleReadings.{IsNode, IsNode-placing, found_in, is_it, is_it-found, is_it-itself, is_it-other, list_at, same_node, tag}
 
 -- 1 at the tuple of an open node
 abbrev pub open_weight : List FieldValue → ℕ

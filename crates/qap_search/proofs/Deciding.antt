@@ -15,7 +15,7 @@ use Rattle.qap_search.specs.Piece.{best_tuple, closed_tuple, node_tuple, pieces}
 use Rattle.qap_search.specs.Replacement.{Best, IsAsGood, MayReplace, tuple_of}
 use Rattle.qap_search.specs.SearchTree.{AreOpen, AreTreesAt, closed_node, open_row, split_open}
 use Rattle.qap_search.specs.Thought.{IsThought, ThoughtValue, candidate_of, thought_on}
-use Rattle.qap_search.specs.declared.thought.Thought.{Thought}
+use Rattle.qap_search.specs.declared.node.thought.Thought.{Thought}
 use Rattle.qap_search.proofs.Taking.{free_depth}
 
 open_row-open : (ks : List ℕ) → AreOpen (open_row ks)

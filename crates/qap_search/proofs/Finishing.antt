@@ -13,19 +13,19 @@ use Rattle.qap_cost.specs.Placement.{root_of}
 use Rattle.qap_cert.specs.Tree.{Node}
 use Rattle.space_txn.specs.Content.{SameItems}
 use Rattle.tuple_match.specs.FieldValue.{FieldValue}
-use Rattle.qap_search.specs.Building.{AreTuplesOf, BeginWith, ahead}
-use Rattle.qap_search.specs.Decided.{decided_tuple, decision_tuple}
+use Rattle.qap_search.specs.TreeBuilding.{AreTuplesOf, BeginWith, ahead}
+use Rattle.qap_search.specs.DecidedTuples.{decided_tuple, decision_tuple}
 use Rattle.qap_search.specs.InOrder.{AreInOrder, is_before}
 use Rattle.qap_search.specs.Piece.{pieces}
 use Rattle.qap_search.specs.Pieces.{decided_tuples}
 use Rattle.qap_search.specs.SearchTree.{searched}
-use Rattle.qap_search.specs.declared.decided.DecidedNode.{DecidedNode}
-use Rattle.qap_search.specs.declared.decided.Decision.{Decision}
-use Rattle.qap_search.specs.declared.decided.Decision.TheVariants.{Split, Closed}
+use Rattle.qap_search.specs.declared.tuples.parsing.DecidedNode.{DecidedNode}
+use Rattle.qap_search.specs.declared.tuples.parsing.Decision.{Decision}
+use Rattle.qap_search.specs.declared.tuples.parsing.Decision.TheVariants.{Split, Closed}
 use Rattle.qap_search.proofs.Certificates.{root_placement}
 use Rattle.qap_search.proofs.Keys.{Before, NotAfter, Rises, key, pieces_rise, same_list}
 use Rattle.qap_search.proofs.OneTree.{one_tree}
-use Rattle.qap_search.proofs.Tuples.{found_in, is_it, is_it-found, map_pos-same}
+use Rattle.qap_search.proofs.TupleReadings.{found_in, is_it, is_it-found, map_pos-same}
 
 -- a number that doesn't fit 16 bits is no location
 pub no_small-no_permutation : (numbers : List ℤ) → SomeIndex numbers (λ i. (k : ℕ) → k < 65536 → get_or numbers i (pos 0) ≢ pos k) → (p : List ℕ) → IsPerm p → map pos p ≢ numbers

@@ -13,7 +13,7 @@ use Rattle.qap_search.specs.Piece.{best_tuple, closed_tuple, is_open, node_tuple
 use Rattle.qap_search.specs.Search.{Search}
 use Rattle.qap_search.specs.SearchTree.{SearchTree, open_node, split_node, closed_node, SearchTrees, no_trees, tree, IsTreeAt, AreTreesAt}
 use Rattle.qap_search.proofs.Certificates.{children_placed}
-use Rattle.qap_search.proofs.Tuples.{found_in, is_it, is_it-found, is_it-itself}
+use Rattle.qap_search.proofs.TupleReadings.{found_in, is_it, is_it-found, is_it-itself}
 
 pub found_from_Contains : (xs : List (List FieldValue)) (t : List FieldValue) (k : ℕ) → k < length xs → get_or xs k t ≡ t → 1 ≤ sum_by (is_it t) xs
 found_from_Contains [] t k below is = absurd (omega arith)

@@ -12,11 +12,11 @@ use Rattle.qap_cost.specs.Placement.{Placement, IsPlacement, free_locations, pla
 use Rattle.qap_cert.specs.Tree.{Node, split, bound, Nodes, no_nodes, node}
 use Rattle.space_txn.specs.Content.{SameItems}
 use Rattle.tuple_match.specs.FieldValue.{FieldValue}
-use Rattle.qap_search.specs.Building.{AnyDuals}
+use Rattle.qap_search.specs.TreeBuilding.{AnyDuals}
 use Rattle.qap_search.specs.Piece.{by_turns, node_list, split_tuple, closed_tuple, pieces, pieces_of_all}
 use Rattle.qap_search.specs.SearchTree.{IsTreeAt, AreTreesAt, searched, searched_all}
 use Rattle.qap_search.proofs.Certificates.{children_placed}
-use Rattle.qap_search.proofs.Tuples.{found_in, is_it, is_it-found, is_it-itself, list_at}
+use Rattle.qap_search.proofs.TupleReadings.{found_in, is_it, is_it-found, is_it-itself, list_at}
 
 -- the node's list of a tuple
 abbrev pub key : List FieldValue → List ℤ

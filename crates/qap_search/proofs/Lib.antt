@@ -1,12 +1,12 @@
-mod Runs
+mod ScheduledRuns
 pub mod AcceptedTexts
 pub mod Assembled
-pub mod BestFacts
+pub mod BehindAnswers
+pub mod BestSteps
 pub mod Certificates
-pub mod Closings
 pub mod Completions
 pub mod Deciding
-pub mod Endings
+pub mod DeeperNodes
 pub mod Entries
 pub mod Fields
 pub mod Finishing
@@ -15,22 +15,23 @@ pub mod Fronts
 pub mod Halves
 pub mod Identities
 pub mod Keys
+pub mod LeafBounds
 pub mod LeastDuals
 pub mod NodeLists
 pub mod OneTree
 pub mod OpenBounds
+pub mod OpenNodes
+pub mod Outcomes
 pub mod Parts
 pub mod Reorderings
 pub mod Replacing
 pub mod Scatter
 pub mod SearchLaws
-pub mod Showings
 pub mod Standings
+pub mod StoppedAssembling
 pub mod StoppedLaws
-pub mod Stoppings
 pub mod Taking
 pub mod Thinkings
 pub mod Thoughts
-pub mod Tuples
-pub mod Turns
+pub mod TupleReadings
 pub mod Written

@@ -2,11 +2,11 @@
 use Rattle.std.proofs.Common.{◌≡◌, ◌≢◌, ℕ, zero, suc, ◌+◌, ◌*◌, ◌<◌, List, [], ◌∷◌, ◌++◌, length, get_or, take, ℤ, pos, refl, sym, ap, ap₂, subst, ◌∙◌, arith, append_assoc, length-append, length-take-le, get_or-take, take_all}
 use Rattle.std.proofs.lemmas.List.{take_more}
 use Rattle.qap_cost.specs.Placement.{Placement, IsPlacement, IsFreeFacility, IsFreeLocation, placing, root_of}
-use Rattle.qap_search.specs.Building.{BeginsByTurns}
+use Rattle.qap_search.specs.TreeBuilding.{BeginsByTurns}
 use Rattle.qap_search.specs.Piece.{by_turns, node_list}
-use Rattle.qap_search.specs.Reading.{IsNextOf, IsReadFrom}
+use Rattle.qap_search.specs.NodeList.{IsNextOf, IsReadFrom}
 use Rattle.qap_search.proofs.Keys.{node_list-placing}
-use Rattle.qap_search.proofs.Tuples.{natural}
+use Rattle.qap_search.proofs.TupleReadings.{natural}
 
 length-by_turns : (fs ks : List ℕ) → length ks ≡ length fs → length (by_turns fs ks) ≡ 2 * length fs
 length-by_turns [] [] h = omega arith

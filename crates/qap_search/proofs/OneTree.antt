@@ -3,10 +3,10 @@ use Rattle.std.proofs.Common.{◌≡◌, ℕ, List, [], ◌∷◌, ◌++◌, ref
 use Rattle.qap_cost.specs.Placement.{Placement, free_locations, placing}
 use Rattle.qap_cert.specs.Tree.{Node, split, bound, Nodes, no_nodes, node}
 use Rattle.tuple_match.specs.FieldValue.{FieldValue}
-use Rattle.qap_search.specs.Building.{AnyDuals}
+use Rattle.qap_search.specs.TreeBuilding.{AnyDuals}
 use Rattle.qap_search.specs.Piece.{pieces, pieces_of_all}
 use Rattle.qap_search.specs.SearchTree.{IsTreeAt, AreTreesAt, searched, searched_all}
-use Rattle.qap_search.proofs.Tuples.{list_at, natural, number_at, tag}
+use Rattle.qap_search.proofs.TupleReadings.{list_at, natural, number_at, tag}
 
 abbrev pub closed_tag : ℕ
 closed_tag = 99

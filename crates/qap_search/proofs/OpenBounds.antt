@@ -20,18 +20,18 @@ use Rattle.qap_search.specs.Answer.{accepted_of}
 use Rattle.qap_search.specs.BoundedAnswer.{IsBoundedFrom, LeavesBound}
 use Rattle.qap_search.specs.ClosedTuples.{named_node}
 use Rattle.qap_search.specs.CutTree.{IsCutTree}
-use Rattle.qap_search.specs.Ending.{IsEnded}
+use Rattle.qap_search.specs.Outcome.{IsEnded}
 use Rattle.qap_search.specs.OpenBound.{IsNodeAbove, IsNodeValue, IsOpenBound, IsOpenValue, IsSoundTuple, IsTupleAbove}
 use Rattle.qap_search.specs.Piece.{best_tuple, is_open, node_list, node_tuple, open_count, pieces, pieces_of_all, split_tuple}
-use Rattle.qap_search.specs.Reading.{IsReadFrom}
+use Rattle.qap_search.specs.NodeList.{IsReadFrom}
 use Rattle.qap_search.specs.Search.{Search, NoneBelow}
 use Rattle.qap_search.specs.SearchTree.{SearchTree, open_node, split_node, closed_node, SearchTrees, no_trees, tree, IsTreeAt, AreTreesAt}
-use Rattle.qap_search.specs.declared.answer.Bounded.{Bounded}
-use Rattle.qap_search.specs.declared.run.Run.{Run}
+use Rattle.qap_search.specs.declared.runs.answer.Bounded.{Bounded}
+use Rattle.qap_search.specs.declared.runs.run.Run.{Run}
 use Rattle.qap_search.proofs.Certificates.{children_placed, open_weight}
-use Rattle.qap_search.proofs.Endings.{contained}
+use Rattle.qap_search.proofs.Outcomes.{contained}
 use Rattle.qap_search.proofs.Found.{node_found}
-use Rattle.qap_search.proofs.Tuples.{is_it, is_it-itself, list_at, same_node}
+use Rattle.qap_search.proofs.TupleReadings.{is_it, is_it-itself, list_at, same_node}
 
 -- which tuples of open nodes are found shows that their nodes' values are not below g
 abbrev pub FoundAbove : Problem → ℤ → List (List FieldValue) → Type 0

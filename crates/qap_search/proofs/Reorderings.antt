@@ -4,7 +4,7 @@ use Rattle.std.specs.List.{AllZip, sum_by}
 use Rattle.std.proofs.lemmas.List.Sums.{sum_by-cons}
 use Rattle.space_txn.specs.Content.{SameItems}
 use Rattle.tuple_match.specs.FieldValue.{FieldValue}
-use Rattle.qap_search.proofs.Tuples.{found_in, is_it, is_it-found, is_it-itself}
+use Rattle.qap_search.proofs.TupleReadings.{found_in, is_it, is_it-found, is_it-itself}
 
 -- one pair, whose second is z, and the other pairs
 record IsPicked (R : List FieldValue → List FieldValue → Type 0) (xs ys : List (List FieldValue)) (z : List FieldValue) : Type 0 where

@@ -15,7 +15,7 @@ use Rattle.qap_search.specs.Piece.{node_tuple, split_tuple, closed_tuple, pieces
 use Rattle.qap_search.specs.Replacement.{Best, tuple_of, IsAsGood, IsOneNode, ReadsBest, TakesBest, MayReplace}
 use Rattle.qap_search.specs.Search.{Search, IsSearch}
 use Rattle.qap_search.specs.SearchTree.{SearchTree, open_node, split_node, closed_node, SearchTrees, no_trees, tree, IsTreeAt, AreTreesAt, AreOpen, decided_count, decided_counts}
-use Rattle.qap_search.proofs.Tuples.{IsNode, IsNode-placing, found_in, is_it, is_it-found, is_it-itself, is_it-other, list_at, map_pos-same, number_at, same_node}
+use Rattle.qap_search.proofs.TupleReadings.{IsNode, IsNode-placing, found_in, is_it, is_it-found, is_it-itself, is_it-other, list_at, map_pos-same, number_at, same_node}
 
 mutual
   -- duals that close a node by one rule close it by a weaker one

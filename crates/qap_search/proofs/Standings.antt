@@ -20,7 +20,7 @@ use Rattle.qap_search.specs.Turn.{AfterNoCommit, AfterRefusal, Committed, Told}
 use Rattle.shared_space.specs.declared.error.CommitError.TheVariants.{Txn}
 use Rattle.space_txn.specs.declared.error.TxnError.{TxnError}
 use Rattle.space_txn.specs.declared.error.TxnError.TheVariants.{Expired, Foreign, Exhausted, OutOfMemory}
-use Rattle.qap_search.specs.declared.stage.Stage.TheVariants.{Ready}
+use Rattle.qap_search.specs.declared.worker.stage.Stage.TheVariants.{Ready}
 use Rattle.qap_search.proofs.Found.{node_found}
 
 matching_open : (tuple : List FieldValue) → IsTrue (is_open tuple) ↔ Matches node_template tuple → Matches node_template tuple → is_open tuple ≡ true

@@ -17,7 +17,7 @@ use Rattle.qap_cert.specs.Tree.{Node, split, bound, Nodes, no_nodes, node, node_
 use Rattle.qap_cert.specs.Valid.{AllValid, Closes, Valid}
 use Rattle.qap_cert.specs.declared.version.Version.TheVariants.{Second}
 use Rattle.tuple_match.specs.FieldValue.{FieldValue}
-use Rattle.qap_search.specs.Closing.{AllClosedTo, ClosedTo, undecided_count, undecided_counts}
+use Rattle.qap_search.specs.OpenNodes.{AllClosedTo, ClosedTo, undecided_count, undecided_counts}
 use Rattle.qap_search.specs.CutTree.{IsCutTree}
 use Rattle.qap_search.specs.Piece.{best_tuple, closed_tuple, open_count, pieces, pieces_of_all, split_tuple}
 use Rattle.qap_search.specs.Replacement.{Best}
@@ -25,10 +25,10 @@ use Rattle.qap_search.specs.Search.{from_root}
 use Rattle.qap_search.specs.SearchTree.{SearchTree, open_node, split_node, closed_node, SearchTrees, no_trees, tree, IsTreeAt, AreTreesAt, decided_count}
 use Rattle.qap_search.specs.Stopped.{HasDuals, IsLeastOf, IsNotStopped, IsStopped, IsUnfinished, shown, shown_by_all}
 use Rattle.qap_search.proofs.Certificates.{FoundClose, best_is, best_of, children_placed, closed_in_both, cost_limited, decided_weight, open_weight, root_placement}
-use Rattle.qap_search.proofs.Closings.{closed_count, tree_from_closed}
+use Rattle.qap_search.proofs.OpenNodes.{closed_count, tree_from_closed}
 use Rattle.qap_search.proofs.LeastDuals.{least_duals_above}
 use Rattle.qap_search.proofs.Replacing.{trees_by, weighed}
-use Rattle.qap_search.proofs.Tuples.{IsNode, IsNode-placing, is_it, is_it-itself}
+use Rattle.qap_search.proofs.TupleReadings.{IsNode, IsNode-placing, is_it, is_it-itself}
 
 -- what holds of each of two rows of numbers holds of the first, and of the second
 all_left : (P : ℤ → Type 0) (xs ys : List ℤ) → All P (xs ++ ys) → All P xs

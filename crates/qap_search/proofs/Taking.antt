@@ -7,12 +7,12 @@ use Rattle.qap_cert.specs.Code.{joined}
 use Rattle.qap_cert.specs.Tree.{Node, split, bound, Nodes, no_nodes, node, node_of, nodes_of}
 use Rattle.qap_cert.specs.declared.tree.Tree.{Tree}
 use Rattle.tuple_match.specs.FieldValue.{FieldValue}
-use Rattle.qap_search.specs.Building.{AnyDuals, BeginWith, BeginWithNone}
-use Rattle.qap_search.specs.Decided.{split_of}
+use Rattle.qap_search.specs.TreeBuilding.{AnyDuals, BeginWith, BeginWithNone}
+use Rattle.qap_search.specs.DecidedTuples.{split_of}
 use Rattle.qap_search.specs.Piece.{node_list, pieces, pieces_of_all, split_tuple}
 use Rattle.qap_search.specs.SearchTree.{AreTreesAt, searched, searched_all}
 use Rattle.qap_search.proofs.OneTree.{closed_tag, first_tuple, later_tuples, one_tree, split_tag}
-use Rattle.qap_search.proofs.Tuples.{natural, number_at, tag}
+use Rattle.qap_search.proofs.TupleReadings.{natural, number_at, tag}
 
 pub nodes_of-push : (xs : List Tree) (t : Tree) → nodes_of (xs ++ t ∷ []) ≡ joined (nodes_of xs) (node (node_of t) no_nodes)
 nodes_of-push [] t = refl

@@ -13,12 +13,12 @@ use Rattle.qap_search.specs.Piece.{node_tuple}
 use Rattle.qap_search.specs.Standing.{HasNode, HasTaken, IsHand, IsLastThought, IsStage}
 use Rattle.qap_search.specs.Thought.{IsThought, ThoughtValue}
 use Rattle.qap_search.specs.Thinking.{Thinks}
-use Rattle.qap_search.specs.declared.stage.LastThought.{LastThought}
-use Rattle.qap_search.specs.declared.stage.Stage.{Stage}
-use Rattle.qap_search.specs.declared.stage.Stage.TheVariants.{Idle, Begun, Taken, Considered, Ready, GivingUp}
-use Rattle.qap_search.specs.declared.stage.Tally.{Tally}
-use Rattle.qap_search.specs.declared.stage.Tools.{Tools}
-use Rattle.qap_search.specs.declared.thought.Thought.{Thought}
+use Rattle.qap_search.specs.declared.worker.stage.LastThought.{LastThought}
+use Rattle.qap_search.specs.declared.worker.stage.Stage.{Stage}
+use Rattle.qap_search.specs.declared.worker.stage.Stage.TheVariants.{Idle, Begun, Taken, Considered, Ready, GivingUp}
+use Rattle.qap_search.specs.declared.worker.stage.Tally.{Tally}
+use Rattle.qap_search.specs.declared.worker.stage.Tools.{Tools}
+use Rattle.qap_search.specs.declared.node.thought.Thought.{Thought}
 
 some_same : (a b : LastThought) → Some a ≡ Some b → b ≡ a
 some_same a b e = cc

@@ -11,11 +11,11 @@ use Rattle.qap_search.specs.CutTree.{IsCutTree}
 use Rattle.qap_search.specs.Piece.{open_count}
 use Rattle.qap_search.specs.Search.{Search, NoneBelow, whole}
 use Rattle.qap_search.specs.Stopped.{CertifiesStopped}
-use Rattle.qap_search.specs.declared.answer.Answer.{Answer}
-use Rattle.qap_search.specs.declared.answer.Least.{Least}
-use Rattle.qap_search.specs.declared.report.Report.{Report}
-use Rattle.qap_search.specs.declared.answer.SolveError.{SolveError}
-use Rattle.qap_search.specs.declared.answer.SolveError.TheVariants.{Unfinished, Stopped, OutOfMemory}
+use Rattle.qap_search.specs.declared.runs.answer.Answer.{Answer}
+use Rattle.qap_search.specs.declared.runs.answer.Least.{Least}
+use Rattle.qap_search.specs.declared.worker.report.Report.{Report}
+use Rattle.qap_search.specs.declared.runs.answer.SolveError.{SolveError}
+use Rattle.qap_search.specs.declared.runs.answer.SolveError.TheVariants.{Unfinished, Stopped, OutOfMemory}
 
 -- the certificate certifies its cost as the least one of the instance, by a tree of so many nodes
 pub record CertifiesLeast (I : Problem) (nodes : ℕ) (C : Claim) : Type 0 where

@@ -4,8 +4,8 @@ use Rattle.qap_cert.specs.Certificate.{Claim}
 use Rattle.tuple_match.specs.FieldValue.{FieldValue}
 use Rattle.qap_search.specs.Finished.{IsAssembled}
 use Rattle.qap_search.specs.Piece.{open_count}
-use Rattle.qap_search.specs.declared.error.AssembleError.{AssembleError}
-use Rattle.qap_search.specs.declared.error.AssembleError.TheVariants.{Unfinished, NotATree, OutOfMemory}
+use Rattle.qap_search.specs.declared.certificate.error.AssembleError.{AssembleError}
+use Rattle.qap_search.specs.declared.certificate.error.AssembleError.TheVariants.{Unfinished, NotATree, OutOfMemory}
 
 -- the tuples are those of no certificate of size n
 abbrev pub IsNoCertificate : ℕ → List (List FieldValue) → Type 0

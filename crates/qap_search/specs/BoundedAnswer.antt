@@ -8,7 +8,7 @@ use Rattle.qap_search.specs.CutTree.{IsCutTree}
 use Rattle.qap_search.specs.OpenBound.{IsOpenBound}
 use Rattle.qap_search.specs.Piece.{open_count}
 use Rattle.qap_search.specs.Search.{Search, NoneBelow}
-use Rattle.qap_search.specs.declared.answer.Bounded.{Bounded}
+use Rattle.qap_search.specs.declared.runs.answer.Bounded.{Bounded}
 
 -- after so many commits the search has left a cut tree with so many open nodes, and this best permutation of this cost, which have
 -- this bound

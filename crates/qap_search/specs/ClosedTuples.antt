@@ -5,7 +5,7 @@ use Rattle.qap_cost.specs.Instance.{Problem}
 use Rattle.qap_cost.specs.Placement.{Placement, IsPlacement}
 use Rattle.space_txn.specs.Content.{SameItems}
 use Rattle.tuple_match.specs.FieldValue.{FieldValue, word, numbers}
-use Rattle.qap_search.specs.Closing.{AreLeastDuals}
+use Rattle.qap_search.specs.OpenNodes.{AreLeastDuals}
 use Rattle.qap_search.specs.Piece.{closed_tuple, node_list, node_tuple}
 
 -- the word of an open node's tuple and a list

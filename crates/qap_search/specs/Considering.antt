@@ -8,9 +8,9 @@ use Rattle.space_txn.specs.declared.mark.Mark.{Mark}
 use Rattle.qap_search.specs.Found.{IsOpenNode}
 use Rattle.qap_search.specs.Piece.{node_tuple}
 use Rattle.qap_search.specs.Standing.{IsLastThought}
-use Rattle.qap_search.specs.declared.stage.LastThought.{LastThought}
-use Rattle.qap_search.specs.declared.stage.Stage.{Stage}
-use Rattle.qap_search.specs.declared.stage.Stage.TheVariants.{Taken, Considered, GivingUp}
+use Rattle.qap_search.specs.declared.worker.stage.LastThought.{LastThought}
+use Rattle.qap_search.specs.declared.worker.stage.Stage.{Stage}
+use Rattle.qap_search.specs.declared.worker.stage.Stage.TheVariants.{Taken, Considered, GivingUp}
 
 -- the transaction has marked this entry, whose tuple is that of the open node x of size n and there to stay
 pub record IsNodeAt (n number : ℕ) (t : TxnValue) (x : Placement) : Type 0 where

@@ -9,7 +9,7 @@ use Rattle.qap_search.specs.Piece.{best_tuple, pieces}
 use Rattle.qap_search.specs.Replacement.{Best, IsOneNode}
 use Rattle.qap_search.specs.SearchTree.{SearchTree, closed_node, split_open, IsTreeAt}
 use Rattle.qap_search.specs.Thought.{IsThought, ThoughtValue}
-use Rattle.qap_search.specs.declared.thought.Thought.{Thought}
+use Rattle.qap_search.specs.declared.node.thought.Thought.{Thought}
 
 -- the tuples are those of one decided node at x, closed only where nothing below costs less than c
 pub record Decides (I : Problem) (c : ℤ) (x : Placement) (tuples : List (List FieldValue)) : Type 0 where

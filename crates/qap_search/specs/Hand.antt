@@ -2,12 +2,12 @@
 use Rattle.std.specs.Prelude.{ℕ, Bool, true, false, ℤ, int_lt, Option, Some, None}
 use Rattle.qap_cost.specs.Instance.{Problem}
 use Rattle.qap_search.specs.Thought.{ThoughtValue, thought_on}
-use Rattle.qap_search.specs.declared.gate.Kind.{Kind}
-use Rattle.qap_search.specs.declared.gate.Kind.TheVariants as kinds
-use Rattle.qap_search.specs.declared.stage.LastThought.{LastThought}
-use Rattle.qap_search.specs.declared.stage.Stage.{Stage}
-use Rattle.qap_search.specs.declared.stage.Stage.TheVariants.{Idle, Begun, Taken, Considered, Ready, GivingUp}
-use Rattle.qap_search.specs.declared.stage.Tally.{Tally}
+use Rattle.qap_search.specs.declared.worker.gate.Kind.{Kind}
+use Rattle.qap_search.specs.declared.worker.gate.Kind.TheVariants as kinds
+use Rattle.qap_search.specs.declared.worker.stage.LastThought.{LastThought}
+use Rattle.qap_search.specs.declared.worker.stage.Stage.{Stage}
+use Rattle.qap_search.specs.declared.worker.stage.Stage.TheVariants.{Idle, Begun, Taken, Considered, Ready, GivingUp}
+use Rattle.qap_search.specs.declared.worker.stage.Tally.{Tally}
 
 -- best is the cost of the best permutation that the worker knows of
 pub record HandValue : Type 0 where

@@ -3,7 +3,7 @@ use Rattle.std.specs.Prelude.{Bool, List}
 use Rattle.std.specs.Cmp.Lexicographic.{slice_cmp}
 use Rattle.std.specs.List.Sorted.{IsSortedBy}
 use Rattle.std.specs.Ordering.{int_cmp, is_lt}
-use Rattle.qap_search.specs.declared.decided.DecidedNode.{DecidedNode}
+use Rattle.qap_search.specs.declared.tuples.parsing.DecidedNode.{DecidedNode}
 
 -- the first number that differs decides, and a list stands before those that begin with it
 abbrev pub is_before : DecidedNode → DecidedNode → Bool

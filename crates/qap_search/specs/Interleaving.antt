@@ -11,11 +11,11 @@ use Rattle.qap_search.specs.Thinking.{Thinks}
 use Rattle.qap_search.specs.Turn.{Turn}
 use Rattle.space_txn.specs.Content.{content_of}
 use Rattle.qap_search.specs.CutTree.{IsCutTree}
-use Rattle.qap_search.specs.declared.report.Report.{Report}
-use Rattle.qap_search.specs.declared.report.Ended.TheVariants.{Done}
-use Rattle.qap_search.specs.declared.run.Run.{Run}
-use Rattle.qap_search.specs.declared.schedule.Step.{Step}
-use Rattle.qap_search.specs.declared.schedule.Step.TheVariants as steps
+use Rattle.qap_search.specs.declared.worker.report.Report.{Report}
+use Rattle.qap_search.specs.declared.worker.report.Ended.TheVariants.{Done}
+use Rattle.qap_search.specs.declared.runs.run.Run.{Run}
+use Rattle.qap_search.specs.declared.runs.schedule.Step.{Step}
+use Rattle.qap_search.specs.declared.runs.schedule.Step.TheVariants as steps
 
 -- where one worker stands, and what those had counted who were lost at its place
 pub record PostValue : Type 0 where

@@ -5,7 +5,7 @@ use Rattle.qap_cost.specs.Matrix.{dual_value}
 use Rattle.qap_cost.specs.Placement.{Placement, IsPlacement, fixed_cost_of}
 use Rattle.tuple_match.specs.FieldValue.{FieldValue}
 use Rattle.qap_search.specs.ClosedTuples.{named_node}
-use Rattle.qap_search.specs.Closing.{AreLeastDuals}
+use Rattle.qap_search.specs.OpenNodes.{AreLeastDuals}
 use Rattle.qap_search.specs.Found.{IsOpenNode}
 use Rattle.qap_search.specs.Piece.{node_tuple}
 

@@ -1,10 +1,10 @@
 -- The pieces of a search that were told apart, as tuples.
 use Rattle.std.specs.Prelude.{List, ◌∷◌, map, Option, Some, None}
 use Rattle.tuple_match.specs.FieldValue.{FieldValue}
-use Rattle.qap_search.specs.Decided.{decided_tuple, found_tuple}
-use Rattle.qap_search.specs.declared.decided.BestFound.{BestFound}
-use Rattle.qap_search.specs.declared.decided.DecidedNode.{DecidedNode}
-use Rattle.qap_search.specs.declared.pieces.Pieces.{Pieces}
+use Rattle.qap_search.specs.DecidedTuples.{decided_tuple, found_tuple}
+use Rattle.qap_search.specs.declared.tuples.parsing.BestFound.{BestFound}
+use Rattle.qap_search.specs.declared.tuples.parsing.DecidedNode.{DecidedNode}
+use Rattle.qap_search.specs.declared.tuples.pieces.Pieces.{Pieces}
 
 -- the tuples of these nodes
 abbrev pub decided_tuples : List DecidedNode → List (List FieldValue)

@@ -13,10 +13,10 @@ use Rattle.qap_search.specs.Piece.{node_template, node_tuple}
 use Rattle.qap_search.specs.Replacement.{MayReplace}
 use Rattle.qap_search.specs.SearchLaw.{IsSearchLaw}
 use Rattle.qap_search.specs.Thought.{IsThought, ThoughtValue}
-use Rattle.qap_search.specs.declared.stage.LastThought.{LastThought}
-use Rattle.qap_search.specs.declared.stage.Stage.{Stage}
-use Rattle.qap_search.specs.declared.stage.Tools.{Tools}
-use Rattle.qap_search.specs.declared.stage.Stage.TheVariants.{Idle, Begun, Taken, Considered, Ready, GivingUp}
+use Rattle.qap_search.specs.declared.worker.stage.LastThought.{LastThought}
+use Rattle.qap_search.specs.declared.worker.stage.Stage.{Stage}
+use Rattle.qap_search.specs.declared.worker.stage.Tools.{Tools}
+use Rattle.qap_search.specs.declared.worker.stage.Stage.TheVariants.{Idle, Begun, Taken, Considered, Ready, GivingUp}
 
 -- it took this entry and no other, whose tuple is an open node's where it is there to stay
 pub record HasTaken (I : Problem) (t : TxnValue) (number : ℕ) : Type 0 where

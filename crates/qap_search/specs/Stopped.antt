@@ -11,11 +11,11 @@ use Rattle.qap_cert.specs.Tree.{Node, split, bound, Nodes, node, node_count}
 use Rattle.qap_cert.specs.Valid.{Closes}
 use Rattle.space_txn.specs.Content.{SameItems}
 use Rattle.tuple_match.specs.FieldValue.{FieldValue}
-use Rattle.qap_search.specs.Closing.{ClosedTo, undecided_count}
+use Rattle.qap_search.specs.OpenNodes.{ClosedTo, undecided_count}
 use Rattle.qap_search.specs.Piece.{best_tuple, pieces}
 use Rattle.qap_search.specs.SearchTree.{SearchTree, IsTreeAt, decided_count}
-use Rattle.qap_search.specs.declared.error.AssembleError.{AssembleError}
-use Rattle.qap_search.specs.declared.error.AssembleError.TheVariants.{Unfinished, NotATree, OutOfMemory}
+use Rattle.qap_search.specs.declared.certificate.error.AssembleError.{AssembleError}
+use Rattle.qap_search.specs.declared.certificate.error.AssembleError.TheVariants.{Unfinished, NotATree, OutOfMemory}
 
 abbrev mutual
   -- what each leaf of the tree at x shows: the cost of the placed facilities among themselves, and the sum of its duals

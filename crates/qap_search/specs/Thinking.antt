@@ -6,8 +6,8 @@ use Rattle.space_txn.specs.declared.mark.Mark.{Mark}
 use Rattle.qap_search.specs.Hand.{HandValue}
 use Rattle.qap_search.specs.Piece.{node_tuple}
 use Rattle.qap_search.specs.Thought.{IsThought, ThoughtValue, thought_on}
-use Rattle.qap_search.specs.declared.stage.Stage.TheVariants.{Taken, Considered, GivingUp}
-use Rattle.qap_search.specs.declared.thought.Thought.{Thought}
+use Rattle.qap_search.specs.declared.worker.stage.Stage.TheVariants.{Taken, Considered, GivingUp}
+use Rattle.qap_search.specs.declared.node.thought.Thought.{Thought}
 
 -- the value is that of a thought on the node
 pub record IsWorkedOut (I : Problem) (v : ThoughtValue) : Type 0 where

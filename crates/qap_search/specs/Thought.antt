@@ -9,7 +9,7 @@ use Rattle.gilmore_lawler.specs.ReducedMatrix.{IsReduced}
 use Rattle.qap_cert.specs.Shape.{AreDuals}
 use Rattle.qap_search.specs.Completion.{IsCompletion}
 use Rattle.qap_search.specs.Replacement.{Best}
-use Rattle.qap_search.specs.declared.thought.Thought.{Thought}
+use Rattle.qap_search.specs.declared.node.thought.Thought.{Thought}
 
 pub record IsThought (I : Problem) (x : Placement) (t : Thought) : Type 0 where
   pub matrix : Square

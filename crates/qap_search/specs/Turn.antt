@@ -19,8 +19,8 @@ use Rattle.qap_search.specs.Hand.{HandValue, is_hopeful}
 use Rattle.qap_search.specs.Piece.{node_template}
 use Rattle.qap_search.specs.Replacement.{Best, tuple_of}
 use Rattle.qap_search.specs.Thought.{ThoughtValue}
-use Rattle.qap_search.specs.declared.stage.Stage.{Stage}
-use Rattle.qap_search.specs.declared.stage.Stage.TheVariants.{Idle, Begun, Taken, Considered, Ready, GivingUp}
+use Rattle.qap_search.specs.declared.worker.stage.Stage.{Stage}
+use Rattle.qap_search.specs.declared.worker.stage.Stage.TheVariants.{Idle, Begun, Taken, Considered, Ready, GivingUp}
 
 -- what a step tells: whether it met no refusal, or that there was no memory
 abbrev pub Told : Type 0

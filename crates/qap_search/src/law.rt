@@ -14,7 +14,7 @@ ghost use Rattle.qap_cert.specs.declared.error.CertError.{CertError};
 ghost use Rattle.qap_cert.specs.declared.version.Version.TheVariants.{Second};
 ghost use Rattle.space_txn.specs.Content.{SameItems};
 ghost use Rattle.tuple_match.specs.FieldValue.{FieldValue};
-ghost use Rattle.qap_search.specs.Closing.{undecided_count};
+ghost use Rattle.qap_search.specs.OpenNodes.{undecided_count};
 ghost use Rattle.qap_search.specs.CutTree.{IsCutTree};
 ghost use Rattle.qap_search.specs.Decision.{Decides};
 ghost use Rattle.qap_search.specs.Finished.{IsAssembled};

@@ -129,6 +129,46 @@ where
     Ok((answer.cost, answer.bound, answer.open_nodes))
 }
 
+/// What a search that begins with the facilities in order tells.
+fn told_from_order<R, G, S>(
+    rt: &R,
+    alloc: Global,
+    instance: &Instance,
+    depth: usize,
+    limit: Option<u64>,
+    gate: &G,
+    stop: &S,
+) -> Result<(i128, i128, u64), Fail>
+where
+    R: Threads + Wait + time::Clock + Sync,
+    G: Gate + Sync,
+    S: Stop,
+    requires { instance.now.size ≡ 4 }
+{
+    let start = in_order(alloc, instance)?;
+    told(rt, alloc, instance, depth, &start, limit, gate, stop)
+}
+
+/// The cost of the facilities in order.
+fn cost_in_order(alloc: Global, instance: &Instance) -> Result<i128, Fail> {
+    Ok(cost(instance, &in_order(alloc, instance)?))
+}
+
+/// What a search tells that nothing holds up, and that only its limit stops.
+fn free_search<R>(
+    rt: &R,
+    alloc: Global,
+    instance: &Instance,
+    depth: usize,
+    limit: Option<u64>,
+) -> Result<(i128, i128, u64), Fail>
+where
+    R: Threads + Wait + time::Clock + Sync,
+    requires { instance.now.size ≡ 4 }
+{
+    told_from_order(rt, alloc, instance, depth, limit, &Always, &Never)
+}
+
 /// Asserts that a search to its end finds the least cost below the root, or keeps its start where that costs less.
 fn assert_finished<R>(
     rt: &R,
@@ -139,12 +179,12 @@ fn assert_finished<R>(
 ) -> Result<(), Fail>
 where
     R: Threads + Wait + time::Clock + Sync + Abort,
-    requires four { instance.now.size ≡ 4 }
+    requires { instance.now.size ≡ 4 }
 {
-    let start = in_order(alloc, instance)?;
-    let least = least_below(alloc, instance, depth)?.min(cost(instance, &start));
-    let found = told(rt, alloc, instance, depth, &start, limit, &Always, &Never)?;
-    assert_eq!(rt; found, (least, least, 0));
+    let below = least_below(alloc, instance, depth)?;
+    let least = below.min(cost_in_order(alloc, instance)?);
+    let found = free_search(rt, alloc, instance, depth, limit)?;
+    assert_eq!(rt; found, (least, least, 0), "depth {depth}");
     Ok(())
 }
 
@@ -153,8 +193,9 @@ fn finds_the_least_below_each_root(rt: HostRuntime) -> Result<(), Fail> {
     let alloc = rt.alloc();
     let instance = signed(alloc)?;
     for depth in 0..=4 {
-        assert_finished(&rt, alloc, &instance, depth, None)?;
-        assert_finished(&rt, alloc, &instance, depth, Some(1000))?;
+        for limit in [None, Some(1000)] {
+            assert_finished(&rt, alloc, &instance, depth, limit)?;
+        }
     }
     Ok(())
 }
@@ -169,21 +210,11 @@ fn assert_bounded<R>(
 ) -> Result<(), Fail>
 where
     R: Threads + Wait + time::Clock + Sync + Abort,
-    requires four { instance.now.size ≡ 4 }
+    requires { instance.now.size ≡ 4 }
 {
-    let start = in_order(alloc, instance)?;
     let least = least_below(alloc, instance, depth)?;
-    let first = cost(instance, &start);
-    let (cost, bound, open_nodes) = told(
-        rt,
-        alloc,
-        instance,
-        depth,
-        &start,
-        Some(limit),
-        &Always,
-        &Never,
-    )?;
+    let first = cost_in_order(alloc, instance)?;
+    let (cost, bound, open_nodes) = free_search(rt, alloc, instance, depth, Some(limit))?;
     assert!(rt; bound <= least && bound <= cost && least.min(first) <= cost && cost <= first);
     assert!(rt; open_nodes > 0 || bound == cost);
     assert!(rt; limit > 0 || (cost, open_nodes) == (first, 1));
@@ -197,8 +228,9 @@ fn bounds_each_root_where_it_is_stopped(rt: HostRuntime) -> Result<(), Fail> {
     let alloc = rt.alloc();
     let instance = signed(alloc)?;
     for depth in 0..=4 {
-        assert_bounded(&rt, alloc, &instance, depth, 0)?;
-        assert_bounded(&rt, alloc, &instance, depth, 1)?;
+        for limit in [0, 1] {
+            assert_bounded(&rt, alloc, &instance, depth, limit)?;
+        }
     }
     Ok(())
 }
@@ -235,14 +267,12 @@ impl Stop for AtTheFirstCommit {
 fn stops_while_a_lease_lasts(rt: HostRuntime) -> Result<(), Fail> {
     let alloc = rt.alloc();
     let instance = signed(alloc)?;
-    let start = in_order(alloc, &instance)?;
-    let least = least_below(alloc, &instance, 0)?;
     let gate = AtTheFirstCommit {
         reached: AtomicBool::new(false),
     };
-    let (found, bound, open_nodes) = told(&rt, alloc, &instance, 0, &start, None, &gate, &gate)?;
-    assert_eq!(rt; found, cost(&instance, &start));
+    let (found, bound, open_nodes) = told_from_order(&rt, alloc, &instance, 0, None, &gate, &gate)?;
+    let least = least_below(alloc, &instance, 0)?;
+    assert_eq!(rt; (found, open_nodes), (cost_in_order(alloc, &instance)?, 1));
     assert!(rt; bound <= least);
-    assert_eq!(rt; open_nodes, 1);
     Ok(())
 }

@@ -10,7 +10,7 @@ ghost use Rattle.qap_search.specs.SearchLaw.{IsLawOf};
 
 use gilmore_lawler::RankedInstance;
 use qap_cert::{Certificate, check};
-use qap_cost::{Instance, Partial};
+use qap_cost::{Instance, Partial, least_by_listing};
 use qap_search::{Thought, decide};
 use shared_space::{Alone, Law, Share};
 use space_txn::TxnSpace;
@@ -18,6 +18,7 @@ use std::alloc::{AllocError, Global};
 use std::sync::Arc;
 use std::sync::ledger::Blank;
 use std::test::Fail;
+use tuple_match::Tuple;
 
 /// The flows and the distances of three facilities.
 pub(crate) type Matrices = ([i64; 9], [i64; 9]);
@@ -54,6 +55,14 @@ pub(crate) fn patterned(alloc: Global, n: usize) -> Result<Instance, Fail>
     Ok(Instance::new(n, a, b)?)
 }
 
+/// The least cost of all permutations, by their listing.
+pub(crate) fn least_of(alloc: Global, instance: &Instance) -> Result<i128, AllocError>
+    requires { instance.now.size ≤ 6 }
+{
+    let (least, _) = least_by_listing(alloc, instance)?;
+    Ok(least)
+}
+
 /// The instance with its rows in order, as workers share it.
 pub(crate) fn shared_rows(
     alloc: Global,
@@ -72,6 +81,11 @@ pub(crate) fn told(
 ) -> Result<(i128, i128), Fail> {
     check(alloc, instance, certificate)?;
     Ok((certificate.cost(), certificate.bound()))
+}
+
+/// The tuples that a space holds.
+pub(crate) fn tuples_of(space: TxnSpace) -> Result<Vec<Tuple>, Fail> {
+    space.into_tuples().map_err(|back| Fail::from(back.0))
 }
 
 /// How many tuples take the place of the node beside a best permutation of this cost; 0 where none do.

@@ -1,5 +1,6 @@
 //! Searches that go by a plan, against the listing of all permutations.
 
+ghost use Rattle.std.specs.Prelude.{◌≤◌};
 ghost use Rattle.qap_cost.specs.Objective.{Permutes};
 
 use crate::examples::{patterned, told};
@@ -57,23 +58,45 @@ where
     Ok(())
 }
 
-#[test]
-fn either_rule_finds_the_least_cost(rt: HostRuntime) -> Result<(), Fail> {
-    let alloc = rt.alloc();
-    for n in 1..=6 {
-        let instance = patterned(alloc, n)?;
-        let (least, best) = least_by_listing(alloc, &instance)?;
-        assert_least(
-            &rt,
-            alloc,
-            &instance,
-            &best,
-            Branching::GreatestMatched,
-            least,
-        )?;
-        assert_least(&rt, alloc, &instance, &best, Branching::GreatestSum, least)?;
+/// Asserts that searches by either rule, which begin with the least permutation, find the least cost of an instance.
+fn assert_either<R>(rt: &R, alloc: Global, instance: &Instance) -> Result<(), Fail>
+where
+    R: Threads + Wait + time::Clock + Sync + Abort,
+    requires { instance.now.size ≤ 6 }
+{
+    let (least, best) = least_by_listing(alloc, instance)?;
+    for branching in [Branching::GreatestMatched, Branching::GreatestSum] {
+        assert_least(rt, alloc, instance, &best, branching, least)?;
     }
     Ok(())
+}
+
+#[test]
+fn either_rule_finds_the_least_cost(rt: HostRuntime) -> Result<(), Fail> {
+    for n in 1..=6 {
+        assert_either(&rt, rt.alloc(), &patterned(rt.alloc(), n)?)?;
+    }
+    Ok(())
+}
+
+/// What a search that is stopped at once answers: the cost, and whether its permutation is the start.
+fn answered_at_once<R>(
+    rt: &R,
+    alloc: Global,
+    instance: &Instance,
+    start: &Perm,
+) -> Result<(i128, bool), Fail>
+where
+    R: Threads + Wait + time::Clock + Sync,
+    requires { Permutes instance.now start.now }
+{
+    match solved(rt, alloc, instance, start, Branching::GreatestSum, Some(0)) {
+        Err(SolveError::Stopped(answer)) => Ok((
+            answer.certificate.cost(),
+            answer.certificate.perm().locations() == start.locations(),
+        )),
+        _ => Err(Fail::new("a limit of 0 stops the search")),
+    }
 }
 
 /// A search that is stopped at once has found nothing, so that its start is the answer.
@@ -82,19 +105,8 @@ fn a_search_begins_with_its_start(rt: HostRuntime) -> Result<(), Fail> {
     let alloc = rt.alloc();
     let instance = patterned(alloc, 6)?;
     let (least, best) = least_by_listing(alloc, &instance)?;
-    let stopped = solved(
-        &rt,
-        alloc,
-        &instance,
-        &best,
-        Branching::GreatestSum,
-        Some(0),
-    );
-    let Err(SolveError::Stopped(answer)) = stopped else {
-        return Err(Fail::new("a limit of 0 stops the search"));
-    };
-    assert_eq!(rt; answer.certificate.cost(), least);
-    assert_eq!(rt; answer.certificate.perm().locations(), best.locations());
+    let answer = answered_at_once(&rt, alloc, &instance, &best)?;
+    assert_eq!(rt; answer, (least, true));
     assert!(rt; best.locations() != [0, 1, 2, 3, 4, 5].as_slice());
     Ok(())
 }

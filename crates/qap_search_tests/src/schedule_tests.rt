@@ -3,10 +3,10 @@
 
 ghost use Rattle.std.specs.Prelude.{◌≡◌, ◌<◌, ◌≤◌, IfOk};
 
-use crate::examples::{FIRST, SECOND, patterned, three, told};
+use crate::examples::{FIRST, SECOND, least_of, patterned, three, told, tuples_of};
 use Step::{Advance, Lose, Turn};
 use qap_cert::Certificate;
-use qap_cost::{Instance, least_by_listing};
+use qap_cost::Instance;
 use qap_search::{AssembleError, Report, Run, Step, assemble, best_template, node_template, play};
 use space_txn::TxnSpace;
 use std::alloc::Global;
@@ -109,37 +109,25 @@ fn assembled(alloc: Global, n: usize, space: TxnSpace) -> Result<Certificate, Fa
     Ok(assemble(alloc, n, tuples_of(space)?)?)
 }
 
-fn tuples_of(space: TxnSpace) -> Result<Vec<Tuple>, Fail> {
-    space.into_tuples().or_else(|_| Err(Fail::new("memory")))
-}
-
 /// Why these tuples of a search of three facilities are no certificate.
 fn refusal(alloc: Global, tuples: Vec<Tuple>) -> Option<AssembleError> {
     assemble(alloc, 3, tuples).err()
 }
 
+/// The tuples that a worker leaves behind after these steps.
+fn left_behind(alloc: Global, steps: &[Step]) -> Result<Vec<Tuple>, Fail> {
+    let instance = three(alloc, &SECOND)?;
+    tuples_of(run_of(alloc, &instance, 1, steps)?.space)
+}
+
 #[test]
 fn what_is_left_is_assembled(rt: HostRuntime) -> Result<(), Fail> {
     let alloc = rt.alloc();
-    let instance = three(alloc, &SECOND)?;
-    let run = run_of(alloc, &instance, 1, [Turn(0); 16].as_slice())?;
-    let certificate = assembled(alloc, 3, run.space)?;
+    let certificate = assemble(alloc, 3, left_behind(alloc, &[Turn(0); 16])?)?;
     assert_eq!(rt; (certificate.cost(), certificate.bound()), (1, 1));
-    let run = run_of(alloc, &instance, 1, [Turn(0); 4].as_slice())?;
-    assert_eq!(rt;
-        refusal(alloc, tuples_of(run.space)?),
-        Some(AssembleError::Unfinished(3))
-    );
+    let refused = refusal(alloc, left_behind(alloc, &[Turn(0); 4])?);
+    assert_eq!(rt; refused, Some(AssembleError::Unfinished(3)));
     Ok(())
-}
-
-/// How many commits of all workers were accepted.
-fn all_accepted(reports: &[Report]) -> u64 {
-    let mut accepted = 0u64;
-    for report in reports {
-        accepted = accepted.saturating_add(report.accepted);
-    }
-    accepted
 }
 
 /// A worker's turns, its loss, the end of its lease, and sixteen turns of another one.
@@ -160,9 +148,12 @@ fn after_loss(
     turns: usize,
 ) -> Result<([u64; 3], u64, [u64; 2]), Fail> {
     let steps = steps_with_loss(alloc, turns)?;
-    let run = run_of(alloc, instance, 2, &steps)?;
-    let (tuples, [first, second]) = outcome(alloc, &run)?;
-    Ok((tuples, all_accepted(&run.reports), [first.1, second.1]))
+    let (tuples, [first, second]) = outcome_of(alloc, instance, 2, &steps)?;
+    Ok((
+        tuples,
+        first.0.saturating_add(second.0),
+        [first.1, second.1],
+    ))
 }
 
 #[test]
@@ -269,14 +260,29 @@ fn signed(alloc: Global) -> Result<Instance, Fail>
     Ok(Instance::new(4, a, b)?)
 }
 
+/// How many commits of all workers were accepted.
+fn all_accepted(reports: &[Report]) -> u64 {
+    let mut accepted = 0u64;
+    for report in reports {
+        accepted = accepted.saturating_add(report.accepted);
+    }
+    accepted
+}
+
+/// What the space holds at the end of a run by the formula.
+fn left_by_formula(alloc: Global, instance: &Instance, first: u32) -> Result<TxnSpace, Fail> {
+    let run = run_of(alloc, instance, 3, &by_formula(alloc, first)?)?;
+    if all_accepted(&run.reports) == run.space.commits() {
+        Ok(run.space)
+    } else {
+        Err(Fail::new("the reports tell other commits"))
+    }
+}
+
 /// The cost and the bound that stand at the end of a run by the formula.
 fn end_by_formula(alloc: Global, instance: &Instance, first: u32) -> Result<(i128, i128), Fail> {
-    let steps = by_formula(alloc, first)?;
-    let run = run_of(alloc, instance, 3, &steps)?;
-    if all_accepted(&run.reports) != run.space.commits() {
-        return Err(Fail::new("the reports tell other commits"));
-    }
-    let certificate = assembled(alloc, instance.size(), run.space)?;
+    let space = left_by_formula(alloc, instance, first)?;
+    let certificate = assembled(alloc, instance.size(), space)?;
     told(alloc, instance, &certificate)
 }
 
@@ -285,7 +291,7 @@ fn end_by_formula(alloc: Global, instance: &Instance, first: u32) -> Result<(i12
 fn fifty_schedules(alloc: Global, instance: &Instance) -> Result<(), Fail>
     requires { instance.now.size ≤ 6 }
 {
-    let (least, _) = least_by_listing(alloc, instance)?;
+    let least = least_of(alloc, instance)?;
     for schedule in 0..50 {
         if end_by_formula(alloc, instance, 1000 * schedule)? != (least, least) {
             return Err(Fail::new("another cost"));

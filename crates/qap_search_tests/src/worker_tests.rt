@@ -3,8 +3,8 @@
 //!
 //! Each wait has a limit of turns, past which the test fails.
 
-use crate::examples::{FIRST, SECOND, patterned, three, told};
-use qap_cost::{Instance, least_by_listing};
+use crate::examples::{FIRST, Matrices, SECOND, least_of, patterned, three, told};
+use qap_cost::Instance;
 use qap_search::{Always, Answer, Clock, Ended, Gate, Kind, SolveError, solve, solve_least};
 use std::alloc::Global;
 use std::process::Abort;
@@ -114,18 +114,44 @@ where
     solve(rt, alloc, instance, workers, LEASE_MS, limit, clock, gate)
 }
 
+/// How many commits of all workers were accepted, and how many came too late.
+fn counts(answer: &Answer) -> (u64, u64) {
+    let (mut accepted, mut refused) = (0u64, 0u64);
+    for report in &answer.reports {
+        accepted = accepted.saturating_add(report.accepted);
+        refused = refused.saturating_add(report.refused);
+    }
+    (accepted, refused)
+}
+
+/// The cost that a search by two workers finds, and how many commits were accepted and came too late.
+fn found<R, C, G>(
+    rt: &R,
+    alloc: Global,
+    matrices: &Matrices,
+    clock: &C,
+    gate: &G,
+) -> Result<(i128, (u64, u64)), Fail>
+where
+    R: Threads + Wait + time::Clock + Sync,
+    C: Clock,
+    G: Gate + Sync,
+{
+    let instance = three(alloc, matrices)?;
+    let answer = search(rt, alloc, &instance, 2, None, clock, gate)?;
+    Ok((answer.certificate.cost(), counts(&answer)))
+}
+
 #[test]
 fn gate_meet(rt: HostRuntime) -> Result<(), Fail> {
-    let alloc = rt.alloc();
-    let instance = three(alloc, &FIRST)?;
     let gate = Meeting {
         first: Signal::new(),
         second: Signal::new(),
     };
-    let answer = search(&rt, alloc, &instance, 2, None, &Stopped, &gate)?;
+    let (cost, _) = found(&rt, rt.alloc(), &FIRST, &Stopped, &gate)?;
     assert!(rt; !gate.first.is_late() && !gate.second.is_late());
     assert!(rt; gate.first.is_given() && gate.second.is_given());
-    assert_eq!(rt; answer.certificate.cost(), 24);
+    assert_eq!(rt; cost, 24);
     Ok(())
 }
 
@@ -168,29 +194,16 @@ impl Clock for Late {
 
 #[test]
 fn gate_late(rt: HostRuntime) -> Result<(), Fail> {
-    let alloc = rt.alloc();
-    let instance = three(alloc, &FIRST)?;
     let gate = Late {
         held: Signal::new(),
         accepted: Signal::new(),
         refused: AtomicU64::new(0),
     };
-    let answer = search(&rt, alloc, &instance, 2, None, &gate, &gate)?;
+    let found = found(&rt, rt.alloc(), &FIRST, &gate, &gate)?;
     assert!(rt; !gate.accepted.is_late());
     assert_eq!(rt; gate.refused.load(Ordering::SeqCst), 1);
-    assert_eq!(rt; answer.certificate.cost(), 24);
-    assert_eq!(rt; counts(&answer), (1, 1));
+    assert_eq!(rt; found, (24, (1, 1)));
     Ok(())
-}
-
-/// How many commits of all workers were accepted, and how many came too late.
-fn counts(answer: &Answer) -> (u64, u64) {
-    let (mut accepted, mut refused) = (0u64, 0u64);
-    for report in &answer.reports {
-        accepted = accepted.saturating_add(report.accepted);
-        refused = refused.saturating_add(report.refused);
-    }
-    (accepted, refused)
 }
 
 /// The second thought waits until the third one has begun.
@@ -218,16 +231,13 @@ impl Gate for Thinking {
 
 #[test]
 fn gate_think(rt: HostRuntime) -> Result<(), Fail> {
-    let alloc = rt.alloc();
-    let instance = three(alloc, &SECOND)?;
     let gate = Thinking {
         begun: AtomicU64::new(0),
         third: Signal::new(),
     };
-    let answer = search(&rt, alloc, &instance, 2, None, &Stopped, &gate)?;
+    let found = found(&rt, rt.alloc(), &SECOND, &Stopped, &gate)?;
     assert!(rt; gate.third.is_given() && !gate.third.is_late());
-    assert_eq!(rt; answer.certificate.cost(), 1);
-    assert_eq!(rt; counts(&answer), (4, 0));
+    assert_eq!(rt; found, (1, (4, 0)));
     Ok(())
 }
 
@@ -245,10 +255,26 @@ impl Gate for Without {
     fn thinking(&self, _worker: u16) {}
 }
 
+/// How many nodes a search leaves open whose workers are ended so; `None` where it comes to anything else.
+fn left_open<R>(
+    rt: &R,
+    alloc: Global,
+    workers: u16,
+    limit: Option<u64>,
+    gate: &Without,
+) -> Result<Option<u64>, Fail>
+where
+    R: Threads + Wait + time::Clock + Sync,
+{
+    let instance = three(alloc, &SECOND)?;
+    match search(rt, alloc, &instance, workers, limit, &Stopped, gate) {
+        Err(SolveError::Unfinished(open)) => Ok(Some(open)),
+        _ => Ok(None),
+    }
+}
+
 #[test]
 fn ended_workers_leave_open_nodes(rt: HostRuntime) -> Result<(), Fail> {
-    let alloc = rt.alloc();
-    let instance = three(alloc, &SECOND)?;
     // A node that an ended worker took stays its own until its lease ends, which this clock doesn't come to.
     let cases = [
         (1, Kind::Commit),
@@ -257,13 +283,17 @@ fn ended_workers_leave_open_nodes(rt: HostRuntime) -> Result<(), Fail> {
         (8, Kind::TakeNode),
     ];
     for (workers, kind) in cases {
-        let gate = Without(kind);
-        let ended = search(&rt, alloc, &instance, workers, None, &Stopped, &gate);
-        assert!(rt;
-            matches!(ended, Err(SolveError::Unfinished(1))),
-            "{workers} workers without {kind:?}"
-        );
+        let open = left_open(&rt, rt.alloc(), workers, None, &Without(kind))?;
+        assert_eq!(rt; open, Some(1), "{workers} workers without {kind:?}");
     }
+    Ok(())
+}
+
+/// Workers that end below the limit leave open nodes, and no answer.
+#[test]
+fn a_limit_that_is_not_reached(rt: HostRuntime) -> Result<(), Fail> {
+    let open = left_open(&rt, rt.alloc(), 1, Some(1), &Without(Kind::Commit))?;
+    assert_eq!(rt; open, Some(1));
     Ok(())
 }
 
@@ -295,67 +325,119 @@ impl Clock for Ending {
     }
 }
 
-/// Asserts what a search comes to whose first worker ended so at this step.
-fn assert_ended(rt: &impl Abort, answer: &Answer, first: Ended, step: u64) -> Result<(), Fail> {
-    assert_eq!(rt; answer.certificate.cost(), 1, "ended at step {step}");
-    assert_eq!(rt; counts(answer).0, 4, "ended at step {step}");
-    let [one, other] = answer.reports.as_slice() else {
-        return Err(Fail::new("two workers have two reports"));
+/// How both workers of a search ended.
+fn both_ended(answer: &Answer) -> Option<[Ended; 2]> {
+    match answer.reports.as_slice() {
+        [one, other] => Some([one.ended, other.ended]),
+        _ => None,
+    }
+}
+
+/// What a search comes to whose first worker is ended at its step of this number: whether it came to that step, the cost, the accepted
+/// commits, and how both workers ended.
+fn ended_at<R>(
+    rt: &R,
+    alloc: Global,
+    step: u64,
+) -> Result<(bool, (i128, u64, Option<[Ended; 2]>)), Fail>
+where
+    R: Threads + Wait + time::Clock + Sync,
+{
+    let instance = three(alloc, &SECOND)?;
+    let gate = Ending {
+        step,
+        steps: AtomicU64::new(0),
+        ended: Signal::new(),
     };
-    assert_eq!(rt;
-        (one.ended, other.ended),
-        (first, Ended::Done),
-        "ended at step {step}"
+    let answer = search(rt, alloc, &instance, 2, None, &gate, &gate)?;
+    let told = (
+        answer.certificate.cost(),
+        counts(&answer).0,
+        both_ended(&answer),
     );
-    Ok(())
+    Ok((gate.ended.is_given(), told))
 }
 
 #[test]
 fn another_worker_ends_the_search(rt: HostRuntime) -> Result<(), Fail> {
-    let alloc = rt.alloc();
-    let instance = three(alloc, &SECOND)?;
     for step in 0..8 {
-        let gate = Ending {
-            step,
-            steps: AtomicU64::new(0),
-            ended: Signal::new(),
-        };
-        let answer = search(&rt, alloc, &instance, 2, None, &gate, &gate)?;
-        let first = if gate.ended.is_given() {
-            Ended::ByGate
-        } else {
-            Ended::Done
-        };
-        assert_ended(&rt, &answer, first, step)?;
+        let (came, told) = ended_at(&rt, rt.alloc(), step)?;
+        let first = if came { Ended::ByGate } else { Ended::Done };
+        let want = (1, 4, Some([first, Ended::Done]));
+        assert_eq!(rt; told, want, "ended at step {step}");
     }
     Ok(())
 }
 
-/// Asserts the whole answer of a search by so many workers, whose best permutation is the identity.
-fn assert_answer(rt: &impl Abort, answer: &Answer, workers: u16, cost: i128, nodes: u64) {
-    assert_eq!(rt; answer.certificate.cost(), cost);
-    assert_eq!(rt; answer.certificate.perm().locations(), [0, 1, 2].as_slice());
-    assert_eq!(rt; counts(answer).0, nodes);
-    assert_eq!(rt; answer.reports.len(), usize::from(workers));
-    assert!(rt;
-        answer
-            .reports
-            .iter()
-            .all(|report| report.ended == Ended::Done)
-    );
+/// A search that nothing holds up and no limit stops.
+fn free_search<R>(
+    rt: &R,
+    alloc: Global,
+    instance: &Instance,
+    workers: u16,
+) -> Result<Answer, SolveError>
+where
+    R: Threads + Wait + time::Clock + Sync,
+{
+    search(rt, alloc, instance, workers, None, &Stopped, &Always)
+}
+
+/// How many of the workers of a search ended since it was over.
+fn count_done(answer: &Answer) -> usize {
+    let ended = answer.reports.iter();
+    ended.filter(|report| report.ended == Ended::Done).count()
+}
+
+/// What a search by so many workers comes to: the cost, the accepted commits, how many workers told a report and how many of them that
+/// the search was over, and whether the best permutation is the identity.
+fn worked<R>(
+    rt: &R,
+    alloc: Global,
+    matrices: &Matrices,
+    workers: u16,
+) -> Result<(i128, u64, [usize; 2], bool), Fail>
+where
+    R: Threads + Wait + time::Clock + Sync,
+{
+    let instance = three(alloc, matrices)?;
+    let answer = free_search(rt, alloc, &instance, workers)?;
+    Ok((
+        answer.certificate.cost(),
+        counts(&answer).0,
+        [answer.reports.len(), count_done(&answer)],
+        answer.certificate.perm().locations() == [0, 1, 2].as_slice(),
+    ))
 }
 
 #[test]
 fn worked_examples(rt: HostRuntime) -> Result<(), Fail> {
-    let alloc = rt.alloc();
-    for workers in [1, 2, 8] {
-        for (matrices, cost, nodes) in [(FIRST, 24, 1), (SECOND, 1, 4)] {
-            let instance = three(alloc, &matrices)?;
-            let answer = search(&rt, alloc, &instance, workers, None, &Stopped, &Always)?;
-            assert_answer(&rt, &answer, workers, cost, nodes);
-        }
+    for (workers, count) in [(1, 1), (2, 2), (8, 8)] {
+        let first = worked(&rt, rt.alloc(), &FIRST, workers)?;
+        assert_eq!(rt; first, (24, 1, [count, count], true));
+        let second = worked(&rt, rt.alloc(), &SECOND, workers)?;
+        assert_eq!(rt; second, (1, 4, [count, count], true));
     }
     Ok(())
+}
+
+/// Whether each of ten searches by so many workers finds this cost.
+fn finds<R>(
+    rt: &R,
+    alloc: Global,
+    instance: &Instance,
+    workers: u16,
+    least: i128,
+) -> Result<bool, SolveError>
+where
+    R: Threads + Wait + time::Clock + Sync,
+{
+    for _ in 0..10 {
+        let answer = free_search(rt, alloc, instance, workers)?;
+        if answer.certificate.cost() != least {
+            return Ok(false);
+        }
+    }
+    Ok(true)
 }
 
 #[test]
@@ -363,19 +445,32 @@ fn answers(rt: HostRuntime) -> Result<(), Fail> {
     let alloc = rt.alloc();
     for n in 1..=6 {
         let instance = patterned(alloc, n)?;
-        let (least, _) = least_by_listing(alloc, &instance)?;
+        let least = least_of(alloc, &instance)?;
         for workers in [1, 2, 8] {
-            for _ in 0..10 {
-                let answer = search(&rt, alloc, &instance, workers, None, &Stopped, &Always)?;
-                assert_eq!(rt;
-                    answer.certificate.cost(),
-                    least,
-                    "size {n}, {workers} workers"
-                );
-            }
+            let found = finds(&rt, alloc, &instance, workers, least)?;
+            assert!(rt; found, "size {n}, {workers} workers");
         }
     }
     Ok(())
+}
+
+/// A search under a limit of nodes: whether it was stopped, and its answer.
+fn stopped_or_not<R>(
+    rt: &R,
+    alloc: Global,
+    instance: &Instance,
+    workers: u16,
+    limit: u64,
+) -> Result<(bool, Answer), SolveError>
+where
+    R: Threads + Wait + time::Clock + Sync,
+{
+    let limit = Some(limit);
+    match search(rt, alloc, instance, workers, limit, &Stopped, &Always) {
+        Ok(answer) => Ok((false, answer)),
+        Err(SolveError::Stopped(answer)) => Ok((true, answer)),
+        Err(error) => Err(error),
+    }
 }
 
 /// A search under a limit of nodes: whether it was stopped, its answer's cost and bound, once the checker has accepted it, and how many
@@ -390,19 +485,7 @@ fn limited<R>(
 where
     R: Threads + Wait + time::Clock + Sync,
 {
-    let (is_stopped, answer) = match search(
-        rt,
-        alloc,
-        instance,
-        workers,
-        Some(limit),
-        &Stopped,
-        &Always,
-    ) {
-        Ok(answer) => (false, answer),
-        Err(SolveError::Stopped(answer)) => (true, answer),
-        Err(error) => return Err(Fail::from(error)),
-    };
+    let (is_stopped, answer) = stopped_or_not(rt, alloc, instance, workers, limit)?;
     let costs = told(alloc, instance, &answer.certificate)?;
     Ok((is_stopped, costs, counts(&answer).0))
 }
@@ -425,23 +508,12 @@ fn a_limit_stops_the_search(rt: HostRuntime) -> Result<(), Fail> {
     Ok(())
 }
 
-/// Workers that end below the limit leave open nodes, and no answer.
-#[test]
-fn a_limit_that_is_not_reached(rt: HostRuntime) -> Result<(), Fail> {
-    let alloc = rt.alloc();
-    let instance = three(alloc, &SECOND)?;
-    let gate = Without(Kind::Commit);
-    let ended = search(&rt, alloc, &instance, 1, Some(1), &Stopped, &gate);
-    assert!(rt; matches!(ended, Err(SolveError::Unfinished(1))));
-    Ok(())
-}
-
 #[test]
 fn a_gap_holds_the_least_cost(rt: HostRuntime) -> Result<(), Fail> {
     let alloc = rt.alloc();
     for n in 1..=6 {
         let instance = patterned(alloc, n)?;
-        let (least, _) = least_by_listing(alloc, &instance)?;
+        let least = least_of(alloc, &instance)?;
         for limit in [0, 1, 2, 5, 20] {
             let (_, (cost, bound), _) = limited(&rt, alloc, &instance, 2, limit)?;
             assert!(rt; bound <= least && least <= cost, "size {n}, limit {limit}");
@@ -450,21 +522,34 @@ fn a_gap_holds_the_least_cost(rt: HostRuntime) -> Result<(), Fail> {
     Ok(())
 }
 
+/// What a search for a permutation alone comes to: its cost, whether it is the identity, and how many workers told a report; `None` where
+/// the limit stops it.
+fn least_found<R>(
+    rt: &R,
+    alloc: Global,
+    limit: Option<u64>,
+) -> Result<Option<(i128, bool, usize)>, Fail>
+where
+    R: Threads + Wait + time::Clock + Sync,
+{
+    let instance = three(alloc, &SECOND)?;
+    match solve_least(rt, alloc, &instance, 2, LEASE_MS, limit, &Stopped, &Always) {
+        Ok(found) => Ok(Some((
+            found.cost,
+            found.permutation.locations() == [0, 1, 2].as_slice(),
+            found.reports.len(),
+        ))),
+        Err(SolveError::Stopped(_answer)) => Ok(None),
+        Err(error) => Err(Fail::from(error)),
+    }
+}
+
 #[test]
 fn permutations_without_certificates(rt: HostRuntime) -> Result<(), Fail> {
-    let alloc = rt.alloc();
-    let instance = three(alloc, &SECOND)?;
-    for (limit, cost) in [(None, Some(1)), (Some(4), Some(1)), (Some(3), None)] {
-        let found = solve_least(&rt, alloc, &instance, 2, LEASE_MS, limit, &Stopped, &Always);
-        match found {
-            Ok(found) => {
-                assert_eq!(rt; Some(found.cost), cost, "limit {limit:?}");
-                assert_eq!(rt; found.permutation.locations(), [0, 1, 2].as_slice());
-                assert_eq!(rt; found.reports.len(), 2);
-            }
-            Err(SolveError::Stopped(_answer)) => assert_eq!(rt; None, cost, "limit {limit:?}"),
-            Err(error) => return Err(Fail::from(error)),
-        }
+    let least = Some((1, true, 2));
+    for (limit, want) in [(None, least), (Some(4), least), (Some(3), None)] {
+        let found = least_found(&rt, rt.alloc(), limit)?;
+        assert_eq!(rt; found, want, "limit {limit:?}");
     }
     Ok(())
 }

@@ -8,7 +8,7 @@ use Rattle.qap_cert.specs.declared.version.Version.TheVariants.{Second}
 use Rattle.shared_space.specs.Limit.{IsWithin}
 use Rattle.qap_search.specs.Answer.{CertifiesLeast, IsLeastAnswer, accepted_of}
 use Rattle.qap_search.specs.Stopped.{CertifiesStopped}
-use Rattle.qap_search.specs.declared.answer.Least.{Least}
+use Rattle.qap_search.specs.declared.runs.answer.Least.{Least}
 use Rattle.qap_text.specs.Input.{HasInstance, Input}
 use Rattle.qap_text.specs.WrittenSolution.{solution_text}
 use Rattle.qap_solve.specs.Outcome.{IsLeastFound}

@@ -1,8 +1,8 @@
 -- Why a run is broken off, and how that is told.
 use Rattle.std.specs.Prelude.{ℕ, codes}
 use Rattle.qap_io.specs.Refusal.{RefusalText, memory_refusal, device_refusal, refused, refused_at}
-use Rattle.qap_search.specs.declared.answer.SolveError.{SolveError}
-use Rattle.qap_search.specs.declared.answer.SolveError.TheVariants.{Unfinished as SearchUnfinished, Stopped as SearchStopped, OutOfMemory as SearchMemory}
+use Rattle.qap_search.specs.declared.runs.answer.SolveError.{SolveError}
+use Rattle.qap_search.specs.declared.runs.answer.SolveError.TheVariants.{Unfinished as SearchUnfinished, Stopped as SearchStopped, OutOfMemory as SearchMemory}
 use Rattle.qap_text.specs.Refusal.{text_refusal}
 use Rattle.qap_text.specs.declared.error.TextError.{TextError}
 use Rattle.qap_text.specs.declared.error.TextError.TheVariants.{InputTooLong, OutOfMemory as TextMemory, Device as TextDevice}

@@ -1,3 +1,4 @@
 pub mod LawLemmas
 pub mod MarkLemmas
+pub mod RunLemmas
 pub mod WriteLemmas

@@ -3,3 +3,4 @@ pub mod Law
 pub mod Limit
 pub mod Place
 pub mod Refusals
+pub mod Run

@@ -2,6 +2,8 @@
 
 ghost use Rattle.std.specs.Prelude.{ℕ, None, Option};
 ghost use Rattle.shared_space.specs.Law.{Content, IsKept, IsUnordered};
+ghost use Rattle.shared_space.specs.Place.{Place};
+ghost use Rattle.shared_space.specs.Run.{GoesOn};
 
 use std::marker::Brand;
 use std::sync::ledger::Ledger;
@@ -9,7 +11,7 @@ use std::sync::ledger::Ledger;
 /// The name of one space and its ledger, with the law of what the space may hold.
 ///
 /// A function over `L: Law` makes a space and uses it, and is called at `Brand`, where its caller picks the law. With no pick
-/// the law always holds and sets no limit.
+/// the law always holds, sets no limit and says nothing of what was done.
 pub trait Law: Ledger {
     /// Which permanent tuples are lawful, held ones included, after so many accepted commits.
     ghost lawful: { Content → ℕ → Type 0 };
@@ -20,11 +22,17 @@ pub trait Law: Ledger {
     /// How many commits are allowed in all, where there is a limit.
     ghost limit: { Option ℕ };
 
+    /// At which places what was done with the space may have left it: those that a run from its opening leads to, say.
+    ghost reached: { Place → Type 0 };
+
     /// The law doesn't see the order of the tuples.
     ghost unordered: { IsUnordered lawful };
 
     /// A commit that is allowed keeps the law.
     ghost keeps: { IsKept lawful allowed };
+
+    /// From a place that is reached, each act leads to another one that is.
+    ghost goes_on: { GoesOn allowed limit reached };
 }
 
 impl Law for Brand {
@@ -34,7 +42,11 @@ impl Law for Brand {
 
     ghost limit = { None };
 
+    ghost reached = { λ _. Unit {0} };
+
     ghost unordered = { λ _ _ _ _ _. tt };
 
     ghost keeps = { λ _ _ _ _ _ _ _. tt };
+
+    ghost goes_on = { λ _ _ _ _ _ _. tt };
 }

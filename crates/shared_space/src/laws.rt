@@ -1,6 +1,6 @@
-//! What a transaction's commit takes out of the content and puts in.
+//! What a transaction's commit takes out of the content and puts in, and what runs of a space come to.
 
-ghost use Rattle.std.specs.Prelude.{◌≡◌, List, [], ◌∷◌, ◌++◌, true, false, Bool};
+ghost use Rattle.std.specs.Prelude.{◌≡◌, ◌+◌, ℕ, List, [], ◌∷◌, ◌++◌, true, false, Bool, Option, count_by};
 ghost use Rattle.tuple_match.specs.FieldValue.{FieldValue};
 ghost use Rattle.tuple_space.specs.declared.lease.Lease.TheVariants.{Forever};
 ghost use Rattle.tuple_space.specs.declared.write.Write.{Write};
@@ -8,6 +8,8 @@ ghost use Rattle.space_txn.specs.Content.{SameItems, added_of, gone_of, kept_of}
 ghost use Rattle.space_txn.specs.Finding.{IsUntaken};
 ghost use Rattle.space_txn.specs.Marks.{with_mark};
 ghost use Rattle.space_txn.specs.declared.mark.Mark.{Mark};
+ghost use Rattle.shared_space.specs.Place.{Place};
+ghost use Rattle.shared_space.specs.Run.{Act, LeadTo, is_accepted};
 
 /// Where a transaction took one permanent entry and found another one, what it took is gone, and what it read stays, whatever
 /// has been renewed since.
@@ -24,4 +26,10 @@ pub fn two_marks_law()
 pub fn writing_law()
     ensures { (writes : List Write) (tuple : List FieldValue) →
         added_of (writes ++ record { tuple = tuple; lease = Forever; taken = false } ∷ []) ≡ added_of writes ++ tuple ∷ [] }
+{}
+
+/// The accepted commits among the acts of a run are what its last place counts more than its first.
+pub fn run_law()
+    ensures { (limit : Option ℕ) (old new : Place) (acts : List Act) → LeadTo limit old acts new →
+        new.world.commits ≡ old.world.commits + count_by is_accepted acts }
 {}

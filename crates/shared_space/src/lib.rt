@@ -19,7 +19,7 @@ mod via;
 pub use alone::Alone;
 pub use error::{CommitError, SharedError};
 pub use law::Law;
-pub use laws::{two_marks_law, writing_law};
+pub use laws::{run_law, two_marks_law, writing_law};
 pub use limited::Limited;
 pub use room::Room;
 pub use share::Share;

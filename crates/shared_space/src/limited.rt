@@ -7,6 +7,8 @@ ghost use Rattle.shared_space.specs.Law.{IsFree};
 ghost use Rattle.shared_space.specs.Limit.{DidWithin, IsWithin, is_reached};
 ghost use Rattle.shared_space.specs.Place.{one_left, place_of};
 ghost use Rattle.shared_space.specs.Refusals.{IsOutError};
+ghost use Rattle.shared_space.specs.Run.{Acts, IsReached, outside};
+ghost use Rattle.tuple_space.specs.Step.{inp, inp_reply, out, out_reply, rdp, rdp_reply};
 
 use crate::alone::Alone;
 use crate::error::CommitError;
@@ -21,7 +23,7 @@ use tuple_match::{Template, Tuple};
 use tuple_space::{EntryId, Lease, SpaceError};
 
 /// A space of one thread with the limit that its law sets: its commits are at most the limit, and where they are the limit it
-/// is closed.
+/// is closed. It stands at a place that its law says is reached: each call is one act, which leads there from the place before.
 #[derive(Drop)]
 pub struct Limited<L: Law> {
     alone: Alone<L>,
@@ -37,7 +39,7 @@ impl<L: Law> Model for Limited<L> {
 
     ghost view = { λ l. l.alone };
 
-    ghost invariant = { λ l. (l.limit ≡ L.limit) × IsLimited L.limit l.alone };
+    ghost invariant = { λ l. (l.limit ≡ L.limit) × IsLimited L.limit l.alone × L.reached l.alone };
 }
 
 impl<L: Law> Limited<L> {
@@ -56,6 +58,7 @@ impl<L: Law> Limited<L> {
         requires lawful { L.lawful (content_of space) space.commits }
         requires fresh { space.commits ≡ 0 }
         requires limit { limit ≡ L.limit }
+        requires reached { L.reached (place_of space shares 0 (is_reached limit 0)) }
         ensures space { IfOk result (λ made. made.0 ≡ place_of space shares 0 (is_reached limit 0)) }
         ensures shares { IfOk result (λ made. made.1.items ≡ replicate shares 0) }
         ensures handed_back { IfErr result (λ back. (back.1 ≡ blank) × (back.2 ≡ space)) }
@@ -92,6 +95,7 @@ impl<L: Law> Limited<L> {
     /// Puts a tuple out, outside all transactions.
     pub fn out(&mut self, tuple: Tuple, lease: Lease) -> Result<EntryId, (SpaceError, Tuple)>
         requires { lease ≡ Lease.Forever → IsFree L.lawful L.allowed }
+        ensures acts { Acts L.limit self.old (outside (out tuple lease) (out_reply result)) self.new }
         ensures handed_back { IfErr result (λ back. back.1 ≡ tuple) }
         ensures kind { IfErr result (λ back. IsOutError back.0) }
     {
@@ -101,13 +105,15 @@ impl<L: Law> Limited<L> {
     /// Takes a tuple, outside all transactions, or answers `None` where none can be had now.
     pub fn inp(&mut self, template: &Template) -> Option<(EntryId, Tuple)>
         requires { IsFree L.lawful L.allowed }
-        ensures { IfSome result (λ found. Matches template.now found.1) }
+        ensures acts { Acts L.limit self.old (outside (inp template.now) (inp_reply result)) self.new }
+        ensures matches { IfSome result (λ found. Matches template.now found.1) }
     {
         self.alone.inp(template)
     }
 
     /// Copies a tuple, outside all transactions, or answers `None` where none can be had now.
     pub fn rdp(&self, template: &Template) -> Result<Option<(EntryId, Tuple)>, SpaceError>
+        ensures acts { Acts L.limit self.now (outside (rdp template.now) (rdp_reply result)) self.now }
         ensures matches { IfOk result (λ found. IfSome found (λ pair. Matches template.now pair.1)) }
         ensures kind { IfErr result (λ error. error ≡ SpaceError.OutOfMemory) }
     {
@@ -130,6 +136,7 @@ impl<L: Law> Limited<L> {
         ensures sum { result.1 ≡ sum shares.items }
         ensures commits { result.1 ≡ result.0.commits }
         ensures within { IsWithin L.limit result.0.commits }
+        ensures reached { IsReached L.reached result.0 }
     {
         let Limited { alone, limit: _ } = self;
         alone.into_inner(shares)

@@ -7,7 +7,9 @@ ghost use Rattle.space_txn.specs.Content.{content_of};
 ghost use Rattle.space_txn.specs.Finding.{Finds, Shows};
 ghost use Rattle.space_txn.specs.Machine.{find_answer};
 ghost use Rattle.shared_space.specs.Law.{InLawful, IsFree, MayCommit};
-ghost use Rattle.shared_space.specs.Limit.{IsWithin};
+ghost use Rattle.shared_space.specs.Limit.{IsWithin, is_reached};
+ghost use Rattle.shared_space.specs.Place.{place_of};
+ghost use Rattle.shared_space.specs.Run.{IsReached};
 ghost use Rattle.shared_space.specs.Refusals.{IsAbortError, IsBeginError, IsCommitError, IsFindError, IsOutError};
 
 use crate::error::{CommitError, SharedError};
@@ -25,7 +27,7 @@ use tuple_match::{Template, Tuple};
 use tuple_space::{EntryId, Lease, SpaceError};
 
 /// A space under a lock. Whenever the lock is free, its content is lawful, all shares that were made with it count its commits
-/// together, and these are at most the limit of its law, where it sets one.
+/// together, these are at most the limit of its law, where it sets one, and it stands at a place that its law says is reached.
 ///
 /// Each call takes the lock, makes one call on the space and lets the lock go. A call may wait for the lock; what it says holds
 /// if it returns.
@@ -50,6 +52,7 @@ impl<L: Law> Shared<L> {
         requires lawful { L.lawful (content_of space) space.commits }
         requires fresh { space.commits ≡ 0 }
         requires limit { L.limit ≡ None }
+        requires reached { L.reached (place_of space shares 0 false) }
         ensures shares { IfOk result (λ made. made.1.items ≡ replicate shares 0) }
         ensures handed_back { IfErr result (λ back. (back.1 ≡ blank) × (back.2 ≡ space)) }
     {
@@ -71,6 +74,7 @@ impl<L: Law> Shared<L> {
         requires lawful { L.lawful (content_of space) space.commits }
         requires fresh { space.commits ≡ 0 }
         requires limit { L.limit ≡ Some limit }
+        requires reached { L.reached (place_of space shares 0 (is_reached (Some limit) 0)) }
         ensures shares { IfOk result (λ made. made.1.items ≡ replicate shares 0) }
         ensures handed_back { IfErr result (λ back. (back.1 ≡ blank) × (back.2 ≡ space)) }
     {
@@ -90,6 +94,7 @@ impl<L: Law> Shared<L> {
         requires lawful { L.lawful (content_of space) space.commits }
         requires fresh { space.commits ≡ 0 }
         requires limit { limit ≡ L.limit }
+        requires reached { L.reached (place_of space shares 0 (is_reached limit 0)) }
         ensures shares { IfOk result (λ made. made.1.items ≡ replicate shares 0) }
         ensures handed_back { IfErr result (λ back. (back.1 ≡ blank) × (back.2 ≡ space)) }
     {
@@ -309,6 +314,7 @@ impl<L: Law> Shared<L> {
         ensures sum { result.1 ≡ sum shares.items }
         ensures commits { result.1 ≡ result.0.commits }
         ensures within { IsWithin L.limit result.0.commits }
+        ensures reached { IsReached L.reached result.0 }
     {
         let Shared {
             limited,

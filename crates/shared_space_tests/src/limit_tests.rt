@@ -3,6 +3,7 @@
 
 ghost use Rattle.std.specs.Prelude.{◌≡◌, IfOk, Some, vec_len};
 ghost use Rattle.shared_space.specs.Law.{IsFree};
+ghost use Rattle.shared_space.specs.Place.{Place};
 
 use crate::tests::{count_jobs, job};
 use crate::thread_tests::write_in_four;
@@ -42,6 +43,7 @@ fn new_limited<L: Law>(
     requires all { blank.parts ≡ shares }
     requires limit { L.limit ≡ Some limit }
     requires free { IsFree L.lawful L.allowed }
+    requires reached { (p : Place) → L.reached p }
     ensures { IfOk result (λ made. vec_len made.1 ≡ shares) }
 {
     match Shared::<L>::with_limit(alloc, blank, TxnSpace::new(alloc), shares, limit) {
@@ -115,6 +117,7 @@ fn write_three<L: Law, R: Wait>(
     requires one { blank.parts ≡ 1 }
     requires limit { L.limit ≡ Some limit }
     requires free { IsFree L.lawful L.allowed }
+    requires reached { (p : Place) → L.reached p }
 {
     let (shared, mut shares) = new_limited::<L>(alloc, blank, 1, limit)?;
     let (closed, limited) = write_each(rt, alloc, &shared, &mut shares[0])?;
@@ -140,6 +143,7 @@ fn race_in_four<L: Law + Send + Sync, R: Threads + Wait + Sync>(
     requires four { blank.parts ≡ 4 }
     requires limit { L.limit ≡ Some limit }
     requires free { IsFree L.lawful L.allowed }
+    requires reached { (p : Place) → L.reached p }
 {
     let (shared, shares) = new_limited::<L>(alloc, blank, 4, limit)?;
     let shares = write_in_four(rt, alloc, &shared, shares)?;

@@ -1,5 +1,6 @@
 ghost use Rattle.std.specs.Prelude.{◌≡◌, IfOk, None, vec_len};
 ghost use Rattle.shared_space.specs.Law.{IsFree};
+ghost use Rattle.shared_space.specs.Place.{Place};
 
 use crate::tests::{any_job, count_jobs, job, write};
 use shared_space::{CommitError, Law, Room, Share, Shared, SharedError, Via};
@@ -33,6 +34,7 @@ fn new_shared<L: Law>(
     requires all { blank.parts ≡ shares }
     requires limit { L.limit ≡ None }
     requires free { IsFree L.lawful L.allowed }
+    requires reached { (p : Place) → L.reached p }
     ensures { IfOk result (λ made. vec_len made.1 ≡ shares) }
 {
     match Shared::<L>::new(alloc, blank, TxnSpace::new(alloc), shares) {
@@ -136,6 +138,7 @@ fn count_in_four<L: Law + Send + Sync, R: Threads + Wait + Sync>(
     requires limit { L.limit ≡ None }
     requires four { blank.parts ≡ 4 }
     requires free { IsFree L.lawful L.allowed }
+    requires reached { (p : Place) → L.reached p }
 {
     let (shared, shares) = new_shared::<L>(alloc, blank, 4)?;
     let shares = write_in_four(rt, alloc, &shared, shares)?;
@@ -203,6 +206,7 @@ fn wait_for_job<L: Law + Send + Sync, R: Threads + Wait + Sync>(
     requires limit { L.limit ≡ None }
     requires one { blank.parts ≡ 1 }
     requires free { IsFree L.lawful L.allowed }
+    requires reached { (p : Place) → L.reached p }
 {
     let (shared, _shares) = new_shared::<L>(alloc, blank, 1)?;
     let jobs = any_job(alloc)?;
@@ -245,6 +249,7 @@ fn read_back_in<L: Law, R: Wait>(
     requires limit { L.limit ≡ None }
     requires one { blank.parts ≡ 1 }
     requires free { IsFree L.lawful L.allowed }
+    requires reached { (p : Place) → L.reached p }
 {
     let (shared, _shares) = new_shared::<L>(alloc, blank, 1)?;
     let jobs = any_job(alloc)?;
@@ -322,6 +327,7 @@ fn close_in<L: Law, R: Wait>(
     requires limit { L.limit ≡ None }
     requires one { blank.parts ≡ 1 }
     requires free { IsFree L.lawful L.allowed }
+    requires reached { (p : Place) → L.reached p }
 {
     let (shared, mut shares) = new_shared::<L>(alloc, blank, 1)?;
     let jobs = any_job(alloc)?;
@@ -394,6 +400,7 @@ fn end_in<L: Law, R: Wait>(
     requires limit { L.limit ≡ None }
     requires one { blank.parts ≡ 1 }
     requires free { IsFree L.lawful L.allowed }
+    requires reached { (p : Place) → L.reached p }
 {
     let (shared, mut shares) = new_shared::<L>(alloc, blank, 1)?;
     let jobs = any_job(alloc)?;

@@ -13,6 +13,8 @@ ghosts-one_worker-L-Law g a = record {
   lawful = IsCutTree (whole a.instance.now);
   allowed = MayReplace a.instance.now;
   limit = None;
+  reached = λ _. Unit {0};
   unordered = cut_trees_unordered (whole a.instance.now);
   keeps = cut_trees_kept (whole a.instance.now);
+  goes_on = λ _ _ _ _ _ _. tt;
 }

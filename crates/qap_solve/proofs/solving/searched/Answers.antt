@@ -8,7 +8,7 @@ returns-in_ok-found g c =
     let I = c.args.instance.now in
     let options = c.args.options.now in
     let a = c.in_ok-found.found in
-    let h = c.in_ok-found.ensures {u = tt} in
+    let h = c.in_ok-found.ensures.answer in
     let law = c.certificate_law.ensures in
     let left = h.left in
     let commits = accepted_of a.reports.items in

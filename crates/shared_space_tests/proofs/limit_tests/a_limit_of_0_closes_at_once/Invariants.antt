@@ -10,6 +10,8 @@ ghosts-write_three-L-Law g a = record {
   lawful = λ _ _. Unit {0};
   allowed = λ _ _ _. Unit {0};
   limit = Some a.limit;
+  reached = λ _. Unit {0};
   unordered = λ _ _ _ _ _. tt;
   keeps = λ _ _ _ _ _ _ _. tt;
+  goes_on = λ _ _ _ _ _ _. tt;
 }

@@ -1,5 +1,0 @@
-use Rattle.qap_search.proofs.Scatter.{HasPut}
-use Rattle.qap_search.proofs.completion.put_each.Given as goal
-
-abbrev pub invariant-loop-t : goal.invariant-loop-t
-invariant-loop-t l = HasPut l.at l.values l.initial.target.items l.target.items l.t

@@ -1,0 +1,38 @@
+use Rattle.std.proofs.Common.{◌≡◌, ℕ, List, sym, subst, ◌∙◌, ap₂, arith}
+use Rattle.std.proofs.lemmas.Int.{ints}
+use Rattle.qap_cost.specs.Matrix.{dual_value}
+use Rattle.qap_search.specs.Completion.{IsCompletion}
+use Rattle.qap_search.proofs.Thoughts.{duals_of, within_more}
+use Rattle.qap_search.proofs.node.thought.Thought.by.Goals as goal
+
+pub returns : goal.returns
+returns c =
+    let I = c.args.instance.now in
+    let x = c.args.node.now in
+    let M = c.args.matrix.now in
+    let a = c.in_ok-assignment.ensures in
+    let done = c.in_ok-candidate.ensures in
+    let completes = subst (λ (q : List ℕ). IsCompletion x q c.in_ok-candidate.candidate) c.deref.ensures.value done.completion in
+    let duals : c.dual_sum.result ≡ dual_value c.in_ok-assignment.assignment.u.items c.in_ok-assignment.assignment.v.items =
+    c.dual_sum.ensures.value ∙ ap₂ dual_value c.deref-2.ensures.value c.deref-3.ensures.value in
+    record {
+      matrix = M;
+      square = c.size-size.ensures.matrix;
+      reduced = c.requires.reduced;
+      duals = duals_of I x M _ _ done.placement c.requires.reduced a.fits (within_more _ _ _ (omega arith) (a.u_range _ c.requires.bounded)) (within_more _ _ _ (omega arith) (a.v_range _ c.requires.bounded));
+      fits = a.fits;
+      matching = _;
+      assigns = a.assigns;
+      reached = a.equal;
+      value = omega (arith, ints, duals, c.dual_sum.ensures.bounded, c.fixed_cost.ensures.value, c.fixed_cost.ensures.bounded);
+      completes = completes;
+      permutes = record { bijection = done.permutation.bijection; same_size = completes.same_size ∙ sym c.requires.same_size };
+      costs = omega (arith, ints, c.cost-cost.ensures.value, c.cost-cost.ensures.bounded);
+      branch = c.in_ok-facility.ensures;
+    }
+
+pub branch_of-requires-clause-u_range : goal.branch_of-requires-clause-u_range
+branch_of-requires-clause-u_range c = within_more _ _ _ (omega arith) (c.in_ok-assignment.ensures.u_range _ c.requires.bounded)
+
+pub branch_of-requires-clause-v_range : goal.branch_of-requires-clause-v_range
+branch_of-requires-clause-v_range c = within_more _ _ _ (omega arith) (c.in_ok-assignment.ensures.v_range _ c.requires.bounded)

@@ -1,0 +1,22 @@
+use Rattle.std.proofs.Common.{length, subst}
+use Rattle.qap_cost.specs.Placement.{Placement}
+use Rattle.qap_search.specs.Answer.{IsAnswer}
+use Rattle.qap_search.specs.Outcome.{IsEnded}
+use Rattle.qap_search.specs.Ran.{RanTo}
+use Rattle.qap_search.specs.Search.{Search, best_with, from_root, search_of}
+use Rattle.qap_search.specs.declared.runs.answer.Answer.{Answer}
+use Rattle.qap_search.proofs.BehindAnswers.{ran_behind}
+use Rattle.qap_search.proofs.runs.threads.solve_from.Goals as goal
+
+pub returns-clause-ran : goal.returns-clause-ran
+returns-clause-ran g c =
+    let I = c.args.instance.now in
+    let plan = c.args.plan.now in
+    let known = best_with I plan.start.now in
+    let S : Search = from_root I known in
+    let run = c.in_ok-run.run' in
+    let ended : IsEnded S plan.limit run = subst (λ (x : Placement). IsEnded (search_of I x known) plan.limit run) c.requires.whole c.in_ok-run.ensures.ended in
+    let ran : RanTo S plan.workers plan.limit run.space =
+    subst (λ (x : Placement). RanTo (search_of I x known) plan.workers plan.limit run.space) c.requires.whole c.in_ok-run.ensures.ran in
+    ran_behind (λ (a : Answer). a.reports.items) S plan.workers plan.limit run (λ (a : Answer). IsAnswer I (length run.reports.items) plan.limit a) c.answer_of.result ran ended
+    (c.answer_of.ensures.answer known ended) c.answer_of.ensures.tells

@@ -1,6 +1,0 @@
-use Rattle.qap_search.specs.Search.{whole}
-use Rattle.qap_search.proofs.SearchLaws.{cut_trees_are_law}
-use Rattle.qap_search.proofs.schedule.play.Goals as goal
-
-pub follow-requires-clause-law : goal.follow-requires-clause-law
-follow-requires-clause-law c = cut_trees_are_law (whole c.args.instance.now)

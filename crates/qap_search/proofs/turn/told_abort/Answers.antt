@@ -1,4 +1,0 @@
-use Rattle.qap_search.proofs.turn.told_abort.Goals as goal
-
-pub returns-in-Err-clause-stage : goal.returns-in-Err-clause-stage
-returns-in-Err-clause-stage c = λ I last. c.refused.ensures.stage I last tt

@@ -1,4 +1,0 @@
-use Rattle.qap_search.proofs.workers.search.Goals as goal
-
-pub returns-clause-ended : goal.returns-clause-ended
-returns-clause-ended g c = rw c.requires.limit at (c.run_out.ensures.ended _ c.requires.law)

@@ -1,0 +1,15 @@
+//! Runs of a search: by threads, by the calling thread alone, and by a schedule.
+
+pub(crate) mod alone;
+pub(crate) mod answer;
+pub(crate) mod bound;
+pub(crate) mod clock;
+pub(crate) mod opening;
+pub(crate) mod outcome;
+pub(crate) mod plan;
+pub(crate) mod run;
+pub(crate) mod schedule;
+pub(crate) mod schedule_place;
+pub(crate) mod seat;
+pub(crate) mod stop;
+pub(crate) mod threads;

@@ -1,0 +1,163 @@
+//! A search by one worker, on a space of its own.
+
+ghost use Rattle.std.specs.Prelude.{◌≡◌, ◌∷◌, [], IfOk, MatchResult, None, length};
+ghost use Rattle.std.specs.Arc.{arc_value};
+ghost use Rattle.qap_search.specs.Answer.{IsAnswer, IsSolveFault};
+ghost use Rattle.qap_search.specs.Outcome.{IsEnded};
+ghost use Rattle.qap_search.specs.Opening.{IsOpening};
+ghost use Rattle.qap_search.specs.Search.{Search, whole};
+ghost use Rattle.qap_search.specs.SearchLaw.{IsLawOf, IsSearchLaw};
+ghost use Rattle.space_txn.specs.Content.{content_of};
+
+use crate::certificate::closers::One;
+use crate::runs::answer::{Answer, SolveError};
+use crate::runs::opening::opening_space;
+use crate::runs::outcome::answer_of;
+use crate::runs::run::Run;
+use crate::tuples::templates::node_template;
+use crate::worker::gate::{Always, Kind};
+use crate::worker::hand::Hand;
+use crate::worker::report::{Ended, Report};
+use gilmore_lawler::RankedInstance;
+use qap_cost::Instance;
+use shared_space::{Alone, Law, Room, Share};
+use space_txn::TxnSpace;
+use std::alloc::{AllocError, Global};
+use std::marker::Brand;
+use std::sync::ledger::Blank;
+use std::sync::{Arc, Wait};
+use tuple_match::Template;
+
+/// The certificate of an instance's least cost, from one worker whose transactions begin with leases of so many milliseconds.
+///
+/// `Unfinished` comes where the worker found no memory and nodes are open, with their number. With a lease of 0 ms no commit is
+/// ever accepted, and the call doesn't return.
+pub fn solve_alone<R: Wait>(
+    rt: &R,
+    alloc: Global,
+    instance: &Instance,
+    lease_ms: u64,
+) -> Result<Answer, SolveError>
+    ensures { MatchResult result (IsAnswer instance.now 1 None) (IsSolveFault instance.now 1 None) }
+{
+    let space = opening_space(alloc, instance)?;
+    let run = search::<Brand, R>(rt, alloc, instance, space, Blank::new(1), lease_ms)?;
+    answer_of(&One, alloc, instance, None, run)
+}
+
+/// The run on a space that stands at the opening, under a law that is the search's.
+fn search<L: Law, R: Wait>(
+    rt: &R,
+    alloc: Global,
+    instance: &Instance,
+    space: TxnSpace,
+    blank: Blank,
+    lease_ms: u64,
+) -> Result<Run, AllocError>
+    requires name { blank.name ≡ L.name }
+    requires parts { blank.parts ≡ L.parts }
+    requires one { blank.parts ≡ 1 }
+    requires law { IsLawOf (whole instance.now) L.lawful L.allowed }
+    requires opening { IsOpening (whole instance.now) space }
+    ensures ended { IfOk result (IsEnded (whole instance.now) None) }
+    ensures one { IfOk result (λ run. length run.reports.items ≡ 1) }
+{
+    let hand = Hand::new(alloc, 0, shared_rows(alloc, instance)?, lease_ms)?;
+    let nodes = node_template(alloc)?;
+    let (room, shares) = room_alone::<L>(alloc, blank, space)?;
+    worked(rt, alloc, hand, room, shares, &nodes)
+}
+
+/// The space as a room of one worker, with its share.
+fn room_alone<L: Law>(
+    alloc: Global,
+    blank: Blank,
+    space: TxnSpace,
+) -> Result<(Alone<L>, Vec<Share<L>>), AllocError>
+    requires name { blank.name ≡ L.name }
+    requires parts { blank.parts ≡ L.parts }
+    requires one { L.parts ≡ 1 }
+    requires lawful { L.lawful (content_of space) space.commits }
+    requires fresh { space.commits ≡ 0 }
+    ensures { IfOk result (λ made. made.1.items ≡ 0 ∷ []) }
+{
+    match Alone::<L>::new(alloc, blank, space, 1) {
+        Ok(made) => Ok(made),
+        Err(_) => Err(AllocError),
+    }
+}
+
+/// The run of a worker that hasn't begun, in a room of its own.
+fn worked<L: Law, R: Wait>(
+    rt: &R,
+    alloc: Global,
+    mut hand: Hand,
+    mut room: Alone<L>,
+    mut shares: Vec<Share<L>>,
+    nodes: &Template,
+) -> Result<Run, AllocError>
+    requires law { IsSearchLaw hand.instance L.lawful L.allowed }
+    requires fresh { hand.accepted ≡ 0 }
+    requires one { L.parts ≡ 1 }
+    requires share { shares.items ≡ 0 ∷ [] }
+    ensures ended { (S : Search) → IsLawOf S L.lawful L.allowed → IfOk result (IsEnded S None) }
+    ensures one { IfOk result (λ run. length run.reports.items ≡ 1) }
+{
+    let ended = work(rt, &mut hand, &mut room, &mut shares[0], nodes);
+    let (space, _) = room.into_inner(shares);
+    let report = Report {
+        ended,
+        ..hand.report()
+    };
+    only_run(alloc, space, report)
+}
+
+/// The run of the only worker, by the space and the report that it leaves.
+fn only_run(alloc: Global, space: TxnSpace, report: Report) -> Result<Run, AllocError>
+    ensures { IfOk result (λ run. (run.space ≡ space) × (run.reports.items ≡ report ∷ [])) }
+{
+    let reports = vec![in alloc; report]?;
+    Ok(Run { space, reports })
+}
+
+/// The instance with the rows of its matrices in order, to be shared by workers.
+pub(crate) fn shared_rows(
+    alloc: Global,
+    instance: &Instance,
+) -> Result<Arc<RankedInstance>, AllocError>
+    ensures { IfOk result (λ shared. arc_value shared ≡ instance.now) }
+{
+    Ok(Arc::new(alloc, RankedInstance::new(alloc, instance)?)?)
+}
+
+/// Steps the worker until the space is closed or there is no memory. Whether the space is to be closed is asked only where the
+/// worker gives its transaction up.
+fn work<L: Law, R: Wait>(
+    rt: &R,
+    hand: &mut Hand,
+    room: &mut Alone<L>,
+    share: &mut Share<L>,
+    nodes: &Template,
+) -> Ended
+    requires law { IsSearchLaw hand.old.instance L.lawful L.allowed }
+    requires counted { hand.old.accepted ≡ share.old }
+    ensures { hand.new.accepted ≡ share.new }
+{
+    for _ in rt.forever() {
+        if hand.thinks() {
+            if hand.think(&Always).is_err() {
+                return Ended::Memory;
+            }
+        } else if hand.step(room, share).is_err() {
+            return Ended::Memory;
+        } else if gives_up(hand) && room.close(nodes) {
+            return Ended::Done;
+        }
+    }
+    unreachable!()
+}
+
+/// Whether the worker's coming step gives its transaction up.
+fn gives_up(hand: &Hand) -> bool {
+    !hand.thinks() && hand.next() == Kind::Abort
+}

@@ -1,0 +1,103 @@
+//! The bound of a search whose nodes may be open.
+
+ghost use Rattle.std.specs.Prelude.{◌≡◌, ◌∷◌, [], All, IfOk, Option, ℕ, length};
+ghost use Rattle.qap_cost.specs.Placement.{IsPlacement, Placement};
+ghost use Rattle.qap_search.specs.BoundedAnswer.{IsBoundedFrom};
+ghost use Rattle.qap_search.specs.Outcome.{IsEnded};
+ghost use Rattle.qap_search.specs.OpenBound.{IsNodeValue, IsOpenBound, IsSoundTuple};
+ghost use Rattle.qap_search.specs.Ran.{Tells};
+ghost use Rattle.qap_search.specs.Replacement.{Best};
+ghost use Rattle.qap_search.specs.Search.{search_of};
+
+use crate::certificate::assembling::open_nodes;
+use crate::certificate::best_permutation::best_of;
+use crate::certificate::open_nodes::least_duals;
+use crate::node::node_list::read_node;
+use crate::runs::answer::Bounded;
+use crate::runs::run::Run;
+use crate::worker::thinking::node_fields;
+use gilmore_lawler::{RankedInstance, Workspace, dual_sum};
+use qap_cost::{Instance, Partial};
+use std::alloc::{AllocError, Global};
+use tuple_match::Tuple;
+
+/// The best permutation that a run leaves, and the bound by its open nodes.
+pub(crate) fn bounded_of(
+    alloc: Global,
+    instance: &Instance,
+    run: Run,
+) -> Result<Bounded, AllocError>
+    requires { (x : Placement) × (known : Best) × (limit : Option ℕ) × IsEnded (search_of instance.now x known) limit run }
+    ensures bounded { IfOk result (λ a. (x : Placement) (known : Best) (limit : Option ℕ) → IsEnded (search_of instance.now x known) limit run →
+        IsBoundedFrom (search_of instance.now x known) (length run.reports.items) limit a) }
+    ensures tells { IfOk result (λ a. Tells run a.open_nodes a.reports.items) }
+{
+    let Run { space, reports } = run;
+    let Ok(tuples) = space.into_tuples() else {
+        return Err(AllocError);
+    };
+    let (permutation, cost) = best_of(alloc, &tuples)?;
+    let ranked = RankedInstance::new(alloc, instance)?;
+    let bound = open_bound(alloc, &ranked, &tuples, cost)?;
+    Ok(Bounded {
+        permutation,
+        cost,
+        bound,
+        open_nodes: open_nodes(&tuples),
+        reports,
+    })
+}
+
+/// The least of this cost and of the values of the open nodes among the tuples.
+pub(crate) fn open_bound(
+    alloc: Global,
+    instance: &RankedInstance,
+    tuples: &[Tuple],
+    cost: i128,
+) -> Result<i128, AllocError>
+    requires { All (IsSoundTuple instance.now.size) tuples.now }
+    ensures { IfOk result (IsOpenBound instance.now tuples.now cost) }
+{
+    let mut workspace = Workspace::new(alloc);
+    let mut bound = cost;
+    for tuple in tuples {
+        bound = bound_with(alloc, instance, &mut workspace, tuple, bound)?;
+    }
+    Ok(bound)
+}
+
+/// The lesser of the bound and of the value of the tuple's node, where that is open.
+fn bound_with(
+    alloc: Global,
+    instance: &RankedInstance,
+    workspace: &mut Workspace,
+    tuple: &Tuple,
+    bound: i128,
+) -> Result<i128, AllocError>
+    requires { IsSoundTuple instance.now.size tuple.now }
+    ensures { IfOk result (IsOpenBound instance.now (tuple.now ∷ []) bound) }
+{
+    let Some(list) = node_fields(alloc, tuple)? else {
+        return Ok(bound);
+    };
+    let Some(node) = read_node(alloc, instance.instance().size(), &list)? else {
+        unreachable!()
+    };
+    let value = node_value(alloc, instance, workspace, &node)?;
+    Ok(value.min(bound))
+}
+
+/// What the placed facilities of the node cost among themselves, and a least assignment of its reduced matrix.
+fn node_value(
+    alloc: Global,
+    instance: &RankedInstance,
+    workspace: &mut Workspace,
+    node: &Partial,
+) -> Result<i128, AllocError>
+    requires same_size { instance.now.size ≡ node.now.size }
+    requires placement { IsPlacement node.now }
+    ensures { IfOk result (IsNodeValue instance.now node.now) }
+{
+    let (u, v) = least_duals(alloc, instance, workspace, node)?;
+    Ok(node.fixed_cost(instance.instance()) + dual_sum(&u, &v))
+}

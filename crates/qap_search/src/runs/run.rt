@@ -1,0 +1,13 @@
+//! What a search leaves.
+
+use crate::worker::report::Report;
+use space_txn::TxnSpace;
+
+/// What a search leaves where it ends.
+#[derive(Drop)]
+pub struct Run {
+    /// The space at its end.
+    pub space: TxnSpace,
+    /// What is told of each worker, those who were lost at its place included.
+    pub reports: Vec<Report>,
+}

@@ -1,0 +1,518 @@
+//! A search by many workers, each a thread of its own.
+
+ghost use Rattle.std.specs.Prelude.{◌≡◌, ◌<◌, ◌≤◌, [], All, IfOk, MatchResult, ℕ, length, replicate, sum, vec_capacity, vec_len};
+ghost use Rattle.std.specs.List.{sum_by};
+ghost use Rattle.qap_cost.specs.Objective.{Permutes};
+ghost use Rattle.qap_cost.specs.Placement.{root_of};
+ghost use Rattle.qap_search.specs.Answer.{IsAnswer, IsLeastAnswer, IsSearchFault, IsSolveFault, accepted_of};
+ghost use Rattle.qap_search.specs.BoundedAnswer.{IsBoundedFrom};
+ghost use Rattle.qap_search.specs.Outcome.{IsEnded};
+ghost use Rattle.qap_search.specs.Opening.{IsOpening};
+ghost use Rattle.qap_search.specs.Ran.{Ran, RanTo, RanToFault};
+ghost use Rattle.qap_search.specs.Search.{Search, best_with, from_root, identity_of, search_of, whole};
+ghost use Rattle.qap_search.specs.SearchLaw.{IsLawOf, IsSearchLaw};
+ghost use Rattle.shared_space.specs.Limit.{is_reached};
+ghost use Rattle.shared_space.specs.Place.{place_of};
+ghost use Rattle.shared_space.specs.Run.{IsReached};
+ghost use Rattle.space_txn.specs.Content.{content_of};
+ghost use Rattle.std.specs.Arc.{arc_value};
+
+use crate::certificate::closers::Many;
+use crate::certificate::ordering::turned_round;
+use crate::node::branching::Branching;
+use crate::runs::alone::shared_rows;
+use crate::runs::answer::{Answer, Bounded, Least, SolveError};
+use crate::runs::bound::bounded_of;
+use crate::runs::clock::Clock;
+use crate::runs::opening::{identity, opening_from};
+use crate::runs::outcome::{answer_of, least_of};
+use crate::runs::plan::Plan;
+use crate::runs::run::Run;
+use crate::runs::seat::{Seat, Workplace};
+use crate::runs::stop::{Never, Stop};
+use crate::tuples::templates::{best_template, node_template};
+use crate::worker::gate::Gate;
+use crate::worker::hand::Hand;
+use crate::worker::report::Report;
+use gilmore_lawler::RankedInstance;
+use qap_cost::{Instance, Partial, Perm};
+use shared_space::{Law, Share, Shared};
+use space_txn::TxnSpace;
+use std::alloc::{AllocError, Global};
+use std::marker::Brand;
+use std::sync::ledger::Blank;
+use std::sync::{Arc, Mutex, Wait};
+use std::thread::Threads;
+use std::time::Duration;
+use std::{thread, time};
+use tuple_match::Template;
+
+/// How many milliseconds the keeper pauses before it looks again.
+const PAUSE_MS: u64 = 1;
+
+/// The certificate of an instance's least cost, from so many workers, each a thread, whose transactions begin with leases of
+/// so many milliseconds.
+///
+/// The calling thread keeps the space: it moves the moment on by the clock, and closes the space when no node is left or every
+/// worker has left. The gate is asked before each step of a worker and told after it. `Unfinished` comes where nodes are left,
+/// with their number: where workers were ended by the gate or found no memory. With a lease of 0 ms no commit is ever accepted.
+/// With a limit no more commits are accepted than that: where it is reached while nodes are left, `Stopped` comes with a
+/// certificate in which these nodes are closed.
+pub fn solve<R, C, G>(
+    rt: &R,
+    alloc: Global,
+    instance: &Instance,
+    workers: u16,
+    lease_ms: u64,
+    limit: Option<u64>,
+    clock: &C,
+    gate: &G,
+) -> Result<Answer, SolveError>
+where
+    R: Threads + Wait + time::Clock + Sync,
+    C: Clock,
+    G: Gate + Sync,
+    requires some { 0 < workers }
+    requires few { workers ≤ 64 }
+    ensures answer { MatchResult result (IsAnswer instance.now workers limit) (IsSolveFault instance.now workers limit) }
+    ensures ran { MatchResult result (λ a. Ran (whole instance.now) workers limit (accepted_of a.reports.items) 0)
+        (RanToFault (whole instance.now) workers limit) }
+{
+    let Beginning { root, start } = all_permutations(alloc, instance)?;
+    let plan = Plan {
+        workers,
+        lease_ms,
+        limit,
+        root: &root,
+        start: &start,
+        branching: Branching::GreatestMatched,
+    };
+    solve_from(rt, alloc, instance, &plan, clock, gate)
+}
+
+/// A permutation of an instance's least cost, by the same search: for whoever wants no certificate, which isn't put together
+/// then. What `solve` says of the workers, the gate, the lease, the limit and the errors holds here too.
+pub fn solve_least<R, C, G>(
+    rt: &R,
+    alloc: Global,
+    instance: &Instance,
+    workers: u16,
+    lease_ms: u64,
+    limit: Option<u64>,
+    clock: &C,
+    gate: &G,
+) -> Result<Least, SolveError>
+where
+    R: Threads + Wait + time::Clock + Sync,
+    C: Clock,
+    G: Gate + Sync,
+    requires some { 0 < workers }
+    requires few { workers ≤ 64 }
+    ensures answer { MatchResult result (IsLeastAnswer instance.now workers limit) (IsSolveFault instance.now workers limit) }
+    ensures ran { MatchResult result (λ a. Ran (whole instance.now) workers limit (accepted_of a.reports.items) 0)
+        (RanToFault (whole instance.now) workers limit) }
+{
+    let Beginning { root, start } = all_permutations(alloc, instance)?;
+    let plan = Plan {
+        workers,
+        lease_ms,
+        limit,
+        root: &root,
+        start: &start,
+        branching: Branching::GreatestMatched,
+    };
+    let run = run_of(rt, alloc, instance, &plan, clock, gate, &Never)?;
+    least_of(&Many::new(rt, workers), alloc, instance, limit, run)
+}
+
+/// The certificate of an instance's least cost, as `solve` answers it, by a search that goes as the plan says, over all
+/// permutations: the plan's root is the empty node. That its start is a permutation of the instance is a condition.
+pub fn solve_from<R, C, G>(
+    rt: &R,
+    alloc: Global,
+    instance: &Instance,
+    plan: &Plan<'_>,
+    clock: &C,
+    gate: &G,
+) -> Result<Answer, SolveError>
+where
+    R: Threads + Wait + time::Clock + Sync,
+    C: Clock,
+    G: Gate + Sync,
+    requires some { 0 < plan.now.workers }
+    requires few { plan.now.workers ≤ 64 }
+    requires start { Permutes instance.now plan.now.start.now }
+    requires whole { plan.now.root.now ≡ root_of instance.now.size }
+    ensures answer { MatchResult result (IsAnswer instance.now plan.now.workers plan.now.limit)
+        (IsSearchFault (from_root instance.now (best_with instance.now plan.now.start.now)) plan.now.workers plan.now.limit) }
+    ensures ran { MatchResult result
+        (λ a. Ran (from_root instance.now (best_with instance.now plan.now.start.now)) plan.now.workers plan.now.limit (accepted_of a.reports.items) 0)
+        (RanToFault (from_root instance.now (best_with instance.now plan.now.start.now)) plan.now.workers plan.now.limit) }
+{
+    let run = run_of(rt, alloc, instance, plan, clock, gate, &Never)?;
+    answer_of(
+        &Many::new(rt, plan.workers),
+        alloc,
+        instance,
+        plan.limit,
+        run,
+    )
+}
+
+/// The best permutation that a search below the plan's root comes to, and a bound that no permutation which completes the root costs
+/// less than: for whoever searches below any node, and for whoever may stop a search before its end.
+///
+/// What `solve` says of the workers, the gate, the lease and the limit holds here too. Where the stop is wanted the space is closed
+/// though nodes are open; no worker begins on another node then, and none waits for a lease to end. For whatever reason nodes are
+/// left, by the stop or the gate, at the limit or for want of memory, the least assignments of their reduced matrices bound the answer;
+/// where none is left, the bound is the cost. No certificate is put together. The only error is want of memory.
+pub fn solve_least_from<R, C, G, S>(
+    rt: &R,
+    alloc: Global,
+    instance: &Instance,
+    plan: &Plan<'_>,
+    clock: &C,
+    gate: &G,
+    stop: &S,
+) -> Result<Bounded, AllocError>
+where
+    R: Threads + Wait + time::Clock + Sync,
+    C: Clock,
+    G: Gate + Sync,
+    S: Stop,
+    requires some { 0 < plan.now.workers }
+    requires few { plan.now.workers ≤ 64 }
+    requires start { Permutes instance.now plan.now.start.now }
+    requires same_size { plan.now.root.now.size ≡ instance.now.size }
+    ensures answer { IfOk result
+        (IsBoundedFrom (search_of instance.now plan.now.root.now (best_with instance.now plan.now.start.now)) plan.now.workers plan.now.limit) }
+    ensures ran { IfOk result (λ a. Ran (search_of instance.now plan.now.root.now (best_with instance.now plan.now.start.now)) plan.now.workers plan.now.limit
+        (accepted_of a.reports.items) a.open_nodes) }
+{
+    let run = run_of(rt, alloc, instance, plan, clock, gate, stop)?;
+    bounded_of(alloc, instance, run)
+}
+
+/// What a search of all permutations begins with.
+#[derive(Drop)]
+struct Beginning {
+    root: Partial,
+    start: Perm,
+}
+
+/// The empty node, and the permutation that sends each facility to the location of its own number.
+fn all_permutations(alloc: Global, instance: &Instance) -> Result<Beginning, AllocError>
+    ensures root { IfOk result (λ begun. begun.root ≡ root_of instance.now.size) }
+    ensures start { IfOk result (λ begun. begun.start ≡ identity_of instance.now) }
+    ensures permutes { IfOk result (λ begun. Permutes instance.now begun.start) }
+{
+    Ok(Beginning {
+        root: Partial::root(alloc, instance.size())?,
+        start: identity(alloc, instance)?,
+    })
+}
+
+/// The run that goes as the plan says.
+fn run_of<R, C, G, S>(
+    rt: &R,
+    alloc: Global,
+    instance: &Instance,
+    plan: &Plan<'_>,
+    clock: &C,
+    gate: &G,
+    stop: &S,
+) -> Result<Run, AllocError>
+where
+    R: Threads + Wait + time::Clock + Sync,
+    C: Clock,
+    G: Gate + Sync,
+    S: Stop,
+    requires some { 0 < plan.now.workers }
+    requires few { plan.now.workers ≤ 64 }
+    requires start { Permutes instance.now plan.now.start.now }
+    requires same_size { plan.now.root.now.size ≡ instance.now.size }
+    ensures ended { IfOk result (IsEnded (search_of instance.now plan.now.root.now (best_with instance.now plan.now.start.now)) plan.now.limit) }
+    ensures one_each { IfOk result (λ run. length run.reports.items ≡ plan.now.workers) }
+    ensures ran { IfOk result (λ run. RanTo (search_of instance.now plan.now.root.now (best_with instance.now plan.now.start.now)) plan.now.workers plan.now.limit
+        run.space) }
+{
+    let space = opening_from(alloc, instance, plan.root, plan.start)?;
+    let blank = Blank::new(u64::from(plan.workers));
+    search::<Brand, R, C, G, S>(rt, alloc, instance, space, blank, plan, clock, gate, stop)
+}
+
+/// The same, on a space that stands at the opening, under a law that is the search's.
+fn search<L, R, C, G, S>(
+    rt: &R,
+    alloc: Global,
+    instance: &Instance,
+    space: TxnSpace,
+    blank: Blank,
+    plan: &Plan<'_>,
+    clock: &C,
+    gate: &G,
+    stop: &S,
+) -> Result<Run, AllocError>
+where
+    L: Law + Send + Sync,
+    R: Threads + Wait + time::Clock + Sync,
+    C: Clock,
+    G: Gate + Sync,
+    S: Stop,
+    requires some { 0 < plan.now.workers }
+    requires name { blank.name ≡ L.name }
+    requires parts { blank.parts ≡ L.parts }
+    requires one_each { blank.parts ≡ plan.now.workers }
+    requires few { plan.now.workers ≤ 64 }
+    requires law { IsLawOf (search_of instance.now plan.now.root.now (best_with instance.now plan.now.start.now)) L.lawful L.allowed }
+    requires limit { L.limit ≡ plan.now.limit }
+    requires opening { IsOpening (search_of instance.now plan.now.root.now (best_with instance.now plan.now.start.now)) space }
+    requires reached { L.reached (place_of space plan.now.workers 0 (is_reached plan.now.limit 0)) }
+    ensures ended { IfOk result (IsEnded (search_of instance.now plan.now.root.now (best_with instance.now plan.now.start.now)) plan.now.limit) }
+    ensures one_each { IfOk result (λ run. length run.reports.items ≡ plan.now.workers) }
+    ensures reached { IfOk result (λ run. IsReached L.reached run.space) }
+{
+    let count = usize::from(plan.workers);
+    let room = Left::with_capacity(alloc, count)?;
+    let templates = Templates::new(alloc)?;
+    let staffed = staff::<L>(alloc, instance, space, blank, plan)?;
+    Ok(run_out(rt, staffed, room, &templates, clock, gate, stop))
+}
+
+/// What workers wait for on the space.
+#[derive(Drop)]
+struct Templates {
+    nodes: Template,
+    best: Template,
+}
+
+impl Templates {
+    fn new(alloc: Global) -> Result<Templates, AllocError> {
+        Ok(Templates {
+            nodes: node_template(alloc)?,
+            best: best_template(alloc)?,
+        })
+    }
+}
+
+/// A space under its lock, with a seat for each worker.
+#[derive(Drop)]
+struct Staffed<L: Law> {
+    shared: Shared<L>,
+    seats: Vec<Mutex<Seat<L>>>,
+}
+
+/// The space under its lock and its limit, with the plan's workers, who haven't begun.
+fn staff<L: Law>(
+    alloc: Global,
+    instance: &Instance,
+    space: TxnSpace,
+    blank: Blank,
+    plan: &Plan<'_>,
+) -> Result<Staffed<L>, AllocError>
+    requires name { blank.name ≡ L.name }
+    requires parts { blank.parts ≡ L.parts }
+    requires one_each { plan.now.workers ≡ L.parts }
+    requires few { plan.now.workers ≤ 64 }
+    requires law { IsSearchLaw instance.now L.lawful L.allowed }
+    requires limit { L.limit ≡ plan.now.limit }
+    requires lawful { L.lawful (content_of space) space.commits }
+    requires fresh { space.commits ≡ 0 }
+    requires reached { L.reached (place_of space plan.now.workers 0 (is_reached plan.now.limit 0)) }
+    ensures { IfOk result (λ made. vec_len made.seats ≡ plan.now.workers) }
+{
+    let ranked = shared_rows(alloc, instance)?;
+    let workers = usize::from(plan.workers);
+    let (shared, shares) = shared_under::<L>(alloc, blank, space, workers, plan.limit)?;
+    let seats = seats_for(alloc, &ranked, plan, shares)?;
+    Ok(Staffed { shared, seats })
+}
+
+/// What is left where all workers have worked until the space was closed.
+fn run_out<L, R, C, G, S>(
+    rt: &R,
+    staffed: Staffed<L>,
+    room: Left<L>,
+    templates: &Templates,
+    clock: &C,
+    gate: &G,
+    stop: &S,
+) -> Run
+where
+    L: Law + Send + Sync,
+    R: Threads + Wait + time::Clock + Sync,
+    C: Clock,
+    G: Gate + Sync,
+    S: Stop,
+    requires all { vec_len staffed.seats ≡ L.parts }
+    requires some { 0 < vec_len staffed.seats }
+    requires no_shares { room.shares.items ≡ [] }
+    requires no_reports { room.reports.items ≡ [] }
+    requires room_for_shares { vec_len staffed.seats ≤ vec_capacity room.shares }
+    requires room_for_reports { vec_len staffed.seats ≤ vec_capacity room.reports }
+    ensures ended { (S : Search) → IsLawOf S L.lawful L.allowed → IsEnded S L.limit result }
+    ensures reached { IsReached L.reached result.space }
+    ensures reports { length result.reports.items ≡ vec_len staffed.seats }
+{
+    let Staffed { shared, seats } = staffed;
+    let place = Workplace {
+        rt,
+        shared: &shared,
+        nodes: &templates.nodes,
+        best: &templates.best,
+        gate,
+    };
+    work_all(&place, &seats, clock, stop);
+    let Left { shares, reports } = left_by(room, seats);
+    let (space, _) = shared.into_inner(shares);
+    Run { space, reports }
+}
+
+/// The space with its lock and its limit, if there is one, and so many shares.
+fn shared_under<L: Law>(
+    alloc: Global,
+    blank: Blank,
+    space: TxnSpace,
+    shares: usize,
+    limit: Option<u64>,
+) -> Result<(Shared<L>, Vec<Share<L>>), AllocError>
+    requires name { blank.name ≡ L.name }
+    requires parts { blank.parts ≡ L.parts }
+    requires shares { shares ≡ L.parts }
+    requires lawful { L.lawful (content_of space) space.commits }
+    requires fresh { space.commits ≡ 0 }
+    requires limit { L.limit ≡ limit }
+    requires reached { L.reached (place_of space shares 0 (is_reached limit 0)) }
+    ensures { IfOk result (λ made. made.1.items ≡ replicate shares 0) }
+{
+    let made = match limit {
+        Some(limit) => Shared::<L>::with_limit(alloc, blank, space, shares, limit),
+        None => Shared::<L>::new(alloc, blank, space, shares),
+    };
+    match made {
+        Ok(made) => Ok(made),
+        Err(_) => Err(AllocError),
+    }
+}
+
+/// A seat for each share, the workers numbered from 0.
+fn seats_for<L: Law>(
+    alloc: Global,
+    ranked: &Arc<RankedInstance>,
+    plan: &Plan<'_>,
+    shares: Vec<Share<L>>,
+) -> Result<Vec<Mutex<Seat<L>>>, AllocError>
+    requires law { IsSearchLaw (arc_value ranked.now) L.lawful L.allowed }
+    requires fresh { All (λ (n : ℕ). n ≡ 0) shares.items }
+    requires few { vec_len shares ≤ 64 }
+    ensures { IfOk result (λ seats. vec_len seats ≡ vec_len shares) }
+{
+    let mut seats = Vec::with_capacity(alloc, shares.len())?;
+    let mut rest = shares;
+    let mut worker = 0;
+    while let Some(share) = rest.pop() {
+        let hand = Hand::new(alloc, worker, ranked.clone()?, plan.lease_ms)?;
+        let hand = hand.with_branching(plan.branching);
+        seats.push(Mutex::new(Seat::new(worker, hand, share)))?;
+        worker += 1;
+    }
+    Ok(seats)
+}
+
+/// Lets each worker work in a thread of its own, and keeps the space until it is closed. A worker whose thread can't be started
+/// has left.
+fn work_all<R, L, C, G, S>(
+    place: &Workplace<'_, R, L, G>,
+    seats: &[Mutex<Seat<L>>],
+    clock: &C,
+    stop: &S,
+)
+where
+    R: Threads + Wait + time::Clock + Sync,
+    L: Law + Send + Sync,
+    C: Clock,
+    G: Gate + Sync,
+    S: Stop,
+{
+    thread::scope(thread::scope_env(), place.rt, |scope| {
+        for seat in seats {
+            if scope.spawn(move || work(place, seat)).is_err() {
+                place.shared.leave(place.rt);
+            }
+        }
+        keep(place, clock, stop);
+    });
+}
+
+/// Lets the worker of a seat work, which it leaves then.
+fn work<R: Wait, L: Law, G: Gate>(place: &Workplace<'_, R, L, G>, seat: &Mutex<Seat<L>>) {
+    seat.lock(place.rt).work(place);
+    place.shared.leave(place.rt);
+}
+
+/// Moves the moment on by the clock, until the space is closed, by itself or since the stop is wanted.
+fn keep<R, L, C, G, S>(place: &Workplace<'_, R, L, G>, clock: &C, stop: &S)
+where
+    R: Wait + time::Clock,
+    L: Law,
+    C: Clock,
+    G: Gate,
+    S: Stop,
+{
+    for _ in place.rt.forever() {
+        if stop.is_wanted() {
+            place.shared.shut(place.rt);
+        }
+        if place.shared.close(place.rt, place.nodes) {
+            return;
+        }
+        // A moment that is too late changes nothing.
+        let _ = place.shared.advance(place.rt, clock.now());
+        thread::sleep(place.rt, Duration::from_millis(PAUSE_MS));
+    }
+}
+
+/// What the workers leave: their shares, and their reports in the order of the workers.
+#[derive(Drop)]
+struct Left<L: Law> {
+    shares: Vec<Share<L>>,
+    reports: Vec<Report>,
+}
+
+impl<L: Law> Left<L> {
+    /// Room for what so many workers leave.
+    fn with_capacity(alloc: Global, workers: usize) -> Result<Left<L>, AllocError>
+        ensures empty { IfOk result (λ left. (left.shares.items ≡ []) × (left.reports.items ≡ [])) }
+        ensures shares { IfOk result (λ left. workers ≤ vec_capacity left.shares) }
+        ensures reports { IfOk result (λ left. workers ≤ vec_capacity left.reports) }
+    {
+        Ok(Left {
+            shares: Vec::with_capacity(alloc, workers)?,
+            reports: Vec::with_capacity(alloc, workers)?,
+        })
+    }
+}
+
+/// What the workers leave, in the room that was made for it.
+fn left_by<L: Law>(room: Left<L>, seats: Vec<Mutex<Seat<L>>>) -> Left<L>
+    requires no_shares { room.shares.items ≡ [] }
+    requires no_reports { room.reports.items ≡ [] }
+    requires room_for_shares { vec_len seats ≤ vec_capacity room.shares }
+    requires room_for_reports { vec_len seats ≤ vec_capacity room.reports }
+    ensures shares { vec_len result.shares ≡ vec_len seats }
+    ensures reports { length result.reports.items ≡ vec_len seats }
+    ensures counted { sum_by (λ r. r.accepted) result.reports.items ≡ sum result.shares.items }
+{
+    let Left {
+        mut shares,
+        mut reports,
+    } = room;
+    let mut rest = seats;
+    while let Some(seat) = rest.pop() {
+        let (share, report) = seat.into_inner().left();
+        shares.push(share).unwrap();
+        reports.push(report).unwrap();
+    }
+    let reports = turned_round(reports);
+    Left { shares, reports }
+}

@@ -1,0 +1,6 @@
+//! The tuples of a search: how they are composed, parsed and asked for.
+
+pub(crate) mod composing;
+pub(crate) mod parsing;
+pub(crate) mod pieces;
+pub(crate) mod templates;

@@ -1,0 +1,69 @@
+//! The tuples of a search without open nodes, told apart.
+
+ghost use Rattle.std.specs.Prelude.{◌≡◌, ◌⊎◌, ◌∷◌, ℕ, MatchResult, Some};
+ghost use Rattle.space_txn.specs.Content.{SameItems};
+ghost use Rattle.qap_search.specs.Assembling.{IsTreeFault};
+ghost use Rattle.qap_search.specs.DecidedTuples.{found_tuple, piece_tuple};
+ghost use Rattle.qap_search.specs.Pieces.{pieces_tuples, told_tuples};
+ghost use Rattle.qap_search.specs.declared.tuples.parsing.BestFound.{BestFound as Found};
+ghost use Rattle.qap_search.specs.declared.certificate.error.AssembleError.TheVariants.{NotATree, OutOfMemory};
+
+use crate::certificate::error::AssembleError;
+use crate::tuples::parsing::{BestFound, DecidedNode, Piece, piece_of};
+use std::alloc::Global;
+use tuple_match::Tuple;
+
+/// What a search without open nodes has found and decided.
+#[derive(Drop)]
+pub(crate) struct Pieces {
+    pub(crate) best: BestFound,
+    pub(crate) decided: Vec<DecidedNode>,
+}
+
+/// Tells the tuples apart. They are refused where one is none of a best permutation or a decided node, and where there isn't
+/// one best permutation.
+pub(crate) fn tell_apart(alloc: Global, mut tuples: Vec<Tuple>) -> Result<Pieces, AssembleError>
+    ensures { MatchResult result
+        (λ p. SameItems tuples.items (pieces_tuples p))
+        (λ e. (n : ℕ) → IsTreeFault n tuples.items e) }
+{
+    let mut best = None;
+    let mut decided = Vec::with_capacity(alloc, tuples.len())?;
+    while let Some(tuple) = tuples.pop() {
+        let told = piece_of(alloc, tuple)?;
+        let Some(piece) = told else {
+            return Err(AssembleError::NotATree);
+        };
+        keep_piece(piece, &mut best, &mut decided)?;
+    }
+    match best {
+        Some(best) => Ok(Pieces { best, decided }),
+        None => Err(AssembleError::NotATree),
+    }
+}
+
+/// Keeps a piece beside the others, unless it is a second best permutation.
+fn keep_piece(
+    piece: Piece,
+    best: &mut Option<BestFound>,
+    decided: &mut Vec<DecidedNode>,
+) -> Result<(), AssembleError>
+    ensures { MatchResult result
+        (λ done. SameItems (told_tuples best.new decided.new.items) (piece_tuple piece ∷ told_tuples best.old decided.old.items))
+        (λ e. (e ≡ OutOfMemory)
+        ⊎ ((e ≡ NotATree) × ((a : Found) × (best.old ≡ Some a)) × ((b : Found) × (piece_tuple piece ≡ found_tuple b)))) }
+{
+    match piece {
+        Piece::Decided(node) => {
+            decided.push(node).map_err(|_| AssembleError::OutOfMemory)?;
+            Ok(())
+        }
+        Piece::Best(found) => {
+            if best.is_some() {
+                return Err(AssembleError::NotATree);
+            }
+            *best = Some(found);
+            Ok(())
+        }
+    }
+}

@@ -1,0 +1,10 @@
+//! A worker: the steps of its turns, and what it tells of them.
+
+pub(crate) mod best_steps;
+pub(crate) mod gate;
+pub(crate) mod hand;
+pub(crate) mod putting;
+pub(crate) mod report;
+pub(crate) mod stage;
+pub(crate) mod thinking;
+pub(crate) mod turn;

@@ -1,0 +1,284 @@
+//! The steps of a worker's turn that find the best permutation, and the writes that it leads to.
+
+ghost use Rattle.std.specs.Prelude.{◌≡◌, ◌≢◌, ◌==◌, ℕ, ℤ, Bool, true, false, ◌++◌, Some, IfOk, MatchOption, OnOk, List};
+ghost use Rattle.qap_cost.specs.Instance.{IsInstance, Problem};
+ghost use Rattle.tuple_match.specs.Numbers.{numbers_in};
+ghost use Rattle.space_txn.specs.Content.{SameItems, added_of};
+ghost use Rattle.space_txn.specs.Machine.{find_answer, found};
+ghost use Rattle.space_txn.specs.Txn.{TxnValue};
+ghost use Rattle.space_txn.specs.declared.txn.Found.TheVariants.{Entry as Stored};
+ghost use Rattle.qap_search.specs.BestSteps.{AfterWrites, HasBestCost, HasBestMark, HasNoBest, IsBestAt, IsFoundBest, Writes};
+ghost use Rattle.qap_search.specs.DecidedTuples.{best_of};
+ghost use Rattle.qap_search.specs.Decision.{IsOn};
+ghost use Rattle.qap_search.specs.Found.{best_template};
+ghost use Rattle.qap_search.specs.Hand.{hand_of, is_hopeful, thought_of};
+ghost use Rattle.qap_search.specs.Replacement.{Best};
+ghost use Rattle.qap_search.specs.SearchLaw.{IsSearchLaw};
+ghost use Rattle.qap_search.specs.Standing.{HasNode, IsLastThought, IsStage};
+ghost use Rattle.qap_search.specs.Thought.{IsThought};
+ghost use Rattle.qap_search.specs.Turn.{AfterBest, HasMarksOf, Turn};
+ghost use Rattle.qap_search.specs.declared.worker.stage.Stage.TheVariants.{Considered};
+
+use crate::certificate::assembling::permutation_of;
+use crate::node::decision::{decide, decide_anew};
+use crate::tuples::parsing::is_word;
+use crate::worker::putting::{by_entries, put_forever};
+use crate::worker::stage::{LastThought, Outcome, Stage, Tally};
+use crate::worker::turn::{refused, went_on};
+use qap_cost::Perm;
+use shared_space::{Law, Room, two_marks_law};
+use space_txn::{Found, Txn, TxnError};
+use std::alloc::{AllocError, Global};
+use tuple_match::{Field, Numbers, Template, Tuple, does_match_law};
+use tuple_space::EntryId;
+
+/// Takes the tuple of the best permutation.
+pub(crate) fn take_best<L: Law, M: Room<L>>(
+    alloc: Global,
+    room: &mut M,
+    template: &Template,
+    mut txn: Txn,
+    last: &LastThought,
+    tally: Tally,
+) -> Outcome
+    requires template { template.now ≡ best_template }
+    requires thought { IsOn last.now.node last.now.thought }
+    ensures turn { (I : Problem) (lease : ℕ) → IsInstance I → IsSearchLaw I L.lawful L.allowed → IsLastThought I last.now →
+        HasNode last.now.node txn → is_hopeful tally.best (Some (thought_of last.now)) ≡ true →
+        Turn M.did (hand_of I lease (Some (thought_of last.now)) (Considered txn) tally) room.old result.told
+        (hand_of I lease (Some (thought_of last.now)) result.stage result.tally) room.new }
+    ensures stage { (I : Problem) → IsInstance I → IsSearchLaw I L.lawful L.allowed → IsLastThought I last.now →
+        HasNode last.now.node txn → IsStage I (Some (thought_of last.now)) result.stage }
+    ensures accepted { result.tally.accepted ≡ tally.accepted }
+{
+    does_match_law();
+    let found = room.inp_in(&mut txn, template);
+    told_best(alloc, found, txn, last, true, tally)
+}
+
+/// Reads the tuple of the best permutation.
+pub(crate) fn read_best<L: Law, M: Room<L>>(
+    alloc: Global,
+    room: &mut M,
+    template: &Template,
+    mut txn: Txn,
+    last: &LastThought,
+    tally: Tally,
+) -> Outcome
+    requires template { template.now ≡ best_template }
+    requires thought { IsOn last.now.node last.now.thought }
+    ensures turn { (I : Problem) (lease : ℕ) → IsInstance I → IsSearchLaw I L.lawful L.allowed → IsLastThought I last.now →
+        HasNode last.now.node txn → is_hopeful tally.best (Some (thought_of last.now)) ≡ false →
+        Turn M.did (hand_of I lease (Some (thought_of last.now)) (Considered txn) tally) room.old result.told
+        (hand_of I lease (Some (thought_of last.now)) result.stage result.tally) room.new }
+    ensures stage { (I : Problem) → IsInstance I → IsSearchLaw I L.lawful L.allowed → IsLastThought I last.now →
+        HasNode last.now.node txn → IsStage I (Some (thought_of last.now)) result.stage }
+    ensures accepted { result.tally.accepted ≡ tally.accepted }
+{
+    does_match_law();
+    let found = room.rdp_in(&mut txn, template);
+    told_best(alloc, found, txn, last, false, tally)
+}
+
+fn told_best(
+    alloc: Global,
+    found: Result<Option<Found>, TxnError>,
+    txn: Txn,
+    last: &LastThought,
+    taking: bool,
+    tally: Tally,
+) -> Outcome
+    requires { IsOn last.now.node last.now.thought }
+    ensures turn { (I : Problem) (lease : ℕ) (old : TxnValue) → IsLastThought I last.now →
+        IsFoundBest I taking last.now.node (find_answer found) txn →
+        AfterBest taking (hand_of I lease (Some (thought_of last.now)) (Considered old) tally) (find_answer found) txn result.told
+        (hand_of I lease (Some (thought_of last.now)) result.stage result.tally) }
+    ensures stage { (I : Problem) → IsLastThought I last.now → IsFoundBest I taking last.now.node (find_answer found) txn →
+        IsStage I (Some (thought_of last.now)) result.stage }
+    ensures accepted { result.tally.accepted ≡ tally.accepted }
+{
+    match found {
+        Ok(Some(found)) => told_found(alloc, found, txn, last, taking, tally),
+        Ok(None) => went_on(Stage::GivingUp(txn), tally),
+        Err(error) => refused(error, Stage::Considered(txn), tally),
+    }
+}
+
+/// A write of the transaction itself is none of a best permutation.
+fn told_found(
+    alloc: Global,
+    what: Found,
+    txn: Txn,
+    last: &LastThought,
+    taking: bool,
+    tally: Tally,
+) -> Outcome
+    requires { IsOn last.now.node last.now.thought }
+    ensures turn { (I : Problem) (lease : ℕ) (old : TxnValue) → IsLastThought I last.now →
+        IsFoundBest I taking last.now.node (found what) txn →
+        AfterBest taking (hand_of I lease (Some (thought_of last.now)) (Considered old) tally) (found what) txn result.told
+        (hand_of I lease (Some (thought_of last.now)) result.stage result.tally) }
+    ensures stage { (I : Problem) → IsLastThought I last.now → IsFoundBest I taking last.now.node (found what) txn →
+        IsStage I (Some (thought_of last.now)) result.stage }
+    ensures accepted { result.tally.accepted ≡ tally.accepted }
+{
+    match what {
+        Found::Entry(id) => told_entry(alloc, id, txn, last, taking, tally),
+        Found::Own(_) => went_on(Stage::GivingUp(txn), tally),
+    }
+}
+
+/// Where the entry that was found is there to stay, what it leads to is written, and its cost is remembered.
+fn told_entry(
+    alloc: Global,
+    id: EntryId,
+    mut txn: Txn,
+    last: &LastThought,
+    taking: bool,
+    tally: Tally,
+) -> Outcome
+    requires { IsOn last.now.node last.now.thought }
+    ensures turn { (I : Problem) (lease : ℕ) (old : TxnValue) → IsLastThought I last.now → HasBestMark I taking last.now.node id txn →
+        AfterBest taking (hand_of I lease (Some (thought_of last.now)) (Considered old) tally) (found (Stored id)) txn result.told
+        (hand_of I lease (Some (thought_of last.now)) result.stage result.tally) }
+    ensures stage { (I : Problem) → IsLastThought I last.now → HasBestMark I taking last.now.node id txn →
+        IsStage I (Some (thought_of last.now)) result.stage }
+    ensures accepted { result.tally.accepted ≡ tally.accepted }
+{
+    two_marks_law();
+    let Some(cost) = cost_at(&txn, id) else {
+        return went_on(Stage::GivingUp(txn), tally);
+    };
+    let written = write(alloc, &mut txn, id, last, taking, cost);
+    told_written(written, txn, tally.with_best(cost))
+}
+
+fn told_written(written: Result<Option<i128>, AllocError>, txn: Txn, tally: Tally) -> Outcome
+    ensures stage { AfterWrites written txn result.told result.stage }
+    ensures tally { result.tally ≡ tally }
+{
+    match written {
+        Ok(Some(standing)) => went_on(Stage::Ready(txn, standing), tally),
+        Ok(None) => went_on(Stage::GivingUp(txn), tally),
+        Err(error) => Outcome {
+            stage: Stage::GivingUp(txn),
+            tally,
+            told: Err(error),
+        },
+    }
+}
+
+/// Writes what the best permutation of the entry, of this cost, leads to, and tells what the one costs that stands then. `None`
+/// where nothing can be written.
+fn write(
+    alloc: Global,
+    txn: &mut Txn,
+    id: EntryId,
+    last: &LastThought,
+    taking: bool,
+    cost: i128,
+) -> Result<Option<i128>, AllocError>
+    requires { IsOn last.now.node last.now.thought }
+    ensures { (I : Problem) (best : Best) → IsThought I last.now.node last.now.thought → IsBestAt id txn.old best → best.cost ≡ cost →
+        Writes taking I (thought_of last.now) best txn.old txn.new result }
+{
+    if taking {
+        write_anew(alloc, txn, id, last, cost)
+    } else {
+        write_beside(alloc, txn, last, cost)
+    }
+}
+
+/// Writes what is decided of the node under the cost of a best permutation that stays.
+fn write_beside(
+    alloc: Global,
+    txn: &mut Txn,
+    last: &LastThought,
+    cost: i128,
+) -> Result<Option<i128>, AllocError>
+    requires { IsOn last.now.node last.now.thought }
+    ensures { (I : Problem) (best : Best) → IsThought I last.now.node last.now.thought → best.cost ≡ cost →
+        Writes false I (thought_of last.now) best txn.old txn.new result }
+{
+    let Some(tuples) = decide(alloc, &last.node, &last.thought, cost)? else {
+        return Ok(None);
+    };
+    put(alloc, txn, tuples, &last.thought.entries)?;
+    Ok(Some(cost))
+}
+
+/// Writes what is decided of the node beside the best permutation that stands then: the thought's candidate where it costs less
+/// than the one that was taken, and else that one.
+fn write_anew(
+    alloc: Global,
+    txn: &mut Txn,
+    id: EntryId,
+    last: &LastThought,
+    cost: i128,
+) -> Result<Option<i128>, AllocError>
+    requires { IsOn last.now.node last.now.thought }
+    ensures { (I : Problem) (best : Best) → IsThought I last.now.node last.now.thought → IsBestAt id txn.old best → best.cost ≡ cost →
+        Writes true I (thought_of last.now) best txn.old txn.new result }
+{
+    let Some(perm) = perm_at(alloc, txn, id)? else {
+        return Ok(None);
+    };
+    let Some(tuples) = decide_anew(alloc, &last.node, &last.thought, cost, &perm)? else {
+        return Ok(None);
+    };
+    put(alloc, txn, tuples, &last.thought.entries)?;
+    Ok(Some(last.thought.cost.min(cost)))
+}
+
+/// Writes the tuples, to stay forever, those of children by the entries that are taken first behind the others.
+fn put(alloc: Global, txn: &mut Txn, tuples: Vec<Tuple>, entries: &[i128]) -> Result<(), AllocError>
+    ensures same { HasMarksOf txn.old txn.new }
+    ensures written { OnOk result (SameItems (added_of txn.new.writes) (added_of txn.old.writes ++ tuples.items)) }
+{
+    let tuples = by_entries(alloc, tuples, entries)?;
+    match put_forever(txn, tuples) {
+        Ok(()) => Ok(()),
+        Err(_) => Err(AllocError),
+    }
+}
+
+/// The cost in the entry's tuple, where that is of a best permutation and there to stay.
+fn cost_at(txn: &Txn, id: EntryId) -> Option<i128>
+    ensures { MatchOption result (HasNoBest id txn.now) (HasBestCost id txn.now) }
+{
+    if txn.permanent(id) != Some(true) {
+        return None;
+    }
+    let (cost, _) = best_fields(txn.tuple(id)?)?;
+    Some(cost)
+}
+
+/// The permutation in the entry's tuple.
+fn perm_at(alloc: Global, txn: &Txn, id: EntryId) -> Result<Option<Perm>, AllocError>
+    ensures { IfOk result (λ perm. MatchOption perm
+        ((best : Best) → IsBestAt id txn.now best → ⊥)
+        (λ p. (best : Best) → IsBestAt id txn.now best → best.permutation ≡ p)) }
+{
+    let Some(tuple) = txn.tuple(id) else {
+        return Ok(None);
+    };
+    let Some((_, locations)) = best_fields(tuple) else {
+        return Ok(None);
+    };
+    let locations = locations.to_vec(alloc)?;
+    permutation_of(alloc, &locations)
+}
+
+/// The cost and the locations of a tuple of a best permutation.
+pub(crate) fn best_fields(tuple: &Tuple) -> Option<(i128, Numbers<'_>)>
+    ensures { MatchOption result
+        ((c : ℤ) (ps : List ℤ) → tuple.now ≢ best_of c ps)
+        (λ told. tuple.now ≡ best_of told.0 (numbers_in told.1)) }
+{
+    match tuple.fields() {
+        [name, Field::Int(cost), list] if is_word("best", name) => {
+            list.as_list().map(|locations| (*cost, locations))
+        }
+        _ => None,
+    }
+}

@@ -1,0 +1,169 @@
+//! A worker of the search.
+
+ghost use Rattle.std.specs.Prelude.{◌≡◌, ◌+◌, ◌≤◌, true, false, IfOk, OnErr, OnOk};
+ghost use Rattle.std.specs.Arc.{arc_value};
+ghost use Rattle.qap_search.specs.Hand.{is_due, kind_of, new_hand};
+ghost use Rattle.qap_search.specs.SearchLaw.{IsSearchLaw};
+ghost use Rattle.qap_search.specs.Thinking.{Thinks};
+ghost use Rattle.qap_search.specs.Turn.{Turn};
+ghost use Rattle.qap_search.specs.declared.worker.report.Ended.TheVariants.{Done};
+
+use crate::node::branching::Branching;
+use crate::tuples::templates::{best_template, node_template};
+use crate::worker::gate::{Gate, Kind};
+use crate::worker::report::{Ended, Report};
+use crate::worker::stage::{LastThought, Stage, Tally, Tools};
+use crate::worker::thinking::{stage_thought, think_in};
+use crate::worker::turn::{is_hopeful, turn};
+use gilmore_lawler::{KeptRows, RankedInstance};
+use shared_space::{Law, Room, Share};
+use std::alloc::{AllocError, Global};
+use std::marker::Model;
+use std::sync::Arc;
+
+/// A worker of the search: it takes an open node and the best permutation, and commits what it decides of them, one call on the
+/// room a step.
+#[derive(Drop)]
+pub struct Hand {
+    worker: u16,
+    rows: KeptRows,
+    tools: Tools,
+    last: Option<LastThought>,
+    stage: Stage,
+    tally: Tally,
+}
+
+impl Model for Hand {
+    ghost use Rattle.qap_search.specs.Hand.{HandValue, hand_of, last_of};
+    ghost use Rattle.qap_search.specs.Standing.{IsHand};
+
+    ghost Value = { HandValue };
+
+    ghost view = { λ h. hand_of h.rows h.tools.lease_ms (last_of h.last) h.stage h.tally };
+
+    ghost invariant = { λ h. IsHand h.rows h.tools h.last h.stage };
+}
+
+impl Hand {
+    /// A worker of this number, which begins its transactions with leases of so many milliseconds.
+    pub fn new(
+        alloc: Global,
+        worker: u16,
+        instance: Arc<RankedInstance>,
+        lease_ms: u64,
+    ) -> Result<Hand, AllocError>
+        ensures instance { IfOk result (λ hand. hand.instance ≡ arc_value instance) }
+        ensures accepted { IfOk result (λ hand. hand.accepted ≡ 0) }
+        ensures value { IfOk result (λ hand. hand ≡ new_hand (arc_value instance) lease_ms) }
+    {
+        let _instance = instance.instance();
+        let tools = Tools {
+            alloc,
+            lease_ms,
+            branching: Branching::GreatestMatched,
+            node: node_template(alloc)?,
+            best: best_template(alloc)?,
+        };
+        Ok(Hand {
+            worker,
+            rows: KeptRows::new(alloc, instance),
+            tools,
+            last: None,
+            stage: Stage::Idle,
+            tally: Tally::new(),
+        })
+    }
+
+    /// The same worker, which splits nodes by this rule.
+    pub fn with_branching(mut self, branching: Branching) -> Hand
+        ensures { result ≡ self }
+    {
+        self.tools.branching = branching;
+        self
+    }
+
+    /// Whether a thought is due: it comes before the next step.
+    pub fn thinks(&self) -> bool
+        ensures { result ≡ is_due self.now.stage }
+    {
+        matches!(self.stage, Stage::Taken(..))
+    }
+
+    /// The kind of the next step.
+    pub fn next(&self) -> Kind
+        requires { is_due self.now.stage ≡ false }
+        ensures { result ≡ kind_of self.now }
+    {
+        match &self.stage {
+            Stage::Idle => Kind::Begin,
+            Stage::Begun(_) | Stage::Taken(..) => Kind::TakeNode,
+            Stage::Considered(_) => {
+                if is_hopeful(&self.tally, &self.last) {
+                    Kind::TakeBest
+                } else {
+                    Kind::ReadBest
+                }
+            }
+            Stage::Ready(..) => Kind::Commit,
+            Stage::GivingUp(_) => Kind::Abort,
+        }
+    }
+
+    /// Makes the next step, one call on the room, and tells whether it met no refusal. Refused since its transaction has ended
+    /// the worker begins anew; after another refusal its next turn tries the same step. At an error there was no memory, for the
+    /// call or for what it was to write.
+    pub fn step<L: Law, M: Room<L>>(
+        &mut self,
+        room: &mut M,
+        share: &mut Share<L>,
+    ) -> Result<bool, AllocError>
+        requires law { IsSearchLaw self.old.instance L.lawful L.allowed }
+        requires not_due { is_due self.old.stage ≡ false }
+        requires counted { self.old.accepted ≤ share.old }
+        ensures turn { Turn M.did self.old room.old result self.new room.new }
+        ensures counted { share.new + self.old.accepted ≡ share.old + self.new.accepted }
+        ensures instance { self.new.instance ≡ self.old.instance }
+        ensures lease { self.new.lease ≡ self.old.lease }
+    {
+        let stage = std::mem::replace(&mut self.stage, Stage::Idle);
+        let outcome = turn(&self.tools, room, share, &self.last, stage, self.tally);
+        self.stage = outcome.stage;
+        self.tally = outcome.tally;
+        outcome.told
+    }
+
+    /// Thinks on the node that was taken, outside the space's lock; where that is the node of the last thought, the thought is
+    /// kept. At an error nothing changed, and the thought is still due.
+    pub fn think<G: Gate>(&mut self, gate: &G) -> Result<(), AllocError>
+        requires { is_due self.old.stage ≡ true }
+        ensures thought { OnOk result (Thinks self.old self.new) }
+        ensures not_due { OnOk result (is_due self.new.stage ≡ false) }
+        ensures unchanged { OnErr result (self.new ≡ self.old) }
+        ensures accepted { self.new.accepted ≡ self.old.accepted }
+        ensures instance { self.new.instance ≡ self.old.instance }
+    {
+        let considered = think_in(
+            &self.tools,
+            gate,
+            self.worker,
+            &mut self.rows,
+            &self.stage,
+            self.tally.best,
+            &mut self.last,
+        )?;
+        let stage = std::mem::replace(&mut self.stage, Stage::Idle);
+        self.stage = stage_thought(stage, considered);
+        Ok(())
+    }
+
+    /// What it did so far.
+    pub fn report(&self) -> Report
+        ensures { result ≡ record { accepted = self.now.accepted; refused = self.now.refused; ended = Done } }
+    {
+        Report {
+            accepted: self.tally.accepted,
+            refused: self.tally.refused,
+            ended: Ended::Done,
+        }
+    }
+}

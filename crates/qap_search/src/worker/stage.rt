@@ -1,0 +1,114 @@
+//! Where a worker stands in its turn.
+
+ghost use Rattle.std.specs.Prelude.{◌≡◌, ◌+◌, ◌<◌, ◌-◌, ◌^◌, None, Some};
+ghost use Rattle.qap_search.specs.Turn.{one_more};
+
+use crate::node::branching::Branching;
+use crate::node::thought::Thought;
+use qap_cost::Partial;
+use space_txn::Txn;
+use std::alloc::{AllocError, Global};
+use tuple_match::Template;
+use tuple_space::EntryId;
+
+/// Where a worker stands in its turn.
+#[derive(Drop)]
+pub(crate) enum Stage {
+    /// It has no transaction.
+    Idle,
+    /// It has begun one.
+    Begun(Txn),
+    /// It took the entry of an open node, and a thought on it is due.
+    Taken(Txn, EntryId),
+    /// The node has been thought on.
+    Considered(Txn),
+    /// What is to be written stands in the transaction; the best permutation that stands after its commit costs so much.
+    Ready(Txn, i128),
+    /// The transaction is to be ended without a commit.
+    GivingUp(Txn),
+}
+
+/// A node with what was worked out about it.
+#[derive(Drop)]
+pub(crate) struct LastThought {
+    pub(crate) node: Partial,
+    pub(crate) thought: Thought,
+}
+
+/// What a worker's calls are made with.
+#[derive(Drop)]
+pub(crate) struct Tools {
+    pub(crate) alloc: Global,
+    /// How many milliseconds its transactions ask for.
+    pub(crate) lease_ms: u64,
+    /// By which rule nodes are split.
+    pub(crate) branching: Branching,
+    /// Asks for any open node.
+    pub(crate) node: Template,
+    /// Asks for the best permutation.
+    pub(crate) best: Template,
+}
+
+/// What a worker remembers and counts.
+#[derive(Clone, Copy)]
+pub(crate) struct Tally {
+    /// The cost of the best permutation that it knows of.
+    pub(crate) best: Option<i128>,
+    pub(crate) accepted: u64,
+    pub(crate) refused: u64,
+}
+
+/// Where a step leaves a worker, and whether it met no refusal.
+#[derive(Drop)]
+pub(crate) struct Outcome {
+    pub(crate) stage: Stage,
+    pub(crate) tally: Tally,
+    pub(crate) told: Result<bool, AllocError>,
+}
+
+impl Tally {
+    /// Nothing is known of and nothing has been counted.
+    pub(crate) fn new() -> Tally
+        ensures { result ≡ record { best = None; accepted = 0; refused = 0 } }
+    {
+        Tally {
+            best: None,
+            accepted: 0,
+            refused: 0,
+        }
+    }
+
+    /// One accepted commit more, after which the best permutation costs so much.
+    pub(crate) fn with_commit(self, cost: i128) -> Tally
+        requires { self.accepted < 2 ^ 64 - 1 }
+        ensures { result ≡ record self { best = Some cost; accepted = self.accepted + 1 } }
+    {
+        Tally {
+            best: Some(cost),
+            accepted: self.accepted + 1,
+            refused: self.refused,
+        }
+    }
+
+    /// The same where the best permutation costs so much.
+    pub(crate) fn with_best(self, cost: i128) -> Tally
+        ensures { result ≡ record self { best = Some cost } }
+    {
+        Tally {
+            best: Some(cost),
+            accepted: self.accepted,
+            refused: self.refused,
+        }
+    }
+
+    /// One commit more that was refused, as far as 64 bits count.
+    pub(crate) fn with_refusal(self) -> Tally
+        ensures { result ≡ record self { refused = one_more self.refused } }
+    {
+        Tally {
+            best: self.best,
+            accepted: self.accepted,
+            refused: self.refused.saturating_add(1),
+        }
+    }
+}
