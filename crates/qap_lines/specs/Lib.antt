@@ -1,0 +1,4 @@
+pub mod Line
+pub mod LineText
+pub mod Number
+pub mod Numeral

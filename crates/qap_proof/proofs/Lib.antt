@@ -1,0 +1,6 @@
+pub mod Bounds
+pub mod Completions
+pub mod Images
+pub mod NodeLines
+pub mod Reaching
+pub mod Validity

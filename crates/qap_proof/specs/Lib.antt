@@ -1,0 +1,11 @@
+pub mod Acceptance
+pub mod Claim
+pub mod Fault
+pub mod NodeLine
+pub mod Refusal
+pub mod Shape
+pub mod Text
+pub mod TextFault
+pub mod Tree
+pub mod Valid
+pub mod Walk

@@ -1,0 +1,76 @@
+-- Proof trees: how the permutations that complete a node are split up, and what shows of each part that none costs less than
+-- a bound. Apart from where a tree lies in memory.
+use Rattle.std.specs.Prelude.{ℕ, ◌+◌, List, ℤ, Option, slice_index}
+use Rattle.qap_cost.specs.Placement.{Placement, IsFreeFacility, IsFreeLocation, free_facilities, free_locations, placing}
+use Rattle.qap_proof.specs.declared.side.Side.{Side}
+use Rattle.qap_proof.specs.declared.side.Side.TheVariants.{Facility, Location}
+
+-- one for each free facility, and one for each free location
+pub record Pair : Type 0 where
+  pub u : List ℤ
+  pub v : List ℤ
+
+abbrev pub pair : List ℤ → List ℤ → Pair
+pair u v = record { u = u; v = v }
+
+-- of a split: the facility or the location that it is on, and the duals that it may have
+pub record Split : Type 0 where
+  pub side : Side
+  pub number : ℕ
+  pub duals : Option Pair
+
+-- closed by duals; split, with a child for each free one of the other side; cut by the duals of the split above; or the image of
+-- the earlier child of this number under a permutation
+mutual
+  pub data Node : Type 0 where
+    closed : Pair → Node
+    split : Split → Nodes → Node
+    cut : Node
+    mirrored : ℕ → List ℕ → Node
+
+  pub data Nodes : Type 0 where
+    no_nodes : Nodes
+    node : Node → Nodes → Nodes
+
+-- how many nodes there are
+abbrev mutual
+  pub node_count : Node → ℕ
+  node_count (closed d) = 1
+  node_count (split s children) = 1 + nodes_count children
+  node_count cut = 1
+  node_count (mirrored j m) = 1
+
+  pub nodes_count : Nodes → ℕ
+  nodes_count no_nodes = 0
+  nodes_count (node t rest) = node_count t + nodes_count rest
+
+abbrev pub child_count : Nodes → ℕ
+child_count no_nodes = 0
+child_count (node t rest) = 1 + child_count rest
+
+-- the facility or the location is free
+abbrev pub IsFreeOn : Side → Placement → ℕ → Type 0
+IsFreeOn Facility x i = IsFreeFacility x i
+IsFreeOn Location x k = IsFreeLocation x k
+
+-- the facility and the location that child number c, from 0, of a split puts together: a split on a facility has a child for each
+-- free location, and one on a location a child for each free facility, both ascending
+abbrev pub facility_on : Side → Placement → ℕ → ℕ → ℕ
+facility_on Facility x i c = i
+facility_on Location x k c = slice_index (free_facilities x) c
+
+abbrev pub location_on : Side → Placement → ℕ → ℕ → ℕ
+location_on Facility x i c = slice_index (free_locations x) c
+location_on Location x k c = k
+
+abbrev pub child_of : Placement → Split → ℕ → Placement
+child_of x s c = placing x (facility_on s.side x s.number c) (location_on s.side x s.number c)
+
+-- where a node of a tree stands: at the root, or as child number c of a split of a node
+pub data Place : Type 0 where
+  whole : Placement → Place
+  child : Placement → Split → ℕ → Place
+
+abbrev pub node_at : Place → Placement
+node_at (whole x) = x
+node_at (child x s c) = child_of x s c
