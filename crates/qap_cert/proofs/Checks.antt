@@ -5,7 +5,7 @@ use Rattle.std.specs.Prelude.{ℤ}
 use Rattle.qap_cost.specs.Instance.{Problem}
 use Rattle.qap_cost.specs.Placement.{Placement, placing}
 use Rattle.qap_cert.specs.Fault.{IsTreeFault, IsTreeFaultAmong}
-use Rattle.qap_cert.specs.Line.{line_after}
+use Rattle.qap_lines.specs.Line.{line_after}
 use Rattle.qap_cert.specs.Shape.{AllHaveShape}
 use Rattle.qap_cert.specs.Tree.{Node, Nodes, node, node_of, nodes_of, node_count, nodes_count}
 use Rattle.qap_cert.specs.Valid.{Valid, AllValid}

@@ -5,12 +5,12 @@ use Rattle.std.proofs.lemmas.List.{get_or_append_left, get_or-append_right}
 use Rattle.std.specs.Prelude.{codes, unsigned_abs}
 use Rattle.qap_cost.specs.Placement.{Placement}
 use Rattle.qap_cost.specs.Range.{AllLimited}
-use Rattle.qap_cert.proofs.Held.{held-all_within}
-use Rattle.qap_cert.proofs.Numbers.{numbers_text-is}
+use Rattle.qap_lines.proofs.Held.{held-all_within}
+use Rattle.qap_lines.proofs.NumberLists.{numbers_text-is}
 use Rattle.qap_cert.specs.NodeLine.{HasDuals}
-use Rattle.qap_cert.specs.Number.{IsNamed, held}
+use Rattle.qap_lines.specs.Number.{IsNamed, held}
 use Rattle.qap_cert.specs.Shape.{AreDuals}
-use Rattle.qap_cert.specs.Text.{numbers_text}
+use Rattle.qap_lines.specs.LineText.{numbers_text}
 
 pub AllLimited-append : (xs ys : List ℤ) → AllLimited xs → AllLimited ys → AllLimited (xs ++ ys)
 AllLimited-append xs ys h k = record {

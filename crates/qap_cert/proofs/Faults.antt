@@ -7,7 +7,7 @@ use Rattle.qap_cost.specs.Matrix.{dual_value}
 use Rattle.qap_cost.specs.Placement.{Placement, free_locations, placing, root_of, fixed_cost_of}
 use Rattle.qap_cert.specs.Certificate.{Claim, IsCertificate, Certifies, tree_line}
 use Rattle.qap_cert.specs.Fault.{IsDualFault, IsShapeFault, IsShapeFaultAmong, IsClaimFault, IsBoundFault, IsTreeFault, IsTreeFaultAmong, IsFault}
-use Rattle.qap_cert.specs.Line.{line_after}
+use Rattle.qap_lines.specs.Line.{line_after}
 use Rattle.qap_cert.specs.Shape.{AreDuals, HasShape, AllHaveShape}
 use Rattle.qap_cert.specs.Tree.{Node, split, bound, Nodes, no_nodes, node, node_count}
 use Rattle.qap_cert.specs.Valid.{Closes, Valid, AllValid}

@@ -5,7 +5,7 @@ use Rattle.qap_cost.specs.Instance.{Problem}
 use Rattle.qap_cost.specs.Placement.{Placement, IsFree, free_locations, placing, root_of}
 use Rattle.qap_cert.specs.Certificate.{Claim, tree_line}
 use Rattle.qap_cert.specs.Fault.{IsDualFault, IsFacilityFault, IsSplitFault, IsShapeFault, IsShapeFaultAmong, IsClaimFault, IsBoundFault, IsTreeFault, IsTreeFaultAmong, IsFault}
-use Rattle.qap_cert.specs.Line.{line_after}
+use Rattle.qap_lines.specs.Line.{line_after}
 use Rattle.qap_cert.specs.Shape.{child_count}
 use Rattle.qap_cert.specs.Tree.{Node, split, bound, Nodes, no_nodes, node, node_count}
 use Rattle.qap_cert.specs.declared.error.CertError.{CertError}

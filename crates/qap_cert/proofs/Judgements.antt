@@ -8,7 +8,7 @@ use Rattle.qap_cert.proofs.Readings.{with_last}
 use Rattle.qap_cert.proofs.Trees.{line_after-more, line_after-none}
 use Rattle.qap_cert.proofs.Walks.{joined}
 use Rattle.qap_cert.specs.Fault.{IsTreeFault, IsTreeFaultAmong}
-use Rattle.qap_cert.specs.Line.{line_after}
+use Rattle.qap_lines.specs.Line.{line_after}
 use Rattle.qap_cert.specs.Tree.{Node, Nodes, no_nodes, node, node_count, nodes_count}
 use Rattle.qap_cert.specs.Valid.{Valid, AllValid}
 use Rattle.qap_cert.specs.declared.error.CertError.{CertError}

@@ -1,51 +1,19 @@
--- Locations as texts count them, from 1 on.
-use Rattle.std.proofs.Common.{◌≡◌, ◌≢◌, ℕ, ◌+◌, ◌-◌, ◌^◌, ◌<◌, ◌≤◌, List, [], ◌∷◌, length, map, take, get_or, ℤ, pos, unsigned_abs, refl, sym, ap, ap₂, subst, ◌∙◌, inl, inr, arith}
-use Rattle.std.specs.Prelude.{codes, SomeIndex, ◌⊎◌, Result, Ok, Err, MatchResult}
-use Rattle.std.proofs.lemmas.List.{get_or-map, length-map, take_all}
+-- The permutation that a line states.
+use Rattle.std.proofs.Common.{◌≡◌, ◌≢◌, ℕ, ◌+◌, List, length, map, take, ℤ, pos, refl, sym, ap, subst, ◌∙◌, inl, inr, arith}
+use Rattle.std.specs.Prelude.{codes, ◌⊎◌}
+use Rattle.std.proofs.lemmas.List.{length-map, take_all}
 use Rattle.qap_cost.specs.Range.{AllLimited}
 use Rattle.qap_cost.specs.Bijection.{IsPerm}
-use Rattle.qap_cert.specs.Number.{IsNamed, held}
 use Rattle.qap_io.specs.Number.{from_one}
+use Rattle.qap_lines.specs.Number.{IsNamed, held}
+use Rattle.qap_lines.proofs.Held.{held-all_within, held_all_within-is}
+use Rattle.qap_lines.proofs.Locations.{AllLimited-permutation}
 use Rattle.qap_cert.specs.TextFault.{IsPermFault}
 use Rattle.qap_cert.specs.declared.error.CertError.{CertError}
 use Rattle.qap_cert.specs.declared.error.CertError.TheVariants.{OutOfMemory, PermBad}
-use Rattle.qap_cert.proofs.Held.{held-all_within, held_all_within-is}
-
--- locations below 2^64 are in range
-pub AllLimited-from_one : (p : List ℕ) → ((i : ℕ) → i < length p → get_or p i 0 < 2 ^ 64) → AllLimited (from_one p)
-AllLimited-from_one p small = record {
-  each = λ j below.
-      let inside : j < length p = omega (arith, length-map p (λ k. pos (k + 1))) in
-      subst (λ (z : ℤ). unsigned_abs z ≤ 10 ^ 24) (sym (get_or-map (λ k. pos (k + 1)) p j 0 (pos 0) inside)) (omega (arith, small j inside));
-}
-
-pub AllLimited-permutation : (p : List ℕ) → IsPerm p → AllLimited (from_one p)
-AllLimited-permutation p perm = AllLimited-from_one p (λ i below. omega (arith, perm.bijection.within i below, perm.small))
-
-pub from_one-injective : (p q : List ℕ) → from_one p ≡ from_one q → p ≡ q
-from_one-injective p q e = sym (back p) ∙ ap (map before) e ∙ back q
-  where
-    before : ℤ → ℕ
-    before z = unsigned_abs z - 1
-
-    back : (p : List ℕ) → map before (from_one p) ≡ p
-    back [] = refl
-    back (k ∷ p) = ap₂ (λ j q. j ∷ q) (omega arith) (back p)
-
--- where one of the numbers is no location, they are no permutation
-pub no_location-no_permutation : (values : List ℤ) → SomeIndex values (λ i. (k : ℕ) → k < length values → get_or values i (pos 0) ≢ pos (k + 1)) → (p : List ℕ) → IsPerm p → values ≢ from_one p
-no_location-no_permutation values some p perm same =
-    let many : length values ≡ length p = ap length same ∙ length-map p (λ k. pos (k + 1)) in
-    let inside : some.0 < length p = omega (arith, some.1) in
-    some.2 (get_or p some.0 0) (omega (arith, perm.bijection.within some.0 inside)) (ap (λ l. get_or l some.0 (pos 0)) same ∙ get_or-map (λ k. pos (k + 1)) p some.0 0 (pos 0) inside)
-
--- the numbers are those of no other permutation
-pub no_other-permutation : (values : List ℤ) (p : List ℕ) → values ≡ from_one p → (IsPerm p → ⊥) → (q : List ℕ) → IsPerm q → values ≢ from_one q
-no_other-permutation values p is none q perm same =
-    none (subst IsPerm (sym (from_one-injective p q (sym is ∙ same))) perm)
 
 -- where the held numbers are a permutation, the numbers of the line are
-IsNamed-permutation : (n : ℕ) (line : List ℕ) (zs first : List ℤ) (p : List ℕ) → length zs ≡ n → first ≡ map held (take n zs) → IsNamed (codes "perm") line zs → IsPerm p → first ≡ from_one p
+pub IsNamed-permutation : (n : ℕ) (line : List ℕ) (zs first : List ℤ) (p : List ℕ) → length zs ≡ n → first ≡ map held (take n zs) → IsNamed (codes "perm") line zs → IsPerm p → first ≡ from_one p
     → IsPerm p × (length p ≡ n) × IsNamed (codes "perm") line (from_one p)
 IsNamed-permutation n line zs first p long is named perm locations =
     let same : map held zs ≡ from_one p = ap (map held) (sym (take_all n zs (omega arith))) ∙ sym is ∙ locations in
@@ -53,17 +21,10 @@ IsNamed-permutation n line zs first p long is named perm locations =
     (perm, sym (length-map p (λ k. pos (k + 1))) ∙ sym (ap length exact) ∙ long, subst (IsNamed (codes "perm") line) exact named)
 
 -- where the held numbers are no permutation, those of the line are none
-IsPermFault-numbers : (n : ℕ) (line : List ℕ) (zs first : List ℤ) (e : CertError) → length zs ≡ n → first ≡ map held (take n zs) → IsNamed (codes "perm") line zs
+pub IsPermFault-numbers : (n : ℕ) (line : List ℕ) (zs first : List ℤ) (e : CertError) → length zs ≡ n → first ≡ map held (take n zs) → IsNamed (codes "perm") line zs
     → (e ≡ OutOfMemory) ⊎ ((e ≡ PermBad 4) × ((p : List ℕ) → IsPerm p → first ≢ from_one p)) → (e ≡ OutOfMemory) ⊎ IsPermFault n line e
 IsPermFault-numbers n line zs first e long is named (inl memory) = inl memory
 IsPermFault-numbers n line zs first e long is named (inr fault) =
     let none : (p : List ℕ) → IsPerm p → zs ≢ from_one p = λ p perm same.
     fault.1 p perm (is ∙ ap (map held) (take_all n zs (omega arith) ∙ same) ∙ held-all_within (from_one p) (AllLimited-permutation p perm)) in
     inr (subst (IsPermFault n line) (sym fault.0) (refl, zs, long, named, none))
-
--- what is known of the held numbers is known of those of the line
-pub permutation_named : (n : ℕ) (line : List ℕ) (zs first : List ℤ) (r : Result (List ℕ) CertError) → length zs ≡ n → first ≡ map held (take n zs) → IsNamed (codes "perm") line zs
-    → MatchResult r (λ p. IsPerm p × (first ≡ from_one p)) (λ e. (e ≡ OutOfMemory) ⊎ ((e ≡ PermBad 4) × ((p : List ℕ) → IsPerm p → first ≢ from_one p)))
-    → MatchResult r (λ p. IsPerm p × (length p ≡ n) × IsNamed (codes "perm") line (from_one p)) (λ e. (e ≡ OutOfMemory) ⊎ IsPermFault n line e)
-permutation_named n line zs first (Ok p) long is named found = IsNamed-permutation n line zs first p long is named found.0 found.1
-permutation_named n line zs first (Err e) long is named found = IsPermFault-numbers n line zs first e long is named found

@@ -4,16 +4,17 @@ use Rattle.std.proofs.lemmas.Bool.{cases_order}
 use Rattle.std.specs.Prelude.{codes}
 use Rattle.qap_cost.specs.Bijection.{IsPerm}
 use Rattle.qap_cost.specs.Range.{AllLimited}
-use Rattle.qap_cert.proofs.Lines.{IsLine-unique, no_line-line}
-use Rattle.qap_cert.proofs.Locations.{AllLimited-permutation}
-use Rattle.qap_cert.proofs.Numbers.{AllLimited-one, IsLine-line_text, IsNamed-unique, IsNamed-numbers_text}
+use Rattle.qap_lines.proofs.Lines.{IsLine-unique, no_line-line}
+use Rattle.qap_lines.proofs.Locations.{AllLimited-permutation}
+use Rattle.qap_lines.proofs.NumberLists.{AllLimited-one, IsLine-line_text, IsNamed-unique, IsNamed-numbers_text}
 use Rattle.qap_cert.proofs.OneText.{no_line-version, no_line-size, no_line-cost, no_line-perm, no_line-split, no_line-below, no_line-end, line_front, line_fault, named_fault, split_line, split_named, split_or_bound, small_number, trees_front, tree_front, next_tree, no_tree_fault, header_line, perm_line}
 use Rattle.qap_cert.proofs.Versions.{AllLimited-split_numbers, same_facility, same_number, one_version, version_limited}
-use Rattle.qap_cert.specs.Line.{line_after, IsLine}
-use Rattle.qap_cert.specs.Number.{IsNamed}
+use Rattle.qap_lines.specs.Line.{line_after, IsLine}
+use Rattle.qap_lines.specs.Number.{IsNamed}
 use Rattle.qap_cert.specs.Shape.{AllHaveShape, child_count}
 use Rattle.qap_io.specs.Number.{from_one}
-use Rattle.qap_cert.specs.Text.{numbers_text, line_text, trees_text}
+use Rattle.qap_lines.specs.LineText.{numbers_text, line_text}
+use Rattle.qap_cert.specs.Text.{trees_text}
 use Rattle.qap_cert.specs.TextFault.{IsLineFault, IsHeaderFault, IsSizeFault, IsCostFault, IsPermFault, IsNodeFault, IsTreeTextFault, IsEndFault, IsBelow, IsFaultFromTree, IsFaultFromBound, IsFaultFromPerm, IsFaultFromCost, IsFaultFromSize, IsTextFault}
 use Rattle.qap_cert.specs.Tree.{Node, Nodes, node_count, nodes_count}
 use Rattle.qap_cert.specs.Version.{version_number, split_numbers}

@@ -7,7 +7,8 @@ use Rattle.qap_cert.specs.Certificate.{claim_of, IsBoundFor, IsCertificate, tree
 use Rattle.qap_cert.specs.Head.{HasHead}
 use Rattle.qap_cert.specs.Shape.{HasShape}
 use Rattle.qap_io.specs.Number.{from_one}
-use Rattle.qap_cert.specs.Text.{line_text, bound_text, tree_text, IsCertificateText}
+use Rattle.qap_lines.specs.LineText.{line_text}
+use Rattle.qap_cert.specs.Text.{bound_text, tree_text, IsCertificateText}
 use Rattle.qap_cert.specs.TextFault.{IsFaultFromTree, IsFaultFromBound, IsTextFault}
 use Rattle.qap_cert.specs.Tree.{Node}
 use Rattle.qap_cert.specs.Version.{version_number, MayBound}

@@ -2,9 +2,10 @@
 use Rattle.std.proofs.Common.{◌≡◌, ℕ, zero, suc, ◌+◌, ◌-◌, ◌<◌, ◌++◌, List, [], ◌∷◌, ℤ, refl, sym, ◌∙◌, ap, subst, inl, inr, arith, append_assoc, append-nil, length, length-append}
 use Rattle.std.specs.Prelude.{codes}
 use Rattle.qap_cert.proofs.Trees.{line_after-more}
-use Rattle.qap_cert.specs.Line.{line_after, IsLine}
+use Rattle.qap_lines.specs.Line.{line_after, IsLine}
 use Rattle.qap_cert.specs.Shape.{HasShape, AllHaveShape, child_count}
-use Rattle.qap_cert.specs.Text.{numbers_text, line_text, tree_text, trees_text}
+use Rattle.qap_lines.specs.LineText.{numbers_text, line_text}
+use Rattle.qap_cert.specs.Text.{tree_text, trees_text}
 use Rattle.qap_cost.specs.Placement.{IsFree}
 use Rattle.qap_cert.specs.Fault.{IsFacilityFault}
 use Rattle.qap_cert.specs.TextFault.{IsFaultAmong, IsLineFault, IsNodeFault, IsSplitLine, IsTreeTextFault}

@@ -3,7 +3,7 @@ use Rattle.std.proofs.Common.{◌≡◌, ℕ, ◌-◌, ◌<◌, ◌≤◌, ◌++
 use Rattle.std.specs.Prelude.{MatchResult}
 use Rattle.qap_cost.specs.Placement.{IsFree}
 use Rattle.qap_cert.specs.Fault.{IsSplitFault, IsShapeFault, IsShapeFaultAmong}
-use Rattle.qap_cert.specs.Line.{line_after}
+use Rattle.qap_lines.specs.Line.{line_after}
 use Rattle.qap_cert.specs.Shape.{HasShape, AllHaveShape, child_count}
 use Rattle.qap_cert.specs.Tree.{Node, split, Nodes, node_count, nodes_count}
 use Rattle.qap_cert.specs.declared.error.CertError.{CertError}

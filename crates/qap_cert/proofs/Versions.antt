@@ -5,12 +5,13 @@ use Rattle.std.proofs.lemmas.Int.{ints}
 use Rattle.std.proofs.lemmas.Bool.{cond-true, cond-false}
 use Rattle.qap_cost.specs.Range.{AllLimited}
 use Rattle.qap_cert.specs.Shape.{HasShape, AllHaveShape}
-use Rattle.qap_cert.specs.Text.{line_text, bound_text}
+use Rattle.qap_lines.specs.LineText.{line_text}
+use Rattle.qap_cert.specs.Text.{bound_text}
 use Rattle.qap_cert.specs.Tree.{Node, split, bound, Nodes, no_nodes, node}
 use Rattle.qap_cert.specs.Version.{version_number, MayName, split_numbers}
 use Rattle.qap_cert.specs.declared.version.Version.{Version}
 use Rattle.qap_cert.specs.declared.version.Version.TheVariants.{First, Second}
-use Rattle.qap_cert.proofs.Numbers.{AllLimited-one}
+use Rattle.qap_lines.proofs.NumberLists.{AllLimited-one}
 
 -- what a split's line says
 

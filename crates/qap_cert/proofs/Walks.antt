@@ -4,11 +4,12 @@ use Rattle.std.specs.Prelude.{codes, Option, Some, Result, Ok, Err, MatchResult}
 use Rattle.qap_cost.specs.Placement.{IsFree}
 use Rattle.qap_cert.proofs.Readings.{with_last, AllHaveShape-with_last, child_count-with_last, nodes_count-with_last, trees_text-with_last, line_text-behind}
 use Rattle.qap_cert.proofs.Trees.{line_after-more, line_after-none}
-use Rattle.qap_cert.specs.Line.{line_after, IsLine}
+use Rattle.qap_lines.specs.Line.{line_after, IsLine}
 use Rattle.qap_cert.specs.NodeLine.{IsNodeLine}
 use Rattle.qap_cert.specs.TextFault.{IsEndFault, IsFaultAmong, IsFaultFromTree, IsSplitLine, IsTreeTextFault}
 use Rattle.qap_cert.specs.Shape.{AreDuals, HasShape, AllHaveShape, child_count}
-use Rattle.qap_cert.specs.Text.{numbers_text, line_text, tree_text, trees_text}
+use Rattle.qap_lines.specs.LineText.{numbers_text, line_text}
+use Rattle.qap_cert.specs.Text.{tree_text, trees_text}
 use Rattle.qap_cert.specs.Tree.{Node, split, bound, Nodes, no_nodes, node, node_count, nodes_count}
 use Rattle.qap_cert.specs.Version.{MayName, split_numbers}
 use Rattle.qap_cert.specs.Walk.{BeginsWithTree, BeginsWithTrees, EndsBehindTree, IsFaultBefore}

@@ -6,7 +6,8 @@ use Rattle.std.specs.Prelude.{OnErr, Option, Result, Ok, Err, IsErrAnd, MatchRes
 use Rattle.std.proofs.KnownBytes.{Appends-nil, Appends-trans}
 use Rattle.qap_io.specs.Counting.{CountedDevice, last_count}
 use Rattle.qap_io.specs.Writing.{AppendsBeginning-longer, AppendsBeginning-after}
-use Rattle.qap_cert.specs.Text.{numbers_text, line_text, tree_text, trees_text}
+use Rattle.qap_lines.specs.LineText.{numbers_text, line_text}
+use Rattle.qap_cert.specs.Text.{tree_text, trees_text}
 use Rattle.qap_cert.specs.Tree.{Node, node_step, node_of, nodes_of}
 use Rattle.qap_cert.specs.declared.tree.Tree.{Tree}
 use Rattle.qap_cert.specs.declared.tree.Tree.TheViews.{Split}

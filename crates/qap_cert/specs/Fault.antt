@@ -8,7 +8,7 @@ use Rattle.qap_cost.specs.Objective.{cost_of}
 use Rattle.qap_cost.specs.Placement.{Placement, IsFree, root_of, placing, free_locations, fixed_cost_of}
 use Rattle.qap_cost.specs.Range.{IsLimited}
 use Rattle.qap_cert.specs.Certificate.{Claim, IsBoundFor, tree_line}
-use Rattle.qap_cert.specs.Line.{line_after}
+use Rattle.qap_lines.specs.Line.{line_after}
 use Rattle.qap_cert.specs.Shape.{AreCounted, AreInRange, HasShape, child_count}
 use Rattle.qap_cert.specs.Tree.{Node, split, bound, Nodes, no_nodes, node, node_count}
 use Rattle.qap_cert.specs.Valid.{Fits, Valid}

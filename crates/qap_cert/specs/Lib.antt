@@ -3,10 +3,7 @@ pub mod Certificate
 pub mod Code
 pub mod Fault
 pub mod Head
-pub mod Line
 pub mod NodeLine
-pub mod Number
-pub mod Numeral
 pub mod Refusal
 pub mod Shape
 pub mod Text

@@ -2,7 +2,7 @@
 use Rattle.std.specs.Prelude.{◌≡◌, ℕ, ◌*◌, ◌<◌, List, length, take, ℤ, codes, Option, Some, None}
 use Rattle.qap_cost.specs.Placement.{IsFree}
 use Rattle.qap_cost.specs.Range.{AllLimited}
-use Rattle.qap_cert.specs.Number.{IsNamed}
+use Rattle.qap_lines.specs.Number.{IsNamed}
 use Rattle.qap_cert.specs.TextFault.{IsSplitLine}
 use Rattle.qap_cert.specs.declared.version.Version.{Version}
 

@@ -1,21 +1,12 @@
 -- The text of a certificate, in either version.
 use Rattle.std.specs.Prelude.{◌≡◌, ℕ, ◌++◌, ◌∷◌, [], List, length, ℤ, pos, codes, int_lt, if◌then◌else◌}
-use Rattle.std.specs.Fmt.{signed_decimal}
 use Rattle.qap_io.specs.Number.{from_one}
+use Rattle.qap_lines.specs.LineText.{line_text}
 use Rattle.qap_cert.specs.Certificate.{Claim, IsCertificate}
 use Rattle.qap_cert.specs.Shape.{HasShape}
 use Rattle.qap_cert.specs.Tree.{Node, split, bound, Nodes, no_nodes, node}
 use Rattle.qap_cert.specs.Version.{version_number, split_numbers, MayBound}
 use Rattle.qap_cert.specs.declared.version.Version.{Version}
-
--- numbers in decimal, each behind one space
-abbrev pub numbers_text : List ℤ → List ℕ
-numbers_text [] = []
-numbers_text (z ∷ zs) = 32 ∷ signed_decimal z ++ numbers_text zs
-
--- a line of a name and numbers
-abbrev pub line_text : List ℕ → List ℤ → List ℕ
-line_text name zs = name ++ numbers_text zs ++ 10 ∷ []
 
 -- a line for each node, in preorder: a split is `s`, in version 2 with its facility, and a bound is `b` with the duals of
 -- the facilities and of the locations

@@ -4,14 +4,15 @@ use Rattle.qap_cost.specs.Limits.{max_size}
 use Rattle.qap_cost.specs.Bijection.{IsPerm}
 use Rattle.qap_cost.specs.Placement.{IsFree}
 use Rattle.qap_cost.specs.Range.{AllLimited, IsLimited}
-use Rattle.qap_cert.specs.Line.{line_after, HasNoLine, IsLine}
-use Rattle.qap_cert.specs.Number.{IsNamed}
+use Rattle.qap_lines.specs.Line.{line_after, HasNoLine, IsLine}
+use Rattle.qap_lines.specs.Number.{IsNamed}
 use Rattle.qap_cert.specs.Shape.{HasShape, AllHaveShape, child_count}
 use Rattle.qap_cert.specs.Version.{version_number, MayName, split_numbers}
 use Rattle.qap_cert.specs.declared.version.Version.{Version}
 use Rattle.qap_cert.specs.declared.version.Version.TheVariants.{First, Second}
 use Rattle.qap_io.specs.Number.{from_one}
-use Rattle.qap_cert.specs.Text.{line_text, tree_text, trees_text}
+use Rattle.qap_lines.specs.LineText.{line_text}
+use Rattle.qap_cert.specs.Text.{tree_text, trees_text}
 use Rattle.qap_cert.specs.Tree.{Node, Nodes, node_count, nodes_count}
 use Rattle.qap_cert.specs.declared.error.CertError.{CertError}
 use Rattle.qap_cert.specs.declared.error.CertError.TheVariants.{BadHeader, BadVersion, BadLine, Truncated, TrailingText, PermBad, SplitTooDeep, FacilityTaken, DualCount, DualRange}

@@ -3,9 +3,10 @@ use Rattle.std.specs.Prelude.{◌≡◌, ℕ, ◌-◌, ◌<◌, ◌++◌, [], Li
 use Rattle.qap_cost.specs.Instance.{Problem}
 use Rattle.qap_cost.specs.Placement.{Placement}
 use Rattle.qap_cert.specs.Fault.{IsTreeFault, IsTreeFaultAmong}
-use Rattle.qap_cert.specs.Line.{line_after}
+use Rattle.qap_lines.specs.Line.{line_after}
 use Rattle.qap_cert.specs.Shape.{AreDuals, HasShape, AllHaveShape, child_count}
-use Rattle.qap_cert.specs.Text.{numbers_text, tree_text, trees_text}
+use Rattle.qap_lines.specs.LineText.{numbers_text}
+use Rattle.qap_cert.specs.Text.{tree_text, trees_text}
 use Rattle.qap_cert.specs.TextFault.{IsTreeTextFault}
 use Rattle.qap_cert.specs.Tree.{Node, bound, Nodes, node_count, nodes_count}
 use Rattle.qap_cert.specs.Valid.{Valid, AllValid}

@@ -1,15 +1,14 @@
 //! The line of a certificate's bound.
 
 ghost use Rattle.std.specs.Prelude.{◌≡◌, ◌++◌, ◌∷◌, [], ℤ, codes, MatchOption, MatchResult};
-ghost use Rattle.qap_cert.specs.Number.{IsNamed};
-ghost use Rattle.qap_cert.specs.Text.{line_text};
+ghost use Rattle.qap_lines.specs.Number.{IsNamed};
+ghost use Rattle.qap_lines.specs.LineText.{line_text};
 ghost use Rattle.qap_cert.specs.TextFault.{HasNoBound, IsBelow, IsBoundLineFault};
 
 use crate::CertError;
-use crate::line::first_line;
 use crate::line_number::BOUND_LINE;
-use crate::number::one_number;
 use qap_cost::MAX_VALUE;
+use qap_lines::{first_line, one_number};
 
 /// A bound that is stated, and what follows its line.
 #[derive(Clone, Copy)]

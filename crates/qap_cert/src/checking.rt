@@ -5,7 +5,7 @@ ghost use Rattle.qap_cost.specs.Objective.{IsLeast, NoneCostsLess, cost_of};
 ghost use Rattle.qap_cost.specs.Placement.{IsFreeFacility, IsFreeLocation};
 ghost use Rattle.qap_cert.specs.Certificate.{Certifies};
 ghost use Rattle.qap_cert.specs.Fault.{IsBoundFault, IsPermMisfit, IsTreeFault, IsTreeFaultAmong, IsFault};
-ghost use Rattle.qap_cert.specs.Line.{line_after};
+ghost use Rattle.qap_lines.specs.Line.{line_after};
 ghost use Rattle.qap_cert.specs.Shape.{AreDuals, HasShape, AllHaveShape};
 ghost use Rattle.qap_cert.specs.Tree.{node_of, nodes_of, node_count, nodes_count};
 ghost use Rattle.qap_cert.specs.Valid.{Closes, Valid, AllValid};

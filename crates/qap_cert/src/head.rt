@@ -1,23 +1,22 @@
 //! The first four lines of a certificate.
 
-ghost use Rattle.std.specs.Prelude.{◌≡◌, ◌≢◌, ◌<◌, ◌≤◌, ◌+◌, ◌⊎◌, ◌++◌, ◌∷◌, [], ℕ, ℤ, pos, List, length, codes, slice_index_or, MatchResult, MatchOption, IfOk, SomeIndex};
+ghost use Rattle.std.specs.Prelude.{◌≡◌, ◌<◌, ◌≤◌, ◌⊎◌, ◌++◌, ◌∷◌, [], pos, length, codes, MatchResult, MatchOption};
 ghost use Rattle.qap_cost.specs.Bijection.{IsPerm};
 ghost use Rattle.qap_cost.specs.Range.{IsLimited};
-ghost use Rattle.qap_cert.specs.Number.{IsNamed};
-ghost use Rattle.qap_cert.specs.declared.error.CertError.TheVariants.{OutOfMemory, PermBad};
+ghost use Rattle.qap_lines.specs.Number.{IsNamed};
+ghost use Rattle.qap_cert.specs.declared.error.CertError.TheVariants.{OutOfMemory};
 ghost use Rattle.qap_io.specs.Number.{from_one as counted_from_one};
-ghost use Rattle.qap_cert.specs.Text.{line_text};
+ghost use Rattle.qap_lines.specs.LineText.{line_text};
 ghost use Rattle.qap_cert.specs.TextFault.{IsLineFault, IsHeaderFault, IsSizeFault, IsCostFault, IsPermFault};
 ghost use Rattle.qap_cert.specs.Version.{version_number};
 
 use crate::CertError;
 use crate::line::line_at;
 use crate::line_number::{COST_LINE, PERM_LINE, SIZE_LINE, VERSION_LINE};
-use crate::number::{one_number, read_numbers};
 use crate::version::Version;
 use qap_cost::{MAX_SIZE, MAX_VALUE, Perm};
-use qap_io::from_one;
-use std::alloc::{AllocError, Global};
+use qap_lines::{one_number, permutation_from_one, read_numbers};
+use std::alloc::Global;
 
 /// The version, which the first line states, and what follows that.
 pub(crate) fn read_header(text: &[u8]) -> Result<(Version, &[u8]), CertError>
@@ -117,38 +116,8 @@ fn judge_permutation(alloc: Global, line: &[u8], n: usize) -> Result<Perm, CertE
     if numbers.count != n {
         return Err(CertError::BadLine(PERM_LINE));
     }
-    permutation_from_one(alloc, &locations)
-}
-
-/// The permutation whose locations are counted from 1.
-fn permutation_from_one(alloc: Global, values: &[i128]) -> Result<Perm, CertError>
-    requires small { length values.now ≤ 256 }
-    ensures { MatchResult result
-        (λ p. IsPerm p × (values.now ≡ counted_from_one p))
-        (λ e. (e ≡ OutOfMemory) ⊎ ((e ≡ PermBad 4) × ((p : List ℕ) → IsPerm p → values.now ≢ counted_from_one p))) }
-{
-    let Some(locations) = locations_from_one(alloc, values)? else {
-        return Err(CertError::PermBad(PERM_LINE));
-    };
-    match Perm::new(locations) {
-        Ok(permutation) => Ok(permutation),
-        Err(_) => Err(CertError::PermBad(PERM_LINE)),
+    match permutation_from_one(alloc, &locations)? {
+        Some(permutation) => Ok(permutation),
+        None => Err(CertError::PermBad(PERM_LINE)),
     }
-}
-
-/// Locations that are counted from 1, counted from 0; `None` where one of them isn't from 1 to their count.
-fn locations_from_one(alloc: Global, values: &[i128]) -> Result<Option<Vec<u16>>, AllocError>
-    requires small { length values.now ≤ 256 }
-    ensures { IfOk result (λ found. MatchOption found
-        (SomeIndex values.now (λ i. (k : ℕ) → k < length values.now → slice_index_or values.now i (pos 0) ≢ pos (k + 1)))
-        (λ v. values.now ≡ counted_from_one v.items)) }
-{
-    let mut locations = Vec::with_capacity(alloc, values.len())?;
-    for value in values {
-        let Some(location) = from_one(*value, values.len()) else {
-            return Ok(None);
-        };
-        locations.push(location)?;
-    }
-    Ok(Some(locations))
 }

@@ -12,7 +12,6 @@ mod law;
 mod line;
 mod line_number;
 mod node_line;
-mod number;
 mod placed;
 mod reader;
 mod shape;

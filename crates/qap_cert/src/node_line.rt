@@ -3,18 +3,17 @@
 ghost use Rattle.std.specs.Prelude.{◌≡◌, ◌⊎◌, ◌+◌, ◌-◌, ◌*◌, ◌<◌, ◌≤◌, codes, length, take, ℕ, ℤ, List, MatchOption, MatchResult};
 ghost use Rattle.qap_cost.specs.Placement.{IsFree};
 ghost use Rattle.qap_cost.specs.Range.{AllLimited};
-ghost use Rattle.qap_cert.specs.Line.{IsLine};
-ghost use Rattle.qap_cert.specs.Number.{IsNamed};
+ghost use Rattle.qap_lines.specs.Line.{IsLine};
+ghost use Rattle.qap_lines.specs.Number.{IsNamed};
 ghost use Rattle.qap_cert.specs.NodeLine.{IsNodeLine, HasDuals};
 ghost use Rattle.qap_cert.specs.TextFault.{IsLineFault, IsNodeFault, IsSplitLine};
 
 use crate::error::CertError;
-use crate::line::first_line;
-use crate::number::{one_number, read_numbers};
 use crate::placed::Placed;
 use crate::shape::judge_facility;
 use crate::version::Version;
 use qap_io::from_one;
+use qap_lines::{first_line, one_number, read_numbers};
 
 /// How the lines of a tree are read: in this version, for a certificate of this size.
 #[derive(Clone, Copy)]

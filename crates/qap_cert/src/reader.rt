@@ -14,7 +14,6 @@ use crate::bound::stated_bound;
 use crate::certificate::Certificate;
 use crate::error::CertError;
 use crate::head::{read_cost, read_header, read_permutation, read_size};
-use crate::line::first_line;
 use crate::line_number::{BOUND_LINE, TREE_LINE_BEHIND_BOUND};
 use crate::node_line::Grammar;
 use crate::placed::Placed;
@@ -22,6 +21,7 @@ use crate::tree::Tree;
 use crate::tree_reader::read_tree;
 use crate::version::Version;
 use qap_cost::Perm;
+use qap_lines::first_line;
 use std::alloc::Global;
 
 /// What stands before the tree of a certificate, the number of the tree's first line, and the text from there on.

@@ -1,9 +1,10 @@
 //! Reads the tree of a certificate.
 
 ghost use Rattle.std.specs.Prelude.{◌≡◌, ◌⊎◌, ◌++◌, ◌+◌, ◌-◌, ◌<◌, ◌≤◌, codes, length, ℕ, MatchOption, MatchResult};
-ghost use Rattle.qap_cert.specs.Line.{line_after};
+ghost use Rattle.qap_lines.specs.Line.{line_after};
 ghost use Rattle.qap_cert.specs.Shape.{HasShape, AllHaveShape, AreDuals, child_count};
-ghost use Rattle.qap_cert.specs.Text.{numbers_text, tree_text, trees_text};
+ghost use Rattle.qap_lines.specs.LineText.{numbers_text};
+ghost use Rattle.qap_cert.specs.Text.{tree_text, trees_text};
 ghost use Rattle.qap_cert.specs.TextFault.{IsTreeTextFault, IsFaultAmong, IsNodeFault, IsSplitLine};
 ghost use Rattle.qap_cert.specs.Tree.{node_of, nodes_of, node_count, nodes_count};
 

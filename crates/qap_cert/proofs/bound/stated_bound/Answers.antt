@@ -2,12 +2,12 @@ use Rattle.std.proofs.Common.{◌≡◌, ◌++◌, ◌∷◌, [], List, ℕ, ℤ
 use Rattle.std.specs.Prelude.{codes}
 use Rattle.std.specs.Int.{w128}
 use Rattle.std.proofs.lemmas.Int.{to_z-of_z}
-use Rattle.qap_cert.specs.Number.{IsNamed}
-use Rattle.qap_cert.specs.Text.{line_text}
+use Rattle.qap_lines.specs.Number.{IsNamed}
+use Rattle.qap_lines.specs.LineText.{line_text}
 use Rattle.qap_cert.specs.TextFault.{IsBelow}
-use Rattle.qap_cert.proofs.Lines.{IsLine-unique, no_line-line}
-use Rattle.qap_cert.proofs.Numbers.{line_text-one}
-use Rattle.qap_cert.proofs.Numerals.{reads_wide}
+use Rattle.qap_lines.proofs.Lines.{IsLine-unique, no_line-line}
+use Rattle.qap_lines.proofs.NumberLists.{line_text-one}
+use Rattle.qap_lines.proofs.Numerals.{reads_wide}
 use Rattle.qap_cert.proofs.bound.stated_bound.Goals as goal
 
 pub returns-in_default : goal.returns-in_default

@@ -2,7 +2,7 @@ use Rattle.std.proofs.Common.{◌≡◌, ◌∙◌, ◌≤◌, ◌^◌, ℤ, Lis
 use Rattle.std.specs.Prelude.{ℕ, length, unsigned_abs}
 use Rattle.std.specs.Int.{w128}
 use Rattle.qap_cost.specs.Objective.{cost_of}
-use Rattle.qap_cert.proofs.Numerals.{reads_wide}
+use Rattle.qap_lines.proofs.Numerals.{reads_wide}
 use Rattle.qap_cert.proofs.Walks.{map_result}
 use Rattle.qap_cert.specs.Fault.{IsPermMisfit}
 use Rattle.qap_cert.proofs.checking.judge_stated.Goals as goal

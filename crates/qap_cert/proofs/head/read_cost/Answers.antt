@@ -1,8 +1,8 @@
 use Rattle.std.proofs.Common.{◌≡◌, ◌≤◌, ◌^◌, ◌++◌, ◌∷◌, [], ℤ, unsigned_abs, sym, subst, arith}
 use Rattle.std.specs.Prelude.{codes}
-use Rattle.qap_cert.specs.Text.{line_text}
-use Rattle.qap_cert.proofs.Numbers.{line_text-one}
-use Rattle.qap_cert.proofs.Numerals.{reads_wide}
+use Rattle.qap_lines.specs.LineText.{line_text}
+use Rattle.qap_lines.proofs.NumberLists.{line_text-one}
+use Rattle.qap_lines.proofs.Numerals.{reads_wide}
 use Rattle.qap_cert.proofs.head.read_cost.Goals as goal
 
 pub returns : goal.returns

@@ -1,7 +1,7 @@
 use Rattle.std.proofs.Common.{pos, arith}
 use Rattle.std.specs.Prelude.{codes}
 use Rattle.qap_cert.specs.Version.{version_number}
-use Rattle.qap_cert.proofs.Numbers.{line_text-one}
+use Rattle.qap_lines.proofs.NumberLists.{line_text-one}
 use Rattle.qap_cert.proofs.Versions.{version_small}
 use Rattle.qap_cert.proofs.head.read_header.Goals as goal
 

@@ -1,7 +1,7 @@
 use Rattle.std.specs.Prelude.{codes}
 use Rattle.qap_io.specs.Number.{from_one}
-use Rattle.qap_cert.proofs.Locations.{AllLimited-permutation}
-use Rattle.qap_cert.proofs.Numbers.{line_text-is}
+use Rattle.qap_lines.proofs.Locations.{AllLimited-permutation}
+use Rattle.qap_lines.proofs.NumberLists.{line_text-is}
 use Rattle.qap_cert.proofs.head.read_permutation.Goals as goal
 
 pub returns : goal.returns

@@ -1,6 +1,6 @@
 use Rattle.std.proofs.Common.{pos, arith}
 use Rattle.std.specs.Prelude.{codes}
-use Rattle.qap_cert.proofs.Numbers.{line_text-one}
+use Rattle.qap_lines.proofs.NumberLists.{line_text-one}
 use Rattle.qap_cert.proofs.head.read_size.Goals as goal
 
 pub returns : goal.returns

@@ -2,12 +2,12 @@ use Rattle.std.proofs.Common.{◌≡◌, [], ◌∷◌, ◌++◌, ℤ, inl, inr,
 use Rattle.std.specs.Prelude.{codes}
 use Rattle.qap_cost.specs.Range.{IsLimited}
 use Rattle.qap_cert.specs.Head.{HasHead}
-use Rattle.qap_cert.specs.Text.{line_text}
+use Rattle.qap_lines.specs.LineText.{line_text}
 use Rattle.qap_cert.specs.TextFault.{IsFaultFromBound}
 use Rattle.std.specs.Int.{w128}
 use Rattle.std.proofs.lemmas.Result.{err_from_is_err_and}
 use Rattle.qap_cert.proofs.ReadTexts.{IsTextFault-behind, HasHead-read}
-use Rattle.qap_cert.proofs.Numerals.{reads_wide}
+use Rattle.qap_lines.proofs.Numerals.{reads_wide}
 use Rattle.qap_cert.proofs.reader.read_head.Goals as goal
 
 pub returns-in_err-cost : goal.returns-in_err-cost

@@ -2,7 +2,7 @@ use Rattle.std.proofs.Common.{◌≡◌, sym, ◌∙◌, subst}
 use Rattle.std.specs.Prelude.{MatchResult}
 use Rattle.std.proofs.lemmas.Result.{err_from_is_err_and}
 use Rattle.qap_cert.specs.Fault.{IsShapeFaultAmong}
-use Rattle.qap_cert.specs.Line.{line_after}
+use Rattle.qap_lines.specs.Line.{line_after}
 use Rattle.qap_cert.specs.Shape.{AllHaveShape, child_count}
 use Rattle.qap_cert.specs.Tree.{nodes_of, nodes_count}
 use Rattle.qap_cert.specs.declared.version.Version.TheVariants.{Second}

@@ -1,11 +1,11 @@
 use Rattle.std.proofs.Common.{◌≡◌, ◌-◌, ◌++◌, [], ◌∷◌, length, ap, inl, inr, ⊎_elim, arith, length-append}
 use Rattle.std.specs.Prelude.{codes}
 use Rattle.qap_cert.proofs.Duals.{duals_there}
-use Rattle.qap_cert.proofs.Numbers.{line_text-is}
+use Rattle.qap_lines.proofs.NumberLists.{line_text-is}
 use Rattle.qap_cert.proofs.Readings.{IsTreeTextFault-among}
 use Rattle.qap_cert.proofs.Versions.{AllLimited-split_numbers}
 use Rattle.qap_cert.proofs.Walks.{map_result, split_of, BeginsWithTree-bound, BeginsWithTree-split, BeginsWithTrees-none, BeginsWithTrees-more, IsFaultAmong-before}
-use Rattle.qap_cert.specs.Text.{line_text}
+use Rattle.qap_lines.specs.LineText.{line_text}
 use Rattle.qap_cert.specs.Version.{split_numbers}
 use Rattle.qap_cert.specs.Walk.{Any}
 use Rattle.qap_cert.proofs.skimming.+skimming.Goals as goal

@@ -1,14 +1,15 @@
 use Rattle.std.proofs.Common.{◌≡◌, ℕ, ◌-◌, ◌+◌, ◌≤◌, ◌++◌, [], ◌∷◌, List, length, inl, inr, sym, ap, ◌∙◌, subst, refl, arith, rules, ⊎_elim, append_assoc, length-append}
 use Rattle.std.specs.Prelude.{codes}
 use Rattle.std.proofs.lemmas.Result.{err_from_is_err_and}
-use Rattle.qap_cert.proofs.Numbers.{line_text-is}
+use Rattle.qap_lines.proofs.NumberLists.{line_text-is}
 use Rattle.qap_cert.proofs.Readings.{HaveRead-more, IsTreeTextFault-among}
 use Rattle.qap_cert.proofs.Trees.{node_of-Split, line_after-more}
 use Rattle.qap_cert.proofs.Versions.{AllLimited-split_numbers}
 use Rattle.qap_cert.proofs.Walks.{split_of}
-use Rattle.qap_cert.specs.Line.{line_after}
+use Rattle.qap_lines.specs.Line.{line_after}
 use Rattle.qap_cert.specs.Shape.{AllHaveShape}
-use Rattle.qap_cert.specs.Text.{line_text, trees_text}
+use Rattle.qap_lines.specs.LineText.{line_text}
+use Rattle.qap_cert.specs.Text.{trees_text}
 use Rattle.qap_cert.specs.TextFault.{IsTreeTextFault}
 use Rattle.qap_cert.specs.Tree.{nodes_of, nodes_count}
 use Rattle.qap_cert.specs.Version.{split_numbers}

@@ -5,14 +5,14 @@ use Rattle.qap_cost.specs.Instance.{Problem}
 use Rattle.qap_cost.specs.Placement.{Placement, IsFree, IsFreeFacility, free_locations}
 use Rattle.gilmore_lawler.specs.FlowRows.{FlowSide}
 use Rattle.qap_cert.proofs.Judgements.{AllValid-more, IsTreeFaultAmong-at}
-use Rattle.qap_cert.proofs.Numbers.{line_text-is}
+use Rattle.qap_lines.proofs.NumberLists.{line_text-is}
 use Rattle.qap_cert.proofs.Readings.{IsTreeTextFault-among, with_last}
 use Rattle.qap_cert.proofs.Versions.{AllLimited-split_numbers}
 use Rattle.qap_cert.proofs.Walks.{map_result, split_of, BeginsWithTree-bound, BeginsWithTree-split, BeginsWithTrees-none, BeginsWithTrees-more, joined, BeginsWithTrees-joined, IsFaultBefore-joined, IsFaultAmong-before}
 use Rattle.qap_cert.specs.Fault.{IsTreeFault, IsTreeFaultAmong}
-use Rattle.qap_cert.specs.Line.{line_after}
+use Rattle.qap_lines.specs.Line.{line_after}
 use Rattle.qap_cert.specs.Shape.{AreDuals}
-use Rattle.qap_cert.specs.Text.{line_text}
+use Rattle.qap_lines.specs.LineText.{line_text}
 use Rattle.qap_cert.specs.Tree.{Node, bound, split, Nodes}
 use Rattle.qap_cert.specs.Valid.{Valid, AllValid}
 use Rattle.qap_cert.specs.Version.{split_numbers}

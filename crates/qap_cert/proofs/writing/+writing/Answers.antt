@@ -1,6 +1,7 @@
 use Rattle.std.proofs.Common.{◌+◌, ◌++◌, List, take, drop, sym, ap, subst}
 use Rattle.std.specs.Prelude.{codes, ℕ}
-use Rattle.qap_cert.specs.Text.{line_text, tree_text, trees_text}
+use Rattle.qap_lines.specs.LineText.{line_text}
+use Rattle.qap_cert.specs.Text.{tree_text, trees_text}
 use Rattle.qap_cert.specs.Version.{split_numbers}
 use Rattle.qap_cert.specs.declared.version.Version.TheVariants.{Second}
 use Rattle.qap_cert.specs.Tree.{node_of, nodes_of}

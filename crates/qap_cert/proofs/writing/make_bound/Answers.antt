@@ -1,5 +1,5 @@
 use Rattle.std.proofs.Common.{◌≡◌, ◌++◌, ◌∷◌, [], ◌∙◌, ap, sym, rules}
-use Rattle.qap_cert.specs.Text.{numbers_text}
+use Rattle.qap_lines.specs.LineText.{numbers_text}
 use Rattle.qap_cert.proofs.WrittenTexts.{numbers_text-append}
 use Rattle.qap_cert.proofs.writing.make_bound.Goals as goal
 

@@ -2,8 +2,8 @@ use Rattle.std.proofs.Common.{◌≡◌, ◌+◌, ◌≤◌, ◌^◌, ◌++◌, 
 use Rattle.std.specs.Fmt.{signed_decimal}
 use Rattle.std.proofs.lemmas.List.{map_more}
 use Rattle.qap_io.specs.Number.{from_one}
-use Rattle.qap_cert.specs.Text.{numbers_text}
-use Rattle.qap_cert.proofs.Numerals.{reads_positive}
+use Rattle.qap_lines.specs.LineText.{numbers_text}
+use Rattle.qap_lines.proofs.Numerals.{reads_positive}
 use Rattle.qap_cert.proofs.WrittenTexts.{numbers_text-push}
 use Rattle.qap_cert.proofs.writing.push_locations.Goals as goal
 

@@ -4,7 +4,7 @@ use Rattle.std.specs.Int.{w128}
 use Rattle.std.specs.Prelude.{FitsSigned}
 use Rattle.std.proofs.lemmas.Int.{to_z-of_z}
 use Rattle.std.proofs.lemmas.List.{take_more}
-use Rattle.qap_cert.specs.Text.{numbers_text}
+use Rattle.qap_lines.specs.LineText.{numbers_text}
 use Rattle.qap_cert.proofs.WrittenTexts.{numbers_text-push}
 use Rattle.qap_cert.proofs.writing.push_numbers.Goals as goal
 

@@ -1,5 +1,5 @@
 use Rattle.std.proofs.Common.{◌≡◌, ◌++◌, take}
-use Rattle.qap_cert.specs.Text.{numbers_text}
+use Rattle.qap_lines.specs.LineText.{numbers_text}
 use Rattle.qap_cert.proofs.writing.push_numbers.Given as goal
 
 abbrev pub invariant-loop-number : goal.invariant-loop-number

@@ -1,7 +1,7 @@
 use Rattle.std.proofs.Common.{◌≤◌, ◌^◌, ◌∙◌, to_z, of_z, unsigned_abs, sym, subst, arith}
 use Rattle.std.specs.Int.{w128}
 use Rattle.std.specs.Prelude.{codes, ℤ}
-use Rattle.qap_cert.proofs.Numerals.{reads_wide}
+use Rattle.qap_lines.proofs.Numerals.{reads_wide}
 use Rattle.qap_cert.proofs.WrittenTexts.{written_number}
 use Rattle.qap_cert.proofs.writing.write_cost.Goals as goal
 

@@ -1,7 +1,8 @@
 use Rattle.std.proofs.Common.{◌++◌, ◌∷◌, [], length, pos}
 use Rattle.std.specs.Prelude.{codes}
 use Rattle.qap_io.specs.Number.{from_one}
-use Rattle.qap_cert.specs.Text.{head_text, line_text}
+use Rattle.qap_lines.specs.LineText.{line_text}
+use Rattle.qap_cert.specs.Text.{head_text}
 use Rattle.qap_cert.specs.declared.version.Version.TheVariants.{Second}
 use Rattle.qap_cert.proofs.WrittenTexts.{HasWritten-then, HasStopped-then, HasStopped-longer, MatchResult-then, fails_with}
 use Rattle.qap_cert.proofs.writing.write_head.Goals as goal

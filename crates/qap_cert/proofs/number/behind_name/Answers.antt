@@ -1,7 +1,0 @@
-use Rattle.std.proofs.lemmas.Bool.Decides.{Decides-eqb}
-use Rattle.std.proofs.lemmas.Slice.Eq.{strip_prefix_is}
-use Rattle.qap_cert.proofs.number.behind_name.Goals as goal
-
-pub returns : goal.returns
-returns c =
-    strip_prefix_is Decides-eqb c.args.line.now c.args.name.now c.strip_prefix.result c.strip_prefix.ensures.cases

@@ -1,6 +1,0 @@
-use Rattle.qap_cert.proofs.Numbers.{one_named}
-use Rattle.qap_cert.proofs.number.one_number.Goals as goal
-
-pub returns-in-Some : goal.returns-in-Some
-returns-in-Some c =
-    one_named c.args.name.now c.args.line.now c.in-Some.text.now c.only_number.result c.in-Some.ensures c.only_number.ensures

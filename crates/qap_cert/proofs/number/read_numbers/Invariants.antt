@@ -1,9 +1,0 @@
-use Rattle.std.proofs.Common.{length}
-use Rattle.qap_cert.proofs.Numbers.{HasKept}
-use Rattle.qap_cert.proofs.number.read_numbers.Given as goal
-
-abbrev pub invariant-loop-space : goal.invariant-loop-space
-invariant-loop-space l = HasKept l.initial.rest l.rest l.wanted l.count l.limited l.first.items
-
-abbrev pub decreases-loop-space : goal.decreases-loop-space
-decreases-loop-space l = length l.rest
