@@ -1,4 +1,5 @@
 mod Arrangements
+mod Contrasts
 mod Costs
 mod DoubleSums
 mod Exchanges

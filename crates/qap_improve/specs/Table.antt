@@ -1,6 +1,6 @@
 -- What each exchange of two facilities changes the cost by, and what another exchange changes that by
 -- (Taillard, Robust taboo search for the quadratic assignment problem, Parallel Computing 17, 1991).
-use Rattle.std.specs.Prelude.{◌≡◌, ℕ, ◌+◌, ◌*◌, ◌^◌, ◌<◌, ◌≤◌, List, length, ℤ, ◌+ℤ◌, ◌-ℤ◌, ◌*ℤ◌, unsigned_abs}
+use Rattle.std.specs.Prelude.{◌≡◌, ℕ, ◌+◌, ◌*◌, ◌^◌, ◌<◌, ◌≤◌, List, length, ℤ, ◌+ℤ◌, ◌-ℤ◌, ◌*ℤ◌, unsigned_abs, slice_index_or}
 use Rattle.qap_cost.specs.Instance.{Problem, entry}
 use Rattle.qap_cost.specs.Objective.{cost_of}
 use Rattle.qap_improve.specs.Difference.{flow, distance}
@@ -39,6 +39,15 @@ pub record IsSmall (x : Contrast) : Type 0 where
   pub flow_back : unsigned_abs x.flow_back ≤ 2 * 10 ^ 9
   pub distance : unsigned_abs x.distance ≤ 2 * 10 ^ 9
   pub distance_back : unsigned_abs x.distance_back ≤ 2 * 10 ^ 9
+
+-- those between each facility and two others, before place t
+pub record HasContrasts (I : Problem) (p : List ℕ) (u v : ℕ) (xs : List Contrast) (t : ℕ) : Type 0 where
+  pub count : length xs ≡ I.size
+  pub each : (k : ℕ) (other : Contrast) → k < t → IsContrast I p u v k (slice_index_or xs k other) × IsSmall (slice_index_or xs k other)
+
+-- those between each facility and two others
+abbrev pub AreContrasts : Problem → List ℕ → ℕ → ℕ → List Contrast → Type 0
+AreContrasts I p u v xs = HasContrasts I p u v xs I.size
 
 -- what the difference of two facilities changes by, which are which contrast so with two that have exchanged
 abbrev pub change_of_difference : Contrast → Contrast → ℤ

@@ -4,7 +4,7 @@ ghost use Rattle.std.specs.Prelude.{◌≡◌, ◌≢◌, false, ◌+◌, ◌*�
 ghost use Rattle.qap_cost.specs.Instance.{IsInstance};
 ghost use Rattle.qap_improve.specs.Arrangement.{IsArrangement};
 ghost use Rattle.qap_improve.specs.Exchange.{exchanging};
-ghost use Rattle.qap_improve.specs.Table.{AreDifferences, HasFilled, HasUpdated, IsContrast, IsSmall, change_of_difference};
+ghost use Rattle.qap_improve.specs.Table.{AreContrasts, AreDifferences, HasFilled, HasUpdated, IsContrast, IsSmall, change_of_difference};
 
 use crate::arrangement::{Arrangement, change_at, rows_back, rows_there};
 use crate::rows::{distance_contrast, flow_contrast};
@@ -16,12 +16,18 @@ use std::marker::Model;
 #[derive(Drop)]
 pub struct Differences {
     entries: Vec<i128>,
+    /// Those of each facility with the two that were exchanged last.
+    contrasts: Vec<Contrast>,
 }
 
 impl Model for Differences {
+    ghost use Rattle.std.specs.Prelude.{◌≡◌, ◌*◌, List, ℤ, length};
+
     ghost Value = { List ℤ };
 
     ghost view = { λ d. d.entries.items };
+
+    ghost invariant = { λ d. length d.entries.items ≡ length d.contrasts.items * length d.contrasts.items };
 }
 
 impl Differences {
@@ -36,8 +42,10 @@ impl Differences {
     {
         let n = instance.size();
         let entries = vec![in alloc; 0; n * n]?;
+        let contrasts = vec![in alloc; NO_CONTRAST; n]?;
         Ok(Differences {
             entries: filled(instance, arrangement, entries),
+            contrasts,
         })
     }
 
@@ -61,7 +69,9 @@ impl Differences {
         requires before { AreDifferences instance.now (exchanging arrangement.now.locations.items u v) self.old }
         ensures { AreDifferences instance.now arrangement.now.locations.items self.new }
     {
-        update_rows(instance, arrangement, u, v, &mut self.entries);
+        let Differences { entries, contrasts } = self;
+        fill_contrasts(instance, arrangement, u, v, contrasts);
+        update_rows(instance, arrangement, (u, v), contrasts, entries);
     }
 }
 
@@ -103,19 +113,20 @@ fn fill_row(instance: &Instance, arrangement: &Arrangement, r: usize, entries: &
 fn update_rows(
     instance: &Instance,
     arrangement: &Arrangement,
-    u: usize,
-    v: usize,
+    exchanged: (usize, usize),
+    contrasts: &[Contrast],
     entries: &mut [i128],
 )
     requires arrangement { IsArrangement instance.now arrangement.now }
-    requires first { u < instance.now.size }
-    requires second { v < instance.now.size }
-    requires two { u ≢ v }
-    requires before { AreDifferences instance.now (exchanging arrangement.now.locations.items u v) entries.old }
+    requires first { exchanged.0 < instance.now.size }
+    requires second { exchanged.1 < instance.now.size }
+    requires two { exchanged.0 ≢ exchanged.1 }
+    requires contrasts { AreContrasts instance.now arrangement.now.locations.items exchanged.0 exchanged.1 contrasts.now }
+    requires before { AreDifferences instance.now (exchanging arrangement.now.locations.items exchanged.0 exchanged.1) entries.old }
     ensures { AreDifferences instance.now arrangement.now.locations.items entries.new }
 {
     for r in 0..instance.size() {
-        update_row(instance, arrangement, u, v, r, entries);
+        update_row(instance, arrangement, exchanged, r, contrasts, entries);
     }
 }
 
@@ -123,22 +134,24 @@ fn update_rows(
 fn update_row(
     instance: &Instance,
     arrangement: &Arrangement,
-    u: usize,
-    v: usize,
+    exchanged: (usize, usize),
     r: usize,
+    contrasts: &[Contrast],
     entries: &mut [i128],
 )
     requires arrangement { IsArrangement instance.now arrangement.now }
-    requires first { u < instance.now.size }
-    requires second { v < instance.now.size }
-    requires two { u ≢ v }
+    requires first { exchanged.0 < instance.now.size }
+    requires second { exchanged.1 < instance.now.size }
+    requires two { exchanged.0 ≢ exchanged.1 }
     requires row { r < instance.now.size }
-    requires above { HasUpdated instance.now (exchanging arrangement.now.locations.items u v) arrangement.now.locations.items entries.old (r * instance.now.size) }
-    ensures { HasUpdated instance.now (exchanging arrangement.now.locations.items u v) arrangement.now.locations.items entries.new ((r + 1) * instance.now.size) }
+    requires contrasts { AreContrasts instance.now arrangement.now.locations.items exchanged.0 exchanged.1 contrasts.now }
+    requires above { HasUpdated instance.now (exchanging arrangement.now.locations.items exchanged.0 exchanged.1) arrangement.now.locations.items entries.old
+        (r * instance.now.size) }
+    ensures { HasUpdated instance.now (exchanging arrangement.now.locations.items exchanged.0 exchanged.1) arrangement.now.locations.items entries.new
+        ((r + 1) * instance.now.size) }
 {
-    let with_r = contrast_of(instance, arrangement, u, v, r);
     for s in r + 1..instance.size() {
-        update_entry(instance, arrangement, (u, v), (r, s), &with_r, entries);
+        update_entry(instance, arrangement, exchanged, (r, s), contrasts, entries);
     }
 }
 
@@ -148,7 +161,7 @@ fn update_entry(
     arrangement: &Arrangement,
     exchanged: (usize, usize),
     pair: (usize, usize),
-    with_first: &Contrast,
+    contrasts: &[Contrast],
     entries: &mut [i128],
 )
     requires arrangement { IsArrangement instance.now arrangement.now }
@@ -157,22 +170,19 @@ fn update_entry(
     requires two { exchanged.0 ≢ exchanged.1 }
     requires row { pair.0 < pair.1 }
     requires column { pair.1 < instance.now.size }
-    requires contrast { IsContrast instance.now arrangement.now.locations.items exchanged.0 exchanged.1 pair.0 with_first.now }
-    requires small { IsSmall with_first.now }
+    requires contrasts { AreContrasts instance.now arrangement.now.locations.items exchanged.0 exchanged.1 contrasts.now }
     requires before { HasUpdated instance.now (exchanging arrangement.now.locations.items exchanged.0 exchanged.1) arrangement.now.locations.items entries.old
         (pair.0 * instance.now.size + pair.1) }
     ensures { HasUpdated instance.now (exchanging arrangement.now.locations.items exchanged.0 exchanged.1) arrangement.now.locations.items entries.new
         (pair.0 * instance.now.size + (pair.1 + 1)) }
 {
-    let (u, v) = exchanged;
     let (r, s) = pair;
     let place = r * instance.size() + s;
     let old = entries[place];
     if share_one(exchanged, pair) {
         entries[place] = change_at(instance, arrangement, r, s);
     } else {
-        let with_second = contrast_of(instance, arrangement, u, v, s);
-        entries[place] = old + change(with_first, &with_second);
+        entries[place] = old + change(&contrasts[r], &contrasts[s]);
     }
 }
 
@@ -186,12 +196,39 @@ fn share_one(exchanged: (usize, usize), pair: (usize, usize)) -> bool
 }
 
 /// How the flows, and the distances, between a facility and two exchanged ones differ.
-#[derive(Drop)]
+#[derive(Clone, Copy)]
 struct Contrast {
     flow: i64,
     flow_back: i64,
     distance: i64,
     distance_back: i64,
+}
+
+/// No difference.
+const NO_CONTRAST: Contrast = Contrast {
+    flow: 0,
+    flow_back: 0,
+    distance: 0,
+    distance_back: 0,
+};
+
+/// Makes the list those between each facility and the exchanged `u` and `v`.
+fn fill_contrasts(
+    instance: &Instance,
+    arrangement: &Arrangement,
+    u: usize,
+    v: usize,
+    contrasts: &mut [Contrast],
+)
+    requires arrangement { IsArrangement instance.now arrangement.now }
+    requires first { u < instance.now.size }
+    requires second { v < instance.now.size }
+    requires count { length contrasts.old ≡ instance.now.size }
+    ensures { AreContrasts instance.now arrangement.now.locations.items u v contrasts.new }
+{
+    for k in 0..contrasts.len() {
+        contrasts[k] = contrast_of(instance, arrangement, u, v, k);
+    }
 }
 
 /// Those between facility `k` and the exchanged `u` and `v`.

@@ -1,15 +1,22 @@
 use Rattle.std.proofs.Common.{◌+◌, ◌*◌, get_or, ap, ◌∙◌, arith}
-use Rattle.std.specs.Prelude.{ℤ, pos, ◌+ℤ◌}
+use Rattle.std.specs.Prelude.{ℤ, pos, ◌+ℤ◌, slice_index_or}
 use Rattle.qap_improve.specs.Exchange.{exchanging}
 use Rattle.qap_improve.specs.Table.{change_of_difference}
 use Rattle.qap_improve.proofs.Readings.{fits_large_both, reads_large_both, reads_wide}
 use Rattle.qap_improve.proofs.Tables.{HasUpdated-written, old_bounded, old_difference, place_below}
 use Rattle.qap_improve.proofs.Updates.{IsDifference-updated}
+use Rattle.qap_improve.proofs.Contrasts.{no_contrast}
 use Rattle.qap_improve.proofs.table.update_entry.Goals as goal
 
 pub bounds-entries-place-else-share_one : goal.bounds-entries-place-else-share_one
 bounds-entries-place-else-share_one c =
     place_below c.args.instance.now.size c.size.result c.args.pair.0 c.args.pair.1 _ c.size.ensures.value c.requires.row c.requires.column c.requires.before.filled.count
+
+pub change-requires-clause-first : goal.change-requires-clause-first
+change-requires-clause-first c = (c.requires.contrasts.each c.args.pair.0 no_contrast (omega (arith, c.requires.row, c.requires.column))).1
+
+pub change-requires-clause-second : goal.change-requires-clause-second
+change-requires-clause-second c = (c.requires.contrasts.each c.args.pair.1 no_contrast c.requires.column).1
 
 pub overflow_add-entries : goal.overflow_add-entries
 overflow_add-entries c =
@@ -37,8 +44,9 @@ returns-else-share_one c =
     let v = c.args.exchanged.1 in
     let r = c.args.pair.0 in
     let s = c.args.pair.1 in
-    let x = c.args.with_first.now in
-    let y = c.contrast_of-with_second.result in
+    let xs = c.args.contrasts.now in
+    let x = slice_index_or xs r no_contrast in
+    let y = slice_index_or xs s no_contrast in
     let place = r * c.size.result + s in
     let old = get_or c.args.entries.now place (pos 0) in
     let others = c.share_one.ensures c.if-share_one.false in
@@ -51,6 +59,6 @@ returns-else-share_one c =
     ∙ ap (λ (z : ℤ). old +ℤ z) c.change.ensures.value)
     (IsDifference-updated I q u v r s x y old c.requires.two c.requires.first c.requires.second c.requires.arrangement.permutation.same_size
     (λ e. omega arith) (omega arith) c.requires.column others.0 others.1 others.2 others.3
-    c.requires.contrast c.contrast_of-with_second.ensures.value
+    (c.requires.contrasts.each r no_contrast (omega (arith, c.requires.row, c.requires.column))).0 (c.requires.contrasts.each s no_contrast c.requires.column).0
     (old_difference I (exchanging q u v) q c.args.entries.now r s place c.requires.row c.requires.column at c.requires.before))
     c.requires.before
