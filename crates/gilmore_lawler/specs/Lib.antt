@@ -1,6 +1,7 @@
 pub mod Duals
 pub mod FlowRows
 pub mod LeastProduct
+pub mod Levels
 pub mod Order
 pub mod Ranking
 pub mod ReducedMatrix

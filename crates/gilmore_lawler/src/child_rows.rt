@@ -3,6 +3,7 @@
 ghost use Rattle.std.specs.Prelude.{◌≡◌, ◌<◌, ◌≤◌, ◌+◌, ◌-◌, ◌*◌, ◌++◌, ◌∷◌, [], drop, length, pos, remove, slice_index, slice_index_or, take, ℕ, ⊤, MatchOption, OnOk};
 ghost use Rattle.qap_cost.specs.Instance.{IsInstance, entry};
 ghost use Rattle.gilmore_lawler.specs.FlowRows.{HasDistanceRows, HasLocationRows};
+ghost use Rattle.gilmore_lawler.specs.Levels.{AreRowsAt};
 ghost use Rattle.gilmore_lawler.specs.Order.{IsDescending};
 ghost use Rattle.gilmore_lawler.specs.Table.{pair_with, segment};
 
@@ -10,7 +11,7 @@ use crate::factors::write_pair;
 use crate::left_out::write_without;
 use crate::side::{Side, entry_at, narrow};
 use qap_cost::Instance;
-use std::alloc::AllocError;
+use std::alloc::{AllocError, Global};
 
 /// The rows of the distances where certain locations are taken, with these and the free ones.
 #[derive(Drop)]
@@ -18,6 +19,57 @@ pub(crate) struct LocationRows {
     pub(crate) places: Vec<u16>,
     pub(crate) free: Vec<u16>,
     pub(crate) rows: Vec<i32>,
+}
+
+impl LocationRows {
+    /// No rows, and no memory yet.
+    pub(crate) fn new(alloc: Global) -> LocationRows {
+        LocationRows {
+            places: Vec::new(alloc),
+            free: Vec::new(alloc),
+            rows: Vec::new(alloc),
+        }
+    }
+
+    /// Makes `made` the rows where the free location of number `s` is taken too, with the locations.
+    pub(crate) fn make_child(
+        &self,
+        instance: &Instance,
+        s: usize,
+        made: &mut LocationRows,
+    ) -> Result<(), AllocError>
+        requires instance { IsInstance instance.now }
+        requires known { HasLocationRows instance.now self.now.places.items self.now.free.items self.now.rows.items }
+        requires place { s < length self.now.free.items }
+        ensures { OnOk result (AreRowsAt instance.now (self.now.places.items ++ slice_index self.now.free.items s ∷ []) made.new) }
+    {
+        list_with(&self.places, self.free[s], &mut made.places)?;
+        list_without(&self.free, s, &mut made.free)?;
+        let LocationRows { places, free, rows } = self;
+        child_rows(instance, places, free, rows, s, &mut made.rows)
+    }
+}
+
+/// Makes `numbers` these and one more behind them.
+fn list_with(those: &[u16], last: u16, numbers: &mut Vec<u16>) -> Result<(), AllocError>
+    ensures { OnOk result (numbers.new.items ≡ those.now ++ last ∷ []) }
+{
+    numbers.clear();
+    numbers.reserve(those.len() + 1)?;
+    numbers.extend_from_slice(those)?;
+    numbers.push(last)?;
+    Ok(())
+}
+
+/// Makes `numbers` these but number `s` of them.
+fn list_without(those: &[u16], s: usize, numbers: &mut Vec<u16>) -> Result<(), AllocError>
+    requires { s < length those.now }
+    ensures { OnOk result (numbers.new.items ≡ remove those.now s) }
+{
+    numbers.clear();
+    numbers.extend_from_slice(those)?;
+    numbers.remove(s);
+    Ok(())
 }
 
 /// Which of the free locations is taken at these places, where they are those that are taken and one more behind them.

@@ -44,7 +44,8 @@ impl<'a> FlowRows<'a> {
         let facilities = Vec::from_slice(alloc, node.facilities())?;
         let mut rows = Vec::new(alloc);
         ranked.make_flow_rows(node, &mut rows)?;
-        let before = ranked.location_rows(but_last(node))?;
+        let mut before = LocationRows::new(alloc);
+        ranked.make_location_rows(but_last(node), &mut before)?;
         Ok(FlowRows {
             ranked,
             facilities,

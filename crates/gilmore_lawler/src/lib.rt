@@ -11,6 +11,7 @@ mod flow_rows;
 mod free;
 mod kept_rows;
 mod left_out;
+mod levels;
 mod pairing;
 mod ranking;
 mod reduction;
