@@ -54,7 +54,7 @@ from_below s r q m before after h =
     ]
 
 -- the two parts of a row
-parts : (I : Problem) (places free : List ℕ) (q : ℕ) (row : List ℤ) (f : IsFactorRow I Distance places free q row) → (take (1 + 2 * length places) row ≡ linear_row I.size I.b places (get_or free q 0)) × (drop (1 + 2 * length places) row ≡ f.sorted)
+pub parts : (I : Problem) (places free : List ℕ) (q : ℕ) (row : List ℤ) (f : IsFactorRow I Distance places free q row) → (take (1 + 2 * length places) row ≡ linear_row I.size I.b places (get_or free q 0)) × (drop (1 + 2 * length places) row ≡ f.sorted)
 parts I places free q row f =
     let linear = linear_row I.size I.b places (get_or free q 0) in
     let count : length linear ≡ 1 + 2 * length places = length-linear_row I.size I.b places (get_or free q 0) in (
@@ -141,10 +141,10 @@ AreRowsAt-made I places free rows s h hs made at left told =
     }
 
 -- a list that has one number behind those of another
-pub one_behind : (taken free places : List ℕ) (o : Option ℕ) → length places - length taken ≡ 1 → take (length taken) places ≡ taken → MatchOption o ⊤ (λ s. (s < length free) × (get_or free s 0 ≡ get_or places (length taken) 0))
+pub one_behind : (A : Type 0) (taken free places : List ℕ) (o : Option ℕ) → length places - length taken ≡ 1 → take (length taken) places ≡ taken → MatchOption o A (λ s. (s < length free) × (get_or free s 0 ≡ get_or places (length taken) 0))
     → MatchOption o ⊤ (λ s. (s < length free) × (places ≡ taken ++ get_or free s 0 ∷ []))
-one_behind taken free places None count before h = tt
-one_behind taken free places (Some s) count before h = (
+one_behind A taken free places None count before h = tt
+one_behind A taken free places (Some s) count before h = (
   h.0,
   sym (take_all (length taken + 1) places (omega (arith, count)))
       ∙ take_more places (length taken) 0 (omega (arith, count))

@@ -28,3 +28,7 @@ KeepsRows-made I levels above below own k front back all here =
     All-append (KeepsRows I) above (set below 0 own)
     (subst (All (KeepsRows I)) (sym front) (All-take (KeepsRows I) k levels all))
     (All-set (KeepsRows I) below 0 own here (subst (All (KeepsRows I)) (sym back) (All-drop (KeepsRows I) k levels all)))
+
+-- the level that is made had rows of its own before
+pub KeepsRows-before : (I : Problem) (levels below : List Level) (d : Level) (k : ℕ) → below ≡ drop k levels → All (KeepsRows I) levels → 0 < length below → KeepsRows I (get_or below 0 d)
+KeepsRows-before I levels below d k back all some = subst (All (KeepsRows I)) (sym back) (All-drop (KeepsRows I) k levels all) 0 d some

@@ -11,4 +11,5 @@ pub mod Rankings
 pub mod Rearrangement
 pub mod ReducedMatrices
 pub mod Skips
+pub mod Splits
 pub mod Tables

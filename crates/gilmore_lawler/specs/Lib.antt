@@ -6,4 +6,5 @@ pub mod Order
 pub mod Ranking
 pub mod ReducedMatrix
 pub mod Small
+pub mod Split
 pub mod Table

@@ -1,6 +1,6 @@
 //! The rows of the distances of a node, from those where one location fewer is taken.
 
-ghost use Rattle.std.specs.Prelude.{◌≡◌, ◌<◌, ◌≤◌, ◌+◌, ◌-◌, ◌*◌, ◌++◌, ◌∷◌, [], drop, length, pos, remove, slice_index, slice_index_or, take, ℕ, ⊤, MatchOption, OnOk};
+ghost use Rattle.std.specs.Prelude.{◌≡◌, ◌≢◌, ◌<◌, ◌≤◌, ◌+◌, ◌-◌, ◌*◌, ◌++◌, ◌∷◌, [], drop, length, pos, remove, slice_index, slice_index_or, take, ℕ, ⊤, MatchOption, OnOk};
 ghost use Rattle.qap_cost.specs.Instance.{IsInstance, entry};
 ghost use Rattle.gilmore_lawler.specs.FlowRows.{HasDistanceRows, HasLocationRows};
 ghost use Rattle.gilmore_lawler.specs.Levels.{AreRowsAt};
@@ -51,7 +51,7 @@ impl LocationRows {
 }
 
 /// Makes `numbers` these and one more behind them.
-fn list_with(those: &[u16], last: u16, numbers: &mut Vec<u16>) -> Result<(), AllocError>
+pub(crate) fn list_with(those: &[u16], last: u16, numbers: &mut Vec<u16>) -> Result<(), AllocError>
     ensures { OnOk result (numbers.new.items ≡ those.now ++ last ∷ []) }
 {
     numbers.clear();
@@ -88,9 +88,21 @@ pub(crate) fn place_behind(taken: &[u16], free: &[u16], places: &[u16]) -> Optio
     }
 }
 
+/// Where the location stands among these, which have it.
+pub(crate) fn place_among(free: &[u16], location: u16) -> usize
+    requires { (s : ℕ) × (s < length free.now) × (slice_index free.now s ≡ location) }
+    ensures inside { result < length free.now }
+    ensures value { slice_index free.now result ≡ location }
+{
+    match place_of(free, location) {
+        Some(s) => s,
+        None => unreachable!(),
+    }
+}
+
 /// Where the number stands among these.
 fn place_of(numbers: &[u16], number: u16) -> Option<usize>
-    ensures { MatchOption result ⊤ (λ s. (s < length numbers.now) × (slice_index numbers.now s ≡ number)) }
+    ensures { MatchOption result ((s : ℕ) → s < length numbers.now → slice_index numbers.now s ≢ number) (λ s. (s < length numbers.now) × (slice_index numbers.now s ≡ number)) }
 {
     for s in 0..numbers.len() {
         if numbers[s] == number {
@@ -150,7 +162,7 @@ fn fill_child_rows(
 }
 
 /// Row `q` of so many of this width.
-fn row_at(rows: &[i32], width: usize, count: usize, q: usize) -> &[i32]
+pub(crate) fn row_at(rows: &[i32], width: usize, count: usize, q: usize) -> &[i32]
     requires count { count ≤ 256 }
     requires width { width ≤ 512 }
     requires size { length rows.now ≡ count * width }

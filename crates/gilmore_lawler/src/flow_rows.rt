@@ -43,7 +43,7 @@ impl<'a> FlowRows<'a> {
         let alloc = ranked.allocator();
         let facilities = Vec::from_slice(alloc, node.facilities())?;
         let mut rows = Vec::new(alloc);
-        ranked.make_flow_rows(node, &mut rows)?;
+        ranked.make_flow_rows(node.facilities(), &mut rows)?;
         let mut before = LocationRows::new(alloc);
         ranked.make_location_rows(but_last(node), &mut before)?;
         Ok(FlowRows {

@@ -103,7 +103,7 @@ fn keep_for(
     *are_made = false;
     facilities.clear();
     facilities.extend_from_slice(node.facilities())?;
-    ranked.make_flow_rows(node, rows)?;
+    ranked.make_flow_rows(node.facilities(), rows)?;
     *are_made = true;
     Ok(())
 }

@@ -1,6 +1,6 @@
 //! Rows of the distances that are kept, one level for each count of locations that are taken.
 
-ghost use Rattle.std.specs.Prelude.{◌≡◌, ◌<◌, ◌≤◌, ⊤, length, MatchOption, OnOk};
+ghost use Rattle.std.specs.Prelude.{◌≡◌, ◌<◌, ◌≤◌, ⊤, length, IsTrue, MatchOption, OnOk};
 ghost use Rattle.std.specs.List.{All};
 ghost use Rattle.qap_cost.specs.Instance.{Problem};
 ghost use Rattle.gilmore_lawler.specs.FlowRows.{HasDistanceRows};
@@ -29,7 +29,14 @@ impl Level {
         }
     }
 
-    /// Makes the rows those at the node, from those of the level above where these are its parent's.
+    /// Whether its rows are made, and those where these locations are taken.
+    fn is_at(&self, places: &[u16]) -> bool
+        ensures { IsTrue result → (IsTrue self.now.are_made × (self.now.known.places.items ≡ places.now)) }
+    {
+        self.are_made && *self.known.places == *places
+    }
+
+    /// Makes the rows those at the node, where they aren't yet, from those of the level above where these are its parent's.
     fn make(
         &mut self,
         ranked: &RankedInstance,
@@ -38,9 +45,13 @@ impl Level {
     ) -> Result<(), AllocError>
         requires size { ranked.now.size ≡ node.now.size }
         requires above { MatchOption above ⊤ (λ level. KeepsRows ranked.now level.now) }
+        requires kept { KeepsRows ranked.now self.old }
         ensures kept { KeepsRows ranked.now self.new }
         ensures made { OnOk result (HasDistanceRows ranked.now node.now.places self.new.known.rows.items) }
     {
+        if self.is_at(node.places()) {
+            return Ok(());
+        }
         self.are_made = false;
         match above {
             Some(level) if level.are_made => {

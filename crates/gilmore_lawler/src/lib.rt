@@ -17,6 +17,7 @@ mod ranking;
 mod reduction;
 mod side;
 mod small;
+mod split_rows;
 
 pub use bound::{node_bound_law, one_reduced_matrix_law};
 pub use duals::{dual_sum, fits};
@@ -24,3 +25,4 @@ pub use flow_rows::FlowRows;
 pub use kept_rows::KeptRows;
 pub use pairing::least_product;
 pub use reduction::{RankedInstance, Workspace, reduced};
+pub use split_rows::SplitRows;

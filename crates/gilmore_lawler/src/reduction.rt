@@ -83,7 +83,7 @@ impl RankedInstance {
         ensures size { IfOk result (λ M. M.size ≡ node.now.size - length node.now.facilities) }
         ensures bounded { IfOk result (λ M. AllWithin (512 * 10 ^ 18) M.entries) }
     {
-        self.make_flow_rows(node, &mut workspace.a_rows)?;
+        self.make_flow_rows(node.facilities(), &mut workspace.a_rows)?;
         self.make_location_rows(node.places(), &mut workspace.distances)?;
         self.reduced_by(&workspace.a_rows, &workspace.distances.rows, node)
     }
@@ -93,21 +93,29 @@ impl RankedInstance {
         *self.a_rankings.allocator()
     }
 
-    /// Makes `rows` those of the flows for each node that places the facilities of this one.
+    /// Whether its entries are known to be small.
+    pub(crate) fn are_small(&self) -> bool
+        ensures { IsTrue result → (AllSmall self.now.a × AllSmall self.now.b) }
+    {
+        self.are_small
+    }
+
+    /// Makes `rows` those of the flows for each node that places these facilities.
     pub(crate) fn make_flow_rows(
         &self,
-        node: &Partial,
+        facilities: &[u16],
         rows: &mut Vec<i32>,
     ) -> Result<(), AllocError>
-        requires { self.now.size ≡ node.now.size }
-        ensures { OnOk result (HasFlowRows (record { instance = self.now; facilities = node.now.facilities }) rows.new.items) }
+        requires { AreDifferent self.now.size facilities.now }
+        ensures { OnOk result (HasFlowRows (record { instance = self.now; facilities = facilities.now }) rows.new.items) }
     {
-        let free = node.free_facilities()?;
+        let mut free = Vec::new(self.allocator());
+        list_free(self.instance.size(), facilities, &mut free)?;
         factor_rows(
             &self.instance,
             Side::Flow,
             &self.a_rankings,
-            node.facilities(),
+            facilities,
             &free,
             rows,
         )

@@ -1,7 +1,12 @@
 use Rattle.std.proofs.Common.{arith}
 use Rattle.std.proofs.lemmas.Result.{on_ok_weaker}
-use Rattle.gilmore_lawler.proofs.KeptLevels.{HasLevel-made, KeepsRows-made}
+use Rattle.gilmore_lawler.proofs.KeptLevels.{HasLevel-made, KeepsRows-before, KeepsRows-made}
 use Rattle.gilmore_lawler.proofs.levels.make_level.Goals as goal
+
+pub make-requires-clause-kept : goal.make-requires-clause-kept
+make-requires-clause-kept c =
+    KeepsRows-before c.args.ranked.now c.args.levels.now c.split_at_mut-above.result.1.now c.index-own-0.result c.depth.result c.split_at_mut-above.ensures.back c.requires.kept
+    (omega (arith, c.split_at_mut-above.ensures.back_len, c.depth.ensures.value, c.requires.deep))
 
 pub returns-clause-made : goal.returns-clause-made
 returns-clause-made c =
