@@ -1,4 +1,4 @@
-use Rattle.std.proofs.Common.{◌≡◌, ℕ, ℤ, List, ◌+◌, ◌-◌, ◌<◌, ◌++◌, ◌∷◌, [], get_or, ap, ap₂, subst, sym, ◌∙◌, length}
+use Rattle.std.proofs.Common.{◌≡◌, ℕ, ℤ, List, ◌+◌, ◌-◌, ◌<◌, ◌++◌, ◌∷◌, [], get_or, ap, ap₂, subst, sym, ◌∙◌, length, arith}
 use Rattle.std.specs.Prelude.{◌↔◌, IsTrue}
 use Rattle.qap_cost.specs.Instance.{Problem, IsInstance}
 use Rattle.qap_cost.specs.Placement.{IsFreeLocation, placing}
@@ -7,7 +7,7 @@ use Rattle.gilmore_lawler.specs.Duals.{ProductsFit, TellsFit}
 use Rattle.gilmore_lawler.specs.FlowRows.{HasDistanceRows}
 use Rattle.gilmore_lawler.specs.Split.{Split}
 use Rattle.gilmore_lawler.specs.declared.side.Side.TheVariants.{Flow, Distance}
-use Rattle.gilmore_lawler.proofs.Splits.{stands, count_of, flows_count, distances_count, child_fits, made_child}
+use Rattle.gilmore_lawler.proofs.Splits.{stands, count_of, places_and_free, flows_count, distances_count, child_fits, made_child}
 use Rattle.gilmore_lawler.proofs.Tables.{AllInRange-matrix}
 use Rattle.gilmore_lawler.proofs.split_rows.SplitRows.fits.Goals as goal
 
@@ -18,6 +18,15 @@ place_among-s-requires c =
     let at : IsFreeLocation s.node c.args.location = subst (λ (t : Split). IsFreeLocation t.node c.args.location) (sym c.self.view_is) c.requires.location in
     subst (λ (free : List ℕ). (j : ℕ) × (j < length free) × (get_or free j 0 ≡ c.args.location)) (sym c.deref.ensures.value)
     (stands s i.flows.items i.linear.items i.before.places.items i.before.free.items i.before.rows.items _ c.args.location c.self.invariant at)
+
+pub products_fit-requires-clause-width : goal.products_fit-requires-clause-width
+products_fit-requires-clause-width c =
+    let i = c.self.inside in
+    let s : Split = record { instance = i.ranked.now; node = i.node.now; facility = i.facility } in
+    let counts = places_and_free s i.flows.items i.linear.items i.before.places.items i.before.free.items i.before.rows.items _ c.self.invariant in
+    let size : c.size.result ≡ s.instance.size = c.size.ensures.value ∙ ap (λ (I : Problem). I.size) c.instance-instance.ensures.value in
+    let below : c.place_among-s.result < length i.before.free.items = omega (arith, c.place_among-s.ensures.inside, ap length c.deref.ensures.value) in
+    omega (arith, counts, size, below, c.depth.ensures.value)
 
 pub products_fit-requires-clause-a_size : goal.products_fit-requires-clause-a_size
 products_fit-requires-clause-a_size c =
