@@ -69,6 +69,14 @@ impl<'a> SplitRows<'a> {
         })
     }
 
+    /// The node of the child at this location.
+    pub fn child(&self, location: u16) -> Result<Partial, AllocError>
+        requires { IsFreeLocation self.now.node location }
+        ensures { IfOk result (λ x. x ≡ placing self.now.node self.now.facility location) }
+    {
+        self.node.place(self.facility, location)
+    }
+
     /// Whether `(u, v)` fits the reduced matrix of the child at this location, as `fits` tells it of the matrix.
     pub fn fits(
         &self,
