@@ -2,12 +2,15 @@
 // and the test whether duals fit. Prints for each part the nanoseconds and a sum of what it answered.
 //
 // Rows are sorted once and kept in 32 bits, and picked without a branch; those of the facilities are kept from one node to the
-// next where the same are placed. Eight products are added up in 64 bits, and then in 128, so that the whole range of entries
-// is taken. Assignments are in 64 bits where the matrix's entries allow it, and else in 128; lists are kept from call to call.
+// next where the same are placed, and in a walk those of the locations are made from the parent's. Products are added up in 64 bits
+// where no sum of them can leave these, as the instance's greatest entries tell; else eight at a time, and then in 128, so that the
+// whole range of entries is taken. Assignments are in 64 bits where the matrix's entries allow it, and else in 128; lists are kept from call to call.
 #include <algorithm>
 #include <chrono>
 #include <cstdint>
 #include <cstdio>
+#include <cstdlib>
+#include <cstring>
 #include <numeric>
 #include <string>
 #include <utility>
@@ -49,7 +52,39 @@ struct Factors {
     std::vector<char> is_free;
     bool valid = false;
 
-    explicit Factors(const Side& s) : side(s), rows(2 * s.n * s.n + s.n), is_free(s.n) {}
+    explicit Factors(const Side& s) : side(s), rows(2 * s.n * s.n + s.n + 16), is_free(s.n) {}
+
+    // The rows where these are placed, made from those where the last isn't.
+    void make_behind(const Factors& parent, const std::vector<std::uint16_t>& taken) {
+        const int n = side.n, last = taken.back(), linear = 2 * int(taken.size()) - 1, rest = n - int(taken.size()) - 1;
+        placed = taken;
+        valid = true;
+        const Entry* in = parent.rows.data();
+        Entry* row = rows.data();
+        for (int k : parent.free_ones) {
+            if (k != last) {
+                const Entry gone = side.entries[k * n + last];
+                // Blocks of four may read and write past a row's end: what follows is written over, and the lists are longer.
+                for (int t = 0; t < linear; t += 4) std::memcpy(row + t, in + t, 4 * sizeof(Entry));
+                row[linear] = gone;
+                row[linear + 1] = side.entries[last * n + k];
+                const Entry* from = in + linear;
+                Entry* to = row + linear + 2;
+                for (int t = 0; t < rest; t += 4)
+                    for (int s = 0; s < 4; ++s) to[t + s] = from[t + s] > gone ? from[t + s] : from[t + s + 1];
+                row += n + int(taken.size());
+            }
+            in += n + int(taken.size()) - 1;
+        }
+        free_ones.clear();
+        for (int k : parent.free_ones)
+            if (k != last) free_ones.push_back(std::uint16_t(k));
+    }
+
+    // Whether these are the rows of the parent where these are placed.
+    bool is_before(const std::vector<std::uint16_t>& taken) const {
+        return valid && placed.size() + 1 == taken.size() && std::equal(placed.begin(), placed.end(), taken.begin());
+    }
 
     void make(const std::vector<std::uint16_t>& taken) {
         if (valid && taken == placed) return;
@@ -65,8 +100,10 @@ struct Factors {
             Entry* row = &rows[r * width];
             const int i = free_ones[r];
             *row++ = side.entries[i * n + i];
-            for (int t : placed) *row++ = side.entries[i * n + t];
-            for (int t : placed) *row++ = side.entries[t * n + i];
+            for (int t : placed) {
+                *row++ = side.entries[i * n + t];
+                *row++ = side.entries[t * n + i];
+            }
             const Ranked* rank = &side.ranked[i * n];
             for (int t = 0; t < n; ++t) {
                 *row = rank[t].value;
@@ -78,10 +115,26 @@ struct Factors {
 
 struct Reducer {
     Factors a, b;
+    std::vector<Factors> levels;  // the rows of the distances for each depth
+    bool narrow;                  // whether any 2 n products of an entry of one side and one of the other add up within 64 bits
 
-    Reducer(const Side& flows, const Side& distances) : a(flows), b(distances) {}
+    Reducer(const Side& flows, const Side& distances)
+        : a(flows), b(distances), levels(flows.n + 1, Factors(distances)),
+          narrow(Wide(2 * flows.n) * greatest(flows) * greatest(distances) < Wide(1) << 62) {}
 
-    static Wide product(const Entry* x, const Entry* y, int width) {
+    static std::int64_t greatest(const Side& side) {
+        std::int64_t most = 0;
+        for (Entry entry : side.entries) most = std::max(most, std::abs(std::int64_t(entry)));
+        return most;
+    }
+
+    static std::int64_t narrow_product(const Entry* x, const Entry* y, int width) {
+        std::int64_t sum = 0;
+        for (int t = 0; t < width; ++t) sum += std::int64_t(x[t]) * y[t];
+        return sum;
+    }
+
+    static Wide wide_product(const Entry* x, const Entry* y, int width) {
         Wide total = 0;
         int t = 0;
         for (; t + 8 <= width; t += 8) {
@@ -89,18 +142,34 @@ struct Reducer {
             for (int s = 0; s < 8; ++s) sum += std::int64_t(x[t + s]) * y[t + s];
             total += sum;
         }
-        std::int64_t sum = 0;
-        for (; t < width; ++t) sum += std::int64_t(x[t]) * y[t];
-        return total + sum;
+        return total + narrow_product(x + t, y + t, width - t);
     }
 
     void reduced(const Node& node, std::vector<Wide>& matrix) {
         a.make(node.facilities);
         b.make(node.places);
+        multiply(node, b, matrix);
+    }
+
+    // The same as a worker asks for it: a node's rows of the distances are made from those of its parent, where these are kept.
+    void reduced_in_walk(const Node& node, std::vector<Wide>& matrix) {
+        const int depth = int(node.places.size());
+        a.make(node.facilities);
+        if (depth > 0 && levels[depth - 1].is_before(node.places))
+            levels[depth].make_behind(levels[depth - 1], node.places);
+        else
+            levels[depth].make(node.places);
+        multiply(node, levels[depth], matrix);
+    }
+
+    void multiply(const Node& node, const Factors& distances, std::vector<Wide>& matrix) const {
         const int depth = int(node.facilities.size()), m = a.side.n - depth, width = a.side.n + depth;
         matrix.resize(m * m);
         for (int r = 0; r < m; ++r)
-            for (int c = 0; c < m; ++c) matrix[r * m + c] = product(&a.rows[r * width], &b.rows[c * width], width);
+            for (int c = 0; c < m; ++c) {
+                const Entry *x = &a.rows[r * width], *y = &distances.rows[c * width];
+                matrix[r * m + c] = narrow ? Wide(narrow_product(x, y, width)) : wide_product(x, y, width);
+            }
     }
 };
 
@@ -204,7 +273,7 @@ static std::vector<Entry> generated(int count, std::uint64_t seed, std::int64_t 
     return numbers;
 }
 
-static std::vector<Node> families(int n, int depth, int count) {
+static std::vector<Node> families(int n, int depth, int count, bool with_parents) {
     std::vector<Node> nodes;
     const auto holds = [](const std::vector<std::uint16_t>& list, int x) { return std::find(list.begin(), list.end(), x) != list.end(); };
     for (std::uint64_t seed = 0; int(nodes.size()) < count; ++seed) {
@@ -222,6 +291,7 @@ static std::vector<Node> families(int n, int depth, int count) {
             nodes.push_back(node);
             continue;
         }
+        if (with_parents) nodes.push_back(node);
         std::uint16_t f = 0;
         while (holds(node.facilities, f)) ++f;
         for (std::uint16_t k = 0; k < n; ++k)
@@ -255,7 +325,7 @@ static long long since(std::chrono::steady_clock::time_point start) {
 
 static void run(int n, int depth, std::int64_t far, int count) {
     const Side a(n, generated(n * n, 1, far), true), b(n, generated(n * n, 2, far), false);
-    const std::vector<Node> nodes = families(n, depth, count);
+    const std::vector<Node> nodes = families(n, depth, count, false), walked = families(n, depth, count, true);
     const int m = n - depth;
     std::vector<std::vector<Wide>> matrices(nodes.size());
     {
@@ -272,6 +342,14 @@ static void run(int n, int depth, std::int64_t far, int count) {
     }
     const long long reducing = since(start);
     start = std::chrono::steady_clock::now();
+    Wide kept = 0;
+    Reducer walker(a, b);
+    for (const Node& node : walked) {
+        walker.reduced_in_walk(node, matrix);
+        kept += total(matrix);
+    }
+    const long long keeping = since(start);
+    start = std::chrono::steady_clock::now();
     std::vector<Answer> answers;
     answers.reserve(nodes.size());
     Solver solver;
@@ -284,8 +362,8 @@ static void run(int n, int depth, std::int64_t far, int count) {
     const long long testing = since(start);
     Wide duals = 0;
     for (const Answer& answer : answers) duals += total(answer.u) + total(answer.v);
-    std::printf("%d %d %lld %zu %lld %lld %lld %s %s %zu\n", n, depth, (long long)far, nodes.size(), reducing, assigning, testing,
-                decimal(entries).c_str(), decimal(duals).c_str(), fitting);
+    std::printf("%d %d %lld %zu %zu %lld %lld %lld %lld %s %s %s %zu\n", n, depth, (long long)far, nodes.size(), walked.size(), reducing,
+                keeping, assigning, testing, decimal(entries).c_str(), decimal(kept).c_str(), decimal(duals).c_str(), fitting);
 }
 
 int main() {

@@ -6,10 +6,13 @@ use Rattle.std.proofs.lemmas.Bool.{cases_lt}
 use Rattle.std.proofs.lemmas.Grind.{flat_map-append}
 use Rattle.std.proofs.lemmas.List.{length-append, length-take-le, take_all, take_at, take_more, drop_at}
 use Rattle.qap_cost.specs.Instance.{Problem, IsInstance, entry}
+use Rattle.qap_cost.specs.Bijection.{AreDifferent}
 use Rattle.qap_cost.specs.Placement.{ListsFree, free_below}
-use Rattle.qap_cost.proofs.Placements.{ListsFree-free_below}
+use Rattle.qap_cost.proofs.Placements.{ListsFree-free_below, AreDifferent-more}
+use Rattle.gilmore_lawler.specs.declared.child_rows.LocationRows.{LocationRows}
 use Rattle.gilmore_lawler.specs.declared.side.Side.TheVariants.{Distance}
 use Rattle.gilmore_lawler.specs.FlowRows.{HasDistanceRows, HasLocationRows}
+use Rattle.gilmore_lawler.specs.Levels.{AreRowsAt}
 use Rattle.gilmore_lawler.specs.ReducedMatrix.{others}
 use Rattle.gilmore_lawler.specs.Order.{IsArranged, IsDescending}
 use Rattle.gilmore_lawler.specs.Table.{segment, IsTable, pair_with, linear_row, IsFactorRow}
@@ -51,7 +54,7 @@ from_below s r q m before after h =
     ]
 
 -- the two parts of a row
-parts : (I : Problem) (places free : List ℕ) (q : ℕ) (row : List ℤ) (f : IsFactorRow I Distance places free q row) → (take (1 + 2 * length places) row ≡ linear_row I.size I.b places (get_or free q 0)) × (drop (1 + 2 * length places) row ≡ f.sorted)
+pub parts : (I : Problem) (places free : List ℕ) (q : ℕ) (row : List ℤ) (f : IsFactorRow I Distance places free q row) → (take (1 + 2 * length places) row ≡ linear_row I.size I.b places (get_or free q 0)) × (drop (1 + 2 * length places) row ≡ f.sorted)
 parts I places free q row f =
     let linear = linear_row I.size I.b places (get_or free q 0) in
     let count : length linear ≡ 1 + 2 * length places = length-linear_row I.size I.b places (get_or free q 0) in (
@@ -103,16 +106,20 @@ room_for_child I places free s r end row table h within hs hr width room =
     let inside = row_end-le r (length free - 1) w hr in
     omega (arith, at, inside, room, width)
 
+-- the free ones that are left
+left_free : (I : Problem) (places free : List ℕ) (rows : List ℤ) (s : ℕ) → HasLocationRows I places free rows → s < length free → remove free s ≡ free_below I.size (places ++ get_or free s 0 ∷ [])
+left_free I places free rows s h hs =
+    let known : s < length (free_below I.size places) = subst (λ (fs : List ℕ). s < length fs) h.are_free hs in
+    ap (λ (fs : List ℕ). remove fs s) h.are_free
+    ∙ sym (free_below-more I.size places s h.different known)
+    ∙ ap (λ (fs : List ℕ). free_below I.size (places ++ get_or fs s 0 ∷ [])) (sym h.are_free)
+
 -- all rows
 pub child_done : (I : Problem) (places free : List ℕ) (rows table : List ℤ) (s r : ℕ) → HasLocationRows I places free rows → s < length free → r ≡ length free - 1 → HasFactors I Distance (places ++ get_or free s 0 ∷ []) (remove free s) r table → HasDistanceRows I (places ++ get_or free s 0 ∷ []) table
 child_done I places free rows table s r h hs end made =
     let more = places ++ get_or free s 0 ∷ [] in
     let count : r ≡ length (remove free s) = omega (arith, length-remove free s hs, end) in
-    let known : s < length (free_below I.size places) = subst (λ (fs : List ℕ). s < length fs) h.are_free hs in
-    let same : remove free s ≡ free_below I.size more =
-    ap (λ (fs : List ℕ). remove fs s) h.are_free
-    ∙ sym (free_below-more I.size places s h.different known)
-    ∙ ap (λ (fs : List ℕ). free_below I.size (places ++ get_or fs s 0 ∷ [])) (sym h.are_free) in
+    let same = left_free I places free rows s h hs in
     let table_of : IsTable (2 * length more + length (remove free s)) (length (remove free s)) (IsFactorRow I Distance more (remove free s)) table =
     subst (λ (k : ℕ). IsTable (2 * length more + length (remove free s)) k (IsFactorRow I Distance more (remove free s)) table) count made.rows in
     record {
@@ -120,11 +127,24 @@ child_done I places free rows table s r h hs end made =
       range = made.range;
     }
 
+-- the locations with one more, and the free ones without it
+pub AreRowsAt-made : (I : Problem) (places free : List ℕ) (rows : List ℤ) (s : ℕ) → HasLocationRows I places free rows → s < length free → (made : LocationRows) → made.places.items ≡ places ++ get_or free s 0 ∷ [] → made.free.items ≡ remove free s
+    → HasDistanceRows I (places ++ get_or free s 0 ∷ []) made.rows.items → AreRowsAt I (places ++ get_or free s 0 ∷ []) made
+AreRowsAt-made I places free rows s h hs made at left told =
+    let more = places ++ get_or free s 0 ∷ [] in
+    let different : AreDifferent I.size more = AreDifferent-more I.size (get_or free s 0) places h.different ((listed I places free rows h).each s hs) in
+    let is_left : made.free.items ≡ free_below I.size more = left ∙ left_free I places free rows s h hs in
+    let known : HasLocationRows I more made.free.items made.rows.items = record { different = different; are_free = is_left; are_theirs = told } in
+    record {
+      at = at;
+      are_theirs = subst (λ (taken : List ℕ). HasLocationRows I taken made.free.items made.rows.items) (sym at) known;
+    }
+
 -- a list that has one number behind those of another
-pub one_behind : (taken free places : List ℕ) (o : Option ℕ) → length places - length taken ≡ 1 → take (length taken) places ≡ taken → MatchOption o ⊤ (λ s. (s < length free) × (get_or free s 0 ≡ get_or places (length taken) 0))
+pub one_behind : (A : Type 0) (taken free places : List ℕ) (o : Option ℕ) → length places - length taken ≡ 1 → take (length taken) places ≡ taken → MatchOption o A (λ s. (s < length free) × (get_or free s 0 ≡ get_or places (length taken) 0))
     → MatchOption o ⊤ (λ s. (s < length free) × (places ≡ taken ++ get_or free s 0 ∷ []))
-one_behind taken free places None count before h = tt
-one_behind taken free places (Some s) count before h = (
+one_behind A taken free places None count before h = tt
+one_behind A taken free places (Some s) count before h = (
   h.0,
   sym (take_all (length taken + 1) places (omega (arith, count)))
       ∙ take_more places (length taken) 0 (omega (arith, count))

@@ -64,7 +64,7 @@ dot-bound xs ys x y h =
     rw (unsigned_abs-mul (get_or xs j (pos 0)) (get_or ys j (pos 0))) product)
 
 -- what the linear parts of two rows give
-dot-linear_row : (I : Problem) (x : Placement) (i k : ℕ) → length x.places ≡ length x.facilities → dot (linear_row I.size I.a x.facilities i) (linear_row I.size I.b x.places k) ≡ linear_cost I x i k
+pub dot-linear_row : (I : Problem) (x : Placement) (i k : ℕ) → length x.places ≡ length x.facilities → dot (linear_row I.size I.a x.facilities i) (linear_row I.size I.b x.places k) ≡ linear_cost I x i k
 dot-linear_row I x i k paired =
     let n = I.size in
     let a_own = entry n I.a i i in

@@ -3,6 +3,7 @@ pub mod Completions
 pub mod DotBlocks
 pub mod Dots
 pub mod FactorRows
+pub mod KeptLevels
 pub mod LeftOut
 pub mod Lists
 pub mod OneMatrix
@@ -10,4 +11,5 @@ pub mod Rankings
 pub mod Rearrangement
 pub mod ReducedMatrices
 pub mod Skips
+pub mod Splits
 pub mod Tables

@@ -101,7 +101,7 @@ AllWithin-pairs l n matrix (g ∷ placed) i h =
     (AllWithin-append l (entry n matrix i g ∷ []) (entry n matrix g i ∷ []) there back)
     (AllWithin-pairs l n matrix placed i h)
 
-AllWithin-linear_row : (l n : ℕ) (matrix : List ℤ) (placed : List ℕ) (i : ℕ) → AllWithin l matrix → AllWithin l (linear_row n matrix placed i)
+pub AllWithin-linear_row : (l n : ℕ) (matrix : List ℤ) (placed : List ℕ) (i : ℕ) → AllWithin l matrix → AllWithin l (linear_row n matrix placed i)
 AllWithin-linear_row l n matrix placed i h =
     let own : AllWithin l (entry n matrix i i ∷ []) = AllWithin-map l (λ k. entry n matrix i k) (i ∷ []) (λ k. within-read l matrix (i * n + k) h) in
     AllWithin-append l (entry n matrix i i ∷ []) (flat_map (pair_with n matrix i) placed) own (AllWithin-pairs l n matrix placed i h)

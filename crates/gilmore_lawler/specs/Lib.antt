@@ -1,8 +1,10 @@
 pub mod Duals
 pub mod FlowRows
 pub mod LeastProduct
+pub mod Levels
 pub mod Order
 pub mod Ranking
 pub mod ReducedMatrix
 pub mod Small
+pub mod Split
 pub mod Table

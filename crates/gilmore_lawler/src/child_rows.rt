@@ -1,8 +1,9 @@
 //! The rows of the distances of a node, from those where one location fewer is taken.
 
-ghost use Rattle.std.specs.Prelude.{◌≡◌, ◌<◌, ◌≤◌, ◌+◌, ◌-◌, ◌*◌, ◌++◌, ◌∷◌, [], drop, length, pos, remove, slice_index, slice_index_or, take, ℕ, ⊤, MatchOption, OnOk};
+ghost use Rattle.std.specs.Prelude.{◌≡◌, ◌≢◌, ◌<◌, ◌≤◌, ◌+◌, ◌-◌, ◌*◌, ◌++◌, ◌∷◌, [], drop, length, pos, remove, slice_index, slice_index_or, take, ℕ, ⊤, MatchOption, OnOk};
 ghost use Rattle.qap_cost.specs.Instance.{IsInstance, entry};
 ghost use Rattle.gilmore_lawler.specs.FlowRows.{HasDistanceRows, HasLocationRows};
+ghost use Rattle.gilmore_lawler.specs.Levels.{AreRowsAt};
 ghost use Rattle.gilmore_lawler.specs.Order.{IsDescending};
 ghost use Rattle.gilmore_lawler.specs.Table.{pair_with, segment};
 
@@ -10,7 +11,7 @@ use crate::factors::write_pair;
 use crate::left_out::write_without;
 use crate::side::{Side, entry_at, narrow};
 use qap_cost::Instance;
-use std::alloc::AllocError;
+use std::alloc::{AllocError, Global};
 
 /// The rows of the distances where certain locations are taken, with these and the free ones.
 #[derive(Drop)]
@@ -18,6 +19,57 @@ pub(crate) struct LocationRows {
     pub(crate) places: Vec<u16>,
     pub(crate) free: Vec<u16>,
     pub(crate) rows: Vec<i32>,
+}
+
+impl LocationRows {
+    /// No rows, and no memory yet.
+    pub(crate) fn new(alloc: Global) -> LocationRows {
+        LocationRows {
+            places: Vec::new(alloc),
+            free: Vec::new(alloc),
+            rows: Vec::new(alloc),
+        }
+    }
+
+    /// Makes `made` the rows where the free location of number `s` is taken too, with the locations.
+    pub(crate) fn make_child(
+        &self,
+        instance: &Instance,
+        s: usize,
+        made: &mut LocationRows,
+    ) -> Result<(), AllocError>
+        requires instance { IsInstance instance.now }
+        requires known { HasLocationRows instance.now self.now.places.items self.now.free.items self.now.rows.items }
+        requires place { s < length self.now.free.items }
+        ensures { OnOk result (AreRowsAt instance.now (self.now.places.items ++ slice_index self.now.free.items s ∷ []) made.new) }
+    {
+        list_with(&self.places, self.free[s], &mut made.places)?;
+        list_without(&self.free, s, &mut made.free)?;
+        let LocationRows { places, free, rows } = self;
+        child_rows(instance, places, free, rows, s, &mut made.rows)
+    }
+}
+
+/// Makes `numbers` these and one more behind them.
+pub(crate) fn list_with(those: &[u16], last: u16, numbers: &mut Vec<u16>) -> Result<(), AllocError>
+    ensures { OnOk result (numbers.new.items ≡ those.now ++ last ∷ []) }
+{
+    numbers.clear();
+    numbers.reserve(those.len() + 1)?;
+    numbers.extend_from_slice(those)?;
+    numbers.push(last)?;
+    Ok(())
+}
+
+/// Makes `numbers` these but number `s` of them.
+fn list_without(those: &[u16], s: usize, numbers: &mut Vec<u16>) -> Result<(), AllocError>
+    requires { s < length those.now }
+    ensures { OnOk result (numbers.new.items ≡ remove those.now s) }
+{
+    numbers.clear();
+    numbers.extend_from_slice(those)?;
+    numbers.remove(s);
+    Ok(())
 }
 
 /// Which of the free locations is taken at these places, where they are those that are taken and one more behind them.
@@ -36,9 +88,21 @@ pub(crate) fn place_behind(taken: &[u16], free: &[u16], places: &[u16]) -> Optio
     }
 }
 
+/// Where the location stands among these, which have it.
+pub(crate) fn place_among(free: &[u16], location: u16) -> usize
+    requires { (s : ℕ) × (s < length free.now) × (slice_index free.now s ≡ location) }
+    ensures inside { result < length free.now }
+    ensures value { slice_index free.now result ≡ location }
+{
+    match place_of(free, location) {
+        Some(s) => s,
+        None => unreachable!(),
+    }
+}
+
 /// Where the number stands among these.
 fn place_of(numbers: &[u16], number: u16) -> Option<usize>
-    ensures { MatchOption result ⊤ (λ s. (s < length numbers.now) × (slice_index numbers.now s ≡ number)) }
+    ensures { MatchOption result ((s : ℕ) → s < length numbers.now → slice_index numbers.now s ≢ number) (λ s. (s < length numbers.now) × (slice_index numbers.now s ≡ number)) }
 {
     for s in 0..numbers.len() {
         if numbers[s] == number {
@@ -98,7 +162,7 @@ fn fill_child_rows(
 }
 
 /// Row `q` of so many of this width.
-fn row_at(rows: &[i32], width: usize, count: usize, q: usize) -> &[i32]
+pub(crate) fn row_at(rows: &[i32], width: usize, count: usize, q: usize) -> &[i32]
     requires count { count ≤ 256 }
     requires width { width ≤ 512 }
     requires size { length rows.now ≡ count * width }

@@ -73,7 +73,7 @@ fn fill_rows(
 }
 
 /// Writes the entry of `i` with itself, and the pairs with each placed one, from this place on, and tells the place behind them.
-fn write_linear(
+pub(crate) fn write_linear(
     instance: &Instance,
     side: Side,
     placed: &[u16],

@@ -43,8 +43,9 @@ impl<'a> FlowRows<'a> {
         let alloc = ranked.allocator();
         let facilities = Vec::from_slice(alloc, node.facilities())?;
         let mut rows = Vec::new(alloc);
-        ranked.make_flow_rows(node, &mut rows)?;
-        let before = ranked.location_rows(but_last(node))?;
+        ranked.make_flow_rows(node.facilities(), &mut rows)?;
+        let mut before = LocationRows::new(alloc);
+        ranked.make_location_rows(but_last(node), &mut before)?;
         Ok(FlowRows {
             ranked,
             facilities,

@@ -7,33 +7,38 @@ ghost use Rattle.qap_cost.specs.Range.{AllWithin};
 ghost use Rattle.gilmore_lawler.specs.FlowRows.{HasFlowRows, KeepsFlowRows};
 ghost use Rattle.gilmore_lawler.specs.ReducedMatrix.{IsReduced};
 
-use crate::reduction::{DistanceRows, RankedInstance};
+use crate::levels::{Level, keep_level};
+use crate::reduction::RankedInstance;
 use qap_cost::{Instance, Matrix, Partial};
 use std::alloc::{AllocError, Global};
 use std::marker::Model;
 use std::sync::Arc;
 
-/// A share of a ranked instance, with the rows of the flows that the last node needed: they serve the next one too where it
-/// places the same facilities. It is seen as the instance, and its answers don't depend on what was asked before.
+/// A share of a ranked instance, with the rows of the flows that the last node needed, which serve the next one too where it
+/// places the same facilities, and for each depth the rows of the distances of the last node there, of which those of its children are
+/// made. It is seen as the instance, and its answers don't depend on what was asked before.
 #[derive(Drop)]
 pub struct KeptRows {
     ranked: Arc<RankedInstance>,
     facilities: Vec<u16>,
     a_rows: Vec<i32>,
-    distances: DistanceRows,
+    levels: Vec<Level>,
     are_made: bool,
 }
 
 impl Model for KeptRows {
     ghost use Rattle.std.specs.Arc.{arc_value};
     ghost use Rattle.qap_cost.specs.Instance.{Problem};
+    ghost use Rattle.std.specs.List.{All};
     ghost use Rattle.gilmore_lawler.specs.FlowRows.{KeepsFlowRows};
+    ghost use Rattle.gilmore_lawler.specs.Levels.{KeepsRows};
 
     ghost Value = { Problem };
 
     ghost view = { λ k. arc_value k.ranked };
 
-    ghost invariant = { λ k. KeepsFlowRows k.are_made (record { instance = arc_value k.ranked; facilities = k.facilities.items }) k.a_rows.items };
+    ghost invariant = { λ k. KeepsFlowRows k.are_made (record { instance = arc_value k.ranked; facilities = k.facilities.items }) k.a_rows.items
+        × All (KeepsRows (arc_value k.ranked)) k.levels.items };
 }
 
 impl KeptRows {
@@ -45,7 +50,7 @@ impl KeptRows {
             ranked,
             facilities: Vec::new(alloc),
             a_rows: Vec::new(alloc),
-            distances: DistanceRows::new(alloc),
+            levels: Vec::new(alloc),
             are_made: false,
         }
     }
@@ -73,9 +78,9 @@ impl KeptRows {
             &mut self.a_rows,
             &mut self.are_made,
         )?;
-        self.ranked.make_distance_rows(node, &mut self.distances)?;
-        self.ranked
-            .reduced_by(&self.a_rows, &self.distances.rows, node)
+        keep_level(&self.ranked, node, &mut self.levels)?;
+        let distances = &self.levels[node.depth()].known.rows;
+        self.ranked.reduced_by(&self.a_rows, distances, node)
     }
 }
 
@@ -98,7 +103,7 @@ fn keep_for(
     *are_made = false;
     facilities.clear();
     facilities.extend_from_slice(node.facilities())?;
-    ranked.make_flow_rows(node, rows)?;
+    ranked.make_flow_rows(node.facilities(), rows)?;
     *are_made = true;
     Ok(())
 }

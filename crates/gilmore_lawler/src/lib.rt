@@ -11,11 +11,13 @@ mod flow_rows;
 mod free;
 mod kept_rows;
 mod left_out;
+mod levels;
 mod pairing;
 mod ranking;
 mod reduction;
 mod side;
 mod small;
+mod split_rows;
 
 pub use bound::{node_bound_law, one_reduced_matrix_law};
 pub use duals::{dual_sum, fits};
@@ -23,3 +25,4 @@ pub use flow_rows::FlowRows;
 pub use kept_rows::KeptRows;
 pub use pairing::least_product;
 pub use reduction::{RankedInstance, Workspace, reduced};
+pub use split_rows::SplitRows;

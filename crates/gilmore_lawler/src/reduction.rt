@@ -6,6 +6,7 @@ ghost use Rattle.qap_cost.specs.Instance.{IsInstance, Problem};
 ghost use Rattle.qap_cost.specs.Range.{AllInRange, AllLimited, AllWithin};
 ghost use Rattle.gilmore_lawler.specs.Duals.{TellsFit};
 ghost use Rattle.gilmore_lawler.specs.FlowRows.{HasDistanceRows, HasFlowRows, HasLocationRows};
+ghost use Rattle.gilmore_lawler.specs.Levels.{AreRowsAt};
 ghost use Rattle.gilmore_lawler.specs.Ranking.{HasRankings, IsRankings};
 ghost use Rattle.gilmore_lawler.specs.ReducedMatrix.{IsReduced};
 ghost use Rattle.gilmore_lawler.specs.Small.{AllSmall};
@@ -82,8 +83,8 @@ impl RankedInstance {
         ensures size { IfOk result (λ M. M.size ≡ node.now.size - length node.now.facilities) }
         ensures bounded { IfOk result (λ M. AllWithin (512 * 10 ^ 18) M.entries) }
     {
-        self.make_flow_rows(node, &mut workspace.a_rows)?;
-        self.make_distance_rows(node, &mut workspace.distances)?;
+        self.make_flow_rows(node.facilities(), &mut workspace.a_rows)?;
+        self.make_location_rows(node.places(), &mut workspace.distances)?;
         self.reduced_by(&workspace.a_rows, &workspace.distances.rows, node)
     }
 
@@ -92,83 +93,91 @@ impl RankedInstance {
         *self.a_rankings.allocator()
     }
 
-    /// Makes `rows` those of the flows for each node that places the facilities of this one.
+    /// Whether its entries are known to be small.
+    pub(crate) fn are_small(&self) -> bool
+        ensures { IsTrue result → (AllSmall self.now.a × AllSmall self.now.b) }
+    {
+        self.are_small
+    }
+
+    /// Makes `rows` those of the flows for each node that places these facilities.
     pub(crate) fn make_flow_rows(
         &self,
-        node: &Partial,
+        facilities: &[u16],
         rows: &mut Vec<i32>,
     ) -> Result<(), AllocError>
-        requires { self.now.size ≡ node.now.size }
-        ensures { OnOk result (HasFlowRows (record { instance = self.now; facilities = node.now.facilities }) rows.new.items) }
+        requires { AreDifferent self.now.size facilities.now }
+        ensures { OnOk result (HasFlowRows (record { instance = self.now; facilities = facilities.now }) rows.new.items) }
     {
-        let free = node.free_facilities()?;
+        let mut free = Vec::new(self.allocator());
+        list_free(self.instance.size(), facilities, &mut free)?;
         factor_rows(
             &self.instance,
             Side::Flow,
             &self.a_rankings,
-            node.facilities(),
+            facilities,
             &free,
             rows,
         )
     }
 
-    /// Makes the rows those of the distances for each node that takes the locations of this one.
-    pub(crate) fn make_distance_rows(
+    /// Makes the rows those of the distances where these locations are taken, with the locations.
+    pub(crate) fn make_location_rows(
         &self,
-        node: &Partial,
-        distances: &mut DistanceRows,
+        places: &[u16],
+        made: &mut LocationRows,
     ) -> Result<(), AllocError>
-        requires { self.now.size ≡ node.now.size }
-        ensures { OnOk result (HasDistanceRows self.now node.now.places distances.new.rows.items) }
-    {
-        list_free(node.size(), node.places(), &mut distances.free)?;
-        factor_rows(
-            &self.instance,
-            Side::Distance,
-            &self.b_rankings,
-            node.places(),
-            &distances.free,
-            &mut distances.rows,
-        )
-    }
-
-    /// The same from the rows where one location fewer is taken, if these are such.
-    pub(crate) fn make_rows_behind(
-        &self,
-        before: &LocationRows,
-        node: &Partial,
-        distances: &mut DistanceRows,
-    ) -> Result<(), AllocError>
-        requires size { self.now.size ≡ node.now.size }
-        requires before { HasLocationRows self.now before.now.places.items before.now.free.items before.now.rows.items }
-        ensures { OnOk result (HasDistanceRows self.now node.now.places distances.new.rows.items) }
-    {
-        let LocationRows { places, free, rows } = before;
-        match place_behind(places, free, node.places()) {
-            Some(s) => child_rows(&self.instance, places, free, rows, s, &mut distances.rows),
-            None => self.make_distance_rows(node, distances),
-        }
-    }
-
-    /// The rows of the distances where these locations are taken, with the locations.
-    pub(crate) fn location_rows(&self, places: &[u16]) -> Result<LocationRows, AllocError>
         requires { AreDifferent self.now.size places.now }
-        ensures { IfOk result (λ r. HasLocationRows self.now r.places.items r.free.items r.rows.items) }
+        ensures { OnOk result (AreRowsAt self.now places.now made.new) }
     {
-        let alloc = self.allocator();
-        let mut free = Vec::new(alloc);
-        list_free(self.instance.size(), places, &mut free)?;
-        let mut rows = Vec::new(alloc);
+        made.places.clear();
+        made.places.extend_from_slice(places)?;
+        list_free(self.instance.size(), places, &mut made.free)?;
         factor_rows(
             &self.instance,
             Side::Distance,
             &self.b_rankings,
             places,
-            &free,
-            &mut rows,
-        )?;
-        let places = Vec::from_slice(alloc, places)?;
-        Ok(LocationRows { places, free, rows })
+            &made.free,
+            &mut made.rows,
+        )
+    }
+
+    /// Makes the rows those of the distances at the node, with its locations, from those where one location fewer is taken, if
+    /// these are such.
+    pub(crate) fn make_known_behind(
+        &self,
+        before: &LocationRows,
+        node: &Partial,
+        made: &mut LocationRows,
+    ) -> Result<(), AllocError>
+        requires size { self.now.size ≡ node.now.size }
+        requires before { HasLocationRows self.now before.now.places.items before.now.free.items before.now.rows.items }
+        ensures { OnOk result (AreRowsAt self.now node.now.places made.new) }
+    {
+        match place_behind(&before.places, &before.free, node.places()) {
+            Some(s) => before.make_child(&self.instance, s, made),
+            None => self.make_location_rows(node.places(), made),
+        }
+    }
+
+    /// Makes the rows those of the distances at the node, without the locations, from those where one location fewer is taken, if
+    /// these are such.
+    pub(crate) fn make_rows_behind(
+        &self,
+        before: &LocationRows,
+        node: &Partial,
+        made: &mut LocationRows,
+    ) -> Result<(), AllocError>
+        requires size { self.now.size ≡ node.now.size }
+        requires before { HasLocationRows self.now before.now.places.items before.now.free.items before.now.rows.items }
+        ensures { OnOk result (HasDistanceRows self.now node.now.places made.new.rows.items) }
+    {
+        let LocationRows { places, free, rows } = before;
+        match place_behind(places, free, node.places()) {
+            Some(s) => child_rows(&self.instance, places, free, rows, s, &mut made.rows),
+            None => self.make_location_rows(node.places(), made),
+        }
     }
 
     /// The reduced matrix of the node, from its rows of both sides.
@@ -215,7 +224,7 @@ impl RankedInstance {
 #[derive(Drop)]
 pub struct Workspace {
     a_rows: Vec<i32>,
-    pub(crate) distances: DistanceRows,
+    pub(crate) distances: LocationRows,
 }
 
 impl Workspace {
@@ -223,24 +232,7 @@ impl Workspace {
     pub fn new(alloc: Global) -> Workspace {
         Workspace {
             a_rows: Vec::new(alloc),
-            distances: DistanceRows::new(alloc),
-        }
-    }
-}
-
-/// Memory for the rows of the distances, and for the list of the free locations that they belong to.
-#[derive(Drop)]
-pub(crate) struct DistanceRows {
-    free: Vec<u16>,
-    pub(crate) rows: Vec<i32>,
-}
-
-impl DistanceRows {
-    /// No memory yet.
-    pub(crate) fn new(alloc: Global) -> DistanceRows {
-        DistanceRows {
-            free: Vec::new(alloc),
-            rows: Vec::new(alloc),
+            distances: LocationRows::new(alloc),
         }
     }
 }

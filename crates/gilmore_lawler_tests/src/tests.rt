@@ -364,8 +364,9 @@ fn kept_rows_in_turn(rt: HostRuntime) -> Result<(), Fail> {
     };
     let ranked = Arc::new(alloc, RankedInstance::new(alloc, &five)?)?;
     let mut kept = KeptRows::new(alloc, ranked);
-    // Siblings, a child and its sibling, another branch, the root, and the same facilities in another order.
-    let turns: [&[(u16, u16)]; 7] = [
+    // Siblings, a child and its sibling, another branch, the root, the same facilities in another order, a child of theirs, one of
+    // another branch at the same depth, and a node again.
+    let turns: [&[(u16, u16)]; 10] = [
         &[(2, 0)],
         &[(2, 3)],
         &[(2, 3), (0, 1)],
@@ -373,6 +374,9 @@ fn kept_rows_in_turn(rt: HostRuntime) -> Result<(), Fail> {
         &[(2, 1)],
         &[],
         &[(0, 3), (2, 1)],
+        &[(0, 3), (2, 1), (4, 0)],
+        &[(0, 3), (2, 2), (4, 0)],
+        &[(0, 3), (2, 2), (4, 0)],
     ];
     for pairs in turns {
         let Some(node) = node(alloc, 5, pairs)? else {

@@ -16,7 +16,7 @@ use crate::placed::Placed;
 use crate::reader::{Head, read_end, read_head};
 use crate::skimming::skim_tree;
 use crate::walking::{Buffers, Task, judge_tree};
-use gilmore_lawler::{FlowRows, RankedInstance};
+use gilmore_lawler::RankedInstance;
 use qap_cost::{Instance, Partial};
 use std::alloc::Global;
 
@@ -76,7 +76,6 @@ fn judge_to_end(
 {
     let root = Partial::root(alloc, instance.size())?;
     let ranked = RankedInstance::new(alloc, instance)?;
-    let rows = FlowRows::new(&ranked, &root)?;
     let mut buffers = Buffers::new(alloc);
     let task = Task {
         grammar: head.grammar,
@@ -87,7 +86,6 @@ fn judge_to_end(
         alloc,
         &mut buffers,
         &task,
-        &rows,
         &root,
         head.rest,
         &Placed::none(),

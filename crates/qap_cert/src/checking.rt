@@ -2,7 +2,7 @@
 
 ghost use Rattle.std.specs.Prelude.{◌≡◌, ◌+◌, ◌-◌, ◌*◌, ◌^◌, ◌<◌, ◌≤◌, ◌⊎◌, ◌++◌, ◌∷◌, [], ℕ, length, IfOk, MatchResult, OnOk, slice_index, unsigned_abs};
 ghost use Rattle.qap_cost.specs.Objective.{IsLeast, NoneCostsLess, cost_of};
-ghost use Rattle.qap_cost.specs.Placement.{IsFreeFacility, IsFreeLocation};
+ghost use Rattle.qap_cost.specs.Placement.{IsFreeFacility, IsFreeLocation, placing};
 ghost use Rattle.qap_cert.specs.Certificate.{Certifies};
 ghost use Rattle.qap_cert.specs.Fault.{IsBoundFault, IsPermMisfit, IsTreeFault, IsTreeFaultAmong, IsFault};
 ghost use Rattle.qap_lines.specs.Line.{line_after};
@@ -15,7 +15,7 @@ ghost use Rattle.qap_cert.specs.declared.version.Version.TheVariants.{Second};
 use crate::line_number::{COST_LINE, SIZE_LINE};
 use crate::tree::Tree;
 use crate::{CertError, Certificate};
-use gilmore_lawler::{FlowRows, RankedInstance, Workspace, dual_sum};
+use gilmore_lawler::{FlowRows, RankedInstance, SplitRows, Workspace, dual_sum};
 use qap_cost::{Instance, Partial, Perm, cost};
 use std::alloc::{AllocError, Global};
 
@@ -144,7 +144,7 @@ fn check_children(
 }
 
 /// The rows of the flows for the parts that arise where the facility is put at any of these locations.
-pub(crate) fn child_rows<'a>(
+fn child_rows<'a>(
     ranked: &'a RankedInstance,
     node: &Partial,
     facility: u16,
@@ -182,6 +182,33 @@ pub(crate) fn check_bound(
         return Err(CertError::NotFeasible(line));
     }
     let reached = node.fixed_cost(rows.instance()) + dual_sum(u, v);
+    if reached < bound {
+        return Err(CertError::BoundTooLow(line));
+    }
+    Ok(())
+}
+
+/// The same for the child of a split at this location, whose node isn't made.
+pub(crate) fn check_child_bound(
+    workspace: &mut Workspace,
+    rows: &SplitRows<'_>,
+    bound: i128,
+    location: u16,
+    u: &[i128],
+    v: &[i128],
+    line: u64,
+) -> Result<(), CertError>
+    requires location { IsFreeLocation rows.now.node location }
+    requires duals { AreDuals (rows.now.node.size - length (rows.now.node.facilities ++ rows.now.facility ∷ [])) u.now v.now }
+    ensures { MatchResult result
+        (λ done. Closes rows.now.instance bound (placing rows.now.node rows.now.facility location) u.now v.now)
+        (λ e. (e ≡ OutOfMemory) ⊎ IsBoundFault rows.now.instance bound (placing rows.now.node rows.now.facility location) line u.now v.now e) }
+{
+    let fit = rows.fits(workspace, location, u, v)?;
+    if !fit {
+        return Err(CertError::NotFeasible(line));
+    }
+    let reached = rows.fixed_cost(location) + dual_sum(u, v);
     if reached < bound {
         return Err(CertError::BoundTooLow(line));
     }

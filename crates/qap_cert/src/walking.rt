@@ -1,18 +1,18 @@
 //! Judges a tree as its lines come, and holds none of it.
 
 ghost use Rattle.std.specs.Prelude.{◌≡◌, ◌⊎◌, ◌++◌, ◌∷◌, [], ◌+◌, ◌-◌, ◌<◌, ◌≤◌, length, slice_index, ℕ, MatchResult};
-ghost use Rattle.qap_cost.specs.Placement.{IsFreeFacility, IsFreeLocation};
+ghost use Rattle.qap_cost.specs.Placement.{IsFreeFacility, IsFreeLocation, placing};
 ghost use Rattle.qap_cert.specs.Shape.{AreDuals};
 ghost use Rattle.qap_cert.specs.TextFault.{IsNodeFault, IsSplitLine, IsTreeTextFault};
 ghost use Rattle.qap_cert.specs.Tree.{bound};
 ghost use Rattle.qap_cert.specs.Walk.{ClosesOrTells, BeginsWithTree, BeginsWithTrees, IsFaultBefore, IsToldOf, IsToldOfAll};
 
-use crate::checking::{check_bound, child_rows};
+use crate::checking::{check_bound, check_child_bound};
 use crate::error::CertError;
 use crate::node_line::{Grammar, bound_numbers, node_line};
 use crate::placed::Placed;
 use crate::skimming::skim_trees;
-use gilmore_lawler::{FlowRows, RankedInstance, Workspace};
+use gilmore_lawler::{FlowRows, RankedInstance, SplitRows, Workspace};
 use qap_cost::Partial;
 use std::alloc::Global;
 
@@ -56,7 +56,6 @@ pub(crate) fn judge_tree<'a>(
     alloc: Global,
     buffers: &mut Buffers,
     task: &Task<'_>,
-    rows: &FlowRows<'_>,
     node: &Partial,
     text: &'a [u8],
     placed: &Placed,
@@ -65,7 +64,6 @@ pub(crate) fn judge_tree<'a>(
     requires small { task.now.grammar.size ≤ 256 }
     requires depth { length placed.now ≤ task.now.grammar.size }
     requires same_size { task.now.ranked.now.size ≡ node.now.size }
-    requires rows { rows.now ≡ record { instance = task.now.ranked.now; facilities = node.now.facilities } }
     requires size { task.now.grammar.size ≡ node.now.size }
     requires placed { placed.now ≡ node.now.facilities }
     ensures { MatchResult result
@@ -75,7 +73,8 @@ pub(crate) fn judge_tree<'a>(
     let first = node_line(text, task.grammar, placed, line)?;
     let next = line.saturating_add(1);
     let Some(facility) = first.facility else {
-        let fault = judge_bound(buffers, task, rows, node, first.bytes, placed, line)?;
+        let rows = FlowRows::new(task.ranked, node)?;
+        let fault = judge_bound(buffers, task, &rows, node, first.bytes, placed, line)?;
         let rest = first.rest;
         return Ok(Judged { rest, next, fault });
     };
@@ -114,12 +113,12 @@ fn judge_children<'a>(
         (λ e. (e ≡ CertError.OutOfMemory)
         ⊎ IsFaultBefore task.now.grammar.version task.now.grammar.size placed.now (length locations.now) line text.now e) }
 {
-    let rows = child_rows(task.ranked, node, facility, locations)?;
+    let rows = SplitRows::new(task.ranked, node, facility)?;
     let mut rest = text;
     let mut next = line;
     for i in 0..locations.len() {
-        let part = node.place(facility, locations[i])?;
-        let child = judge_tree(alloc, buffers, task, &rows, &part, rest, placed, next)?;
+        let location = locations[i];
+        let child = judge_child(alloc, buffers, task, &rows, location, rest, placed, next)?;
         rest = child.rest;
         next = child.next;
         if let Some(fault) = child.fault {
@@ -137,6 +136,41 @@ fn judge_children<'a>(
         next,
         fault: None,
     })
+}
+
+/// The same for the child at this location. The node of one whose line is that of a bound isn't made.
+#[cycle(walking)]
+fn judge_child<'a>(
+    alloc: Global,
+    buffers: &mut Buffers,
+    task: &Task<'_>,
+    rows: &SplitRows<'_>,
+    location: u16,
+    text: &'a [u8],
+    placed: &Placed,
+    line: u64,
+) -> Result<Judged<'a>, CertError>
+    requires small { task.now.grammar.size ≤ 256 }
+    requires depth { length placed.now ≤ task.now.grammar.size }
+    requires same_size { task.now.ranked.now.size ≡ rows.now.node.size }
+    requires instance { rows.now.instance ≡ task.now.ranked.now }
+    requires size { task.now.grammar.size ≡ rows.now.node.size }
+    requires placed { placed.now ≡ rows.now.node.facilities ++ rows.now.facility ∷ [] }
+    requires location { IsFreeLocation rows.now.node location }
+    ensures { MatchResult result
+        (λ r. BeginsWithTree task.now.grammar.version task.now.grammar.size placed.now line text.now r.rest.now r.next
+        (IsToldOf task.now.ranked.now task.now.bound (placing rows.now.node rows.now.facility location) line r.fault))
+        (λ e. (e ≡ CertError.OutOfMemory) ⊎ IsTreeTextFault task.now.grammar.version task.now.grammar.size (task.now.grammar.size - length placed.now) placed.now line text.now e) }
+{
+    let first = node_line(text, task.grammar, placed, line)?;
+    let Some(_) = first.facility else {
+        let fault = judge_child_bound(buffers, task, rows, location, first.bytes, placed, line)?;
+        let rest = first.rest;
+        let next = line.saturating_add(1);
+        return Ok(Judged { rest, next, fault });
+    };
+    let part = rows.child(location)?;
+    judge_tree(alloc, buffers, task, &part, text, placed, line)
 }
 
 /// Judges the line of a bound, and tells what keeps its duals from closing the node, if something does.
@@ -167,6 +201,33 @@ fn judge_bound(
     bound_fault(&mut buffers.workspace, task, rows, node, u, v, line)
 }
 
+/// The same for the bound of the child at this location.
+fn judge_child_bound(
+    buffers: &mut Buffers,
+    task: &Task<'_>,
+    rows: &SplitRows<'_>,
+    location: u16,
+    bytes: &[u8],
+    placed: &Placed,
+    line: u64,
+) -> Result<Option<CertError>, CertError>
+    requires small { task.now.grammar.size ≤ 256 }
+    requires depth { length placed.now ≤ task.now.grammar.size }
+    requires no_split { (f : ℕ) → IsSplitLine task.now.grammar.version task.now.grammar.size placed.now bytes.now f → ⊥ }
+    requires size { task.now.grammar.size ≡ rows.now.node.size }
+    requires placed { placed.now ≡ rows.now.node.facilities ++ rows.now.facility ∷ [] }
+    requires location { IsFreeLocation rows.now.node location }
+    ensures { MatchResult result
+        (λ fault. ClosesOrTells rows.now.instance task.now.bound (placing rows.now.node rows.now.facility location) line bytes.now fault)
+        (λ e. (e ≡ CertError.OutOfMemory) ⊎ IsNodeFault task.now.grammar.version task.now.grammar.size placed.now line bytes.now e) }
+{
+    let free = task.grammar.size - placed.count();
+    let duals = &mut buffers.duals;
+    bound_numbers(bytes, task.grammar, placed, line, 2 * free, duals)?;
+    let (u, v) = (&duals[..free], &duals[free..]);
+    child_bound_fault(&mut buffers.workspace, task, rows, location, u, v, line)
+}
+
 /// What keeps a bound from closing its node, if something does.
 fn bound_fault(
     workspace: &mut Workspace,
@@ -185,6 +246,29 @@ fn bound_fault(
         (λ e. e ≡ CertError.OutOfMemory) }
 {
     match check_bound(workspace, rows, task.bound, node, u, v, line) {
+        Ok(()) => Ok(None),
+        Err(CertError::OutOfMemory) => Err(CertError::OutOfMemory),
+        Err(fault) => Ok(Some(fault)),
+    }
+}
+
+/// The same for the bound of the child at this location.
+fn child_bound_fault(
+    workspace: &mut Workspace,
+    task: &Task<'_>,
+    rows: &SplitRows<'_>,
+    location: u16,
+    u: &[i128],
+    v: &[i128],
+    line: u64,
+) -> Result<Option<CertError>, CertError>
+    requires location { IsFreeLocation rows.now.node location }
+    requires duals { AreDuals (rows.now.node.size - length (rows.now.node.facilities ++ rows.now.facility ∷ [])) u.now v.now }
+    ensures { MatchResult result
+        (λ fault. IsToldOf rows.now.instance task.now.bound (placing rows.now.node rows.now.facility location) line fault (bound u.now v.now))
+        (λ e. e ≡ CertError.OutOfMemory) }
+{
+    match check_child_bound(workspace, rows, task.bound, location, u, v, line) {
         Ok(()) => Ok(None),
         Err(CertError::OutOfMemory) => Err(CertError::OutOfMemory),
         Err(fault) => Ok(Some(fault)),

@@ -101,7 +101,7 @@ judge_tree-returns-in_default t c =
     let fault = c.in_ok-fault.fault in
     let told = c.in_ok-fault.ensures in
     let here : IsToldOf c.args.task.now.ranked.now g c.args.node.now c.args.line fault (bound told.u told.v) =
-    subst (λ (s : FlowSide). IsToldOf s.instance g c.args.node.now c.args.line fault (bound told.u told.v)) c.requires.rows told.told in
+    subst (λ (s : FlowSide). IsToldOf s.instance g c.args.node.now c.args.line fault (bound told.u told.v)) c.in_ok-rows.ensures told.told in
     let duals : AreDuals (c.args.task.now.grammar.size - length c.args.placed.now) told.u told.v =
     subst (λ (k : ℕ). AreDuals k told.u told.v) (omega (arith, c.requires.size, ap length c.requires.placed)) told.duals in
     BeginsWithTree-bound c.args.task.now.grammar.version c.args.task.now.grammar.size c.args.placed.now c.args.line c.args.text.now first.bytes.now first.rest.now c.saturating_add-next.result

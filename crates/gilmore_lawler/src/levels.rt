@@ -1,0 +1,109 @@
+//! Rows of the distances that are kept, one level for each count of locations that are taken.
+
+ghost use Rattle.std.specs.Prelude.{◌≡◌, ◌<◌, ◌≤◌, ⊤, length, IsTrue, MatchOption, OnOk};
+ghost use Rattle.std.specs.List.{All};
+ghost use Rattle.qap_cost.specs.Instance.{Problem};
+ghost use Rattle.gilmore_lawler.specs.FlowRows.{HasDistanceRows};
+ghost use Rattle.gilmore_lawler.specs.Levels.{HasLevel, KeepsRows};
+
+use crate::child_rows::LocationRows;
+use crate::reduction::RankedInstance;
+use qap_cost::Partial;
+use std::alloc::{AllocError, Global};
+
+/// Rows of the distances with the locations that are taken, if they were made.
+#[derive(Drop)]
+pub(crate) struct Level {
+    pub(crate) known: LocationRows,
+    are_made: bool,
+}
+
+impl Level {
+    /// No rows yet. No memory is taken.
+    fn new(alloc: Global) -> Level
+        ensures { (I : Problem) → KeepsRows I result }
+    {
+        Level {
+            known: LocationRows::new(alloc),
+            are_made: false,
+        }
+    }
+
+    /// Whether its rows are made, and those where these locations are taken.
+    fn is_at(&self, places: &[u16]) -> bool
+        ensures { IsTrue result → (IsTrue self.now.are_made × (self.now.known.places.items ≡ places.now)) }
+    {
+        self.are_made && *self.known.places == *places
+    }
+
+    /// Makes the rows those at the node, where they aren't yet, from those of the level above where these are its parent's.
+    fn make(
+        &mut self,
+        ranked: &RankedInstance,
+        above: Option<&Level>,
+        node: &Partial,
+    ) -> Result<(), AllocError>
+        requires size { ranked.now.size ≡ node.now.size }
+        requires above { MatchOption above ⊤ (λ level. KeepsRows ranked.now level.now) }
+        requires kept { KeepsRows ranked.now self.old }
+        ensures kept { KeepsRows ranked.now self.new }
+        ensures made { OnOk result (HasDistanceRows ranked.now node.now.places self.new.known.rows.items) }
+    {
+        if self.is_at(node.places()) {
+            return Ok(());
+        }
+        self.are_made = false;
+        match above {
+            Some(level) if level.are_made => {
+                ranked.make_known_behind(&level.known, node, &mut self.known)?;
+            }
+            _ => ranked.make_location_rows(node.places(), &mut self.known)?,
+        }
+        self.are_made = true;
+        Ok(())
+    }
+}
+
+/// Makes the rows of the node's level those at the node; the other levels keep theirs.
+pub(crate) fn keep_level(
+    ranked: &RankedInstance,
+    node: &Partial,
+    levels: &mut Vec<Level>,
+) -> Result<(), AllocError>
+    requires size { ranked.now.size ≡ node.now.size }
+    requires kept { All (KeepsRows ranked.now) levels.old.items }
+    ensures made { OnOk result (HasLevel ranked.now node.now.places levels.new.items) }
+    ensures kept { All (KeepsRows ranked.now) levels.new.items }
+{
+    deepen(ranked.allocator(), node.depth(), levels)?;
+    make_level(ranked, node, levels)
+}
+
+/// Adds levels that have no rows yet, until there is one for this depth.
+fn deepen(alloc: Global, depth: usize, levels: &mut Vec<Level>) -> Result<(), AllocError>
+    requires { depth ≤ 256 }
+    ensures deep { OnOk result (depth < length levels.new.items) }
+    ensures kept { (I : Problem) → All (KeepsRows I) levels.old.items → All (KeepsRows I) levels.new.items }
+{
+    while levels.len() <= depth {
+        levels.push(Level::new(alloc))?;
+    }
+    Ok(())
+}
+
+/// Makes the rows of the node's level those at the node, from those of its parent where the level above has these.
+fn make_level(
+    ranked: &RankedInstance,
+    node: &Partial,
+    levels: &mut [Level],
+) -> Result<(), AllocError>
+    requires size { ranked.now.size ≡ node.now.size }
+    requires deep { length node.now.facilities < length levels.old }
+    requires kept { All (KeepsRows ranked.now) levels.old }
+    ensures made { OnOk result (HasLevel ranked.now node.now.places levels.new) }
+    ensures kept { All (KeepsRows ranked.now) levels.new }
+    ensures count { length levels.new ≡ length levels.old }
+{
+    let (above, own) = levels.split_at_mut(node.depth());
+    own[0].make(ranked, above.last(), node)
+}
