@@ -4,5 +4,9 @@ pub mod Completions
 pub mod Images
 pub mod NodeLines
 pub mod Reaching
+pub mod Roots
+pub mod Rows
 pub mod StatedPermutations
+pub mod Telling
 pub mod Validity
+pub mod Walks

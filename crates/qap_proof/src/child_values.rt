@@ -2,6 +2,7 @@
 
 ghost use Rattle.std.specs.Prelude.{◌≡◌, ◌-◌, ◌*◌, ◌^◌, ◌<◌, ◌≤◌, ◌-ℤ◌, length, IfOk, ℕ, pos, slice_index, slice_index_or, unsigned_abs};
 ghost use Rattle.qap_cost.specs.Matrix.{DualsFit, entry_of};
+ghost use Rattle.qap_cost.specs.Placement.{IsPlacement};
 ghost use Rattle.qap_cost.specs.Range.{AllLimited, AllWithin};
 ghost use Rattle.gilmore_lawler.specs.ReducedMatrix.{IsReduced};
 ghost use Rattle.qap_proof.specs.Cell.{IsCell, IsPlaceOf, own_on};
@@ -53,7 +54,8 @@ pub(crate) fn child_values(
 /// The row of the facility, or the column of the location, that a split is on.
 fn own_place(node: &Partial, side: Side, number: u16) -> Result<usize, AllocError>
     requires { IsFreeOn side node.now number }
-    ensures { IfOk result (IsPlaceOf (own_on side node.now) number) }
+    ensures place { IfOk result (IsPlaceOf (own_on side node.now) number) }
+    ensures placement { IsPlacement node.now }
 {
     match side {
         Side::Facility => Ok(place_of(&node.free_facilities()?, number)),

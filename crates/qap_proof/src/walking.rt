@@ -1,6 +1,7 @@
 //! Judges a tree as its lines come, and holds none of it.
 
 ghost use Rattle.std.specs.Prelude.{◌≡◌, ◌⊎◌, ◌-◌, ◌<◌, ◌≤◌, ◌↔◌, IsTrue, length, IfOk, MatchResult, None, true, false};
+ghost use Rattle.qap_cost.specs.Placement.{IsPlacement};
 ghost use Rattle.qap_lines.specs.Line.{line_after};
 ghost use Rattle.qap_proof.specs.Cell.{others_on};
 ghost use Rattle.qap_proof.specs.NodeLine.{pair_of, split_of};
@@ -100,6 +101,7 @@ fn walk_child<'a>(
 ) -> Result<Walked<'a>, ProofError>
     requires size { told ≡ None → judge.now.ranked.now.size ≡ parent.now.node.now.size }
     requires split { IsSplit parent.now.node.now (split_of parent.now.split.now) }
+    requires placement { IsPlacement parent.now.node.now }
     requires others { parent.now.others.now ≡ others_on parent.now.split.now.side parent.now.node.now }
     requires reached { told ≡ None → AreReached judge.now.ranked.now parent.now.node.now (split_of parent.now.split.now) parent.now.values.now }
     requires inside { child < length parent.now.others.now }
@@ -175,6 +177,7 @@ fn walk_children<'a>(
 ) -> Result<Walked<'a>, ProofError>
     requires size { told ≡ None → judge.now.ranked.now.size ≡ parent.now.node.now.size }
     requires split { IsSplit parent.now.node.now (split_of parent.now.split.now) }
+    requires placement { IsPlacement parent.now.node.now }
     requires others { parent.now.others.now ≡ others_on parent.now.split.now.side parent.now.node.now }
     requires reached { told ≡ None → AreReached judge.now.ranked.now parent.now.node.now (split_of parent.now.split.now) parent.now.values.now }
     ensures { MatchResult result
@@ -209,7 +212,8 @@ fn has_duals(split: &SplitLine) -> bool
 
 /// The free ones that a split on this side has children for, ascending.
 fn free_others(node: &Partial, side: Side) -> Result<Vec<u16>, AllocError>
-    ensures { IfOk result (λ v. v.items ≡ others_on side node.now) }
+    ensures value { IfOk result (λ v. v.items ≡ others_on side node.now) }
+    ensures placement { IsPlacement node.now }
 {
     match side {
         Side::Facility => node.free_locations(),
@@ -220,6 +224,7 @@ fn free_others(node: &Partial, side: Side) -> Result<Vec<u16>, AllocError>
 /// The node that the child of this number is.
 fn child_node(parent: &Parent<'_>, child: usize) -> Result<Partial, AllocError>
     requires split { IsSplit parent.now.node.now (split_of parent.now.split.now) }
+    requires placement { IsPlacement parent.now.node.now }
     requires others { parent.now.others.now ≡ others_on parent.now.split.now.side parent.now.node.now }
     requires inside { child < length parent.now.others.now }
     ensures { IfOk result (λ x. x ≡ child_of parent.now.node.now (split_of parent.now.split.now) child) }
@@ -341,6 +346,7 @@ fn judge_mirrored(
     told: Option<ProofError>,
 ) -> Option<ProofError>
     requires size { told ≡ None → judge.now.ranked.now.size ≡ parent.now.node.now.size }
+    requires placement { IsPlacement parent.now.node.now }
     requires others { parent.now.others.now ≡ others_on parent.now.split.now.side parent.now.node.now }
     requires inside { child < length parent.now.others.now }
     requires earlier { earlier < child }
@@ -363,6 +369,7 @@ fn is_image(
     image: &Perm,
 ) -> bool
     requires size { judge.now.ranked.now.size ≡ parent.now.node.now.size }
+    requires placement { IsPlacement parent.now.node.now }
     requires others { parent.now.others.now ≡ others_on parent.now.split.now.side parent.now.node.now }
     requires inside { child < length parent.now.others.now }
     requires earlier { earlier < child }
