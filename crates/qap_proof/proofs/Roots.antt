@@ -1,7 +1,7 @@
 -- Roots as lines tell them: facilities and locations by turns.
-use Rattle.std.proofs.Common.{◌≡◌, ◌≢◌, ℕ, zero, suc, ◌+◌, ◌*◌, ◌-◌, ◌<◌, ◌≤◌, ◌++◌, List, [], ◌∷◌, length, length-append, map, take, get_or, ℤ, pos, unsigned_abs, refl, sym, ◌∙◌, ap, ap₂, subst, inl, inr, arith}
-use Rattle.std.specs.Prelude.{◌⊎◌}
-use Rattle.std.proofs.lemmas.Bool.{cases_lt}
+use Rattle.std.proofs.Common.{◌≡◌, ◌≢◌, ℕ, zero, suc, ◌+◌, ◌*◌, ◌-◌, ◌<◌, ◌≤◌, ◌++◌, List, [], ◌∷◌, length, length-append, map, take, get_or, ℤ, pos, unsigned_abs, nat_eq, true, false, refl, sym, ◌∙◌, ap, ap₂, subst, inl, inr, arith}
+use Rattle.std.specs.Prelude.{codes, ◌⊎◌}
+use Rattle.std.proofs.lemmas.Bool.{cases_lt, cases_eq, eq-eqb, ne_eqb, false≢true}
 use Rattle.std.proofs.lemmas.List.{ext_get_or, get_or_at, get_or_append_left, take_all, length-map}
 use Rattle.qap_cost.specs.Bijection.{AreDifferent}
 use Rattle.qap_cost.specs.Placement.{Placement, IsPlacement, placing, root_of}
@@ -9,10 +9,12 @@ use Rattle.qap_cost.specs.Range.{AllLimited}
 use Rattle.qap_cost.proofs.Placements.{AreDifferent-length, IsPlacement-placing}
 use Rattle.qap_lines.specs.Number.{IsNamed, held}
 use Rattle.qap_lines.proofs.Held.{held-all_within, held_all_within-is}
-use Rattle.qap_proof.specs.Claim.{IsRoot}
-use Rattle.qap_proof.specs.Head.{HasTurn}
-use Rattle.qap_proof.specs.Text.{by_turns}
-use Rattle.qap_proof.specs.TextFault.{HasRootLine}
+use Rattle.qap_lines.specs.LineText.{line_text}
+use Rattle.qap_proof.specs.Claim.{IsRoot, lines_of_root}
+use Rattle.qap_proof.specs.Head.{HasTurn, IsRooted}
+use Rattle.qap_proof.specs.Text.{by_turns, root_text}
+use Rattle.qap_proof.specs.TextFault.{HasNoRoot, HasRootLine, IsFaultFromBound, IsFaultFromRoot}
+use Rattle.qap_proof.specs.declared.error.ProofError.{ProofError}
 
 -- as many turns as facilities
 pub length-by_turns : (fs ks : List ℕ) → length ks ≡ length fs → length (by_turns fs ks) ≡ 2 * length fs
@@ -195,7 +197,7 @@ root_numbers n zs x h is = (
 )
 
 -- numbers of a root are in range
-AllLimited-by_turns : (n : ℕ) (x : Placement) → IsRoot n x → AllLimited (by_turns x.facilities x.places)
+pub AllLimited-by_turns : (n : ℕ) (x : Placement) → IsRoot n x → AllLimited (by_turns x.facilities x.places)
 AllLimited-by_turns n x h = record {
   each = λ j below.
       let placed = h.placement in
@@ -221,3 +223,44 @@ held_root n zs first x is root told =
 
 pub root_held : (n : ℕ) (zs first : List ℤ) (x : Placement) → first ≡ map held zs → IsRoot n x → zs ≡ by_turns x.facilities x.places → first ≡ by_turns x.facilities x.places
 root_held n zs first x is root told = is ∙ ap (map held) told ∙ held-all_within (by_turns x.facilities x.places) (AllLimited-by_turns n x root)
+
+-- the line of a root that isn't empty
+pub root_text-some : (fs ks : List ℕ) → 0 < length fs → root_text fs ks ≡ line_text (codes "node") (by_turns fs ks)
+root_text-some [] ks some = absurd (omega arith)
+root_text-some (f ∷ fs) ks some = refl
+
+pub lines_of_root-some : (fs : List ℕ) → 0 < length fs → lines_of_root fs ≡ 1
+lines_of_root-some [] some = absurd (omega arith)
+lines_of_root-some (f ∷ fs) some = refl
+
+pub IsRooted-none : (n : ℕ) (text : List ℕ) (x : Placement) → 0 < n → n ≤ 256 → x ≡ root_of n → HasNoRoot text → IsRooted n text x 5 text
+IsRooted-none n text x positive small empty none =
+    subst (λ (y : Placement). IsRooted n text y 5 text) (sym empty) (record {
+      root = IsRoot-none n positive small;
+      line_is = refl;
+      is = refl;
+      fault = λ c e fault. inr (inl (none, fault));
+    })
+
+pub IsRooted-some : (n : ℕ) (text : List ℕ) (x : Placement) (rest : List ℕ) → HasRootLine n x → text ≡ line_text (codes "node") (by_turns x.facilities x.places) ++ rest → IsRooted n text x 6 rest
+IsRooted-some n text x rest h is = record {
+  root = h.root;
+  line_is = omega (arith, lines_of_root-some x.facilities h.some);
+  is = is ∙ ap (λ l. l ++ rest) (sym (root_text-some x.facilities x.places h.some));
+  fault = λ c e fault. inr (inr (x, h, record { rest = rest; is = is; holds = fault }));
+}
+
+-- a list that isn't empty, and one that is
+pub none_listed : (n : ℕ) → true ≡ nat_eq n 0 → n ≡ 0
+none_listed n is =
+    elim (cases_eq n 0) [
+      | inl same ↦ same
+      | inr other ↦ absurd (false≢true (sym (ne_eqb n 0 other) ∙ sym is))
+    ]
+
+pub some_listed : (n : ℕ) → false ≡ nat_eq n 0 → 0 < n
+some_listed n is =
+    elim (cases_eq n 0) [
+      | inl same ↦ absurd (false≢true (is ∙ eq-eqb n 0 same))
+      | inr other ↦ omega (arith, other)
+    ]

@@ -3,10 +3,10 @@ use Rattle.std.specs.Prelude.{◌≡◌, ℕ, ◌+◌, ◌*◌, ◌<◌, ◌++�
 use Rattle.qap_cost.specs.Bijection.{IsPerm}
 use Rattle.qap_cost.specs.Placement.{Placement, IsFreeFacility, IsFreeLocation}
 use Rattle.qap_cost.specs.Range.{IsLimited}
-use Rattle.qap_proof.specs.Claim.{claim_of, IsBoundFor, IsRoot, tree_line}
+use Rattle.qap_proof.specs.Claim.{claim_of, IsBoundFor, IsRoot, lines_of_root, tree_line}
 use Rattle.qap_proof.specs.Shape.{HasShape}
-use Rattle.qap_proof.specs.Text.{tree_text, IsProofText}
-use Rattle.qap_proof.specs.TextFault.{IsFaultFromTree, IsTextFault}
+use Rattle.qap_proof.specs.Text.{root_text, tree_text, IsProofText}
+use Rattle.qap_proof.specs.TextFault.{IsFaultFromBound, IsFaultFromRoot, IsFaultFromTree, IsTextFault}
 use Rattle.qap_proof.specs.Tree.{Node}
 use Rattle.qap_proof.specs.declared.error.ProofError.{ProofError}
 
@@ -18,6 +18,14 @@ pub record HasTurn (x : Placement) (zs : List ℤ) (turn f k : ℕ) : Type 0 whe
   pub facility : IsFreeFacility x f
   pub location : IsFreeLocation x k
   pub behind : (t : ℕ) → t < length x.facilities → slice_index x.facilities t < f
+
+-- the text begins with the line of a root, or with none where that is empty; behind it is the rest, from this line on, and a fault
+-- there is one of the whole
+pub record IsRooted (n : ℕ) (text : List ℕ) (x : Placement) (line : ℕ) (rest : List ℕ) : Type 0 where
+  pub root : IsRoot n x
+  pub line_is : line ≡ 5 + lines_of_root x.facilities
+  pub is : text ≡ root_text x.facilities x.places ++ rest
+  pub fault : (c : ℤ) (e : ProofError) → IsFaultFromBound x c line rest e → IsFaultFromRoot n c text e
 
 -- the lines before the tree state a node, a cost, a permutation and a bound; the tree's first line has this number, and with it
 -- begins the rest: a tree and the end there make the text that of a proof, and a fault there is one of the text

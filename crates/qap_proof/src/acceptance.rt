@@ -73,7 +73,7 @@ fn walk_to_end(
     told: Option<ProofError>,
 ) -> Result<Option<ProofError>, ProofError>
     requires { told ≡ None → instance.now.size ≡ head.now.root.size }
-    ensures instance { IsInstance instance.now }
+    ensures instance { IfOk result (λ _. IsInstance instance.now) }
     ensures judged { MatchResult result
         (λ fault. EndsBehindTree head.now.root head.now.rest.now (IsToldOf instance.now head.now.bound (whole head.now.root) head.now.line told fault))
         (λ e. (e ≡ ProofError.OutOfMemory) ⊎ IsFaultFromTree head.now.root head.now.line head.now.rest.now e) }

@@ -4,10 +4,10 @@ ghost use Rattle.std.specs.Prelude.{◌≡◌, ◌≢◌, ◌⊎◌, ◌+◌, �
 ghost use Rattle.qap_cost.specs.Placement.{Placement};
 ghost use Rattle.qap_lines.specs.Number.{IsNamed};
 ghost use Rattle.qap_lines.specs.LineText.{line_text};
-ghost use Rattle.qap_proof.specs.Claim.{IsRoot, lines_of_root};
-ghost use Rattle.qap_proof.specs.Head.{HasTurn};
-ghost use Rattle.qap_proof.specs.Text.{by_turns, root_text};
-ghost use Rattle.qap_proof.specs.TextFault.{HasNoRoot, HasRootLine, IsRootLineFault, IsFaultFromBound, IsFaultFromRoot};
+ghost use Rattle.qap_proof.specs.Claim.{IsRoot};
+ghost use Rattle.qap_proof.specs.Head.{HasTurn, IsRooted};
+ghost use Rattle.qap_proof.specs.Text.{by_turns};
+ghost use Rattle.qap_proof.specs.TextFault.{HasNoRoot, HasRootLine, IsRootLineFault};
 
 use crate::error::ProofError;
 use crate::line_number::{LINE_BEHIND_ROOT, ROOT_LINE};
@@ -36,8 +36,7 @@ pub(crate) fn read_root(alloc: Global, text: &[u8], n: usize) -> Result<Rooted<'
     requires positive { 0 < n }
     requires small { n ≤ 256 }
     ensures { MatchResult result
-        (λ r. IsRoot n r.root × (r.line ≡ 5 + lines_of_root r.root.facilities) × (text.now ≡ root_text r.root.facilities r.root.places ++ r.rest.now)
-        × ((c : ℤ) (e : ProofError) → IsFaultFromBound r.root c r.line r.rest.now e → IsFaultFromRoot n c text.now e))
+        (λ r. IsRooted n text.now r.root r.line r.rest.now)
         (λ e. (e ≡ ProofError.OutOfMemory) ⊎ IsRootLineFault n text.now e) }
 {
     match stated_root(alloc, text, n)? {
