@@ -1,5 +1,5 @@
 -- What the duals of a split come to for its children.
-use Rattle.std.proofs.Common.{◌≡◌, ℕ, ◌+◌, ◌-◌, ◌<◌, ◌≤◌, ◌++◌, [], ◌∷◌, List, length, length-append, get_or, ℤ, pos, unsigned_abs, to_z, of_z, ◌*◌, ◌^◌, sym, ◌∙◌, ap, ap₂, subst, inl, inr, arith}
+use Rattle.std.proofs.Common.{◌≡◌, ℕ, ◌+◌, ◌<◌, ◌≤◌, ◌++◌, [], ◌∷◌, List, length, length-append, get_or, ℤ, pos, unsigned_abs, to_z, of_z, ◌*◌, ◌^◌, sym, ◌∙◌, ap, ap₂, subst, inl, inr, arith}
 use Rattle.std.specs.Prelude.{◌+ℤ◌, ◌-ℤ◌}
 use Rattle.std.proofs.lemmas.Bool.{cases_lt}
 use Rattle.std.specs.Int.{w128}
@@ -13,8 +13,8 @@ use Rattle.qap_cost.proofs.Placements.{ListsFree-free_below}
 use Rattle.gilmore_lawler.specs.ReducedMatrix.{IsReduced}
 use Rattle.qap_proof.specs.Cell.{IsCell, IsPlaceOf, own_on, others_on}
 use Rattle.qap_proof.specs.Shape.{free_count}
-use Rattle.qap_proof.specs.Tree.{Pair, IsFreeOn, facility_on, location_on}
-use Rattle.qap_proof.specs.Valid.{Fits, Reaches}
+use Rattle.qap_proof.specs.Tree.{Pair, facility_on, location_on}
+use Rattle.qap_proof.specs.Valid.{Reaches}
 use Rattle.qap_proof.specs.declared.side.Side.{Side}
 use Rattle.qap_proof.specs.declared.side.Side.TheVariants.{Facility, Location}
 

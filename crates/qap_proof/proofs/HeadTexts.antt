@@ -1,16 +1,15 @@
 -- What stands before the tree of a proof, read line by line.
-use Rattle.std.proofs.Common.{◌≡◌, ℕ, ◌+◌, ◌<◌, ◌≤◌, List, [], ◌∷◌, ◌++◌, length, ℤ, pos, inl, inr, sym, ap, subst, ◌∙◌, arith, append_assoc}
+use Rattle.std.proofs.Common.{◌≡◌, ℕ, ◌+◌, ◌<◌, ◌≤◌, List, [], ◌∷◌, ◌++◌, length, ℤ, pos, inr, sym, ap, subst, ◌∙◌, arith, append_assoc}
 use Rattle.std.specs.Prelude.{codes}
 use Rattle.qap_cost.specs.Bijection.{IsPerm}
 use Rattle.qap_cost.specs.Placement.{Placement}
 use Rattle.qap_cost.specs.Range.{IsLimited}
 use Rattle.qap_io.specs.Number.{from_one}
 use Rattle.qap_lines.specs.LineText.{line_text}
-use Rattle.qap_proof.specs.Claim.{Claim, claim_of, IsBoundFor, IsRoot, lines_of_root, lines_of_bound, tree_line}
+use Rattle.qap_proof.specs.Claim.{IsBoundFor, IsRoot, lines_of_bound}
 use Rattle.qap_proof.specs.Head.{HasHead, IsRooted}
-use Rattle.qap_proof.specs.Text.{bound_text, proof_text, root_text, tree_text}
+use Rattle.qap_proof.specs.Text.{bound_text, root_text, tree_text}
 use Rattle.qap_proof.specs.TextFault.{IsFaultFromTree, IsFaultFromBound, IsFaultFromRoot, IsTextFault}
-use Rattle.qap_proof.specs.Tree.{Node}
 use Rattle.qap_proof.specs.declared.error.ProofError.{ProofError}
 
 -- the lines up to the permutation's, with what is behind each

@@ -1,20 +1,18 @@
 -- Roots as lines tell them: facilities and locations by turns.
-use Rattle.std.proofs.Common.{◌≡◌, ◌≢◌, ℕ, zero, suc, ◌+◌, ◌*◌, ◌-◌, ◌<◌, ◌≤◌, ◌++◌, List, [], ◌∷◌, length, length-append, map, take, get_or, ℤ, pos, unsigned_abs, nat_eq, true, false, refl, sym, ◌∙◌, ap, ap₂, subst, inl, inr, arith}
+use Rattle.std.proofs.Common.{◌≡◌, ℕ, zero, suc, ◌+◌, ◌*◌, ◌-◌, ◌<◌, ◌≤◌, ◌++◌, List, [], ◌∷◌, length, length-append, map, get_or, ℤ, pos, unsigned_abs, nat_eq, true, false, refl, sym, ◌∙◌, ap, subst, inl, inr, arith}
 use Rattle.std.specs.Prelude.{codes, ◌⊎◌}
 use Rattle.std.proofs.lemmas.Bool.{cases_lt, cases_eq, eq-eqb, ne_eqb, false≢true}
-use Rattle.std.proofs.lemmas.List.{ext_get_or, get_or_at, get_or_append_left, take_all, length-map}
-use Rattle.qap_cost.specs.Bijection.{AreDifferent}
-use Rattle.qap_cost.specs.Placement.{Placement, IsPlacement, placing, root_of}
+use Rattle.std.proofs.lemmas.List.{ext_get_or, get_or_at, get_or_append_left}
+use Rattle.qap_cost.specs.Placement.{Placement, placing, root_of}
 use Rattle.qap_cost.specs.Range.{AllLimited}
 use Rattle.qap_cost.proofs.Placements.{AreDifferent-length, IsPlacement-placing}
-use Rattle.qap_lines.specs.Number.{IsNamed, held}
+use Rattle.qap_lines.specs.Number.{held}
 use Rattle.qap_lines.proofs.Held.{held-all_within, held_all_within-is}
 use Rattle.qap_lines.specs.LineText.{line_text}
 use Rattle.qap_proof.specs.Claim.{IsRoot, lines_of_root}
 use Rattle.qap_proof.specs.Head.{HasTurn, IsRooted}
 use Rattle.qap_proof.specs.Text.{by_turns, root_text}
-use Rattle.qap_proof.specs.TextFault.{HasNoRoot, HasRootLine, IsFaultFromBound, IsFaultFromRoot}
-use Rattle.qap_proof.specs.declared.error.ProofError.{ProofError}
+use Rattle.qap_proof.specs.TextFault.{HasNoRoot, HasRootLine}
 
 -- as many turns as facilities
 pub length-by_turns : (fs ks : List ℕ) → length ks ≡ length fs → length (by_turns fs ks) ≡ 2 * length fs

@@ -1,12 +1,12 @@
 -- What is told of a tree by what is told of its parts.
-use Rattle.std.proofs.Common.{◌≡◌, ℕ, ◌+◌, ◌<◌, ◌≤◌, length, ℤ, refl, sym, ◌∙◌, ap, subst, inl, inr, arith}
-use Rattle.std.specs.Prelude.{Option, Some, None, Bool, true}
+use Rattle.std.proofs.Common.{◌≡◌, ℕ, ◌≤◌, ℤ, refl, sym, ◌∙◌, ap, subst, inl, inr, arith}
+use Rattle.std.specs.Prelude.{Option, Some, None, true}
 use Rattle.std.proofs.lemmas.Bool.{false≢true}
 use Rattle.qap_cost.specs.Instance.{Problem}
 use Rattle.qap_cost.specs.Placement.{Placement}
 use Rattle.qap_lines.specs.Line.{line_after}
 use Rattle.qap_proof.proofs.Rows.{with_last, AllValid-with_last, IsTreeFaultAmong-last, IsTreeFaultAmong-with_last}
-use Rattle.qap_proof.specs.Fault.{IsTreeFault, IsTreeFaultAmong}
+use Rattle.qap_proof.specs.Fault.{IsTreeFault}
 use Rattle.qap_proof.specs.Shape.{IsSplit, free_count, has_duals}
 use Rattle.qap_proof.specs.Tree.{Pair, Split, Node, closed, split, Nodes, no_nodes, nodes_count, child_count, Place, child, node_at}
 use Rattle.qap_proof.specs.Valid.{Fits, MayFit, Valid}

@@ -8,7 +8,7 @@ use Rattle.qap_cost.specs.Placement.{Placement, Completes, root_of}
 use Rattle.qap_cost.proofs.Nodes.{root_completed}
 use Rattle.qap_proof.proofs.Validity.{Proves-NoneCompletesForLess, Proves-IsLeast}
 use Rattle.qap_proof.specs.Acceptance.{ShowsVerdict, IsVerdictOf, IsSo, HasFault}
-use Rattle.qap_proof.specs.Claim.{Claim, claim_of, IsRoot, Proves, NoneCompletesForLess, tree_line}
+use Rattle.qap_proof.specs.Claim.{Claim, claim_of, IsRoot, NoneCompletesForLess}
 use Rattle.qap_proof.specs.Fault.{IsPermMisfit, IsTreeFault}
 use Rattle.qap_proof.specs.Head.{HasHead}
 use Rattle.qap_proof.specs.Tree.{Node, whole}

@@ -1,14 +1,14 @@
 -- Trees that were walked along, one behind another.
-use Rattle.std.proofs.Common.{◌≡◌, ℕ, zero, suc, ◌+◌, ◌-◌, ◌<◌, ◌≤◌, ◌++◌, List, [], ◌∷◌, length, ℤ, pos, refl, sym, ◌∙◌, ap, subst, inl, inr, arith, append_assoc, length-append}
-use Rattle.std.specs.Prelude.{codes, Bool, false, Option, Some, Result, Ok, Err, MatchResult, ◌⊎◌}
+use Rattle.std.proofs.Common.{◌≡◌, ℕ, zero, suc, ◌+◌, ◌-◌, ◌<◌, ◌≤◌, ◌++◌, List, [], ◌∷◌, ℤ, refl, sym, ◌∙◌, ap, subst, inl, inr, arith, append_assoc, length-append}
+use Rattle.std.specs.Prelude.{codes, Bool, false, Result, Ok, Err, MatchResult}
 use Rattle.qap_cost.specs.Placement.{Placement}
 use Rattle.qap_lines.specs.Line.{line_after}
 use Rattle.qap_lines.specs.LineText.{numbers_text, line_text}
 use Rattle.qap_proof.proofs.Rows.{line_after-more, line_after-none, with_last, child_count-with_last, nodes_count-with_last, trees_text-with_last, AllHaveShape-with_last}
-use Rattle.qap_proof.specs.Shape.{IsSplit, HasShape, AllHaveShape, free_count, has_duals}
+use Rattle.qap_proof.specs.Shape.{IsSplit, HasShape, free_count, has_duals}
 use Rattle.qap_proof.specs.Text.{letter, split_numbers, tree_text, trees_text}
 use Rattle.qap_proof.specs.TextFault.{IsEndFault, IsFaultFromTree, IsLineFault, IsNodeFault, IsTreeTextFault}
-use Rattle.qap_proof.specs.Tree.{Split, Node, split, Nodes, no_nodes, node_count, nodes_count, child_count, child_of, facility_on, location_on}
+use Rattle.qap_proof.specs.Tree.{Split, Node, split, Nodes, no_nodes, node_count, nodes_count, child_count, child_of, facility_on}
 use Rattle.qap_proof.specs.Walk.{BeginsWithTree, BeginsWithTrees, EndsBehindTree, IsFaultBefore}
 use Rattle.qap_proof.specs.declared.error.ProofError.{ProofError}
 

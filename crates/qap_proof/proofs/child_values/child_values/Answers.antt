@@ -1,4 +1,4 @@
-use Rattle.std.proofs.Common.{◌≡◌, ℕ, ℤ, List, ◌+◌, ◌<◌, length, get_or, pos, ap, ap₂, ◌∙◌, arith}
+use Rattle.std.proofs.Common.{ℤ, List, get_or, pos, ap, ap₂, ◌∙◌, arith}
 use Rattle.std.specs.Prelude.{◌+ℤ◌, ◌-ℤ◌}
 use Rattle.qap_cost.specs.Matrix.{dual_value, entry_of}
 use Rattle.qap_proof.proofs.ChildValues.{IsAt-cell, Reaches-at, free_counts, sum_of_three, values_more}

@@ -1,4 +1,4 @@
-use Rattle.std.proofs.Common.{◌≡◌, ◌≤◌, ◌*◌, ◌^◌, ◌+◌, ℤ, pos, get_or, unsigned_abs, to_z, of_z, ap, arith}
+use Rattle.std.proofs.Common.{◌≤◌, ◌*◌, ◌^◌, ◌+◌, pos, get_or, unsigned_abs, to_z, of_z, ap, arith}
 use Rattle.std.specs.Int.{w128}
 use Rattle.std.specs.Prelude.{◌-ℤ◌}
 use Rattle.std.proofs.lemmas.Int.{ints}

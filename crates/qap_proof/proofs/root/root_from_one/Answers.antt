@@ -1,5 +1,4 @@
-use Rattle.std.proofs.Common.{◌≡◌, ℕ, ◌+◌, ◌*◌, ◌<◌, length, get_or, sym, subst, arith, rules}
-use Rattle.qap_cost.specs.Placement.{Placement, placing}
+use Rattle.std.proofs.Common.{◌+◌, length, get_or, sym, subst, arith}
 use Rattle.qap_proof.proofs.Roots.{HasTurns, HasTurns-more, HasRootLine-turns, HasTurn-of_root, root_numbers, none_listed, some_listed}
 use Rattle.qap_proof.proofs.root.root_from_one.Goals.{then-is_empty-via-then-is_empty, then-is_empty-via-else-is_empty+then-values-ne0}
 use Rattle.qap_proof.proofs.root.root_from_one.Goals as goal

@@ -1,4 +1,4 @@
-use Rattle.std.proofs.Common.{◌≡◌, List, ℕ, subst}
+use Rattle.std.proofs.Common.{List, ℕ, subst}
 use Rattle.std.specs.Prelude.{codes}
 use Rattle.qap_lines.specs.Number.{IsNamed}
 use Rattle.qap_lines.proofs.Lines.{IsLine-unique, no_line-line}

@@ -1,4 +1,4 @@
-use Rattle.std.proofs.Common.{◌+◌, ◌-◌, ◌*◌, length}
+use Rattle.std.proofs.Common.{◌+◌, ◌*◌}
 use Rattle.qap_proof.specs.NodeLine.{split_of}
 use Rattle.qap_proof.specs.Shape.{free_count}
 use Rattle.qap_proof.specs.Walk.{BeginsWithTrees, IsToldOfAll}

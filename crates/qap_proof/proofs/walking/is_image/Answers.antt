@@ -1,4 +1,4 @@
-use Rattle.std.proofs.Common.{ℕ, ◌<◌, get_or, sym, subst, arith}
+use Rattle.std.proofs.Common.{arith}
 use Rattle.qap_proof.proofs.ChildValues.{other_location, other_facility}
 use Rattle.qap_proof.proofs.walking.is_image.Goals as goal
 

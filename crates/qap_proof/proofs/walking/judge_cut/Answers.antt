@@ -1,4 +1,4 @@
-use Rattle.std.proofs.Common.{◌≡◌, ℤ, refl, get_or, pos, to_z, of_z, arith, rules}
+use Rattle.std.proofs.Common.{◌≡◌, refl, get_or, pos, to_z, of_z, arith, rules}
 use Rattle.std.specs.Int.{w128}
 use Rattle.std.specs.Prelude.{◌<ℤ◌, ◌≤ℤ◌}
 use Rattle.std.proofs.lemmas.Int.{ints}

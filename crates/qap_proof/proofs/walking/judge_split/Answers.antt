@@ -1,4 +1,4 @@
-use Rattle.std.proofs.Common.{rules, ◌≡◌, List, ℤ, sym, subst, ◌∙◌, ap}
+use Rattle.std.proofs.Common.{rules, List, ℤ, sym, subst, ◌∙◌, ap}
 use Rattle.std.proofs.lemmas.Bool.{false≢true}
 use Rattle.qap_cost.specs.Matrix.{DualsFit, IsMatrix}
 use Rattle.qap_proof.proofs.Bounds.{Fits-reduced}

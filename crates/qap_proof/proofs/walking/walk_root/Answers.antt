@@ -1,4 +1,4 @@
-use Rattle.std.proofs.Common.{◌≡◌, ◌++◌, List, ℕ, inl, inr, refl, subst, ⊎_elim}
+use Rattle.std.proofs.Common.{◌≡◌, ◌++◌, inl, inr, refl, subst, ⊎_elim}
 use Rattle.std.specs.Prelude.{codes, false, MatchResult, ◌⊎◌}
 use Rattle.qap_lines.specs.Line.{line_after}
 use Rattle.qap_proof.proofs.Telling.{IsToldOf-closed, IsToldOf-split}
