@@ -1,6 +1,14 @@
 pub mod Bounds
+pub mod ChildValues
 pub mod Completions
+pub mod HeadTexts
 pub mod Images
 pub mod NodeLines
 pub mod Reaching
+pub mod Roots
+pub mod Rows
+pub mod StatedPermutations
+pub mod Telling
 pub mod Validity
+pub mod Verdicts
+pub mod Walks

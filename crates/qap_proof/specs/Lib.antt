@@ -1,6 +1,8 @@
 pub mod Acceptance
+pub mod Cell
 pub mod Claim
 pub mod Fault
+pub mod Head
 pub mod NodeLine
 pub mod Refusal
 pub mod Shape

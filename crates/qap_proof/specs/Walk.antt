@@ -1,12 +1,13 @@
 -- What walking along the lines of a tree finds, where no tree is kept.
-use Rattle.std.specs.Prelude.{◌≡◌, ℕ, ◌<◌, ◌++◌, List, length, ℤ, slice_index_or, pos, Bool, Option, Some, None, ◌⊎◌}
+use Rattle.std.specs.Prelude.{◌≡◌, ℕ, ◌<◌, ◌++◌, List, length, ℤ, slice_index_or, pos, codes, Bool, false, Option, Some, None, ◌⊎◌}
 use Rattle.qap_cost.specs.Instance.{Problem}
 use Rattle.qap_cost.specs.Placement.{Placement}
 use Rattle.qap_lines.specs.Line.{line_after}
 use Rattle.qap_proof.specs.Fault.{IsClosedFault, IsTreeFault, IsTreeFaultAmong}
-use Rattle.qap_proof.specs.Shape.{HasShape, AllHaveShape, free_count}
+use Rattle.qap_proof.specs.Shape.{HasShape, AllHaveShape, free_count, has_duals}
 use Rattle.qap_proof.specs.Text.{tree_text, trees_text}
-use Rattle.qap_proof.specs.Tree.{Pair, Split, Node, Nodes, node_count, nodes_count, child_count, facility_on, location_on, Place}
+use Rattle.qap_proof.specs.TextFault.{IsFaultAmong, IsTreeTextFault}
+use Rattle.qap_proof.specs.Tree.{Pair, Split, Node, Nodes, node_count, nodes_count, child_count, child_of, facility_on, location_on, Place}
 use Rattle.qap_proof.specs.Valid.{Closes, MayFit, Reaches, Valid, AllValid}
 use Rattle.qap_proof.specs.declared.error.ProofError.{ProofError}
 use Rattle.qap_proof.specs.declared.error.ProofError.TheVariants.{NotFeasible}
@@ -27,6 +28,18 @@ pub record BeginsWithTrees (x : Placement) (s : Split) (count line : ℕ) (text 
   pub is : text ≡ trees_text trees ++ rest
   pub next_is : next ≡ line_after line (nodes_count trees)
   pub holds : P trees
+
+-- the text is the lines of a tree at x that has a property, and the end
+pub record EndsBehindTree (x : Placement) (text : List ℕ) (P : Node → Type 0) : Type 0 where
+  pub tree : Node
+  pub shape : HasShape x 0 false tree
+  pub is : text ≡ tree_text tree ++ codes "end\n"
+  pub holds : P tree
+
+-- behind some but not all of the children of a split of x, the next one has this fault
+abbrev pub IsFaultBefore : Placement → Split → ℕ → List ℕ → ProofError → Type 0
+IsFaultBefore x s line text e =
+    IsFaultAmong x s line text (λ c line rest. IsTreeTextFault (free_count (child_of x s c)) (child_of x s c) c (has_duals s.duals) line rest e)
 
 -- what is told of the tree, which begins at this line, where a fault was told before, or none: that one; or whether the tree is
 -- valid at its place, and its first fault if not
@@ -54,8 +67,14 @@ IsToldOfClosed I g x line (Some d) after u = after ≡ Some d
 IsToldOfClosed I g x line None None d = Closes I g x d
 IsToldOfClosed I g x line None (Some e) d = IsClosedFault I g x line d e
 
--- what the duals of a split come to for each child
+-- the same of the duals of a split, if it has any
+abbrev pub IsToldOfDuals : Problem → Placement → Split → ℕ → Option ProofError → Option ProofError → Type 0
+IsToldOfDuals I x s line (Some d) after = after ≡ Some d
+IsToldOfDuals I x s line None None = MayFit I x s.duals
+IsToldOfDuals I x s line None (Some e) = (e ≡ NotFeasible line) × (MayFit I x s.duals → ⊥)
+
+-- what the duals of a split, if it has any, come to for each child
 pub record AreReached (I : Problem) (x : Placement) (s : Split) (values : List ℤ) : Type 0 where
-  pub count : length values ≡ free_count x
-  pub each : (d : Pair) (c : ℕ) → s.duals ≡ Some d → c < length values
+  pub count : (d : Pair) → s.duals ≡ Some d → length values ≡ free_count x
+  pub each : (d : Pair) (c : ℕ) → s.duals ≡ Some d → c < free_count x
       → Reaches I x d (facility_on s.side x s.number c) (location_on s.side x s.number c) (slice_index_or values c (pos 0))

@@ -1,5 +1,25 @@
 //! Judges texts of proofs.
 
+ghost use Rattle.std.specs.Prelude.{◌≡◌, ◌⊎◌, ℕ, List, IfOk, MatchOption, MatchResult, length, None};
+ghost use Rattle.qap_cost.specs.Instance.{IsInstance};
+ghost use Rattle.qap_cost.specs.Objective.{cost_of};
+ghost use Rattle.qap_cost.specs.Placement.{IsPlacement};
+ghost use Rattle.qap_cost.specs.Range.{IsLimited};
+ghost use Rattle.qap_proof.specs.Acceptance.{ShowsVerdict, IsVerdictOf, IsSo, IsLimitedVerdict, IsRefused};
+ghost use Rattle.qap_proof.specs.Claim.{claim_of, IsBoundFor};
+ghost use Rattle.qap_proof.specs.Fault.{IsPermMisfit};
+ghost use Rattle.qap_proof.specs.TextFault.{IsFaultFromTree};
+ghost use Rattle.qap_proof.specs.Tree.{Node, whole};
+ghost use Rattle.qap_proof.specs.Walk.{EndsBehindTree, IsToldOf};
+
+use crate::error::ProofError;
+use crate::line_number::{COST_LINE, SIZE_LINE};
+use crate::reader::{Head, read_end, read_head};
+use crate::walking::{Judge, walk_root};
+use gilmore_lawler::{RankedInstance, Workspace};
+use qap_cost::{Instance, Perm, cost};
+use std::alloc::Global;
+
 /// What a text shows of an instance's costs.
 #[derive(Clone, Copy, Debug, PartialEq, Eq)]
 pub enum Verdict {
@@ -9,4 +29,86 @@ pub enum Verdict {
     Gap(i128, i128),
     /// No permutation that completes the root costs less.
     Part(i128),
+}
+
+/// What a text shows of an instance's costs, where it is that of a proof which proves its bound for it. Of the tree no more is held
+/// than the nodes above the line that is read, with what the duals of their splits come to.
+///
+/// Else the first fault is told: every fault of how the text is spelled comes before every fault of what it says.
+pub fn accept(alloc: Global, instance: &Instance, text: &[u8]) -> Result<Verdict, ProofError>
+    ensures verdict { MatchResult result
+        (ShowsVerdict instance.now text.now)
+        (λ e. (e ≡ ProofError.OutOfMemory) ⊎ IsRefused instance.now text.now e) }
+    ensures bounded { IfOk result IsLimitedVerdict }
+    ensures so { IfOk result (IsSo instance.now text.now) }
+{
+    let head = read_head(alloc, text)?;
+    let misfit = perm_misfit(instance, &head.perm, head.cost);
+    match walk_to_end(alloc, instance, &head, misfit)? {
+        None => Ok(verdict_of(&head)),
+        Some(fault) => Err(fault),
+    }
+}
+
+/// What keeps the permutation from being of the instance's size and having this cost, if something does.
+fn perm_misfit(instance: &Instance, perm: &Perm, stated: i128) -> Option<ProofError>
+    ensures { MatchOption result
+        ((length perm.now ≡ instance.now.size) × (cost_of instance.now perm.now ≡ stated))
+        (IsPermMisfit instance.now perm.now stated) }
+{
+    if perm.len() != instance.size() {
+        return Some(ProofError::SizeDiffers(SIZE_LINE));
+    }
+    if cost(instance, perm) != stated {
+        return Some(ProofError::CostDiffers(COST_LINE));
+    }
+    None
+}
+
+/// Judges the tree and the last line, and tells the first fault of what they say, where none was told before.
+fn walk_to_end(
+    alloc: Global,
+    instance: &Instance,
+    head: &Head<'_>,
+    told: Option<ProofError>,
+) -> Result<Option<ProofError>, ProofError>
+    requires { told ≡ None → instance.now.size ≡ head.now.root.size }
+    ensures instance { IfOk result (λ _. IsInstance instance.now) }
+    ensures judged { MatchResult result
+        (λ fault. EndsBehindTree head.now.root head.now.rest.now (IsToldOf instance.now head.now.bound (whole head.now.root) head.now.line told fault))
+        (λ e. (e ≡ ProofError.OutOfMemory) ⊎ IsFaultFromTree head.now.root head.now.line head.now.rest.now e) }
+{
+    let ranked = RankedInstance::new(alloc, instance)?;
+    let mut workspace = Workspace::new(alloc);
+    let judge = Judge {
+        ranked: &ranked,
+        bound: head.bound,
+    };
+    let walked = walk_root(
+        alloc,
+        &mut workspace,
+        &judge,
+        &head.root,
+        head.rest,
+        head.line,
+        told,
+    )?;
+    read_end(walked.rest, walked.next)?;
+    Ok(walked.fault)
+}
+
+/// What a proof's text states.
+fn verdict_of(head: &Head<'_>) -> Verdict
+    requires cost { IsLimited head.now.cost }
+    requires bound { IsBoundFor head.now.cost head.now.bound }
+    ensures says { (p : List ℕ) (t : Node) → IsVerdictOf (claim_of head.now.root head.now.cost head.now.bound p t) result }
+    ensures bounded { IsLimitedVerdict result }
+{
+    if head.root.depth() > 0 {
+        Verdict::Part(head.bound)
+    } else if head.bound < head.cost {
+        Verdict::Gap(head.bound, head.cost)
+    } else {
+        Verdict::Optimal(head.cost)
+    }
 }

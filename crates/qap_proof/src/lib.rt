@@ -3,15 +3,23 @@
 #![tactic(auto)]
 
 mod acceptance;
+mod bound;
+mod child_values;
 mod error;
+mod head;
 mod image;
 mod judging;
 mod law;
+mod line;
+mod line_number;
 mod node_line;
+mod reader;
+mod root;
 mod side;
 mod tree;
+mod walking;
 
-pub use acceptance::Verdict;
+pub use acceptance::{Verdict, accept};
 pub use error::ProofError;
 pub use image::{takes_facility, takes_location};
 pub use judging::{Task, closed_fault};

@@ -1,0 +1,62 @@
+//! Reads what stands before the tree of a proof, and the last line.
+
+ghost use Rattle.std.specs.Prelude.{◌≡◌, ◌⊎◌, codes, MatchResult};
+ghost use Rattle.qap_proof.specs.Head.{HasHead};
+ghost use Rattle.qap_proof.specs.TextFault.{IsTextFault, IsEndFault};
+
+use crate::bound::read_bound;
+use crate::error::ProofError;
+use crate::head::{read_cost, read_header, read_permutation, read_size};
+use crate::root::read_root;
+use qap_cost::{Partial, Perm};
+use qap_lines::first_line;
+use std::alloc::Global;
+
+/// What stands before the tree of a proof, the number of the tree's first line, and the text from there on.
+#[derive(Drop)]
+pub(crate) struct Head<'a> {
+    pub(crate) cost: i128,
+    pub(crate) perm: Perm,
+    pub(crate) root: Partial,
+    pub(crate) bound: i128,
+    pub(crate) line: u64,
+    pub(crate) rest: &'a [u8],
+}
+
+/// Reads what stands before the tree.
+pub(crate) fn read_head(alloc: Global, text: &[u8]) -> Result<Head<'_>, ProofError>
+    ensures { MatchResult result
+        (λ h. HasHead text.now h.root h.cost h.bound h.perm h.line h.rest.now)
+        (λ e. (e ≡ ProofError.OutOfMemory) ⊎ IsTextFault text.now e) }
+{
+    let rest = read_header(text)?;
+    let (size, rest) = read_size(rest)?;
+    let (cost, rest) = read_cost(rest)?;
+    let (perm, rest) = read_permutation(alloc, rest, size)?;
+    let rooted = read_root(alloc, rest, size)?;
+    let bounded = read_bound(rooted.rest, cost, rooted.line)?;
+    Ok(Head {
+        cost,
+        perm,
+        root: rooted.root,
+        bound: bounded.bound,
+        line: bounded.line,
+        rest: bounded.rest,
+    })
+}
+
+/// Reads the last line, whose number this is.
+pub(crate) fn read_end(text: &[u8], line: u64) -> Result<(), ProofError>
+    ensures { MatchResult result (λ _. text.now ≡ codes "end\n") (IsEndFault line text.now) }
+{
+    let Some(last) = first_line(text) else {
+        return Err(ProofError::Truncated(line));
+    };
+    if last.bytes != b"end".as_slice() {
+        return Err(ProofError::BadLine(line));
+    }
+    if !last.rest.is_empty() {
+        return Err(ProofError::TrailingText(line.saturating_add(1)));
+    }
+    Ok(())
+}

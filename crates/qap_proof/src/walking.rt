@@ -1,0 +1,386 @@
+//! Judges a tree as its lines come, and holds none of it.
+
+ghost use Rattle.std.specs.Prelude.{◌≡◌, ◌⊎◌, ◌-◌, ◌<◌, ◌≤◌, ◌↔◌, IsTrue, length, IfOk, MatchResult, None, true, false};
+ghost use Rattle.qap_cost.specs.Placement.{IsPlacement};
+ghost use Rattle.qap_lines.specs.Line.{line_after};
+ghost use Rattle.qap_proof.specs.Cell.{others_on};
+ghost use Rattle.qap_proof.specs.NodeLine.{pair_of, split_of};
+ghost use Rattle.qap_proof.specs.Shape.{AreDuals, IsPermOf, IsSplit, free_count, has_duals as has};
+ghost use Rattle.qap_proof.specs.TextFault.{IsTreeTextFault};
+ghost use Rattle.qap_proof.specs.Tree.{IsFreeOn, child as child_place, child_of, cut, mirrored, whole};
+ghost use Rattle.qap_proof.specs.Valid.{TakesOn};
+ghost use Rattle.qap_proof.specs.Walk.{AreReached, BeginsWithTree, BeginsWithTrees, IsFaultBefore, IsToldOf, IsToldOfAll, IsToldOfClosed, IsToldOfDuals, IsToldOfSplit};
+
+use crate::child_values::child_values;
+use crate::error::ProofError;
+use crate::image::{takes_facility, takes_location};
+use crate::judging::{Task, closed_fault};
+use crate::node_line::{NodeLine, SplitLine, read_node_line};
+use crate::side::Side;
+use crate::tree::Duals;
+use gilmore_lawler::{RankedInstance, Workspace, fits};
+use qap_cost::{Partial, Perm};
+use std::alloc::{AllocError, Global};
+
+/// What a tree is judged by: the instance, and the bound that it is to show, in the units of the costs.
+#[derive(Clone, Copy)]
+pub(crate) struct Judge<'a> {
+    pub(crate) ranked: &'a RankedInstance,
+    pub(crate) bound: i128,
+}
+
+/// A split whose children are walked along: the node that it is of, what it says, the free ones that it has children for, and what its
+/// duals, if it has any, come to for each.
+#[derive(Clone, Copy)]
+struct Parent<'a> {
+    node: &'a Partial,
+    split: &'a SplitLine,
+    others: &'a [u16],
+    values: &'a [i128],
+}
+
+/// The text behind lines that were walked along, the number of its first line, and the first fault of what those before it say.
+#[derive(Clone, Copy)]
+pub(crate) struct Walked<'a> {
+    pub(crate) rest: &'a [u8],
+    pub(crate) next: u64,
+    pub(crate) fault: Option<ProofError>,
+}
+
+/// What was found of a split's duals: what they come to for each child, and the first fault of what the lines up to the split's say.
+#[derive(Drop)]
+struct JudgedSplit {
+    values: Vec<i128>,
+    fault: Option<ProofError>,
+}
+
+/// Judges the tree at the front of a text, whose first line has this number, for a root. Where a fault was told before, and behind the
+/// first fault of what the lines say, they are judged by how they are spelled alone.
+pub(crate) fn walk_root<'a>(
+    alloc: Global,
+    workspace: &mut Workspace,
+    judge: &Judge<'_>,
+    node: &Partial,
+    text: &'a [u8],
+    line: u64,
+    told: Option<ProofError>,
+) -> Result<Walked<'a>, ProofError>
+    requires size { told ≡ None → judge.now.ranked.now.size ≡ node.now.size }
+    ensures { MatchResult result
+        (λ w. BeginsWithTree node.now 0 false line text.now w.rest.now w.next (IsToldOf judge.now.ranked.now judge.now.bound (whole node.now) line told w.fault))
+        (λ e. (e ≡ ProofError.OutOfMemory) ⊎ IsTreeTextFault (free_count node.now) node.now 0 false line text.now e) }
+{
+    let read = read_node_line(alloc, text, node, 0, false, line)?;
+    let rest = read.rest;
+    let next = line.saturating_add(1);
+    match read.line {
+        NodeLine::Closed(duals) => {
+            let fault = judge_closed(workspace, judge, node, &duals, line, told)?;
+            Ok(Walked { rest, next, fault })
+        }
+        NodeLine::Split(split) => {
+            walk_split(alloc, workspace, judge, node, &split, rest, line, told)
+        }
+        NodeLine::Cut => unreachable!(),
+        NodeLine::Mirrored(_, _) => unreachable!(),
+    }
+}
+
+/// The same for the child of this number of a split.
+#[cycle(walking)]
+fn walk_child<'a>(
+    alloc: Global,
+    workspace: &mut Workspace,
+    judge: &Judge<'_>,
+    parent: &Parent<'_>,
+    child: usize,
+    node: &Partial,
+    text: &'a [u8],
+    line: u64,
+    told: Option<ProofError>,
+) -> Result<Walked<'a>, ProofError>
+    requires size { told ≡ None → judge.now.ranked.now.size ≡ parent.now.node.now.size }
+    requires split { IsSplit parent.now.node.now (split_of parent.now.split.now) }
+    requires placement { IsPlacement parent.now.node.now }
+    requires others { parent.now.others.now ≡ others_on parent.now.split.now.side parent.now.node.now }
+    requires reached { told ≡ None → AreReached judge.now.ranked.now parent.now.node.now (split_of parent.now.split.now) parent.now.values.now }
+    requires inside { child < length parent.now.others.now }
+    requires node { node.now ≡ child_of parent.now.node.now (split_of parent.now.split.now) child }
+    ensures { MatchResult result
+        (λ w. BeginsWithTree node.now child (has (split_of parent.now.split.now).duals) line text.now w.rest.now w.next
+        (IsToldOf judge.now.ranked.now judge.now.bound (child_place parent.now.node.now (split_of parent.now.split.now) child) line told w.fault))
+        (λ e. (e ≡ ProofError.OutOfMemory) ⊎ IsTreeTextFault (free_count node.now) node.now child (has (split_of parent.now.split.now).duals) line text.now e) }
+{
+    let read = read_node_line(alloc, text, node, child, has_duals(parent.split), line)?;
+    let rest = read.rest;
+    let next = line.saturating_add(1);
+    match read.line {
+        NodeLine::Closed(duals) => {
+            let fault = judge_closed(workspace, judge, node, &duals, line, told)?;
+            Ok(Walked { rest, next, fault })
+        }
+        NodeLine::Split(split) => {
+            walk_split(alloc, workspace, judge, node, &split, rest, line, told)
+        }
+        NodeLine::Cut => {
+            let fault = judge_cut(judge, parent, child, line, told);
+            Ok(Walked { rest, next, fault })
+        }
+        NodeLine::Mirrored(earlier, image) => {
+            let fault = judge_mirrored(judge, parent, child, earlier, &image, line, told);
+            Ok(Walked { rest, next, fault })
+        }
+    }
+}
+
+/// Judges a split, whose line has this number, and its children, the first of which is at the front of the text.
+#[cycle(walking)]
+fn walk_split<'a>(
+    alloc: Global,
+    workspace: &mut Workspace,
+    judge: &Judge<'_>,
+    node: &Partial,
+    split: &SplitLine,
+    text: &'a [u8],
+    line: u64,
+    told: Option<ProofError>,
+) -> Result<Walked<'a>, ProofError>
+    requires size { told ≡ None → judge.now.ranked.now.size ≡ node.now.size }
+    requires split { IsSplit node.now (split_of split.now) }
+    ensures { MatchResult result
+        (λ w. BeginsWithTrees node.now (split_of split.now) (free_count node.now) (line_after line 1) text.now w.rest.now w.next
+        (IsToldOfSplit judge.now.ranked.now judge.now.bound node.now (split_of split.now) line told w.fault))
+        (λ e. (e ≡ ProofError.OutOfMemory) ⊎ IsFaultBefore node.now (split_of split.now) (line_after line 1) text.now e) }
+{
+    let judged = judge_split(alloc, workspace, judge, node, split, line, told)?;
+    let others = free_others(node, split.side)?;
+    let parent = Parent {
+        node,
+        split,
+        others: &others,
+        values: &judged.values,
+    };
+    let next = line.saturating_add(1);
+    walk_children(alloc, workspace, judge, &parent, text, next, judged.fault)
+}
+
+/// Judges the children of a split, the first of which is at the front of the text and begins at this line.
+#[cycle(walking)]
+fn walk_children<'a>(
+    alloc: Global,
+    workspace: &mut Workspace,
+    judge: &Judge<'_>,
+    parent: &Parent<'_>,
+    text: &'a [u8],
+    line: u64,
+    told: Option<ProofError>,
+) -> Result<Walked<'a>, ProofError>
+    requires size { told ≡ None → judge.now.ranked.now.size ≡ parent.now.node.now.size }
+    requires split { IsSplit parent.now.node.now (split_of parent.now.split.now) }
+    requires placement { IsPlacement parent.now.node.now }
+    requires others { parent.now.others.now ≡ others_on parent.now.split.now.side parent.now.node.now }
+    requires reached { told ≡ None → AreReached judge.now.ranked.now parent.now.node.now (split_of parent.now.split.now) parent.now.values.now }
+    ensures { MatchResult result
+        (λ w. BeginsWithTrees parent.now.node.now (split_of parent.now.split.now) (length parent.now.others.now) line text.now w.rest.now w.next
+        (IsToldOfAll judge.now.ranked.now judge.now.bound parent.now.node.now (split_of parent.now.split.now) line told w.fault))
+        (λ e. (e ≡ ProofError.OutOfMemory) ⊎ IsFaultBefore parent.now.node.now (split_of parent.now.split.now) line text.now e) }
+{
+    let mut rest = text;
+    let mut next = line;
+    let mut fault = told;
+    for child in 0..parent.others.len() {
+        let node = child_node(parent, child)?;
+        let walked = walk_child(
+            alloc, workspace, judge, parent, child, &node, rest, next, fault,
+        )?;
+        rest = walked.rest;
+        next = walked.next;
+        fault = walked.fault;
+    }
+    Ok(Walked { rest, next, fault })
+}
+
+/// Whether a split has duals.
+fn has_duals(split: &SplitLine) -> bool
+    ensures { result ≡ has (split_of split.now).duals }
+{
+    match &split.duals {
+        Some(_) => true,
+        None => false,
+    }
+}
+
+/// The free ones that a split on this side has children for, ascending.
+fn free_others(node: &Partial, side: Side) -> Result<Vec<u16>, AllocError>
+    ensures value { IfOk result (λ v. v.items ≡ others_on side node.now) }
+    ensures placement { IsPlacement node.now }
+{
+    match side {
+        Side::Facility => node.free_locations(),
+        Side::Location => node.free_facilities(),
+    }
+}
+
+/// The node that the child of this number is.
+fn child_node(parent: &Parent<'_>, child: usize) -> Result<Partial, AllocError>
+    requires split { IsSplit parent.now.node.now (split_of parent.now.split.now) }
+    requires placement { IsPlacement parent.now.node.now }
+    requires others { parent.now.others.now ≡ others_on parent.now.split.now.side parent.now.node.now }
+    requires inside { child < length parent.now.others.now }
+    ensures { IfOk result (λ x. x ≡ child_of parent.now.node.now (split_of parent.now.split.now) child) }
+{
+    let other = parent.others[child];
+    match parent.split.side {
+        Side::Facility => parent.node.place(parent.split.number, other),
+        Side::Location => parent.node.place(other, parent.split.number),
+    }
+}
+
+/// The first fault that is told where a closed node follows what was told before, if there is one.
+fn judge_closed(
+    workspace: &mut Workspace,
+    judge: &Judge<'_>,
+    node: &Partial,
+    duals: &Duals,
+    line: u64,
+    told: Option<ProofError>,
+) -> Result<Option<ProofError>, AllocError>
+    requires size { told ≡ None → judge.now.ranked.now.size ≡ node.now.size }
+    requires duals { AreDuals (free_count node.now) (pair_of duals.now) }
+    ensures { IfOk result (λ after. IsToldOfClosed judge.now.ranked.now judge.now.bound node.now line told after (pair_of duals.now)) }
+{
+    match told {
+        Some(fault) => Ok(Some(fault)),
+        None => {
+            let matrix = judge.ranked.reduced(workspace, node)?;
+            let task = Task {
+                instance: judge.ranked.instance(),
+                bound: judge.bound,
+            };
+            Ok(closed_fault(&task, &matrix, node, &duals.u, &duals.v, line))
+        }
+    }
+}
+
+/// The first fault that is told where a split follows what was told before, if there is one; and where there is none, what its duals, if
+/// it has any, come to for each child.
+fn judge_split(
+    alloc: Global,
+    workspace: &mut Workspace,
+    judge: &Judge<'_>,
+    node: &Partial,
+    split: &SplitLine,
+    line: u64,
+    told: Option<ProofError>,
+) -> Result<JudgedSplit, AllocError>
+    requires size { told ≡ None → judge.now.ranked.now.size ≡ node.now.size }
+    requires split { IsSplit node.now (split_of split.now) }
+    ensures told { IfOk result (λ j. IsToldOfDuals judge.now.ranked.now node.now (split_of split.now) line told j.fault) }
+    ensures reached { IfOk result (λ j. j.fault ≡ None → AreReached judge.now.ranked.now node.now (split_of split.now) j.values.items) }
+{
+    let none = Vec::new(alloc);
+    if told.is_some() {
+        return Ok(JudgedSplit {
+            values: none,
+            fault: told,
+        });
+    }
+    match &split.duals {
+        None => Ok(JudgedSplit {
+            values: none,
+            fault: None,
+        }),
+        Some(duals) => {
+            let matrix = judge.ranked.reduced(workspace, node)?;
+            if !fits(&matrix, &duals.u, &duals.v) {
+                return Ok(JudgedSplit {
+                    values: none,
+                    fault: Some(ProofError::NotFeasible(line)),
+                });
+            }
+            let values = child_values(
+                alloc,
+                judge.ranked.instance(),
+                &matrix,
+                node,
+                split.side,
+                split.number,
+                duals,
+            )?;
+            Ok(JudgedSplit {
+                values,
+                fault: None,
+            })
+        }
+    }
+}
+
+/// The first fault that is told where a child that is cut follows what was told before, if there is one.
+fn judge_cut(
+    judge: &Judge<'_>,
+    parent: &Parent<'_>,
+    child: usize,
+    line: u64,
+    told: Option<ProofError>,
+) -> Option<ProofError>
+    requires duals { has (split_of parent.now.split.now).duals ≡ true }
+    requires reached { told ≡ None → AreReached judge.now.ranked.now parent.now.node.now (split_of parent.now.split.now) parent.now.values.now }
+    requires inside { child < free_count parent.now.node.now }
+    ensures { IsToldOf judge.now.ranked.now judge.now.bound (child_place parent.now.node.now (split_of parent.now.split.now) child) line told result cut }
+{
+    match told {
+        Some(fault) => Some(fault),
+        None if parent.values[child] < judge.bound => Some(ProofError::CutTooLow(line)),
+        None => None,
+    }
+}
+
+/// The first fault that is told where a mirrored child follows what was told before, if there is one.
+fn judge_mirrored(
+    judge: &Judge<'_>,
+    parent: &Parent<'_>,
+    child: usize,
+    earlier: u16,
+    image: &Perm,
+    line: u64,
+    told: Option<ProofError>,
+) -> Option<ProofError>
+    requires size { told ≡ None → judge.now.ranked.now.size ≡ parent.now.node.now.size }
+    requires placement { IsPlacement parent.now.node.now }
+    requires others { parent.now.others.now ≡ others_on parent.now.split.now.side parent.now.node.now }
+    requires inside { child < length parent.now.others.now }
+    requires earlier { earlier < child }
+    requires image { length image.now ≡ parent.now.node.now.size }
+    ensures { IsToldOf judge.now.ranked.now judge.now.bound (child_place parent.now.node.now (split_of parent.now.split.now) child) line told result (mirrored earlier image.now) }
+{
+    match told {
+        Some(fault) => Some(fault),
+        None if is_image(judge, parent, child, earlier, image) => None,
+        None => Some(ProofError::NotAnImage(line)),
+    }
+}
+
+/// Whether the permutation takes the earlier child of a split to this one.
+fn is_image(
+    judge: &Judge<'_>,
+    parent: &Parent<'_>,
+    child: usize,
+    earlier: u16,
+    image: &Perm,
+) -> bool
+    requires size { judge.now.ranked.now.size ≡ parent.now.node.now.size }
+    requires placement { IsPlacement parent.now.node.now }
+    requires others { parent.now.others.now ≡ others_on parent.now.split.now.side parent.now.node.now }
+    requires inside { child < length parent.now.others.now }
+    requires earlier { earlier < child }
+    requires image { length image.now ≡ parent.now.node.now.size }
+    ensures { IsTrue result ↔ TakesOn parent.now.split.now.side judge.now.ranked.now parent.now.node.now earlier child image.now }
+{
+    let instance = judge.ranked.instance();
+    let from = parent.others[usize::from(earlier)];
+    let to = parent.others[child];
+    match parent.split.side {
+        Side::Facility => takes_location(instance, parent.node, image, from, to),
+        Side::Location => takes_facility(instance, parent.node, image, from, to),
+    }
+}
