@@ -109,10 +109,10 @@ impl<'a> SplitRows<'a> {
         ensures bounded { unsigned_abs result ≤ 66048 * 10 ^ 18 }
     {
         let LocationRows { free, rows, .. } = &self.before;
-        let s = place_among(free, location);
+        let number = place_among(free, location);
         let depth = self.node.depth();
         let width = self.ranked.instance().size() + depth;
-        let row = row_at(rows, width, free.len(), s);
+        let row = row_at(rows, width, free.len(), number);
         let linear = &row[..1 + 2 * depth];
         self.fixed + dot_product(&self.linear, linear, self.ranked.are_small())
     }

@@ -204,12 +204,12 @@ pub(crate) fn check_child_bound(
         (λ done. Closes rows.now.instance bound (placing rows.now.node rows.now.facility location) u.now v.now)
         (λ e. (e ≡ OutOfMemory) ⊎ IsBoundFault rows.now.instance bound (placing rows.now.node rows.now.facility location) line u.now v.now e) }
 {
-    let fit = rows.fits(workspace, location, u, v)?;
-    if !fit {
+    let fits = rows.fits(workspace, location, u, v)?;
+    if !fits {
         return Err(CertError::NotFeasible(line));
     }
-    let reached = rows.fixed_cost(location) + dual_sum(u, v);
-    if reached < bound {
+    let least = rows.fixed_cost(location) + dual_sum(u, v);
+    if least < bound {
         return Err(CertError::BoundTooLow(line));
     }
     Ok(())

@@ -224,7 +224,8 @@ fn judge_child_bound(
     let free = task.grammar.size - placed.count();
     let duals = &mut buffers.duals;
     bound_numbers(bytes, task.grammar, placed, line, 2 * free, duals)?;
-    let (u, v) = (&duals[..free], &duals[free..]);
+    let u = &duals[..free];
+    let v = &duals[free..];
     child_bound_fault(&mut buffers.workspace, task, rows, location, u, v, line)
 }
 

@@ -9,19 +9,19 @@ use Rattle.qap_cert.specs.Valid.{Fits}
 use Rattle.qap_cert.proofs.Bounds.{Fits-reduced}
 use Rattle.qap_cert.proofs.checking.check_child_bound.Goals as goal
 
-pub returns-then-not-fit : goal.returns-then-not-fit
-returns-then-not-fit c =
+pub returns-then-not-fits : goal.returns-then-not-fits
+returns-then-not-fits c =
     let I = c.args.rows.now.instance in
     let x = placing c.args.rows.now.node c.args.rows.now.facility c.args.location in
-    let told = c.in_ok-fit.ensures in
+    let told = c.in_ok-fits.ensures in
     inr (inl (
       refl,
       λ (h : Fits I x c.args.u.now c.args.v.now).
-          false≢true (sym c.if-not-fit.true ∙ told.tells.1 (Fits-reduced I x told.matrix c.args.u.now c.args.v.now told.square told.reduced h)),
+          false≢true (sym c.if-not-fits.true ∙ told.tells.1 (Fits-reduced I x told.matrix c.args.u.now c.args.v.now told.square told.reduced h)),
     ))
 
-pub returns-then-reached-bound : goal.returns-then-reached-bound
-returns-then-reached-bound c =
+pub returns-then-least-bound : goal.returns-then-least-bound
+returns-then-least-bound c =
     let I = c.args.rows.now.instance in
     let u = c.args.u.now in
     let v = c.args.v.now in
@@ -29,8 +29,8 @@ returns-then-reached-bound c =
     let fixed = c.fixed_cost.ensures in
     let duals = c.dual_sum.ensures in
     let low : (fixed_cost_of I x +ℤ dual_value u v) <ℤ c.args.bound =
-    omega (arith, ints, fixed.value, fixed.bounded, duals.value, duals.bounded, c.ranges.bound, c.if-reached-bound.true) in
-    inr (inr (refl, record { matrix = c.in_ok-fit.ensures.matrix; square = c.in_ok-fit.ensures.square; reduced = c.in_ok-fit.ensures.reduced; fits = c.in_ok-fit.ensures.tells.0 c.if-not-fit.false }, low))
+    omega (arith, ints, fixed.value, fixed.bounded, duals.value, duals.bounded, c.ranges.bound, c.if-least-bound.true) in
+    inr (inr (refl, record { matrix = c.in_ok-fits.ensures.matrix; square = c.in_ok-fits.ensures.square; reduced = c.in_ok-fits.ensures.reduced; fits = c.in_ok-fits.ensures.tells.0 c.if-not-fits.false }, low))
 
 pub returns : goal.returns
 returns c =
@@ -42,6 +42,6 @@ returns c =
     let duals = c.dual_sum.ensures in
     record {
       duals = c.requires.duals;
-      fits = record { matrix = c.in_ok-fit.ensures.matrix; square = c.in_ok-fit.ensures.square; reduced = c.in_ok-fit.ensures.reduced; fits = c.in_ok-fit.ensures.tells.0 c.if-not-fit.false };
-      enough = omega (arith, ints, fixed.value, fixed.bounded, duals.value, duals.bounded, c.ranges.bound, c.if-reached-bound.false);
+      fits = record { matrix = c.in_ok-fits.ensures.matrix; square = c.in_ok-fits.ensures.square; reduced = c.in_ok-fits.ensures.reduced; fits = c.in_ok-fits.ensures.tells.0 c.if-not-fits.false };
+      enough = omega (arith, ints, fixed.value, fixed.bounded, duals.value, duals.bounded, c.ranges.bound, c.if-least-bound.false);
     }

@@ -1,9 +1,10 @@
-use Rattle.std.proofs.Common.{◌≡◌, ℕ, ℤ, List, ◌<◌, ◌+◌, ◌-◌, ◌++◌, [], ◌∷◌, length, take, inl, inr, refl, sym, ap, ◌∙◌, subst, ⊎_elim, arith, rules, length-append}
+use Rattle.std.proofs.Common.{◌≡◌, ℕ, zero, suc, ℤ, List, ◌<◌, ◌+◌, ◌-◌, ◌++◌, [], ◌∷◌, length, get_or, take, inl, inr, refl, sym, ap, ◌∙◌, subst, ⊎_elim, arith, rules, length-append}
 use Rattle.std.specs.Prelude.{codes, Option, Some, None}
 use Rattle.std.proofs.lemmas.Result.{err_from_is_err_and}
 use Rattle.qap_cost.specs.Instance.{Problem}
-use Rattle.qap_cost.specs.Placement.{Placement, IsFree, IsFreeFacility, free_locations}
+use Rattle.qap_cost.specs.Placement.{Placement, placing, IsFree, IsFreeFacility, free_locations}
 use Rattle.gilmore_lawler.specs.FlowRows.{FlowSide}
+use Rattle.gilmore_lawler.specs.Split.{Split}
 use Rattle.qap_cert.proofs.Judgements.{AllValid-more, IsTreeFaultAmong-at}
 use Rattle.qap_lines.proofs.NumberLists.{line_text-is}
 use Rattle.qap_cert.proofs.Readings.{IsTreeTextFault-among, with_last}
@@ -13,11 +14,13 @@ use Rattle.qap_cert.specs.Fault.{IsTreeFault, IsTreeFaultAmong}
 use Rattle.qap_lines.specs.Line.{line_after}
 use Rattle.qap_cert.specs.Shape.{AreDuals}
 use Rattle.qap_lines.specs.LineText.{line_text}
+use Rattle.qap_cert.specs.TextFault.{IsLineFault, IsNodeFault, IsTreeTextFault}
 use Rattle.qap_cert.specs.Tree.{Node, bound, split, Nodes}
 use Rattle.qap_cert.specs.Valid.{Valid, AllValid}
 use Rattle.qap_cert.specs.Version.{split_numbers}
 use Rattle.qap_cert.specs.Walk.{Any, IsToldOf, IsToldOfAll}
 use Rattle.qap_cert.specs.declared.error.CertError.{CertError}
+use Rattle.qap_cert.specs.declared.version.Version.{Version}
 use Rattle.qap_cert.proofs.walking.+walking.Goals as goal
 
 pub judge_children-loop-i-init : goal.judge_children-loop-i-init
@@ -32,6 +35,10 @@ told_valid I g x line o t is h = subst (λ (p : Option CertError). IsToldOf I g 
 told_fault : (I : Problem) (g : ℤ) (x : Placement) (line : ℕ) (o : Option CertError) (t : Node) (e : CertError) → o ≡ Some e → IsToldOf I g x line o t → IsTreeFault I g x line t e
 told_fault I g x line o t e is h = subst (λ (p : Option CertError). IsToldOf I g x line p t) is h
 
+-- what is told of the child at a location
+told_child : (I : Problem) (g : ℤ) (s : Split) (x : Placement) (f k line : ℕ) (o : Option CertError) (t : Node) → s ≡ record { instance = I; node = x; facility = f } → IsToldOf I g (placing s.node s.facility k) line o t → IsToldOf I g (placing x f k) line o t
+told_child I g s x f k line o t is h = subst (λ (r : Split). IsToldOf I g (placing r.node r.facility k) line o t) is h
+
 pub judge_children-loop-i-preserved : goal.judge_children-loop-i-preserved
 judge_children-loop-i-preserved t c =
     let I = c.args.task.now.ranked.now in
@@ -43,9 +50,11 @@ judge_children-loop-i-preserved t c =
     let h = c.loop-i.invariant in
     let child = c.in_ok-child.ensures in
     let none : c.in_ok-child.child.fault ≡ None = search rules in
-    let valid = subst (λ (y : Placement). Valid I g y child.tree) c.in_ok-part.ensures.value (told_valid I g c.in_ok-part.part c.loop-i.next c.in_ok-child.child.fault child.tree none child.holds) in
+    let k = get_or ks i 0 in
+    let told = told_child I g c.in_ok-rows.rows x f k c.loop-i.next c.in_ok-child.child.fault child.tree c.in_ok-rows.ensures child.holds in
+    let valid = told_valid I g (placing x f k) c.loop-i.next c.in_ok-child.child.fault child.tree none told in
     BeginsWithTrees-more c.args.task.now.grammar.version c.args.task.now.grammar.size c.args.placed.now i c.args.line c.args.text.now c.loop-i.rest.now c.loop-i.next
-    (AllValid I g x f (take i ks)) (AllValid I g x f (take (i + 1) ks)) c.in_ok-child.child.rest.now c.in_ok-child.child.next (IsToldOf I g c.in_ok-part.part c.loop-i.next c.in_ok-child.child.fault) h child
+    (AllValid I g x f (take i ks)) (AllValid I g x f (take (i + 1) ks)) c.in_ok-child.child.rest.now c.in_ok-child.child.next (IsToldOf I g (placing c.in_ok-rows.rows.node c.in_ok-rows.rows.facility k) c.loop-i.next c.in_ok-child.child.fault) h child
     (AllValid-more I g x f ks i h.trees child.tree (omega (arith, c.loop-i-test.true)) h.holds valid)
 
 pub judge_children-returns-in-Some : goal.judge_children-returns-in-Some
@@ -62,10 +71,11 @@ judge_children-returns-in-Some t c =
     let child = c.in_ok-child.ensures in
     let e = c.in-Some.fault in
     let others = c.in_ok-behind.ensures in
-    let fault = subst (λ (y : Placement). IsTreeFault I g y c.loop-i.next child.tree e) c.in_ok-part.ensures.value
-    (told_fault I g c.in_ok-part.part c.loop-i.next c.in_ok-child.child.fault child.tree e c.in-Some.is child.holds) in
+    let k = get_or ks i 0 in
+    let told = told_child I g c.in_ok-rows.rows x f k c.loop-i.next c.in_ok-child.child.fault child.tree c.in_ok-rows.ensures child.holds in
+    let fault = told_fault I g (placing x f k) c.loop-i.next c.in_ok-child.child.fault child.tree e c.in-Some.is told in
     let first = BeginsWithTrees-more v n c.args.placed.now i c.args.line c.args.text.now c.loop-i.rest.now c.loop-i.next (AllValid I g x f (take i ks)) (λ ts. ts ≡ with_last h.trees child.tree) c.in_ok-child.child.rest.now c.in_ok-child.child.next
-    (IsToldOf I g c.in_ok-part.part c.loop-i.next c.in_ok-child.child.fault) h child refl in
+    (IsToldOf I g (placing c.in_ok-rows.rows.node c.in_ok-rows.rows.facility k) c.loop-i.next c.in_ok-child.child.fault) h child refl in
     BeginsWithTrees-joined v n c.args.placed.now (i + 1) (length ks - i - 1) (length ks) c.args.line c.args.text.now c.in_ok-child.child.rest.now c.in_ok-child.child.next (λ ts. ts ≡ with_last h.trees child.tree) Any
     (IsToldOfAll I g x f ks c.args.line (Some e)) c.in_ok-behind.behind.rest.now c.in_ok-behind.behind.next first others (omega (arith, c.loop-i-test.true))
     (subst (λ (ts : Nodes). IsTreeFaultAmong I g x f ks c.args.line (joined ts others.trees) e) (sym first.holds)
@@ -82,11 +92,27 @@ judge_children-returns-in_err-behind t c =
     let n = c.args.task.now.grammar.size in
     let first = BeginsWithTrees-more v n c.args.placed.now i c.args.line c.args.text.now c.loop-i.rest.now c.loop-i.next
     (AllValid c.args.task.now.ranked.now c.args.task.now.bound c.args.node.now c.args.facility (take i ks)) Any c.in_ok-child.child.rest.now c.in_ok-child.child.next
-    (IsToldOf c.args.task.now.ranked.now c.args.task.now.bound c.in_ok-part.part c.loop-i.next c.in_ok-child.child.fault) h child tt in
+    (IsToldOf c.args.task.now.ranked.now c.args.task.now.bound (placing c.in_ok-rows.rows.node c.in_ok-rows.rows.facility (get_or ks i 0)) c.loop-i.next c.in_ok-child.child.fault) h child tt in
     let p = err_from_is_err_and c.from_residual-in_err-behind.result c.from_residual-in_err-behind.ensures.1 in
     rw (p.1, p.2) (⊎_elim inl (λ fault. inr (IsFaultBefore-joined v n c.args.placed.now (i + 1) (length ks - i - 1) (length ks) c.args.line c.args.text.now c.in_ok-child.child.rest.now
     c.in_ok-child.child.next Any e first (omega (arith, c.loop-i-test.true)) fault))
     (c.in_err-behind.ensures {u = tt}))
+
+-- a fault of the first line
+of_line : (v : Version) (n m : ℕ) (placed : List ℕ) (line : ℕ) (text : List ℕ) (e : CertError) → IsLineFault line text (IsNodeFault v n placed line) e → IsTreeTextFault v n m placed line text e
+of_line v n zero placed line text e fault = fault
+of_line v n (suc m) placed line text e fault = inl fault
+
+pub judge_tree-returns-in_err-fault : goal.judge_tree-returns-in_err-fault
+judge_tree-returns-in_err-fault t c =
+    let v = c.args.task.now.grammar.version in
+    let n = c.args.task.now.grammar.size in
+    let placed = c.args.placed.now in
+    let first = c.in_ok-first.first in
+    let e = c.in_err-fault.field-0.0 in
+    let p = err_from_is_err_and c.from_residual-in_err-fault.result c.from_residual-in_err-fault.ensures.1 in
+    rw (p.1, p.2) (⊎_elim inl (λ fault. inr (of_line v n (n - length placed) placed c.args.line c.args.text.now e (inr (first.bytes.now, first.rest.now, c.in_ok-first.ensures.0, fault))))
+    (c.in_err-fault.ensures {u = tt}))
 
 told_split : (I : Problem) (g : ℤ) (x : Placement) (f : ℕ) (ks : List ℕ) (line next : ℕ) (o : Option CertError) (ts : Nodes) → ks ≡ free_locations x → length x.facilities < x.size → IsFreeFacility x f → next ≡ line_after line 1
     → IsToldOfAll I g x f ks next o ts → IsToldOf I g x line o (split f ts)

@@ -14,8 +14,8 @@ use Rattle.gilmore_lawler.proofs.Splits.{stands, places_and_free, distances_widt
 use Rattle.gilmore_lawler.proofs.Tables.{AllInRange-matrix, AllWithin-linear_row, length-linear_row}
 use Rattle.gilmore_lawler.proofs.split_rows.SplitRows.fixed_cost.Goals as goal
 
-pub place_among-s-requires : goal.place_among-s-requires
-place_among-s-requires c =
+pub place_among-number-requires : goal.place_among-number-requires
+place_among-number-requires c =
     let i = c.self.inside in
     let s : Split = record { instance = i.ranked.now; node = i.node.now; facility = i.facility } in
     let at : IsFreeLocation s.node c.args.location = subst (λ (t : Split). IsFreeLocation t.node c.args.location) (sym c.self.view_is) c.requires in
@@ -45,7 +45,7 @@ slice_bounds-linear-end c =
     let s : Split = record { instance = i.ranked.now; node = i.node.now; facility = i.facility } in
     let counts = places_and_free s i.flows.items i.linear.items i.before.places.items i.before.free.items i.before.rows.items _ c.self.invariant in
     let size : c.size.result ≡ s.instance.size = c.size.ensures.value ∙ ap (λ (I : Problem). I.size) c.instance.ensures.value in
-    sym (length-take-le (1 + 2 * c.depth-depth.result) c.row_at-row.result.now (omega (arith, counts, size, c.depth-depth.ensures.value, c.row_at-row.ensures.width, c.place_among-s.ensures.inside, ap length c.deref.ensures.value)))
+    sym (length-take-le (1 + 2 * c.depth-depth.result) c.row_at-row.result.now (omega (arith, counts, size, c.depth-depth.ensures.value, c.row_at-row.ensures.width, c.place_among-number.ensures.inside, ap length c.deref.ensures.value)))
 
 pub dot_product-requires-clause-same_length : goal.dot_product-requires-clause-same_length
 dot_product-requires-clause-same_length c =
@@ -54,7 +54,7 @@ dot_product-requires-clause-same_length c =
     let counts = places_and_free s i.flows.items i.linear.items i.before.places.items i.before.free.items i.before.rows.items _ c.self.invariant in
     let size : c.size.result ≡ s.instance.size = c.size.ensures.value ∙ ap (λ (I : Problem). I.size) c.instance.ensures.value in
     let part : length (take (1 + 2 * c.depth-depth.result) c.row_at-row.result.now) ≡ 1 + 2 * c.depth-depth.result =
-    length-take-le (1 + 2 * c.depth-depth.result) c.row_at-row.result.now (omega (arith, counts, size, c.depth-depth.ensures.value, c.row_at-row.ensures.width, c.place_among-s.ensures.inside, ap length c.deref.ensures.value)) in
+    length-take-le (1 + 2 * c.depth-depth.result) c.row_at-row.result.now (omega (arith, counts, size, c.depth-depth.ensures.value, c.row_at-row.ensures.width, c.place_among-number.ensures.inside, ap length c.deref.ensures.value)) in
     omega (arith, part, ap length c.deref-3.ensures.value, ap length c.self.invariant.linear_is, length-linear_row s.instance.size s.instance.a s.node.facilities s.facility, c.depth-depth.ensures.value)
 
 pub dot_product-requires-clause-few : goal.dot_product-requires-clause-few
@@ -62,7 +62,7 @@ dot_product-requires-clause-few c =
     let i = c.self.inside in
     let s : Split = record { instance = i.ranked.now; node = i.node.now; facility = i.facility } in
     let counts = places_and_free s i.flows.items i.linear.items i.before.places.items i.before.free.items i.before.rows.items _ c.self.invariant in
-    omega (arith, counts, ap length c.deref-3.ensures.value, ap length c.self.invariant.linear_is, length-linear_row s.instance.size s.instance.a s.node.facilities s.facility, c.place_among-s.ensures.inside, ap length c.deref.ensures.value)
+    omega (arith, counts, ap length c.deref-3.ensures.value, ap length c.self.invariant.linear_is, length-linear_row s.instance.size s.instance.a s.node.facilities s.facility, c.place_among-number.ensures.inside, ap length c.deref.ensures.value)
 
 pub dot_product-requires-clause-xs_range : goal.dot_product-requires-clause-xs_range
 dot_product-requires-clause-xs_range c =
@@ -73,13 +73,13 @@ pub dot_product-requires-clause-ys_range : goal.dot_product-requires-clause-ys_r
 dot_product-requires-clause-ys_range c =
     let i = c.self.inside in
     let s : Split = record { instance = i.ranked.now; node = i.node.now; facility = i.facility } in
-    let stands : get_or i.before.free.items c.place_among-s.result 0 ≡ c.args.location = ap (λ (l : List ℕ). get_or l c.place_among-s.result 0) (sym c.deref.ensures.value) ∙ c.place_among-s.ensures.value in
-    let below : c.place_among-s.result < length i.before.free.items = omega (arith, c.place_among-s.ensures.inside, ap length c.deref.ensures.value) in
+    let stands : get_or i.before.free.items c.place_among-number.result 0 ≡ c.args.location = ap (λ (l : List ℕ). get_or l c.place_among-number.result 0) (sym c.deref.ensures.value) ∙ c.place_among-number.ensures.value in
+    let below : c.place_among-number.result < length i.before.free.items = omega (arith, c.place_among-number.ensures.inside, ap length c.deref.ensures.value) in
     let size : c.size.result ≡ s.instance.size = c.size.ensures.value ∙ ap (λ (I : Problem). I.size) c.instance.ensures.value in
-    let row : c.row_at-row.result.now ≡ segment (c.size.result + c.depth-depth.result) i.before.rows.items c.place_among-s.result =
-    c.row_at-row.ensures.row ∙ ap (λ (l : List ℤ). segment (c.size.result + c.depth-depth.result) l c.place_among-s.result) c.deref-2.ensures.value in
+    let row : c.row_at-row.result.now ≡ segment (c.size.result + c.depth-depth.result) i.before.rows.items c.place_among-number.result =
+    c.row_at-row.ensures.row ∙ ap (λ (l : List ℤ). segment (c.size.result + c.depth-depth.result) l c.place_among-number.result) c.deref-2.ensures.value in
     let part : take (1 + 2 * c.depth-depth.result) c.row_at-row.result.now ≡ linear_row s.instance.size s.instance.b s.node.places c.args.location =
-    linear_part s i.flows.items i.linear.items i.before.places.items i.before.free.items i.before.rows.items _ c.args.location c.place_among-s.result c.size.result c.depth-depth.result c.row_at-row.result.now c.self.invariant below stands size c.depth-depth.ensures.value row in
+    linear_part s i.flows.items i.linear.items i.before.places.items i.before.free.items i.before.rows.items _ c.args.location c.place_among-number.result c.size.result c.depth-depth.result c.row_at-row.result.now c.self.invariant below stands size c.depth-depth.ensures.value row in
     subst AllInRange (sym part) (AllWithin-linear_row _ s.instance.size s.instance.b s.node.places c.args.location (AllInRange-matrix s.instance Distance c.instance.ensures.instance))
 
 pub dot_product-requires-clause-known : goal.dot_product-requires-clause-known
@@ -87,13 +87,13 @@ dot_product-requires-clause-known c =
     λ yes_it_is.
     let i = c.self.inside in
     let s : Split = record { instance = i.ranked.now; node = i.node.now; facility = i.facility } in
-    let stands : get_or i.before.free.items c.place_among-s.result 0 ≡ c.args.location = ap (λ (l : List ℕ). get_or l c.place_among-s.result 0) (sym c.deref.ensures.value) ∙ c.place_among-s.ensures.value in
-    let below : c.place_among-s.result < length i.before.free.items = omega (arith, c.place_among-s.ensures.inside, ap length c.deref.ensures.value) in
+    let stands : get_or i.before.free.items c.place_among-number.result 0 ≡ c.args.location = ap (λ (l : List ℕ). get_or l c.place_among-number.result 0) (sym c.deref.ensures.value) ∙ c.place_among-number.ensures.value in
+    let below : c.place_among-number.result < length i.before.free.items = omega (arith, c.place_among-number.ensures.inside, ap length c.deref.ensures.value) in
     let size : c.size.result ≡ s.instance.size = c.size.ensures.value ∙ ap (λ (I : Problem). I.size) c.instance.ensures.value in
-    let row : c.row_at-row.result.now ≡ segment (c.size.result + c.depth-depth.result) i.before.rows.items c.place_among-s.result =
-    c.row_at-row.ensures.row ∙ ap (λ (l : List ℤ). segment (c.size.result + c.depth-depth.result) l c.place_among-s.result) c.deref-2.ensures.value in
+    let row : c.row_at-row.result.now ≡ segment (c.size.result + c.depth-depth.result) i.before.rows.items c.place_among-number.result =
+    c.row_at-row.ensures.row ∙ ap (λ (l : List ℤ). segment (c.size.result + c.depth-depth.result) l c.place_among-number.result) c.deref-2.ensures.value in
     let part : take (1 + 2 * c.depth-depth.result) c.row_at-row.result.now ≡ linear_row s.instance.size s.instance.b s.node.places c.args.location =
-    linear_part s i.flows.items i.linear.items i.before.places.items i.before.free.items i.before.rows.items _ c.args.location c.place_among-s.result c.size.result c.depth-depth.result c.row_at-row.result.now c.self.invariant below stands size c.depth-depth.ensures.value row in
+    linear_part s i.flows.items i.linear.items i.before.places.items i.before.free.items i.before.rows.items _ c.args.location c.place_among-number.result c.size.result c.depth-depth.result c.row_at-row.result.now c.self.invariant below stands size c.depth-depth.ensures.value row in
     let small = c.are_small.ensures yes_it_is in (
       subst AllSmall (sym (c.deref-3.ensures.value ∙ c.self.invariant.linear_is)) (AllWithin-linear_row _ i.ranked.now.size i.ranked.now.a i.node.now.facilities i.facility small.0),
       subst AllSmall (sym part) (AllWithin-linear_row _ s.instance.size s.instance.b s.node.places c.args.location small.1),
@@ -103,13 +103,13 @@ pub returns-clause-value : goal.returns-clause-value
 returns-clause-value c =
     let i = c.self.inside in
     let s : Split = record { instance = i.ranked.now; node = i.node.now; facility = i.facility } in
-    let stands : get_or i.before.free.items c.place_among-s.result 0 ≡ c.args.location = ap (λ (l : List ℕ). get_or l c.place_among-s.result 0) (sym c.deref.ensures.value) ∙ c.place_among-s.ensures.value in
-    let below : c.place_among-s.result < length i.before.free.items = omega (arith, c.place_among-s.ensures.inside, ap length c.deref.ensures.value) in
+    let stands : get_or i.before.free.items c.place_among-number.result 0 ≡ c.args.location = ap (λ (l : List ℕ). get_or l c.place_among-number.result 0) (sym c.deref.ensures.value) ∙ c.place_among-number.ensures.value in
+    let below : c.place_among-number.result < length i.before.free.items = omega (arith, c.place_among-number.ensures.inside, ap length c.deref.ensures.value) in
     let size : c.size.result ≡ s.instance.size = c.size.ensures.value ∙ ap (λ (I : Problem). I.size) c.instance.ensures.value in
-    let row : c.row_at-row.result.now ≡ segment (c.size.result + c.depth-depth.result) i.before.rows.items c.place_among-s.result =
-    c.row_at-row.ensures.row ∙ ap (λ (l : List ℤ). segment (c.size.result + c.depth-depth.result) l c.place_among-s.result) c.deref-2.ensures.value in
+    let row : c.row_at-row.result.now ≡ segment (c.size.result + c.depth-depth.result) i.before.rows.items c.place_among-number.result =
+    c.row_at-row.ensures.row ∙ ap (λ (l : List ℤ). segment (c.size.result + c.depth-depth.result) l c.place_among-number.result) c.deref-2.ensures.value in
     let part : take (1 + 2 * c.depth-depth.result) c.row_at-row.result.now ≡ linear_row s.instance.size s.instance.b s.node.places c.args.location =
-    linear_part s i.flows.items i.linear.items i.before.places.items i.before.free.items i.before.rows.items _ c.args.location c.place_among-s.result c.size.result c.depth-depth.result c.row_at-row.result.now c.self.invariant below stands size c.depth-depth.ensures.value row in
+    linear_part s i.flows.items i.linear.items i.before.places.items i.before.free.items i.before.rows.items _ c.args.location c.place_among-number.result c.size.result c.depth-depth.result c.row_at-row.result.now c.self.invariant below stands size c.depth-depth.ensures.value row in
     let counts = places_and_free s i.flows.items i.linear.items i.before.places.items i.before.free.items i.before.rows.items _ c.self.invariant in
     let count = length-linear_row s.instance.size s.instance.a s.node.facilities s.facility in
     let F = to_z w128 (of_z w128 i.fixed) in
@@ -133,7 +133,7 @@ returns-clause-bounded c =
     let count = length-linear_row s.instance.size s.instance.a s.node.facilities s.facility in
     let F = to_z w128 (of_z w128 i.fixed) in
     let D = to_z w128 (of_z w128 c.dot_product.result) in
-    let below : c.place_among-s.result < length i.before.free.items = omega (arith, c.place_among-s.ensures.inside, ap length c.deref.ensures.value) in
+    let below : c.place_among-number.result < length i.before.free.items = omega (arith, c.place_among-number.ensures.inside, ap length c.deref.ensures.value) in
     let small : unsigned_abs c.dot_product.result ≤ 512 * 10 ^ 18 =
     omega (arith, c.dot_product.ensures.bounded, counts, below, count, ap length c.deref-3.ensures.value, ap length c.self.invariant.linear_is) in
     let F_is : F ≡ i.fixed = to_z-of_z w128 i.fixed (fits_signed_from_abs w128 i.fixed (omega (arith, c.self.invariant.fixed_bounded))) in
