@@ -1,0 +1,7 @@
+//! The tests of `qap_proof`, on its public calls alone: in a crate of their own they need no second proof of it.
+#![tactic(auto)]
+
+#[cfg(test)]
+mod fault_tests;
+#[cfg(test)]
+mod tests;
