@@ -6,3 +6,4 @@ pub mod NumberLists
 pub mod Numerals
 pub mod Runs
 pub mod Words
+pub mod WrittenTexts

@@ -2,3 +2,4 @@ pub mod Line
 pub mod LineText
 pub mod Number
 pub mod Numeral
+pub mod Writing

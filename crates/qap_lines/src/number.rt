@@ -162,3 +162,15 @@ fn still_limited(limited: bool, numeral: Numeral) -> bool
 {
     limited && numeral.value.unsigned_abs() <= MAX_VALUE
 }
+
+/// Whether the numbers are within -10^24 to 10^24.
+pub fn are_limited(numbers: &[i128]) -> bool
+    ensures { IsTrue result ↔ AllLimited numbers.now }
+{
+    for &number in numbers {
+        if number.unsigned_abs() > MAX_VALUE {
+            return false;
+        }
+    }
+    true
+}
