@@ -7,8 +7,10 @@ pub mod NodeLines
 pub mod Reaching
 pub mod Roots
 pub mod Rows
+pub mod Shapes
 pub mod StatedPermutations
 pub mod Telling
 pub mod Validity
 pub mod Verdicts
 pub mod Walks
+pub mod WrittenTexts

@@ -1,8 +1,11 @@
 pub mod Acceptance
 pub mod Cell
+pub mod Children
 pub mod Claim
+pub mod Code
 pub mod Fault
 pub mod Head
+pub mod Memory
 pub mod NodeLine
 pub mod Refusal
 pub mod Shape
@@ -11,3 +14,4 @@ pub mod TextFault
 pub mod Tree
 pub mod Valid
 pub mod Walk
+pub mod Writing

@@ -1,6 +1,7 @@
 //! Why a proof is refused.
 
 use qap_io::{Device, Refusal};
+use qap_lines::WriteError;
 use std::alloc::AllocError;
 use thiserror::Error;
 
@@ -133,5 +134,19 @@ impl From<Device> for ProofError {
 
     fn from(_error: Device) -> ProofError {
         ProofError::Device
+    }
+}
+
+impl From<WriteError> for ProofError {
+    ghost use Rattle.std.specs.Prelude.{◌≡◌};
+    ghost use Rattle.qap_proof.specs.Writing.{told_write};
+
+    ghost from_gives = { λ e f. f ≡ told_write e };
+
+    fn from(error: WriteError) -> ProofError {
+        match error {
+            WriteError::OutOfMemory => ProofError::OutOfMemory,
+            WriteError::Device => ProofError::Device,
+        }
     }
 }

@@ -134,7 +134,7 @@ fn closed_line(
 }
 
 /// How the line of a split on this side begins.
-fn letter(side: Side) -> &'static [u8]
+pub(crate) fn letter(side: Side) -> &'static [u8]
     ensures { result.now ≡ letter_of side }
 {
     match side {
@@ -228,7 +228,6 @@ pub(crate) fn judge_number(
     number: u16,
     line: u64,
 ) -> Result<(), ProofError>
-    requires { number < node.now.size }
     ensures { MatchResult result
         (λ done. (length node.now.facilities < node.now.size) × IsFreeOn side node.now number)
         (λ e. IsNumberFault node.now line side number e) }
@@ -237,7 +236,9 @@ pub(crate) fn judge_number(
         return Err(ProofError::SplitTooDeep(line));
     }
     match side {
-        Side::Facility if node.is_placed(number) => Err(ProofError::FacilityTaken(line)),
+        Side::Facility if usize::from(number) >= node.size() || node.is_placed(number) => {
+            Err(ProofError::FacilityTaken(line))
+        }
         Side::Location if !node.is_free(number) => Err(ProofError::LocationTaken(line)),
         _ => Ok(()),
     }

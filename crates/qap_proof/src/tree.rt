@@ -1,6 +1,7 @@
 //! Proof trees.
 
-use crate::side::Side;
+use crate::node_line::SplitLine;
+use qap_cost::Perm;
 
 /// Duals of a node's reduced matrix: one for each free facility and one for each free location, both ascending.
 #[derive(Drop)]
@@ -17,11 +18,9 @@ pub enum Tree {
     Closed {
         duals: Duals,
     },
-    /// The facility or the location of this number is put with each free one of the other side, these ascending.
+    /// The facility or the location that the split is on is put with each free one of the other side, these ascending.
     Split {
-        side: Side,
-        number: u16,
-        duals: Option<Duals>,
+        split: SplitLine,
         children: Vec<Tree>,
     },
     /// A child that the duals of its split cut off.
@@ -30,6 +29,6 @@ pub enum Tree {
     /// facility, and of the facilities where it is on a location.
     Mirrored {
         earlier: u16,
-        image: Vec<u16>,
+        image: Perm,
     },
 }
