@@ -1,6 +1,7 @@
 //! Why a certificate is refused.
 
 use qap_io::{Device, Refusal};
+use qap_lines::WriteError;
 use std::alloc::AllocError;
 use thiserror::Error;
 
@@ -109,5 +110,19 @@ impl From<Device> for CertError {
 
     fn from(_error: Device) -> CertError {
         CertError::Device
+    }
+}
+
+impl From<WriteError> for CertError {
+    ghost use Rattle.std.specs.Prelude.{◌≡◌};
+    ghost use Rattle.qap_cert.specs.Writing.{told_write};
+
+    ghost from_gives = { λ e f. f ≡ told_write e };
+
+    fn from(error: WriteError) -> CertError {
+        match error {
+            WriteError::OutOfMemory => CertError::OutOfMemory,
+            WriteError::Device => CertError::Device,
+        }
     }
 }

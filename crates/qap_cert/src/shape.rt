@@ -2,7 +2,6 @@
 
 ghost use Rattle.std.specs.Prelude.{◌≡◌, ◌-◌, ◌<◌, ◌≤◌, ◌↔◌, IsTrue, length, MatchResult};
 ghost use Rattle.qap_cost.specs.Placement.{IsFree};
-ghost use Rattle.qap_cost.specs.Range.{AllLimited};
 ghost use Rattle.qap_cert.specs.Fault.{IsDualFault, IsFacilityFault, IsSplitFault, IsShapeFault, IsShapeFaultAmong};
 ghost use Rattle.qap_lines.specs.Line.{line_after};
 ghost use Rattle.qap_cert.specs.Shape.{AreDuals, HasShape, AllHaveShape};
@@ -12,7 +11,7 @@ ghost use Rattle.qap_cert.specs.declared.version.Version.TheVariants.{Second};
 use crate::CertError;
 use crate::placed::Placed;
 use crate::tree::Tree;
-use qap_cost::MAX_VALUE;
+use qap_lines::are_limited;
 
 /// The line behind those of a tree that begins at this line, in which these of so many facilities are placed; or what is
 /// wrong with its shape.
@@ -114,20 +113,8 @@ fn judge_duals(u: &[i128], v: &[i128], free: usize, line: u64) -> Result<(), Cer
     if u.len() != free || v.len() != free {
         return Err(CertError::DualCount(line));
     }
-    if !is_in_range(u) || !is_in_range(v) {
+    if !are_limited(u) || !are_limited(v) {
         return Err(CertError::DualRange(line));
     }
     Ok(())
-}
-
-/// Whether the numbers are within -10^24 to 10^24.
-pub(crate) fn is_in_range(numbers: &[i128]) -> bool
-    ensures { IsTrue result ↔ AllLimited numbers.now }
-{
-    for &number in numbers {
-        if number.unsigned_abs() > MAX_VALUE {
-            return false;
-        }
-    }
-    true
 }
