@@ -1,4 +1,5 @@
 pub mod Bounds
+pub mod Checks
 pub mod ChildValues
 pub mod Completions
 pub mod HeadTexts

@@ -6,6 +6,7 @@ use Rattle.std.specs.declared.vec.Vec.{Vec}
 use Rattle.std.specs.declared.alloc.Global.{Global}
 use Rattle.qap_cost.specs.Placement.{Placement}
 use Rattle.qap_lines.specs.Line.{line_after}
+use Rattle.qap_proof.proofs.Rows.{line_after-more}
 use Rattle.qap_proof.specs.Fault.{IsShapeFault, IsShapeFaultAmong, IsSplitFault}
 use Rattle.qap_proof.specs.Memory.{node_step, node_of, nodes_of}
 use Rattle.qap_proof.specs.NodeLine.{split_of}
@@ -27,10 +28,6 @@ node_of-Split t s children is = ap node_of is ∙ ap node_of (sym (rolls-Split s
 pub child_count-nodes_of : (ts : List Tree) → child_count (nodes_of ts) ≡ length ts
 child_count-nodes_of [] = omega arith
 child_count-nodes_of (t ∷ ts) = omega (arith, child_count-nodes_of ts)
-
--- the line behind some nodes and then others
-pub line_after-more : (line a b : ℕ) → line_after (line_after line a) b ≡ line_after line (a + b)
-line_after-more line a b = omega arith
 
 -- a child has no more nodes than all of them
 pub node_count-le : (ts : List Tree) (i : ℕ) (d : Tree) → i < length ts → node_count (node_of (get_or ts i d)) ≤ nodes_count (nodes_of ts)

@@ -51,7 +51,7 @@ pub fn accept(alloc: Global, instance: &Instance, text: &[u8]) -> Result<Verdict
 }
 
 /// What keeps the permutation from being of the instance's size and having this cost, if something does.
-fn perm_misfit(instance: &Instance, perm: &Perm, stated: i128) -> Option<ProofError>
+pub(crate) fn perm_misfit(instance: &Instance, perm: &Perm, stated: i128) -> Option<ProofError>
     ensures { MatchOption result
         ((length perm.now ≡ instance.now.size) × (cost_of instance.now perm.now ≡ stated))
         (IsPermMisfit instance.now perm.now stated) }

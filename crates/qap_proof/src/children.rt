@@ -2,20 +2,30 @@
 
 ghost use Rattle.std.specs.Prelude.{◌≡◌, ◌<◌, length, IfOk};
 ghost use Rattle.qap_cost.specs.Placement.{IsPlacement};
-ghost use Rattle.qap_proof.specs.Children.{free_opposite as opposite_of};
+ghost use Rattle.qap_proof.specs.Cell.{others_on};
 ghost use Rattle.qap_proof.specs.NodeLine.{split_of};
-ghost use Rattle.qap_proof.specs.Shape.{free_count};
-ghost use Rattle.qap_proof.specs.Tree.{IsFreeOn, child_of};
+ghost use Rattle.qap_proof.specs.Shape.{has_duals as has, IsSplit};
+ghost use Rattle.qap_proof.specs.Tree.{child_of};
 
 use crate::node_line::SplitLine;
 use crate::side::Side;
 use qap_cost::Partial;
 use std::alloc::AllocError;
 
-/// The free ones of the other side, ascending: a split has a child for each.
-pub(crate) fn free_opposite(node: &Partial, side: Side) -> Result<Vec<u16>, AllocError>
-    ensures value { IfOk result (λ v. v.items ≡ opposite_of side node.now) }
-    ensures count { IfOk result (λ v. length v.items ≡ free_count node.now) }
+/// Whether a split has duals.
+pub(crate) fn has_duals(split: &SplitLine) -> bool
+    ensures { result ≡ has (split_of split.now).duals }
+{
+    match &split.duals {
+        Some(_) => true,
+        None => false,
+    }
+}
+
+/// The free ones that a split on this side has children for, ascending.
+pub(crate) fn free_others(node: &Partial, side: Side) -> Result<Vec<u16>, AllocError>
+    ensures value { IfOk result (λ v. v.items ≡ others_on side node.now) }
+    ensures placement { IsPlacement node.now }
 {
     match side {
         Side::Facility => node.free_locations(),
@@ -23,21 +33,20 @@ pub(crate) fn free_opposite(node: &Partial, side: Side) -> Result<Vec<u16>, Allo
     }
 }
 
-/// The node of a split's child of this number, where these are the free ones of the other side.
-pub(crate) fn child(
+/// The node that the child of this number of a split is, where these are the free ones that the split has children for.
+pub(crate) fn child_node(
     node: &Partial,
     split: &SplitLine,
-    opposite: &[u16],
-    number: usize,
+    others: &[u16],
+    child: usize,
 ) -> Result<Partial, AllocError>
-    requires opposite { opposite.now ≡ opposite_of split.now.side node.now }
-    requires free { IsFreeOn split.now.side node.now split.now.number }
-    requires within { number < length opposite.now }
-    ensures value { IfOk result (λ x. x ≡ child_of node.now (split_of split.now) number) }
-    ensures placement { IfOk result IsPlacement }
+    requires split { IsSplit node.now (split_of split.now) }
+    requires placement { IsPlacement node.now }
+    requires others { others.now ≡ others_on split.now.side node.now }
+    requires inside { child < length others.now }
+    ensures { IfOk result (λ x. x ≡ child_of node.now (split_of split.now) child) }
 {
-    let _depth = node.depth();
-    let other = opposite[number];
+    let other = others[child];
     match split.side {
         Side::Facility => node.place(split.number, other),
         Side::Location => node.place(other, split.number),

@@ -4,6 +4,7 @@
 
 mod acceptance;
 mod bound;
+mod checking;
 mod child_values;
 mod children;
 mod error;
@@ -24,6 +25,7 @@ mod walking;
 mod writing;
 
 pub use acceptance::{Verdict, accept};
+pub use checking::check;
 pub use error::ProofError;
 pub use image::{takes_facility, takes_location};
 pub use judging::{Task, closed_fault};

@@ -9,7 +9,7 @@ ghost use Rattle.qap_proof.specs.Shape.{AreDuals, MayBeDuals, IsSplit, IsPermOf,
 ghost use Rattle.qap_proof.specs.Tree.{node_count, nodes_count};
 ghost use Rattle.qap_proof.specs.declared.error.ProofError.TheVariants.{OutOfMemory, CutWithoutDuals as WithoutDuals, NoEarlierChild as NoEarlier, PermBad as BadPermutation};
 
-use crate::children::{child, free_opposite};
+use crate::children::{child_node, free_others, has_duals};
 use crate::error::ProofError;
 use crate::node_line::{SplitLine, judge_number};
 use crate::tree::{Duals, Tree};
@@ -59,12 +59,11 @@ fn judge_children(
         (λ next. AllHaveShape node.now (split_of split.now) 0 (nodes_of children.now) × (next ≡ line_after line (nodes_count (nodes_of children.now))))
         (λ e. (e ≡ OutOfMemory) ⊎ IsShapeFaultAmong node.now (split_of split.now) 0 line (nodes_of children.now) e) }
 {
-    let opposite = free_opposite(node, split.side)?;
-    let has_duals = split.duals.is_some();
+    let others = free_others(node, split.side)?;
     let mut next = line;
-    for (number, tree) in children.iter().enumerate() {
-        let part = child(node, split, &opposite, number)?;
-        next = judge_tree(tree, &part, number, has_duals, next)?;
+    for (child, tree) in children.iter().enumerate() {
+        let part = child_node(node, split, &others, child)?;
+        next = judge_tree(tree, &part, child, has_duals(split), next)?;
     }
     Ok(next)
 }

@@ -12,6 +12,7 @@ ghost use Rattle.qap_proof.specs.Valid.{TakesOn};
 ghost use Rattle.qap_proof.specs.Walk.{AreReached, BeginsWithTree, BeginsWithTrees, IsFaultBefore, IsToldOf, IsToldOfAll, IsToldOfClosed, IsToldOfDuals, IsToldOfSplit};
 
 use crate::child_values::child_values;
+use crate::children::{child_node, free_others, has_duals};
 use crate::error::ProofError;
 use crate::image::{takes_facility, takes_location};
 use crate::judging::{Task, closed_fault};
@@ -32,11 +33,11 @@ pub(crate) struct Judge<'a> {
 /// A split whose children are walked along: the node that it is of, what it says, the free ones that it has children for, and what its
 /// duals, if it has any, come to for each.
 #[derive(Clone, Copy)]
-struct Parent<'a> {
-    node: &'a Partial,
-    split: &'a SplitLine,
-    others: &'a [u16],
-    values: &'a [i128],
+pub(crate) struct Parent<'a> {
+    pub(crate) node: &'a Partial,
+    pub(crate) split: &'a SplitLine,
+    pub(crate) others: &'a [u16],
+    pub(crate) values: &'a [i128],
 }
 
 /// The text behind lines that were walked along, the number of its first line, and the first fault of what those before it say.
@@ -49,9 +50,9 @@ pub(crate) struct Walked<'a> {
 
 /// What was found of a split's duals: what they come to for each child, and the first fault of what the lines up to the split's say.
 #[derive(Drop)]
-struct JudgedSplit {
-    values: Vec<i128>,
-    fault: Option<ProofError>,
+pub(crate) struct JudgedSplit {
+    pub(crate) values: Vec<i128>,
+    pub(crate) fault: Option<ProofError>,
 }
 
 /// Judges the tree at the front of a text, whose first line has this number, for a root. Where a fault was told before, and behind the
@@ -189,7 +190,7 @@ fn walk_children<'a>(
     let mut next = line;
     let mut fault = told;
     for child in 0..parent.others.len() {
-        let node = child_node(parent, child)?;
+        let node = child_node(parent.node, parent.split, parent.others, child)?;
         let walked = walk_child(
             alloc, workspace, judge, parent, child, &node, rest, next, fault,
         )?;
@@ -200,44 +201,8 @@ fn walk_children<'a>(
     Ok(Walked { rest, next, fault })
 }
 
-/// Whether a split has duals.
-fn has_duals(split: &SplitLine) -> bool
-    ensures { result ≡ has (split_of split.now).duals }
-{
-    match &split.duals {
-        Some(_) => true,
-        None => false,
-    }
-}
-
-/// The free ones that a split on this side has children for, ascending.
-fn free_others(node: &Partial, side: Side) -> Result<Vec<u16>, AllocError>
-    ensures value { IfOk result (λ v. v.items ≡ others_on side node.now) }
-    ensures placement { IsPlacement node.now }
-{
-    match side {
-        Side::Facility => node.free_locations(),
-        Side::Location => node.free_facilities(),
-    }
-}
-
-/// The node that the child of this number is.
-fn child_node(parent: &Parent<'_>, child: usize) -> Result<Partial, AllocError>
-    requires split { IsSplit parent.now.node.now (split_of parent.now.split.now) }
-    requires placement { IsPlacement parent.now.node.now }
-    requires others { parent.now.others.now ≡ others_on parent.now.split.now.side parent.now.node.now }
-    requires inside { child < length parent.now.others.now }
-    ensures { IfOk result (λ x. x ≡ child_of parent.now.node.now (split_of parent.now.split.now) child) }
-{
-    let other = parent.others[child];
-    match parent.split.side {
-        Side::Facility => parent.node.place(parent.split.number, other),
-        Side::Location => parent.node.place(other, parent.split.number),
-    }
-}
-
 /// The first fault that is told where a closed node follows what was told before, if there is one.
-fn judge_closed(
+pub(crate) fn judge_closed(
     workspace: &mut Workspace,
     judge: &Judge<'_>,
     node: &Partial,
@@ -264,7 +229,7 @@ fn judge_closed(
 
 /// The first fault that is told where a split follows what was told before, if there is one; and where there is none, what its duals, if
 /// it has any, come to for each child.
-fn judge_split(
+pub(crate) fn judge_split(
     alloc: Global,
     workspace: &mut Workspace,
     judge: &Judge<'_>,
@@ -316,7 +281,7 @@ fn judge_split(
 }
 
 /// The first fault that is told where a child that is cut follows what was told before, if there is one.
-fn judge_cut(
+pub(crate) fn judge_cut(
     judge: &Judge<'_>,
     parent: &Parent<'_>,
     child: usize,
@@ -336,7 +301,7 @@ fn judge_cut(
 }
 
 /// The first fault that is told where a mirrored child follows what was told before, if there is one.
-fn judge_mirrored(
+pub(crate) fn judge_mirrored(
     judge: &Judge<'_>,
     parent: &Parent<'_>,
     child: usize,

@@ -1,4 +1,4 @@
-use Rattle.std.proofs.Common.{◌≡◌, ◌⊎◌, sym, ◌∙◌, subst, inr}
+use Rattle.std.proofs.Common.{◌≡◌, ◌⊎◌, length, sym, ◌∙◌, ap, subst, inr, arith}
 use Rattle.std.specs.Prelude.{MatchResult}
 use Rattle.std.proofs.lemmas.Result.{err_from_is_err_and}
 use Rattle.qap_lines.specs.Line.{line_after}
@@ -8,6 +8,7 @@ use Rattle.qap_proof.specs.NodeLine.{split_of}
 use Rattle.qap_proof.specs.Shape.{AllHaveShape}
 use Rattle.qap_proof.specs.Tree.{child_count, nodes_count}
 use Rattle.qap_proof.specs.declared.error.ProofError.TheVariants.{OutOfMemory}
+use Rattle.qap_proof.proofs.ChildValues.{others_count}
 use Rattle.qap_proof.proofs.Shapes.{node_of-Split, child_count-nodes_of, Judged-split, IsShapeFault-split}
 use Rattle.qap_proof.proofs.shape.+shape.Goals as goal
 
@@ -30,3 +31,8 @@ judge_tree-returns-in-Split t c =
     let among = subst (λ ts. MatchResult c.judge_children.result (λ next. AllHaveShape x (split_of s) 0 (nodes_of ts) × (next ≡ line_after c.saturating_add.result (nodes_count (nodes_of ts)))) (λ e. (e ≡ OutOfMemory) ⊎ IsShapeFaultAmong x (split_of s) 0 c.saturating_add.result (nodes_of ts) e)) c.deref.ensures.value c.judge_children.ensures in
     Judged-split x c.args.earlier c.args.has_duals c.args.line c.saturating_add.result _ (split_of s) (nodes_of children.items) c.judge_children.result
     (node_of-Split c.args.tree.now s children c.in-Split.is) judged.0 (count ∙ judged.1) c.saturating_add.ensures among
+
+pub judge_children-child_node-requires-clause-inside : goal.judge_children-child_node-requires-clause-inside
+judge_children-child_node-requires-clause-inside t c =
+    let many = ap length (c.deref.ensures.value ∙ c.in_ok-others.ensures.value) ∙ others_count c.args.split.now.side c.args.node.now c.free_others.ensures.placement in
+    omega (arith, c.loop-child-test.true, c.requires.one_each, many)
