@@ -1,6 +1,5 @@
 pub mod Acceptance
 pub mod Cell
-pub mod Children
 pub mod Claim
 pub mod Code
 pub mod Fault
