@@ -2,7 +2,7 @@
 // sorted once and kept in 32 bits, and picked without a branch; those of the facilities are kept for each depth, at which the
 // same ones are always placed. Products are added up in 64 bits where no sum of them can leave these, as the instance's greatest
 // entries tell; else eight at a time, and then in 128. The cost of what is placed has 128 bits, duals have 64. A line is read
-// where it stands, and each list has one buffer.
+// where it stands, each list has one buffer, and what is placed costs what its parent does and what the last one adds.
 // It prints "optimal C", or "refused" and a status of 1. Usage: checker INSTANCE CERTIFICATE
 #include <algorithm>
 #include <charconv>
@@ -214,8 +214,17 @@ struct Checker {
         }
     }
 
-    // Judges the bound whose duals were found.
-    void bound() {
+    // What the facility that is placed next costs at this location with itself and with those that are placed.
+    Wide added(int k) const {
+        int n = instance.n, d = static_cast<int>(places.size());
+        Wide sum = Number(instance.a[d * n + d]) * instance.b[k * n + k];
+        for (int t = 0; t < d; ++t)
+            sum += Number(instance.a[d * n + t]) * instance.b[k * n + places[t]] + Number(instance.a[t * n + d]) * instance.b[places[t] * n + k];
+        return sum;
+    }
+
+    // Judges the bound whose duals were found, where what is placed has this cost.
+    void bound(Wide fixed) {
         int n = instance.n, d = static_cast<int>(places.size()), m = n - d, width = n + d;
         if (static_cast<int>(found.size()) != 2 * m) refuse();
         if (d == 0)
@@ -223,27 +232,26 @@ struct Checker {
         else
             child_rows(d - 1);
         if (!fits(facility_rows(d), m, width)) refuse();
-        Wide value = 0;
+        Wide value = fixed;
         for (Number dual : found) value += dual;
-        for (int i = 0; i < d; ++i)
-            for (int j = 0; j < d; ++j) value += Number(instance.a[i * n + j]) * instance.b[places[i] * n + places[j]];
         if (value < cost) refuse();
     }
 
-    void tree() {
+    void tree(Wide fixed) {
         std::string_view text = line();
         if (text != "s") {
             numbers(text, "b");
-            bound();
+            bound(fixed);
             return;
         }
         if (static_cast<int>(places.size()) == instance.n) refuse();
         made[places.size()] = 0;
         for (int k = 0; k < instance.n; ++k) {
             if (taken[k]) continue;
+            const Wide next = fixed + added(k);
             taken[k] = 1;
             places.push_back(k);
-            tree();
+            tree(next);
             places.pop_back();
             taken[k] = 0;
         }
@@ -270,7 +278,7 @@ struct Checker {
         b_rows.resize(2 * n * n + n + 16);
         parents.resize(n + 1);
         made.resize(n + 1);
-        tree();
+        tree(0);
         if (line() != "end" || at != end) refuse();
     }
 };

@@ -1,8 +1,6 @@
 //! What the children of a split have in common.
 
-ghost use Rattle.std.specs.Prelude.{◌≡◌, ◌≢◌, ◌<◌, ◌≤◌, ◌+◌, ◌-◌, ◌*◌, ◌^◌, ◌++◌, ◌∷◌, [], length, slice_index, unsigned_abs, ℕ, IfOk};
-ghost use Rattle.qap_cost.specs.Bijection.{AreDifferent};
-ghost use Rattle.qap_cost.specs.Instance.{IsInstance};
+ghost use Rattle.std.specs.Prelude.{◌≡◌, ◌≤◌, ◌+◌, ◌-◌, ◌*◌, ◌^◌, ◌++◌, ◌∷◌, [], length, unsigned_abs, IfOk};
 ghost use Rattle.qap_cost.specs.Placement.{IsFreeFacility, IsFreeLocation, fixed_cost_of, placing};
 ghost use Rattle.qap_cost.specs.Range.{AllLimited};
 ghost use Rattle.gilmore_lawler.specs.Duals.{TellsFit};
@@ -16,12 +14,13 @@ use crate::factors::write_linear;
 use crate::fitting::products_fit;
 use crate::reduction::{RankedInstance, Workspace};
 use crate::side::Side;
-use qap_cost::{Instance, Partial};
-use std::alloc::{AllocError, Global};
+use qap_cost::Partial;
+use std::alloc::AllocError;
 use std::marker::Model;
 
-/// The children of a node that put one of its free facilities at its free locations, which are judged without being made: the rows of the flows, which
-/// all have, the rows of the distances at the node itself, of which a child's are made, and the node's fixed cost.
+/// The children of a node that put one facility at its free locations, which are judged without being made: the rows of the
+/// flows, which all have in common, the rows of the distances at the node itself, of which a child's are made, and what the node's
+/// placed facilities cost.
 #[derive(Drop)]
 pub struct SplitRows<'a> {
     ranked: &'a RankedInstance,
