@@ -4,6 +4,7 @@ pub mod ChildValues
 pub mod Completions
 pub mod HeadTexts
 pub mod Images
+pub mod Memory
 pub mod NodeLines
 pub mod Reaching
 pub mod Roots

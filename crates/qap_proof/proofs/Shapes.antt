@@ -1,39 +1,17 @@
--- Trees in memory, and the children of a split, whose shape is judged in this order.
-use Rattle.std.proofs.Common.{◌≡◌, ℕ, suc, zero, ◌+◌, ◌<◌, ◌≤◌, ◌∷◌, [], List, length, get_or, drop, sym, ◌∙◌, ap, ap₂, subst, inl, inr, arith, Bool, Result, Ok, Err, ◌⊎◌}
+-- The children of a split, whose shape is judged in this order.
+use Rattle.std.proofs.Common.{◌≡◌, ℕ, suc, ◌+◌, ◌<◌, ◌≤◌, ◌∷◌, List, length, get_or, drop, sym, ◌∙◌, ap, ap₂, subst, inl, inr, arith, Bool, Result, Ok, Err, ◌⊎◌}
 use Rattle.std.proofs.Math.Seq.{drop-cons}
 use Rattle.std.specs.Prelude.{MatchResult}
-use Rattle.std.specs.declared.vec.Vec.{Vec}
-use Rattle.std.specs.declared.alloc.Global.{Global}
 use Rattle.qap_cost.specs.Placement.{Placement}
 use Rattle.qap_lines.specs.Line.{line_after}
 use Rattle.qap_proof.proofs.Rows.{line_after-more}
 use Rattle.qap_proof.specs.Fault.{IsShapeFault, IsShapeFaultAmong, IsSplitFault}
-use Rattle.qap_proof.specs.Memory.{node_step, node_of, nodes_of}
-use Rattle.qap_proof.specs.NodeLine.{split_of}
+use Rattle.qap_proof.specs.Memory.{node_of, nodes_of}
 use Rattle.qap_proof.specs.Shape.{HasShape, AllHaveShape, IsSplit, free_count, has_duals}
 use Rattle.qap_proof.specs.Tree.{Split, Node, split, Nodes, node, node_count, nodes_count, child_count, child_of}
 use Rattle.qap_proof.specs.declared.error.ProofError.{ProofError}
 use Rattle.qap_proof.specs.declared.error.ProofError.TheVariants.{OutOfMemory}
-use Rattle.qap_proof.specs.declared.node_line.SplitLine.{SplitLine}
 use Rattle.qap_proof.specs.declared.tree.Tree.{Tree}
-use Rattle.qap_proof.specs.declared.tree.Tree.TheViews.{Split as SplitView}
-use Rattle.qap_proof.specs.declared.tree.Tree.TheVariants.{rolls-Split}
-use Rattle.qap_proof.specs.declared.tree.Tree.TheOpen.{Split as Layer}
-use Rattle.qap_proof.specs.declared.tree.Tree.TheFolds.{fold-roll-Tree}
-
--- what a split of these children says
-pub node_of-Split : (t : Tree) (s : SplitLine) (children : Vec Tree Global) → t ≡ SplitView s children → node_of t ≡ split (split_of s) (nodes_of children.items)
-node_of-Split t s children is = ap node_of is ∙ ap node_of (sym (rolls-Split s children)) ∙ fold-roll-Tree Node node_step (Layer s children)
-
-pub child_count-nodes_of : (ts : List Tree) → child_count (nodes_of ts) ≡ length ts
-child_count-nodes_of [] = omega arith
-child_count-nodes_of (t ∷ ts) = omega (arith, child_count-nodes_of ts)
-
--- a child has no more nodes than all of them
-pub node_count-le : (ts : List Tree) (i : ℕ) (d : Tree) → i < length ts → node_count (node_of (get_or ts i d)) ≤ nodes_count (nodes_of ts)
-node_count-le [] i d h = absurd (omega arith)
-node_count-le (t ∷ ts) zero d h = omega arith
-node_count-le (t ∷ ts) (suc i) d h = let rest = node_count-le ts i d (omega arith) in omega (arith, rest)
 
 -- the rest, from number c on, are still to be judged, from this line on; what holds of them holds of all
 pub record Judged (x : Placement) (s : Split) (line next c : ℕ) (all rest : Nodes) : Type 0 where

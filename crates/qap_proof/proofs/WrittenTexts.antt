@@ -12,7 +12,7 @@ use Rattle.qap_proof.specs.Text.{letter, split_numbers, by_turns, tree_text, tre
 use Rattle.qap_proof.specs.declared.node_line.SplitLine.{SplitLine}
 use Rattle.qap_proof.specs.declared.tree.Tree.{Tree}
 use Rattle.qap_proof.specs.declared.tree.Tree.TheViews.{Split}
-use Rattle.qap_proof.proofs.Shapes.{node_of-Split}
+use Rattle.qap_proof.proofs.Memory.{node_of-Split}
 
 by_turns-append : (fs ks : List ℕ) (f k : ℕ) → length fs ≡ length ks → by_turns (fs ++ f ∷ []) (ks ++ k ∷ []) ≡ by_turns fs ks ++ pos (f + 1) ∷ pos (k + 1) ∷ []
 by_turns-append [] [] f k same = refl

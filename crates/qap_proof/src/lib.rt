@@ -21,6 +21,7 @@ mod root;
 mod shape;
 mod side;
 mod tree;
+mod tree_reader;
 mod walking;
 mod writing;
 
@@ -32,6 +33,7 @@ pub use judging::{Task, closed_fault};
 pub use law::proof_law;
 pub use node_line::{LineRead, NodeLine, SplitLine, read_node_line};
 pub use proof::Proof;
+pub use reader::read;
 pub use side::Side;
 pub use tree::{Duals, Tree};
 pub use writing::write;

@@ -18,11 +18,11 @@ use std::marker::Model;
 /// costs less than the bound. Whether it does, for an instance, is for `check` to say.
 #[derive(Drop)]
 pub struct Proof {
-    root: Partial,
-    cost: i128,
-    bound: i128,
-    perm: Perm,
-    tree: Tree,
+    pub(crate) root: Partial,
+    pub(crate) cost: i128,
+    pub(crate) bound: i128,
+    pub(crate) perm: Perm,
+    pub(crate) tree: Tree,
 }
 
 impl Model for Proof {

@@ -1,13 +1,19 @@
-//! Reads what stands before the tree of a proof, and the last line.
+//! Reads proofs.
 
-ghost use Rattle.std.specs.Prelude.{◌≡◌, ◌⊎◌, codes, MatchResult};
+ghost use Rattle.std.specs.Prelude.{◌≡◌, ◌⊎◌, ◌++◌, codes, false, MatchResult};
 ghost use Rattle.qap_proof.specs.Head.{HasHead};
-ghost use Rattle.qap_proof.specs.TextFault.{IsTextFault, IsEndFault};
+ghost use Rattle.qap_proof.specs.Memory.{node_of};
+ghost use Rattle.qap_proof.specs.Shape.{HasShape};
+ghost use Rattle.qap_proof.specs.Text.{IsProofText, tree_text};
+ghost use Rattle.qap_proof.specs.TextFault.{IsTextFault, IsFaultFromTree, IsEndFault};
 
 use crate::bound::read_bound;
 use crate::error::ProofError;
 use crate::head::{read_cost, read_header, read_permutation, read_size};
+use crate::proof::Proof;
 use crate::root::read_root;
+use crate::tree::Tree;
+use crate::tree_reader::read_tree;
 use qap_cost::{Partial, Perm};
 use qap_lines::first_line;
 use std::alloc::Global;
@@ -21,6 +27,38 @@ pub(crate) struct Head<'a> {
     pub(crate) bound: i128,
     pub(crate) line: u64,
     pub(crate) rest: &'a [u8],
+}
+
+/// The proof that a text is.
+///
+/// A text has one line each for the version, the size, the cost and the permutation, a line for a root that isn't empty, one for a
+/// bound that is below the cost, a line for each node of the tree in preorder, and a last line. Each proof has one text. The
+/// first fault in order of lines is told.
+pub fn read(alloc: Global, text: &[u8]) -> Result<Proof, ProofError>
+    ensures { MatchResult result
+        (IsProofText text.now)
+        (λ e. (e ≡ ProofError.OutOfMemory) ⊎ IsTextFault text.now e) }
+{
+    let head = read_head(alloc, text)?;
+    let tree = read_to_end(alloc, &head)?;
+    Ok(Proof {
+        root: head.root,
+        cost: head.cost,
+        bound: head.bound,
+        perm: head.perm,
+        tree,
+    })
+}
+
+/// Reads the tree and the last line.
+fn read_to_end(alloc: Global, head: &Head<'_>) -> Result<Tree, ProofError>
+    ensures { MatchResult result
+        (λ t. HasShape head.now.root 0 false (node_of t) × (head.now.rest.now ≡ tree_text (node_of t) ++ codes "end\n"))
+        (λ e. (e ≡ ProofError.OutOfMemory) ⊎ IsFaultFromTree head.now.root head.now.line head.now.rest.now e) }
+{
+    let read = read_tree(alloc, head.rest, &head.root, 0, false, head.line)?;
+    read_end(read.rest, read.next)?;
+    Ok(read.tree)
 }
 
 /// Reads what stands before the tree.

@@ -1,10 +1,10 @@
-use Rattle.std.proofs.Common.{◌≡◌, ◌+◌, ◌*◌, ◌<◌, ◌≤◌, ℕ, List, length, get_or, drop, sym, ◌∙◌, ap, subst, inl, inr, ⊎_elim, arith}
+use Rattle.std.proofs.Common.{◌≡◌, ◌+◌, ◌*◌, ◌<◌, ◌≤◌, ℕ, List, length, sym, ◌∙◌, ap, subst, inl, inr, ⊎_elim, arith}
 use Rattle.std.specs.Prelude.{ℤ}
 use Rattle.qap_cost.specs.Placement.{Placement}
 use Rattle.qap_lines.specs.Line.{line_after}
 use Rattle.qap_proof.proofs.ChildValues.{others_count}
 use Rattle.qap_proof.proofs.Checks.{Checked-at, Valid-children}
-use Rattle.qap_proof.proofs.Shapes.{node_of-Split, child_count-nodes_of, node_count-le}
+use Rattle.qap_proof.proofs.Memory.{node_of-Split, child_count-nodes_of, node_count-le}
 use Rattle.qap_proof.proofs.Walks.{map_result}
 use Rattle.qap_proof.specs.Fault.{IsTreeFaultAmong}
 use Rattle.qap_proof.specs.Memory.{node_of, nodes_of}

@@ -1,6 +1,6 @@
-use Rattle.std.proofs.Common.{◌≡◌, length, sym, ◌∙◌, ap, subst}
+use Rattle.std.proofs.Common.{length, sym, ◌∙◌, ap, subst}
 use Rattle.std.specs.Prelude.{false}
-use Rattle.qap_proof.proofs.Shapes.{node_of-Split, child_count-nodes_of}
+use Rattle.qap_proof.proofs.Memory.{node_of-Split, child_count-nodes_of}
 use Rattle.qap_proof.specs.Memory.{nodes_of}
 use Rattle.qap_proof.specs.NodeLine.{split_of}
 use Rattle.qap_proof.specs.Shape.{HasShape}

@@ -9,7 +9,8 @@ use Rattle.qap_proof.specs.Shape.{AllHaveShape}
 use Rattle.qap_proof.specs.Tree.{child_count, nodes_count}
 use Rattle.qap_proof.specs.declared.error.ProofError.TheVariants.{OutOfMemory}
 use Rattle.qap_proof.proofs.ChildValues.{others_count}
-use Rattle.qap_proof.proofs.Shapes.{node_of-Split, child_count-nodes_of, Judged-split, IsShapeFault-split}
+use Rattle.qap_proof.proofs.Memory.{node_of-Split, child_count-nodes_of}
+use Rattle.qap_proof.proofs.Shapes.{Judged-split, IsShapeFault-split}
 use Rattle.qap_proof.proofs.shape.+shape.Goals as goal
 
 pub judge_tree-returns-in_err-judge_split-in-Split : goal.judge_tree-returns-in_err-judge_split-in-Split
