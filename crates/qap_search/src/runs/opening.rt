@@ -47,7 +47,7 @@ pub fn opening_from(
 }
 
 /// The permutation of the instance that sends each facility to the location of its own number.
-pub(crate) fn identity(alloc: Global, instance: &Instance) -> Result<Perm, AllocError>
+pub fn identity(alloc: Global, instance: &Instance) -> Result<Perm, AllocError>
     ensures value { IfOk result (λ p. p ≡ range_with_len 0 instance.now.size) }
     ensures permutes { IfOk result (Permutes instance.now) }
 {
