@@ -1,0 +1,68 @@
+//! Verifies proofs of least costs, and of bounds, of the quadratic assignment problem.
+#![tactic(auto)]
+
+mod answering;
+mod command_line;
+mod refusal;
+mod verifying;
+
+use answering::{answered, refused};
+use clap::Error;
+use clap::error::ErrorKind;
+use command_line::{Files, parse};
+use qap_io::Counted;
+use refusal::RunError;
+use std::env;
+use std::fs::{self, File};
+use std::process::ExitCode;
+
+#[cfg(test)]
+mod tests;
+
+fn main(rt: HostRuntime) -> ExitCode {
+    let Ok(words) = env::args(&rt).and_then(|words| words.collect(rt.alloc())) else {
+        return refuse(&rt, RunError::OutOfMemory);
+    };
+    match parse(rt.alloc(), &words) {
+        Ok(files) => run(&rt, files),
+        Err(error) => tell(&rt, &error),
+    }
+}
+
+/// Prints the help or the version where it was asked for, and else what is wrong with the command line.
+fn tell(rt: &HostRuntime, error: &Error) -> ExitCode {
+    if error.kind() == ErrorKind::OutOfMemory {
+        return refuse(rt, RunError::OutOfMemory);
+    }
+    let _ = error.print(rt);
+    ExitCode::from(error.exit_code() as u8)
+}
+
+/// Tells a refusal on standard error.
+fn refuse(rt: &HostRuntime, error: RunError) -> ExitCode {
+    ExitCode::from(refused(error, &mut Counted::new(rt.stderr())))
+}
+
+/// Verifies the proof. Both files are opened before either is read.
+fn run(rt: &HostRuntime, files: Files<'_>) -> ExitCode {
+    match open_both(rt, files) {
+        Ok((instance, proof)) => ExitCode::from(answered(
+            rt.alloc(),
+            &mut Counted::new(instance),
+            &mut Counted::new(proof),
+            &mut Counted::new(rt.stdout()),
+            &mut Counted::new(rt.stderr()),
+        )),
+        Err(error) => refuse(rt, error),
+    }
+}
+
+/// Both files, opened for reading.
+fn open_both(rt: &HostRuntime, files: Files<'_>) -> Result<(File, File), RunError> {
+    Ok((open(rt, files.instance)?, open(rt, files.proof)?))
+}
+
+/// A named file, opened for reading.
+fn open(rt: &HostRuntime, name: &str) -> Result<File, RunError> {
+    fs::open(rt, name).map_err(|_| RunError::Device)
+}
