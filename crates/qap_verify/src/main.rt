@@ -10,23 +10,40 @@ use answering::{answered, refused};
 use clap::Error;
 use clap::error::ErrorKind;
 use command_line::{Files, parse};
-use qap_io::Counted;
+use qap_io::{Counted, Status};
 use refusal::RunError;
 use std::env;
 use std::fs::{self, File};
+use std::io;
 use std::process::ExitCode;
+use std::rt::Env;
 
 #[cfg(test)]
 mod tests;
 
 fn main(rt: HostRuntime) -> ExitCode {
-    let Ok(words) = env::args(&rt).and_then(|words| words.collect(rt.alloc())) else {
-        return refuse(&rt, RunError::OutOfMemory);
+    let words = match arguments(&rt) {
+        Ok(words) => words,
+        Err(error) => return tell_unread(&rt, &error),
     };
     match parse(rt.alloc(), &words) {
         Ok(files) => run(&rt, files),
         Err(error) => tell(&rt, &error),
     }
+}
+
+/// The words of the program's own command line.
+fn arguments(rt: &(impl Env + AllocGlobal)) -> io::Result<Vec<String>> {
+    Ok(env::args(rt)?.collect(rt.alloc())?)
+}
+
+/// Tells why the command line couldn't be read.
+fn tell_unread(rt: &HostRuntime, error: &io::Error) -> ExitCode {
+    if error.kind() == io::ErrorKind::OutOfMemory {
+        return refuse(rt, RunError::OutOfMemory);
+    }
+    let _ = rt.eprintln("error: an argument is no text in UTF-8");
+    ExitCode::from(Status::Usage.code())
 }
 
 /// Prints the help or the version where it was asked for, and else what is wrong with the command line.
