@@ -1,0 +1,45 @@
+-- What a run comes to: the line of what the proof shows, or why it shows nothing.
+use Rattle.std.specs.Prelude.{◌≡◌, ℕ, ◌⊎◌, List, ◌++◌, Option, codes}
+use Rattle.std.specs.Fmt.{signed_decimal}
+use Rattle.qap_cost.specs.Instance.{Problem}
+use Rattle.qap_io.specs.Counting.{CountedDevice}
+use Rattle.qap_io.specs.Refusal.{refusal_line}
+use Rattle.qap_io.specs.Writing.{BreaksOff, Sends}
+use Rattle.qap_proof.specs.Acceptance.{ShowsVerdict, IsSo}
+use Rattle.qap_proof.specs.declared.acceptance.Verdict.{Verdict}
+use Rattle.qap_proof.specs.declared.acceptance.Verdict.TheVariants.{Optimal, Gap, Part}
+use Rattle.qap_verify.specs.Refusal.{HasNoTexts, IsNoProof, refusal_of, status_of}
+use Rattle.qap_verify.specs.Texts.{ComeTo, Inputs}
+use Rattle.qap_verify.specs.declared.refusal.RunError.{RunError}
+use Rattle.qap_verify.specs.declared.refusal.RunError.TheVariants.{Device}
+
+-- the text shows what the verdict says, and it is so
+abbrev pub Proves : Problem → List ℕ → Verdict → Type 0
+Proves I text v = ShowsVerdict I text v × IsSo I text v
+
+-- the line of a least cost, of a bound and the cost above it, or of the bound of a part
+abbrev pub answer_line : Verdict → List ℕ
+answer_line (Optimal c) = codes "optimal " ++ signed_decimal c ++ codes "\n"
+answer_line (Gap g c) = codes "gap " ++ signed_decimal g ++ codes " " ++ signed_decimal c ++ codes "\n"
+answer_line (Part g) = codes "part " ++ signed_decimal g ++ codes "\n"
+
+-- the line of what the proof shows has gone out
+abbrev pub HasAnswered : {R S W : Type 0} → Inputs R S → (W → Option (List ℕ)) → CountedDevice W → CountedDevice W → Type 0
+HasAnswered i contents old new = (v : Verdict) × ComeTo i Proves v × Sends contents old new (answer_line v)
+
+-- there is nothing that it shows, and nothing has gone out; or the writer failed, and a beginning of the line has
+abbrev pub HasNotAnswered : {R S W : Type 0} → Inputs R S → (W → Option (List ℕ)) → CountedDevice W → CountedDevice W → RunError → Type 0
+HasNotAnswered i contents old new e =
+    ((HasNoTexts i e ⊎ ComeTo i IsNoProof e) × (new ≡ old))
+    ⊎ ((e ≡ Device) × (v : Verdict) × ComeTo i Proves v × BreaksOff contents old new (answer_line v))
+
+-- the line of a refusal has gone out, or the writer failed and a beginning of it has
+abbrev pub HasTold : {E : Type 0} → (E → Option (List ℕ)) → CountedDevice E → CountedDevice E → RunError → Type 0
+HasTold contents old new e = Sends contents old new (refusal_line (refusal_of e)) ⊎ BreaksOff contents old new (refusal_line (refusal_of e))
+
+-- the run ended with this exit status: 0 where it answered, with nothing told of a refusal; or that of why it did not, which was told
+abbrev pub HasRun : {R S W E : Type 0} → Inputs R S → (W → Option (List ℕ)) → CountedDevice W → CountedDevice W
+    → (E → Option (List ℕ)) → CountedDevice E → CountedDevice E → ℕ → Type 0
+HasRun i contents old new told errors errors_after exit =
+    (HasAnswered i contents old new × (exit ≡ 0) × (errors_after ≡ errors))
+    ⊎ ((e : RunError) × HasNotAnswered i contents old new e × (exit ≡ status_of e) × HasTold told errors errors_after e)

@@ -1,0 +1,3 @@
+pub mod Answering
+pub mod Refusal
+pub mod Texts

@@ -1,0 +1,69 @@
+-- Why a run answers no verdict, and how that is told.
+use Rattle.std.specs.Prelude.{◌≡◌, ℕ, ◌⊎◌, List}
+use Rattle.qap_cost.specs.Instance.{Problem}
+use Rattle.qap_io.specs.Refusal.{RefusalText, memory_refusal, device_refusal}
+use Rattle.qap_proof.specs.Acceptance.{IsRefused}
+use Rattle.qap_proof.specs.Refusal.{proof_refusal}
+use Rattle.qap_proof.specs.declared.error.ProofError.{ProofError}
+use Rattle.qap_proof.specs.declared.error.ProofError.TheVariants.{OutOfMemory as ProofMemory, Device as ProofDevice}
+use Rattle.qap_text.specs.Input.{HasInstance, HasNoInstance, max_input}
+use Rattle.qap_text.specs.Refusal.{text_refusal}
+use Rattle.qap_text.specs.Whole.{IsReadFault}
+use Rattle.qap_text.specs.declared.error.TextError.{TextError}
+use Rattle.qap_text.specs.declared.error.TextError.TheVariants.{OutOfMemory as TextMemory, Device as TextDevice}
+use Rattle.qap_verify.specs.Texts.{Inputs, IsUnread, ProofWaits, KeepsCounts}
+use Rattle.qap_verify.specs.declared.refusal.RunError.{RunError}
+use Rattle.qap_verify.specs.declared.refusal.RunError.TheVariants.{Text, Proof, OutOfMemory, Device}
+
+-- what a fault of a text, or of a proof, is for the run: want of memory and a failed device are the run's own
+abbrev pub of_text : TextError → RunError
+of_text TextMemory = OutOfMemory
+of_text TextDevice = Device
+of_text e = Text e
+
+abbrev pub of_proof : ProofError → RunError
+of_proof ProofMemory = OutOfMemory
+of_proof ProofDevice = Device
+of_proof e = Proof e
+
+-- the first input begins with no instance, and the proof was not read
+pub record NoInstance {R S : Type 0} (i : Inputs R S) (e : RunError) : Type 0 where
+  pub fault : TextError
+  pub is : e ≡ of_text fault
+  pub of_input : HasNoInstance i.first fault
+  pub unread : IsUnread i
+
+-- an instance was read, and then the bytes of the proof can't be read within the limit
+pub record ProofUnread {R S : Type 0} (i : Inputs R S) (e : RunError) : Type 0 where
+  pub fault : TextError
+  pub is : e ≡ of_text fault
+  pub problem : Problem
+  pub rest : List ℕ
+  pub instance_read : HasInstance i.first problem rest
+  pub read : IsReadFault i.second.bytes max_input i.second.before i.second.after fault
+
+-- memory ran out, and no call of a reader failed
+pub record WantsMemory {R S : Type 0} (i : Inputs R S) (e : RunError) : Type 0 where
+  pub is : e ≡ OutOfMemory
+  pub kept : KeepsCounts i
+  pub waits : ProofWaits i
+
+-- why there is no instance with the text of a proof
+abbrev pub HasNoTexts : {R S : Type 0} → Inputs R S → RunError → Type 0
+HasNoTexts i e = NoInstance i e ⊎ (ProofUnread i e ⊎ WantsMemory i e)
+
+-- the text has this first fault as one of a proof that proves its bound
+abbrev pub IsNoProof : Problem → List ℕ → RunError → Type 0
+IsNoProof I text e = (fault : ProofError) × (e ≡ of_proof fault) × IsRefused I text fault
+
+-- the refusal that a run is told as
+abbrev pub refusal_of : RunError → RefusalText
+refusal_of (Text e) = text_refusal e
+refusal_of (Proof e) = proof_refusal e
+refusal_of OutOfMemory = memory_refusal
+refusal_of Device = device_refusal
+
+-- the exit status of a refusal: 3 for want of memory, else 1
+abbrev pub status_of : RunError → ℕ
+status_of OutOfMemory = 3
+status_of _ = 1

@@ -1,0 +1,41 @@
+-- The two texts of a run: an instance's and a proof's, each from a reader of its own.
+use Rattle.std.specs.Prelude.{◌≡◌, ℕ, ◌⊎◌, List, Option}
+use Rattle.qap_cost.specs.Instance.{Problem}
+use Rattle.qap_io.specs.Counting.{CountedDevice}
+use Rattle.qap_text.specs.Input.{HasInstance, HasText, Input, input_of}
+
+-- the input that begins with the instance, and that of the proof
+pub record Inputs (R S : Type 0) : Type 0 where
+  pub first : Input R
+  pub second : Input S
+
+abbrev pub inputs_of : {R S : Type 0} → (R → Option (List ℕ)) → CountedDevice R → CountedDevice R
+    → (S → Option (List ℕ)) → CountedDevice S → CountedDevice S → Inputs R S
+inputs_of bytes before after second_bytes second second_after =
+    record { first = input_of bytes before after; second = input_of second_bytes second second_after }
+
+-- the instance that the one begins with, and all of the other
+pub record HasTexts {R S : Type 0} (i : Inputs R S) (I : Problem) (proof : List ℕ) : Type 0 where
+  pub rest : List ℕ
+  pub instance_read : HasInstance i.first I rest
+  pub proof_read : HasText i.second proof
+
+-- what the instance and the text of the proof come to
+pub record ComeTo {R S A : Type 0} (i : Inputs R S) (P : Problem → List ℕ → A → Type 0) (answer : A) : Type 0 where
+  pub problem : Problem
+  pub text : List ℕ
+  pub texts : HasTexts i problem text
+  pub holds : P problem text answer
+
+-- the reader of the proof is as it was
+abbrev pub IsUnread : {R S : Type 0} → Inputs R S → Type 0
+IsUnread i = i.second.after ≡ i.second.before
+
+-- it is, unless an instance had been read before
+abbrev pub ProofWaits : {R S : Type 0} → Inputs R S → Type 0
+ProofWaits i = IsUnread i ⊎ ((I : Problem) × (rest : List ℕ) × HasInstance i.first I rest)
+
+-- no call of a reader failed
+pub record KeepsCounts {R S : Type 0} (i : Inputs R S) : Type 0 where
+  pub first_kept : i.first.after.failures ≡ i.first.before.failures
+  pub second_kept : i.second.after.failures ≡ i.second.before.failures

@@ -1,0 +1,38 @@
+//! What the command line asks for.
+
+use clap::error::ErrorKind;
+use clap::{Arg, Command, Error};
+use std::alloc::Global;
+
+/// What the program is told to be in its help.
+const ABOUT: &str =
+    "Verifies a proof of a least cost, or of a bound, of the quadratic assignment problem";
+
+/// The names of an instance's file and of a proof's.
+#[derive(Clone, Copy, Debug, PartialEq, Eq)]
+pub struct Files<'a> {
+    pub instance: &'a str,
+    pub proof: &'a str,
+}
+
+/// The files that a command line names, the program's name being the first of its words. That help or the version is asked for is an
+/// error that prints it.
+pub fn parse<'a>(alloc: Global, words: &'a [String]) -> Result<Files<'a>, Error> {
+    let instance = Arg::new(alloc, "INSTANCE")
+        .required(true)
+        .help("an instance in the QAPLIB format");
+    let proof = Arg::new(alloc, "PROOF")
+        .required(true)
+        .help("a proof in the format qapproof 1");
+    let mut command = Command::new(alloc, "qapverify")
+        .bin_name("qapverify")?
+        .about(ABOUT)
+        .version("0.2.0")
+        .arg(instance)?
+        .arg(proof)?;
+    let found = command.try_get_matches_from_mut(words)?;
+    match (found.get_str("INSTANCE"), found.get_str("PROOF")) {
+        (Some(instance), Some(proof)) => Ok(Files { instance, proof }),
+        _ => Err(command.error(ErrorKind::MissingRequiredArgument, "two files are wanted")?),
+    }
+}

@@ -1,0 +1,85 @@
+//! Verifies proofs of least costs, and of bounds, of the quadratic assignment problem.
+#![tactic(auto)]
+
+mod answering;
+mod command_line;
+mod refusal;
+mod verifying;
+
+use answering::{answered, refused};
+use clap::Error;
+use clap::error::ErrorKind;
+use command_line::{Files, parse};
+use qap_io::{Counted, Status};
+use refusal::RunError;
+use std::env;
+use std::fs::{self, File};
+use std::io;
+use std::process::ExitCode;
+use std::rt::Env;
+
+#[cfg(test)]
+mod tests;
+
+fn main(rt: HostRuntime) -> ExitCode {
+    let words = match arguments(&rt) {
+        Ok(words) => words,
+        Err(error) => return tell_unread(&rt, &error),
+    };
+    match parse(rt.alloc(), &words) {
+        Ok(files) => run(&rt, files),
+        Err(error) => tell(&rt, &error),
+    }
+}
+
+/// The words of the program's own command line.
+fn arguments(rt: &(impl Env + AllocGlobal)) -> io::Result<Vec<String>> {
+    Ok(env::args(rt)?.collect(rt.alloc())?)
+}
+
+/// Tells why the command line couldn't be read.
+fn tell_unread(rt: &HostRuntime, error: &io::Error) -> ExitCode {
+    if error.kind() == io::ErrorKind::OutOfMemory {
+        return refuse(rt, RunError::OutOfMemory);
+    }
+    let _ = rt.eprintln("error: an argument is no text in UTF-8");
+    ExitCode::from(Status::Usage.code())
+}
+
+/// Prints the help or the version where it was asked for, and else what is wrong with the command line.
+fn tell(rt: &HostRuntime, error: &Error) -> ExitCode {
+    if error.kind() == ErrorKind::OutOfMemory {
+        return refuse(rt, RunError::OutOfMemory);
+    }
+    let _ = error.print(rt);
+    ExitCode::from(error.exit_code() as u8)
+}
+
+/// Tells a refusal on standard error.
+fn refuse(rt: &HostRuntime, error: RunError) -> ExitCode {
+    ExitCode::from(refused(error, &mut Counted::new(rt.stderr())))
+}
+
+/// Verifies the proof. Both files are opened before either is read.
+fn run(rt: &HostRuntime, files: Files<'_>) -> ExitCode {
+    match open_both(rt, files) {
+        Ok((instance, proof)) => ExitCode::from(answered(
+            rt.alloc(),
+            &mut Counted::new(instance),
+            &mut Counted::new(proof),
+            &mut Counted::new(rt.stdout()),
+            &mut Counted::new(rt.stderr()),
+        )),
+        Err(error) => refuse(rt, error),
+    }
+}
+
+/// Both files, opened for reading.
+fn open_both(rt: &HostRuntime, files: Files<'_>) -> Result<(File, File), RunError> {
+    Ok((open(rt, files.instance)?, open(rt, files.proof)?))
+}
+
+/// A named file, opened for reading.
+fn open(rt: &HostRuntime, name: &str) -> Result<File, RunError> {
+    fs::open(rt, name).map_err(|_| RunError::Device)
+}

@@ -1,0 +1,108 @@
+//! Why a run answers no verdict, and how that is told.
+
+ghost use Rattle.std.specs.Prelude.{◌≡◌, MatchResult};
+ghost use Rattle.qap_io.specs.Refusal.{refusal_line};
+ghost use Rattle.qap_io.specs.Writing.{Sends, BreaksOff};
+ghost use Rattle.qap_verify.specs.Refusal.{refusal_of, status_of};
+ghost use Rattle.qap_verify.specs.declared.refusal.RunError.TheVariants.{OutOfMemory as WantOfMemory, Device as FailedDevice};
+
+use qap_io::{Counted, Device, Refusal, Status};
+use qap_proof::ProofError;
+use qap_text::TextError;
+use std::alloc::AllocError;
+use std::io::Write;
+use thiserror::Error;
+
+/// Why a run answers no verdict.
+#[derive(Clone, Copy, Debug, PartialEq, Eq, Error)]
+pub enum RunError {
+    /// An input is too long, or a text in it is at fault.
+    #[error("{0}")]
+    Text(TextError),
+    /// The proof is at fault.
+    #[error("{0}")]
+    Proof(ProofError),
+    /// There is no memory left.
+    #[error("out of memory")]
+    OutOfMemory,
+    /// A reader or the writer failed.
+    #[error("a reader or the writer failed")]
+    Device,
+}
+
+impl From<TextError> for RunError {
+    ghost use Rattle.qap_verify.specs.Refusal.{of_text};
+
+    ghost from_gives = { λ e f. f ≡ of_text e };
+
+    fn from(error: TextError) -> RunError {
+        match error {
+            TextError::OutOfMemory => RunError::OutOfMemory,
+            TextError::Device => RunError::Device,
+            _ => RunError::Text(error),
+        }
+    }
+}
+
+impl From<ProofError> for RunError {
+    ghost use Rattle.qap_verify.specs.Refusal.{of_proof};
+
+    ghost from_gives = { λ e f. f ≡ of_proof e };
+
+    fn from(error: ProofError) -> RunError {
+        match error {
+            ProofError::OutOfMemory => RunError::OutOfMemory,
+            ProofError::Device => RunError::Device,
+            _ => RunError::Proof(error),
+        }
+    }
+}
+
+impl From<AllocError> for RunError {
+    ghost from_gives = { λ _ f. f ≡ WantOfMemory };
+
+    fn from(_error: AllocError) -> RunError {
+        RunError::OutOfMemory
+    }
+}
+
+impl From<Device> for RunError {
+    ghost from_gives = { λ _ f. f ≡ FailedDevice };
+
+    fn from(_error: Device) -> RunError {
+        RunError::Device
+    }
+}
+
+/// The exit status of a refusal: 3 for want of memory, else 1.
+pub fn status(error: &RunError) -> u8
+    ensures { result ≡ status_of error.now }
+{
+    let status = match error {
+        RunError::OutOfMemory => Status::OutOfMemory,
+        _ => Status::Refused,
+    };
+    status.code()
+}
+
+/// Writes the line that tells a refusal: `refused`, its number and name, and `at` with its place or its line where it
+/// carries one; and flushes the writer. Where that fails, a beginning of the line has gone out.
+pub fn fault_line<W: Write>(error: &RunError, writer: &mut Counted<W>) -> Result<(), Device>
+    ensures { MatchResult result
+        (λ _. Sends W.contents writer.old writer.new (refusal_line (refusal_of error.now)))
+        (λ _. BreaksOff W.contents writer.old writer.new (refusal_line (refusal_of error.now))) }
+{
+    refusal(*error).send(writer)
+}
+
+/// The refusal that a run is told as.
+fn refusal(error: RunError) -> Refusal
+    ensures { result ≡ refusal_of error }
+{
+    match error {
+        RunError::Text(fault) => fault.refusal(),
+        RunError::Proof(fault) => fault.refusal(),
+        RunError::OutOfMemory => Refusal::out_of_memory(),
+        RunError::Device => Refusal::device(),
+    }
+}

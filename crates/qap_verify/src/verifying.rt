@@ -1,0 +1,87 @@
+//! A proof verified, from bytes to bytes.
+
+ghost use Rattle.std.specs.Prelude.{◌≡◌, ◌⊎◌, IfOk, MatchResult, string_bytes};
+ghost use Rattle.qap_proof.specs.Acceptance.{IsLimitedVerdict};
+ghost use Rattle.qap_verify.specs.Answering.{HasAnswered, HasNotAnswered, Proves, answer_line};
+ghost use Rattle.qap_verify.specs.Refusal.{HasNoTexts, IsNoProof};
+ghost use Rattle.qap_verify.specs.Texts.{ComeTo, HasTexts, inputs_of};
+
+use crate::refusal::RunError;
+use qap_cost::Instance;
+use qap_io::{Counted, send};
+use qap_proof::{Verdict, accept};
+use qap_text::{MAX_INPUT, read_all, read_instance};
+use std::alloc::{AllocError, Global};
+use std::io::{Read, Write};
+
+/// An instance, and the text of a proof.
+#[derive(Drop)]
+struct Texts {
+    instance: Instance,
+    proof: Vec<u8>,
+}
+
+/// Reads an instance and a proof, and writes one line with what the proof shows: the least cost, a bound and the cost above it, or a
+/// bound on what the permutations cost that complete the proof's root.
+///
+/// The first reader begins with the instance, and what follows it is passed over; the proof is all that the second one has. The
+/// instance is judged before the proof is read. Where either is refused, nothing is written; where the writer fails, a beginning of
+/// the right line has gone out.
+pub fn verify_stream<R: Read, S: Read, W: Write>(
+    alloc: Global,
+    instance: &mut Counted<R>,
+    proof: &mut Counted<S>,
+    writer: &mut Counted<W>,
+) -> Result<(), RunError>
+    ensures { let i = inputs_of R.remaining instance.old instance.new S.remaining proof.old proof.new in MatchResult result
+        (λ _. HasAnswered i W.contents writer.old writer.new)
+        (HasNotAnswered i W.contents writer.old writer.new) }
+{
+    let verdict = shown(alloc, instance, proof)?;
+    let line = line(alloc, verdict)?;
+    send(writer, line.as_bytes())?;
+    Ok(())
+}
+
+/// What a proof shows of an instance.
+fn shown<R: Read, S: Read>(
+    alloc: Global,
+    instance: &mut Counted<R>,
+    proof: &mut Counted<S>,
+) -> Result<Verdict, RunError>
+    ensures bounded { IfOk result IsLimitedVerdict }
+    ensures verdict { let i = inputs_of R.remaining instance.old instance.new S.remaining proof.old proof.new in MatchResult result
+        (ComeTo i Proves)
+        (λ e. HasNoTexts i e ⊎ ComeTo i IsNoProof e) }
+{
+    let texts = read_texts(alloc, instance, proof)?;
+    Ok(accept(alloc, &texts.instance, texts.proof.as_slice())?)
+}
+
+/// Reads an instance, and then all of a proof's text.
+fn read_texts<R: Read, S: Read>(
+    alloc: Global,
+    instance: &mut Counted<R>,
+    proof: &mut Counted<S>,
+) -> Result<Texts, RunError>
+    ensures { let i = inputs_of R.remaining instance.old instance.new S.remaining proof.old proof.new in MatchResult result
+        (λ t. HasTexts i t.instance t.proof.items)
+        (HasNoTexts i) }
+{
+    let text = read_all(alloc, instance, MAX_INPUT)?;
+    let (instance, _) = read_instance(alloc, &text)?;
+    let proof = read_all(alloc, proof, MAX_INPUT)?;
+    Ok(Texts { instance, proof })
+}
+
+/// The line of a verdict.
+fn line(alloc: Global, verdict: Verdict) -> Result<String, AllocError>
+    requires { IsLimitedVerdict verdict }
+    ensures { IfOk result (λ text. string_bytes text ≡ answer_line verdict) }
+{
+    match verdict {
+        Verdict::Optimal(cost) => format!(in alloc; "optimal {cost}\n"),
+        Verdict::Gap(bound, cost) => format!(in alloc; "gap {bound} {cost}\n"),
+        Verdict::Part(bound) => format!(in alloc; "part {bound}\n"),
+    }
+}
