@@ -4,4 +4,6 @@
 #[cfg(test)]
 mod fault_tests;
 #[cfg(test)]
+mod memory_tests;
+#[cfg(test)]
 mod tests;

@@ -1,5 +1,6 @@
 //! Proofs that are accepted, worked by hand: each form of line, and each verdict.
 
+use crate::memory_tests::checked;
 use qap_cost::Instance;
 use qap_proof::{ProofError, Verdict, accept};
 use std::alloc::{AllocError, Global};
@@ -49,7 +50,15 @@ fn judged(alloc: Global, instance: &Instance, text: &[u8]) -> Result<Verdict, Pr
     accept(alloc, instance, text)
 }
 
-/// Asserts what `accept` says of a text in two parts.
+/// Whether it is accepted, and the fault if not.
+fn without_verdict(answer: Result<Verdict, ProofError>) -> Result<(), ProofError> {
+    match answer {
+        Ok(_) => Ok(()),
+        Err(error) => Err(error),
+    }
+}
+
+/// Asserts what `accept` says of a text in two parts, and that the proof in memory is judged alike.
 pub(crate) fn assert_judged(
     rt: &impl Abort,
     alloc: Global,
@@ -60,6 +69,11 @@ pub(crate) fn assert_judged(
 ) -> Result<(), Fail> {
     let text = joined(alloc, head, tail)?;
     assert_eq!(rt; judged(alloc, instance, &text), want, "{tail:?}");
+    assert_eq!(rt;
+        checked(alloc, instance, &text),
+        without_verdict(want),
+        "{tail:?}"
+    );
     Ok(())
 }
 
