@@ -4,6 +4,6 @@
 #[cfg(test)]
 mod fault_tests;
 #[cfg(test)]
-mod memory_tests;
+mod proof_tests;
 #[cfg(test)]
 mod tests;

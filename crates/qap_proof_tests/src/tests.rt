@@ -1,6 +1,6 @@
 //! Proofs that are accepted, worked by hand: each form of line, and each verdict.
 
-use crate::memory_tests::checked;
+use crate::proof_tests::checked;
 use qap_cost::Instance;
 use qap_proof::{ProofError, Verdict, accept};
 use std::alloc::{AllocError, Global};
@@ -46,7 +46,11 @@ fn joined(alloc: Global, head: &[u8], tail: &[u8]) -> Result<Vec<u8>, AllocError
 }
 
 /// What `accept` says of a text.
-fn judged(alloc: Global, instance: &Instance, text: &[u8]) -> Result<Verdict, ProofError> {
+pub(crate) fn judged(
+    alloc: Global,
+    instance: &Instance,
+    text: &[u8],
+) -> Result<Verdict, ProofError> {
     accept(alloc, instance, text)
 }
 

@@ -82,7 +82,7 @@ fn round_trips_and_writes_fail(rt: HostRuntime) -> Result<(), Fail> {
     Ok(())
 }
 
-fn duals(alloc: Global, u: &[i128], v: &[i128]) -> Result<Duals, AllocError> {
+pub(crate) fn duals(alloc: Global, u: &[i128], v: &[i128]) -> Result<Duals, AllocError> {
     Ok(Duals {
         u: Vec::from_slice(alloc, u)?,
         v: Vec::from_slice(alloc, v)?,
@@ -96,7 +96,7 @@ fn closed(alloc: Global, u: &[i128], v: &[i128]) -> Result<Tree, AllocError> {
 }
 
 /// The permutation that puts the facilities at these locations.
-fn permutation(alloc: Global, locations: &[u16]) -> Result<Perm, ProofError> {
+pub(crate) fn permutation(alloc: Global, locations: &[u16]) -> Result<Perm, ProofError> {
     match Perm::new(Vec::from_slice(alloc, locations)?) {
         Ok(permutation) => Ok(permutation),
         Err(_) => Err(ProofError::PermBad(4)),
@@ -104,7 +104,7 @@ fn permutation(alloc: Global, locations: &[u16]) -> Result<Perm, ProofError> {
 }
 
 /// A split of the empty root of size 2 on facility 0, whose first child is closed, and whose second one is this.
-fn pair(alloc: Global, duals: Option<Duals>, second: Tree) -> Result<Tree, AllocError> {
+pub(crate) fn pair(alloc: Global, duals: Option<Duals>, second: Tree) -> Result<Tree, AllocError> {
     let first = closed(alloc, &[11], &[0])?;
     Ok(Tree::Split {
         split: SplitLine {
