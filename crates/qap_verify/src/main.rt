@@ -12,11 +12,10 @@ use clap::error::ErrorKind;
 use command_line::{Files, parse};
 use qap_io::{Counted, Status};
 use refusal::RunError;
-use std::env;
 use std::fs::{self, File};
-use std::io;
 use std::process::ExitCode;
 use std::rt::Env;
+use std::{env, io};
 
 #[cfg(test)]
 mod tests;
