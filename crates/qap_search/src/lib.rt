@@ -22,6 +22,7 @@ pub use node::thought::Thought;
 pub use runs::alone::solve_alone;
 pub use runs::answer::{Answer, Bounded, Least, SolveError};
 pub use runs::clock::Clock;
+pub use runs::observer::{Nobody, Observer, Progress};
 pub use runs::opening::{identity, opening_from, opening_space};
 pub use runs::plan::Plan;
 pub use runs::run::Run;

@@ -4,6 +4,7 @@ pub(crate) mod alone;
 pub(crate) mod answer;
 pub(crate) mod bound;
 pub(crate) mod clock;
+pub(crate) mod observer;
 pub(crate) mod opening;
 pub(crate) mod outcome;
 pub(crate) mod plan;

@@ -1,15 +1,18 @@
-//! Bounded answers over roots at each depth, against all completions of the root; and a search that is stopped.
+//! Bounded answers over roots at each depth, against all completions of the root; a search that is stopped; and one that is watched.
 
 ghost use Rattle.std.specs.Prelude.{◌≡◌, IfOk, IfSome};
 ghost use Rattle.qap_cost.specs.Objective.{Permutes};
 
 use crate::worker_tests::{LEASE_MS, Stopped};
 use qap_cost::{Instance, Partial, Perm, cost};
-use qap_search::{Always, Branching, Gate, Kind, Never, Plan, Stop, read_node, solve_least_from};
+use qap_search::{
+    Always, Branching, Gate, Kind, Never, Nobody, Observer, Plan, Progress, Stop, read_node,
+    solve_least_from,
+};
 use std::alloc::{AllocError, Global};
 use std::process::Abort;
 use std::sync::Wait;
-use std::sync::atomic::{AtomicBool, Ordering};
+use std::sync::atomic::{AtomicBool, AtomicU64, Ordering};
 use std::test::Fail;
 use std::thread::Threads;
 use std::time;
@@ -125,7 +128,7 @@ where
         start,
         branching: Branching::GreatestMatched,
     };
-    let answer = solve_least_from(rt, alloc, instance, &plan, &Stopped, gate, stop)?;
+    let answer = solve_least_from(rt, alloc, instance, &plan, &Stopped, gate, stop, &Nobody)?;
     Ok((answer.cost, answer.bound, answer.open_nodes))
 }
 
@@ -274,5 +277,75 @@ fn stops_while_a_lease_lasts(rt: HostRuntime) -> Result<(), Fail> {
     let least = least_below(alloc, &instance, 0)?;
     assert_eq!(rt; (found, open_nodes), (cost_in_order(alloc, &instance)?, 1));
     assert!(rt; bound <= least);
+    Ok(())
+}
+
+/// Holds each worker up until the search has been looked at, and keeps how often it was, and whether the first look showed this.
+#[derive(Drop)]
+struct AfterALook<'a, R> {
+    rt: &'a R,
+    first: Progress,
+    looks: AtomicU64,
+    as_expected: AtomicBool,
+}
+
+impl<R: Wait> Gate for AfterALook<'_, R> {
+    fn pass(&self, _worker: u16, _kind: Kind) -> bool {
+        for _ in self.rt.forever() {
+            if self.looks.load(Ordering::SeqCst) > 0 {
+                return true;
+            }
+        }
+        unreachable!()
+    }
+
+    fn after(&self, _worker: u16, _kind: Kind, _accepted: bool) {}
+
+    fn thinking(&self, _worker: u16) {}
+}
+
+impl<R> Observer for AfterALook<'_, R> {
+    fn is_watching(&self) -> bool {
+        true
+    }
+
+    fn see(&self, progress: &Progress) {
+        if *progress == self.first {
+            self.as_expected.store(true, Ordering::SeqCst);
+        }
+        self.looks.fetch_add(1, Ordering::SeqCst);
+    }
+}
+
+/// The clock stands, so that there is one look: before any step of a worker, of the open root alone.
+#[test]
+fn shows_the_open_root_once_while_the_clock_stands(rt: HostRuntime) -> Result<(), Fail> {
+    let alloc = rt.alloc();
+    let instance = signed(alloc)?;
+    let start = in_order(alloc, &instance)?;
+    let root = root_at(alloc, 1)?;
+    let plan = Plan {
+        workers: 2,
+        lease_ms: LEASE_MS,
+        limit: None,
+        root: &root,
+        start: &start,
+        branching: Branching::GreatestSum,
+    };
+    let watch = AfterALook {
+        rt: &rt,
+        first: Progress {
+            cost: Some(cost(&instance, &start)),
+            decided: 0,
+            open: 1,
+            children: 3,
+            children_done: 0,
+        },
+        looks: AtomicU64::new(0),
+        as_expected: AtomicBool::new(false),
+    };
+    solve_least_from(&rt, alloc, &instance, &plan, &Stopped, &watch, &Never, &watch)?;
+    assert!(rt; watch.as_expected.load(Ordering::SeqCst));
+    assert_eq!(rt; watch.looks.load(Ordering::SeqCst), 1);
     Ok(())
 }

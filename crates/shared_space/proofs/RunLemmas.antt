@@ -1,11 +1,11 @@
 -- Runs, one act more at their end, and the commits that they count.
-use Rattle.std.proofs.Common.{◌≡◌, ℕ, ◌+◌, ◌++◌, Option, true, List, [], ◌∷◌, All, Ok, Err, cond, count_by, arith, ap, ltb, refl, subst, ◌∙◌}
+use Rattle.std.proofs.Common.{◌≡◌, ℕ, ◌+◌, ◌++◌, Option, List, [], ◌∷◌, Ok, Err, cond, count_by, arith, ap, ltb, refl, subst, ◌∙◌}
 use Rattle.std.proofs.lemmas.Bool.{cond_both}
 use Rattle.std.proofs.lemmas.List.Elements.{All-append, All-cons, All-nil}
 use Rattle.std.proofs.lemmas.List.Sums.{sum_by-cons}
 use Rattle.tuple_space.specs.Step as space
 use Rattle.space_txn.proofs.ContentLemmas.{advance_step_keeps, begin_keeps, step_keeps}
-use Rattle.space_txn.specs.Machine.{Answer, Call, Step, abort, commit, done, found, inp_in, nothing, rdp_in, refused, renew_txn}
+use Rattle.space_txn.specs.Machine.{Step, abort, commit, done, found, inp_in, nothing, rdp_in, refused, renew_txn}
 use Rattle.space_txn.specs.World.{World}
 use Rattle.shared_space.specs.Event.{Event, Reply, advance, answered, ask, begin, begun, call, close, limited, moved, told}
 use Rattle.shared_space.specs.Law.{Content}

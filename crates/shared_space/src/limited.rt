@@ -1,6 +1,6 @@
 //! A space of one thread with the limit of its law.
 
-ghost use Rattle.std.specs.Prelude.{◌≡◌, ◌<◌, ◌||◌, IfErr, IfOk, IfSome, Option, Some, false, true, replicate, sum, vec_len};
+ghost use Rattle.std.specs.Prelude.{◌≡◌, ◌<◌, ◌||◌, IfErr, IfOk, IfSome, Option, Some, count_by, false, true, replicate, sum, vec_len};
 ghost use Rattle.tuple_match.specs.PatternValue.{Matches};
 ghost use Rattle.space_txn.specs.Content.{content_of};
 ghost use Rattle.shared_space.specs.Law.{IsFree};
@@ -8,6 +8,7 @@ ghost use Rattle.shared_space.specs.Limit.{DidWithin, IsWithin, is_reached};
 ghost use Rattle.shared_space.specs.Place.{one_left, place_of};
 ghost use Rattle.shared_space.specs.Refusals.{IsOutError};
 ghost use Rattle.shared_space.specs.Run.{Acts, IsReached, outside};
+ghost use Rattle.tuple_space.specs.Index.{class_of, has_class};
 ghost use Rattle.tuple_space.specs.Step.{inp, inp_reply, out, out_reply, rdp, rdp_reply};
 
 use crate::alone::Alone;
@@ -118,6 +119,22 @@ impl<L: Law> Limited<L> {
         ensures kind { IfErr result (λ error. error ≡ SpaceError.OutOfMemory) }
     {
         self.alone.rdp(template)
+    }
+
+    /// How many commits were accepted.
+    pub fn commits(&self) -> u64
+        ensures { result ≡ self.now.world.commits }
+    {
+        self.alone.space().commits()
+    }
+
+    /// How many entries the space has whose tuples begin with this word, have so many fields, and have a list of so many numbers as
+    /// their second; with 0 numbers, those are counted too whose second field is no list. It includes held ones, takes no memory,
+    /// and takes as long whatever the space has.
+    pub fn count_of_class(&self, word: &str, fields: usize, numbers: usize) -> usize
+        ensures { result ≡ count_by (λ e. has_class (class_of word.now fields numbers) e.tuple) self.now.world.space.entries }
+    {
+        self.alone.space().count_of_class(word, fields, numbers)
     }
 
     /// One worker more has left. Takes no memory.

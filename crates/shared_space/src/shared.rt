@@ -16,6 +16,7 @@ use crate::error::{CommitError, SharedError};
 use crate::law::Law;
 use crate::limited::Limited;
 use crate::locking::locked;
+use crate::look::Look;
 use crate::room::Room;
 use crate::share::Share;
 use crate::steps::Steps;
@@ -297,6 +298,11 @@ impl<L: Law> Shared<L> {
         drop(limited);
         self.changed.notify_all();
         drop(spent);
+    }
+
+    /// Lets the space be looked at under one taking of the lock.
+    pub fn look<R: Wait, W: Look<L>>(&self, rt: &R, looks: &mut W) {
+        looks.look(&*locked(rt, &self.limited));
     }
 
     /// One worker more has left. Takes no memory.

@@ -2,6 +2,7 @@
 
 ghost use Rattle.std.specs.Prelude.{◌≡◌, ◌≤◌, ◌==◌, count_by, true, false, Contains, IfErr, IfOk, IfSome, OnOk, MatchResult};
 ghost use Rattle.tuple_space.specs.Entry.{is_counted};
+ghost use Rattle.tuple_space.specs.Index.{class_of, has_class};
 ghost use Rattle.tuple_space.specs.Step as space;
 ghost use Rattle.tuple_space.specs.Space.{IsSpace, most};
 ghost use Rattle.space_txn.specs.Content.{ChangesContent, content_of};
@@ -108,6 +109,15 @@ impl TxnSpace {
         ensures { space.Step self.now.space (space.count template.now) (space.told result) self.now.space }
     {
         self.space.count(template)
+    }
+
+    /// How many entries the space has whose tuples begin with this word, have so many fields, and have a list of so many numbers as
+    /// their second; with 0 numbers, those are counted too whose second field is no list. It includes held ones, takes no memory,
+    /// and takes as long whatever the space has.
+    pub fn count_of_class(&self, word: &str, fields: usize, numbers: usize) -> usize
+        ensures { result ≡ count_by (λ e. has_class (class_of word.now fields numbers) e.tuple) self.now.space.entries }
+    {
+        self.space.count_of_class(word, fields, numbers)
     }
 
     /// Whether no entry is there whose tuple the template asks for, held ones included. Takes no memory.

@@ -220,7 +220,7 @@ other_before k bytes count x xs i b h mine = ⊎_elim
     (λ other. other)
     (cases_Bool (is_of k.word k.count x))
 
-numbers_there : (k : Class) (bytes : List ℕ) (count : ℕ) (bs : List Bucket) (i : ℕ) (b : Bucket) → IsFirstOf bytes count bs i b → is_of k.word k.count b ≡ true
+pub numbers_there : (k : Class) (bytes : List ℕ) (count : ℕ) (bs : List Bucket) (i : ℕ) (b : Bucket) → IsFirstOf bytes count bs i b → is_of k.word k.count b ≡ true
     → numbers_of k bs ≡ list_at k.length b.by_length.items
 numbers_there k bytes count [] i b h mine = let w = h.within in absurd (omega arith)
 numbers_there k bytes count (x ∷ xs) zero b h mine =
@@ -250,7 +250,7 @@ numbers_other k (x ∷ xs) (suc i) b lists is other =
     ap (λ (l : List ℕ). cond (is_of k.word k.count x) (list_at k.length x.by_length.items) l) (numbers_other k xs i b lists is other)
 
 -- under a class of no bucket stands nothing
-numbers_none : (k : Class) (bs : List Bucket) → All (λ (b : Bucket). is_of k.word k.count b ≡ false) bs → numbers_of k bs ≡ []
+pub numbers_none : (k : Class) (bs : List Bucket) → All (λ (b : Bucket). is_of k.word k.count b ≡ false) bs → numbers_of k bs ≡ []
 numbers_none k [] none = refl
 numbers_none k (x ∷ xs) none =
     let P : Bucket → Type 0 = λ b. is_of k.word k.count b ≡ false in

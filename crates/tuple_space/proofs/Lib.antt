@@ -1,3 +1,4 @@
+pub mod ClassLemmas
 pub mod EndLemmas
 pub mod EntryLemmas
 pub mod HeldLemmas

@@ -43,6 +43,9 @@ pub record Class : Type 0 where
   pub count : ℕ
   pub length : ℕ
 
+abbrev pub class_of : List ℕ → ℕ → ℕ → Class
+class_of bytes count numbered = record { word = bytes; count = count; length = numbered }
+
 abbrev pub is_word : Option (List ℕ) → List ℕ → Bool
 is_word (Some bytes) sought = bytes_eq bytes sought
 is_word None sought = false

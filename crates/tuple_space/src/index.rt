@@ -4,7 +4,7 @@ ghost use Rattle.std.specs.Prelude.{ℕ, ◌≡◌, ◌≢◌, ◌<◌, ◌==◌
 ghost use Rattle.std.specs.List.{AllWithin, HoldsAt};
 ghost use Rattle.std.specs.Option.{option_copied};
 ghost use Rattle.tuple_space.specs.Held.{AreRising};
-ghost use Rattle.tuple_space.specs.Index.{AreOnce, AreOrdered, AreSame, IsAdded, IsDropped, first_word, is_of, list_at, second_length, sought_word};
+ghost use Rattle.tuple_space.specs.Index.{AreOnce, AreOrdered, AreSame, IsAdded, IsDropped, class_of, first_word, is_of, list_at, numbers_of, second_length, sought_word};
 
 use std::alloc::AllocError;
 use tuple_match::{Pattern, Template, Tuple};
@@ -119,6 +119,27 @@ fn put_number(lists: &mut Vec<Vec<u64>>, length: usize, number: u64) -> Result<(
     grow(lists, length)?;
     lists[length].push(number)?;
     Ok(())
+}
+
+/// How many numbers stand under a class: under a word and a count of fields, those of a length.
+pub(crate) fn class_size(buckets: &[Bucket], word: &str, count: usize, numbers: usize) -> usize
+    ensures { result ≡ length (numbers_of (class_of word.now count numbers) buckets.now) }
+{
+    let Some(place) = place_of_bucket(buckets, word, count) else {
+        return 0;
+    };
+    count_at(&buckets[place].by_length, numbers)
+}
+
+/// How many numbers there are of a length.
+fn count_at(lists: &[Vec<u64>], numbers: usize) -> usize
+    ensures { result ≡ length (list_at numbers lists.now) }
+{
+    if numbers < lists.len() {
+        lists[numbers].len()
+    } else {
+        0
+    }
 }
 
 /// Takes a number out of those of a length.

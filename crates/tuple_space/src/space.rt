@@ -6,6 +6,7 @@ ghost use Rattle.tuple_space.specs.Entry.{is_counted, is_held_by};
 ghost use Rattle.tuple_space.specs.Space.{IsSpace, held_by, most, opening, released, with_entries, without_taken};
 ghost use Rattle.std.specs.List.{list_any};
 ghost use Rattle.tuple_space.specs.Held.{HasHeld};
+ghost use Rattle.tuple_space.specs.Index.{class_of, has_class};
 ghost use Rattle.tuple_space.specs.Rows.{IsRising, changed, permanent_tuples, without};
 ghost use Rattle.tuple_space.specs.Writes.{IsPutRefusal, put_count, put_each};
 ghost use Rattle.tuple_space.specs.Step.{IsHad, NothingHad, Step, advance, count, done_reply, inp, inp_reply, now, out, out_reply, rdp, rdp_reply, renew, told};
@@ -19,7 +20,7 @@ use crate::hold::Holds;
 use crate::holding::{
     count_puts, drop_taken, hold_entry, is_any_shared, is_entry_held_by, put_rows, release_all,
 };
-use crate::index::{Bucket, add_entry};
+use crate::index::{Bucket, add_entry, class_size};
 use crate::indexing::{add_writes, drop_gone, drop_writes};
 use crate::lease::Lease;
 use crate::permanent::permanent_of;
@@ -175,6 +176,15 @@ impl Space {
         ensures step { Step self.now (count template.now) (told result) self.now }
     {
         count_of(self.entries.as_slice(), self.moment, template)
+    }
+
+    /// How many entries the space has whose tuples begin with this word, have so many fields, and have a list of so many numbers as
+    /// their second; with 0 numbers, those are counted too whose second field is no list. It includes held ones, takes no memory,
+    /// and takes as long whatever the space has.
+    pub fn count_of_class(&self, word: &str, fields: usize, numbers: usize) -> usize
+        ensures { result ≡ count_by (λ e. has_class (class_of word.now fields numbers) e.tuple) self.now.entries }
+    {
+        class_size(&self.buckets, word, fields, numbers)
     }
 
     /// Whether no entry is there whose tuple the template asks for, held ones included. Takes no memory.

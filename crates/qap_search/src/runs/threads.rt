@@ -24,6 +24,7 @@ use crate::runs::alone::shared_rows;
 use crate::runs::answer::{Answer, Bounded, Least, SolveError};
 use crate::runs::bound::bounded_of;
 use crate::runs::clock::Clock;
+use crate::runs::observer::{Nobody, Observer, Survey};
 use crate::runs::opening::{identity, opening_from};
 use crate::runs::outcome::{answer_of, least_of};
 use crate::runs::plan::Plan;
@@ -49,6 +50,9 @@ use tuple_match::Template;
 
 /// How many milliseconds the keeper pauses before it looks again.
 const PAUSE_MS: u64 = 1;
+
+/// How many milliseconds of the clock lie at least between two looks of an observer.
+const LOOK_MS: u64 = 100;
 
 /// The certificate of an instance's least cost, from so many workers, each a thread, whose transactions begin with leases of
 /// so many milliseconds.
@@ -121,7 +125,12 @@ where
         start: &start,
         branching: Branching::GreatestMatched,
     };
-    let run = run_of(rt, alloc, instance, &plan, clock, gate, &Never)?;
+    let keeper = Keeper {
+        clock,
+        stop: &Never,
+        observer: &Nobody,
+    };
+    let run = run_of(rt, alloc, instance, &plan, &keeper, gate)?;
     least_of(&Many::new(rt, workers), alloc, instance, limit, run)
 }
 
@@ -149,7 +158,12 @@ where
         (λ a. Ran (from_root instance.now (best_with instance.now plan.now.start.now)) plan.now.workers plan.now.limit (accepted_of a.reports.items) 0)
         (RanToFault (from_root instance.now (best_with instance.now plan.now.start.now)) plan.now.workers plan.now.limit) }
 {
-    let run = run_of(rt, alloc, instance, plan, clock, gate, &Never)?;
+    let keeper = Keeper {
+        clock,
+        stop: &Never,
+        observer: &Nobody,
+    };
+    let run = run_of(rt, alloc, instance, plan, &keeper, gate)?;
     answer_of(
         &Many::new(rt, plan.workers),
         alloc,
@@ -165,8 +179,9 @@ where
 /// What `solve` says of the workers, the gate, the lease and the limit holds here too. Where the stop is wanted the space is closed
 /// though nodes are open; no worker begins on another node then, and none waits for a lease to end. For whatever reason nodes are
 /// left, by the stop or the gate, at the limit or for want of memory, the least assignments of their reduced matrices bound the answer;
-/// where none is left, the bound is the cost. No certificate is put together. The only error is want of memory.
-pub fn solve_least_from<R, C, G, S>(
+/// where none is left, the bound is the cost. The observer is shown meanwhile how far the search has come. No certificate is put
+/// together. The only error is want of memory.
+pub fn solve_least_from<R, C, G, S, O>(
     rt: &R,
     alloc: Global,
     instance: &Instance,
@@ -174,12 +189,14 @@ pub fn solve_least_from<R, C, G, S>(
     clock: &C,
     gate: &G,
     stop: &S,
+    observer: &O,
 ) -> Result<Bounded, AllocError>
 where
     R: Threads + Wait + time::Clock + Sync,
     C: Clock,
     G: Gate + Sync,
     S: Stop,
+    O: Observer,
     requires some { 0 < plan.now.workers }
     requires few { plan.now.workers ≤ 64 }
     requires start { Permutes instance.now plan.now.start.now }
@@ -189,7 +206,12 @@ where
     ensures ran { IfOk result (λ a. Ran (search_of instance.now plan.now.root.now (best_with instance.now plan.now.start.now)) plan.now.workers plan.now.limit
         (accepted_of a.reports.items) a.open_nodes) }
 {
-    let run = run_of(rt, alloc, instance, plan, clock, gate, stop)?;
+    let keeper = Keeper {
+        clock,
+        stop,
+        observer,
+    };
+    let run = run_of(rt, alloc, instance, plan, &keeper, gate)?;
     bounded_of(alloc, instance, run)
 }
 
@@ -213,20 +235,20 @@ fn all_permutations(alloc: Global, instance: &Instance) -> Result<Beginning, All
 }
 
 /// The run that goes as the plan says.
-fn run_of<R, C, G, S>(
+fn run_of<R, C, G, S, O>(
     rt: &R,
     alloc: Global,
     instance: &Instance,
     plan: &Plan<'_>,
-    clock: &C,
+    keeper: &Keeper<'_, C, S, O>,
     gate: &G,
-    stop: &S,
 ) -> Result<Run, AllocError>
 where
     R: Threads + Wait + time::Clock + Sync,
     C: Clock,
     G: Gate + Sync,
     S: Stop,
+    O: Observer,
     requires some { 0 < plan.now.workers }
     requires few { plan.now.workers ≤ 64 }
     requires start { Permutes instance.now plan.now.start.now }
@@ -238,20 +260,19 @@ where
 {
     let space = opening_from(alloc, instance, plan.root, plan.start)?;
     let blank = Blank::new(u64::from(plan.workers));
-    search::<Brand, R, C, G, S>(rt, alloc, instance, space, blank, plan, clock, gate, stop)
+    search::<Brand, R, C, G, S, O>(rt, alloc, instance, space, blank, plan, keeper, gate)
 }
 
 /// The same, on a space that stands at the opening, under a law that is the search's.
-fn search<L, R, C, G, S>(
+fn search<L, R, C, G, S, O>(
     rt: &R,
     alloc: Global,
     instance: &Instance,
     space: TxnSpace,
     blank: Blank,
     plan: &Plan<'_>,
-    clock: &C,
+    keeper: &Keeper<'_, C, S, O>,
     gate: &G,
-    stop: &S,
 ) -> Result<Run, AllocError>
 where
     L: Law + Send + Sync,
@@ -259,6 +280,7 @@ where
     C: Clock,
     G: Gate + Sync,
     S: Stop,
+    O: Observer,
     requires some { 0 < plan.now.workers }
     requires name { blank.name ≡ L.name }
     requires parts { blank.parts ≡ L.parts }
@@ -275,8 +297,29 @@ where
     let count = usize::from(plan.workers);
     let room = Left::with_capacity(alloc, count)?;
     let templates = Templates::new(alloc)?;
+    let watch = Watch {
+        templates: &templates,
+        size: instance.size(),
+        depth: plan.root.facilities().len(),
+    };
     let staffed = staff::<L>(alloc, instance, space, blank, plan)?;
-    Ok(run_out(rt, staffed, room, &templates, clock, gate, stop))
+    Ok(run_out(rt, staffed, room, &watch, keeper, gate))
+}
+
+/// By whom a space is kept: the clock, who may stop the search, and who watches it.
+#[derive(Drop)]
+struct Keeper<'a, C, S, O> {
+    clock: &'a C,
+    stop: &'a S,
+    observer: &'a O,
+}
+
+/// What is watched: the open nodes and the best permutation, below a root that places so many of the instance's facilities.
+#[derive(Drop)]
+struct Watch<'a> {
+    templates: &'a Templates,
+    size: usize,
+    depth: usize,
 }
 
 /// What workers wait for on the space.
@@ -329,14 +372,13 @@ fn staff<L: Law>(
 }
 
 /// What is left where all workers have worked until the space was closed.
-fn run_out<L, R, C, G, S>(
+fn run_out<L, R, C, G, S, O>(
     rt: &R,
     staffed: Staffed<L>,
     room: Left<L>,
-    templates: &Templates,
-    clock: &C,
+    watch: &Watch<'_>,
+    keeper: &Keeper<'_, C, S, O>,
     gate: &G,
-    stop: &S,
 ) -> Run
 where
     L: Law + Send + Sync,
@@ -344,6 +386,7 @@ where
     C: Clock,
     G: Gate + Sync,
     S: Stop,
+    O: Observer,
     requires all { vec_len staffed.seats ≡ L.parts }
     requires some { 0 < vec_len staffed.seats }
     requires no_shares { room.shares.items ≡ [] }
@@ -358,11 +401,11 @@ where
     let place = Workplace {
         rt,
         shared: &shared,
-        nodes: &templates.nodes,
-        best: &templates.best,
+        nodes: &watch.templates.nodes,
+        best: &watch.templates.best,
         gate,
     };
-    work_all(&place, &seats, clock, stop);
+    work_all(&place, &seats, watch, keeper);
     let Left { shares, reports } = left_by(room, seats);
     let (space, _) = shared.into_inner(shares);
     Run { space, reports }
@@ -421,11 +464,11 @@ fn seats_for<L: Law>(
 
 /// Lets each worker work in a thread of its own, and keeps the space until it is closed. A worker whose thread can't be started
 /// has left.
-fn work_all<R, L, C, G, S>(
+fn work_all<R, L, C, G, S, O>(
     place: &Workplace<'_, R, L, G>,
     seats: &[Mutex<Seat<L>>],
-    clock: &C,
-    stop: &S,
+    watch: &Watch<'_>,
+    keeper: &Keeper<'_, C, S, O>,
 )
 where
     R: Threads + Wait + time::Clock + Sync,
@@ -433,6 +476,7 @@ where
     C: Clock,
     G: Gate + Sync,
     S: Stop,
+    O: Observer,
 {
     thread::scope(thread::scope_env(), place.rt, |scope| {
         for seat in seats {
@@ -440,7 +484,7 @@ where
                 place.shared.leave(place.rt);
             }
         }
-        keep(place, clock, stop);
+        keep(place, watch, keeper);
     });
 }
 
@@ -450,24 +494,38 @@ fn work<R: Wait, L: Law, G: Gate>(place: &Workplace<'_, R, L, G>, seat: &Mutex<S
     place.shared.leave(place.rt);
 }
 
-/// Moves the moment on by the clock, until the space is closed, by itself or since the stop is wanted.
-fn keep<R, L, C, G, S>(place: &Workplace<'_, R, L, G>, clock: &C, stop: &S)
+/// Moves the moment on by the clock, and shows the observer how far the search has come, until the space is closed, by itself or
+/// since the stop is wanted.
+fn keep<R, L, C, G, S, O>(
+    place: &Workplace<'_, R, L, G>,
+    watch: &Watch<'_>,
+    keeper: &Keeper<'_, C, S, O>,
+)
 where
     R: Wait + time::Clock,
     L: Law,
     C: Clock,
     G: Gate,
     S: Stop,
+    O: Observer,
 {
+    let mut survey = Survey::new(place.best, watch.size, watch.depth);
+    let mut due = 0;
     for _ in place.rt.forever() {
-        if stop.is_wanted() {
+        if keeper.stop.is_wanted() {
             place.shared.shut(place.rt);
         }
         if place.shared.close(place.rt, place.nodes) {
             return;
         }
+        let now = keeper.clock.now();
         // A moment that is too late changes nothing.
-        let _ = place.shared.advance(place.rt, clock.now());
+        let _ = place.shared.advance(place.rt, now);
+        if now >= due && keeper.observer.is_watching() {
+            place.shared.look(place.rt, &mut survey);
+            keeper.observer.see(&survey.progress);
+            due = now.saturating_add(LOOK_MS);
+        }
         thread::sleep(place.rt, Duration::from_millis(PAUSE_MS));
     }
 }
