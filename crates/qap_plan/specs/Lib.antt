@@ -1,0 +1,5 @@
+pub mod Answer
+pub mod Answering
+pub mod Options
+pub mod Planning
+pub mod Reading
