@@ -2,14 +2,14 @@
 use Rattle.std.specs.Prelude.{ℕ, ◌+◌, List, [], ◌∷◌, ◌++◌, ℤ, codes, int_lt, if◌then◌else◌}
 use Rattle.std.specs.Fmt.{decimal, signed_decimal}
 
--- where facility i stands, both counted from 1
+-- facility i stands at location k, both counted from 1
 abbrev pub place_line : ℕ → ℕ → List ℕ
-place_line i k = codes "facility " ++ decimal (i + 1) ++ codes " at location " ++ decimal (k + 1) ++ codes "\n"
+place_line i k = codes "facility " ++ decimal i ++ codes " at location " ++ decimal k ++ codes "\n"
 
--- the lines of the facilities from i on
+-- the lines of the facilities from i on, with i and the locations counted from 0
 abbrev pub place_lines : ℕ → List ℕ → List ℕ
 place_lines i [] = []
-place_lines i (k ∷ p) = place_line i k ++ place_lines (i + 1) p
+place_lines i (k ∷ p) = place_line (i + 1) (k + 1) ++ place_lines (i + 1) p
 
 -- what is proved of the cost
 abbrev pub verdict_line : ℤ → ℤ → List ℕ

@@ -1,5 +1,5 @@
 -- How an instance is to be searched.
-use Rattle.std.specs.Prelude.{ℕ, ◌≤◌}
+use Rattle.std.specs.Prelude.{◌≤◌}
 use Rattle.qap_plan.specs.declared.options.Options.{Options}
 
 -- 1 to 64 workers

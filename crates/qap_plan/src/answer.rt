@@ -1,6 +1,6 @@
 //! The text of an answer.
 
-ghost use Rattle.std.specs.Prelude.{◌≡◌, ◌≤◌, ◌^◌, ◌++◌, IfOk, OnOk, string_bytes, unsigned_abs};
+ghost use Rattle.std.specs.Prelude.{◌≡◌, ◌++◌, IfOk, OnOk, string_bytes};
 ghost use Rattle.qap_plan.specs.Answer.{answer_text, place_line, place_lines, verdict_line};
 
 use qap_cost::Perm;
@@ -28,20 +28,17 @@ fn push_places(alloc: Global, text: &mut Vec<u8>, locations: &[u16]) -> Result<(
     ensures { OnOk result (text.new.items ≡ text.old.items ++ place_lines 0 locations.now) }
 {
     for (i, &location) in locations.iter().enumerate() {
-        let line = place_line(alloc, i, location)?;
+        let line = place_line(alloc, i + 1, usize::from(location) + 1)?;
         text.extend_from_slice(line.as_bytes())?;
     }
     Ok(())
 }
 
 /// The line of a facility and its location, both counted from 1.
-fn place_line(alloc: Global, i: usize, location: u16) -> Result<String, AllocError>
-    requires { i ≤ 2 ^ 63 }
-    ensures { IfOk result (λ line. string_bytes line ≡ place_line i location) }
+fn place_line(alloc: Global, facility: usize, location: usize) -> Result<String, AllocError>
+    ensures { IfOk result (λ line. string_bytes line ≡ place_line facility location) }
 {
-    let facility = i + 1;
-    let place = usize::from(location) + 1;
-    format!(in alloc; "facility {facility} at location {place}\n")
+    format!(in alloc; "facility {facility} at location {location}\n")
 }
 
 /// What is proved of the cost.
