@@ -30,13 +30,19 @@ pub fn parse<'a>(alloc: Global, words: &'a [String]) -> Result<Request<'a>, Erro
         .subcommand_required(true)
         .subcommand(solve_command(alloc)?)?;
     let matches = command.try_get_matches_from_mut(words)?;
-    let request = match matches.subcommand() {
-        Some(("solve", found)) => request_of(found),
-        _ => None,
-    };
-    match request {
+    match asked(&matches) {
         Some(request) => Ok(request),
         None => Err(command.error(ErrorKind::MissingRequiredArgument, "a file is wanted")?),
+    }
+}
+
+/// What the words that were found ask for.
+fn asked<'a>(matches: &ArgMatches<'a>) -> Option<Request<'a>>
+    ensures { IfSome result (λ request. AreLimited request.options) }
+{
+    match matches.subcommand() {
+        Some(("solve", found)) => request_of(found),
+        _ => None,
     }
 }
 
