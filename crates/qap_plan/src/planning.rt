@@ -1,6 +1,6 @@
 //! Searches an instance for a permutation of least cost, from one that a tabu search comes to.
 
-ghost use Rattle.std.specs.Prelude.{◌≡◌, IfOk};
+ghost use Rattle.std.specs.Prelude.{◌≡◌, ◌≤ℤ◌, ◌↔◌, true, IfOk};
 ghost use Rattle.qap_cost.specs.Objective.{Permutes};
 ghost use Rattle.qap_cost.specs.Placement.{root_of};
 ghost use Rattle.qap_plan.specs.Options.{AreLimited};
@@ -8,7 +8,7 @@ ghost use Rattle.qap_plan.specs.Planning.{IsPlanned};
 
 use crate::options::Options;
 use qap_cost::{Instance, Partial, Perm};
-use qap_improve::{Always as AllIterations, TabuPlan, tabu_search};
+use qap_improve::{Hook, TabuPlan, tabu_search};
 use qap_search::{Always, Bounded, Branching, Clock, Plan, Stop, identity, solve_least_from};
 use std::alloc::{AllocError, Global};
 use std::sync::Wait;
@@ -34,7 +34,9 @@ pub struct Planned {
 
 impl Planned {
     /// Whether the permutation is proved to be one of least cost.
-    pub fn is_optimal(&self) -> bool {
+    pub fn is_optimal(&self) -> bool
+        ensures { (result ≡ true) ↔ (self.now.cost ≤ℤ self.now.bound) }
+    {
         self.bound >= self.cost
     }
 }
@@ -56,7 +58,7 @@ where
     ensures { IfOk result (λ x. IsPlanned instance.now x.permutation x.cost x.bound) }
 {
     let root = Partial::root(alloc, instance.size())?;
-    let start = improved(alloc, instance, options)?;
+    let start = improved(alloc, instance, options, stop)?;
     let plan = Plan {
         workers: options.workers,
         lease_ms: LEASE_MS,
@@ -88,8 +90,25 @@ fn planned_by(found: Bounded) -> Planned
     }
 }
 
+/// Lets a tabu search go on until its stop is wanted.
+#[derive(Drop)]
+struct UntilStopped<'a, S: Stop> {
+    stop: &'a S,
+}
+
+impl<S: Stop> Hook for UntilStopped<'_, S> {
+    fn goes_on(&mut self, _best: i128) -> bool {
+        !self.stop.is_wanted()
+    }
+}
+
 /// The permutation that the search begins with.
-fn improved(alloc: Global, instance: &Instance, options: &Options) -> Result<Perm, AllocError>
+fn improved<S: Stop>(
+    alloc: Global,
+    instance: &Instance,
+    options: &Options,
+    stop: &S,
+) -> Result<Perm, AllocError>
     ensures { IfOk result (Permutes instance.now) }
 {
     let first = identity(alloc, instance)?;
@@ -97,6 +116,6 @@ fn improved(alloc: Global, instance: &Instance, options: &Options) -> Result<Per
         iterations: options.improve,
         seed: options.seed,
     };
-    let found = tabu_search(alloc, instance, &first, &plan, &mut AllIterations)?;
+    let found = tabu_search(alloc, instance, &first, &plan, &mut UntilStopped { stop })?;
     Ok(found.permutation)
 }
