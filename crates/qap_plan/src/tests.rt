@@ -153,9 +153,10 @@ fn an_answer_as_json(rt: HostRuntime) -> Result<(), Fail> {
         return Err(Fail);
     };
     let text = json_text(rt.alloc(), &answer, 1500)?;
-    let told =
-        "\"permutation\":[2,1],\"seconds\":1.5,\"status\":\"optimal\",\"version\":\"0.2.0\"}";
-    assert!(rt; text.starts_with("{\"bound\":\"11\",\"cost\":\"11\",\"nodes\":"));
+    let told = "\"permutation\":[2,1],\"status\":\"optimal\",\"version\":\"0.2.0\"}";
+    assert!(rt;
+        text.starts_with("{\"bound\":\"11\",\"cost\":\"11\",\"milliseconds\":1500,\"nodes\":")
+    );
     assert!(rt; text.ends_with(told));
     Ok(())
 }
