@@ -1,5 +1,5 @@
 -- An instance that stands alone in an input.
-use Rattle.std.specs.Prelude.{◌≡◌, ◌≢◌, ℕ, ◌⊎◌, Bool, false, List, []}
+use Rattle.std.specs.Prelude.{◌≡◌, ◌≢◌, ℕ, ◌-◌, ◌⊎◌, Bool, false, List, [], length}
 use Rattle.qap_cost.specs.Instance.{Problem}
 use Rattle.qap_text.specs.Input.{HasInstance, HasNoInstance, Input}
 use Rattle.qap_text.specs.Word.{after_separators}
@@ -26,14 +26,13 @@ pub record NoInstance {R : Type 0} (i : Input R) (e : PlanError) : Type 0 where
   pub is : e ≡ of_text fault
   pub of_input : HasNoInstance i fault
 
--- an instance is followed by a word, which is at this place
+-- an instance is followed by a word; so many bytes stand before it
 pub record HasRest {R : Type 0} (i : Input R) (e : PlanError) : Type 0 where
-  pub place : ℕ
-  pub is : e ≡ Rest place
   pub problem : Problem
   pub rest : List ℕ
   pub input : HasInstance i problem rest
   pub more : after_separators rest ≢ []
+  pub is : e ≡ Rest (length input.text - length (after_separators rest))
 
 -- memory ran out, and no call of the reader failed
 pub record WantsMemory {R : Type 0} (i : Input R) (e : PlanError) : Type 0 where
