@@ -10,6 +10,7 @@ use crate::json::json_text;
 use crate::options::Options;
 use crate::planning::Planned;
 use clap::error::ErrorKind;
+use qap_cost::Perm;
 use qap_io::{Counted, FailAt, Status};
 use qap_text::TextError;
 use std::alloc::{AllocError, Global};
@@ -147,17 +148,32 @@ fn devices_fail(rt: HostRuntime) {
 }
 
 #[test]
-fn an_answer_as_json(rt: HostRuntime) -> Result<(), Fail> {
-    let (answer, _) = run(&rt, rt.alloc(), TWO, &ONE);
-    let Ok(answer) = answer else {
-        return Err(Fail);
-    };
-    let text = json_text(rt.alloc(), &answer, 1500)?;
-    let told = "\"permutation\":[2,1],\"status\":\"optimal\",\"version\":\"0.2.0\"}";
-    assert!(rt;
-        text.starts_with("{\"bound\":\"11\",\"cost\":\"11\",\"milliseconds\":1500,\"nodes\":")
-    );
-    assert!(rt; text.ends_with(told));
+fn answers_as_json(rt: HostRuntime) -> Result<(), Fail> {
+    let alloc = rt.alloc();
+    let cases = [
+        (
+            -11,
+            "{\"bound\":\"-11\",\"cost\":\"-11\",\"milliseconds\":1500,\"nodes\":3,\"open\":2,\"permutation\":[2,1],\"status\":\"optimal\",\"version\":\"0.2.0\"}",
+        ),
+        (
+            -12,
+            "{\"bound\":\"-12\",\"cost\":\"-11\",\"milliseconds\":1500,\"nodes\":3,\"open\":2,\"permutation\":[2,1],\"status\":\"bounded\",\"version\":\"0.2.0\"}",
+        ),
+    ];
+    for (bound, told) in cases {
+        let Ok(permutation) = Perm::new(Vec::from_slice(alloc, &[1, 0])?) else {
+            panic!(rt; "a permutation is refused");
+        };
+        let answer = Planned {
+            permutation,
+            cost: -11,
+            bound,
+            nodes: 3,
+            open_nodes: 2,
+        };
+        let text = json_text(alloc, &answer, 1500)?;
+        assert_eq!(rt; text.as_str(), told);
+    }
     Ok(())
 }
 
