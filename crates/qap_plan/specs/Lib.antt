@@ -3,3 +3,4 @@ pub mod Answering
 pub mod Options
 pub mod Planning
 pub mod Reading
+pub mod Starting

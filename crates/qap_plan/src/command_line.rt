@@ -13,6 +13,8 @@ use std::alloc::{AllocError, Global};
 pub struct Request<'a> {
     /// The file of the instance.
     pub file: &'a str,
+    /// The file of the solution that the search is to begin with.
+    pub start: Option<&'a str>,
     pub options: Options,
     /// The file that the answer is written to as JSON too.
     pub json: Option<&'a str>,
@@ -52,6 +54,12 @@ fn solve_command<'a>(alloc: Global) -> Result<Command<'a>, AllocError> {
         .about("Solves an instance in the QAPLIB format")
         .arg(Arg::new(alloc, "FILE").required(true).help("the instance"))?;
     with_search(alloc, command)?
+        .arg(
+            Arg::new(alloc, "start")
+                .long("start")
+                .value_name("FILE")
+                .help("begin with the solution in this file"),
+        )?
         .arg(
             Arg::new(alloc, "json")
                 .long("json")
@@ -119,6 +127,7 @@ fn request_of<'a>(found: &ArgMatches<'a>) -> Option<Request<'a>>
     }
     Some(Request {
         file: found.get_str("FILE")?,
+        start: found.get_str("start"),
         options: Options {
             workers,
             nodes: found.get_one("nodes"),

@@ -17,6 +17,12 @@ pub enum PlanError {
     /// A word follows the instance, at this place.
     #[error("something follows the instance, at {0}; remove it, or pass over it with --ignore-rest")]
     Rest(usize),
+    /// The file of the start is too long, or has no solution of the instance's size at its front.
+    #[error("{0}")]
+    Start(TextError),
+    /// The start states another cost than it has, which is this.
+    #[error("the arrangement costs {0}, which is not what the file states")]
+    StartCost(i128),
     /// There is no memory left.
     #[error("out of memory")]
     OutOfMemory,

@@ -10,6 +10,7 @@ mod json;
 mod options;
 mod planning;
 mod reading;
+mod starting;
 mod whole_file;
 
 ghost use Rattle.qap_plan.specs.Options.{AreLimited};
@@ -83,11 +84,19 @@ where
     let Ok(file) = fs::open(rt, request.file) else {
         return refuse(rt, request.file, PlanError::Device);
     };
+    let mut start = None;
+    if let Some(name) = request.start {
+        let Ok(file) = fs::open(rt, name) else {
+            return refuse(rt, name, PlanError::Device);
+        };
+        start = Some(Counted::new(file));
+    }
     let elapsed = Elapsed::new(system, request.options.seconds);
     let answer = plan_stream(
         system,
         rt.alloc(),
         &mut Counted::new(file),
+        &mut start,
         &mut Counted::new(rt.stdout()),
         &request.options,
         &elapsed,
@@ -95,7 +104,15 @@ where
     );
     match answer {
         Ok(answer) => finish(rt, request, &answer, elapsed.milliseconds()),
-        Err(error) => refuse(rt, request.file, error),
+        Err(error) => refuse(rt, faulty_file(request, error), error),
+    }
+}
+
+/// The file that an error is about.
+fn faulty_file<'a>(request: &Request<'a>, error: PlanError) -> &'a str {
+    match (request.start, error) {
+        (Some(start), PlanError::Start(_) | PlanError::StartCost(_)) => start,
+        _ => request.file,
     }
 }
 

@@ -1,10 +1,10 @@
 //! Searches an instance for a permutation of least cost, from one that a tabu search comes to.
 
-ghost use Rattle.std.specs.Prelude.{◌≡◌, ◌≤ℤ◌, ◌↔◌, true, IfOk};
-ghost use Rattle.qap_cost.specs.Objective.{Permutes};
+ghost use Rattle.std.specs.Prelude.{◌≡◌, ◌≤ℤ◌, ◌↔◌, true, IfOk, IfSome};
+ghost use Rattle.qap_cost.specs.Objective.{Permutes, cost_of};
 ghost use Rattle.qap_cost.specs.Placement.{root_of};
 ghost use Rattle.qap_plan.specs.Options.{AreLimited};
-ghost use Rattle.qap_plan.specs.Planning.{IsPlanned};
+ghost use Rattle.qap_plan.specs.Planning.{IsNoDearer, IsPlanned};
 
 use crate::options::Options;
 use qap_cost::{Instance, Partial, Perm};
@@ -41,11 +41,12 @@ impl Planned {
     }
 }
 
-/// Searches until no node is open, or the limit of nodes is reached, or the stop is wanted, and where memory ends.
+/// Searches, from the start or any permutation, until no node is open, or the limit of nodes is reached, or the stop is wanted, and where memory ends.
 pub fn search<T, C, S>(
     system: &T,
     alloc: Global,
     instance: &Instance,
+    start: Option<Perm>,
     options: &Options,
     clock: &C,
     stop: &S,
@@ -54,11 +55,12 @@ where
     T: Threads + Wait + time::Clock + Sync,
     C: Clock,
     S: Stop,
-    requires { AreLimited options.now }
-    ensures { IfOk result (λ x. IsPlanned instance.now x.permutation x.cost x.bound) }
+    requires limited { AreLimited options.now }
+    requires start { IfSome start (Permutes instance.now) }
+    ensures { IfOk result (λ x. IsPlanned instance.now start x.permutation x.cost x.bound) }
 {
     let root = Partial::root(alloc, instance.size())?;
-    let start = improved(alloc, instance, options, stop)?;
+    let start = improved(alloc, instance, start, options, stop)?;
     let plan = Plan {
         workers: options.workers,
         lease_ms: LEASE_MS,
@@ -102,20 +104,35 @@ impl<S: Stop> Hook for UntilStopped<'_, S> {
     }
 }
 
-/// The permutation that the search begins with.
+/// The permutation that the search for a proof begins with.
 fn improved<S: Stop>(
     alloc: Global,
     instance: &Instance,
+    start: Option<Perm>,
     options: &Options,
     stop: &S,
 ) -> Result<Perm, AllocError>
-    ensures { IfOk result (Permutes instance.now) }
+    requires { IfSome start (Permutes instance.now) }
+    ensures permutes { IfOk result (Permutes instance.now) }
+    ensures no_dearer { IfOk result (λ p. IsNoDearer instance.now start (cost_of instance.now p)) }
 {
-    let first = identity(alloc, instance)?;
+    let first = first_of(alloc, instance, start)?;
     let plan = TabuPlan {
         iterations: options.improve,
         seed: options.seed,
     };
     let found = tabu_search(alloc, instance, &first, &plan, &mut UntilStopped { stop })?;
     Ok(found.permutation)
+}
+
+/// The permutation that the tabu search begins with: the start, where there is one.
+fn first_of(alloc: Global, instance: &Instance, start: Option<Perm>) -> Result<Perm, AllocError>
+    requires { IfSome start (Permutes instance.now) }
+    ensures permutes { IfOk result (Permutes instance.now) }
+    ensures no_dearer { IfOk result (λ p. IsNoDearer instance.now start (cost_of instance.now p)) }
+{
+    match start {
+        Some(start) => Ok(start),
+        None => identity(alloc, instance),
+    }
 }

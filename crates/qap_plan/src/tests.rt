@@ -23,6 +23,8 @@ use std::time::Clock;
 
 /// Two facilities, of which the order 1 2 costs 17 and the other 11.
 const TWO: &[u8] = b"2 0 3 1 0 0 5 2 0";
+/// The dearer order of the two.
+const START: &[u8] = b"2 17 1 2";
 /// Three facilities whose root isn't closed by its bound, and of which each order costs 1.
 const EVEN: &[u8] = b"3 0 1 0 0 0 1 1 0 0 0 1 0 1 0 0 0 0 0";
 
@@ -47,12 +49,28 @@ where
     T: Threads + Wait + Clock + Sync,
     requires { AreLimited options.now }
 {
+    run_from(system, alloc, text, None, options)
+}
+
+/// What a run on a text and a start answers, and what it writes.
+fn run_from<T>(
+    system: &T,
+    alloc: Global,
+    text: &[u8],
+    start: Option<&[u8]>,
+    options: &Options,
+) -> (Result<Planned, PlanError>, Vec<u8>)
+where
+    T: Threads + Wait + Clock + Sync,
+    requires { AreLimited options.now }
+{
     let mut output = Counted::new(Vec::new(alloc));
     let elapsed = Elapsed::new(system, options.seconds);
     let answer = plan_stream(
         system,
         alloc,
         &mut Counted::new(text),
+        &mut start.map(Counted::new),
         &mut output,
         options,
         &elapsed,
@@ -111,16 +129,47 @@ fn what_follows_is_passed_over(rt: HostRuntime) {
     assert_eq!(rt; written.as_slice(), told);
 }
 
-/// What a run answers whose reader or whose writer fails at its first call.
-fn failing_run<T, R: Read, W: Write>(
+#[test]
+fn a_search_begins_with_its_start(rt: HostRuntime) {
+    let stopped = Options {
+        nodes: Some(0),
+        improve: 0,
+        ..ONE
+    };
+    let cases: [(&[u8], i128); 2] = [(b"2 17\n1 2\n", 17), (b"2,11,2,1 and more", 11)];
+    for (start, cost) in cases {
+        let (answer, _) = run_from(&rt, rt.alloc(), TWO, Some(start), &stopped);
+        assert_eq!(rt; answer.map(|answer| answer.cost), Ok(cost));
+    }
+}
+
+#[test]
+fn refused_starts(rt: HostRuntime) {
+    let cases: [(&[u8], PlanError); 4] = [
+        (b"", PlanError::Start(TextError::Empty)),
+        (b"3 0 1 2 3", PlanError::Start(TextError::SizeDiffers(0))),
+        (b"2 11 1 1", PlanError::Start(TextError::NotPermutation(7))),
+        (b"2 11 1 2", PlanError::StartCost(17)),
+    ];
+    for (start, want) in cases {
+        let (answer, written) = run_from(&rt, rt.alloc(), TWO, Some(start), &ONE);
+        assert_eq!(rt; answer.map(|answer| answer.cost), Err(want));
+        assert_eq!(rt; written.len(), 0);
+    }
+}
+
+/// What a run answers whose readers or whose writer fail at their first call.
+fn failing_run<T, R: Read, Q: Read, W: Write>(
     system: &T,
     alloc: Global,
     reader: R,
+    start: Q,
     writer: W,
 ) -> Option<PlanError>
 where
     T: Threads + Wait + Clock + Sync,
     R: Drop,
+    Q: Drop,
     W: Drop,
 {
     let elapsed = Elapsed::new(system, None);
@@ -128,6 +177,7 @@ where
         system,
         alloc,
         &mut Counted::new(reader),
+        &mut Some(Counted::new(start)),
         &mut Counted::new(writer),
         &ONE,
         &elapsed,
@@ -139,9 +189,11 @@ where
 #[test]
 fn devices_fail(rt: HostRuntime) {
     let alloc = rt.alloc();
-    let told = failing_run(&rt, alloc, FailAt::new(TWO, 1), Vec::new(alloc));
+    let told = failing_run(&rt, alloc, FailAt::new(TWO, 1), START, Vec::new(alloc));
     assert_eq!(rt; told, Some(PlanError::Device));
-    let told = failing_run(&rt, alloc, TWO, FailAt::new(Vec::new(alloc), 1));
+    let told = failing_run(&rt, alloc, TWO, FailAt::new(START, 1), Vec::new(alloc));
+    assert_eq!(rt; told, Some(PlanError::Start(TextError::Device)));
+    let told = failing_run(&rt, alloc, TWO, START, FailAt::new(Vec::new(alloc), 1));
     assert_eq!(rt; told, Some(PlanError::Device));
     assert_eq!(rt; PlanError::Device.status(), Status::Refused);
     assert_eq!(rt; PlanError::OutOfMemory.status(), Status::OutOfMemory);
@@ -200,6 +252,7 @@ fn command_lines(rt: HostRuntime) -> Result<(), Fail> {
     };
     let request = Request {
         file: "a.dat",
+        start: None,
         options,
         json: None,
     };
