@@ -1,0 +1,6 @@
+pub mod Answer
+pub mod Answering
+pub mod Options
+pub mod Planning
+pub mod Reading
+pub mod Starting

@@ -1,0 +1,17 @@
+-- What a search of an instance comes to.
+use Rattle.std.specs.Prelude.{◌≡◌, ◌≤ℤ◌, ℕ, ℤ, List, Option, Some, None}
+use Rattle.qap_cost.specs.Instance.{Problem}
+use Rattle.qap_cost.specs.Objective.{NoneCostsLess, Permutes, cost_of}
+
+-- no dearer than the start, where there is one
+abbrev pub IsNoDearer : Problem → Option (List ℕ) → ℤ → Type 0
+IsNoDearer I None c = Unit {0}
+IsNoDearer I (Some start) c = c ≤ℤ cost_of I start
+
+-- a permutation of the instance with its cost, no dearer than the start, and a bound, at most that cost, that no permutation costs less than
+pub record IsPlanned (I : Problem) (start : Option (List ℕ)) (p : List ℕ) (c g : ℤ) : Type 0 where
+  pub permutes : Permutes I p
+  pub costs : cost_of I p ≡ c
+  pub no_dearer : IsNoDearer I start c
+  pub none_less : NoneCostsLess I g
+  pub at_most : g ≤ℤ c

@@ -1,0 +1,44 @@
+-- An instance that stands alone in an input.
+use Rattle.std.specs.Prelude.{◌≡◌, ◌≢◌, ℕ, ◌-◌, ◌⊎◌, Bool, false, List, [], length}
+use Rattle.qap_cost.specs.Instance.{Problem}
+use Rattle.qap_text.specs.Input.{HasInstance, HasNoInstance, Input}
+use Rattle.qap_text.specs.Word.{after_separators}
+use Rattle.qap_text.specs.declared.error.TextError.{TextError}
+use Rattle.qap_text.specs.declared.error.TextError.TheVariants.{OutOfMemory as TextMemory, Device as TextDevice}
+use Rattle.qap_plan.specs.declared.error.PlanError.{PlanError}
+use Rattle.qap_plan.specs.declared.error.PlanError.TheVariants.{Text, Rest, OutOfMemory, Device}
+
+-- what a fault of a text is for the run: want of memory and a failed device are the run's own
+abbrev pub of_text : TextError → PlanError
+of_text TextMemory = OutOfMemory
+of_text TextDevice = Device
+of_text e = Text e
+
+-- the input's bytes begin with the text of an instance, behind which no word follows, unless what follows is to be passed over
+pub record HasPlan {R : Type 0} (i : Input R) (passes : Bool) (I : Problem) : Type 0 where
+  pub rest : List ℕ
+  pub input : HasInstance i I rest
+  pub alone : passes ≡ false → after_separators rest ≡ []
+
+-- the input begins with no instance
+pub record NoInstance {R : Type 0} (i : Input R) (e : PlanError) : Type 0 where
+  pub fault : TextError
+  pub is : e ≡ of_text fault
+  pub of_input : HasNoInstance i fault
+
+-- an instance is followed by a word; so many bytes stand before it
+pub record HasRest {R : Type 0} (i : Input R) (e : PlanError) : Type 0 where
+  pub problem : Problem
+  pub rest : List ℕ
+  pub input : HasInstance i problem rest
+  pub more : after_separators rest ≢ []
+  pub is : e ≡ Rest (length input.text - length (after_separators rest))
+
+-- memory ran out, and no call of the reader failed
+pub record WantsMemory {R : Type 0} (i : Input R) (e : PlanError) : Type 0 where
+  pub is : e ≡ OutOfMemory
+  pub kept : i.after.failures ≡ i.before.failures
+
+-- why there is no instance to be searched
+abbrev pub HasNoPlan : {R : Type 0} → Input R → PlanError → Type 0
+HasNoPlan i e = NoInstance i e ⊎ (HasRest i e ⊎ WantsMemory i e)

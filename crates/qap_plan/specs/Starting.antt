@@ -1,0 +1,75 @@
+-- A start that stands at the front of an input of its own.
+use Rattle.std.specs.Prelude.{◌≡◌, ◌≢◌, ℕ, ◌⊎◌, List, ℤ, Option, Some, None}
+use Rattle.qap_cost.specs.Instance.{Problem}
+use Rattle.qap_cost.specs.Objective.{cost_of}
+use Rattle.qap_io.specs.Counting.{CountedDevice}
+use Rattle.qap_text.specs.Input.{HasText, Input, input_of, max_input}
+use Rattle.qap_text.specs.SolutionText.{IsSolutionFault, IsSolutionText}
+use Rattle.qap_text.specs.Whole.{IsReadFault}
+use Rattle.qap_text.specs.declared.error.TextError.{TextError}
+use Rattle.qap_text.specs.declared.error.TextError.TheVariants.{OutOfMemory as TextMemory}
+use Rattle.qap_plan.specs.declared.error.PlanError.{PlanError}
+use Rattle.qap_plan.specs.declared.error.PlanError.TheVariants.{Start, StartCost, OutOfMemory}
+
+-- what a fault of the start's text is for the run: want of memory is the run's own
+abbrev pub of_start : TextError → PlanError
+of_start TextMemory = OutOfMemory
+of_start e = Start e
+
+-- the input begins with the text of a solution of n facilities
+pub record HasSolution {Q : Type 0} (i : Input Q) (n : ℕ) (value : ℤ) (p : List ℕ) : Type 0 where
+  pub text : List ℕ
+  pub read : HasText i text
+  pub solution : IsSolutionText text n value p
+
+-- it has this first fault as one
+pub record HasSolutionFault {Q : Type 0} (i : Input Q) (n : ℕ) (fault : TextError) : Type 0 where
+  pub text : List ℕ
+  pub read : HasText i text
+  pub of_solution : IsSolutionFault text n fault
+
+-- the bytes can't be read within the limit, or are no solution's text
+abbrev pub HasNoSolution : {Q : Type 0} → Input Q → ℕ → TextError → Type 0
+HasNoSolution i n fault = IsReadFault i.bytes max_input i.before i.after fault ⊎ HasSolutionFault i n fault
+
+-- the input begins with no solution of the instance's size
+pub record NoStart {Q : Type 0} (i : Input Q) (I : Problem) (e : PlanError) : Type 0 where
+  pub fault : TextError
+  pub is : e ≡ of_start fault
+  pub of_input : HasNoSolution i I.size fault
+
+-- a solution states another cost than it has
+pub record HasOtherCost {Q : Type 0} (i : Input Q) (I : Problem) (e : PlanError) : Type 0 where
+  pub value : ℤ
+  pub permutation : List ℕ
+  pub input : HasSolution i I.size value permutation
+  pub differs : value ≢ cost_of I permutation
+  pub is : e ≡ StartCost (cost_of I permutation)
+
+-- the reader of a start, where one is asked for, as a call found it and as it left it; and what is known of the bytes that it has left
+pub record Starting (Q : Type 0) : Type 0 where
+  pub bytes : Q → Option (List ℕ)
+  pub before : Option (CountedDevice Q)
+  pub after : Option (CountedDevice Q)
+
+abbrev pub starting_of : {Q : Type 0} → (Q → Option (List ℕ)) → Option (CountedDevice Q) → Option (CountedDevice Q) → Starting Q
+starting_of bytes before after = record { bytes = bytes; before = before; after = after }
+
+-- by the reader before and after: none is asked for, or it begins with a solution that states its own cost
+abbrev pub Begins : {Q : Type 0} → (Q → Option (List ℕ)) → Problem → Option (CountedDevice Q) → Option (CountedDevice Q) → Option (List ℕ) → Type 0
+Begins bytes I None None None = Unit {0}
+Begins bytes I (Some old) (Some new) (Some p) = HasSolution (input_of bytes old new) I.size (cost_of I p) p
+Begins bytes I _ _ _ = ⊥
+
+-- what the search is to begin with
+abbrev pub HasStart : {Q : Type 0} → Starting Q → Problem → Option (List ℕ) → Type 0
+HasStart s I start = Begins s.bytes I s.before s.after start
+
+-- by the reader before and after: one is asked for, and begins with none
+abbrev pub BeginsNot : {Q : Type 0} → (Q → Option (List ℕ)) → Problem → Option (CountedDevice Q) → Option (CountedDevice Q) → PlanError → Type 0
+BeginsNot bytes I (Some old) (Some new) e = NoStart (input_of bytes old new) I e ⊎ HasOtherCost (input_of bytes old new) I e
+BeginsNot bytes I _ _ e = ⊥
+
+-- why there is no start, though one is asked for
+abbrev pub HasNoStart : {Q : Type 0} → Starting Q → Problem → PlanError → Type 0
+HasNoStart s I e = BeginsNot s.bytes I s.before s.after e

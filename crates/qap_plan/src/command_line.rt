@@ -1,0 +1,141 @@
+//! What the command line asks for.
+
+ghost use Rattle.std.specs.Prelude.{IfOk, IfSome};
+ghost use Rattle.qap_plan.specs.Options.{AreLimited};
+
+use crate::options::{MAX_NODES, MAX_WORKERS, Options};
+use clap::error::ErrorKind;
+use clap::{Arg, ArgAction, ArgMatches, Command, Error, value_parser};
+use std::alloc::{AllocError, Global};
+
+/// To solve an instance.
+#[derive(Clone, Copy, Debug, PartialEq, Eq)]
+pub struct Request<'a> {
+    /// The file of the instance.
+    pub file: &'a str,
+    /// The file of the solution that the search is to begin with.
+    pub start: Option<&'a str>,
+    pub options: Options,
+    /// The file that the answer is written to as JSON too.
+    pub json: Option<&'a str>,
+}
+
+/// What the words of a command line ask for, the program's name being the first. That help or the version is asked for is an error
+/// that prints it.
+pub fn parse<'a>(alloc: Global, words: &'a [String]) -> Result<Request<'a>, Error>
+    ensures { IfOk result (λ request. AreLimited request.options) }
+{
+    let mut command = Command::new(alloc, "qapplan")
+        .bin_name("qapplan")?
+        .about("Finds an arrangement of least cost, and proves that none costs less")
+        .version("0.2.0")
+        .subcommand_required(true)
+        .subcommand(solve_command(alloc)?)?;
+    let matches = command.try_get_matches_from_mut(words)?;
+    match asked(&matches) {
+        Some(request) => Ok(request),
+        None => Err(command.error(ErrorKind::MissingRequiredArgument, "a file is wanted")?),
+    }
+}
+
+/// What the words that were found ask for.
+fn asked<'a>(matches: &ArgMatches<'a>) -> Option<Request<'a>>
+    ensures { IfSome result (λ request. AreLimited request.options) }
+{
+    match matches.subcommand() {
+        Some(("solve", found)) => request_of(found),
+        _ => None,
+    }
+}
+
+/// The subcommand that solves an instance.
+fn solve_command<'a>(alloc: Global) -> Result<Command<'a>, AllocError> {
+    let command = Command::new(alloc, "solve")
+        .about("Solves an instance in the QAPLIB format")
+        .arg(Arg::new(alloc, "FILE").required(true).help("the instance"))?;
+    with_search(alloc, command)?
+        .arg(
+            Arg::new(alloc, "start")
+                .long("start")
+                .value_name("FILE")
+                .help("begin with the solution in this file"),
+        )?
+        .arg(
+            Arg::new(alloc, "json")
+                .long("json")
+                .value_name("FILE")
+                .help("write the answer to this file too, as JSON"),
+        )?
+        .arg(
+            Arg::new(alloc, "ignore-rest")
+                .long("ignore-rest")
+                .action(ArgAction::SetTrue)
+                .help("pass over what follows the instance"),
+        )
+}
+
+/// The command with the options of a search.
+fn with_search<'a>(alloc: Global, command: Command<'a>) -> Result<Command<'a>, AllocError> {
+    command
+        .arg(
+            Arg::new(alloc, "workers")
+                .long("workers")
+                .value_name("K")
+                .value_parser(value_parser!(u16).range(1..=i64::from(MAX_WORKERS)))
+                .default_value("4")
+                .help("how many threads search"),
+        )?
+        .arg(
+            Arg::new(alloc, "nodes")
+                .long("nodes")
+                .value_name("N")
+                .value_parser(value_parser!(u64).range(0..=MAX_NODES as i64))
+                .help("stop after so many nodes"),
+        )?
+        .arg(
+            Arg::new(alloc, "seconds")
+                .long("seconds")
+                .value_name("S")
+                .value_parser(value_parser!(u64))
+                .help("stop after so many seconds"),
+        )?
+        .arg(
+            Arg::new(alloc, "improve")
+                .long("improve")
+                .value_name("ITERATIONS")
+                .value_parser(value_parser!(u64))
+                .default_value("5000")
+                .help("how many exchanges a tabu search makes first"),
+        )?
+        .arg(
+            Arg::new(alloc, "seed")
+                .long("seed")
+                .value_name("SEED")
+                .value_parser(value_parser!(u64))
+                .default_value("1")
+                .help("where the tabu search takes its random numbers from"),
+        )
+}
+
+/// The request that was found; `None` where something is missing, or there are too many workers.
+fn request_of<'a>(found: &ArgMatches<'a>) -> Option<Request<'a>>
+    ensures { IfSome result (λ request. AreLimited request.options) }
+{
+    let workers = found.get_one("workers")?;
+    if workers == 0 || workers > MAX_WORKERS {
+        return None;
+    }
+    Some(Request {
+        file: found.get_str("FILE")?,
+        start: found.get_str("start"),
+        options: Options {
+            workers,
+            nodes: found.get_one("nodes"),
+            seconds: found.get_one("seconds"),
+            improve: found.get_one("improve")?,
+            seed: found.get_one("seed")?,
+            passes: found.get_flag("ignore-rest"),
+        },
+        json: found.get_str("json"),
+    })
+}

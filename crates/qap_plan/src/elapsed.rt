@@ -1,0 +1,51 @@
+//! The time that a run has taken: the clock of its search, and what stops it.
+
+use qap_search::{Clock, Stop};
+use std::time::{self, Instant};
+
+/// How long ago a run began, and how long it may take.
+#[derive(Drop)]
+pub struct Elapsed<'a, T: time::Clock> {
+    system: &'a T,
+    /// When it began, where that could be read.
+    start: Option<Instant>,
+    /// After how many milliseconds the search is to stop.
+    limit_ms: Option<u64>,
+}
+
+impl<'a, T: time::Clock> Elapsed<'a, T> {
+    /// A run that begins now, and may take so many seconds.
+    pub fn new(system: &'a T, seconds: Option<u64>) -> Elapsed<'a, T> {
+        Elapsed {
+            system,
+            start: Instant::now(system).ok(),
+            limit_ms: seconds.map(|seconds| seconds.saturating_mul(1000)),
+        }
+    }
+
+    /// How many milliseconds it has taken; 0 where the time can't be read.
+    pub fn milliseconds(&self) -> u64 {
+        let Some(start) = self.start else {
+            return 0;
+        };
+        match start.elapsed(self.system) {
+            Ok(time) => u64::try_from(time.as_millis()).unwrap_or(u64::MAX),
+            Err(_) => 0,
+        }
+    }
+}
+
+impl<T: time::Clock> Clock for Elapsed<'_, T> {
+    fn now(&self) -> u64 {
+        self.milliseconds()
+    }
+}
+
+impl<T: time::Clock> Stop for Elapsed<'_, T> {
+    fn is_wanted(&self) -> bool {
+        match self.limit_ms {
+            Some(limit) => self.milliseconds() >= limit,
+            None => false,
+        }
+    }
+}

@@ -1,0 +1,72 @@
+//! Why there is no answer.
+
+ghost use Rattle.std.specs.Prelude.{◌≡◌};
+ghost use Rattle.qap_plan.specs.declared.error.PlanError.TheVariants.{OutOfMemory as WantOfMemory, Device as FailedDevice};
+
+use qap_io::{Device, Status};
+use qap_text::TextError;
+use std::alloc::AllocError;
+use thiserror::Error;
+
+/// Why there is no answer. Places count bytes from 0.
+#[derive(Clone, Copy, Debug, PartialEq, Eq, Error)]
+pub enum PlanError {
+    /// The file is too long, or has no instance at its front.
+    #[error("{0}")]
+    Text(TextError),
+    /// A word follows the instance, at this place.
+    #[error("something follows the instance, at {0}; remove it, or pass over it with --ignore-rest")]
+    Rest(usize),
+    /// The file of the start is too long, or has no solution of the instance's size at its front.
+    #[error("{0}")]
+    Start(TextError),
+    /// The start states another cost than it has, which is this.
+    #[error("the arrangement costs {0}, which is not what the file states")]
+    StartCost(i128),
+    /// There is no memory left.
+    #[error("out of memory")]
+    OutOfMemory,
+    /// A file couldn't be opened, read or written.
+    #[error("a file couldn't be opened, read or written")]
+    Device,
+}
+
+impl PlanError {
+    /// How a run ends that meets this.
+    pub fn status(self) -> Status {
+        match self {
+            PlanError::OutOfMemory => Status::OutOfMemory,
+            _ => Status::Refused,
+        }
+    }
+}
+
+impl From<TextError> for PlanError {
+    ghost use Rattle.qap_plan.specs.Reading.{of_text};
+
+    ghost from_gives = { λ e f. f ≡ of_text e };
+
+    fn from(error: TextError) -> PlanError {
+        match error {
+            TextError::OutOfMemory => PlanError::OutOfMemory,
+            TextError::Device => PlanError::Device,
+            _ => PlanError::Text(error),
+        }
+    }
+}
+
+impl From<AllocError> for PlanError {
+    ghost from_gives = { λ _ f. f ≡ WantOfMemory };
+
+    fn from(_error: AllocError) -> PlanError {
+        PlanError::OutOfMemory
+    }
+}
+
+impl From<Device> for PlanError {
+    ghost from_gives = { λ _ f. f ≡ FailedDevice };
+
+    fn from(_error: Device) -> PlanError {
+        PlanError::Device
+    }
+}

@@ -1,0 +1,150 @@
+//! Plans: arrangements of least cost, with what is proved of them, for people.
+#![tactic(auto)]
+
+mod answer;
+mod answering;
+mod command_line;
+mod elapsed;
+mod error;
+mod json;
+mod options;
+mod planning;
+mod reading;
+mod starting;
+mod whole_file;
+
+ghost use Rattle.qap_plan.specs.Options.{AreLimited};
+
+use answering::plan_stream;
+use clap::Error;
+use clap::error::ErrorKind;
+use command_line::{Request, parse};
+use elapsed::Elapsed;
+use error::PlanError;
+use json::json_text;
+use planning::Planned;
+use qap_io::{Counted, Status};
+use std::process::ExitCode;
+use std::rt::Env;
+use std::sync::Wait;
+use std::thread::Threads;
+use std::time::Clock;
+use std::{env, fs, io};
+use whole_file::write_whole;
+
+#[cfg(test)]
+mod tests;
+
+fn main(rt: HostRuntime) -> ExitCode {
+    let words = match arguments(&rt) {
+        Ok(words) => words,
+        Err(error) => return tell_unread(&rt, &error),
+    };
+    match parse(rt.alloc(), &words) {
+        Ok(request) => solve(&rt, &rt, &request),
+        Err(error) => tell(&rt, &error),
+    }
+}
+
+/// The words of the program's own command line.
+fn arguments(rt: &(impl Env + AllocGlobal)) -> io::Result<Vec<String>> {
+    Ok(env::args(rt)?.collect(rt.alloc())?)
+}
+
+/// Tells why the command line couldn't be read.
+fn tell_unread(rt: &HostRuntime, error: &io::Error) -> ExitCode {
+    if error.kind() == io::ErrorKind::OutOfMemory {
+        return refuse(rt, "qapplan", PlanError::OutOfMemory);
+    }
+    let _ = rt.eprintln("error: an argument is no text in UTF-8");
+    ExitCode::from(Status::Usage.code())
+}
+
+/// Prints the help or the version where it was asked for, and else what is wrong with the command line.
+fn tell(rt: &HostRuntime, error: &Error) -> ExitCode {
+    if error.kind() == ErrorKind::OutOfMemory {
+        return refuse(rt, "qapplan", PlanError::OutOfMemory);
+    }
+    let _ = error.print(rt);
+    ExitCode::from(error.exit_code() as u8)
+}
+
+/// Tells on standard error what a file is refused for.
+fn refuse(rt: &HostRuntime, file: &str, error: PlanError) -> ExitCode {
+    let _ = rt.eprintln(format_args!("error: {file}: {error}"));
+    ExitCode::from(error.status().code())
+}
+
+/// Solves an instance. `system` is what threads, waiting and the time are asked of.
+fn solve<T>(system: &T, rt: &HostRuntime, request: &Request<'_>) -> ExitCode
+where
+    T: Threads + Wait + Clock + Sync,
+    requires { AreLimited request.now.options }
+{
+    let Ok(file) = fs::open(rt, request.file) else {
+        return refuse(rt, request.file, PlanError::Device);
+    };
+    let mut start = None;
+    if let Some(name) = request.start {
+        let Ok(file) = fs::open(rt, name) else {
+            return refuse(rt, name, PlanError::Device);
+        };
+        start = Some(Counted::new(file));
+    }
+    let elapsed = Elapsed::new(system, request.options.seconds);
+    let answer = plan_stream(
+        system,
+        rt.alloc(),
+        &mut Counted::new(file),
+        &mut start,
+        &mut Counted::new(rt.stdout()),
+        &request.options,
+        &elapsed,
+        &elapsed,
+    );
+    match answer {
+        Ok(answer) => finish(rt, request, &answer, elapsed.milliseconds()),
+        Err(error) => refuse(rt, faulty_file(request, error), error),
+    }
+}
+
+/// The file that an error is about.
+fn faulty_file<'a>(request: &Request<'a>, error: PlanError) -> &'a str {
+    match (request.start, error) {
+        (Some(start), PlanError::Start(_) | PlanError::StartCost(_)) => start,
+        _ => request.file,
+    }
+}
+
+/// Writes the answer's JSON where that is asked for, and tells the exit status.
+fn finish(
+    rt: &HostRuntime,
+    request: &Request<'_>,
+    answer: &Planned,
+    milliseconds: u64,
+) -> ExitCode {
+    if let Some(file) = request.json {
+        if let Err(error) = write_json(rt, file, answer, milliseconds) {
+            return refuse(rt, file, error);
+        }
+    }
+    let status = if answer.is_optimal() {
+        Status::Done
+    } else {
+        Status::Stopped
+    };
+    ExitCode::from(status.code())
+}
+
+/// Writes the answer's JSON.
+fn write_json(
+    rt: &HostRuntime,
+    file: &str,
+    answer: &Planned,
+    milliseconds: u64,
+) -> Result<(), PlanError> {
+    let Ok(text) = json_text(rt.alloc(), answer, milliseconds) else {
+        return Err(PlanError::OutOfMemory);
+    };
+    write_whole(rt, file, text.as_bytes()).map_err(|_| PlanError::Device)
+}

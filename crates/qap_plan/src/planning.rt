@@ -1,0 +1,138 @@
+//! Searches an instance for a permutation of least cost, from one that a tabu search comes to.
+
+ghost use Rattle.std.specs.Prelude.{◌≡◌, ◌≤ℤ◌, ◌↔◌, true, IfOk, IfSome};
+ghost use Rattle.qap_cost.specs.Objective.{Permutes, cost_of};
+ghost use Rattle.qap_cost.specs.Placement.{root_of};
+ghost use Rattle.qap_plan.specs.Options.{AreLimited};
+ghost use Rattle.qap_plan.specs.Planning.{IsNoDearer, IsPlanned};
+
+use crate::options::Options;
+use qap_cost::{Instance, Partial, Perm};
+use qap_improve::{Hook, TabuPlan, tabu_search};
+use qap_search::{Always, Bounded, Branching, Clock, Plan, Stop, identity, solve_least_from};
+use std::alloc::{AllocError, Global};
+use std::sync::Wait;
+use std::thread::Threads;
+use std::time;
+
+/// For how many milliseconds a worker's transaction is leased: ten minutes.
+const LEASE_MS: u64 = 600_000;
+
+/// What a search has come to.
+#[derive(Drop)]
+pub struct Planned {
+    /// The best permutation found.
+    pub permutation: Perm,
+    pub cost: i128,
+    /// No permutation costs less.
+    pub bound: i128,
+    /// How many nodes were decided.
+    pub nodes: u64,
+    /// How many nodes were left open.
+    pub open_nodes: u64,
+}
+
+impl Planned {
+    /// Whether the permutation is proved to be one of least cost.
+    pub fn is_optimal(&self) -> bool
+        ensures { (result ≡ true) ↔ (self.now.cost ≤ℤ self.now.bound) }
+    {
+        self.bound >= self.cost
+    }
+}
+
+/// Searches, from the start or any permutation, until no node is open, or the limit of nodes is reached, or the stop is wanted, and where memory ends.
+pub fn search<T, C, S>(
+    system: &T,
+    alloc: Global,
+    instance: &Instance,
+    start: Option<Perm>,
+    options: &Options,
+    clock: &C,
+    stop: &S,
+) -> Result<Planned, AllocError>
+where
+    T: Threads + Wait + time::Clock + Sync,
+    C: Clock,
+    S: Stop,
+    requires limited { AreLimited options.now }
+    requires start { IfSome start (Permutes instance.now) }
+    ensures { IfOk result (λ x. IsPlanned instance.now start x.permutation x.cost x.bound) }
+{
+    let root = Partial::root(alloc, instance.size())?;
+    let start = improved(alloc, instance, start, options, stop)?;
+    let plan = Plan {
+        workers: options.workers,
+        lease_ms: LEASE_MS,
+        limit: options.nodes,
+        root: &root,
+        start: &start,
+        branching: Branching::GreatestSum,
+    };
+    let found = solve_least_from(system, alloc, instance, &plan, clock, &Always, stop)?;
+    Ok(planned_by(found))
+}
+
+/// What the search's answer says of all permutations.
+fn planned_by(found: Bounded) -> Planned
+    ensures permutation { result.permutation ≡ found.permutation }
+    ensures cost { result.cost ≡ found.cost }
+    ensures bound { result.bound ≡ found.bound }
+{
+    let mut nodes: u64 = 0;
+    for report in &found.reports {
+        nodes = nodes.saturating_add(report.accepted);
+    }
+    Planned {
+        permutation: found.permutation,
+        cost: found.cost,
+        bound: found.bound,
+        nodes,
+        open_nodes: found.open_nodes,
+    }
+}
+
+/// Lets a tabu search go on until its stop is wanted.
+#[derive(Drop)]
+struct UntilStopped<'a, S: Stop> {
+    stop: &'a S,
+}
+
+impl<S: Stop> Hook for UntilStopped<'_, S> {
+    fn goes_on(&mut self, _best: i128) -> bool {
+        !self.stop.is_wanted()
+    }
+}
+
+/// The permutation that the search for a proof begins with.
+fn improved<S: Stop>(
+    alloc: Global,
+    instance: &Instance,
+    start: Option<Perm>,
+    options: &Options,
+    stop: &S,
+) -> Result<Perm, AllocError>
+    requires { IfSome start (Permutes instance.now) }
+    ensures permutes { IfOk result (Permutes instance.now) }
+    ensures no_dearer { IfOk result (λ p. IsNoDearer instance.now start (cost_of instance.now p)) }
+{
+    let first = first_of(alloc, instance, start)?;
+    let plan = TabuPlan {
+        iterations: options.improve,
+        seed: options.seed,
+    };
+    let found = tabu_search(alloc, instance, &first, &plan, &mut UntilStopped { stop })?;
+    Ok(found.permutation)
+}
+
+/// The permutation that the tabu search begins with: the start, where there is one.
+fn first_of(alloc: Global, instance: &Instance, start: Option<Perm>) -> Result<Perm, AllocError>
+    requires { IfSome start (Permutes instance.now) }
+    ensures permutes { IfOk result (Permutes instance.now) }
+    ensures no_dearer { IfOk result (λ p. IsNoDearer instance.now start (cost_of instance.now p)) }
+{
+    match start {
+        Some(start) => Ok(start),
+        None => identity(alloc, instance),
+    }
+}

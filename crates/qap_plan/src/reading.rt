@@ -1,0 +1,31 @@
+//! Reads an instance that stands alone in its file.
+
+ghost use Rattle.std.specs.Prelude.{MatchResult};
+ghost use Rattle.qap_text.specs.Input.{input_of};
+ghost use Rattle.qap_plan.specs.Reading.{HasNoPlan, HasPlan};
+
+use crate::error::PlanError;
+use qap_cost::Instance;
+use qap_io::Counted;
+use qap_text::{MAX_INPUT, read_all, read_instance, skip_separators};
+use std::alloc::Global;
+use std::io::Read;
+
+/// The instance that the input begins with. A word behind it is an error, unless what follows is to be passed over.
+pub fn read_problem<R: Read>(
+    alloc: Global,
+    reader: &mut Counted<R>,
+    passes: bool,
+) -> Result<Instance, PlanError>
+    ensures { let i = input_of R.remaining reader.old reader.new in
+        MatchResult result (HasPlan i passes) (HasNoPlan i) }
+{
+    let text = read_all(alloc, reader, MAX_INPUT)?;
+    let (instance, rest) = read_instance(alloc, &text)?;
+    let more = skip_separators(rest);
+    if more.is_empty() || passes {
+        Ok(instance)
+    } else {
+        Err(PlanError::Rest(text.len().saturating_sub(more.len())))
+    }
+}
