@@ -12,22 +12,36 @@ use Rattle.qap_search.specs.Thought.{IsThought, ThoughtValue}
 use Rattle.qap_search.specs.declared.node.thought.Thought.{Thought}
 
 -- the tuples are those of one decided node at x, closed only where nothing below costs less than c
-pub record Decides (I : Problem) (c : ℤ) (x : Placement) (tuples : List (List FieldValue)) : Type 0 where
+pub record Decides (cutting : Bool) (I : Problem) (c : ℤ) (x : Placement) (tuples : List (List FieldValue)) : Type 0 where
   pub decided : SearchTree
   pub one : IsOneNode decided
-  pub valid : IsTreeAt (Closes I c) x decided
+  pub valid : IsTree (judge_of cutting I c) (whole x) decided
   pub are : tuples ≡ pieces x decided
 
 -- the thought is one on x, for some instance
 abbrev pub IsOn : Placement → Thought → Type 0
 IsOn x t = (I : Problem) × IsThought I x t
 
+-- the children of a split whose duals come to this at each: cut off where that is at least c, and else open
+abbrev pub children_by : ℤ → List ℤ → SearchTrees
+children_by c [] = no_trees
+children_by c (z ∷ zs) = tree (if int_le c z then cut_node else open_node) (children_by c zs)
+
+-- a node split so where the best permutation costs c: with the thought's duals where these may cut children off, and else with all
+-- children open
+abbrev pub split_by : ThoughtValue → ℤ → BranchValue → SearchTree
+split_by t c b = split_with t c b b.reached
+  where
+    split_with : ThoughtValue → ℤ → BranchValue → Option (List ℤ) → SearchTree
+    split_with t c b None = split_open t.node b.number
+    split_with t c b (Some zs) = split_node (record { side = b.side; number = b.number; duals = Some (pair t.u t.v) }) (children_by c zs)
+
 -- what a thought makes of its node where the best permutation costs c: its duals close it where its value is at least that, and
--- else it is split on the thought's facility, with all children open
+-- else it is split on what the thought tells
 abbrev pub IsDecisionOf : ThoughtValue → ℤ → SearchTree → Type 0
 IsDecisionOf t c decided =
     ((c ≤ℤ t.value) × (decided ≡ closed_node t.u t.v))
-    ⊎ ((t.value <ℤ c) × (f : ℕ) × (t.branch ≡ Some f) × (decided ≡ split_open t.node f))
+    ⊎ ((t.value <ℤ c) × (b : BranchValue) × (t.branch ≡ Some b) × (decided ≡ split_by t c b))
 
 -- the tuples are those of what the thought makes of its node
 pub record DecidesBy (I : Problem) (c : ℤ) (t : ThoughtValue) (tuples : List (List FieldValue)) : Type 0 where

@@ -1,5 +1,5 @@
 -- What is worked out about a node: duals that fit its reduced matrix and whose sum an assignment reaches, the permutation that
--- completes the node by that assignment, and a facility to split on.
+-- completes the node by that assignment, and what to split it on.
 use Rattle.std.specs.Prelude.{◌≡◌, ◌-◌, ℕ, ℤ, List, length, ◌+ℤ◌, MatchOption, Option}
 use Rattle.qap_cost.specs.Instance.{Problem}
 use Rattle.qap_cost.specs.Matrix.{Square, Assigns, DualsFit, IsMatrix, assignment_cost, dual_value}
@@ -11,7 +11,23 @@ use Rattle.qap_search.specs.Completion.{IsCompletion}
 use Rattle.qap_search.specs.Replacement.{Best}
 use Rattle.qap_search.specs.declared.node.thought.Thought.{Thought}
 
-pub record IsThought (I : Problem) (x : Placement) (t : Thought) : Type 0 where
+-- for each child of a split of x, what the duals come to there
+pub record AreReached (I : Problem) (x : Placement) (d : Pair) (side : Side) (number : ℕ) (reached : List ℤ) : Type 0 where
+  pub one_each : length reached ≡ free_count x
+  pub are :
+    (c : ℕ) → c < length reached →
+    Reaches I x d (facility_on side x number c) (location_on side x number c) (slice_index_or reached c (pos 0))
+
+-- x is to be split on a facility, of whose children nothing is said; or, where children may be cut off, on a facility or a location,
+-- and what the duals come to at each child is told
+abbrev pub IsBranchBy : Bool → Problem → Placement → Pair → Branch → Type 0
+IsBranchBy false I x d b = (b.side ≡ Facility) × (b.reached ≡ None)
+IsBranchBy true I x d b = (zs : Vec ℤ) × (b.reached ≡ Some zs) × AreReached I x d b.side b.number zs.items
+
+abbrev pub IsBranch : Bool → Problem → Placement → Pair → Branch → Type 0
+IsBranch cutting I x d b = IsFreeOn b.side x b.number × IsBranchBy cutting I x d b
+
+pub record IsThought (cutting : Bool) (I : Problem) (x : Placement) (t : Thought) : Type 0 where
   pub matrix : Square
   pub square : IsMatrix matrix
   pub reduced : IsReduced I x matrix
@@ -24,19 +40,25 @@ pub record IsThought (I : Problem) (x : Placement) (t : Thought) : Type 0 where
   pub completes : IsCompletion x matching t.candidate
   pub permutes : Permutes I t.candidate
   pub costs : cost_of I t.candidate ≡ t.cost
-  pub branch : MatchOption t.branch (length x.facilities ≡ x.size) (IsFreeFacility x)
+  pub branch : MatchOption t.branch (length x.facilities ≡ x.size) (IsBranch cutting I x (pair t.u.items t.v.items))
 
 abbrev pub candidate_of : Thought → Best
 candidate_of t = record { cost = t.cost; permutation = t.candidate }
 
--- a node that was thought on: the bound on what its completions cost, the duals that show it, a facility to split on where one is
+-- what a node is to be split on, and what its duals come to at each child, where children may be cut off by that
+pub record BranchValue : Type 0 where
+  pub side : Side
+  pub number : ℕ
+  pub reached : Option (List ℤ)
+
+-- a node that was thought on: the bound on what its completions cost, the duals that show it, what to split it on where something is
 -- free, and one of the completions with its cost
 pub record ThoughtValue : Type 0 where
   pub node : Placement
   pub value : ℤ
   pub u : List ℤ
   pub v : List ℤ
-  pub branch : Option ℕ
+  pub branch : Option BranchValue
   pub candidate : Best
 
 -- what a thought on x tells
