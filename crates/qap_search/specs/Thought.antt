@@ -1,14 +1,20 @@
 -- What is worked out about a node: duals that fit its reduced matrix and whose sum an assignment reaches, the permutation that
 -- completes the node by that assignment, and what to split it on.
-use Rattle.std.specs.Prelude.{◌≡◌, ◌-◌, ℕ, ℤ, List, length, ◌+ℤ◌, MatchOption, Option}
+use Rattle.std.specs.Prelude.{◌≡◌, ◌-◌, ◌<◌, ℕ, ℤ, pos, Bool, true, false, List, Vec, length, slice_index_or, ◌+ℤ◌, MatchOption, Option, Some, None}
 use Rattle.qap_cost.specs.Instance.{Problem}
 use Rattle.qap_cost.specs.Matrix.{Square, Assigns, DualsFit, IsMatrix, assignment_cost, dual_value}
 use Rattle.qap_cost.specs.Objective.{Permutes, cost_of}
-use Rattle.qap_cost.specs.Placement.{Placement, IsFreeFacility, fixed_cost_of}
+use Rattle.qap_cost.specs.Placement.{Placement, fixed_cost_of}
 use Rattle.gilmore_lawler.specs.ReducedMatrix.{IsReduced}
 use Rattle.qap_cert.specs.Shape.{AreDuals}
+use Rattle.qap_proof.specs.Shape.{free_count}
+use Rattle.qap_proof.specs.Tree.{Pair, pair, IsFreeOn, facility_on, location_on}
+use Rattle.qap_proof.specs.Valid.{Reaches}
+use Rattle.qap_proof.specs.declared.side.Side.{Side}
+use Rattle.qap_proof.specs.declared.side.Side.TheVariants.{Facility}
 use Rattle.qap_search.specs.Completion.{IsCompletion}
 use Rattle.qap_search.specs.Replacement.{Best}
+use Rattle.qap_search.specs.declared.node.branching.Branch.{Branch}
 use Rattle.qap_search.specs.declared.node.thought.Thought.{Thought}
 
 -- for each child of a split of x, what the duals come to there
@@ -18,14 +24,31 @@ pub record AreReached (I : Problem) (x : Placement) (d : Pair) (side : Side) (nu
     (c : ℕ) → c < length reached →
     Reaches I x d (facility_on side x number c) (location_on side x number c) (slice_index_or reached c (pos 0))
 
+-- what a node is to be split on, and what its duals come to at each child, where children may be cut off by that
+pub record BranchValue : Type 0 where
+  pub side : Side
+  pub number : ℕ
+  pub reached : Option (List ℤ)
+
 -- x is to be split on a facility, of whose children nothing is said; or, where children may be cut off, on a facility or a location,
 -- and what the duals come to at each child is told
-abbrev pub IsBranchBy : Bool → Problem → Placement → Pair → Branch → Type 0
+abbrev pub IsBranchBy : Bool → Problem → Placement → Pair → BranchValue → Type 0
 IsBranchBy false I x d b = (b.side ≡ Facility) × (b.reached ≡ None)
-IsBranchBy true I x d b = (zs : Vec ℤ) × (b.reached ≡ Some zs) × AreReached I x d b.side b.number zs.items
+IsBranchBy true I x d b = (zs : List ℤ) × (b.reached ≡ Some zs) × AreReached I x d b.side b.number zs
 
-abbrev pub IsBranch : Bool → Problem → Placement → Pair → Branch → Type 0
+abbrev pub IsBranch : Bool → Problem → Placement → Pair → BranchValue → Type 0
 IsBranch cutting I x d b = IsFreeOn b.side x b.number × IsBranchBy cutting I x d b
+
+abbrev pub reached_in : Option (Vec ℤ) → Option (List ℤ)
+reached_in None = None
+reached_in (Some zs) = Some zs.items
+
+abbrev pub branch_value : Branch → BranchValue
+branch_value b = record { side = b.side; number = b.number; reached = reached_in b.reached }
+
+abbrev pub branch_in : Option Branch → Option BranchValue
+branch_in None = None
+branch_in (Some b) = Some (branch_value b)
 
 pub record IsThought (cutting : Bool) (I : Problem) (x : Placement) (t : Thought) : Type 0 where
   pub matrix : Square
@@ -40,16 +63,10 @@ pub record IsThought (cutting : Bool) (I : Problem) (x : Placement) (t : Thought
   pub completes : IsCompletion x matching t.candidate
   pub permutes : Permutes I t.candidate
   pub costs : cost_of I t.candidate ≡ t.cost
-  pub branch : MatchOption t.branch (length x.facilities ≡ x.size) (IsBranch cutting I x (pair t.u.items t.v.items))
+  pub branch : MatchOption t.branch (length x.facilities ≡ x.size) (λ b. IsBranch cutting I x (pair t.u.items t.v.items) (branch_value b))
 
 abbrev pub candidate_of : Thought → Best
 candidate_of t = record { cost = t.cost; permutation = t.candidate }
-
--- what a node is to be split on, and what its duals come to at each child, where children may be cut off by that
-pub record BranchValue : Type 0 where
-  pub side : Side
-  pub number : ℕ
-  pub reached : Option (List ℤ)
 
 -- a node that was thought on: the bound on what its completions cost, the duals that show it, what to split it on where something is
 -- free, and one of the completions with its cost
@@ -63,4 +80,4 @@ pub record ThoughtValue : Type 0 where
 
 -- what a thought on x tells
 abbrev pub thought_on : Placement → Thought → ThoughtValue
-thought_on x t = record { node = x; value = t.value; u = t.u.items; v = t.v.items; branch = t.branch; candidate = candidate_of t }
+thought_on x t = record { node = x; value = t.value; u = t.u.items; v = t.v.items; branch = branch_in t.branch; candidate = candidate_of t }

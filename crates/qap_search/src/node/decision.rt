@@ -1,6 +1,6 @@
 //! What is decided at a node, once the cost of the best permutation is known.
 
-ghost use Rattle.std.specs.Prelude.{◌≡◌, ◌<ℤ◌, IfOk, MatchOption, length};
+ghost use Rattle.std.specs.Prelude.{◌≡◌, ◌<ℤ◌, Bool, IfOk, MatchOption, length};
 ghost use Rattle.qap_cost.specs.Instance.{Problem};
 ghost use Rattle.qap_search.specs.Decision.{DecidesBeside, DecidesBetter, DecidesBy, IsBetterOf, IsOn};
 ghost use Rattle.qap_search.specs.Replacement.{Best};
@@ -23,7 +23,7 @@ pub fn decide(
     requires { IsOn node.now thought.now }
     ensures { IfOk result (λ written. MatchOption written
         ((length node.now.facilities ≡ node.now.size) × (thought.now.value <ℤ best))
-        (λ tuples. (I : Problem) → IsThought I node.now thought.now → DecidesBy I best (thought_on node.now thought.now) tuples.items)) }
+        (λ tuples. (cutting : Bool) (I : Problem) → IsThought cutting I node.now thought.now → DecidesBy cutting I best (thought_on node.now thought.now) tuples.items)) }
 {
     if thought.value >= best {
         let u = Vec::from_slice(alloc, &thought.u)?;
@@ -48,7 +48,7 @@ pub fn decide_beside(
     requires { IsOn node.now thought.now }
     ensures { IfOk result (λ written. MatchOption written
         ((length node.now.facilities ≡ node.now.size) × (thought.now.value <ℤ cost))
-        (λ tuples. (I : Problem) → IsThought I node.now thought.now → DecidesBeside I cost perm.now (thought_on node.now thought.now) tuples.items)) }
+        (λ tuples. (cutting : Bool) (I : Problem) → IsThought cutting I node.now thought.now → DecidesBeside cutting I cost perm.now (thought_on node.now thought.now) tuples.items)) }
 {
     let Some(mut tuples) = decide(alloc, node, thought, cost)? else {
         return Ok(None);
@@ -70,8 +70,8 @@ pub fn decide_anew(
     ensures { IfOk result (λ written. MatchOption written
         ((new : Best) × IsBetterOf (candidate_of thought.now) (record { cost = cost; permutation = perm.now }) new
         × (length node.now.facilities ≡ node.now.size) × (thought.now.value <ℤ new.cost))
-        (λ tuples. (I : Problem) → IsThought I node.now thought.now →
-        DecidesBetter I (thought_on node.now thought.now) (record { cost = cost; permutation = perm.now }) tuples.items)) }
+        (λ tuples. (cutting : Bool) (I : Problem) → IsThought cutting I node.now thought.now →
+        DecidesBetter cutting I (thought_on node.now thought.now) (record { cost = cost; permutation = perm.now }) tuples.items)) }
 {
     if thought.cost < cost {
         decide_beside(alloc, node, thought, thought.cost, &thought.candidate)
