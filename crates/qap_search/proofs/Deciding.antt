@@ -16,7 +16,7 @@ use Rattle.qap_proof.specs.declared.side.Side.{Side}
 use Rattle.qap_proof.specs.declared.side.Side.TheVariants.{Facility}
 use Rattle.space_txn.specs.Content.{SameItems}
 use Rattle.tuple_match.specs.FieldValue.{FieldValue}
-use Rattle.qap_search.specs.Decision.{Decides, DecidesBeside, DecidesBetter, DecidesBy, children_by, split_by, split_with}
+use Rattle.qap_search.specs.Decision.{Decides, DecidesBeside, DecidesBetter, DecidesBy, children_by, pruned_split, split_by, split_with}
 use Rattle.qap_search.specs.Piece.{best_tuple, closed_tuple, node_tuple, pieces}
 use Rattle.qap_search.specs.Replacement.{Best, IsAsGood, IsOneNode, MayReplace, tuple_of}
 use Rattle.qap_search.specs.SearchTree.{SearchTree, open_node, cut_node, closed_node, SearchTrees, tree_count, tree, Judge, IsTree, AreTrees, AreUndecided, judge_of, plain, proving, open_row, split_open}
@@ -72,7 +72,7 @@ branch_split false I c x t b placed thought h =
     (record { one = open_row-undecided (free_count x); valid = (less, free, (refl, refl), omega arith, open_row-trees (plain (Closes I c)) x _ 0 (free_count x)) })
 branch_split true I c x t b placed thought h =
     let d = pair t.u.items t.v.items in
-    let s : Split = record { side = b.side; number = b.number; duals = Some d } in
+    let s = pruned_split b.side b.number t.u.items t.v.items in
     let reached = h.1.2 in
     let zs = h.1.0 in
     let less = free_depth b.side x b.number placed h.0 in

@@ -2,7 +2,8 @@
 use Rattle.std.specs.Prelude.{◌≡◌, ◌⊎◌, ℕ, Bool, List, [], ◌∷◌, ℤ, ◌<ℤ◌, ◌≤ℤ◌, int_lt, Option, Some, None, if◌then◌else◌}
 use Rattle.qap_cost.specs.Instance.{Problem}
 use Rattle.qap_cost.specs.Placement.{Placement}
-use Rattle.qap_proof.specs.Tree.{pair, whole}
+use Rattle.qap_proof.specs.Tree.{Split, pair, whole}
+use Rattle.qap_proof.specs.declared.side.Side.{Side}
 use Rattle.space_txn.specs.Content.{SameItems}
 use Rattle.tuple_match.specs.FieldValue.{FieldValue}
 use Rattle.qap_search.specs.Piece.{best_tuple, pieces}
@@ -27,11 +28,15 @@ abbrev pub children_by : ℤ → List ℤ → SearchTrees
 children_by c [] = no_trees
 children_by c (z ∷ zs) = tree (if int_lt z c then open_node else cut_node) (children_by c zs)
 
+-- a split with these duals
+abbrev pub pruned_split : Side → ℕ → List ℤ → List ℤ → Split
+pruned_split side number u v = record { side = side; number = number; duals = Some (pair u v) }
+
 -- a node split so where the best permutation costs c, by what the duals come to at each child, if that is told: with the thought's
 -- duals, which may cut children off; and else with all children open
 abbrev pub split_with : ThoughtValue → ℤ → BranchValue → Option (List ℤ) → SearchTree
 split_with t c b None = split_open t.node b.number
-split_with t c b (Some zs) = split_node (record { side = b.side; number = b.number; duals = Some (pair t.u t.v) }) (children_by c zs)
+split_with t c b (Some zs) = split_node (pruned_split b.side b.number t.u t.v) (children_by c zs)
 
 abbrev pub split_by : ThoughtValue → ℤ → BranchValue → SearchTree
 split_by t c b = split_with t c b b.reached

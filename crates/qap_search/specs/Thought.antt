@@ -1,6 +1,7 @@
 -- What is worked out about a node: duals that fit its reduced matrix and whose sum an assignment reaches, the permutation that
 -- completes the node by that assignment, and what to split it on.
-use Rattle.std.specs.Prelude.{◌≡◌, ◌-◌, ◌<◌, ℕ, ℤ, pos, Bool, true, false, List, Vec, length, slice_index_or, ◌+ℤ◌, MatchOption, Option, Some, None}
+use Rattle.std.specs.Prelude.{◌≡◌, ◌-◌, ◌<◌, ℕ, ℤ, pos, Bool, true, false, List, length, slice_index_or, ◌+ℤ◌, MatchOption, Option, Some, None}
+use Rattle.std.specs.Global.{Vec}
 use Rattle.qap_cost.specs.Instance.{Problem}
 use Rattle.qap_cost.specs.Matrix.{Square, Assigns, DualsFit, IsMatrix, assignment_cost, dual_value}
 use Rattle.qap_cost.specs.Objective.{Permutes, cost_of}

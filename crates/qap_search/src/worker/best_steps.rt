@@ -21,6 +21,7 @@ ghost use Rattle.qap_search.specs.declared.worker.stage.Stage.TheVariants.{Consi
 
 use crate::certificate::assembling::permutation_of;
 use crate::node::decision::{decide, decide_anew};
+use crate::node::thought::Thought;
 use crate::tuples::parsing::is_word;
 use crate::worker::putting::{by_entries, put_forever};
 use crate::worker::stage::{LastThought, Outcome, Stage, Tally};
@@ -203,7 +204,8 @@ fn write_beside(
     let Some(tuples) = decide(alloc, &last.node, &last.thought, cost)? else {
         return Ok(None);
     };
-    put(alloc, txn, tuples, &last.thought.entries)?;
+    let order = order_of(alloc, &last.thought, cost)?;
+    put(alloc, txn, tuples, &order)?;
     Ok(Some(cost))
 }
 
@@ -226,8 +228,18 @@ fn write_anew(
     let Some(tuples) = decide_anew(alloc, &last.node, &last.thought, cost, &perm)? else {
         return Ok(None);
     };
-    put(alloc, txn, tuples, &last.thought.entries)?;
-    Ok(Some(last.thought.cost.min(cost)))
+    let standing = last.thought.cost.min(cost);
+    let order = order_of(alloc, &last.thought, standing)?;
+    put(alloc, txn, tuples, &order)?;
+    Ok(Some(standing))
+}
+
+/// By what the open children of the thought's node are taken, the least first, where the best permutation costs so much.
+fn order_of(alloc: Global, thought: &Thought, best: i128) -> Result<Vec<i128>, AllocError> {
+    match &thought.branch {
+        Some(branch) => branch.order(alloc, best),
+        None => Ok(Vec::new(alloc)),
+    }
 }
 
 /// Writes the tuples, to stay forever, those of children by the entries that are taken first behind the others.
