@@ -50,9 +50,10 @@ children_by-count c (z ∷ zs) = let rest = children_by-count c zs in omega arit
 children_by-trees : (I : Problem) (c : ℤ) (x : Placement) (s : Split) (d : Pair) (i : ℕ) (zs : List ℤ) → s.duals ≡ Some d
     → ((k : ℕ) → k < length zs → Reaches I x d (facility_on s.side x s.number (i + k)) (location_on s.side x s.number (i + k)) (get_or zs k (pos 0))) → AreTrees (proving I c) x s i (children_by c zs)
 children_by-trees I c x s d i [] has reach = tt
-children_by-trees I c x s d i (z ∷ zs) has reach = (
+children_by-trees I c x s d i (z ∷ zs) has reach =
+    let here : i + 0 ≡ i = omega arith in (
   cond_both (int_lt z c) open_node cut_node (λ (t : SearchTree). IsTree (proving I c) (child x s i) t) (λ e. tt)
-      (λ e. record { duals = d; has = has; value = z; reaches = reach zero (omega arith); enough = omega (arith, ints) }),
+      (λ e. record { duals = d; has = has; value = z; reaches = subst (λ (j : ℕ). Reaches I x d (facility_on s.side x s.number j) (location_on s.side x s.number j) z) here (reach zero (omega arith)); enough = omega (arith, ints) }),
   children_by-trees I c x s d (i + 1) zs has (λ k less.
       let moved : i + suc k ≡ i + 1 + k = omega arith in
       subst (λ (j : ℕ). Reaches I x d (facility_on s.side x s.number j) (location_on s.side x s.number j) (get_or zs k (pos 0))) moved (reach (suc k) (omega arith))),
@@ -91,7 +92,9 @@ branch_split true I c x t b placed thought h =
               fits = record { matrix = thought.matrix; square = thought.square; reduced = thought.reduced; fits = thought.fits };
             }),
         omega arith,
-        children_by-trees I c x s d 0 zs refl reached.are,
+        children_by-trees I c x s d 0 zs refl (λ k less.
+            let at : k ≡ 0 + k = omega arith in
+            subst (λ (j : ℕ). Reaches I x d (facility_on b.side x b.number j) (location_on b.side x b.number j) (get_or zs k (pos 0))) at (reached.are k less)),
       );
     })
 

@@ -161,7 +161,7 @@ open_bound_append I xs ys c b g first second =
           elim second.one as (λ (_ : (g ≡ b) ⊎ IsOpenValue I ys g). (g ≡ c) ⊎ IsOpenValue I (xs ++ ys) g) [
             | inl same ↦
                 elim first.one as (λ (_ : (b ≡ c) ⊎ IsOpenValue I xs b). (g ≡ c) ⊎ IsOpenValue I (xs ++ ys) g) [
-                  | inl whole ↦ inl (same ∙ whole)
+                  | inl first ↦ inl (same ∙ first)
                   | inr found ↦ inr (subst (IsOpenValue I (xs ++ ys)) (sym same) (open_value_left I xs ys b found))
                 ]
             | inr found ↦ inr (open_value_right I xs ys g found)

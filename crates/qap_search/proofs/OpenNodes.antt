@@ -227,22 +227,22 @@ mutual
   shut I cut_node (child x s c) hy valid ws rest h = absurd valid
   shut I (mirrored_node j m) (whole x) hy valid ws rest h = absurd valid
   shut I (mirrored_node j m) (child x s c) hy valid ws rest h = absurd valid
-  shut I (split_node s children) p hy valid ws rest h =
+  shut I (split_node s children) p hy valid [] rest h = absurd h
+  shut I (split_node s children) p hy valid (w ∷ ws) rest h =
       let y = node_at p in
-      let Q : Split → Type 0 = λ e. AllZip (IsClosedTuple I) (pieces y (split_node e children) ++ rest) ws → AreTrees (plain HasDuals) y e 0 children → IsShut I y (split_node e children) ws rest in
-      subst Q (sym (plain_split s valid.2)) (shut_split I s.number children y hy ws rest) h valid.4
-
-  shut_split : (I : Problem) (f : ℕ) (children : SearchTrees) (y : Placement) → IsNode I.size y → (ws rest : List (List FieldValue)) → AllZip (IsClosedTuple I) (pieces y (split_node (on_facility f) children) ++ rest) ws → AreTrees (plain HasDuals) y (on_facility f) 0 children → IsShut I y (split_node (on_facility f) children) ws rest
-  shut_split I f children y hy [] rest h valid = absurd h
-  shut_split I f children y hy (w ∷ ws) rest h valid =
-      let inner = all_shut I children y (on_facility f) 0 hy valid ws rest h.1 in
-      record {
+      let f = s.number in
+      let is = plain_split s valid.2 in
+      let moved = subst (λ (e : Split). AllZip (IsClosedTuple I) (pieces y (split_node e children) ++ rest) (w ∷ ws)) is h in
+      let rows = subst (λ (e : Split). AreTrees (plain HasDuals) y e 0 children) is valid.4 in
+      let inner = all_shut I children y (on_facility f) 0 hy rows ws rest moved.1 in
+      subst (λ (e : Split). IsShut I y (split_node e children) (w ∷ ws) rest) (sym is)
+      (record {
         tree_of = split f inner.trees_of;
         behind = inner.behind;
-        is = ap₂ (λ (a : List FieldValue) (b : List (List FieldValue)). a ∷ b) (other_stays I (split_tuple y f) w (λ (e : 115 ≡ 110). omega arith) h.0) inner.is;
+        is = ap₂ (λ (a : List FieldValue) (b : List (List FieldValue)). a ∷ b) (other_stays I (split_tuple y f) w (λ (e : 115 ≡ 110). omega arith) moved.0) inner.is;
         others = inner.others;
         closed = (refl, inner.closed);
-      }
+      })
 
   all_shut : (I : Problem) (ss : SearchTrees) (y : Placement) (s : Split) (c : ℕ) → IsNode I.size y → AreTrees (plain HasDuals) y s c ss → (ws rest : List (List FieldValue)) → AllZip (IsClosedTuple I) (pieces_of_all y s c ss ++ rest) ws → AreShut I y s c ss ws rest
   all_shut I no_trees y s c hy valid ws rest h = record { trees_of = no_nodes; behind = ws; is = refl; others = h; closed = tt }
