@@ -9,7 +9,9 @@ ghost use Rattle.qap_plan.specs.Planning.{IsNoDearer, IsPlanned};
 use crate::options::Options;
 use qap_cost::{Instance, Partial, Perm};
 use qap_improve::{Hook, TabuPlan, tabu_search};
-use qap_search::{Always, Bounded, Branching, Clock, Plan, Stop, identity, solve_least_from};
+use qap_search::{
+    Always, Bounded, Branching, Clock, Nobody, Plan, Stop, identity, solve_least_from,
+};
 use std::alloc::{AllocError, Global};
 use std::sync::Wait;
 use std::thread::Threads;
@@ -67,9 +69,9 @@ where
         limit: options.nodes,
         root: &root,
         start: &start,
-        branching: Branching::GreatestSum,
+        branching: Branching::Cutting,
     };
-    let found = solve_least_from(system, alloc, instance, &plan, clock, &Always, stop)?;
+    let found = solve_least_from(system, alloc, instance, &plan, clock, &Always, stop, &Nobody)?;
     Ok(planned_by(found))
 }
 

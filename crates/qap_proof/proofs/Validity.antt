@@ -24,7 +24,7 @@ abbrev Bounded : Problem → ℤ → Placement → Type 0
 Bounded I g x = (p : List ℕ) → Completes x p → g ≤ℤ cost_of I p
 
 -- the place is that of a node of a search
-abbrev IsPlace : Place → Type 0
+abbrev pub IsPlace : Place → Type 0
 IsPlace (whole x) = IsPlacement x
 IsPlace (child x s c) = IsPlacement x × IsFreeOn s.side x s.number × (c + length x.facilities < x.size)
 
@@ -46,7 +46,7 @@ free_pair Location x i c placement free few =
     let listed = ListsFree-free_below x.size x.facilities placement.facilities in
     record { facility = listed.each c (omega (arith, listed.count)); location = free }
 
-node_placement : (p : Place) → IsPlace p → IsPlacement (node_at p)
+pub node_placement : (p : Place) → IsPlace p → IsPlacement (node_at p)
 node_placement (whole x) h = h
 node_placement (child x s c) h =
     let pair = free_pair s.side x s.number c h.0 h.1 h.2 in IsPlacement-placing x (facility_on s.side x s.number c) (location_on s.side x s.number c) h.0 pair.facility pair.location
@@ -139,6 +139,9 @@ mutual
       all_valid_bounds rest I g x s (c + 1) placement same free (omega (arith, count)) (earlier_more I g x s c earlier here) h.1 j (omega arith)
 
 -- none that completes the root costs less than the bound that is proved
+pub Valid-NoneCompletesForLess : (I : Problem) (x : Placement) (g : ℤ) (t : Node) → IsPlacement x → x.size ≡ I.size → Valid I g (whole x) t → NoneCompletesForLess I x g
+Valid-NoneCompletesForLess I x g t placement size valid p permutes done = valid_bounds t I g (whole x) placement (sym size) tt valid p done
+
 pub Proves-NoneCompletesForLess : (I : Problem) (C : Claim) → IsInstance I → IsProof C → Proves I C → NoneCompletesForLess I C.root C.bound
 Proves-NoneCompletesForLess I C instance shape h =
     let size : I.size ≡ C.root.size = sym h.same_size ∙ sym shape.root.size in

@@ -11,7 +11,7 @@ ghost use Rattle.qap_proof.specs.Tree.{IsFreeOn, child as child_place, child_of,
 ghost use Rattle.qap_proof.specs.Valid.{TakesOn};
 ghost use Rattle.qap_proof.specs.Walk.{AreReached, BeginsWithTree, BeginsWithTrees, IsFaultBefore, IsToldOf, IsToldOfAll, IsToldOfClosed, IsToldOfDuals, IsToldOfSplit};
 
-use crate::child_values::child_values;
+use crate::reached::child_values;
 use crate::children::{child_node, free_others, has_duals};
 use crate::error::ProofError;
 use crate::image::{takes_facility, takes_location};

@@ -1,13 +1,14 @@
 -- What the tuples of a certificate are, and what keeps tuples from being those of one.
-use Rattle.std.proofs.Common.{◌≡◌, ℕ, suc, ◌≤◌, ◌<◌, ◌⊎◌, inl, inr, cond, eqb, List, [], ◌∷◌, ◌++◌, length, map, get_or, ℤ, pos, Option, Some, None, is_some, true, refl, sym, ap, subst, ◌∙◌, arith}
+use Rattle.std.proofs.Common.{◌≡◌, ℕ, suc, ◌≤◌, ◌<◌, ◌⊎◌, inl, inr, cond, eqb, List, [], ◌∷◌, ◌++◌, length, map, ◌+◌, ℤ, pos, Option, Some, None, is_some, true, refl, sym, ap, subst, ◌∙◌, arith}
 use Rattle.std.specs.List.{sum_by}
 use Rattle.std.proofs.lemmas.Bool.{false≢true}
 use Rattle.std.proofs.lemmas.List.Sums.{sum_by-append, sum_by-cons}
-use Rattle.qap_cost.specs.Placement.{Placement, IsPlacement, free_locations, placing, root_of}
+use Rattle.qap_cost.specs.Placement.{Placement, IsPlacement, IsFreeFacility, root_of}
 use Rattle.qap_cert.specs.Certificate.{Claim}
 use Rattle.qap_cert.specs.Shape.{AllHaveShape, HasShape, child_count}
 use Rattle.qap_cert.specs.Tree.{Node, split, bound, Nodes, no_nodes, node}
 use Rattle.qap_cert.specs.declared.version.Version.TheVariants.{Second}
+use Rattle.qap_proof.specs.Tree.{Split, Place, child, child_of, node_at, whole}
 use Rattle.space_txn.specs.Content.{SameItems}
 use Rattle.tuple_match.specs.FieldValue.{FieldValue}
 use Rattle.qap_search.specs.Assembling.{IsNoCertificate, IsTreeFault}
@@ -16,60 +17,62 @@ use Rattle.qap_search.specs.DecidedTuples.{IsNoPiece, decided_tuple, decision_tu
 use Rattle.qap_search.specs.Finished.{IsAssembled}
 use Rattle.qap_search.specs.Piece.{node_list, split_tuple, closed_tuple, best_tuple, pieces, pieces_of_all}
 use Rattle.qap_search.specs.Pieces.{decided_tuples, told_tuples}
-use Rattle.qap_search.specs.SearchTree.{IsTreeAt, AreTreesAt, searched, searched_all}
+use Rattle.qap_search.specs.SearchTree.{IsTree, AreTrees, plain, on_facility, searched, searched_all}
 use Rattle.qap_search.specs.declared.tuples.parsing.BestFound.{BestFound}
 use Rattle.qap_search.specs.declared.tuples.parsing.DecidedNode.{DecidedNode}
 use Rattle.qap_search.specs.declared.tuples.parsing.Decision.{Decision}
-use Rattle.qap_search.specs.declared.tuples.parsing.Decision.TheVariants.{Split, Closed}
+use Rattle.qap_search.specs.declared.tuples.parsing.Decision.TheVariants.{Split as SplitOn, Closed}
 use Rattle.qap_search.specs.declared.certificate.error.AssembleError.{AssembleError}
 use Rattle.qap_search.specs.declared.certificate.error.AssembleError.TheVariants.{NotATree, OutOfMemory}
-use Rattle.qap_search.proofs.Certificates.{children_placed, free_count, root_placement}
-use Rattle.qap_search.proofs.Replacing.{weighed}
+use Rattle.qap_search.proofs.Certificates.{child_placed, root_placement, tree_count-searched}
+use Rattle.qap_search.proofs.Replacing.{WeighsDecided, weighed}
 use Rattle.qap_search.proofs.TupleReadings.{found_in, is_it, is_it-found, is_it-itself, tag}
 
 mutual
   -- a tree of a certificate's shape is one at its node
-  any_tree : (s : Node) (y : Placement) → IsPlacement y → HasShape Second y.size y.facilities s → IsTreeAt AnyDuals y (searched s)
-  any_tree (bound u v) y placed h = tt
-  any_tree (split f children) y placed h =
-      (h.0, h.1, any_trees children y f (free_locations y) (children_placed y f placed h.1) (h.3 ∙ sym (free_count y placed)) h.4)
+  any_tree : (s : Node) (p : Place) → IsPlacement (node_at p) → HasShape Second (node_at p).size (node_at p).facilities s → IsTree (plain AnyDuals) p (searched s)
+  any_tree (bound u v) p placed h = tt
+  any_tree (split f children) p placed h =
+      let count = h.3 in
+      let less = h.0 in
+      let same = tree_count-searched children in
+      (h.0, h.1, (refl, refl), omega arith, any_trees children (node_at p) f 0 placed h.1 (omega arith) h.4)
 
-  any_trees : (ss : Nodes) (y : Placement) (f : ℕ) (ks : List ℕ) → ((j : ℕ) → j < length ks → IsPlacement (placing y f (get_or ks j 0))) → child_count ss ≡ length ks → AllHaveShape Second y.size (y.facilities ++ f ∷ []) ss → AreTreesAt AnyDuals y f ks (searched_all ss)
-  any_trees no_nodes y f [] placed count h = tt
-  any_trees no_nodes y f (k ∷ ks) placed count h = absurd (omega arith)
-  any_trees (node s rest) y f [] placed count h = absurd (omega arith)
-  any_trees (node s rest) y f (k ∷ ks) placed count h =
-      (any_tree s (placing y f k) (placed 0 (omega arith)) h.0, any_trees rest y f ks (λ j less. placed (suc j) (omega arith)) (omega arith) h.1)
+  any_trees : (ss : Nodes) (y : Placement) (f c : ℕ) → IsPlacement y → IsFreeFacility y f → c + child_count ss + length y.facilities ≡ y.size → AllHaveShape Second y.size (y.facilities ++ f ∷ []) ss → AreTrees (plain AnyDuals) y (on_facility f) c (searched_all ss)
+  any_trees no_nodes y f c placed free count h = tt
+  any_trees (node s rest) y f c placed free count h =
+      (any_tree s (child y (on_facility f) c) (child_placed y (on_facility f) c placed free (omega arith)) h.0, any_trees rest y f (c + 1) placed free (omega arith) h.1)
 
 -- so is a certificate's tree at the root
-pub assembled_tree : (n : ℕ) (tuples : List (List FieldValue)) (C : Claim) → IsAssembled n tuples C → IsTreeAt AnyDuals (root_of n) (searched C.tree)
+pub assembled_tree : (n : ℕ) (tuples : List (List FieldValue)) (C : Claim) → IsAssembled n tuples C → IsTree (plain AnyDuals) (whole (root_of n)) (searched C.tree)
 assembled_tree n tuples C a =
     let perm = a.certificate.permutation in
     let same = a.same_size in
     let positive = perm.positive in
     let small = perm.small in
-    any_tree C.tree (root_of n) (root_placement n (omega arith) (omega arith)) (subst (λ (m : ℕ). HasShape Second m [] C.tree) a.same_size a.certificate.tree)
+    any_tree C.tree (whole (root_of n)) (root_placement n (omega arith) (omega arith)) (subst (λ (m : ℕ). HasShape Second m [] C.tree) a.same_size a.certificate.tree)
 
 mutual
   -- the tuples of a tree without open nodes are those of splits and closed nodes
   no_piece : (w : List FieldValue) → IsNoPiece w → (s : Node) (y : Placement) → 1 ≤ sum_by (is_it w) (pieces y (searched s)) → ⊥
   no_piece w none (bound u v) y found = none.no_closed (node_list y) u v (sym (is_it-found w (closed_tuple y u v) (omega arith)))
   no_piece w none (split f children) y found =
-      elim (found_in (is_it w) (split_tuple y f ∷ []) (pieces_of_all y f (free_locations y) (searched_all children)) found) as
-      (λ (_ : (1 ≤ sum_by (is_it w) (split_tuple y f ∷ [])) ⊎ (1 ≤ sum_by (is_it w) (pieces_of_all y f (free_locations y) (searched_all children)))). ⊥) [
+      let later = pieces_of_all y (on_facility f) 0 (searched_all children) in
+      elim (found_in (is_it w) (split_tuple y f ∷ []) later found) as
+      (λ (_ : (1 ≤ sum_by (is_it w) (split_tuple y f ∷ [])) ⊎ (1 ≤ sum_by (is_it w) later)). ⊥) [
         | inl here ↦ none.no_split (node_list y) (pos f) (sym (is_it-found w (split_tuple y f) (omega arith)))
-        | inr there ↦ no_piece_among w none children y f (free_locations y) there
+        | inr there ↦ no_piece_among w none children y (on_facility f) 0 there
       ]
 
-  no_piece_among : (w : List FieldValue) → IsNoPiece w → (ss : Nodes) (y : Placement) (f : ℕ) (ks : List ℕ) → 1 ≤ sum_by (is_it w) (pieces_of_all y f ks (searched_all ss)) → ⊥
-  no_piece_among w none no_nodes y f [] found = absurd (omega arith)
-  no_piece_among w none no_nodes y f (k ∷ ks) found = absurd (omega arith)
-  no_piece_among w none (node s rest) y f [] found = absurd (omega arith)
-  no_piece_among w none (node s rest) y f (k ∷ ks) found =
-      elim (found_in (is_it w) (pieces (placing y f k) (searched s)) (pieces_of_all y f ks (searched_all rest)) found) as
-      (λ (_ : (1 ≤ sum_by (is_it w) (pieces (placing y f k) (searched s))) ⊎ (1 ≤ sum_by (is_it w) (pieces_of_all y f ks (searched_all rest)))). ⊥) [
-        | inl here ↦ no_piece w none s (placing y f k) here
-        | inr there ↦ no_piece_among w none rest y f ks there
+  no_piece_among : (w : List FieldValue) → IsNoPiece w → (ss : Nodes) (y : Placement) (s : Split) (c : ℕ) → 1 ≤ sum_by (is_it w) (pieces_of_all y s c (searched_all ss)) → ⊥
+  no_piece_among w none no_nodes y s c found = absurd (omega arith)
+  no_piece_among w none (node r rest) y s c found =
+      let first = pieces (child_of y s c) (searched r) in
+      let later = pieces_of_all y s (c + 1) (searched_all rest) in
+      elim (found_in (is_it w) first later found) as
+      (λ (_ : (1 ≤ sum_by (is_it w) first) ⊎ (1 ≤ sum_by (is_it w) later)). ⊥) [
+        | inl here ↦ no_piece w none r (child_of y s c) here
+        | inr there ↦ no_piece_among w none rest y s (c + 1) there
       ]
 
 -- a tuple that is no piece is in the way
@@ -92,17 +95,20 @@ none_with n all before after told x same is none C a =
 abbrev pub best_weight : List FieldValue → ℕ
 best_weight t = cond (eqb (tag t) 98) 1 0
 
+weighs_none : WeighsDecided best_weight 0
+weighs_none = record { at_open = λ x. refl; at_split = λ x f. refl; at_pruned = λ x s d cuts. refl; at_closed = λ x u v. refl; at_mirrored = λ x j m. refl }
+
 -- a certificate has one best permutation
 one_best : (n : ℕ) (all : List (List FieldValue)) (C : Claim) → IsAssembled n all C → sum_by best_weight all ≡ 1
 one_best n all C a =
     let there = a.taken_apart best_weight in
     let parts = sum_by-cons best_weight (best_tuple C.cost C.permutation) (pieces (root_of n) (searched C.tree)) in
-    let rest = weighed best_weight 0 (λ x. refl) (λ x f. refl) (λ x u v. refl) (searched C.tree) (root_of n) AnyDuals (assembled_tree n all C a) in
+    let rest = weighed best_weight 0 weighs_none (searched C.tree) (root_of n) in
     omega arith
 
 -- decided nodes are no best permutations
 decided_weight : (xs : List ℤ) (d : Decision) → best_weight (decision_tuple xs d) ≡ 0
-decided_weight xs (Split f) = refl
+decided_weight xs (SplitOn f) = refl
 decided_weight xs (Closed u v) = refl
 
 none_decided : (nodes : List DecidedNode) → sum_by best_weight (decided_tuples nodes) ≡ 0

@@ -11,6 +11,7 @@ use Rattle.std.proofs.lemmas.List.Sorted.{IsPermutation-map, IsPermutation-rever
 use Rattle.qap_cost.specs.Bijection.{IsPerm}
 use Rattle.qap_cost.specs.Placement.{root_of}
 use Rattle.qap_cert.specs.Tree.{Node}
+use Rattle.qap_proof.specs.Tree.{whole}
 use Rattle.space_txn.specs.Content.{SameItems}
 use Rattle.tuple_match.specs.FieldValue.{FieldValue}
 use Rattle.qap_search.specs.TreeBuilding.{AreTuplesOf, BeginWith, ahead}
@@ -85,7 +86,7 @@ in_front n old new s positive small moved ordered a = record {
   tree = a.tree;
   is =
       same_list (ahead new) (pieces (root_of n) (searched s)) (rises (reverse new) ordered)
-      (pieces_rise s (root_of n) (root_placement n positive small) a.tree)
+      (pieces_rise s (whole (root_of n)) (root_placement n positive small) a.tree)
       (λ f. sym (same_moved old new moved f) ∙ a.taken_apart f)
       ∙ sym (append-nil (pieces (root_of n) (searched s)));
 }
@@ -106,7 +107,7 @@ ahead-length nodes = length-map (reverse nodes) decided_tuple
 pub some_left : (n : ℕ) (old new rest : List DecidedNode) (t : Node) → 0 < n → n ≤ 256 → IsPermutation old new → AreInOrder (reverse new) → BeginWith (root_of n) t (ahead new) (ahead rest) → 0 < length (reverse rest) → (s : Node) → AreTuplesOf n (decided_tuples old) s → ⊥
 some_left n old new rest t positive small moved ordered b some s a =
     let front = in_front n old new s positive small moved ordered a in
-    let one = one_tree t s (root_of n) (ahead rest) [] b.tree front.tree (sym b.is ∙ front.is) in
+    let one = one_tree t s (whole (root_of n)) (ahead rest) [] b.tree front.tree (sym b.is ∙ front.is) in
     let none : length (ahead rest) ≡ 0 = ap length one.1 in
     let long = ahead-length rest in
     absurd (omega arith)
@@ -130,8 +131,8 @@ only_tree n tuples s t positive small a b =
     let placed = root_placement n positive small in
     let left = pieces root (searched s) in
     let right = pieces root (searched t) in
-    let same = same_list left right (strictly_rises left (pieces_rise s root placed a.tree)) (pieces_rise t root placed b.tree) (λ f. sym (a.taken_apart f) ∙ b.taken_apart f) in
-    (one_tree s t root [] [] a.tree b.tree (ap (λ (l : List (List FieldValue)). l ++ []) same)).0
+    let same = same_list left right (strictly_rises left (pieces_rise s (whole root) placed a.tree)) (pieces_rise t (whole root) placed b.tree) (λ f. sym (a.taken_apart f) ∙ b.taken_apart f) in
+    (one_tree s t (whole root) [] [] a.tree b.tree (ap (λ (l : List (List FieldValue)). l ++ []) same)).0
 
 pub no_items : {X : Type 0} (xs : List X) → length xs ≡ 0 → xs ≡ []
 no_items [] none = refl

@@ -8,14 +8,16 @@ use Rattle.std.proofs.lemmas.Bool.{false≢true}
 use Rattle.std.proofs.lemmas.Int.{ints}
 use Rattle.std.proofs.lemmas.List.Sums.{sum_by-cons}
 use Rattle.qap_cost.proofs.Placements.{ListsFree-free_below}
-use Rattle.qap_cost.specs.Placement.{Placement, IsPlacement, free_locations, placing}
+use Rattle.qap_cost.specs.Placement.{Placement, IsPlacement, IsFreeFacility, free_locations, placing}
+use Rattle.qap_cert.specs.Shape.{child_count}
 use Rattle.qap_cert.specs.Tree.{Node, split, bound, Nodes, no_nodes, node}
+use Rattle.qap_proof.specs.Tree.{child_of, Place, child, node_at}
 use Rattle.space_txn.specs.Content.{SameItems}
 use Rattle.tuple_match.specs.FieldValue.{FieldValue}
 use Rattle.qap_search.specs.TreeBuilding.{AnyDuals}
 use Rattle.qap_search.specs.Piece.{by_turns, node_list, split_tuple, closed_tuple, pieces, pieces_of_all}
-use Rattle.qap_search.specs.SearchTree.{IsTreeAt, AreTreesAt, searched, searched_all}
-use Rattle.qap_search.proofs.Certificates.{children_placed}
+use Rattle.qap_search.specs.SearchTree.{IsTree, AreTrees, plain, on_facility, searched, searched_all}
+use Rattle.qap_search.proofs.Certificates.{child_placed, free_location_count, tree_count-searched}
 use Rattle.qap_search.proofs.TupleReadings.{found_in, is_it, is_it-found, is_it-itself, list_at}
 
 -- the node's list of a tuple
@@ -140,71 +142,79 @@ node_list-placing x f k h = by_turns-push x.facilities x.places f k h
 abbrev Begins : Placement → List ℤ → Type 0
 Begins y xs = (r : List ℤ) × (xs ≡ node_list y ++ r)
 
--- the list is of a child at one of these locations, or below it
-abbrev BeginsBelow : Placement → ℕ → List ℕ → List ℤ → Type 0
-BeginsBelow y f ks xs = (i : ℕ) × (i < length ks) × ((r : List ℤ) × (xs ≡ node_list y ++ (pos f ∷ pos (get_or ks i 0) ∷ r)))
+-- the list is of a child at one of the locations from number c on, or below it
+abbrev BeginsBelow : Placement → ℕ → ℕ → List ℤ → Type 0
+BeginsBelow y f c xs = (i : ℕ) × (c ≤ i) × (i < length (free_locations y)) × ((r : List ℤ) × (xs ≡ node_list y ++ (pos f ∷ pos (get_or (free_locations y) i 0) ∷ r)))
 
 child_begins : (y : Placement) (f k : ℕ) (xs : List ℤ) → length y.places ≡ length y.facilities → Begins (placing y f k) xs → (r : List ℤ) × (xs ≡ node_list y ++ (pos f ∷ pos k ∷ r))
 child_begins y f k xs paired b =
     (b.0, b.1 ∙ ap (λ (p : List ℤ). p ++ b.0) (node_list-placing y f k paired) ∙ append_assoc (node_list y) (pos f ∷ pos k ∷ []) b.0)
 
 mutual
-  -- the tuples of a tree at y have lists that begin with y's
-  keyed : (s : Node) (y : Placement) → IsPlacement y → IsTreeAt AnyDuals y (searched s) → (w : List FieldValue) → 1 ≤ sum_by (is_it w) (pieces y (searched s)) → Begins y (key w)
-  keyed (bound u v) y placed h w found =
+  -- the tuples of a tree at a node have lists that begin with the node's
+  keyed : (s : Node) (p : Place) → IsPlacement (node_at p) → IsTree (plain AnyDuals) p (searched s) → (w : List FieldValue) → 1 ≤ sum_by (is_it w) (pieces (node_at p) (searched s)) → Begins (node_at p) (key w)
+  keyed (bound u v) p placed h w found =
+      let y = node_at p in
       ([], sym (ap key (is_it-found w (closed_tuple y u v) (omega arith))) ∙ sym (append-nil (node_list y)))
-  keyed (split f children) y placed h w found =
-      elim (found_in (is_it w) (split_tuple y f ∷ []) (pieces_of_all y f (free_locations y) (searched_all children)) found) as
-      (λ (_ : (1 ≤ sum_by (is_it w) (split_tuple y f ∷ [])) ⊎ (1 ≤ sum_by (is_it w) (pieces_of_all y f (free_locations y) (searched_all children)))). Begins y (key w)) [
+  keyed (split f children) p placed h w found =
+      let y = node_at p in
+      let later = pieces_of_all y (on_facility f) 0 (searched_all children) in
+      elim (found_in (is_it w) (split_tuple y f ∷ []) later found) as
+      (λ (_ : (1 ≤ sum_by (is_it w) (split_tuple y f ∷ [])) ⊎ (1 ≤ sum_by (is_it w) later)). Begins y (key w)) [
         | inl here ↦ ([], sym (ap key (is_it-found w (split_tuple y f) (omega arith))) ∙ sym (append-nil (node_list y)))
         | inr there ↦
-            let below = keyed_below children y f (free_locations y) (children_placed y f placed h.1) placed h.2 w there in
-            (pos f ∷ pos (get_or (free_locations y) below.0 0) ∷ below.2.0, below.2.1)
+            let count = h.3 in
+            let same = tree_count-searched children in
+            let below = keyed_below children y f 0 placed h.1 (omega arith) h.4 w there in
+            (pos f ∷ pos (get_or (free_locations y) below.0 0) ∷ below.3.0, below.3.1)
       ]
 
-  keyed_below : (ss : Nodes) (y : Placement) (f : ℕ) (ks : List ℕ) → ((j : ℕ) → j < length ks → IsPlacement (placing y f (get_or ks j 0))) → IsPlacement y → AreTreesAt AnyDuals y f ks (searched_all ss) → (w : List FieldValue) → 1 ≤ sum_by (is_it w) (pieces_of_all y f ks (searched_all ss)) → BeginsBelow y f ks (key w)
-  keyed_below no_nodes y f [] placed at h w found = absurd (omega arith)
-  keyed_below no_nodes y f (k ∷ ks) placed at h w found = absurd h
-  keyed_below (node s rest) y f [] placed at h w found = absurd h
-  keyed_below (node s rest) y f (k ∷ ks) placed at h w found =
-      elim (found_in (is_it w) (pieces (placing y f k) (searched s)) (pieces_of_all y f ks (searched_all rest)) found) as
-      (λ (_ : (1 ≤ sum_by (is_it w) (pieces (placing y f k) (searched s))) ⊎ (1 ≤ sum_by (is_it w) (pieces_of_all y f ks (searched_all rest)))). BeginsBelow y f (k ∷ ks) (key w)) [
-        | inl here ↦ (zero, omega arith, child_begins y f k (key w) at.paired (keyed s (placing y f k) (placed zero (omega arith)) h.0 w here))
+  keyed_below : (ss : Nodes) (y : Placement) (f c : ℕ) → IsPlacement y → IsFreeFacility y f → c + child_count ss + length y.facilities ≡ y.size → AreTrees (plain AnyDuals) y (on_facility f) c (searched_all ss) → (w : List FieldValue) → 1 ≤ sum_by (is_it w) (pieces_of_all y (on_facility f) c (searched_all ss)) → BeginsBelow y f c (key w)
+  keyed_below no_nodes y f c placed free count h w found = absurd (omega arith)
+  keyed_below (node s rest) y f c placed free count h w found =
+      let on = on_facility f in
+      let first = pieces (child_of y on c) (searched s) in
+      let later = pieces_of_all y on (c + 1) (searched_all rest) in
+      let listed = free_location_count y placed in
+      elim (found_in (is_it w) first later found) as
+      (λ (_ : (1 ≤ sum_by (is_it w) first) ⊎ (1 ≤ sum_by (is_it w) later)). BeginsBelow y f c (key w)) [
+        | inl here ↦
+            (c, omega arith, omega arith, child_begins y f (get_or (free_locations y) c 0) (key w) placed.paired (keyed s (child y on c) (child_placed y on c placed free (omega arith)) h.0 w here))
         | inr there ↦
-            let below = keyed_below rest y f ks (λ j less. placed (suc j) (omega arith)) at h.1 w there in
-            (suc below.0, let less = below.1 in omega arith, below.2)
+            let below = keyed_below rest y f (c + 1) placed free (omega arith) h.1 w there in
+            let past = below.1 in
+            (below.0, omega arith, below.2, below.3)
       ]
-
--- the locations rise
-abbrev Ascends : List ℕ → Type 0
-Ascends ks = (i j : ℕ) → i < j → j < length ks → get_or ks i 0 < get_or ks j 0
 
 mutual
   -- so they stand in order, no two of one list
-  pub pieces_rise : (s : Node) (y : Placement) → IsPlacement y → IsTreeAt AnyDuals y (searched s) → Rises Before (pieces y (searched s))
-  pieces_rise (bound u v) y placed h = ((λ w found. absurd (omega arith)), tt)
-  pieces_rise (split f children) y placed h =
+  pub pieces_rise : (s : Node) (p : Place) → IsPlacement (node_at p) → IsTree (plain AnyDuals) p (searched s) → Rises Before (pieces (node_at p) (searched s))
+  pieces_rise (bound u v) p placed h = ((λ w found. absurd (omega arith)), tt)
+  pieces_rise (split f children) p placed h =
+      let y = node_at p in
       let ks = free_locations y in
-      let children_at = children_placed y f placed h.1 in (
+      let count = h.3 in
+      let same = tree_count-searched children in (
         (λ w found.
-            let below = keyed_below children y f ks children_at placed h.2 w found in
-            ap (λ (xs : List ℤ). is_lt (slice_cmp int_cmp (node_list y) xs)) below.2.1
-            ∙ begin_before (node_list y) (pos (get_or ks below.0 0) ∷ below.2.0) (pos f)),
-        all_rise children y f ks children_at placed h.2 (ListsFree-free_below y.size y.places placed.places).ascending,
+            let below = keyed_below children y f 0 placed h.1 (omega arith) h.4 w found in
+            ap (λ (xs : List ℤ). is_lt (slice_cmp int_cmp (node_list y) xs)) below.3.1
+            ∙ begin_before (node_list y) (pos (get_or ks below.0 0) ∷ below.3.0) (pos f)),
+        all_rise children y f 0 placed h.1 (omega arith) h.4,
       )
 
-  all_rise : (ss : Nodes) (y : Placement) (f : ℕ) (ks : List ℕ) → ((j : ℕ) → j < length ks → IsPlacement (placing y f (get_or ks j 0))) → IsPlacement y → AreTreesAt AnyDuals y f ks (searched_all ss) → Ascends ks → Rises Before (pieces_of_all y f ks (searched_all ss))
-  all_rise no_nodes y f [] placed at h up = tt
-  all_rise no_nodes y f (k ∷ ks) placed at h up = tt
-  all_rise (node s rest) y f [] placed at h up = tt
-  all_rise (node s rest) y f (k ∷ ks) placed at h up =
-      let rest_placed : (j : ℕ) → j < length ks → IsPlacement (placing y f (get_or ks j 0)) = λ j less. placed (suc j) (omega arith) in
-      Rises-append Before (pieces (placing y f k) (searched s)) (pieces_of_all y f ks (searched_all rest))
-      (pieces_rise s (placing y f k) (placed zero (omega arith)) h.0)
-      (all_rise rest y f ks rest_placed at h.1 (λ i j less within. up (suc i) (suc j) (omega arith) (omega arith)))
+  all_rise : (ss : Nodes) (y : Placement) (f c : ℕ) → IsPlacement y → IsFreeFacility y f → c + child_count ss + length y.facilities ≡ y.size → AreTrees (plain AnyDuals) y (on_facility f) c (searched_all ss) → Rises Before (pieces_of_all y (on_facility f) c (searched_all ss))
+  all_rise no_nodes y f c placed free count h = tt
+  all_rise (node s rest) y f c placed free count h =
+      let on = on_facility f in
+      let ks = free_locations y in
+      let child_at = child_placed y on c placed free (omega arith) in
+      let up = (ListsFree-free_below y.size y.places placed.places).ascending in
+      Rises-append Before (pieces (child_of y on c) (searched s)) (pieces_of_all y on (c + 1) (searched_all rest))
+      (pieces_rise s (child y on c) child_at h.0)
+      (all_rise rest y f (c + 1) placed free (omega arith) h.1)
       (λ a b found_a found_b.
-      let first = child_begins y f k (key a) at.paired (keyed s (placing y f k) (placed zero (omega arith)) h.0 a found_a) in
-      let later = keyed_below rest y f ks rest_placed at h.1 b found_b in
-      let within = later.1 in
-      ap₂ (λ (p q : List ℤ). is_lt (slice_cmp int_cmp p q)) first.1 later.2.1
-      ∙ parted_before (node_list y) first.0 later.2.0 f k (get_or ks later.0 0) (up zero (suc later.0) (omega arith) (omega arith)))
+      let first = child_begins y f (get_or ks c 0) (key a) placed.paired (keyed s (child y on c) child_at h.0 a found_a) in
+      let later = keyed_below rest y f (c + 1) placed free (omega arith) h.1 b found_b in
+      let past = later.1 in
+      ap₂ (λ (p q : List ℤ). is_lt (slice_cmp int_cmp p q)) first.1 later.3.1
+      ∙ parted_before (node_list y) first.0 later.3.0 f (get_or ks c 0) (get_or ks later.0 0) (up c later.0 (omega arith) later.2))

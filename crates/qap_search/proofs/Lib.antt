@@ -23,6 +23,7 @@ pub mod OpenBounds
 pub mod OpenNodes
 pub mod Outcomes
 pub mod Parts
+pub mod Pruned
 pub mod Reorderings
 pub mod Replacing
 pub mod Scatter

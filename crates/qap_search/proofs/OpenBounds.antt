@@ -9,10 +9,12 @@ use Rattle.std.proofs.lemmas.List.{get_or_default, take_more}
 use Rattle.std.proofs.lemmas.List.Elements.{All-append, All-cons, All-nil, Contains-append_left, Contains-append_right}
 use Rattle.std.proofs.lemmas.List.Sums.{sum_by-append, sum_by-cons}
 use Rattle.qap_cost.specs.Instance.{Problem}
-use Rattle.qap_cost.specs.Placement.{Placement, IsPlacement, free_locations, placing}
-use Rattle.qap_cert.proofs.Validity.{valid_bounds}
-use Rattle.qap_cert.specs.Tree.{Node, split, bound, Nodes, no_nodes, node}
-use Rattle.qap_cert.specs.Valid.{AllValid, Closes, Valid}
+use Rattle.qap_cost.specs.Placement.{Placement, IsPlacement}
+use Rattle.qap_cert.specs.Valid.{Closes}
+use Rattle.qap_proof.proofs.Validity.{Valid-NoneCompletesForLess}
+use Rattle.qap_proof.specs.Tree.{Pair, Split, Node, closed, split, cut, mirrored, Nodes, no_nodes, node, child_count, pair, IsFreeOn, child_of, Place, whole, child, node_at}
+use Rattle.qap_proof.specs.Valid.{AllValid, MayFit, Valid}
+use Rattle.qap_proof.specs.Valid.{Closes as ClosesPair}
 use Rattle.tuple_match.specs.FieldValue.{FieldValue}
 use Rattle.qap_cost.specs.Objective.{Permutes, cost_of}
 use Rattle.shared_space.specs.Limit.{IsWithin}
@@ -22,15 +24,15 @@ use Rattle.qap_search.specs.ClosedTuples.{named_node}
 use Rattle.qap_search.specs.CutTree.{IsCutTree}
 use Rattle.qap_search.specs.Outcome.{IsEnded}
 use Rattle.qap_search.specs.OpenBound.{IsNodeAbove, IsNodeValue, IsOpenBound, IsOpenValue, IsSoundTuple, IsTupleAbove}
-use Rattle.qap_search.specs.Piece.{best_tuple, is_open, node_list, node_tuple, open_count, pieces, pieces_of_all, split_tuple}
+use Rattle.qap_search.specs.Piece.{best_tuple, is_open, node_list, node_tuple, open_count, pieces, pieces_of_all, split_said}
 use Rattle.qap_search.specs.NodeList.{IsReadFrom}
 use Rattle.qap_search.specs.Search.{Search, NoneBelow}
-use Rattle.qap_search.specs.SearchTree.{SearchTree, open_node, split_node, closed_node, SearchTrees, no_trees, tree, IsTreeAt, AreTreesAt}
+use Rattle.qap_search.specs.SearchTree.{SearchTree, open_node, split_node, closed_node, cut_node, mirrored_node, SearchTrees, no_trees, tree, tree_count, HasFit, IsPlain, IsTree, AreTrees, judge_of, proving}
 use Rattle.qap_search.specs.declared.runs.answer.Bounded.{Bounded}
 use Rattle.qap_search.specs.declared.runs.run.Run.{Run}
-use Rattle.qap_search.proofs.Certificates.{children_placed, open_weight}
-use Rattle.qap_search.proofs.Outcomes.{contained}
-use Rattle.qap_search.proofs.Found.{node_found}
+use Rattle.qap_search.proofs.Certificates.{child_placed, open_weight}
+use Rattle.qap_search.proofs.Found.{contained, node_found}
+use Rattle.qap_search.proofs.Replacing.{cut_by_less, judge_proves, trees_by}
 use Rattle.qap_search.proofs.TupleReadings.{is_it, is_it-itself, list_at, same_node}
 
 -- which tuples of open nodes are found shows that their nodes' values are not below g
@@ -38,43 +40,50 @@ abbrev pub FoundAbove : Problem → ℤ → List (List FieldValue) → Type 0
 FoundAbove I g tuples = (x : Placement) → IsPlacement x → x.size ≡ I.size → 1 ≤ sum_by (is_it (node_tuple x)) tuples → IsNodeAbove I g x
 
 -- duals that close a node for c close it for what is at most c
-closes_for_less : (I : Problem) (c g : ℤ) (y : Placement) (u v : List ℤ) → g ≤ℤ c → Closes I c y u v → Closes I g y u v
+closes_for_less : (I : Problem) (c g : ℤ) (y : Placement) (u v : List ℤ) → g ≤ℤ c → Closes I c y u v → ClosesPair I g y (pair u v)
 closes_for_less I c g y u v less h =
     let enough = h.enough in
-    record { duals = h.duals; fits = h.fits; enough = omega (arith, ints) }
+    record { fits = record { matrix = h.fits.matrix; square = h.fits.square; reduced = h.fits.reduced; fits = h.fits.fits }; enough = omega (arith, ints) }
 
 -- so do the duals of a node's value
-closes_by_value : (I : Problem) (g : ℤ) (y : Placement) (h : IsNodeAbove I g y) → Closes I g y h.is_value.u h.is_value.v
+closes_by_value : (I : Problem) (g : ℤ) (y : Placement) (h : IsNodeAbove I g y) → ClosesPair I g y (pair h.is_value.u h.is_value.v)
 closes_by_value I g y h =
     let least = h.is_value.least in
     let is = h.is_value.is in
     let above = h.above in
-    record {
-      duals = least.duals;
-      fits = record { matrix = least.matrix; square = least.square; reduced = least.reduced; fits = least.fits };
-      enough = omega (arith, ints);
-    }
+    record { fits = record { matrix = least.matrix; square = least.square; reduced = least.reduced; fits = least.fits }; enough = omega (arith, ints) }
+
+-- the duals of a split, if it has any, fit
+duals_fit : (I : Problem) (y : Placement) (s : Split) → IsPlain s ⊎ HasFit I y s → MayFit I y s.duals
+duals_fit I y s (inl h) = subst (MayFit I y) (sym h.1) tt
+duals_fit I y s (inr h) = subst (MayFit I y) (sym h.has) h.fits
 
 mutual
-  -- a search tree whose open nodes' values are not below g gives a tree that is valid for g
-  bounded_tree : (I : Problem) (c g : ℤ) (t : SearchTree) (y : Placement) → g ≤ℤ c → IsPlacement y → y.size ≡ I.size → IsTreeAt (Closes I c) y t → FoundAbove I g (pieces y t) → (s : Node) × Valid I g y s
-  bounded_tree I c g open_node y less placed size h above =
-      let itself = is_it-itself (node_tuple y) in
-      let here = above y placed size (omega arith) in
-      (bound here.is_value.u here.is_value.v, closes_by_value I g y here)
-  bounded_tree I c g (closed_node u v) y less placed size h above = (bound u v, closes_for_less I c g y u v less h)
-  bounded_tree I c g (split_node f children) y less placed size h above =
-      let inner = bounded_trees I c g children y f (free_locations y) less (children_placed y f placed h.1) size h.2 (λ x px sx found. above x px sx (let parts = sum_by-cons (is_it (node_tuple x)) (split_tuple y f) (pieces_of_all y f (free_locations y) children) in omega arith)) in
-      (split f inner.0, (h.0, h.1, inner.1))
+  -- a search tree whose open nodes' values are not below g gives a tree that proves g
+  bounded_tree : (I : Problem) (d g : ℤ) (t : SearchTree) (p : Place) → g ≤ℤ d → IsPlacement (node_at p) → (node_at p).size ≡ I.size → IsTree (proving I d) p t → FoundAbove I g (pieces (node_at p) t) → (n : Node) × Valid I g p n
+  bounded_tree I d g open_node p less placed size h above =
+      let itself = is_it-itself (node_tuple (node_at p)) in
+      let here = above (node_at p) placed size (omega arith) in
+      (closed (pair here.is_value.u here.is_value.v), closes_by_value I g (node_at p) here)
+  bounded_tree I d g (closed_node u v) p less placed size h above = (closed (pair u v), closes_for_less I d g (node_at p) u v less h)
+  bounded_tree I d g cut_node (whole x) less placed size h above = absurd h
+  bounded_tree I d g cut_node (child x s c) less placed size h above = (cut, cut_by_less I d g less x s c h)
+  bounded_tree I d g (mirrored_node j m) (whole x) less placed size h above = absurd h
+  bounded_tree I d g (mirrored_node j m) (child x s c) less placed size h above = (mirrored j m, h)
+  bounded_tree I d g (split_node s children) p less placed size h above =
+      let y = node_at p in
+      let count = h.3 in
+      let inner = bounded_trees I d g children y s 0 less placed h.1 (omega arith) size h.4
+      (λ x px sx found. above x px sx (let parts = sum_by-cons (is_it (node_tuple x)) (split_said y s s.duals children) (pieces_of_all y s 0 children) in omega arith)) in
+      (split s inner.0, (h.1, duals_fit I y s h.2, let long = inner.2 in omega arith, inner.1))
 
-  bounded_trees : (I : Problem) (c g : ℤ) (ts : SearchTrees) (y : Placement) (f : ℕ) (ks : List ℕ) → g ≤ℤ c → ((j : ℕ) → j < length ks → IsPlacement (placing y f (get_or ks j 0))) → y.size ≡ I.size → AreTreesAt (Closes I c) y f ks ts → FoundAbove I g (pieces_of_all y f ks ts) → (ss : Nodes) × AllValid I g y f ks ss
-  bounded_trees I c g no_trees y f [] less placed size h above = (no_nodes, tt)
-  bounded_trees I c g no_trees y f (k ∷ ks) less placed size h above = absurd h
-  bounded_trees I c g (tree t rest) y f [] less placed size h above = absurd h
-  bounded_trees I c g (tree t rest) y f (k ∷ ks) less placed size h above =
-      let first = bounded_tree I c g t (placing y f k) less (placed 0 (omega arith)) size h.0 (λ x px sx found. above x px sx (let parts = sum_by-append (is_it (node_tuple x)) (pieces (placing y f k) t) (pieces_of_all y f ks rest) in omega arith)) in
-      let others = bounded_trees I c g rest y f ks less (λ j below. placed (suc j) (omega arith)) size h.1 (λ x px sx found. above x px sx (let parts = sum_by-append (is_it (node_tuple x)) (pieces (placing y f k) t) (pieces_of_all y f ks rest) in omega arith)) in
-      (node first.0 others.0, (first.1, others.1))
+  bounded_trees : (I : Problem) (d g : ℤ) (ts : SearchTrees) (y : Placement) (s : Split) (c : ℕ) → g ≤ℤ d → IsPlacement y → IsFreeOn s.side y s.number → c + tree_count ts + length y.facilities ≡ y.size → y.size ≡ I.size → AreTrees (proving I d) y s c ts → FoundAbove I g (pieces_of_all y s c ts) → (ns : Nodes) × AllValid I g y s c ns × (child_count ns ≡ tree_count ts)
+  bounded_trees I d g no_trees y s c less placed free count size h above = (no_nodes, tt, refl)
+  bounded_trees I d g (tree t rest) y s c less placed free count size h above =
+      let weigh = λ (x : Placement). sum_by-append (is_it (node_tuple x)) (pieces (child_of y s c) t) (pieces_of_all y s (c + 1) rest) in
+      let first = bounded_tree I d g t (child y s c) less (child_placed y s c placed free (omega arith)) size h.0 (λ x px sx found. above x px sx (let parts = weigh x in omega arith)) in
+      let others = bounded_trees I d g rest y s (c + 1) less placed free (omega arith) size h.1 (λ x px sx found. above x px sx (let parts = weigh x in omega arith)) in
+      (node first.0 others.0, (first.1, others.1), ap (λ (n : ℕ). 1 + n) others.2)
 
 -- what is among the tuples of a cut tree is not below their bound
 found_above : (I : Problem) (content : List (List FieldValue)) (c g : ℤ) → IsOpenBound I content c g → FoundAbove I g content
@@ -93,8 +102,9 @@ open_bounds S content commits g h b p completes =
     let apart = h.taken_apart (is_it (node_tuple x)) in
     let parts = sum_by-cons (is_it (node_tuple x)) best (pieces root h.tree) in
     found_above I content h.cost g b x placed size (omega arith) in
-    let valid = bounded_tree I h.cost g h.tree root b.at_most h.root h.same_size h.valid above in
-    valid_bounds valid.0 I g root p h.root (sym h.same_size) valid.1 completes
+    let shows = trees_by (judge_of S.cutting I h.cost) (proving I h.cost) (judge_proves S.cutting I h.cost) h.tree (whole root) h.valid in
+    let valid = bounded_tree I h.cost g h.tree (whole root) b.at_most h.root h.same_size shows above in
+    Valid-NoneCompletesForLess I root g valid.0 h.root h.same_size valid.1 p (record { same_size = completes.same_size ∙ h.same_size; bijection = completes.bijection }) completes
 
 -- a tuple that stands there is counted among the open ones
 open_found : (content : List (List FieldValue)) (x : Placement) (k : ℕ) → k < length content → get_or content k (node_tuple x) ≡ node_tuple x → 1 ≤ sum_by open_weight content
@@ -115,6 +125,15 @@ open_bound_closed I content c g b none =
       | inl same ↦ same
       | inr found ↦ (let some = open_found content found.node found.stands.0 found.stands.1 found.stands.2 in absurd (omega arith))
     ]
+
+-- where no node is open, no permutation that completes the root costs less than the best one
+pub none_less : (S : Search) (content : List (List FieldValue)) (commits : ℕ) (h : IsCutTree S content commits) → open_count content ≡ 0 → NoneBelow S h.cost
+none_less S content commits h none =
+    open_bounds S content commits h.cost h (record {
+      one = inl refl;
+      at_most = omega (arith, ints);
+      least = λ k d below x placed size is. (let some = open_found content x k below (get_or_default content k (node_tuple x) d below ∙ is) in absurd (omega arith));
+    })
 
 -- what isn't below a number isn't below a lesser one
 above_less : (I : Problem) (b g : ℤ) (tuple : List FieldValue) → g ≤ℤ b → IsTupleAbove I b tuple → IsTupleAbove I g tuple
@@ -142,7 +161,7 @@ open_bound_append I xs ys c b g first second =
           elim second.one as (λ (_ : (g ≡ b) ⊎ IsOpenValue I ys g). (g ≡ c) ⊎ IsOpenValue I (xs ++ ys) g) [
             | inl same ↦
                 elim first.one as (λ (_ : (b ≡ c) ⊎ IsOpenValue I xs b). (g ≡ c) ⊎ IsOpenValue I (xs ++ ys) g) [
-                  | inl whole ↦ inl (same ∙ whole)
+                  | inl first ↦ inl (same ∙ first)
                   | inr found ↦ inr (subst (IsOpenValue I (xs ++ ys)) (sym same) (open_value_left I xs ys b found))
                 ]
             | inr found ↦ inr (open_value_right I xs ys g found)

@@ -1,5 +1,5 @@
 -- What a search has left where it ends.
-use Rattle.std.proofs.Common.{◌≡◌, ℕ, zero, suc, ◌≤◌, ◌⊎◌, inl, inr, List, [], ◌∷◌, length, map, ℤ, pos, Option, Result, Ok, Err, refl, sym, ap, subst, ◌∙◌, arith}
+use Rattle.std.proofs.Common.{◌≡◌, ℕ, ◌≤◌, inl, inr, List, [], ◌∷◌, length, map, ℤ, pos, Option, Result, Ok, Err, refl, sym, ap, subst, ◌∙◌, arith}
 use Rattle.std.specs.Prelude.{Contains, MatchResult}
 use Rattle.std.specs.List.{sum_by}
 use Rattle.std.proofs.lemmas.List.Sums.{sum_by-cons}
@@ -7,10 +7,6 @@ use Rattle.qap_cost.specs.Bijection.{IsPerm}
 use Rattle.qap_cost.proofs.Nodes.{root_completed}
 use Rattle.qap_cost.specs.Instance.{Problem}
 use Rattle.qap_cost.specs.Objective.{Permutes, cost_of}
-use Rattle.qap_cost.specs.Placement.{Placement, free_locations, placing}
-use Rattle.qap_cert.proofs.Validity.{valid_bounds}
-use Rattle.qap_cert.specs.Tree.{Node, split, bound, Nodes, no_nodes, node}
-use Rattle.qap_cert.specs.Valid.{AllValid, Closes, Valid}
 use Rattle.shared_space.specs.Limit.{IsWithin}
 use Rattle.space_txn.specs.Content.{content_of}
 use Rattle.tuple_match.specs.FieldValue.{FieldValue}
@@ -22,17 +18,16 @@ use Rattle.qap_search.specs.Outcome.{IsEndFault, IsEnded, IsFinished}
 use Rattle.qap_search.specs.Piece.{best_tuple, open_count, pieces}
 use Rattle.qap_search.specs.Replacement.{Best, tuple_of}
 use Rattle.qap_search.specs.Search.{Search, NoneBelow, whole}
-use Rattle.qap_search.specs.SearchTree.{AreTreesAt, IsTreeAt, searched, searched_all}
 use Rattle.qap_search.specs.declared.runs.answer.Least.{Least}
 use Rattle.qap_search.specs.declared.runs.answer.SolveError.{SolveError}
 use Rattle.qap_search.specs.declared.runs.answer.SolveError.TheVariants.{Unfinished, Stopped, OutOfMemory}
 use Rattle.qap_search.specs.declared.certificate.error.AssembleError.TheVariants.{NotATree, Unfinished as Open}
 use Rattle.qap_search.specs.declared.runs.outcome.Finished.{Finished}
 use Rattle.qap_search.specs.declared.runs.run.Run.{Run}
-use Rattle.qap_search.proofs.Certificates.{finished, open_weight}
-use Rattle.qap_search.proofs.Found.{best_found_there, found_from_Contains}
+use Rattle.qap_search.proofs.Found.{best_found_there, contained, found_from_Contains}
+use Rattle.qap_search.proofs.OpenBounds.{none_less}
 use Rattle.qap_search.proofs.Replacing.{best_found}
-use Rattle.qap_search.proofs.TupleReadings.{found_in, is_it, is_it-found, is_it-itself}
+use Rattle.qap_search.proofs.TupleReadings.{is_it, is_it-itself}
 
 -- why a run has no answer, whatever space it left
 pub solve_fault : (S : Search) (limit : Option ℕ) (r : Run) (e : SolveError) → IsEnded S limit r → IsEndFault S limit r e → IsSearchFault S (length r.reports.items) limit e
@@ -54,16 +49,6 @@ never_open n tuples count (inr fault) = let other = fault.0 in cc
 pub no_certificate_there : (n : ℕ) (tuples : List (List FieldValue)) → IsTreeFault n tuples NotATree → IsNoCertificate n tuples
 no_certificate_there n tuples (inl memory) = absurd (let other : ⊥ = cc in other)
 no_certificate_there n tuples (inr fault) = fault.1
-
--- what is counted among tuples is one of them
-pub contained : (xs : List (List FieldValue)) (w : List FieldValue) → 1 ≤ sum_by (is_it w) xs → Contains xs w
-contained [] w found = absurd (omega arith)
-contained (x ∷ xs) w found =
-    elim (found_in (is_it w) (x ∷ []) xs found) as
-    (λ (_ : (1 ≤ sum_by (is_it w) (x ∷ [])) ⊎ (1 ≤ sum_by (is_it w) xs)). Contains (x ∷ xs) w) [
-      | inl here ↦ (zero, omega arith, is_it-found w x (omega arith))
-      | inr there ↦ let rest = contained xs w there in let below = rest.1 in (suc rest.0, omega arith, rest.2)
-    ]
 
 -- a cut tree has the tuple of its best permutation
 pub best_contained : (S : Search) (content : List (List FieldValue)) (commits : ℕ) (h : IsCutTree S content commits) → Contains content (best_of h.cost (map pos h.permutation))
@@ -96,31 +81,8 @@ best_stands S content commits c p h at =
     let old : Best = record { cost = h.cost; permutation = h.permutation } in
     let here = found_from_Contains content (tuple_of best) at.0 at.1 at.2 in
     let apart = h.taken_apart (is_it (tuple_of best)) in
-    let same : old ≡ best = best_found best old h.tree root (Closes S.instance h.cost) h.valid (omega arith) in
+    let same : old ≡ best = best_found best old h.tree root (omega arith) in
     (ap (λ (b : Best). b.permutation) same, ap (λ (b : Best). b.cost) same)
-
-mutual
-  -- a search tree without open nodes, as a valid tree
-  valid_from_tree : (I : Problem) (c : ℤ) (s : Node) (y : Placement) → IsTreeAt (Closes I c) y (searched s) → Valid I c y s
-  valid_from_tree I c (bound u v) y h = h
-  valid_from_tree I c (split f children) y h = (h.0, h.1, all_valid_from_trees I c children y f (free_locations y) h.2)
-
-  all_valid_from_trees : (I : Problem) (c : ℤ) (ss : Nodes) (y : Placement) (f : ℕ) (ks : List ℕ) → AreTreesAt (Closes I c) y f ks (searched_all ss) → AllValid I c y f ks ss
-  all_valid_from_trees I c no_nodes y f [] h = tt
-  all_valid_from_trees I c no_nodes y f (k ∷ ks) h = absurd h
-  all_valid_from_trees I c (node s rest) y f [] h = absurd h
-  all_valid_from_trees I c (node s rest) y f (k ∷ ks) h = (valid_from_tree I c s (placing y f k) h.0, all_valid_from_trees I c rest y f ks h.1)
-
--- where no node is open, no permutation that completes the root costs less than the best one
-pub none_less : (S : Search) (content : List (List FieldValue)) (commits : ℕ) (h : IsCutTree S content commits) → open_count content ≡ 0 → NoneBelow S h.cost
-none_less S content commits h none p completes =
-    let I = S.instance in
-    let root = S.root in
-    let apart = h.taken_apart open_weight in
-    let parts = sum_by-cons open_weight (best_tuple h.cost h.permutation) (pieces root h.tree) in
-    let done = finished (Closes I h.cost) h.tree root h.valid (omega arith) in
-    let tree = subst (IsTreeAt (Closes I h.cost) root) done.1 h.valid in
-    valid_bounds done.0 I h.cost root p h.root (sym h.same_size) (valid_from_tree I h.cost done.0 root tree) completes
 
 -- the tuples of a finished run are its cut tree
 pub finished_tree : (S : Search) (limit : Option ℕ) (r : Run) (f : Finished) → IsEnded S limit r → IsFinished r f → IsCutTree S f.tuples.items r.space.commits

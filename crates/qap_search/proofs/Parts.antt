@@ -18,7 +18,7 @@ use Rattle.qap_search.specs.SearchTree.{searched}
 use Rattle.qap_search.specs.declared.certificate.error.AssembleError.{AssembleError}
 use Rattle.qap_search.proofs.Assembled.{assembled_tree}
 use Rattle.qap_search.proofs.Finishing.{only_tree}
-use Rattle.qap_search.proofs.Replacing.{weighed}
+use Rattle.qap_search.proofs.Replacing.{weighed, weighs_best}
 use Rattle.qap_search.proofs.TupleReadings.{is_it, is_it-found, is_it-itself, is_it-other, list_at, map_pos-same, number_at}
 
 -- the certificate has this cost, these locations, and a tree of these tuples
@@ -35,11 +35,7 @@ best_is n cost locations tuples C a =
     let there = sum_by-cons w (best_tuple C.cost C.permutation) (pieces root (searched C.tree)) in
     let itself = is_it-itself (best_of cost locations) in
     let same = a.taken_apart w in
-    let none = weighed w 0
-    (λ x. is_it-other (best_of cost locations) (node_tuple x) (λ (e : 110 ≡ 98). omega arith))
-    (λ x f. is_it-other (best_of cost locations) (split_tuple x f) (λ (e : 115 ≡ 98). omega arith))
-    (λ x u v. is_it-other (best_of cost locations) (closed_tuple x u v) (λ (e : 99 ≡ 98). omega arith))
-    (searched C.tree) root AnyDuals (assembled_tree n (best_of cost locations ∷ tuples) C a) in
+    let none = weighed w 0 (weighs_best (best_of cost locations) refl) (searched C.tree) root in
     is_it-found (best_of cost locations) (best_tuple C.cost C.permutation) (omega arith)
 
 made_of : (n : ℕ) (cost : ℤ) (locations : List ℤ) (tuples : List (List FieldValue)) (C : Claim) → IsAssembled n (best_of cost locations ∷ tuples) C → IsMadeOf n cost locations tuples C

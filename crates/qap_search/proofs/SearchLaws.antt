@@ -22,8 +22,8 @@ cut_trees_unordered S xs ys commits same h = record {
   counted = h.counted;
 }
 
-pub cut_trees_kept : (S : Search) → IsKept (IsCutTree S) (MayReplace S.instance)
+pub cut_trees_kept : (S : Search) → IsKept (IsCutTree S) (MayReplace S.cutting S.instance)
 cut_trees_kept S gone kept added rest commits may h = replacement S gone kept added rest _ commits may (λ f. refl) h
 
-pub cut_trees_are_law : (S : Search) → IsLawOf S (IsCutTree S) (MayReplace S.instance)
+pub cut_trees_are_law : (S : Search) → IsLawOf S (IsCutTree S) (MayReplace S.cutting S.instance)
 cut_trees_are_law S = record { is_cut_tree = λ xs commits h. h; is_lawful = λ xs commits h. h; may_replace = λ gone kept added h. h }

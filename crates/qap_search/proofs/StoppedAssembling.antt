@@ -10,6 +10,7 @@ use Rattle.qap_cert.specs.Certificate.{Claim, IsBoundFor, IsCertificate, claim_o
 use Rattle.qap_cert.specs.Shape.{HasShape}
 use Rattle.qap_cert.specs.Tree.{Node}
 use Rattle.qap_cert.specs.declared.version.Version.TheVariants.{Second}
+use Rattle.qap_proof.specs.Tree.{whole}
 use Rattle.space_txn.specs.Content.{SameItems}
 use Rattle.tuple_match.specs.Equality.{Decides-field_eq, field_eq}
 use Rattle.tuple_match.specs.FieldValue.{FieldValue, number, numbers, word}
@@ -20,7 +21,7 @@ use Rattle.qap_search.specs.OpenNodes.{ClosedTo}
 use Rattle.qap_search.specs.Finished.{IsAssembled, certificate_tuples}
 use Rattle.qap_search.specs.Found.{IsOpenNode}
 use Rattle.qap_search.specs.Piece.{best_tuple, is_open, pieces}
-use Rattle.qap_search.specs.SearchTree.{SearchTree, IsTreeAt, searched}
+use Rattle.qap_search.specs.SearchTree.{SearchTree, IsTree, plain, searched}
 use Rattle.qap_search.specs.Stopped.{HasDuals, IsBoundOf, IsNotStopped, IsStopped, IsStoppedFault, IsUnfinished, ShowsTooLow}
 use Rattle.qap_search.specs.declared.certificate.error.AssembleError.{AssembleError}
 use Rattle.qap_search.specs.declared.certificate.error.AssembleError.TheVariants.{Unfinished, NotATree, OutOfMemory}
@@ -28,8 +29,8 @@ use Rattle.qap_search.proofs.Assembled.{assembled_tree}
 use Rattle.qap_search.proofs.Certificates.{best_of, open_weight, root_placement, tree_shape}
 use Rattle.qap_search.proofs.OpenNodes.{closed_tree, opened, other_stays, shut}
 use Rattle.qap_search.proofs.Finishing.{only_tree}
-use Rattle.qap_search.proofs.Found.{IsDecidedTuple, piece_found}
-use Rattle.qap_search.proofs.OneTree.{closed_tag, split_tag}
+use Rattle.qap_search.proofs.Found.{IsOtherTuple, piece_found}
+use Rattle.qap_search.proofs.OneTree.{closed_tag}
 use Rattle.qap_search.proofs.Reorderings.{flipped, reordered}
 use Rattle.qap_search.proofs.Replacing.{best_found}
 use Rattle.qap_search.proofs.TupleReadings.{found_in, is_it, is_it-found, is_it-itself, list_at, tag}
@@ -54,12 +55,12 @@ best_stays I c p w (inl same) = sym same.1
 best_stays I c p w (inr h) = let differ : best_tag ≡ closed_tag = ap tag h.closed.is in absurd (omega arith)
 
 -- tuples that are closed to those of a tree and a permutation are those of a search tree that is closed to the tree
-made_from : (I : Problem) (tuples ws : List (List FieldValue)) (A : Claim) (g : ℤ) → SameItems tuples ws → AllZip (IsClosedTuple I) ws (certificate_tuples I.size A) → IsTreeAt AnyDuals (root_of I.size) (searched A.tree) → length A.permutation ≡ I.size → IsCertificate (claim_of A.cost g A.permutation A.tree) → IsBoundOf I A.cost A.tree g → IsStopped I tuples (claim_of A.cost g A.permutation A.tree)
+made_from : (I : Problem) (tuples ws : List (List FieldValue)) (A : Claim) (g : ℤ) → SameItems tuples ws → AllZip (IsClosedTuple I) ws (certificate_tuples I.size A) → IsTree (plain AnyDuals) (whole (root_of I.size)) (searched A.tree) → length A.permutation ≡ I.size → IsCertificate (claim_of A.cost g A.permutation A.tree) → IsBoundOf I A.cost A.tree g → IsStopped I tuples (claim_of A.cost g A.permutation A.tree)
 made_from I tuples [] A g same zip tree size certificate least = absurd zip
 made_from I tuples (w ∷ ws) A g same zip tree size certificate least =
     let root = root_of I.size in
     let ps = pieces root (searched A.tree) in
-    let o = opened I A.tree root (record { size = refl; paired = refl }) tree ws [] (subst (AllZip (IsClosedTuple I) ws) (sym (append-nil ps)) zip.1) in
+    let o = opened I A.tree root (record { size = refl; paired = refl }) ws [] (subst (AllZip (IsClosedTuple I) ws) (sym (append-nil ps)) zip.1) in
     let is : ws ≡ pieces root o.search = o.is ∙ ap (λ (b : List (List FieldValue)). pieces root o.search ++ b) (none_behind (IsClosedTuple I) o.behind o.others) ∙ append-nil (pieces root o.search) in
     record {
       tree = o.search;
@@ -91,14 +92,14 @@ made_by I tuples new (w ∷ ws) c p s same zip h =
     let n = I.size in
     let root = root_of n in
     let ps = pieces root s in
-    let o = shut I s root (record { size = refl; paired = refl }) h.tree ws [] (subst (λ (a : List (List FieldValue)). AllZip (IsClosedTuple I) a ws) (sym (append-nil ps)) zip.1) in
+    let o = shut I s (whole root) (record { size = refl; paired = refl }) h.tree ws [] (subst (λ (a : List (List FieldValue)). AllZip (IsClosedTuple I) a ws) (sym (append-nil ps)) zip.1) in
     let there = pieces root (searched o.tree_of) in
     let is : ws ≡ there = o.is ∙ ap (λ (b : List (List FieldValue)). there ++ b) (none_before (IsClosedTuple I) o.behind o.others) ∙ append-nil there in
     let perm = h.permutation in
     let size = h.same_size in
     let positive = perm.positive in
     let small = perm.small in
-    let shape = tree_shape o.tree_of root (root_placement n (omega arith) (omega arith)) (closed_tree I s o.tree_of root h.tree o.closed) in
+    let shape = tree_shape o.tree_of (whole root) (root_placement n (omega arith) (omega arith)) (closed_tree I s o.tree_of (whole root) h.tree o.closed) in
     record {
       tree_of = o.tree_of;
       closed = o.closed;
@@ -150,10 +151,9 @@ no_node I tuples h c p s u =
           let differ : best_tag ≡ node_tag = ap tag (same ∙ h.wrong.is) in
           absurd (omega arith)
       | inr there ↦
-          elim (piece_found HasDuals n w s root (root_placement n (omega arith) (omega arith)) refl u.tree there) as (λ (_ : IsOpenNode n w ⊎ IsDecidedTuple w). ShowsTooLow I c s) [
+          elim (piece_found (plain HasDuals) n w s (whole root) (root_placement n (omega arith) (omega arith)) refl u.tree there) as (λ (_ : IsOpenNode n w ⊎ IsOtherTuple w). ShowsTooLow I c s) [
             | inl node ↦ absurd (h.wrong.none node.node node.placement node.size (ap (list_at 1) (sym node.is ∙ h.wrong.is)))
-            | inr (inl split) ↦ let differ : split_tag ≡ node_tag = ap tag (sym split.2 ∙ h.wrong.is) in absurd (omega arith)
-            | inr (inr closed) ↦ let differ : closed_tag ≡ node_tag = ap tag (sym closed.3 ∙ h.wrong.is) in absurd (omega arith)
+            | inr other ↦ absurd (other.tagged (ap tag h.wrong.is))
           ]
     ]
 
@@ -172,7 +172,7 @@ one_certificate n tuples A C positive small a b =
     let other = b.taken_apart w in
     let itself = is_it-itself (best_tuple C.cost C.permutation) in
     let parts = sum_by-cons w (best_tuple C.cost C.permutation) right in
-    let best = best_found (best_of C) (best_of A) (searched A.tree) root AnyDuals (assembled_tree n tuples A a) (omega arith) in (
+    let best = best_found (best_of C) (best_of A) (searched A.tree) root (omega arith) in (
       ap (λ b. b.cost) best,
       only_tree n left A.tree C.tree positive small
           (record { tree = assembled_tree n tuples A a; taken_apart = λ f. refl })

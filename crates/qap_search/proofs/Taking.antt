@@ -1,17 +1,20 @@
 -- Trees that are taken from the front of tuples, one after another.
-use Rattle.std.proofs.Common.{◌≡◌, ◌≢◌, ℕ, zero, suc, ◌+◌, ◌<◌, List, [], ◌∷◌, ◌++◌, length, get_or, drop, ℤ, pos, refl, sym, ap, ap₂, subst, ◌∙◌, arith, append_assoc, length-append}
-use Rattle.std.proofs.Math.Seq.{drop-cons}
-use Rattle.qap_cost.proofs.Placements.{AreDifferent-length, AreDifferent-more}
+use Rattle.std.proofs.Common.{◌≡◌, ◌≢◌, ℕ, zero, suc, ◌+◌, ◌<◌, ◌≤◌, List, [], ◌∷◌, ◌++◌, length, get_or, ℤ, pos, refl, sym, ap, subst, ◌∙◌, arith, append_assoc}
 use Rattle.qap_cost.specs.Placement.{Placement, IsPlacement, IsFreeFacility, free_locations, placing}
 use Rattle.qap_cert.specs.Code.{joined}
+use Rattle.qap_cert.specs.Shape.{child_count}
 use Rattle.qap_cert.specs.Tree.{Node, split, bound, Nodes, no_nodes, node, node_of, nodes_of}
 use Rattle.qap_cert.specs.declared.tree.Tree.{Tree}
+use Rattle.qap_proof.specs.Tree.{Place, whole, child, child_of, node_at}
+use Rattle.qap_proof.specs.declared.side.Side.TheVariants.{Facility}
 use Rattle.tuple_match.specs.FieldValue.{FieldValue}
 use Rattle.qap_search.specs.TreeBuilding.{AnyDuals, BeginWith, BeginWithNone}
 use Rattle.qap_search.specs.DecidedTuples.{split_of}
 use Rattle.qap_search.specs.Piece.{node_list, pieces, pieces_of_all, split_tuple}
-use Rattle.qap_search.specs.SearchTree.{AreTreesAt, searched, searched_all}
-use Rattle.qap_search.proofs.OneTree.{closed_tag, first_tuple, later_tuples, one_tree, split_tag}
+use Rattle.qap_search.specs.SearchTree.{IsTree, AreTrees, plain, on_facility, searched, searched_all}
+use Rattle.qap_search.proofs.Certificates.{free_depth, free_location_count, tree_count-searched}
+use Rattle.qap_search.proofs.OneTree.{closed_tag, first_tuple, later_tuples, one_tree}
+use Rattle.qap_search.proofs.Replacing.{split_tag}
 use Rattle.qap_search.proofs.TupleReadings.{natural, number_at, tag}
 
 pub nodes_of-push : (xs : List Tree) (t : Tree) → nodes_of (xs ++ t ∷ []) ≡ joined (nodes_of xs) (node (node_of t) no_nodes)
@@ -26,65 +29,78 @@ joined-none : (ts : Nodes) → joined ts no_nodes ≡ ts
 joined-none no_nodes = refl
 joined-none (node t rest) = ap (node t) (joined-none rest)
 
--- the old tuples begin with these trees, one for each of the first i locations, and go on with the rest: what the rest
--- begins with, for the other locations, makes what the old ones begin with, and there is no other way
-pub record HaveTaken (x : Placement) (f : ℕ) (ks : List ℕ) (old : List (List FieldValue)) (ts : Nodes) (i : ℕ) (rest : List (List FieldValue)) : Type 0 where
-  pub whole : (us : Nodes) (r : List (List FieldValue)) → AreTreesAt AnyDuals x f (drop i ks) (searched_all us) → rest ≡ pieces_of_all x f (drop i ks) (searched_all us) ++ r
-      → AreTreesAt AnyDuals x f ks (searched_all (joined ts us)) × (old ≡ pieces_of_all x f ks (searched_all (joined ts us)) ++ r)
-  pub only : (us : Nodes) (r : List (List FieldValue)) → AreTreesAt AnyDuals x f ks (searched_all us) → old ≡ pieces_of_all x f ks (searched_all us) ++ r
-      → (vs : Nodes) × AreTreesAt AnyDuals x f (drop i ks) (searched_all vs) × (rest ≡ pieces_of_all x f (drop i ks) (searched_all vs) ++ r)
+count-joined : (ts : Nodes) (s : Node) → child_count (joined ts (node s no_nodes)) ≡ child_count ts + 1
+count-joined no_nodes s = refl
+count-joined (node t rest) s = let more = count-joined rest s in omega arith
 
-pub HaveTaken-none : (x : Placement) (f : ℕ) (ks : List ℕ) (old : List (List FieldValue)) → HaveTaken x f ks old no_nodes 0 old
-HaveTaken-none x f ks old = record { whole = λ us r h e. (h, e); only = λ us r h e. (us, h, e) }
+-- a tree without cut and mirrored nodes stands at its node wherever that is
+at_child : (s : Node) (p : Place) → IsTree (plain AnyDuals) (whole (node_at p)) (searched s) → IsTree (plain AnyDuals) p (searched s)
+at_child (bound u v) p h = h
+at_child (split f children) p h = h
 
--- a row of trees for a first location and others
-record IsFirst (x : Placement) (f k : ℕ) (ks : List ℕ) (vs : Nodes) (rest r : List (List FieldValue)) : Type 0 where
+alone : (s : Node) (p : Place) → IsTree (plain AnyDuals) p (searched s) → IsTree (plain AnyDuals) (whole (node_at p)) (searched s)
+alone (bound u v) p h = h
+alone (split f children) p h = h
+
+-- the tuples go on with those of these children of x, from number i on, and with the rest
+record GoOn (x : Placement) (f i : ℕ) (us : Nodes) (tuples rest : List (List FieldValue)) : Type 0 where
+  trees : AreTrees (plain AnyDuals) x (on_facility f) i (searched_all us)
+  is : tuples ≡ pieces_of_all x (on_facility f) i (searched_all us) ++ rest
+
+-- the old tuples begin with these i trees, one for each of the first locations, and go on with the rest: what the rest begins with,
+-- for the other locations, makes what the old ones begin with, and there is no other way
+pub record HaveTaken (x : Placement) (f : ℕ) (old : List (List FieldValue)) (ts : Nodes) (i : ℕ) (rest : List (List FieldValue)) : Type 0 where
+  pub counted : child_count ts ≡ i
+  pub within : i ≤ length (free_locations x)
+  pub whole : (us : Nodes) (r : List (List FieldValue)) → GoOn x f i us rest r → GoOn x f 0 (joined ts us) old r
+  pub only : (us : Nodes) (r : List (List FieldValue)) → GoOn x f 0 us old r → i ≤ child_count us → (vs : Nodes) × GoOn x f i vs rest r × (i + child_count vs ≡ child_count us)
+
+pub HaveTaken-none : (x : Placement) (f : ℕ) (old : List (List FieldValue)) → HaveTaken x f old no_nodes 0 old
+HaveTaken-none x f old = record { counted = refl; within = omega arith; whole = λ us r h. h; only = λ us r h long. (us, h, refl) }
+
+-- a first child and others
+record IsFirst (x : Placement) (f i : ℕ) (vs : Nodes) (rest r : List (List FieldValue)) : Type 0 where
   child : Node
   others : Nodes
-  begins : BeginWith (placing x f k) child rest (pieces_of_all x f ks (searched_all others) ++ r)
-  trees : AreTreesAt AnyDuals x f ks (searched_all others)
+  begins : BeginWith (child_of x (on_facility f) i) child rest (pieces_of_all x (on_facility f) (i + 1) (searched_all others) ++ r)
+  trees : AreTrees (plain AnyDuals) x (on_facility f) (i + 1) (searched_all others)
+  counted : child_count vs ≡ 1 + child_count others
 
-first_of : (x : Placement) (f k : ℕ) (ks : List ℕ) (vs : Nodes) (rest r : List (List FieldValue)) → AreTreesAt AnyDuals x f (k ∷ ks) (searched_all vs) → rest ≡ pieces_of_all x f (k ∷ ks) (searched_all vs) ++ r → IsFirst x f k ks vs rest r
-first_of x f k ks no_nodes rest r h e = absurd h
-first_of x f k ks (node v vs) rest r h e = record {
-  child = v;
-  others = vs;
-  begins = record { tree = h.0; is = e ∙ append_assoc (pieces (placing x f k) (searched v)) (pieces_of_all x f ks (searched_all vs)) r };
-  trees = h.1;
-}
-
-drop_at : (ks : List ℕ) (i : ℕ) → i < length ks → drop i ks ≡ get_or ks i 0 ∷ drop (i + 1) ks
-drop_at ks i less =
-    let one : suc i ≡ i + 1 = omega arith in
-    drop-cons ks i 0 less ∙ ap (λ (j : ℕ). get_or ks i 0 ∷ drop j ks) one
-
--- the first of what is left, for the location of number i
-first_at : (x : Placement) (f : ℕ) (ks : List ℕ) (i : ℕ) (rest r : List (List FieldValue)) → i < length ks → (vs : Nodes) × AreTreesAt AnyDuals x f (drop i ks) (searched_all vs) × (rest ≡ pieces_of_all x f (drop i ks) (searched_all vs) ++ r)
-    → (vs : Nodes) × IsFirst x f (get_or ks i 0) (drop (i + 1) ks) vs rest r
-first_at x f ks i rest r less p =
-    let at = drop_at ks i less in (
-      p.0,
-      first_of x f (get_or ks i 0) (drop (i + 1) ks) p.0 rest r
-          (subst (λ (js : List ℕ). AreTreesAt AnyDuals x f js (searched_all p.0)) at p.1)
-          (subst (λ (js : List ℕ). rest ≡ pieces_of_all x f js (searched_all p.0) ++ r) at p.2),
-    )
-
-pub HaveTaken-more : (x : Placement) (f : ℕ) (ks : List ℕ) (old : List (List FieldValue)) (ts : Nodes) (i : ℕ) (rest behind : List (List FieldValue)) (s : Node) → HaveTaken x f ks old ts i rest → i < length ks → BeginWith (placing x f (get_or ks i 0)) s rest behind → HaveTaken x f ks old (joined ts (node s no_nodes)) (i + 1) behind
-HaveTaken-more x f ks old ts i rest behind s h less b =
-    let k = get_or ks i 0 in
-    let js = drop (i + 1) ks in
-    let at = drop_at ks i less in
+first_of : (x : Placement) (f i : ℕ) (vs : Nodes) (rest r : List (List FieldValue)) → GoOn x f i vs rest r → 1 ≤ child_count vs → IsFirst x f i vs rest r
+first_of x f i no_nodes rest r h some = absurd (omega arith)
+first_of x f i (node v vs) rest r h some =
+    let on = on_facility f in
     record {
-      whole = λ us r trees e.
-          let P : Nodes → Type 0 = λ all. AreTreesAt AnyDuals x f ks (searched_all all) × (old ≡ pieces_of_all x f ks (searched_all all) ++ r) in
-          subst P (sym (joined-more ts s us))
-          (h.whole (node s us) r (subst (λ (is : List ℕ). AreTreesAt AnyDuals x f is (searched_all (node s us))) (sym at) (b.tree, trees))
-          (subst (λ (is : List ℕ). rest ≡ pieces_of_all x f is (searched_all (node s us)) ++ r) (sym at)
-          (b.is ∙ ap (λ (l : List (List FieldValue)). pieces (placing x f k) (searched s) ++ l) e ∙ sym (append_assoc (pieces (placing x f k) (searched s)) (pieces_of_all x f js (searched_all us)) r))));
-      only = λ us r trees e.
-          let first = (first_at x f ks i rest r less (h.only us r trees e)).1 in
-          let one = one_tree s first.child (placing x f k) behind (pieces_of_all x f js (searched_all first.others) ++ r) b.tree first.begins.tree (sym b.is ∙ first.begins.is) in
-          (first.others, first.trees, one.1);
+      child = v;
+      others = vs;
+      begins = record {
+        tree = alone v (child x on i) h.trees.0;
+        is = h.is ∙ append_assoc (pieces (child_of x on i) (searched v)) (pieces_of_all x on (i + 1) (searched_all vs)) r;
+      };
+      trees = h.trees.1;
+      counted = refl;
+    }
+
+pub HaveTaken-more : (x : Placement) (f : ℕ) (old : List (List FieldValue)) (ts : Nodes) (i : ℕ) (rest behind : List (List FieldValue)) (s : Node) → HaveTaken x f old ts i rest → i < length (free_locations x) → BeginWith (placing x f (get_or (free_locations x) i 0)) s rest behind → HaveTaken x f old (joined ts (node s no_nodes)) (i + 1) behind
+HaveTaken-more x f old ts i rest behind s h less b =
+    let on = on_facility f in
+    let at = child_of x on i in
+    record {
+      counted = let before = h.counted in let more = count-joined ts s in omega arith;
+      within = omega arith;
+      whole = λ us r go.
+          subst (λ (all : Nodes). GoOn x f 0 all old r) (sym (joined-more ts s us))
+          (h.whole (node s us) r (record {
+            trees = (at_child s (child x on i) b.tree, go.trees);
+            is = b.is ∙ ap (λ (l : List (List FieldValue)). pieces at (searched s) ++ l) go.is ∙ sym (append_assoc (pieces at (searched s)) (pieces_of_all x on (i + 1) (searched_all us)) r);
+          }));
+      only = λ us r go long.
+          let o = h.only us r go (omega arith) in
+          let count = o.2 in
+          let first = first_of x f i o.0 rest r o.1 (omega arith) in
+          let counted = first.counted in
+          let one = one_tree s first.child (whole at) behind (pieces_of_all x on (i + 1) (searched_all first.others) ++ r) b.tree first.begins.tree (sym b.is ∙ first.begins.is) in
+          (first.others, record { trees = first.trees; is = one.1 }, omega arith);
     }
 
 -- where no facility is free of which the split could be, there is no tree
@@ -93,33 +109,34 @@ none_split x number rest none (bound u v) r b = let differ : split_tag ≡ close
 none_split x number rest none (split f ss) r b = none f b.tree.1 (ap (λ (l : List (List FieldValue)). number_at 2 (first_tuple l)) b.is)
 
 -- where a child is missing, there is no tree
-pub HaveTaken-fault : (x : Placement) (f : ℕ) (ks : List ℕ) (old : List (List FieldValue)) (ts : Nodes) (i : ℕ) (rest : List (List FieldValue)) → ks ≡ free_locations x → HaveTaken x f ks old ts i rest → i < length ks → BeginWithNone (placing x f (get_or ks i 0)) rest → BeginWithNone x (split_tuple x f ∷ old)
-HaveTaken-fault x f ks old ts i rest listed h less none (bound u v) r b = let differ : split_tag ≡ closed_tag = ap (λ (l : List (List FieldValue)). tag (first_tuple l)) b.is in absurd (omega arith)
-HaveTaken-fault x f ks old ts i rest listed h less none (split g ss) r b =
+pub HaveTaken-fault : (x : Placement) (f : ℕ) (old : List (List FieldValue)) (ts : Nodes) (i : ℕ) (rest : List (List FieldValue)) → IsPlacement x → HaveTaken x f old ts i rest → i < length (free_locations x) → BeginWithNone (placing x f (get_or (free_locations x) i 0)) rest → BeginWithNone x (split_tuple x f ∷ old)
+HaveTaken-fault x f old ts i rest placed h less none (bound u v) r b = let differ : split_tag ≡ closed_tag = ap (λ (l : List (List FieldValue)). tag (first_tuple l)) b.is in absurd (omega arith)
+HaveTaken-fault x f old ts i rest placed h less none (split g ss) r b =
     let same : g ≡ f = ap (λ (l : List (List FieldValue)). natural (number_at 2 (first_tuple l))) (sym b.is) in
-    let trees = subst (λ (js : List ℕ). AreTreesAt AnyDuals x f js (searched_all ss)) (sym listed) (subst (λ (j : ℕ). AreTreesAt AnyDuals x j (free_locations x) (searched_all ss)) same b.tree.2) in
-    let is = ap later_tuples b.is ∙ ap₂ (λ (j : ℕ) (js : List ℕ). pieces_of_all x j js (searched_all ss) ++ r) same (sym listed) in
-    let first = (first_at x f ks i rest r less (h.only ss r trees is)).1 in
-    none first.child (pieces_of_all x f (drop (i + 1) ks) (searched_all first.others) ++ r) first.begins
-
--- a facility is free only where not all are placed
-pub free_depth : (x : Placement) (f : ℕ) → IsPlacement x → IsFreeFacility x f → length x.facilities < x.size
-free_depth x f h free =
-    let most = AreDifferent-length x.size (x.facilities ++ f ∷ []) (AreDifferent-more x.size f x.facilities h.facilities free) in
-    let long = length-append x.facilities (f ∷ []) in
-    omega arith
+    let go : GoOn x f 0 ss old r = record {
+      trees = subst (λ (j : ℕ). AreTrees (plain AnyDuals) x (on_facility j) 0 (searched_all ss)) same b.tree.4;
+      is = ap later_tuples b.is ∙ ap (λ (j : ℕ). pieces_of_all x (on_facility j) 0 (searched_all ss) ++ r) same;
+    } in
+    let listed = free_location_count x placed in
+    let counted = tree_count-searched ss in
+    let all = b.tree.3 in
+    let o = h.only ss r go (omega arith) in
+    let count = o.2 in
+    let first = first_of x f i o.0 rest r o.1 (omega arith) in
+    none first.child (pieces_of_all x (on_facility f) (i + 1) (searched_all first.others) ++ r) first.begins
 
 -- where there is a tree for each location, they make the split's
-pub HaveTaken-all : (x : Placement) (f : ℕ) (ks : List ℕ) (old : List (List FieldValue)) (ts : Nodes) (i : ℕ) (rest : List (List FieldValue)) → ks ≡ free_locations x → IsPlacement x → IsFreeFacility x f → HaveTaken x f ks old ts i rest → drop i ks ≡ [] → BeginWith x (split f ts) (split_tuple x f ∷ old) rest
-HaveTaken-all x f ks old ts i rest listed placed free h end =
-    let none = subst (λ (js : List ℕ). AreTreesAt AnyDuals x f js (searched_all no_nodes)) (sym end) tt in
-    let no_more = subst (λ (js : List ℕ). rest ≡ pieces_of_all x f js (searched_all no_nodes) ++ rest) (sym end) refl in
-    let whole = h.whole no_nodes rest none no_more in
-    let P : Nodes → Type 0 = λ all. AreTreesAt AnyDuals x f ks (searched_all all) × (old ≡ pieces_of_all x f ks (searched_all all) ++ rest) in
-    let row = subst P (joined-none ts) whole in
+pub HaveTaken-all : (x : Placement) (f : ℕ) (old : List (List FieldValue)) (ts : Nodes) (i : ℕ) (rest : List (List FieldValue)) → IsPlacement x → IsFreeFacility x f → HaveTaken x f old ts i rest → length (free_locations x) ≤ i → BeginWith x (split f ts) (split_tuple x f ∷ old) rest
+HaveTaken-all x f old ts i rest placed free h end =
+    let row = subst (λ (all : Nodes). GoOn x f 0 all old rest) (joined-none ts) (h.whole no_nodes rest (record { trees = tt; is = refl })) in
+    let listed = free_location_count x placed in
+    let counted = tree_count-searched ts in
+    let before = h.counted in
+    let within = h.within in
+    let depth = free_depth Facility x f placed free in
     record {
-      tree = (free_depth x f placed free, free, subst (λ (js : List ℕ). AreTreesAt AnyDuals x f js (searched_all ts)) listed row.0);
-      is = ap (λ (l : List (List FieldValue)). split_tuple x f ∷ l) (row.1 ∙ ap (λ (js : List ℕ). pieces_of_all x f js (searched_all ts) ++ rest) listed);
+      tree = (depth, free, (refl, refl), omega arith, row.trees);
+      is = ap (λ (l : List (List FieldValue)). split_tuple x f ∷ l) row.is;
     }
 
 -- a number of a list, whatever stands past the end

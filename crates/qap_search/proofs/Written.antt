@@ -1,12 +1,13 @@
 -- Lists of nodes and tuples of open nodes, as they are written one after another.
-use Rattle.std.proofs.Common.{◌≡◌, ℕ, ◌+◌, ◌*◌, ◌≤◌, ◌<◌, List, [], ◌∷◌, ◌++◌, length, get_or, take, map, ℤ, pos, refl, sym, ap, ap₂, ◌∙◌, arith, append_assoc, length-append, length-take-le}
+use Rattle.std.proofs.Common.{◌≡◌, ℕ, suc, ◌+◌, ◌*◌, ◌≤◌, ◌<◌, List, [], ◌∷◌, ◌++◌, length, get_or, take, map, ℤ, pos, refl, sym, ap, ap₂, ◌∙◌, arith, append_assoc, length-append, length-take-le}
 use Rattle.std.proofs.lemmas.List.{take_all, take_more}
 use Rattle.std.proofs.lemmas.List.Elements.{All-from_recursion}
-use Rattle.qap_cost.specs.Placement.{Placement, free_locations, placing}
+use Rattle.qap_cost.specs.Placement.{Placement, IsPlacement, free_locations, placing}
 use Rattle.tuple_match.specs.FieldValue.{FieldValue, IsField}
 use Rattle.tuple_match.specs.Tuple.{IsTuple}
 use Rattle.qap_search.specs.Piece.{by_turns, node_tuple, pieces, pieces_of_all, split_tuple}
-use Rattle.qap_search.specs.SearchTree.{open_row, split_open}
+use Rattle.qap_search.specs.SearchTree.{on_facility, open_row, split_open}
+use Rattle.qap_search.proofs.Certificates.{free_location_count}
 use Rattle.qap_search.proofs.Keys.{by_turns-push}
 
 -- one facility and one location more
@@ -21,10 +22,16 @@ by_turns-more fs ks t less paired =
 pub two_pushed : (old one two : List ℤ) (a b : ℤ) → one ≡ old ++ a ∷ [] → two ≡ one ++ b ∷ [] → two ≡ old ++ (a ∷ b ∷ [])
 two_pushed old one two a b first second = second ∙ ap (λ (xs : List ℤ). xs ++ b ∷ []) first ∙ append_assoc old (a ∷ []) (b ∷ [])
 
--- the tuples of a row of open nodes
-pub open_row-pieces : (x : Placement) (f : ℕ) (ks : List ℕ) → map (λ (k : ℕ). node_tuple (placing x f k)) ks ≡ pieces_of_all x f ks (open_row ks)
-open_row-pieces x f [] = refl
-open_row-pieces x f (k ∷ ks) = ap (λ (ts : List (List FieldValue)). node_tuple (placing x f k) ∷ ts) (open_row-pieces x f ks)
+-- the tuples of a row of open nodes, at the locations from number i on
+pub open_row-pieces : (x : Placement) (f i : ℕ) (js : List ℕ) → ((t : ℕ) → t < length js → get_or js t 0 ≡ get_or (free_locations x) (i + t) 0) → map (λ (k : ℕ). node_tuple (placing x f k)) js ≡ pieces_of_all x (on_facility f) i (open_row (length js))
+open_row-pieces x f i [] at = refl
+open_row-pieces x f i (j ∷ js) at =
+    let here : i + 0 ≡ i = omega arith in
+    ap₂ (λ (t : List FieldValue) (ts : List (List FieldValue)). t ∷ ts)
+    (ap (λ (k : ℕ). node_tuple (placing x f k)) (at 0 (omega arith) ∙ ap (λ (k : ℕ). get_or (free_locations x) k 0) here))
+    (open_row-pieces x f (i + 1) js (λ t less.
+    let next : i + suc t ≡ i + 1 + t = omega arith in
+    at (suc t) (omega arith) ∙ ap (λ (k : ℕ). get_or (free_locations x) k 0) next))
 
 pub two_more : (old new : List ℤ) (a b : ℤ) (t : ℕ) → new ≡ old ++ (a ∷ b ∷ []) → length old ≡ 2 * t → length new ≡ 2 * (t + 1)
 two_more old new a b t is long =
@@ -33,11 +40,12 @@ two_more old new a b t is long =
     omega arith
 
 -- all of a row of open nodes has been written behind the split
-pub all_open : (x : Placement) (f n : ℕ) (tuples : List (List FieldValue)) (ks : List ℕ) → tuples ≡ split_tuple x f ∷ map (λ (k : ℕ). node_tuple (placing x f k)) (take n ks) → length ks ≤ n → ks ≡ free_locations x → tuples ≡ pieces x (split_open x f)
-all_open x f n tuples ks is all listed =
+pub all_open : (x : Placement) (f n : ℕ) (tuples : List (List FieldValue)) (ks : List ℕ) → IsPlacement x → tuples ≡ split_tuple x f ∷ map (λ (k : ℕ). node_tuple (placing x f k)) (take n ks) → length ks ≤ n → ks ≡ free_locations x → tuples ≡ pieces x (split_open x f)
+all_open x f n tuples ks placed is all listed =
     is
     ∙ ap (λ (js : List ℕ). split_tuple x f ∷ map (λ (k : ℕ). node_tuple (placing x f k)) js) (take_all n ks all ∙ listed)
-    ∙ ap (λ (ts : List (List FieldValue)). split_tuple x f ∷ ts) (open_row-pieces x f (free_locations x))
+    ∙ ap (λ (ts : List (List FieldValue)). split_tuple x f ∷ ts) (open_row-pieces x f 0 (free_locations x) (λ t less. refl))
+    ∙ ap (λ (m : ℕ). split_tuple x f ∷ pieces_of_all x (on_facility f) 0 (open_row m)) (free_location_count x placed)
 
 -- four fields within their limits are a tuple
 pub four_fields : (a b c d : FieldValue) → IsField a → IsField b → IsField c → IsField d → IsTuple (a ∷ b ∷ c ∷ d ∷ [])

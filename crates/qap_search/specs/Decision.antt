@@ -1,43 +1,62 @@
 -- What one commit writes of a node: duals that close it under the cost of the best permutation, or its split into open nodes.
-use Rattle.std.specs.Prelude.{◌≡◌, ◌⊎◌, ℕ, List, ◌∷◌, ℤ, ◌<ℤ◌, ◌≤ℤ◌, Some}
+use Rattle.std.specs.Prelude.{◌≡◌, ◌⊎◌, ℕ, Bool, List, [], ◌∷◌, ℤ, ◌<ℤ◌, ◌≤ℤ◌, int_lt, Option, Some, None, if◌then◌else◌}
 use Rattle.qap_cost.specs.Instance.{Problem}
 use Rattle.qap_cost.specs.Placement.{Placement}
-use Rattle.qap_cert.specs.Valid.{Closes}
+use Rattle.qap_proof.specs.Tree.{Split, pair, whole}
+use Rattle.qap_proof.specs.declared.side.Side.{Side}
 use Rattle.space_txn.specs.Content.{SameItems}
 use Rattle.tuple_match.specs.FieldValue.{FieldValue}
 use Rattle.qap_search.specs.Piece.{best_tuple, pieces}
 use Rattle.qap_search.specs.Replacement.{Best, IsOneNode}
-use Rattle.qap_search.specs.SearchTree.{SearchTree, closed_node, split_open, IsTreeAt}
-use Rattle.qap_search.specs.Thought.{IsThought, ThoughtValue}
+use Rattle.qap_search.specs.SearchTree.{SearchTree, open_node, split_node, closed_node, cut_node, SearchTrees, no_trees, tree, split_open, IsTree, judge_of}
+use Rattle.qap_search.specs.Thought.{BranchValue, IsThought, ThoughtValue}
 use Rattle.qap_search.specs.declared.node.thought.Thought.{Thought}
 
 -- the tuples are those of one decided node at x, closed only where nothing below costs less than c
-pub record Decides (I : Problem) (c : ℤ) (x : Placement) (tuples : List (List FieldValue)) : Type 0 where
+pub record Decides (cutting : Bool) (I : Problem) (c : ℤ) (x : Placement) (tuples : List (List FieldValue)) : Type 0 where
   pub decided : SearchTree
   pub one : IsOneNode decided
-  pub valid : IsTreeAt (Closes I c) x decided
+  pub valid : IsTree (judge_of cutting I c) (whole x) decided
   pub are : tuples ≡ pieces x decided
 
--- the thought is one on x, for some instance
+-- the thought is one on x, for some instance, where children may be cut off or may not
 abbrev pub IsOn : Placement → Thought → Type 0
-IsOn x t = (I : Problem) × IsThought I x t
+IsOn x t = (cutting : Bool) × (I : Problem) × IsThought cutting I x t
+
+-- the children of a split whose duals come to this at each: cut off where that is at least c, and else open
+abbrev pub children_by : ℤ → List ℤ → SearchTrees
+children_by c [] = no_trees
+children_by c (z ∷ zs) = tree (if int_lt z c then open_node else cut_node) (children_by c zs)
+
+-- a split with these duals
+abbrev pub pruned_split : Side → ℕ → List ℤ → List ℤ → Split
+pruned_split side number u v = record { side = side; number = number; duals = Some (pair u v) }
+
+-- a node split so where the best permutation costs c, by what the duals come to at each child, if that is told: with the thought's
+-- duals, which may cut children off; and else with all children open
+abbrev pub split_with : ThoughtValue → ℤ → BranchValue → Option (List ℤ) → SearchTree
+split_with t c b None = split_open t.node b.number
+split_with t c b (Some zs) = split_node (pruned_split b.side b.number t.u t.v) (children_by c zs)
+
+abbrev pub split_by : ThoughtValue → ℤ → BranchValue → SearchTree
+split_by t c b = split_with t c b b.reached
 
 -- what a thought makes of its node where the best permutation costs c: its duals close it where its value is at least that, and
--- else it is split on the thought's facility, with all children open
+-- else it is split on what the thought tells
 abbrev pub IsDecisionOf : ThoughtValue → ℤ → SearchTree → Type 0
 IsDecisionOf t c decided =
     ((c ≤ℤ t.value) × (decided ≡ closed_node t.u t.v))
-    ⊎ ((t.value <ℤ c) × (f : ℕ) × (t.branch ≡ Some f) × (decided ≡ split_open t.node f))
+    ⊎ ((t.value <ℤ c) × (b : BranchValue) × (t.branch ≡ Some b) × (decided ≡ split_by t c b))
 
 -- the tuples are those of what the thought makes of its node
-pub record DecidesBy (I : Problem) (c : ℤ) (t : ThoughtValue) (tuples : List (List FieldValue)) : Type 0 where
-  pub decides : Decides I c t.node tuples
+pub record DecidesBy (cutting : Bool) (I : Problem) (c : ℤ) (t : ThoughtValue) (tuples : List (List FieldValue)) : Type 0 where
+  pub decides : Decides cutting I c t.node tuples
   pub by : IsDecisionOf t c decides.decided
 
 -- the tuples are those of what the thought makes of its node, and of a permutation of cost c
-pub record DecidesBeside (I : Problem) (c : ℤ) (p : List ℕ) (t : ThoughtValue) (tuples : List (List FieldValue)) : Type 0 where
+pub record DecidesBeside (cutting : Bool) (I : Problem) (c : ℤ) (p : List ℕ) (t : ThoughtValue) (tuples : List (List FieldValue)) : Type 0 where
   pub rest : List (List FieldValue)
-  pub decides : DecidesBy I c t rest
+  pub decides : DecidesBy cutting I c t rest
   pub with_best : SameItems tuples (best_tuple c p ∷ rest)
 
 -- of a candidate and the best permutation that was taken, the one that stands then: the candidate only where it costs less
@@ -45,7 +64,7 @@ abbrev pub IsBetterOf : Best → Best → Best → Type 0
 IsBetterOf candidate old new = ((candidate.cost <ℤ old.cost) × (new ≡ candidate)) ⊎ ((old.cost ≤ℤ candidate.cost) × (new ≡ old))
 
 -- the tuples are those of what the thought makes of its node, and of the one that stands
-pub record DecidesBetter (I : Problem) (t : ThoughtValue) (old : Best) (tuples : List (List FieldValue)) : Type 0 where
+pub record DecidesBetter (cutting : Bool) (I : Problem) (t : ThoughtValue) (old : Best) (tuples : List (List FieldValue)) : Type 0 where
   pub new : Best
   pub better : IsBetterOf t.candidate old new
-  pub decides : DecidesBeside I new.cost new.permutation t tuples
+  pub decides : DecidesBeside cutting I new.cost new.permutation t tuples

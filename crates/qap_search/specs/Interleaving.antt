@@ -48,7 +48,7 @@ together x y = min (x + y) (2 ^ 64 - 1)
 -- counted is kept
 abbrev pub after_loss : Problem → ℕ → PostValue → PostValue
 after_loss I lease p = record {
-  hand = new_hand I lease;
+  hand = new_hand false I lease;
   accepted = p.accepted + p.hand.accepted;
   refused = together p.refused p.hand.refused;
 }
@@ -78,7 +78,7 @@ Runs I lease old (s ∷ rest) new = (next : Moment) × Moves I lease old s next 
 
 -- the beginning: the space as a search finds it, and so many workers who have done nothing yet
 abbrev pub beginner : Problem → ℕ → PostValue
-beginner I lease = record { hand = new_hand I lease; accepted = 0; refused = 0 }
+beginner I lease = record { hand = new_hand false I lease; accepted = 0; refused = 0 }
 
 abbrev pub start_of : Problem → ℕ → ℕ → Moment
 start_of I lease workers =

@@ -1,12 +1,14 @@
 -- What is searched: the permutations of an instance that complete a node, by one that is known before.
-use Rattle.std.specs.Prelude.{◌≡◌, ◌≤ℤ◌, ℕ, ℤ, List}
+use Rattle.std.specs.Prelude.{◌≡◌, ◌≤ℤ◌, ℕ, ℤ, Bool, false, List}
 use Rattle.std.specs.List.{range_with_len}
 use Rattle.qap_cost.specs.Instance.{Problem}
 use Rattle.qap_cost.specs.Objective.{Permutes, cost_of}
 use Rattle.qap_cost.specs.Placement.{Placement, Completes, IsPlacement, root_of}
 use Rattle.qap_search.specs.Replacement.{Best}
 
+-- cutting tells whether the search may cut children off by their parent's duals
 pub record Search : Type 0 where
+  pub cutting : Bool
   pub instance : Problem
   pub root : Placement
   pub known : Best
@@ -22,12 +24,12 @@ pub record IsSearch (S : Search) : Type 0 where
 abbrev pub NoneBelow : Search → ℤ → Type 0
 NoneBelow S c = (p : List ℕ) → Completes S.root p → c ≤ℤ cost_of S.instance p
 
-abbrev pub search_of : Problem → Placement → Best → Search
-search_of I x b = record { instance = I; root = x; known = b }
+abbrev pub search_of : Bool → Problem → Placement → Best → Search
+search_of cutting I x b = record { cutting = cutting; instance = I; root = x; known = b }
 
--- all permutations of the instance
+-- all permutations of the instance, by a search that cuts nothing off
 abbrev pub from_root : Problem → Best → Search
-from_root I b = search_of I (root_of I.size) b
+from_root I b = search_of false I (root_of I.size) b
 
 -- each facility at the location of its own number
 abbrev pub identity_of : Problem → List ℕ

@@ -1,67 +1,126 @@
--- Search trees that may be unfinished: how the permutations of an instance are split up, what closes each part, and which
--- parts are open.
-use Rattle.std.specs.Prelude.{ℕ, ◌+◌, ◌<◌, List, [], ◌∷◌, length, ℤ}
-use Rattle.qap_cost.specs.Placement.{Placement, IsFreeFacility, free_locations, placing}
+-- Search trees that may be unfinished: how the permutations that complete a node are split up, what shows of each part that none
+-- costs less than some cost, and which parts are open.
+use Rattle.std.specs.Prelude.{◌≡◌, ◌⊎◌, ℕ, zero, suc, ◌+◌, ◌<◌, List, length, ℤ, Bool, true, false, Some, None}
+use Rattle.qap_cost.specs.Instance.{Problem}
+use Rattle.qap_cost.specs.Placement.{Placement}
 use Rattle.qap_cert.specs.Tree.{Node, split, bound, Nodes, no_nodes, node}
+use Rattle.qap_cert.specs.Valid.{Closes}
+use Rattle.qap_proof.specs.Shape.{AreDuals, free_count}
+use Rattle.qap_proof.specs.Tree.{Pair, Split, IsFreeOn, Place, whole, child, node_at}
+use Rattle.qap_proof.specs.Valid.{Fits, IsCut, TakesOn}
+use Rattle.qap_proof.specs.declared.side.Side.TheVariants.{Facility}
 
--- a node that is open; a split on a facility, with a child for each of its locations; a node that duals close
+-- a node that is open; a split, with a child for each free one of the other side, ascending; a node that duals close; a child that
+-- the duals of its split cut off; or the image of the earlier child of this number under a permutation
 mutual
   pub data SearchTree : Type 0 where
     open_node : SearchTree
-    split_node : ℕ → SearchTrees → SearchTree
+    split_node : Split → SearchTrees → SearchTree
     closed_node : List ℤ → List ℤ → SearchTree
+    cut_node : SearchTree
+    mirrored_node : ℕ → List ℕ → SearchTree
 
   pub data SearchTrees : Type 0 where
     no_trees : SearchTrees
     tree : SearchTree → SearchTrees → SearchTrees
 
-abbrev mutual
-  -- a tree at x: a split is on a free facility and has a child for each free location, ascending; and duals that close a
-  -- node are such as P asks for there
-  pub IsTreeAt : (Placement → List ℤ → List ℤ → Type 0) → Placement → SearchTree → Type 0
-  IsTreeAt P x open_node = Unit {0}
-  IsTreeAt P x (split_node f children) =
-      (length x.facilities < x.size) × IsFreeFacility x f × AreTreesAt P x f (free_locations x) children
-  IsTreeAt P x (closed_node u v) = P x u v
+abbrev pub tree_count : SearchTrees → ℕ
+tree_count no_trees = 0
+tree_count (tree t rest) = 1 + tree_count rest
 
-  -- a tree for each of these locations of the facility
-  pub AreTreesAt : (Placement → List ℤ → List ℤ → Type 0) → Placement → ℕ → List ℕ → SearchTrees → Type 0
-  AreTreesAt P x f [] no_trees = Unit {0}
-  AreTreesAt P x f (k ∷ ks) (tree t rest) = IsTreeAt P (placing x f k) t × AreTreesAt P x f ks rest
-  AreTreesAt P x f _ _ = ⊥
+-- what the nodes of a tree are to show: duals that close a node; what a split may be; its child of some number where that is cut;
+-- and where that is the image of an earlier one under a permutation
+pub record Judge : Type 1 where
+  pub closes : Placement → List ℤ → List ℤ → Type 0
+  pub splits : Placement → Split → Type 0
+  pub cuts : Placement → Split → ℕ → Type 0
+  pub mirrors : Placement → Split → ℕ → ℕ → List ℕ → Type 0
 
 abbrev mutual
-  -- how many nodes of the tree are not open
+  -- a tree at this place: a split is on a facility or a location that is free, and has a child for each free one of the other side;
+  -- and all nodes show what the judge asks for
+  pub IsTree : Judge → Place → SearchTree → Type 0
+  IsTree J p open_node = Unit {0}
+  IsTree J p (split_node s children) =
+      (length (node_at p).facilities < (node_at p).size) × IsFreeOn s.side (node_at p) s.number × J.splits (node_at p) s
+      × (tree_count children + length (node_at p).facilities ≡ (node_at p).size) × AreTrees J (node_at p) s 0 children
+  IsTree J p (closed_node u v) = J.closes (node_at p) u v
+  IsTree J (whole x) cut_node = ⊥
+  IsTree J (child x s c) cut_node = J.cuts x s c
+  IsTree J (whole x) (mirrored_node j m) = ⊥
+  IsTree J (child x s c) (mirrored_node j m) = J.mirrors x s c j m
+
+  -- the children of a split of x, from number c on
+  pub AreTrees : Judge → Placement → Split → ℕ → SearchTrees → Type 0
+  AreTrees J x s c no_trees = Unit {0}
+  AreTrees J x s c (tree t rest) = IsTree J (child x s c) t × AreTrees J x s (c + 1) rest
+
+-- a split on a facility that says no duals
+abbrev pub IsPlain : Split → Type 0
+IsPlain s = (s.side ≡ Facility) × (s.duals ≡ None)
+
+-- the split says duals, which fit the reduced matrix
+pub record HasFit (I : Problem) (x : Placement) (s : Split) : Type 0 where
+  pub pair : Pair
+  pub has : s.duals ≡ Some pair
+  pub duals : AreDuals (free_count x) pair
+  pub fits : Fits I x pair
+
+-- trees whose splits are plain, and in which no child is cut or mirrored; closed nodes are to show this
+abbrev pub plain : (Placement → List ℤ → List ℤ → Type 0) → Judge
+plain P = record { closes = P; splits = λ x s. IsPlain s; cuts = λ x s c. ⊥; mirrors = λ x s c j m. ⊥ }
+
+-- trees that show of each part that no permutation there costs less than g, by what proofs may say
+abbrev pub proving : Problem → ℤ → Judge
+proving I g = record {
+  closes = Closes I g;
+  splits = λ x s. IsPlain s ⊎ HasFit I x s;
+  cuts = IsCut I g;
+  mirrors = λ x s c j m. (j < c) × TakesOn s.side I x j c m;
+}
+
+-- the trees of a search that cuts children off, or of one that doesn't, whose parts hold nothing that costs less than g
+abbrev pub judge_of : Bool → Problem → ℤ → Judge
+judge_of true I g = proving I g
+judge_of false I g = plain (Closes I g)
+
+abbrev mutual
+  -- how many nodes of the tree are split or closed
   pub decided_count : SearchTree → ℕ
-  decided_count open_node = 0
-  decided_count (split_node f children) = 1 + decided_counts children
+  decided_count (split_node s children) = 1 + decided_counts children
   decided_count (closed_node u v) = 1
+  decided_count _ = 0
 
   pub decided_counts : SearchTrees → ℕ
   decided_counts no_trees = 0
   decided_counts (tree t rest) = decided_count t + decided_counts rest
 
--- all of them are open
-abbrev pub AreOpen : SearchTrees → Type 0
-AreOpen no_trees = Unit {0}
-AreOpen (tree open_node rest) = AreOpen rest
-AreOpen (tree _ rest) = ⊥
+-- none of them is decided: each is open, cut or mirrored
+abbrev pub AreUndecided : SearchTrees → Type 0
+AreUndecided no_trees = Unit {0}
+AreUndecided (tree (split_node s children) rest) = ⊥
+AreUndecided (tree (closed_node u v) rest) = ⊥
+AreUndecided (tree _ rest) = AreUndecided rest
+
+-- a split on facility f that says no duals
+abbrev pub on_facility : ℕ → Split
+on_facility f = record { side = Facility; number = f; duals = None }
 
 abbrev mutual
   -- the search tree of a certificate's tree, in which no node is open
   pub searched : Node → SearchTree
-  searched (split f children) = split_node f (searched_all children)
+  searched (split f children) = split_node (on_facility f) (searched_all children)
   searched (bound u v) = closed_node u v
 
   pub searched_all : Nodes → SearchTrees
   searched_all no_nodes = no_trees
   searched_all (node t rest) = tree (searched t) (searched_all rest)
 
--- an open node for each of these locations
-abbrev pub open_row : List ℕ → SearchTrees
-open_row [] = no_trees
-open_row (k ∷ ks) = tree open_node (open_row ks)
+-- so many open nodes
+abbrev pub open_row : ℕ → SearchTrees
+open_row zero = no_trees
+open_row (suc n) = tree open_node (open_row n)
 
 -- x split on facility f, with all children open
 abbrev pub split_open : Placement → ℕ → SearchTree
-split_open x f = split_node f (open_row (free_locations x))
+split_open x f = split_node (on_facility f) (open_row (free_count x))

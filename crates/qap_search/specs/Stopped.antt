@@ -9,11 +9,12 @@ use Rattle.qap_cert.specs.Certificate.{Claim, Certifies, IsCertificate}
 use Rattle.qap_cert.specs.Shape.{AreDuals}
 use Rattle.qap_cert.specs.Tree.{Node, split, bound, Nodes, node, node_count}
 use Rattle.qap_cert.specs.Valid.{Closes}
+use Rattle.qap_proof.specs.Tree.{whole}
 use Rattle.space_txn.specs.Content.{SameItems}
 use Rattle.tuple_match.specs.FieldValue.{FieldValue}
 use Rattle.qap_search.specs.OpenNodes.{ClosedTo, undecided_count}
 use Rattle.qap_search.specs.Piece.{best_tuple, pieces}
-use Rattle.qap_search.specs.SearchTree.{SearchTree, IsTreeAt, decided_count}
+use Rattle.qap_search.specs.SearchTree.{SearchTree, IsTree, plain, decided_count}
 use Rattle.qap_search.specs.declared.certificate.error.AssembleError.{AssembleError}
 use Rattle.qap_search.specs.declared.certificate.error.AssembleError.TheVariants.{Unfinished, NotATree, OutOfMemory}
 
@@ -59,7 +60,7 @@ pub record IsUnfinished (n : ℕ) (tuples : List (List FieldValue)) (c : ℤ) (p
   pub cost : IsLimited c
   pub permutation : IsPerm p
   pub same_size : length p ≡ n
-  pub tree : IsTreeAt HasDuals (root_of n) s
+  pub tree : IsTree (plain HasDuals) (whole (root_of n)) s
   pub taken_apart : SameItems tuples (best_tuple c p ∷ pieces (root_of n) s)
 
 -- with its open nodes closed, the search tree shows a bound below -10^24
@@ -86,7 +87,7 @@ pub record CertifiesStopped (I : Problem) (nodes : ℕ) (C : Claim) : Type 0 whe
   pub certified : Certifies I C
   pub tree : SearchTree
   pub closes : IsClosedTo I tree C
-  pub closed_before : IsTreeAt (Closes I C.cost) (root_of I.size) tree
+  pub closed_before : IsTree (plain (Closes I C.cost)) (whole (root_of I.size)) tree
   pub decided : decided_count tree ≡ nodes
   pub left : 0 < undecided_count tree
   pub counted : node_count C.tree ≡ nodes + undecided_count tree

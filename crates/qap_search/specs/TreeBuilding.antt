@@ -2,11 +2,12 @@
 use Rattle.std.specs.Prelude.{◌≡◌, ◌⊎◌, ℕ, ◌+◌, ◌-◌, ◌*◌, ◌<◌, List, ◌++◌, length, reverse, ℤ, pos, slice_index, slice_index_or}
 use Rattle.qap_cost.specs.Placement.{Placement, root_of}
 use Rattle.qap_cert.specs.Tree.{Node}
+use Rattle.qap_proof.specs.Tree.{whole}
 use Rattle.space_txn.specs.Content.{SameItems}
 use Rattle.tuple_match.specs.FieldValue.{FieldValue}
 use Rattle.qap_search.specs.Piece.{pieces}
 use Rattle.qap_search.specs.Pieces.{decided_tuples}
-use Rattle.qap_search.specs.SearchTree.{IsTreeAt, searched}
+use Rattle.qap_search.specs.SearchTree.{IsTree, plain, searched}
 use Rattle.qap_search.specs.declared.tuples.parsing.DecidedNode.{DecidedNode}
 use Rattle.qap_search.specs.declared.certificate.error.AssembleError.{AssembleError}
 use Rattle.qap_search.specs.declared.certificate.error.AssembleError.TheVariants.{NotATree, OutOfMemory}
@@ -21,7 +22,7 @@ ahead nodes = decided_tuples (reverse nodes)
 
 -- the tuples begin with those of this tree at x, and go on with the rest
 pub record BeginWith (x : Placement) (s : Node) (tuples rest : List (List FieldValue)) : Type 0 where
-  pub tree : IsTreeAt AnyDuals x (searched s)
+  pub tree : IsTree (plain AnyDuals) (whole x) (searched s)
   pub is : tuples ≡ pieces x (searched s) ++ rest
 
 -- they begin with those of no tree at x
@@ -43,5 +44,5 @@ EndsWith f k list = (slice_index_or list (length list - 2) (pos 0) ≡ pos f) ×
 
 -- the tuples, in any order, are those of this tree at the root of size n
 pub record AreTuplesOf (n : ℕ) (tuples : List (List FieldValue)) (s : Node) : Type 0 where
-  pub tree : IsTreeAt AnyDuals (root_of n) (searched s)
+  pub tree : IsTree (plain AnyDuals) (whole (root_of n)) (searched s)
   pub taken_apart : SameItems tuples (pieces (root_of n) (searched s))

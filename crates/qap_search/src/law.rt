@@ -1,6 +1,6 @@
 //! Why the tuples of a search stay a cut tree, and why those of a finished or a stopped one give a certificate.
 
-ghost use Rattle.std.specs.Prelude.{◌≡◌, ◌≤ℤ◌, ◌+◌, ◌++◌, ◌∷◌, [], ℕ, ℤ, List, Contains, true};
+ghost use Rattle.std.specs.Prelude.{◌≡◌, ◌≤ℤ◌, ◌+◌, ◌++◌, ◌∷◌, [], ℕ, Bool, ℤ, List, Contains, true};
 ghost use Rattle.qap_cost.specs.Instance.{Problem, IsInstance};
 ghost use Rattle.qap_cost.specs.Placement.{IsPlacement, Placement, root_of};
 ghost use Rattle.qap_cert.specs.Acceptance.{IsRefused, ShowsVerdict};
@@ -12,6 +12,7 @@ ghost use Rattle.qap_cert.specs.declared.acceptance.Verdict.{Verdict};
 ghost use Rattle.qap_cert.specs.declared.acceptance.Verdict.TheVariants.{Optimal};
 ghost use Rattle.qap_cert.specs.declared.error.CertError.{CertError};
 ghost use Rattle.qap_cert.specs.declared.version.Version.TheVariants.{Second};
+ghost use Rattle.qap_proof.specs.Tree.{whole};
 ghost use Rattle.space_txn.specs.Content.{SameItems};
 ghost use Rattle.tuple_match.specs.FieldValue.{FieldValue};
 ghost use Rattle.qap_search.specs.OpenNodes.{undecided_count};
@@ -23,7 +24,7 @@ ghost use Rattle.qap_search.specs.OpenBound.{IsOpenBound};
 ghost use Rattle.qap_search.specs.Piece.{node_tuple, is_open, open_count};
 ghost use Rattle.qap_search.specs.Replacement.{Best, IsAsGood, MayReplace, tuple_of};
 ghost use Rattle.qap_search.specs.Search.{Search, IsSearch, NoneBelow, from_root};
-ghost use Rattle.qap_search.specs.SearchTree.{IsTreeAt, decided_count};
+ghost use Rattle.qap_search.specs.SearchTree.{IsTree, plain, decided_count};
 ghost use Rattle.qap_search.specs.Stopped.{IsNotStopped, IsStopped};
 
 /// The open root and the permutation that is known are a cut tree, before any commit.
@@ -40,7 +41,7 @@ pub fn order_law()
 /// A cut tree in which an open node gives way to a decided one is a cut tree, of one commit more.
 pub fn replacement_law()
     ensures { (S : Search) (gone kept added rest content : List (List FieldValue)) (commits : ℕ) →
-        MayReplace S.instance gone kept added → SameItems content (gone ++ (kept ++ rest)) → IsCutTree S content commits →
+        MayReplace S.cutting S.instance gone kept added → SameItems content (gone ++ (kept ++ rest)) → IsCutTree S content commits →
         IsCutTree S (added ++ (kept ++ rest)) (commits + 1) }
 {}
 
@@ -56,14 +57,14 @@ pub fn found_law()
 /// A decided node may take the place of an open one: beside the best permutation that was read, or with one that is as good in
 /// the place of the one that was taken.
 pub fn replacing_law()
-    ensures read { (I : Problem) (x : Placement) (b : Best) (gone kept added tuples : List (List FieldValue)) →
-        IsPlacement x → x.size ≡ I.size → Decides I b.cost x tuples →
+    ensures read { (cutting : Bool) (I : Problem) (x : Placement) (b : Best) (gone kept added tuples : List (List FieldValue)) →
+        IsPlacement x → x.size ≡ I.size → Decides cutting I b.cost x tuples →
         SameItems gone (node_tuple x ∷ []) → SameItems kept (tuple_of b ∷ []) → SameItems added tuples →
-        MayReplace I gone kept added }
-    ensures taken { (I : Problem) (x : Placement) (old new : Best) (gone kept added tuples : List (List FieldValue)) →
-        IsPlacement x → x.size ≡ I.size → Decides I new.cost x tuples → IsAsGood I old new →
+        MayReplace cutting I gone kept added }
+    ensures taken { (cutting : Bool) (I : Problem) (x : Placement) (old new : Best) (gone kept added tuples : List (List FieldValue)) →
+        IsPlacement x → x.size ≡ I.size → Decides cutting I new.cost x tuples → IsAsGood I old new →
         SameItems gone (node_tuple x ∷ tuple_of old ∷ []) → SameItems kept [] → SameItems added (tuple_of new ∷ tuples) →
-        MayReplace I gone kept added }
+        MayReplace cutting I gone kept added }
 {}
 
 /// A cut tree of all permutations without open nodes is that of a certificate; and a certificate whose tuples are such a tree
@@ -99,7 +100,7 @@ pub fn stopped_law()
     ensures no_dearer { (I : Problem) (known : Best) (content : List (List FieldValue)) (commits : ℕ) (C : Claim) →
         IsCutTree (from_root I known) content commits → IsStopped I content C → C.cost ≤ℤ known.cost }
     ensures closed_before { (I : Problem) (known : Best) (content : List (List FieldValue)) (commits : ℕ) (C : Claim) →
-        IsCutTree (from_root I known) content commits → (s : IsStopped I content C) → IsTreeAt (Closes I C.cost) (root_of I.size) s.tree }
+        IsCutTree (from_root I known) content commits → (s : IsStopped I content C) → IsTree (plain (Closes I C.cost)) (whole (root_of I.size)) s.tree }
     ensures counted { (I : Problem) (known : Best) (content : List (List FieldValue)) (commits : ℕ) (C : Claim) →
         IsCutTree (from_root I known) content commits → (s : IsStopped I content C) →
         (decided_count s.tree ≡ commits) × (undecided_count s.tree ≡ open_count content)

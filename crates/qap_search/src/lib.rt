@@ -15,7 +15,7 @@ pub use law::{
     accepted_law, certificate_law, found_law, open_bound_law, opening_law, order_law,
     replacement_law, replacing_law, stopped_law,
 };
-pub use node::branching::Branching;
+pub use node::branching::{Branch, Branching};
 pub use node::decision::{decide, decide_anew, decide_beside};
 pub use node::node_list::read_node;
 pub use node::thought::Thought;

@@ -22,6 +22,9 @@ const FLOWS: [i64; 16] = [3, -2, 5, 0, 1, 0, -4, 6, -3, 2, 1, 5, 4, -1, 2, -2];
 
 const DISTANCES: [i64; 16] = [1, 4, -3, 2, -5, 0, 6, 1, 2, -1, 3, -4, 5, 2, 0, -2];
 
+/// The rules by which nodes are split: one that opens all children, and one that cuts children off.
+const RULES: [Branching; 2] = [Branching::GreatestMatched, Branching::Cutting];
+
 /// Facilities and their locations, of which a root places the first ones.
 const FACILITIES: [u16; 4] = [2, 0, 3, 1];
 
@@ -108,6 +111,7 @@ fn told<R, G, S>(
     instance: &Instance,
     depth: usize,
     start: &Perm,
+    branching: Branching,
     limit: Option<u64>,
     gate: &G,
     stop: &S,
@@ -126,7 +130,7 @@ where
         limit,
         root: &root,
         start,
-        branching: Branching::GreatestMatched,
+        branching,
     };
     let answer = solve_least_from(rt, alloc, instance, &plan, &Stopped, gate, stop, &Nobody)?;
     Ok((answer.cost, answer.bound, answer.open_nodes))
@@ -138,6 +142,7 @@ fn told_from_order<R, G, S>(
     alloc: Global,
     instance: &Instance,
     depth: usize,
+    branching: Branching,
     limit: Option<u64>,
     gate: &G,
     stop: &S,
@@ -149,7 +154,9 @@ where
     requires { instance.now.size ≡ 4 }
 {
     let start = in_order(alloc, instance)?;
-    told(rt, alloc, instance, depth, &start, limit, gate, stop)
+    told(
+        rt, alloc, instance, depth, &start, branching, limit, gate, stop,
+    )
 }
 
 /// The cost of the facilities in order.
@@ -163,13 +170,16 @@ fn free_search<R>(
     alloc: Global,
     instance: &Instance,
     depth: usize,
+    branching: Branching,
     limit: Option<u64>,
 ) -> Result<(i128, i128, u64), Fail>
 where
     R: Threads + Wait + time::Clock + Sync,
     requires { instance.now.size ≡ 4 }
 {
-    told_from_order(rt, alloc, instance, depth, limit, &Always, &Never)
+    told_from_order(
+        rt, alloc, instance, depth, branching, limit, &Always, &Never,
+    )
 }
 
 /// Asserts that a search to its end finds the least cost below the root, or keeps its start where that costs less.
@@ -178,6 +188,7 @@ fn assert_finished<R>(
     alloc: Global,
     instance: &Instance,
     depth: usize,
+    branching: Branching,
     limit: Option<u64>,
 ) -> Result<(), Fail>
 where
@@ -186,7 +197,7 @@ where
 {
     let below = least_below(alloc, instance, depth)?;
     let least = below.min(cost_in_order(alloc, instance)?);
-    let found = free_search(rt, alloc, instance, depth, limit)?;
+    let found = free_search(rt, alloc, instance, depth, branching, limit)?;
     assert_eq!(rt; found, (least, least, 0), "depth {depth}");
     Ok(())
 }
@@ -196,8 +207,10 @@ fn finds_the_least_below_each_root(rt: HostRuntime) -> Result<(), Fail> {
     let alloc = rt.alloc();
     let instance = signed(alloc)?;
     for depth in 0..=4 {
-        for limit in [None, Some(1000)] {
-            assert_finished(&rt, alloc, &instance, depth, limit)?;
+        for branching in RULES {
+            for limit in [None, Some(1000)] {
+                assert_finished(&rt, alloc, &instance, depth, branching, limit)?;
+            }
         }
     }
     Ok(())
@@ -209,6 +222,7 @@ fn assert_bounded<R>(
     alloc: Global,
     instance: &Instance,
     depth: usize,
+    branching: Branching,
     limit: u64,
 ) -> Result<(), Fail>
 where
@@ -217,7 +231,7 @@ where
 {
     let least = least_below(alloc, instance, depth)?;
     let first = cost_in_order(alloc, instance)?;
-    let (cost, bound, open_nodes) = free_search(rt, alloc, instance, depth, Some(limit))?;
+    let (cost, bound, open_nodes) = free_search(rt, alloc, instance, depth, branching, Some(limit))?;
     assert!(rt; bound <= least && bound <= cost && least.min(first) <= cost && cost <= first);
     assert!(rt; open_nodes > 0 || bound == cost);
     assert!(rt; limit > 0 || (cost, open_nodes) == (first, 1));
@@ -231,8 +245,10 @@ fn bounds_each_root_where_it_is_stopped(rt: HostRuntime) -> Result<(), Fail> {
     let alloc = rt.alloc();
     let instance = signed(alloc)?;
     for depth in 0..=4 {
-        for limit in [0, 1] {
-            assert_bounded(&rt, alloc, &instance, depth, limit)?;
+        for branching in RULES {
+            for limit in [0, 1] {
+                assert_bounded(&rt, alloc, &instance, depth, branching, limit)?;
+            }
         }
     }
     Ok(())
@@ -273,7 +289,16 @@ fn stops_while_a_lease_lasts(rt: HostRuntime) -> Result<(), Fail> {
     let gate = AtTheFirstCommit {
         reached: AtomicBool::new(false),
     };
-    let (found, bound, open_nodes) = told_from_order(&rt, alloc, &instance, 0, None, &gate, &gate)?;
+    let (found, bound, open_nodes) = told_from_order(
+        &rt,
+        alloc,
+        &instance,
+        0,
+        Branching::GreatestMatched,
+        None,
+        &gate,
+        &gate,
+    )?;
     let least = least_below(alloc, &instance, 0)?;
     assert_eq!(rt; (found, open_nodes), (cost_in_order(alloc, &instance)?, 1));
     assert!(rt; bound <= least);

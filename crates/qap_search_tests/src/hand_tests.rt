@@ -36,9 +36,10 @@ fn turn<L: Law, M: Room<L>>(
     room: &mut M,
     share: &mut Share<L>,
 ) -> Result<Made, Fail>
-    requires law { IsSearchLaw hand.old.instance L.lawful L.allowed }
+    requires law { IsSearchLaw hand.old.cutting hand.old.instance L.lawful L.allowed }
     requires before { hand.old.accepted ≤ share.old }
     ensures after { hand.new.accepted ≤ share.new }
+    ensures cutting { hand.new.cutting ≡ hand.old.cutting }
     ensures instance { hand.new.instance ≡ hand.old.instance }
 {
     if hand.thinks() {
@@ -55,7 +56,7 @@ fn four_turns<L: Law, M: Room<L>>(
     room: &mut M,
     share: &mut Share<L>,
 ) -> Result<[Made; 4], Fail>
-    requires law { IsSearchLaw hand.old.instance L.lawful L.allowed }
+    requires law { IsSearchLaw hand.old.cutting hand.old.instance L.lawful L.allowed }
     requires before { hand.old.accepted ≤ share.old }
 {
     let first = turn(hand, room, share)?;

@@ -6,7 +6,10 @@ ghost use Rattle.qap_cost.specs.Objective.{Permutes};
 use crate::examples::{patterned, told};
 use crate::worker_tests::{LEASE_MS, Stopped};
 use qap_cost::{Instance, Partial, Perm, least_by_listing};
-use qap_search::{Always, Answer, Branching, Plan, SolveError, solve_from};
+use qap_search::{
+    Always, Answer, Branching, Never, Nobody, Plan, SolveError, identity, solve_from,
+    solve_least_from,
+};
 use std::alloc::Global;
 use std::process::Abort;
 use std::sync::Wait;
@@ -75,6 +78,37 @@ where
 fn either_rule_finds_the_least_cost(rt: HostRuntime) -> Result<(), Fail> {
     for n in 1..=6 {
         assert_either(&rt, rt.alloc(), &patterned(rt.alloc(), n)?)?;
+    }
+    Ok(())
+}
+
+/// Asserts that a search which cuts children off, and begins with each facility at the location of its own number, finds the least
+/// cost.
+fn assert_cutting<R>(rt: &R, alloc: Global, instance: &Instance) -> Result<(), Fail>
+where
+    R: Threads + Wait + time::Clock + Sync + Abort,
+    requires { instance.now.size ≤ 6 }
+{
+    let (least, _) = least_by_listing(alloc, instance)?;
+    let start = identity(alloc, instance)?;
+    let root = Partial::root(alloc, instance.size())?;
+    let plan = Plan {
+        workers: 2,
+        lease_ms: LEASE_MS,
+        limit: None,
+        root: &root,
+        start: &start,
+        branching: Branching::Cutting,
+    };
+    let answer = solve_least_from(rt, alloc, instance, &plan, &Stopped, &Always, &Never, &Nobody)?;
+    assert_eq!(rt; (answer.cost, answer.bound, answer.open_nodes), (least, least, 0));
+    Ok(())
+}
+
+#[test]
+fn a_search_that_cuts_finds_the_least_cost(rt: HostRuntime) -> Result<(), Fail> {
+    for n in 1..=6 {
+        assert_cutting(&rt, rt.alloc(), &patterned(rt.alloc(), n)?)?;
     }
     Ok(())
 }

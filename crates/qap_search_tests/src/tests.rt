@@ -302,7 +302,8 @@ fn assert_decided(
 {
     assert_eq!(rt; thought.value, 24);
     assert_eq!(rt; thought.cost, 24);
-    assert_eq!(rt; thought.branch, Some(0));
+    let on = thought.branch.as_ref().map(|branch| branch.number);
+    assert_eq!(rt; on, Some(0));
     assert_eq!(rt; decided(alloc, root, thought, 24)?, 1);
     assert_eq!(rt; decided(alloc, root, thought, 25)?, 4);
     Ok(())

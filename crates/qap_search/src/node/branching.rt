@@ -1,12 +1,20 @@
-//! The facility that a node is split on, and the order in which its children are taken.
+//! What a node is split on, and the order in which its children are taken.
 
-ghost use Rattle.std.specs.Prelude.{◌≡◌, ◌<◌, ℕ, IfOk, MatchOption, length, slice_index};
-ghost use Rattle.qap_cost.specs.Placement.{IsFreeFacility};
-ghost use Rattle.qap_cost.specs.Range.{AllLimited};
+ghost use Rattle.std.specs.Prelude.{◌≡◌, ◌-◌, ◌*◌, ◌^◌, ◌<◌, ℕ, true, false, IfOk, MatchOption, length, slice_index};
+ghost use Rattle.qap_cost.specs.Instance.{Problem};
+ghost use Rattle.qap_cost.specs.Matrix.{DualsFit};
+ghost use Rattle.qap_cost.specs.Placement.{free_facilities};
+ghost use Rattle.qap_cost.specs.Range.{AllLimited, AllWithin};
+ghost use Rattle.gilmore_lawler.specs.ReducedMatrix.{IsReduced};
+ghost use Rattle.qap_proof.specs.NodeLine.{pair_of};
+ghost use Rattle.qap_proof.specs.Shape.{AreDuals, free_count};
+ghost use Rattle.qap_proof.specs.Tree.{IsFreeOn, Pair};
 ghost use Rattle.qap_search.specs.Completion.{IsMatching};
+ghost use Rattle.qap_search.specs.Hand.{cuts};
+ghost use Rattle.qap_search.specs.Thought.{IsBranch, branch_value};
 
-use assign_dual::Assignment;
-use qap_cost::{Matrix, Partial};
+use qap_cost::{Instance, Matrix, Partial};
+use qap_proof::{Duals, Side, child_values};
 use std::alloc::{AllocError, Global};
 
 /// By which rule a node is split.
@@ -17,55 +25,148 @@ pub enum Branching {
     /// On the free facility whose reduced entries have the greatest sum, each counted at most as far as the best known cost is
     /// above the node's bound; the child whose reduced entry is least is taken first.
     GreatestSum,
+    /// On the free facility or the free location whose reduced entries have the greatest such sum. A child at which the node's duals
+    /// come to the best cost is cut off; of the others the one at which they come to least is taken first.
+    Cutting,
 }
 
-/// How a node is split.
+/// What a node is split on.
 #[derive(Drop)]
-pub(crate) struct Branch {
-    /// The facility to split on. `None` where none is free.
-    pub(crate) facility: Option<u16>,
-    /// The reduced entries of its row, by which its children are taken, the least first; none where they are taken by their
-    /// locations.
-    pub(crate) entries: Vec<i128>,
+pub struct Branch {
+    /// Whether that is a facility or a location.
+    pub side: Side,
+    /// The number of the facility or the location, from 0.
+    pub number: u16,
+    /// What the node's duals come to at each child, where they may cut children off.
+    pub reached: Option<Vec<i128>>,
+    /// The reduced entry of each child, where children are taken by these, the least first; none where they are taken by their
+    /// locations or by what the duals come to.
+    pub entries: Vec<i128>,
 }
 
-/// The branch of a node by this rule, from its reduced matrix and a least assignment of that; of facilities that are as good the
-/// lowest. `gap` is how far the best known cost is above the node's bound, `None` where no cost is known.
+impl Branch {
+    /// By what the children are taken, the least first, that are open where the best permutation costs so much; nothing where they
+    /// are taken by their locations.
+    pub(crate) fn order(&self, alloc: Global, best: i128) -> Result<Vec<i128>, AllocError> {
+        let Some(reached) = &self.reached else {
+            return Vec::from_slice(alloc, &self.entries);
+        };
+        let mut order = Vec::with_capacity(alloc, reached.len())?;
+        for value in reached {
+            if *value < best {
+                order.push(*value)?;
+            }
+        }
+        Ok(order)
+    }
+}
+
+/// The branch of a node by this rule, from its reduced matrix and a least assignment of that with its duals; of equal facilities and
+/// locations the first, facilities before locations. `gap` is how far the best known cost is above the node's bound, `None` where
+/// no cost is known. `None` where nothing is free.
 pub(crate) fn branch_of(
     alloc: Global,
     branching: Branching,
+    instance: &Instance,
     node: &Partial,
     matrix: &Matrix,
-    assignment: &Assignment,
+    matching: &[u16],
+    duals: &Duals,
     gap: Option<i128>,
-) -> Result<Branch, AllocError>
-    requires matching { IsMatching node.now assignment.now.matching.items }
-    requires size { matrix.now.size ≡ length assignment.now.matching.items }
-    requires u_count { length assignment.now.u.items ≡ matrix.now.size }
-    requires v_count { length assignment.now.v.items ≡ matrix.now.size }
-    requires u_range { AllLimited assignment.now.u.items }
-    requires v_range { AllLimited assignment.now.v.items }
-    ensures { IfOk result (λ branch. MatchOption branch.facility (length node.now.facilities ≡ node.now.size) (IsFreeFacility node.now)) }
+) -> Result<Option<Branch>, AllocError>
+    requires same_size { instance.now.size ≡ node.now.size }
+    requires reduced { IsReduced instance.now node.now matrix.now }
+    requires bounded { AllWithin (512 * 10 ^ 18) matrix.now.entries }
+    requires matching { IsMatching node.now matching.now }
+    requires size { matrix.now.size ≡ length matching.now }
+    requires duals { AreDuals (free_count node.now) (pair_of duals.now) }
+    requires fits { DualsFit matrix.now duals.now.u.items duals.now.v.items }
+    ensures { IfOk result (λ branch. MatchOption branch (length node.now.facilities ≡ node.now.size)
+        (λ b. IsBranch (cuts branching) instance.now node.now (pair_of duals.now) (branch_value b))) }
+{
+    if matrix.size() == 0 {
+        return Ok(None);
+    }
+    let Duals { u, v } = duals;
+    let branch = match branching {
+        Branching::GreatestMatched => {
+            let row = greatest_row(matching, u, v);
+            on_facility(node, row, Vec::new(alloc))?
+        }
+        Branching::GreatestSum => {
+            let row = widest(matrix, u, v, Side::Facility, gap);
+            on_facility(node, row, reduced_row(alloc, matrix, u, v, row)?)?
+        }
+        Branching::Cutting => widest_branch(alloc, instance, node, matrix, duals, gap)?,
+    };
+    Ok(Some(branch))
+}
+
+/// A split on the facility of this row, whose children are taken by these entries.
+fn on_facility(node: &Partial, row: usize, entries: Vec<i128>) -> Result<Branch, AllocError>
+    requires { row < length (free_facilities node.now) }
+    ensures { IfOk result (λ b. (I : Problem) (d : Pair) → IsBranch false I node.now d (branch_value b)) }
 {
     let facilities = node.free_facilities()?;
-    if matrix.size() == 0 {
-        return Ok(Branch {
-            facility: None,
-            entries: Vec::new(alloc),
-        });
-    }
-    let Assignment { matching, u, v } = assignment;
-    let (row, entries) = match branching {
-        Branching::GreatestMatched => (greatest_row(matching, u, v), Vec::new(alloc)),
-        Branching::GreatestSum => {
-            let row = widest_row(matrix, u, v, gap);
-            (row, reduced_row(alloc, matrix, u, v, row)?)
-        }
-    };
     Ok(Branch {
-        facility: Some(facilities[row]),
+        side: Side::Facility,
+        number: facilities[row],
+        reached: None,
         entries,
     })
+}
+
+/// A split on the facility or the location of the row or column whose reduced entries have the greatest sum, each counted at most
+/// up to the gap, with what the duals come to at each child.
+fn widest_branch(
+    alloc: Global,
+    instance: &Instance,
+    node: &Partial,
+    matrix: &Matrix,
+    duals: &Duals,
+    gap: Option<i128>,
+) -> Result<Branch, AllocError>
+    requires same_size { instance.now.size ≡ node.now.size }
+    requires some { 0 < matrix.now.size }
+    requires reduced { IsReduced instance.now node.now matrix.now }
+    requires bounded { AllWithin (512 * 10 ^ 18) matrix.now.entries }
+    requires duals { AreDuals (free_count node.now) (pair_of duals.now) }
+    requires fits { DualsFit matrix.now duals.now.u.items duals.now.v.items }
+    ensures { IfOk result (λ b. IsBranch true instance.now node.now (pair_of duals.now) (branch_value b)) }
+{
+    let (side, number) = widest_line(node, matrix, &duals.u, &duals.v, gap)?;
+    let reached = child_values(alloc, instance, matrix, node, side, number, duals)?;
+    Ok(Branch {
+        side,
+        number,
+        reached: Some(reached),
+        entries: Vec::new(alloc),
+    })
+}
+
+/// The free facility or location whose reduced entries have the greatest sum, each counted at most up to the gap.
+fn widest_line(
+    node: &Partial,
+    matrix: &Matrix,
+    u: &[i128],
+    v: &[i128],
+    gap: Option<i128>,
+) -> Result<(Side, u16), AllocError>
+    requires some { 0 < matrix.now.size }
+    requires size { matrix.now.size ≡ free_count node.now }
+    requires u_count { length u.now ≡ matrix.now.size }
+    requires v_count { length v.now ≡ matrix.now.size }
+    ensures { IfOk result (λ found. IsFreeOn found.0 node.now found.1) }
+{
+    let row = widest(matrix, u, v, Side::Facility, gap);
+    let column = widest(matrix, u, v, Side::Location, gap);
+    let row_width = width_of(matrix, u, v, Side::Facility, row, gap);
+    let column_width = width_of(matrix, u, v, Side::Location, column, gap);
+    if column_width > row_width {
+        Ok((Side::Location, node.free_locations()?[column]))
+    } else {
+        Ok((Side::Facility, node.free_facilities()?[row]))
+    }
 }
 
 /// The row whose matched entry is greatest; of equal ones the first.
@@ -88,34 +189,45 @@ fn greatest_row(matching: &[u16], u: &[i128], v: &[i128]) -> usize
     row
 }
 
-/// The row whose reduced entries have the greatest sum, each counted at most up to the gap; of equal ones the first.
-fn widest_row(matrix: &Matrix, u: &[i128], v: &[i128], gap: Option<i128>) -> usize
+/// The row, or the column where the side is that of locations, whose reduced entries have the greatest sum, each counted at most up to
+/// the gap; of equal ones the first.
+fn widest(matrix: &Matrix, u: &[i128], v: &[i128], side: Side, gap: Option<i128>) -> usize
     requires some { 0 < matrix.now.size }
     requires u_count { length u.now ≡ matrix.now.size }
     requires v_count { length v.now ≡ matrix.now.size }
     ensures { result < matrix.now.size }
 {
-    let mut row = 0;
-    let mut greatest = width_of(matrix, u, v, 0, gap);
-    for r in 1..matrix.size() {
-        let width = width_of(matrix, u, v, r, gap);
+    let mut widest = 0;
+    let mut greatest = width_of(matrix, u, v, side, 0, gap);
+    for line in 1..matrix.size() {
+        let width = width_of(matrix, u, v, side, line, gap);
         if width > greatest {
-            row = r;
+            widest = line;
             greatest = width;
         }
     }
-    row
+    widest
 }
 
-/// The sum of a row's reduced entries, each counted at most up to the gap.
-fn width_of(matrix: &Matrix, u: &[i128], v: &[i128], row: usize, gap: Option<i128>) -> i128
-    requires row { row < matrix.now.size }
+/// The sum of the reduced entries of a row or a column, each counted at most up to the gap.
+fn width_of(
+    matrix: &Matrix,
+    u: &[i128],
+    v: &[i128],
+    side: Side,
+    line: usize,
+    gap: Option<i128>,
+) -> i128
+    requires line { line < matrix.now.size }
     requires u_count { length u.now ≡ matrix.now.size }
     requires v_count { length v.now ≡ matrix.now.size }
 {
     let mut sum = 0i128;
-    for column in 0..matrix.size() {
-        let entry = reduced_entry(matrix, u, v, row, column);
+    for other in 0..matrix.size() {
+        let entry = match side {
+            Side::Facility => reduced_entry(matrix, u, v, line, other),
+            Side::Location => reduced_entry(matrix, u, v, other, line),
+        };
         sum = sum.saturating_add(gap.map_or(entry, |gap| entry.min(gap)));
     }
     sum

@@ -1,19 +1,23 @@
 //! What is decided at a node, once the cost of the best permutation is known.
 
-ghost use Rattle.std.specs.Prelude.{◌≡◌, ◌<ℤ◌, IfOk, MatchOption, length};
+ghost use Rattle.std.specs.Prelude.{◌≡◌, ◌<ℤ◌, Bool, Some, IfOk, MatchOption, length};
 ghost use Rattle.qap_cost.specs.Instance.{Problem};
-ghost use Rattle.qap_search.specs.Decision.{DecidesBeside, DecidesBetter, DecidesBy, IsBetterOf, IsOn};
+ghost use Rattle.qap_cost.specs.Placement.{IsPlacement};
+ghost use Rattle.qap_search.specs.Decision.{DecidesBeside, DecidesBetter, DecidesBy, IsBetterOf, IsOn, split_by};
+ghost use Rattle.qap_search.specs.Piece.{pieces};
 ghost use Rattle.qap_search.specs.Replacement.{Best};
-ghost use Rattle.qap_search.specs.Thought.{IsThought, candidate_of, thought_on};
+ghost use Rattle.qap_search.specs.Thought.{IsThought, branch_value, candidate_of, thought_on};
 
+use crate::node::branching::Branch;
 use crate::node::thought::Thought;
-use crate::tuples::composing::{split_tuples, tuple_of_best, tuple_of_closed};
+use crate::tuples::composing::{pruned_tuples, split_tuples, tuple_of_best, tuple_of_closed};
 use qap_cost::{Partial, Perm};
 use std::alloc::{AllocError, Global};
 use tuple_match::Tuple;
 
 /// The tuples that take the place of the open node: where the thought's value is at least the best cost, that of the node
-/// closed by its duals; else those of its split, all of whose children are open. `None` where no facility is free to split on.
+/// closed by its duals; else those of its split, all of whose children are open
+/// but those that the thought's duals cut off under the best cost. `None` where nothing is free to split on.
 pub fn decide(
     alloc: Global,
     node: &Partial,
@@ -23,7 +27,7 @@ pub fn decide(
     requires { IsOn node.now thought.now }
     ensures { IfOk result (λ written. MatchOption written
         ((length node.now.facilities ≡ node.now.size) × (thought.now.value <ℤ best))
-        (λ tuples. (I : Problem) → IsThought I node.now thought.now → DecidesBy I best (thought_on node.now thought.now) tuples.items)) }
+        (λ tuples. (cutting : Bool) (I : Problem) → IsThought cutting I node.now thought.now → DecidesBy cutting I best (thought_on node.now thought.now) tuples.items)) }
 {
     if thought.value >= best {
         let u = Vec::from_slice(alloc, &thought.u)?;
@@ -31,10 +35,34 @@ pub fn decide(
         let tuple = tuple_of_closed(alloc, node, u, v)?;
         return Ok(Some(vec![in alloc; tuple]?));
     }
-    let Some(facility) = thought.branch else {
+    let Some(branch) = &thought.branch else {
         return Ok(None);
     };
-    Ok(Some(split_tuples(alloc, node, facility)?))
+    Ok(Some(branch_tuples(alloc, node, thought, branch, best)?))
+}
+
+/// The tuples of the node, split on what the thought tells: where its duals may cut children off, those at which they come to the best
+/// cost are.
+fn branch_tuples(
+    alloc: Global,
+    node: &Partial,
+    thought: &Thought,
+    branch: &Branch,
+    best: i128,
+) -> Result<Vec<Tuple>, AllocError>
+    requires thought { IsOn node.now thought.now }
+    requires branch { thought.now.branch ≡ Some branch.now }
+    ensures value { IfOk result (λ tuples. tuples.items ≡ pieces node.now (split_by (thought_on node.now thought.now) best (branch_value branch.now))) }
+    ensures placement { IfOk result (λ _. IsPlacement node.now) }
+{
+    match &branch.reached {
+        None => split_tuples(alloc, node, branch.number),
+        Some(reached) => {
+            let (side, number) = (branch.side, branch.number);
+            let (u, v) = (&thought.u, &thought.v);
+            pruned_tuples(alloc, node, side, number, u, v, reached, best)
+        }
+    }
 }
 
 /// The same, beside the tuple of the best permutation that then stands, of this cost.
@@ -48,7 +76,7 @@ pub fn decide_beside(
     requires { IsOn node.now thought.now }
     ensures { IfOk result (λ written. MatchOption written
         ((length node.now.facilities ≡ node.now.size) × (thought.now.value <ℤ cost))
-        (λ tuples. (I : Problem) → IsThought I node.now thought.now → DecidesBeside I cost perm.now (thought_on node.now thought.now) tuples.items)) }
+        (λ tuples. (cutting : Bool) (I : Problem) → IsThought cutting I node.now thought.now → DecidesBeside cutting I cost perm.now (thought_on node.now thought.now) tuples.items)) }
 {
     let Some(mut tuples) = decide(alloc, node, thought, cost)? else {
         return Ok(None);
@@ -58,7 +86,7 @@ pub fn decide_beside(
 }
 
 /// The same where the best permutation of this cost was taken: beside the thought's candidate, where that costs less, and else
-/// beside the one that was taken. `None` where no facility is free to split on and the node isn't closed.
+/// beside the one that was taken. `None` where nothing is free to split on and the node isn't closed.
 pub fn decide_anew(
     alloc: Global,
     node: &Partial,
@@ -70,8 +98,8 @@ pub fn decide_anew(
     ensures { IfOk result (λ written. MatchOption written
         ((new : Best) × IsBetterOf (candidate_of thought.now) (record { cost = cost; permutation = perm.now }) new
         × (length node.now.facilities ≡ node.now.size) × (thought.now.value <ℤ new.cost))
-        (λ tuples. (I : Problem) → IsThought I node.now thought.now →
-        DecidesBetter I (thought_on node.now thought.now) (record { cost = cost; permutation = perm.now }) tuples.items)) }
+        (λ tuples. (cutting : Bool) (I : Problem) → IsThought cutting I node.now thought.now →
+        DecidesBetter cutting I (thought_on node.now thought.now) (record { cost = cost; permutation = perm.now }) tuples.items)) }
 {
     if thought.cost < cost {
         decide_beside(alloc, node, thought, thought.cost, &thought.candidate)

@@ -9,6 +9,7 @@ use crate::node::completion::completed;
 use assign_dual::{Assignment, solve};
 use gilmore_lawler::dual_sum;
 use qap_cost::{Instance, Matrix, Partial, Perm, cost};
+use qap_proof::Duals;
 use std::alloc::{AllocError, Global};
 
 /// What is worked out about a node: a bound on what its completions cost, and one of them.
@@ -24,14 +25,13 @@ pub struct Thought {
     pub candidate: Perm,
     /// What the candidate costs.
     pub cost: i128,
-    /// The free facility to split on. `None` where none is free.
-    pub branch: Option<u16>,
-    /// The reduced entries of its row, by which its children are taken, the least first; none where they are taken by their
-    /// locations.
-    pub entries: Vec<i128>,
+    /// What to split the node on. `None` where nothing is free.
+    pub branch: Option<Branch>,
 }
 
 impl Thought {
+    ghost use Rattle.std.specs.Prelude.{false};
+    ghost use Rattle.qap_search.specs.Hand.{cuts};
     ghost use Rattle.qap_search.specs.Thought.{IsThought};
 
     /// What is worked out about the node from its reduced matrix; it is to be split by the greatest matched entry.
@@ -44,7 +44,7 @@ impl Thought {
         requires same_size { instance.now.size ≡ node.now.size }
         requires reduced { IsReduced instance.now node.now matrix.now }
         requires bounded { AllWithin (512 * 10 ^ 18) matrix.now.entries }
-        ensures { IfOk result (IsThought instance.now node.now) }
+        ensures { IfOk result (IsThought false instance.now node.now) }
     {
         Thought::by(
             alloc,
@@ -68,31 +68,33 @@ impl Thought {
         requires same_size { instance.now.size ≡ node.now.size }
         requires reduced { IsReduced instance.now node.now matrix.now }
         requires bounded { AllWithin (512 * 10 ^ 18) matrix.now.entries }
-        ensures { IfOk result (IsThought instance.now node.now) }
+        ensures { IfOk result (IsThought (cuts branching) instance.now node.now) }
     {
         let _size = matrix.size();
-        let assignment = solve(alloc, matrix)?;
-        let candidate = completed(alloc, node, &assignment.matching)?;
+        let Assignment { matching, u, v } = solve(alloc, matrix)?;
+        let candidate = completed(alloc, node, &matching)?;
         let cost = cost(instance, &candidate);
-        let value = node.fixed_cost(instance) + dual_sum(&assignment.u, &assignment.v);
+        let value = node.fixed_cost(instance) + dual_sum(&u, &v);
         let gap = best.map(|best| best.saturating_sub(value));
-        let Branch { facility, entries } = branch_of(
+        let duals = Duals { u, v };
+        let branch = branch_of(
             alloc,
             branching,
+            instance,
             node,
             matrix,
-            &assignment,
+            &matching,
+            &duals,
             gap,
         )?;
-        let Assignment { matching: _, u, v } = assignment;
+        let Duals { u, v } = duals;
         Ok(Thought {
             u,
             v,
             value,
             candidate,
             cost,
-            branch: facility,
-            entries,
+            branch,
         })
     }
 }

@@ -1,6 +1,6 @@
 //! The bound of a search whose nodes may be open.
 
-ghost use Rattle.std.specs.Prelude.{◌≡◌, ◌∷◌, [], All, IfOk, Option, ℕ, length};
+ghost use Rattle.std.specs.Prelude.{◌≡◌, ◌∷◌, [], All, Bool, IfOk, Option, ℕ, length};
 ghost use Rattle.qap_cost.specs.Placement.{IsPlacement, Placement};
 ghost use Rattle.qap_search.specs.BoundedAnswer.{IsBoundedFrom};
 ghost use Rattle.qap_search.specs.Outcome.{IsEnded};
@@ -27,9 +27,9 @@ pub(crate) fn bounded_of(
     instance: &Instance,
     run: Run,
 ) -> Result<Bounded, AllocError>
-    requires { (x : Placement) × (known : Best) × (limit : Option ℕ) × IsEnded (search_of instance.now x known) limit run }
-    ensures bounded { IfOk result (λ a. (x : Placement) (known : Best) (limit : Option ℕ) → IsEnded (search_of instance.now x known) limit run →
-        IsBoundedFrom (search_of instance.now x known) (length run.reports.items) limit a) }
+    requires { (cutting : Bool) × (x : Placement) × (known : Best) × (limit : Option ℕ) × IsEnded (search_of cutting instance.now x known) limit run }
+    ensures bounded { IfOk result (λ a. (cutting : Bool) (x : Placement) (known : Best) (limit : Option ℕ) →
+        IsEnded (search_of cutting instance.now x known) limit run → IsBoundedFrom (search_of cutting instance.now x known) (length run.reports.items) limit a) }
     ensures tells { IfOk result (λ a. Tells run a.open_nodes a.reports.items) }
 {
     let Run { space, reports } = run;

@@ -1,6 +1,6 @@
 //! The space as a search finds it.
 
-ghost use Rattle.std.specs.Prelude.{◌≡◌, ◌<◌, ◌≤◌, ℕ, IfOk, OnOk};
+ghost use Rattle.std.specs.Prelude.{◌≡◌, ◌<◌, ◌≤◌, ℕ, Bool, IfOk, OnOk};
 ghost use Rattle.std.specs.List.{range_with_len};
 ghost use Rattle.qap_cost.specs.Objective.{Permutes};
 ghost use Rattle.tuple_space.specs.Space.{most, put};
@@ -36,7 +36,7 @@ pub fn opening_from(
 ) -> Result<TxnSpace, AllocError>
     requires same_size { root.now.size ≡ instance.now.size }
     requires permutes { Permutes instance.now start.now }
-    ensures { IfOk result (IsOpening (search_of instance.now root.now (best_with instance.now start.now))) }
+    ensures { IfOk result (λ space. (cutting : Bool) → IsOpening (search_of cutting instance.now root.now (best_with instance.now start.now)) space) }
 {
     opening_law();
     let best = tuple_of_best(alloc, cost(instance, start), start)?;

@@ -40,13 +40,13 @@ impl<L: Law> Model for Seat<L> {
 
     ghost view = { λ s. s.share };
 
-    ghost invariant = { λ s. IsSearchLaw s.hand.instance L.lawful L.allowed × (s.hand.accepted ≡ s.share) };
+    ghost invariant = { λ s. IsSearchLaw s.hand.cutting s.hand.instance L.lawful L.allowed × (s.hand.accepted ≡ s.share) };
 }
 
 impl<L: Law> Seat<L> {
     /// A worker that hasn't begun, with its share.
     pub(crate) fn new(worker: u16, hand: Hand, share: Share<L>) -> Seat<L>
-        requires law { IsSearchLaw hand.instance L.lawful L.allowed }
+        requires law { IsSearchLaw hand.cutting hand.instance L.lawful L.allowed }
         requires counted { hand.accepted ≡ share }
         ensures { result ≡ share }
     {
@@ -118,9 +118,10 @@ fn go_on<L: Law, M: Room<L>>(
     hand: &mut Hand,
     share: &mut Share<L>,
 ) -> Result<(), Ended>
-    requires law { IsSearchLaw hand.old.instance L.lawful L.allowed }
+    requires law { IsSearchLaw hand.old.cutting hand.old.instance L.lawful L.allowed }
     requires before { hand.old.accepted ≡ share.old }
     ensures counted { hand.new.accepted ≡ share.new }
+    ensures cutting { hand.new.cutting ≡ hand.old.cutting }
     ensures instance { hand.new.instance ≡ hand.old.instance }
 {
     step_if(room, hand, share, Kind::Commit)?;
@@ -138,9 +139,10 @@ fn step_if<L: Law, M: Room<L>>(
     share: &mut Share<L>,
     kind: Kind,
 ) -> Result<(), Ended>
-    requires law { IsSearchLaw hand.old.instance L.lawful L.allowed }
+    requires law { IsSearchLaw hand.old.cutting hand.old.instance L.lawful L.allowed }
     requires before { hand.old.accepted ≡ share.old }
     ensures counted { hand.new.accepted ≡ share.new }
+    ensures cutting { hand.new.cutting ≡ hand.old.cutting }
     ensures instance { hand.new.instance ≡ hand.old.instance }
 {
     if hand.thinks() || hand.next() != kind {
@@ -161,9 +163,10 @@ fn turn<R: Wait, L: Law, G: Gate>(
     hand: &mut Hand,
     share: &mut Share<L>,
 ) -> Result<(), Ended>
-    requires law { IsSearchLaw hand.old.instance L.lawful L.allowed }
+    requires law { IsSearchLaw hand.old.cutting hand.old.instance L.lawful L.allowed }
     requires before { hand.old.accepted ≡ share.old }
     ensures counted { hand.new.accepted ≡ share.new }
+    ensures cutting { hand.new.cutting ≡ hand.old.cutting }
     ensures instance { hand.new.instance ≡ hand.old.instance }
 {
     if hand.thinks() {
@@ -192,9 +195,10 @@ fn step<R: Wait, L: Law, G: Gate>(
     hand: &mut Hand,
     share: &mut Share<L>,
 ) -> Result<(), Ended>
-    requires law { IsSearchLaw hand.old.instance L.lawful L.allowed }
+    requires law { IsSearchLaw hand.old.cutting hand.old.instance L.lawful L.allowed }
     requires before { hand.old.accepted ≡ share.old }
     ensures counted { hand.new.accepted ≡ share.new }
+    ensures cutting { hand.new.cutting ≡ hand.old.cutting }
     ensures instance { hand.new.instance ≡ hand.old.instance }
 {
     if hand.thinks() {

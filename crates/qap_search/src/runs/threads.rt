@@ -1,11 +1,12 @@
 //! A search by many workers, each a thread of its own.
 
-ghost use Rattle.std.specs.Prelude.{◌≡◌, ◌<◌, ◌≤◌, [], All, IfOk, MatchResult, ℕ, length, replicate, sum, vec_capacity, vec_len};
+ghost use Rattle.std.specs.Prelude.{◌≡◌, ◌<◌, ◌≤◌, [], false, All, IfOk, MatchResult, ℕ, length, replicate, sum, vec_capacity, vec_len};
 ghost use Rattle.std.specs.List.{sum_by};
 ghost use Rattle.qap_cost.specs.Objective.{Permutes};
 ghost use Rattle.qap_cost.specs.Placement.{root_of};
 ghost use Rattle.qap_search.specs.Answer.{IsAnswer, IsLeastAnswer, IsSearchFault, IsSolveFault, accepted_of};
 ghost use Rattle.qap_search.specs.BoundedAnswer.{IsBoundedFrom};
+ghost use Rattle.qap_search.specs.Hand.{cuts};
 ghost use Rattle.qap_search.specs.Outcome.{IsEnded};
 ghost use Rattle.qap_search.specs.Opening.{IsOpening};
 ghost use Rattle.qap_search.specs.Ran.{Ran, RanTo, RanToFault};
@@ -135,7 +136,8 @@ where
 }
 
 /// The certificate of an instance's least cost, as `solve` answers it, by a search that goes as the plan says, over all
-/// permutations: the plan's root is the empty node. That its start is a permutation of the instance is a condition.
+/// permutations: the plan's root is the empty node. That its start is a permutation of the instance is a condition, and so is that its
+/// branching cuts no children off, since a certificate says nothing of such.
 pub fn solve_from<R, C, G>(
     rt: &R,
     alloc: Global,
@@ -152,6 +154,7 @@ where
     requires few { plan.now.workers ≤ 64 }
     requires start { Permutes instance.now plan.now.start.now }
     requires whole { plan.now.root.now ≡ root_of instance.now.size }
+    requires plain { cuts plan.now.branching ≡ false }
     ensures answer { MatchResult result (IsAnswer instance.now plan.now.workers plan.now.limit)
         (IsSearchFault (from_root instance.now (best_with instance.now plan.now.start.now)) plan.now.workers plan.now.limit) }
     ensures ran { MatchResult result
@@ -202,8 +205,8 @@ where
     requires start { Permutes instance.now plan.now.start.now }
     requires same_size { plan.now.root.now.size ≡ instance.now.size }
     ensures answer { IfOk result
-        (IsBoundedFrom (search_of instance.now plan.now.root.now (best_with instance.now plan.now.start.now)) plan.now.workers plan.now.limit) }
-    ensures ran { IfOk result (λ a. Ran (search_of instance.now plan.now.root.now (best_with instance.now plan.now.start.now)) plan.now.workers plan.now.limit
+        (IsBoundedFrom (search_of (cuts plan.now.branching) instance.now plan.now.root.now (best_with instance.now plan.now.start.now)) plan.now.workers plan.now.limit) }
+    ensures ran { IfOk result (λ a. Ran (search_of (cuts plan.now.branching) instance.now plan.now.root.now (best_with instance.now plan.now.start.now)) plan.now.workers plan.now.limit
         (accepted_of a.reports.items) a.open_nodes) }
 {
     let keeper = Keeper {
@@ -253,9 +256,9 @@ where
     requires few { plan.now.workers ≤ 64 }
     requires start { Permutes instance.now plan.now.start.now }
     requires same_size { plan.now.root.now.size ≡ instance.now.size }
-    ensures ended { IfOk result (IsEnded (search_of instance.now plan.now.root.now (best_with instance.now plan.now.start.now)) plan.now.limit) }
+    ensures ended { IfOk result (IsEnded (search_of (cuts plan.now.branching) instance.now plan.now.root.now (best_with instance.now plan.now.start.now)) plan.now.limit) }
     ensures one_each { IfOk result (λ run. length run.reports.items ≡ plan.now.workers) }
-    ensures ran { IfOk result (λ run. RanTo (search_of instance.now plan.now.root.now (best_with instance.now plan.now.start.now)) plan.now.workers plan.now.limit
+    ensures ran { IfOk result (λ run. RanTo (search_of (cuts plan.now.branching) instance.now plan.now.root.now (best_with instance.now plan.now.start.now)) plan.now.workers plan.now.limit
         run.space) }
 {
     let space = opening_from(alloc, instance, plan.root, plan.start)?;
@@ -286,11 +289,11 @@ where
     requires parts { blank.parts ≡ L.parts }
     requires one_each { blank.parts ≡ plan.now.workers }
     requires few { plan.now.workers ≤ 64 }
-    requires law { IsLawOf (search_of instance.now plan.now.root.now (best_with instance.now plan.now.start.now)) L.lawful L.allowed }
+    requires law { IsLawOf (search_of (cuts plan.now.branching) instance.now plan.now.root.now (best_with instance.now plan.now.start.now)) L.lawful L.allowed }
     requires limit { L.limit ≡ plan.now.limit }
-    requires opening { IsOpening (search_of instance.now plan.now.root.now (best_with instance.now plan.now.start.now)) space }
+    requires opening { IsOpening (search_of (cuts plan.now.branching) instance.now plan.now.root.now (best_with instance.now plan.now.start.now)) space }
     requires reached { L.reached (place_of space plan.now.workers 0 (is_reached plan.now.limit 0)) }
-    ensures ended { IfOk result (IsEnded (search_of instance.now plan.now.root.now (best_with instance.now plan.now.start.now)) plan.now.limit) }
+    ensures ended { IfOk result (IsEnded (search_of (cuts plan.now.branching) instance.now plan.now.root.now (best_with instance.now plan.now.start.now)) plan.now.limit) }
     ensures one_each { IfOk result (λ run. length run.reports.items ≡ plan.now.workers) }
     ensures reached { IfOk result (λ run. IsReached L.reached run.space) }
 {
@@ -357,7 +360,7 @@ fn staff<L: Law>(
     requires parts { blank.parts ≡ L.parts }
     requires one_each { plan.now.workers ≡ L.parts }
     requires few { plan.now.workers ≤ 64 }
-    requires law { IsSearchLaw instance.now L.lawful L.allowed }
+    requires law { IsSearchLaw (cuts plan.now.branching) instance.now L.lawful L.allowed }
     requires limit { L.limit ≡ plan.now.limit }
     requires lawful { L.lawful (content_of space) space.commits }
     requires fresh { space.commits ≡ 0 }
@@ -445,7 +448,7 @@ fn seats_for<L: Law>(
     plan: &Plan<'_>,
     shares: Vec<Share<L>>,
 ) -> Result<Vec<Mutex<Seat<L>>>, AllocError>
-    requires law { IsSearchLaw (arc_value ranked.now) L.lawful L.allowed }
+    requires law { IsSearchLaw (cuts plan.now.branching) (arc_value ranked.now) L.lawful L.allowed }
     requires fresh { All (λ (n : ℕ). n ≡ 0) shares.items }
     requires few { vec_len shares ≤ 64 }
     ensures { IfOk result (λ seats. vec_len seats ≡ vec_len shares) }
@@ -454,8 +457,8 @@ fn seats_for<L: Law>(
     let mut rest = shares;
     let mut worker = 0;
     while let Some(share) = rest.pop() {
-        let hand = Hand::new(alloc, worker, ranked.clone()?, plan.lease_ms)?;
-        let hand = hand.with_branching(plan.branching);
+        let ranked = ranked.clone()?;
+        let hand = Hand::by(alloc, plan.branching, worker, ranked, plan.lease_ms)?;
         seats.push(Mutex::new(Seat::new(worker, hand, share)))?;
         worker += 1;
     }

@@ -1,13 +1,18 @@
 //! The tuples of nodes and of the best permutation.
 
-ghost use Rattle.std.specs.Prelude.{◌≡◌, ◌≤◌, IfOk, length, map, pos};
+ghost use Rattle.std.specs.Prelude.{◌≡◌, ◌<◌, ◌≤◌, IfOk, length, map, pos};
 ghost use Rattle.qap_cost.specs.Placement.{IsPlacement, placing};
+ghost use Rattle.qap_proof.specs.Cell.{others_on};
+ghost use Rattle.qap_proof.specs.Shape.{free_count};
+ghost use Rattle.qap_proof.specs.Tree.{facility_on, location_on, pair};
 ghost use Rattle.tuple_match.specs.Field.{field_value};
 ghost use Rattle.tuple_match.specs.FieldValue.{word};
-ghost use Rattle.qap_search.specs.Piece.{best_tuple, by_turns, closed_tuple, node_list, node_tuple, pieces, split_tuple};
-ghost use Rattle.qap_search.specs.SearchTree.{split_open};
+ghost use Rattle.qap_search.specs.Decision.{children_by, pruned_split};
+ghost use Rattle.qap_search.specs.Piece.{best_tuple, by_turns, closed_tuple, cut_numbers, node_list, node_tuple, pieces, pruned_tuple, side_word, split_tuple};
+ghost use Rattle.qap_search.specs.SearchTree.{split_node, split_open};
 
 use qap_cost::{Partial, Perm};
+use qap_proof::Side;
 use std::alloc::{AllocError, Global};
 use tuple_match::{Field, Tuple};
 
@@ -28,6 +33,115 @@ pub(crate) fn split_tuples(
         tuples.push(tuple_of_child(alloc, node, facility, *location)?)?;
     }
     Ok(tuples)
+}
+
+/// The tuples of a node that is split so with these duals, where the best permutation costs so much and the duals come to `reached` at
+/// each child: that of the split, and one for each child at which they come to less, in the order of the children.
+pub(crate) fn pruned_tuples(
+    alloc: Global,
+    node: &Partial,
+    side: Side,
+    number: u16,
+    u: &[i128],
+    v: &[i128],
+    reached: &[i128],
+    best: i128,
+) -> Result<Vec<Tuple>, AllocError>
+    requires u_count { length u.now ≤ 256 }
+    requires v_count { length v.now ≤ 256 }
+    requires reached { length reached.now ≡ free_count node.now }
+    ensures value { IfOk result (λ t. t.items ≡ pieces node.now (split_node (pruned_split side number u.now v.now) (children_by best reached.now))) }
+    ensures placement { IfOk result (λ _. IsPlacement node.now) }
+{
+    let others = free_others(node, side)?;
+    let cuts = cut_flags(alloc, reached, best)?;
+    let mut tuples = Vec::with_capacity(alloc, others.len() + 1)?;
+    tuples.push(tuple_of_pruned(alloc, node, side, number, u, v, cuts)?)?;
+    for child in 0..reached.len() {
+        if reached[child] < best {
+            tuples.push(tuple_at(alloc, node, side, number, &others, child)?)?;
+        }
+    }
+    Ok(tuples)
+}
+
+/// The free ones that a split on this side has children for, ascending.
+fn free_others(node: &Partial, side: Side) -> Result<Vec<u16>, AllocError>
+    ensures value { IfOk result (λ v. v.items ≡ others_on side node.now) }
+    ensures placement { IsPlacement node.now }
+{
+    match side {
+        Side::Facility => node.free_locations(),
+        Side::Location => node.free_facilities(),
+    }
+}
+
+/// Of each child a 1 where the duals come to the best cost there, and else a 0.
+fn cut_flags(alloc: Global, reached: &[i128], best: i128) -> Result<Vec<i128>, AllocError>
+    ensures list { IfOk result (λ v. v.items ≡ cut_numbers (children_by best reached.now)) }
+    ensures long { IfOk result (λ v. length v.items ≡ length reached.now) }
+{
+    let mut flags = Vec::with_capacity(alloc, reached.len())?;
+    for value in reached {
+        flags.push(if *value < best { 0 } else { 1 })?;
+    }
+    Ok(flags)
+}
+
+/// The tuple of the open node that is the child of this number of a split, where these are the free ones that it has children for.
+fn tuple_at(
+    alloc: Global,
+    node: &Partial,
+    side: Side,
+    number: u16,
+    others: &[u16],
+    child: usize,
+) -> Result<Tuple, AllocError>
+    requires others { others.now ≡ others_on side node.now }
+    requires inside { child < length others.now }
+    ensures { IfOk result (λ t. t ≡ node_tuple (placing node.now (facility_on side node.now number child) (location_on side node.now number child))) }
+{
+    let other = others[child];
+    match side {
+        Side::Facility => tuple_of_child(alloc, node, number, other),
+        Side::Location => tuple_of_child(alloc, node, other, number),
+    }
+}
+
+/// The tuple of a node that is split so with these duals, and of whose children these are cut off.
+fn tuple_of_pruned(
+    alloc: Global,
+    node: &Partial,
+    side: Side,
+    number: u16,
+    u: &[i128],
+    v: &[i128],
+    cuts: Vec<i128>,
+) -> Result<Tuple, AllocError>
+    requires u_count { length u.now ≤ 256 }
+    requires v_count { length v.now ≤ 256 }
+    requires cut_count { length cuts.items ≤ 256 }
+    ensures { IfOk result (λ t. t ≡ pruned_tuple node.now (pruned_split side number u.now v.now) (pair u.now v.now) cuts.items) }
+{
+    let name = word_field(alloc, "pruned")?;
+    let list = Field::List(node_numbers(alloc, node, 0)?).narrowed();
+    let on = side_field(alloc, side)?;
+    let number = Field::Int(i128::from(number));
+    let u = Field::List(Vec::from_slice(alloc, u)?).narrowed();
+    let v = Field::List(Vec::from_slice(alloc, v)?).narrowed();
+    let cuts = Field::List(cuts).narrowed();
+    let fields = vec![in alloc; name, list, on, number, u, v, cuts]?;
+    shared(alloc, Tuple::new(fields).unwrap())
+}
+
+/// The word for what a split is on.
+fn side_field(alloc: Global, side: Side) -> Result<Field, AllocError>
+    ensures { IfOk result (λ field. field_value field ≡ word (side_word side)) }
+{
+    match side {
+        Side::Facility => word_field(alloc, "facility"),
+        Side::Location => word_field(alloc, "location"),
+    }
 }
 
 /// The tuple of a node that these duals close.

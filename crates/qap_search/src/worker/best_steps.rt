@@ -21,6 +21,7 @@ ghost use Rattle.qap_search.specs.declared.worker.stage.Stage.TheVariants.{Consi
 
 use crate::certificate::assembling::permutation_of;
 use crate::node::decision::{decide, decide_anew};
+use crate::node::thought::Thought;
 use crate::tuples::parsing::is_word;
 use crate::worker::putting::{by_entries, put_forever};
 use crate::worker::stage::{LastThought, Outcome, Stage, Tally};
@@ -43,12 +44,12 @@ pub(crate) fn take_best<L: Law, M: Room<L>>(
 ) -> Outcome
     requires template { template.now ≡ best_template }
     requires thought { IsOn last.now.node last.now.thought }
-    ensures turn { (I : Problem) (lease : ℕ) → IsInstance I → IsSearchLaw I L.lawful L.allowed → IsLastThought I last.now →
+    ensures turn { (cutting : Bool) (I : Problem) (lease : ℕ) → IsInstance I → IsSearchLaw cutting I L.lawful L.allowed → IsLastThought cutting I last.now →
         HasNode last.now.node txn → is_hopeful tally.best (Some (thought_of last.now)) ≡ true →
-        Turn M.did (hand_of I lease (Some (thought_of last.now)) (Considered txn) tally) room.old result.told
-        (hand_of I lease (Some (thought_of last.now)) result.stage result.tally) room.new }
-    ensures stage { (I : Problem) → IsInstance I → IsSearchLaw I L.lawful L.allowed → IsLastThought I last.now →
-        HasNode last.now.node txn → IsStage I (Some (thought_of last.now)) result.stage }
+        Turn M.did (hand_of cutting I lease (Some (thought_of last.now)) (Considered txn) tally) room.old result.told
+        (hand_of cutting I lease (Some (thought_of last.now)) result.stage result.tally) room.new }
+    ensures stage { (cutting : Bool) (I : Problem) → IsInstance I → IsSearchLaw cutting I L.lawful L.allowed → IsLastThought cutting I last.now →
+        HasNode last.now.node txn → IsStage cutting I (Some (thought_of last.now)) result.stage }
     ensures accepted { result.tally.accepted ≡ tally.accepted }
 {
     does_match_law();
@@ -67,12 +68,12 @@ pub(crate) fn read_best<L: Law, M: Room<L>>(
 ) -> Outcome
     requires template { template.now ≡ best_template }
     requires thought { IsOn last.now.node last.now.thought }
-    ensures turn { (I : Problem) (lease : ℕ) → IsInstance I → IsSearchLaw I L.lawful L.allowed → IsLastThought I last.now →
+    ensures turn { (cutting : Bool) (I : Problem) (lease : ℕ) → IsInstance I → IsSearchLaw cutting I L.lawful L.allowed → IsLastThought cutting I last.now →
         HasNode last.now.node txn → is_hopeful tally.best (Some (thought_of last.now)) ≡ false →
-        Turn M.did (hand_of I lease (Some (thought_of last.now)) (Considered txn) tally) room.old result.told
-        (hand_of I lease (Some (thought_of last.now)) result.stage result.tally) room.new }
-    ensures stage { (I : Problem) → IsInstance I → IsSearchLaw I L.lawful L.allowed → IsLastThought I last.now →
-        HasNode last.now.node txn → IsStage I (Some (thought_of last.now)) result.stage }
+        Turn M.did (hand_of cutting I lease (Some (thought_of last.now)) (Considered txn) tally) room.old result.told
+        (hand_of cutting I lease (Some (thought_of last.now)) result.stage result.tally) room.new }
+    ensures stage { (cutting : Bool) (I : Problem) → IsInstance I → IsSearchLaw cutting I L.lawful L.allowed → IsLastThought cutting I last.now →
+        HasNode last.now.node txn → IsStage cutting I (Some (thought_of last.now)) result.stage }
     ensures accepted { result.tally.accepted ≡ tally.accepted }
 {
     does_match_law();
@@ -89,12 +90,12 @@ fn told_best(
     tally: Tally,
 ) -> Outcome
     requires { IsOn last.now.node last.now.thought }
-    ensures turn { (I : Problem) (lease : ℕ) (old : TxnValue) → IsLastThought I last.now →
+    ensures turn { (cutting : Bool) (I : Problem) (lease : ℕ) (old : TxnValue) → IsLastThought cutting I last.now →
         IsFoundBest I taking last.now.node (find_answer found) txn →
-        AfterBest taking (hand_of I lease (Some (thought_of last.now)) (Considered old) tally) (find_answer found) txn result.told
-        (hand_of I lease (Some (thought_of last.now)) result.stage result.tally) }
-    ensures stage { (I : Problem) → IsLastThought I last.now → IsFoundBest I taking last.now.node (find_answer found) txn →
-        IsStage I (Some (thought_of last.now)) result.stage }
+        AfterBest taking (hand_of cutting I lease (Some (thought_of last.now)) (Considered old) tally) (find_answer found) txn result.told
+        (hand_of cutting I lease (Some (thought_of last.now)) result.stage result.tally) }
+    ensures stage { (cutting : Bool) (I : Problem) → IsLastThought cutting I last.now → IsFoundBest I taking last.now.node (find_answer found) txn →
+        IsStage cutting I (Some (thought_of last.now)) result.stage }
     ensures accepted { result.tally.accepted ≡ tally.accepted }
 {
     match found {
@@ -114,12 +115,12 @@ fn told_found(
     tally: Tally,
 ) -> Outcome
     requires { IsOn last.now.node last.now.thought }
-    ensures turn { (I : Problem) (lease : ℕ) (old : TxnValue) → IsLastThought I last.now →
+    ensures turn { (cutting : Bool) (I : Problem) (lease : ℕ) (old : TxnValue) → IsLastThought cutting I last.now →
         IsFoundBest I taking last.now.node (found what) txn →
-        AfterBest taking (hand_of I lease (Some (thought_of last.now)) (Considered old) tally) (found what) txn result.told
-        (hand_of I lease (Some (thought_of last.now)) result.stage result.tally) }
-    ensures stage { (I : Problem) → IsLastThought I last.now → IsFoundBest I taking last.now.node (found what) txn →
-        IsStage I (Some (thought_of last.now)) result.stage }
+        AfterBest taking (hand_of cutting I lease (Some (thought_of last.now)) (Considered old) tally) (found what) txn result.told
+        (hand_of cutting I lease (Some (thought_of last.now)) result.stage result.tally) }
+    ensures stage { (cutting : Bool) (I : Problem) → IsLastThought cutting I last.now → IsFoundBest I taking last.now.node (found what) txn →
+        IsStage cutting I (Some (thought_of last.now)) result.stage }
     ensures accepted { result.tally.accepted ≡ tally.accepted }
 {
     match what {
@@ -138,11 +139,11 @@ fn told_entry(
     tally: Tally,
 ) -> Outcome
     requires { IsOn last.now.node last.now.thought }
-    ensures turn { (I : Problem) (lease : ℕ) (old : TxnValue) → IsLastThought I last.now → HasBestMark I taking last.now.node id txn →
-        AfterBest taking (hand_of I lease (Some (thought_of last.now)) (Considered old) tally) (found (Stored id)) txn result.told
-        (hand_of I lease (Some (thought_of last.now)) result.stage result.tally) }
-    ensures stage { (I : Problem) → IsLastThought I last.now → HasBestMark I taking last.now.node id txn →
-        IsStage I (Some (thought_of last.now)) result.stage }
+    ensures turn { (cutting : Bool) (I : Problem) (lease : ℕ) (old : TxnValue) → IsLastThought cutting I last.now → HasBestMark I taking last.now.node id txn →
+        AfterBest taking (hand_of cutting I lease (Some (thought_of last.now)) (Considered old) tally) (found (Stored id)) txn result.told
+        (hand_of cutting I lease (Some (thought_of last.now)) result.stage result.tally) }
+    ensures stage { (cutting : Bool) (I : Problem) → IsLastThought cutting I last.now → HasBestMark I taking last.now.node id txn →
+        IsStage cutting I (Some (thought_of last.now)) result.stage }
     ensures accepted { result.tally.accepted ≡ tally.accepted }
 {
     two_marks_law();
@@ -179,8 +180,8 @@ fn write(
     cost: i128,
 ) -> Result<Option<i128>, AllocError>
     requires { IsOn last.now.node last.now.thought }
-    ensures { (I : Problem) (best : Best) → IsThought I last.now.node last.now.thought → IsBestAt id txn.old best → best.cost ≡ cost →
-        Writes taking I (thought_of last.now) best txn.old txn.new result }
+    ensures { (cutting : Bool) (I : Problem) (best : Best) → IsThought cutting I last.now.node last.now.thought → IsBestAt id txn.old best → best.cost ≡ cost →
+        Writes cutting taking I (thought_of last.now) best txn.old txn.new result }
 {
     if taking {
         write_anew(alloc, txn, id, last, cost)
@@ -197,13 +198,14 @@ fn write_beside(
     cost: i128,
 ) -> Result<Option<i128>, AllocError>
     requires { IsOn last.now.node last.now.thought }
-    ensures { (I : Problem) (best : Best) → IsThought I last.now.node last.now.thought → best.cost ≡ cost →
-        Writes false I (thought_of last.now) best txn.old txn.new result }
+    ensures { (cutting : Bool) (I : Problem) (best : Best) → IsThought cutting I last.now.node last.now.thought → best.cost ≡ cost →
+        Writes cutting false I (thought_of last.now) best txn.old txn.new result }
 {
     let Some(tuples) = decide(alloc, &last.node, &last.thought, cost)? else {
         return Ok(None);
     };
-    put(alloc, txn, tuples, &last.thought.entries)?;
+    let order = order_of(alloc, &last.thought, cost)?;
+    put(alloc, txn, tuples, &order)?;
     Ok(Some(cost))
 }
 
@@ -217,8 +219,8 @@ fn write_anew(
     cost: i128,
 ) -> Result<Option<i128>, AllocError>
     requires { IsOn last.now.node last.now.thought }
-    ensures { (I : Problem) (best : Best) → IsThought I last.now.node last.now.thought → IsBestAt id txn.old best → best.cost ≡ cost →
-        Writes true I (thought_of last.now) best txn.old txn.new result }
+    ensures { (cutting : Bool) (I : Problem) (best : Best) → IsThought cutting I last.now.node last.now.thought → IsBestAt id txn.old best → best.cost ≡ cost →
+        Writes cutting true I (thought_of last.now) best txn.old txn.new result }
 {
     let Some(perm) = perm_at(alloc, txn, id)? else {
         return Ok(None);
@@ -226,8 +228,18 @@ fn write_anew(
     let Some(tuples) = decide_anew(alloc, &last.node, &last.thought, cost, &perm)? else {
         return Ok(None);
     };
-    put(alloc, txn, tuples, &last.thought.entries)?;
-    Ok(Some(last.thought.cost.min(cost)))
+    let standing = last.thought.cost.min(cost);
+    let order = order_of(alloc, &last.thought, standing)?;
+    put(alloc, txn, tuples, &order)?;
+    Ok(Some(standing))
+}
+
+/// By what the open children of the thought's node are taken, the least first, where the best permutation costs so much.
+fn order_of(alloc: Global, thought: &Thought, best: i128) -> Result<Vec<i128>, AllocError> {
+    match &thought.branch {
+        Some(branch) => branch.order(alloc, best),
+        None => Ok(Vec::new(alloc)),
+    }
 }
 
 /// Writes the tuples, to stay forever, those of children by the entries that are taken first behind the others.

@@ -2,7 +2,7 @@
 
 ghost use Rattle.std.specs.Prelude.{◌≡◌, ◌+◌, ◌≤◌, true, false, IfOk, OnErr, OnOk};
 ghost use Rattle.std.specs.Arc.{arc_value};
-ghost use Rattle.qap_search.specs.Hand.{is_due, kind_of, new_hand};
+ghost use Rattle.qap_search.specs.Hand.{cuts, is_due, kind_of, new_hand};
 ghost use Rattle.qap_search.specs.SearchLaw.{IsSearchLaw};
 ghost use Rattle.qap_search.specs.Thinking.{Thinks};
 ghost use Rattle.qap_search.specs.Turn.{Turn};
@@ -34,33 +34,51 @@ pub struct Hand {
 }
 
 impl Model for Hand {
-    ghost use Rattle.qap_search.specs.Hand.{HandValue, hand_of, last_of};
+    ghost use Rattle.qap_search.specs.Hand.{HandValue, cuts, hand_of, last_of};
     ghost use Rattle.qap_search.specs.Standing.{IsHand};
 
     ghost Value = { HandValue };
 
-    ghost view = { λ h. hand_of h.rows h.tools.lease_ms (last_of h.last) h.stage h.tally };
+    ghost view = { λ h. hand_of (cuts h.tools.branching) h.rows h.tools.lease_ms (last_of h.last) h.stage h.tally };
 
     ghost invariant = { λ h. IsHand h.rows h.tools h.last h.stage };
 }
 
 impl Hand {
-    /// A worker of this number, which begins its transactions with leases of so many milliseconds.
+    /// A worker of this number, which begins its transactions with leases of so many milliseconds, and splits nodes by the greatest
+    /// matched entry.
     pub fn new(
         alloc: Global,
         worker: u16,
         instance: Arc<RankedInstance>,
         lease_ms: u64,
     ) -> Result<Hand, AllocError>
+        ensures cutting { IfOk result (λ hand. hand.cutting ≡ false) }
         ensures instance { IfOk result (λ hand. hand.instance ≡ arc_value instance) }
         ensures accepted { IfOk result (λ hand. hand.accepted ≡ 0) }
-        ensures value { IfOk result (λ hand. hand ≡ new_hand (arc_value instance) lease_ms) }
+        ensures value { IfOk result (λ hand. hand ≡ new_hand false (arc_value instance) lease_ms) }
+    {
+        Hand::by(alloc, Branching::GreatestMatched, worker, instance, lease_ms)
+    }
+
+    /// Such a worker, which splits nodes by this rule.
+    pub fn by(
+        alloc: Global,
+        branching: Branching,
+        worker: u16,
+        instance: Arc<RankedInstance>,
+        lease_ms: u64,
+    ) -> Result<Hand, AllocError>
+        ensures cutting { IfOk result (λ hand. hand.cutting ≡ cuts branching) }
+        ensures instance { IfOk result (λ hand. hand.instance ≡ arc_value instance) }
+        ensures accepted { IfOk result (λ hand. hand.accepted ≡ 0) }
+        ensures value { IfOk result (λ hand. hand ≡ new_hand (cuts branching) (arc_value instance) lease_ms) }
     {
         let _instance = instance.instance();
         let tools = Tools {
             alloc,
             lease_ms,
-            branching: Branching::GreatestMatched,
+            branching,
             node: node_template(alloc)?,
             best: best_template(alloc)?,
         };
@@ -72,14 +90,6 @@ impl Hand {
             stage: Stage::Idle,
             tally: Tally::new(),
         })
-    }
-
-    /// The same worker, which splits nodes by this rule.
-    pub fn with_branching(mut self, branching: Branching) -> Hand
-        ensures { result ≡ self }
-    {
-        self.tools.branching = branching;
-        self
     }
 
     /// Whether a thought is due: it comes before the next step.
@@ -117,11 +127,12 @@ impl Hand {
         room: &mut M,
         share: &mut Share<L>,
     ) -> Result<bool, AllocError>
-        requires law { IsSearchLaw self.old.instance L.lawful L.allowed }
+        requires law { IsSearchLaw self.old.cutting self.old.instance L.lawful L.allowed }
         requires not_due { is_due self.old.stage ≡ false }
         requires counted { self.old.accepted ≤ share.old }
         ensures turn { Turn M.did self.old room.old result self.new room.new }
         ensures counted { share.new + self.old.accepted ≡ share.old + self.new.accepted }
+        ensures cutting { self.new.cutting ≡ self.old.cutting }
         ensures instance { self.new.instance ≡ self.old.instance }
         ensures lease { self.new.lease ≡ self.old.lease }
     {
@@ -140,6 +151,7 @@ impl Hand {
         ensures not_due { OnOk result (is_due self.new.stage ≡ false) }
         ensures unchanged { OnErr result (self.new ≡ self.old) }
         ensures accepted { self.new.accepted ≡ self.old.accepted }
+        ensures cutting { self.new.cutting ≡ self.old.cutting }
         ensures instance { self.new.instance ≡ self.old.instance }
     {
         let considered = think_in(

@@ -5,6 +5,7 @@ ghost use Rattle.qap_cost.specs.Placement.{IsPlacement};
 ghost use Rattle.tuple_match.specs.FieldValue.{numbers, word};
 ghost use Rattle.space_txn.specs.Txn.{TxnValue};
 ghost use Rattle.qap_search.specs.Considering.{Considers, HasNoNode, IsNodeAt, IsOnNode, IsThoughtOn, stage_after};
+ghost use Rattle.qap_search.specs.Hand.{cuts};
 ghost use Rattle.qap_search.specs.declared.worker.stage.Stage.TheVariants.{Taken};
 
 use crate::node::node_list::read_node;
@@ -29,7 +30,7 @@ pub(crate) fn think_in<G: Gate>(
     best: Option<i128>,
     last: &mut Option<LastThought>,
 ) -> Result<bool, AllocError>
-    ensures considers { Considers rows.old stage.now last.old result last.new }
+    ensures considers { Considers (cuts tools.now.branching) rows.old stage.now last.old result last.new }
     ensures same { rows.new ≡ rows.old }
 {
     let Stage::Taken(txn, id) = stage else {
@@ -55,7 +56,7 @@ fn think_on<G: Gate>(
 ) -> Result<(), AllocError>
     requires size { node.size ≡ rows.old.size }
     requires placement { IsPlacement node }
-    ensures thought { OnOk result (IsThoughtOn rows.old node last.old last.new) }
+    ensures thought { OnOk result (IsThoughtOn (cuts tools.now.branching) rows.old node last.old last.new) }
     ensures same { rows.new ≡ rows.old }
     ensures unchanged { OnErr result (last.new ≡ last.old) }
 {

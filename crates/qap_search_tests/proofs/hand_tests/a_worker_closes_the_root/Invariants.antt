@@ -1,4 +1,4 @@
-use Rattle.std.specs.Prelude.{None}
+use Rattle.std.specs.Prelude.{None, false}
 use Rattle.qap_search.specs.CutTree.{IsCutTree}
 use Rattle.qap_search.specs.Replacement.{MayReplace}
 use Rattle.qap_search.specs.Search.{whole}
@@ -11,7 +11,7 @@ ghosts-one_worker-L-Ledger g a = record { name = a.blank.name; parts = a.blank.p
 abbrev pub ghosts-one_worker-L-Law : goal.ghosts-one_worker-L-Law
 ghosts-one_worker-L-Law g a = record {
   lawful = IsCutTree (whole a.instance.now);
-  allowed = MayReplace a.instance.now;
+  allowed = MayReplace false a.instance.now;
   limit = None;
   reached = λ _. Unit {0};
   unordered = cut_trees_unordered (whole a.instance.now);

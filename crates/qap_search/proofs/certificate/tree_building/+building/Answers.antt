@@ -1,7 +1,7 @@
-use Rattle.std.proofs.Common.{◌≡◌, ◌+◌, ◌-◌, ◌*◌, ◌<◌, ◌∷◌, ◌++◌, [], ℕ, length, get_or, ap, sym, ◌∙◌, subst, refl, inl, inr, ⊎_elim, arith, rules, length-append, drop_of_length-le}
+use Rattle.std.proofs.Common.{◌≡◌, ◌+◌, ◌-◌, ◌*◌, ◌<◌, ◌≤◌, ◌∷◌, ◌++◌, [], ℕ, List, length, get_or, ap, sym, ◌∙◌, subst, refl, inl, inr, ⊎_elim, arith, rules, length-append}
 use Rattle.std.proofs.lemmas.Result.{err_from_is_err_and}
 use Rattle.qap_cost.proofs.Placements.{IsPlacement-depth}
-use Rattle.qap_cost.specs.Placement.{Placement, placing}
+use Rattle.qap_cost.specs.Placement.{Placement, free_locations, placing}
 use Rattle.qap_cert.specs.Tree.{Nodes, nodes_of, node_of}
 use Rattle.qap_cert.specs.declared.tree.Tree.TheViews.{Split}
 use Rattle.qap_cert.proofs.Trees.{node_of-Split}
@@ -30,11 +30,12 @@ take_children-returns-in_err-child t c =
     let p = err_from_is_err_and c.from_residual-in_err-child.result c.from_residual-in_err-child.ensures.1 in
     let h = c.in_err-child.ensures {u = tt} in
     let below : c.loop-i.i < length ks = (let test = c.loop-i-test.true in let end = c.loop-i.auto.i-end in let count = c.len-i-end.ensures in let long = c.in_ok-locations.locations.ok.0 in omega arith) in
-    let at : c.index.result.now ≡ get_or ks c.loop-i.i 0 = c.index.ensures ∙ get_or-any ks c.loop-i.i c.index.result.now 0 below in
+    let listed = c.in_ok-locations.ensures.value in
+    let at : c.index.result.now ≡ get_or (free_locations x) c.loop-i.i 0 = c.index.ensures ∙ get_or-any ks c.loop-i.i c.index.result.now 0 below ∙ ap (λ (l : List ℕ). get_or l c.loop-i.i 0) listed in
     rw (p.1, p.2) (⊎_elim inl (λ fault. inr (
       fault.0,
-      HaveTaken-fault x f ks (ahead c.args.nodes.now.items) (nodes_of c.loop-i.children.items) c.loop-i.i (ahead c.loop-i.nodes.items)
-          c.in_ok-locations.ensures.value c.loop-i.invariant below
+      HaveTaken-fault x f (ahead c.args.nodes.now.items) (nodes_of c.loop-i.children.items) c.loop-i.i (ahead c.loop-i.nodes.items)
+          c.free_locations.ensures.placement c.loop-i.invariant (subst (λ (l : List ℕ). c.loop-i.i < length l) listed below)
           (subst (λ (k : ℕ). BeginWithNone (placing x f k) (ahead c.loop-i.nodes.items)) at fault.1),
     ))
     h)
@@ -47,11 +48,12 @@ take_children-loop-i-preserved t c =
     let child = c.in_ok-child.child in
     let pushed : c.push.new.self.items ≡ c.loop-i.children.items ++ child ∷ [] = search rules in
     let below : c.loop-i.i < length ks = (let test = c.loop-i-test.true in let end = c.loop-i.auto.i-end in let count = c.len-i-end.ensures in let long = c.in_ok-locations.locations.ok.0 in omega arith) in
-    let at : c.index.result.now ≡ get_or ks c.loop-i.i 0 = c.index.ensures ∙ get_or-any ks c.loop-i.i c.index.result.now 0 below in
-    subst (λ (ts : Nodes). HaveTaken x f ks (ahead c.args.nodes.now.items) ts (c.loop-i.i + 1) (ahead c.take_child.new.nodes.items))
+    let listed = c.in_ok-locations.ensures.value in
+    let at : c.index.result.now ≡ get_or (free_locations x) c.loop-i.i 0 = c.index.ensures ∙ get_or-any ks c.loop-i.i c.index.result.now 0 below ∙ ap (λ (l : List ℕ). get_or l c.loop-i.i 0) listed in
+    subst (λ (ts : Nodes). HaveTaken x f (ahead c.args.nodes.now.items) ts (c.loop-i.i + 1) (ahead c.take_child.new.nodes.items))
     (sym (ap nodes_of pushed ∙ nodes_of-push c.loop-i.children.items child))
-    (HaveTaken-more x f ks (ahead c.args.nodes.now.items) (nodes_of c.loop-i.children.items) c.loop-i.i (ahead c.loop-i.nodes.items) (ahead c.take_child.new.nodes.items) (node_of child)
-    c.loop-i.invariant below
+    (HaveTaken-more x f (ahead c.args.nodes.now.items) (nodes_of c.loop-i.children.items) c.loop-i.i (ahead c.loop-i.nodes.items) (ahead c.take_child.new.nodes.items) (node_of child)
+    c.loop-i.invariant (subst (λ (l : List ℕ). c.loop-i.i < length l) listed below)
     (subst (λ (k : ℕ). BeginWith (placing x f k) (node_of child) (ahead c.loop-i.nodes.items) (ahead c.take_child.new.nodes.items)) at c.in_ok-child.ensures))
 
 pub take_children-returns : goal.take_children-returns
@@ -60,6 +62,6 @@ take_children-returns t c =
     let f = c.args.facility in
     let ks = c.in_ok-locations.locations.items in
     rw (node_of-Split (Split f c.loop-i.children) f c.loop-i.children refl)
-    (HaveTaken-all x f ks (ahead c.args.nodes.now.items) (nodes_of c.loop-i.children.items) c.loop-i.i (ahead c.loop-i.nodes.items)
-    c.in_ok-locations.ensures.value c.free_locations.ensures.placement c.requires c.loop-i.invariant
-    (drop_of_length-le ks {i = c.loop-i.i} (let test = c.loop-i-test.false in let end = c.loop-i.auto.i-end in let count = c.len-i-end.ensures in let long = c.in_ok-locations.locations.ok.0 in omega arith)))
+    (HaveTaken-all x f (ahead c.args.nodes.now.items) (nodes_of c.loop-i.children.items) c.loop-i.i (ahead c.loop-i.nodes.items)
+    c.free_locations.ensures.placement c.requires c.loop-i.invariant
+    (subst (λ (l : List ℕ). length l ≤ c.loop-i.i) c.in_ok-locations.ensures.value (let test = c.loop-i-test.false in let end = c.loop-i.auto.i-end in let count = c.len-i-end.ensures in let long = c.in_ok-locations.locations.ok.0 in omega arith)))

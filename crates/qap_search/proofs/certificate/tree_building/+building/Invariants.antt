@@ -15,4 +15,4 @@ decreases-take_split l = 3 * (l.node.now.size - length l.node.now.facilities) + 
 
 -- so many children have been taken
 abbrev pub invariant-take_children-loop-i : goal.invariant-take_children-loop-i
-invariant-take_children-loop-i l = HaveTaken l.node l.facility l.locations.items (ahead l.fn.nodes.items) (nodes_of l.children.items) l.i (ahead l.nodes.items)
+invariant-take_children-loop-i l = HaveTaken l.node l.facility (ahead l.fn.nodes.items) (nodes_of l.children.items) l.i (ahead l.nodes.items)

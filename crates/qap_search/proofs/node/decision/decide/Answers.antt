@@ -5,18 +5,18 @@ use Rattle.qap_search.proofs.Deciding.{decides_closed, decides_split}
 use Rattle.qap_search.proofs.node.decision.decide.Goals as goal
 
 pub returns-then-thought-best : goal.returns-then-thought-best
-returns-then-thought-best c = λ I h.
+returns-then-thought-best c = λ cutting I h.
     let x = c.args.node.now in
     let t = c.args.thought.now in
     let u : c.in_ok-u.u.items ≡ t.u.items = search rules in
     let v : c.in_ok-v.v.items ≡ t.v.items = search rules in
     let enough : c.args.best ≤ℤ t.value = omega (arith, ints, c.ranges.best, c.if-thought-best.true) in
-    decides_closed I c.args.best x t _ h enough
+    decides_closed cutting I c.args.best x t _ h enough
     (c.in_ok-vec.ensures.items ∙ ap (λ tuple. tuple ∷ []) (c.in_ok-tuple.ensures ∙ ap₂ (closed_tuple x) u v))
 
 pub returns : goal.returns
-returns c = λ I h.
+returns c = λ cutting I h.
     let t = c.args.thought.now in
     let below : t.value <ℤ c.args.best = omega (arith, ints, c.ranges.best, c.if-thought-best.false) in
-    decides_split I c.args.best c.args.node.now t c.in-Some.facility _ c.in_ok-split_tuples.ensures.placement (rw c.in-Some.is at h.branch) below c.in-Some.is
+    decides_split cutting I c.args.best c.args.node.now t c.in-Some.facility _ c.in_ok-split_tuples.ensures.placement (rw c.in-Some.is at h.branch) below c.in-Some.is
     c.in_ok-split_tuples.ensures.value

@@ -13,16 +13,16 @@ use Rattle.qap_search.proofs.runs.bound.bounded_of.Goals as goal
 pub open_bound-requires : goal.open_bound-requires
 open_bound-requires c =
     let ended = c.requires in
-    let S : Search = search_of c.args.instance.now ended.0 ended.1 in
+    let S : Search = search_of ended.0 c.args.instance.now ended.1 ended.2 in
     let tuples = c.deref-2.result.now in
     let commits = c.args.run.space.commits in
-    let tree : IsCutTree S tuples commits = rw (c.deref-2.ensures.value, c.in-Ok.ensures.ok) ended.3.tree in
+    let tree : IsCutTree S tuples commits = rw (c.deref-2.ensures.value, c.in-Ok.ensures.ok) ended.4.tree in
     subst (λ (J : Problem). All (IsSoundTuple J.size) tuples) (sym c.in_ok-ranked.ensures.value) (sound_tuples S tuples commits tree)
 
 pub returns-clause-bounded : goal.returns-clause-bounded
-returns-clause-bounded c = λ x known limit ended.
+returns-clause-bounded c = λ cutting x known limit ended.
     let I = c.args.instance.now in
-    let S : Search = search_of I x known in
+    let S : Search = search_of cutting I x known in
     let r = c.args.run in
     let tuples = c.deref.result.now in
     let tree : IsCutTree S tuples r.space.commits = rw (c.deref.ensures.value, c.in-Ok.ensures.ok) ended.tree in

@@ -1,3 +1,4 @@
+use Rattle.qap_search.specs.Hand.{cuts}
 use Rattle.qap_search.specs.Search.{best_with, search_of}
 use Rattle.qap_search.proofs.SearchLaws.{cut_trees_are_law}
 use Rattle.qap_search.proofs.runs.threads.run_of.Goals as goal
@@ -5,4 +6,4 @@ use Rattle.qap_search.proofs.runs.threads.run_of.Goals as goal
 pub search-requires-clause-law : goal.search-requires-clause-law
 search-requires-clause-law g c =
     let I = c.args.instance.now in
-    λ κs alive. cut_trees_are_law (search_of I c.args.plan.now.root.now (best_with I c.args.plan.now.start.now))
+    λ κs alive. cut_trees_are_law (search_of (cuts c.args.plan.now.branching) I c.args.plan.now.root.now (best_with I c.args.plan.now.start.now))

@@ -1,4 +1,4 @@
-use Rattle.std.proofs.Common.{length, subst}
+use Rattle.std.proofs.Common.{Bool, false, length, subst}
 use Rattle.qap_cost.specs.Placement.{Placement}
 use Rattle.qap_search.specs.Answer.{IsAnswer}
 use Rattle.qap_search.specs.Outcome.{IsEnded}
@@ -15,8 +15,10 @@ returns-clause-ran g c =
     let known = best_with I plan.start.now in
     let S : Search = from_root I known in
     let run = c.in_ok-run.run' in
-    let ended : IsEnded S plan.limit run = subst (λ (x : Placement). IsEnded (search_of I x known) plan.limit run) c.requires.whole c.in_ok-run.ensures.ended in
+    let ended : IsEnded S plan.limit run = subst (λ (x : Placement). IsEnded (search_of false I x known) plan.limit run) c.requires.whole
+    (subst (λ (cutting : Bool). IsEnded (search_of cutting I plan.root.now known) plan.limit run) c.requires.plain c.in_ok-run.ensures.ended) in
     let ran : RanTo S plan.workers plan.limit run.space =
-    subst (λ (x : Placement). RanTo (search_of I x known) plan.workers plan.limit run.space) c.requires.whole c.in_ok-run.ensures.ran in
+    subst (λ (x : Placement). RanTo (search_of false I x known) plan.workers plan.limit run.space) c.requires.whole
+    (subst (λ (cutting : Bool). RanTo (search_of cutting I plan.root.now known) plan.workers plan.limit run.space) c.requires.plain c.in_ok-run.ensures.ran) in
     ran_behind (λ (a : Answer). a.reports.items) S plan.workers plan.limit run (λ (a : Answer). IsAnswer I (length run.reports.items) plan.limit a) c.answer_of.result ran ended
     (c.answer_of.ensures.answer known ended) c.answer_of.ensures.tells

@@ -1,6 +1,7 @@
 use Rattle.std.proofs.Common.{ℕ, subst}
 use Rattle.std.proofs.lemmas.Result.{IfOk-weaker}
 use Rattle.qap_search.specs.BoundedAnswer.{IsBoundedFrom}
+use Rattle.qap_search.specs.Hand.{cuts}
 use Rattle.qap_search.specs.Search.{Search, best_with, search_of}
 use Rattle.qap_search.proofs.BehindAnswers.{ran_so}
 use Rattle.qap_search.proofs.runs.threads.solve_least_from.Goals as goal
@@ -10,16 +11,16 @@ returns-clause-answer g c =
     let I = c.args.instance.now in
     let plan = c.args.plan.now in
     let known = best_with I plan.start.now in
-    let S : Search = search_of I plan.root.now known in
+    let S : Search = search_of (cuts plan.branching) I plan.root.now known in
     IfOk-weaker c.bounded_of.result _ _
-    (λ a h. subst (λ (n : ℕ). IsBoundedFrom S n plan.limit a) c.in_ok-run.ensures.one_each (h plan.root.now known plan.limit c.in_ok-run.ensures.ended))
+    (λ a h. subst (λ (n : ℕ). IsBoundedFrom S n plan.limit a) c.in_ok-run.ensures.one_each (h (cuts plan.branching) plan.root.now known plan.limit c.in_ok-run.ensures.ended))
     c.bounded_of.ensures.bounded
 
 pub returns-clause-ran : goal.returns-clause-ran
 returns-clause-ran g c =
     let I = c.args.instance.now in
     let plan = c.args.plan.now in
-    let S : Search = search_of I plan.root.now (best_with I plan.start.now) in
+    let S : Search = search_of (cuts plan.branching) I plan.root.now (best_with I plan.start.now) in
     let ran = c.in_ok-run.ensures.ran in
     let ended = c.in_ok-run.ensures.ended in
     IfOk-weaker c.bounded_of.result _ _ (λ a told. ran_so S plan.workers plan.limit c.in_ok-run.run' a.open_nodes a.reports.items ran ended told) c.bounded_of.ensures.tells

@@ -1,14 +1,15 @@
 use Rattle.std.proofs.Common.{◌∙◌, subst}
 use Rattle.qap_cost.specs.Instance.{Problem}
+use Rattle.qap_search.specs.Hand.{cuts}
 use Rattle.qap_search.specs.Thought.{IsThought}
 use Rattle.qap_search.proofs.Thinkings.{anew_on, kept_on}
 use Rattle.qap_search.proofs.worker.thinking.think_on.Goals as goal
 
 pub returns-then-is_on-clause-thought : goal.returns-then-is_on-clause-thought
-returns-then-is_on-clause-thought g c = kept_on c.args.rows.now c.args.last.now c.args.node (c.is_on.ensures.0 c.if-is_on.true)
+returns-then-is_on-clause-thought g c = kept_on (cuts c.args.tools.now.branching) c.args.rows.now c.args.last.now c.args.node (c.is_on.ensures.0 c.if-is_on.true)
 
 pub returns-clause-thought : goal.returns-clause-thought
 returns-clause-thought g c =
-    anew_on c.args.rows.now c.args.last.now c.args.node c.in_ok-thought.thought c.is_on.result c.requires.placement c.requires.size
-    (subst (λ (I : Problem). IsThought I c.args.node c.in_ok-thought.thought) (c.instance.ensures.value ∙ c.reduced.ensures.same) c.in_ok-thought.ensures)
+    anew_on (cuts c.args.tools.now.branching) c.args.rows.now c.args.last.now c.args.node c.in_ok-thought.thought c.is_on.result c.requires.placement c.requires.size
+    (subst (λ (I : Problem). IsThought (cuts c.args.tools.now.branching) I c.args.node c.in_ok-thought.thought) (c.instance.ensures.value ∙ c.reduced.ensures.same) c.in_ok-thought.ensures)
     c.if-is_on.false c.is_on.ensures.1

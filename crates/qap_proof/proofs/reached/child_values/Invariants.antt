@@ -2,7 +2,7 @@ use Rattle.std.specs.Prelude.{◌≡◌, ℕ, ◌<◌, length, pos, slice_index_
 use Rattle.qap_proof.specs.NodeLine.{pair_of}
 use Rattle.qap_proof.specs.Tree.{facility_on, location_on}
 use Rattle.qap_proof.specs.Valid.{Reaches}
-use Rattle.qap_proof.proofs.child_values.child_values.Given as goal
+use Rattle.qap_proof.proofs.reached.child_values.Given as goal
 
 abbrev pub invariant-loop-child : goal.invariant-loop-child
 invariant-loop-child l =

@@ -5,7 +5,7 @@ use Rattle.qap_proof.proofs.ChildValues.{IsAt-cell, Reaches-at, free_counts, sum
 use Rattle.qap_proof.specs.NodeLine.{pair_of}
 use Rattle.qap_proof.specs.Tree.{facility_on, location_on}
 use Rattle.qap_proof.specs.Valid.{Reaches}
-use Rattle.qap_proof.proofs.child_values.child_values.Goals as goal
+use Rattle.qap_proof.proofs.reached.child_values.Goals as goal
 
 pub excess-more-requires-clause-row : goal.excess-more-requires-clause-row
 excess-more-requires-clause-row c =

@@ -2,7 +2,7 @@ use Rattle.std.proofs.Common.{◌≡◌, ℕ, ◌<◌, List, length, sym, subst}
 use Rattle.std.specs.Prelude.{slice_index}
 use Rattle.qap_proof.specs.Tree.{IsFreeOn}
 use Rattle.qap_proof.specs.declared.side.Side.{Side}
-use Rattle.qap_proof.proofs.child_values.own_place.Goals as goal
+use Rattle.qap_proof.proofs.reached.own_place.Goals as goal
 
 pub place_of-requires : goal.place_of-requires
 place_of-requires c =

@@ -5,7 +5,7 @@ use Rattle.std.proofs.lemmas.Int.{ints}
 use Rattle.qap_cost.specs.Matrix.{entry_of}
 use Rattle.qap_lines.proofs.Numerals.{reads_wide}
 use Rattle.qap_proof.proofs.ChildValues.{AllWithin-at}
-use Rattle.qap_proof.proofs.child_values.excess.Goals as goal
+use Rattle.qap_proof.proofs.reached.excess.Goals as goal
 
 pub overflow_sub-result-2 : goal.overflow_sub-result-2
 overflow_sub-result-2 c =

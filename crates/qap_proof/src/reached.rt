@@ -19,7 +19,7 @@ use std::alloc::{AllocError, Global};
 
 /// What duals of a split on this facility or this location come to for each child, where they fit the reduced matrix of the node: with
 /// what the placed facilities cost, and the entry of the pair that the child puts together in the place of its two duals.
-pub(crate) fn child_values(
+pub fn child_values(
     alloc: Global,
     instance: &Instance,
     matrix: &Matrix,
