@@ -110,10 +110,18 @@ fn better<N: Number>(
     let to = usize::from(locations[second]);
     let back = usize::from(locations[first]);
     let verdict = memory.verdict(first, to, second, back);
-    let aspires = difference.is_less(bar) || matches!(verdict, Verdict::Due);
-    let may_be_made = aspires || matches!(verdict, Verdict::Free);
+    let is_below_bar = difference.is_less(bar);
+    let is_less = difference.is_less(best.difference);
+    let aspires = match verdict {
+        Verdict::Due => true,
+        Verdict::Free | Verdict::Tabu => is_below_bar,
+    };
+    let may_be_made = match verdict {
+        Verdict::Tabu => is_below_bar,
+        Verdict::Due | Verdict::Free => true,
+    };
     let goes_before = if aspires == best.aspires {
-        difference.is_less(best.difference)
+        is_less
     } else {
         aspires
     };

@@ -1,6 +1,6 @@
 //! What each exchange of two facilities would change the cost by, kept from one exchange to the next (Taillard 1991).
 
-ghost use Rattle.std.specs.Prelude.{◌≡◌, ◌≢◌, ◌+◌, ◌*◌, ◌<◌, length, map, IfOk};
+ghost use Rattle.std.specs.Prelude.{◌≡◌, ◌≢◌, ◌+◌, ◌*◌, ◌<◌, length, map, pos, slice_index_or, slice_set, IfOk};
 ghost use Rattle.qap_improve.specs.Arrangement.{HasEntriesWithin, IsArrangement};
 ghost use Rattle.qap_improve.specs.Exchange.{exchanging};
 ghost use Rattle.qap_improve.specs.Table.{AreContrasts, AreDifferences, AreKept, HasFilled, HasMoved, HasSettled, IsDifference, Settles};
@@ -26,6 +26,7 @@ pub(crate) fn all_differences<N: Number>(
     instance: &Instance,
     arrangement: &Arrangement,
 ) -> Result<Differences<N>, AllocError>
+    requires instance { IsInstance instance.now }
     requires arrangement { IsArrangement instance.now arrangement.now }
     requires small { HasEntriesWithin N.limit instance.now }
     ensures { IfOk result (AreKept N.value instance.now arrangement.now.locations.items) }
@@ -50,6 +51,7 @@ pub(crate) fn update<N: Number>(
     u: usize,
     v: usize,
 )
+    requires instance { IsInstance instance.now }
     requires arrangement { IsArrangement instance.now arrangement.now }
     requires small { HasEntriesWithin N.limit instance.now }
     requires first { u < instance.now.size }
@@ -76,6 +78,7 @@ fn bring_up<N: Number>(
     contrasts: &[Contrast],
     entries: &mut [N],
 )
+    requires instance { IsInstance instance.now }
     requires arrangement { IsArrangement instance.now arrangement.now }
     requires small { HasEntriesWithin N.limit instance.now }
     requires first { exchanged.0 < instance.now.size }
@@ -95,6 +98,7 @@ fn filled<N: Number>(
     arrangement: &Arrangement,
     mut entries: Vec<N>,
 ) -> Vec<N>
+    requires instance { IsInstance instance.now }
     requires arrangement { IsArrangement instance.now arrangement.now }
     requires small { HasEntriesWithin N.limit instance.now }
     requires count { length entries.items ≡ instance.now.size * instance.now.size }
@@ -106,6 +110,7 @@ fn filled<N: Number>(
 
 /// Writes all differences.
 fn fill_rows<N: Number>(instance: &Instance, arrangement: &Arrangement, entries: &mut [N])
+    requires instance { IsInstance instance.now }
     requires arrangement { IsArrangement instance.now arrangement.now }
     requires small { HasEntriesWithin N.limit instance.now }
     requires count { length entries.old ≡ instance.now.size * instance.now.size }
@@ -118,6 +123,7 @@ fn fill_rows<N: Number>(instance: &Instance, arrangement: &Arrangement, entries:
 
 /// Writes the differences of row `r`, where those of the rows above are written.
 fn fill_row<N: Number>(instance: &Instance, arrangement: &Arrangement, r: usize, entries: &mut [N])
+    requires instance { IsInstance instance.now }
     requires arrangement { IsArrangement instance.now arrangement.now }
     requires small { HasEntriesWithin N.limit instance.now }
     requires row { r < instance.now.size }
@@ -126,7 +132,8 @@ fn fill_row<N: Number>(instance: &Instance, arrangement: &Arrangement, r: usize,
 {
     let n = instance.size();
     for s in r + 1..n {
-        entries[r * n + s] = difference_of(instance, arrangement, r, s);
+        let difference = difference_of(instance, arrangement, r, s);
+        put(entries, r * n + s, difference);
     }
 }
 
@@ -137,6 +144,7 @@ fn difference_of<N: Number>(
     r: usize,
     s: usize,
 ) -> N
+    requires instance { IsInstance instance.now }
     requires arrangement { IsArrangement instance.now arrangement.now }
     requires small { HasEntriesWithin N.limit instance.now }
     requires first { r < instance.now.size }
@@ -155,6 +163,7 @@ fn update_rows<N: Number>(
     contrasts: &[Contrast],
     entries: &mut [N],
 )
+    requires instance { IsInstance instance.now }
     requires arrangement { IsArrangement instance.now arrangement.now }
     requires small { HasEntriesWithin N.limit instance.now }
     requires first { exchanged.0 < instance.now.size }
@@ -178,6 +187,7 @@ fn update_row<N: Number>(
     contrasts: &[Contrast],
     entries: &mut [N],
 )
+    requires instance { IsInstance instance.now }
     requires arrangement { IsArrangement instance.now arrangement.now }
     requires small { HasEntriesWithin N.limit instance.now }
     requires first { exchanged.0 < instance.now.size }
@@ -191,8 +201,8 @@ fn update_row<N: Number>(
     let start = r * instance.size();
     let with_r = contrasts[r];
     for s in r + 1..instance.size() {
-        let old = entries[start + s];
-        entries[start + s] = old.after_exchange(&with_r, &contrasts[s]);
+        let old = number_at(entries, start + s);
+        put(entries, start + s, old.after_exchange(&with_r, &contrasts[s]));
     }
 }
 
@@ -203,6 +213,7 @@ fn settle_all<N: Number>(
     exchanged: (usize, usize),
     entries: &mut [N],
 )
+    requires instance { IsInstance instance.now }
     requires arrangement { IsArrangement instance.now arrangement.now }
     requires small { HasEntriesWithin N.limit instance.now }
     requires first { exchanged.0 < instance.now.size }
@@ -210,10 +221,9 @@ fn settle_all<N: Number>(
     requires before { HasSettled instance.now arrangement.now.locations.items exchanged.0 exchanged.1 0 (map N.value entries.old) }
     ensures { AreDifferences instance.now arrangement.now.locations.items (map N.value entries.new) }
 {
-    let (u, v) = exchanged;
     for k in 0..instance.size() {
-        settle(instance, arrangement, k, u, entries);
-        settle(instance, arrangement, k, v, entries);
+        settle(instance, arrangement, k, exchanged.0, entries);
+        settle(instance, arrangement, k, exchanged.1, entries);
     }
 }
 
@@ -225,6 +235,7 @@ fn settle<N: Number>(
     w: usize,
     entries: &mut [N],
 )
+    requires instance { IsInstance instance.now }
     requires arrangement { IsArrangement instance.now arrangement.now }
     requires small { HasEntriesWithin N.limit instance.now }
     requires first { k < instance.now.size }
@@ -247,6 +258,7 @@ fn write<N: Number>(
     s: usize,
     entries: &mut [N],
 )
+    requires instance { IsInstance instance.now }
     requires arrangement { IsArrangement instance.now arrangement.now }
     requires small { HasEntriesWithin N.limit instance.now }
     requires order { r < s }
@@ -254,5 +266,22 @@ fn write<N: Number>(
     requires count { length entries.old ≡ instance.now.size * instance.now.size }
     ensures { Settles instance.now arrangement.now.locations.items r s (map N.value entries.old) (map N.value entries.new) }
 {
-    entries[r * instance.size() + s] = difference_of(instance, arrangement, r, s);
+    let difference = difference_of(instance, arrangement, r, s);
+    put(entries, r * instance.size() + s, difference);
+}
+
+/// The number at this place.
+pub(crate) fn number_at<N: Number>(numbers: &[N], place: usize) -> N
+    requires { place < length numbers.now }
+    ensures { N.value result ≡ slice_index_or (map N.value numbers.now) place (pos 0) }
+{
+    numbers[place]
+}
+
+/// Writes a number to a place.
+fn put<N: Number>(numbers: &mut [N], place: usize, number: N)
+    requires { place < length numbers.old }
+    ensures { map N.value numbers.new ≡ slice_set (map N.value numbers.old) place (N.value number) }
+{
+    numbers[place] = number;
 }

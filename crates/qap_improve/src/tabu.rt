@@ -13,7 +13,7 @@ use crate::descent::Improved;
 use crate::memory::Memory;
 use crate::number::Number;
 use crate::small::has_small_entries;
-use crate::table::{Differences, all_differences, update};
+use crate::table::{Differences, all_differences, number_at, update};
 use qap_cost::{Instance, Perm, cost};
 use std::alloc::{AllocError, Global};
 
@@ -177,7 +177,8 @@ fn make_exchange<N: Number>(instance: &Instance, walk: &mut Walk<N>, r: usize, s
     ensures walk { IsWalk N.value N.limit instance.now walk.new }
     ensures best_cost { walk.new.best_cost ≡ walk.old.best_cost }
 {
-    walk.cost += walk.differences.entries[r * instance.size() + s].widen();
+    let place = r * instance.size() + s;
+    walk.cost += number_at(&walk.differences.entries, place).widen();
     exchange_two(instance, &mut walk.arrangement, r, s);
     update(instance, &walk.arrangement, &mut walk.differences, r, s);
 }
