@@ -158,9 +158,11 @@ Settles-written I q table new r s k x order below count at told is =
       each = λ i j above within.
           elim (cases_eq (i * n + j) (r * n + s)) [
             | inl e ↦ inl (written I q table r s i j x below order within count e is)
-            | inr a ↦ inr (get_or-set_other table (r * n + s) (i * n + j) x (pos 0) a,
-                (λ row column. a (ap₂ (λ (k l : ℕ). k * n + l) row column)),
-                (λ row. λ column. omega arith))
+            | inr a ↦ inr (
+              get_or-set_other table (r * n + s) (i * n + j) x (pos 0) a,
+              (λ row column. a (ap₂ (λ (k l : ℕ). k * n + l) row column)),
+              (λ row. λ column. omega arith),
+            )
           ];
     })
 
@@ -192,10 +194,10 @@ HasSettled-more I q u v k old first second h f g = record {
           | inl is ↦ same_difference I q r s _ _ later.0 is
           | inr before ↦ same_difference I q r s _ _ (later.0 ∙ before.0)
               (h.each r s order below
-              (λ e. let less = ru e in elim (cases_eq s k) [ | inl at ↦ absurd (before.2 e at) | inr a ↦ omega arith ])
-              (λ e. let less = rv e in elim (cases_eq s k) [ | inl at ↦ absurd (later.2 e at) | inr a ↦ omega arith ])
-              (λ e. let less = su e in elim (cases_eq r k) [ | inl at ↦ absurd (before.1 at e) | inr a ↦ omega arith ])
-              (λ e. let less = sv e in elim (cases_eq r k) [ | inl at ↦ absurd (later.1 at e) | inr a ↦ omega arith ]))
+              (λ e. let less = ru e in elim (cases_eq s k) [ inl at ↦ absurd (before.2 e at) | inr a ↦ omega arith ])
+              (λ e. let less = rv e in elim (cases_eq s k) [ inl at ↦ absurd (later.2 e at) | inr a ↦ omega arith ])
+              (λ e. let less = su e in elim (cases_eq r k) [ inl at ↦ absurd (before.1 at e) | inr a ↦ omega arith ])
+              (λ e. let less = sv e in elim (cases_eq r k) [ inl at ↦ absurd (later.1 at e) | inr a ↦ omega arith ]))
         ]
       ];
 }

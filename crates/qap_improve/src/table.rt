@@ -93,11 +93,7 @@ fn bring_up<N: Number>(
 }
 
 /// The list with all differences written to it.
-fn filled<N: Number>(
-    instance: &Instance,
-    arrangement: &Arrangement,
-    mut entries: Vec<N>,
-) -> Vec<N>
+fn filled<N: Number>(instance: &Instance, arrangement: &Arrangement, mut entries: Vec<N>) -> Vec<N>
     requires instance { IsInstance instance.now }
     requires arrangement { IsArrangement instance.now arrangement.now }
     requires small { HasEntriesWithin N.limit instance.now }
@@ -138,12 +134,7 @@ fn fill_row<N: Number>(instance: &Instance, arrangement: &Arrangement, r: usize,
 }
 
 /// What the cost changes by when facilities `r` and `s` exchange their locations, in this width. Takes time in n.
-fn difference_of<N: Number>(
-    instance: &Instance,
-    arrangement: &Arrangement,
-    r: usize,
-    s: usize,
-) -> N
+fn difference_of<N: Number>(instance: &Instance, arrangement: &Arrangement, r: usize, s: usize) -> N
     requires instance { IsInstance instance.now }
     requires arrangement { IsArrangement instance.now arrangement.now }
     requires small { HasEntriesWithin N.limit instance.now }
@@ -202,7 +193,11 @@ fn update_row<N: Number>(
     let with_r = contrasts[r];
     for s in r + 1..instance.size() {
         let old = number_at(entries, start + s);
-        put(entries, start + s, old.after_exchange(&with_r, &contrasts[s]));
+        put(
+            entries,
+            start + s,
+            old.after_exchange(&with_r, &contrasts[s]),
+        );
     }
 }
 

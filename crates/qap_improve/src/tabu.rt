@@ -5,7 +5,7 @@ ghost use Rattle.qap_improve.specs.Arrangement.{HasEntriesWithin};
 ghost use Rattle.qap_cost.specs.Instance.{IsInstance, Problem};
 ghost use Rattle.qap_cost.specs.Objective.{Permutes, cost_of};
 ghost use Rattle.qap_improve.specs.Walk.{IsWalk};
-ghost use Rattle.qap_cost.specs.Bijection.{IsPerm};
+ghost use Rattle.qap_cost.specs.Bijection.{IsBijection, IsPerm};
 
 use crate::arrangement::{Arrangement, arranged, exchange_two};
 use crate::choice::choose;
@@ -72,10 +72,11 @@ pub fn tabu_search<H: Hook>(
     ensures cost { IfOk result (λ x. x.cost ≡ cost_of instance.now x.permutation) }
     ensures no_dearer { IfOk result (λ x. x.cost ≤ℤ cost_of instance.now start.now) }
 {
+    let mut memory = Memory::new(alloc, instance.size(), plan.seed)?;
     if has_small_entries(instance) {
-        search::<i64, H>(alloc, instance, start, plan, hook)
+        search::<i64, H>(alloc, instance, start, plan.iterations, &mut memory, hook)
     } else {
-        search::<i128, H>(alloc, instance, start, plan, hook)
+        search::<i128, H>(alloc, instance, start, plan.iterations, &mut memory, hook)
     }
 }
 
@@ -84,33 +85,31 @@ fn search<N: Number, H: Hook>(
     alloc: Global,
     instance: &Instance,
     start: &Perm,
-    plan: &TabuPlan,
+    iterations: u64,
+    memory: &mut Memory,
     hook: &mut H,
 ) -> Result<Improved, AllocError>
     requires same_size { length start.now ≡ instance.now.size }
+    requires memory { memory.old.size ≡ instance.now.size }
+    requires instance { IsInstance instance.now }
     requires limited { HasEntriesWithin N.limit instance.now }
     ensures permutation { IfOk result (λ x. Permutes instance.now x.permutation) }
     ensures cost { IfOk result (λ x. x.cost ≡ cost_of instance.now x.permutation) }
     ensures no_dearer { IfOk result (λ x. x.cost ≤ℤ cost_of instance.now start.now) }
 {
-    let mut memory = Memory::new(alloc, instance.size(), plan.seed)?;
     let mut walk = begun::<N>(alloc, instance, start)?;
-    for _ in 0..plan.iterations {
+    for _ in 0..iterations {
         if !hook.goes_on(walk.best_cost) {
             break;
         }
         memory.advance();
-        step(instance, &mut walk, &mut memory);
+        step(instance, &mut walk, memory);
     }
     Ok(best_of(walk))
 }
 
 /// The walk that stands at its start.
-fn begun<N: Number>(
-    alloc: Global,
-    instance: &Instance,
-    start: &Perm,
-) -> Result<Walk<N>, AllocError>
+fn begun<N: Number>(alloc: Global, instance: &Instance, start: &Perm) -> Result<Walk<N>, AllocError>
     requires instance { IsInstance instance.now }
     requires limited { HasEntriesWithin N.limit instance.now }
     requires same_size { length start.now ≡ instance.now.size }
@@ -162,11 +161,22 @@ fn step<N: Number>(instance: &Instance, walk: &mut Walk<N>, memory: &mut Memory)
     );
     if let Some(choice) = chosen {
         let (r, s) = (choice.first, choice.second);
-        memory.leave(r, usize::from(walk.arrangement.locations[r]));
-        memory.leave(s, usize::from(walk.arrangement.locations[s]));
+        leave_both(memory, &walk.arrangement.locations, r, s);
         make_exchange(instance, walk, r, s);
         keep_if_best(walk);
     }
+}
+
+/// Keeps both facilities from coming back soon to where they are.
+fn leave_both(memory: &mut Memory, locations: &[u16], r: usize, s: usize)
+    requires permutation { IsBijection locations.now }
+    requires size { memory.old.size ≡ length locations.now }
+    requires order { r < s }
+    requires second { s < length locations.now }
+    ensures { memory.new.size ≡ memory.old.size }
+{
+    memory.leave(r, usize::from(locations[r]));
+    memory.leave(s, usize::from(locations[s]));
 }
 
 /// Exchanges the locations of `r` and `s`.
