@@ -22,7 +22,7 @@ entries-within I is = record {
   distances = λ i j hi hj. is.b_range (i * I.size + j) (mul-add-lt i I.size j I.size hi hj);
 }
 
-distance-within : (l : ℕ) (I : Problem) (p : List ℕ) (i j : ℕ) → HasEntriesWithin l I → Permutes I p → i < I.size → j < I.size → unsigned_abs (distance I p i j) ≤ l
+pub distance-within : (l : ℕ) (I : Problem) (p : List ℕ) (i j : ℕ) → HasEntriesWithin l I → Permutes I p → i < I.size → j < I.size → unsigned_abs (distance I p i j) ≤ l
 distance-within l I p i j h perm hi hj =
     let size = perm.same_size in
     let row = perm.bijection.within i (omega arith) in

@@ -4,6 +4,7 @@ mod Costs
 mod DoubleSums
 mod Exchanges
 mod FacilityTables
+mod Ranges
 mod Readings
 mod Rounds
 mod RowProducts

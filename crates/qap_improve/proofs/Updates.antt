@@ -9,7 +9,7 @@ use Rattle.qap_cost.specs.Objective.{cost_of}
 use Rattle.qap_improve.specs.Difference.{flow, distance, change_with, change_between}
 use Rattle.qap_improve.specs.Exchange.{exchanging}
 use Rattle.qap_improve.specs.Table.{IsContrast, IsDifference, change_of_difference}
-use Rattle.qap_improve.specs.declared.table.Contrast.{Contrast}
+use Rattle.qap_improve.specs.declared.contrast.Contrast.{Contrast}
 use Rattle.qap_improve.proofs.DoubleSums.{crossed_products, outside, outside-same, sum_to-apart}
 use Rattle.qap_improve.proofs.Exchanges.{cost_of-exchanging, exchanging-first, exchanging-second, exchanging-other, length-exchanging}
 

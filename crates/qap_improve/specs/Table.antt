@@ -1,11 +1,12 @@
 -- What each exchange of two facilities changes the cost by, and what another exchange changes that by
 -- (Taillard, Robust taboo search for the quadratic assignment problem, Parallel Computing 17, 1991).
-use Rattle.std.specs.Prelude.{◌≡◌, ℕ, ◌+◌, ◌*◌, ◌^◌, ◌<◌, ◌≤◌, List, length, ℤ, ◌+ℤ◌, ◌-ℤ◌, ◌*ℤ◌, unsigned_abs, slice_index_or}
+use Rattle.std.specs.Prelude.{◌≡◌, ◌≢◌, ◌⊎◌, ℕ, ◌+◌, ◌*◌, ◌<◌, ◌≤◌, List, length, map, ℤ, ◌+ℤ◌, ◌-ℤ◌, ◌*ℤ◌, unsigned_abs, slice_index_or}
 use Rattle.qap_cost.specs.Instance.{Problem, entry}
 use Rattle.qap_cost.specs.Objective.{cost_of}
 use Rattle.qap_improve.specs.Difference.{flow, distance}
 use Rattle.qap_improve.specs.Exchange.{exchanging}
-use Rattle.qap_improve.specs.declared.table.Contrast.{Contrast}
+use Rattle.qap_improve.specs.declared.contrast.Contrast.{Contrast}
+use Rattle.qap_improve.specs.declared.table.Differences.{Differences}
 
 -- x is the cost after facilities r and s have exchanged their locations, less the cost before
 abbrev pub IsDifference : Problem → List ℕ → ℕ → ℕ → ℤ → Type 0
@@ -21,10 +22,35 @@ pub record HasFilled (I : Problem) (p : List ℕ) (table : List ℤ) (t : ℕ) :
   pub count : length table ≡ I.size * I.size
   pub before : (r s : ℕ) → r < s → s < I.size → r * I.size + s < t → IsDifference I p r s (entry I.size table r s)
 
--- before place t they are those of q, and from there on those of p
-pub record HasUpdated (I : Problem) (p q : List ℕ) (table : List ℤ) (t : ℕ) : Type 0 where
-  pub filled : HasFilled I q table t
-  pub behind : (r s : ℕ) → r < s → s < I.size → t ≤ r * I.size + s → IsDifference I p r s (entry I.size table r s)
+-- what is kept is the differences, where a number of the code stands for its value, and room for a contrast of each facility
+pub record AreKept {X : Type 0} (value : X → ℤ) (I : Problem) (p : List ℕ) (kept : Differences X) : Type 0 where
+  pub differences : AreDifferences I p (map value kept.entries.items)
+  pub contrasts : length kept.contrasts.items ≡ I.size
+
+-- neither of r and s is u or v
+pub record AreOthers (u v r s : ℕ) : Type 0 where
+  pub first_of_r : r ≢ u
+  pub second_of_r : r ≢ v
+  pub first_of_s : s ≢ u
+  pub second_of_s : s ≢ v
+
+-- after u and v have exchanged their locations: before place t those of all other pairs are brought up to that, and from
+-- there on they are those of before
+pub record HasMoved (I : Problem) (q : List ℕ) (u v : ℕ) (table : List ℤ) (t : ℕ) : Type 0 where
+  pub count : length table ≡ I.size * I.size
+  pub before : (r s : ℕ) → r < s → s < I.size → r * I.size + s < t → AreOthers u v r s → IsDifference I q r s (entry I.size table r s)
+  pub behind : (r s : ℕ) → r < s → s < I.size → t ≤ r * I.size + s → IsDifference I (exchanging q u v) r s (entry I.size table r s)
+
+-- they are those of q, but for pairs of u or v with facility k or one behind it
+pub record HasSettled (I : Problem) (q : List ℕ) (u v k : ℕ) (table : List ℤ) : Type 0 where
+  pub count : length table ≡ I.size * I.size
+  pub each : (r s : ℕ) → r < s → s < I.size → (r ≡ u → s < k) → (r ≡ v → s < k) → (s ≡ u → r < k) → (s ≡ v → r < k) → IsDifference I q r s (entry I.size table r s)
+
+-- each is that of q or as it was, and that of facilities k and w is that of q
+pub record Settles (I : Problem) (q : List ℕ) (k w : ℕ) (old new : List ℤ) : Type 0 where
+  pub count : length new ≡ length old
+  pub each : (r s : ℕ) → r < s → s < I.size →
+      IsDifference I q r s (entry I.size new r s) ⊎ ((entry I.size new r s ≡ entry I.size old r s) × (r ≡ k → s ≢ w) × (r ≡ w → s ≢ k))
 
 -- how the flows and the distances between k and two others, u and v, differ
 pub record IsContrast (I : Problem) (p : List ℕ) (u v k : ℕ) (x : Contrast) : Type 0 where
@@ -33,17 +59,17 @@ pub record IsContrast (I : Problem) (p : List ℕ) (u v k : ℕ) (x : Contrast) 
   pub distances : x.distance ≡ distance I p u k -ℤ distance I p v k
   pub distances_back : x.distance_back ≡ distance I p k u -ℤ distance I p k v
 
--- no further from 0 than differences of two entries
-pub record IsSmall (x : Contrast) : Type 0 where
-  pub flow : unsigned_abs x.flow ≤ 2 * 10 ^ 9
-  pub flow_back : unsigned_abs x.flow_back ≤ 2 * 10 ^ 9
-  pub distance : unsigned_abs x.distance ≤ 2 * 10 ^ 9
-  pub distance_back : unsigned_abs x.distance_back ≤ 2 * 10 ^ 9
+-- no further from 0 than differences of two entries that lie within the limit
+pub record IsSmall (limit : ℕ) (x : Contrast) : Type 0 where
+  pub flow : unsigned_abs x.flow ≤ 2 * limit
+  pub flow_back : unsigned_abs x.flow_back ≤ 2 * limit
+  pub distance : unsigned_abs x.distance ≤ 2 * limit
+  pub distance_back : unsigned_abs x.distance_back ≤ 2 * limit
 
 -- those between each facility and two others, before place t
 pub record HasContrasts (I : Problem) (p : List ℕ) (u v : ℕ) (xs : List Contrast) (t : ℕ) : Type 0 where
   pub count : length xs ≡ I.size
-  pub each : (k : ℕ) (other : Contrast) → k < t → IsContrast I p u v k (slice_index_or xs k other) × IsSmall (slice_index_or xs k other)
+  pub each : (k : ℕ) (other : Contrast) → k < t → IsContrast I p u v k (slice_index_or xs k other)
 
 -- those between each facility and two others
 abbrev pub AreContrasts : Problem → List ℕ → ℕ → ℕ → List Contrast → Type 0

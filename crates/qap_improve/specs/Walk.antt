@@ -1,18 +1,19 @@
 -- What is known on a walk from one permutation to the next (Taillard, Robust taboo search for the quadratic assignment
 -- problem, Parallel Computing 17, 1991).
-use Rattle.std.specs.Prelude.{◌≡◌}
+use Rattle.std.specs.Prelude.{◌≡◌, ℕ, ℤ}
 use Rattle.qap_cost.specs.Instance.{IsInstance, Problem}
 use Rattle.qap_cost.specs.Objective.{Permutes, cost_of}
-use Rattle.qap_improve.specs.Arrangement.{IsArrangement}
-use Rattle.qap_improve.specs.Table.{AreDifferences}
+use Rattle.qap_improve.specs.Arrangement.{HasEntriesWithin, IsArrangement}
+use Rattle.qap_improve.specs.Table.{AreKept}
 use Rattle.qap_improve.specs.declared.tabu.Walk.{Walk}
 
 -- it stands at a permutation, with what that costs and what each exchange would change that by; the best permutation that
--- it has come by is kept with its cost
-pub record IsWalk (I : Problem) (walk : Walk) : Type 0 where
+-- it has come by is kept with its cost. A number of the differences stands for its value, where entries lie within the limit
+pub record IsWalk {X : Type 0} (value : X → ℤ) (limit : ℕ) (I : Problem) (walk : Walk X) : Type 0 where
   pub instance : IsInstance I
+  pub limited : HasEntriesWithin limit I
   pub arrangement : IsArrangement I walk.arrangement
   pub cost : walk.cost ≡ cost_of I walk.arrangement.locations.items
-  pub differences : AreDifferences I walk.arrangement.locations.items walk.differences
+  pub differences : AreKept value I walk.arrangement.locations.items walk.differences
   pub best : Permutes I walk.best.items
   pub best_cost : walk.best_cost ≡ cost_of I walk.best.items

@@ -1,112 +1,138 @@
 //! Which exchange a tabu search makes next (Taillard 1991).
 
-ghost use Rattle.std.specs.Prelude.{◌≡◌, ◌+◌, ◌*◌, ◌<◌, ◌≤◌, ◌⊎◌, IfSome, length};
+ghost use Rattle.std.specs.Prelude.{◌≡◌, ◌+◌, ◌*◌, ◌<◌, ◌≤◌, IfSome, length};
 ghost use Rattle.qap_cost.specs.Bijection.{IsBijection};
-ghost use Rattle.qap_improve.specs.Pair.{IsPair};
+ghost use Rattle.qap_improve.specs.Pair.{IsPair, IsPairIfAny};
 
 use crate::memory::{Memory, Verdict};
+use crate::number::Number;
 
 /// An exchange of the facilities `first` and `second`.
 #[derive(Clone, Copy)]
-pub struct Choice {
+pub(crate) struct Choice {
     pub first: usize,
     pub second: usize,
+}
+
+/// The exchange that is to be made rather than all others looked at; before any is found, that of a facility with itself.
+///
+/// Its parts lie side by side, with no `Option` round them, so that they stay in registers on the way through all pairs.
+#[derive(Clone, Copy)]
+struct Best<N> {
+    first: usize,
+    second: usize,
     /// What it changes the cost by.
-    difference: i128,
+    difference: N,
     /// Whether it goes before those that don't aspire.
     aspires: bool,
 }
 
-impl Choice {
-    /// Whether it is to be made rather than the other.
-    fn is_before(&self, other: &Choice) -> bool {
-        if self.aspires == other.aspires {
-            self.difference < other.difference
-        } else {
-            self.aspires
-        }
-    }
-}
-
 /// The exchange to make where the facilities are at these locations: of those that aspire the one that costs least, and
-/// if none does, of those that aren't tabu.
+/// if none does, of those that aren't tabu; of equal ones the first.
 ///
 /// One aspires whose difference is below `bar`, or that is due.
-pub fn choose(memory: &Memory, locations: &[u16], differences: &[i128], bar: i128) -> Option<Choice>
+pub(crate) fn choose<N: Number>(
+    memory: &Memory,
+    locations: &[u16],
+    differences: &[N],
+    bar: N,
+) -> Option<Choice>
     requires permutation { IsBijection locations.now }
     requires size { memory.now.size ≡ length locations.now }
     requires count { length differences.now ≡ length locations.now * length locations.now }
     ensures { IfSome result (IsPair (length locations.now)) }
 {
-    let mut best = None;
+    let mut best = Best {
+        first: 0,
+        second: 0,
+        difference: N::greatest(),
+        aspires: false,
+    };
     for r in 0..locations.len() {
-        best = preferred(best, choose_with(memory, locations, differences, bar, r));
+        best = best_with(memory, locations, differences, bar, r, best);
     }
-    best
+    if best.first < best.second {
+        Some(Choice {
+            first: best.first,
+            second: best.second,
+        })
+    } else {
+        None
+    }
 }
 
-/// The same among the exchanges of facility `r` and a greater one.
-fn choose_with(
+/// The best so far, or one of the exchanges of facility `r` and a greater one.
+fn best_with<N: Number>(
     memory: &Memory,
     locations: &[u16],
-    differences: &[i128],
-    bar: i128,
+    differences: &[N],
+    bar: N,
     r: usize,
-) -> Option<Choice>
+    known: Best<N>,
+) -> Best<N>
     requires permutation { IsBijection locations.now }
     requires size { memory.now.size ≡ length locations.now }
     requires count { length differences.now ≡ length locations.now * length locations.now }
     requires first { r < length locations.now }
-    ensures { IfSome result (IsPair (length locations.now)) }
+    requires known { IsPairIfAny (length locations.now) known.first known.second }
+    ensures { IsPairIfAny (length locations.now) result.first result.second }
 {
     let n = locations.len();
     let start = r * n;
     let row = &differences[start..start + n];
-    let mut best = None;
+    let mut best = known;
     for s in r + 1..n {
-        best = preferred(best, candidate(memory, locations, row[s], bar, (r, s)));
+        let difference = row[s];
+        if difference.is_less(best.difference) || memory.may_be_due(r, usize::from(locations[s])) {
+            best = better(memory, locations, difference, bar, (r, s), best);
+        }
     }
     best
 }
 
-/// The exchange of this pair, if it may be made.
-fn candidate(
+/// The exchange of this pair if it may be made and is to be made rather than the best so far, and else that.
+fn better<N: Number>(
     memory: &Memory,
     locations: &[u16],
-    difference: i128,
-    bar: i128,
+    difference: N,
+    bar: N,
     pair: (usize, usize),
-) -> Option<Choice>
+    best: Best<N>,
+) -> Best<N>
     requires permutation { IsBijection locations.now }
     requires size { memory.now.size ≡ length locations.now }
     requires order { pair.0 < pair.1 }
     requires second { pair.1 < length locations.now }
-    ensures { IfSome result (IsPair (length locations.now)) }
+    requires best { IsPairIfAny (length locations.now) best.first best.second }
+    ensures { IsPairIfAny (length locations.now) result.first result.second }
 {
     let (first, second) = pair;
     let to = usize::from(locations[second]);
     let back = usize::from(locations[first]);
-    let aspires = match memory.verdict(first, to, second, back) {
+    let verdict = memory.verdict(first, to, second, back);
+    let is_below_bar = difference.is_less(bar);
+    let is_less = difference.is_less(best.difference);
+    let aspires = match verdict {
         Verdict::Due => true,
-        Verdict::Free => difference < bar,
-        Verdict::Tabu if difference < bar => true,
-        Verdict::Tabu => return None,
+        Verdict::Free | Verdict::Tabu => is_below_bar,
     };
-    Some(Choice {
-        first,
-        second,
-        difference,
-        aspires,
-    })
-}
-
-/// The one that is to be made rather than the other, and of equal ones the first.
-fn preferred(best: Option<Choice>, next: Option<Choice>) -> Option<Choice>
-    ensures { (result ≡ best) ⊎ (result ≡ next) }
-{
-    match (best, next) {
-        (Some(best), Some(next)) => Some(if next.is_before(&best) { next } else { best }),
-        (None, next) => next,
-        (best, None) => best,
+    let may_be_made = match verdict {
+        Verdict::Tabu => is_below_bar,
+        Verdict::Due | Verdict::Free => true,
+    };
+    let goes_before = if aspires == best.aspires {
+        is_less
+    } else {
+        aspires
+    };
+    if may_be_made && goes_before {
+        Best {
+            first,
+            second,
+            difference,
+            aspires,
+        }
+    } else {
+        best
     }
 }

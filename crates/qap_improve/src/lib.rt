@@ -3,9 +3,11 @@
 
 mod arrangement;
 mod choice;
+mod contrast;
 mod descent;
 mod facility_table;
 mod memory;
+mod number;
 mod pair;
 mod rows;
 mod small;

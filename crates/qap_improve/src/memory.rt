@@ -59,15 +59,27 @@ impl Memory {
     {
         let first = self.free_from[r * self.size + to];
         let second = self.free_from[s * self.size + back];
-        let square = (self.size * self.size) as u64;
-        let long_ago = self.now.saturating_sub(PATIENCE * square);
         if first > self.now && second > self.now {
             Verdict::Tabu
-        } else if first < long_ago && second < long_ago {
+        } else if first < self.long_ago() && second < self.long_ago() {
             Verdict::Due
         } else {
             Verdict::Free
         }
+    }
+
+    /// Whether facility `r` hasn't been at location `to` for so long that an exchange that puts it there may be due.
+    pub fn may_be_due(&self, r: usize, to: usize) -> bool
+        requires facility { r < self.now.size }
+        requires location { to < self.now.size }
+    {
+        self.free_from[r * self.size + to] < self.long_ago()
+    }
+
+    /// The iteration before which a facility has to have been free to go to a location for that to be very long.
+    fn long_ago(&self) -> u64 {
+        let square = (self.size * self.size) as u64;
+        self.now.saturating_sub(PATIENCE * square)
     }
 
     /// Begins the next iteration.

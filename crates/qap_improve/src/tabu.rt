@@ -1,16 +1,19 @@
 //! Robust tabu search: the best exchange that isn't forbidden, over and over (Taillard 1991).
 
 ghost use Rattle.std.specs.Prelude.{◌≡◌, ◌+◌, ◌*◌, ◌<◌, ◌≤ℤ◌, IfOk, length};
+ghost use Rattle.qap_improve.specs.Arrangement.{HasEntriesWithin};
 ghost use Rattle.qap_cost.specs.Instance.{IsInstance, Problem};
 ghost use Rattle.qap_cost.specs.Objective.{Permutes, cost_of};
 ghost use Rattle.qap_improve.specs.Walk.{IsWalk};
-ghost use Rattle.qap_cost.specs.Bijection.{IsPerm};
+ghost use Rattle.qap_cost.specs.Bijection.{IsBijection, IsPerm};
 
 use crate::arrangement::{Arrangement, arranged, exchange_two};
 use crate::choice::choose;
 use crate::descent::Improved;
 use crate::memory::Memory;
-use crate::table::Differences;
+use crate::number::Number;
+use crate::small::has_small_entries;
+use crate::table::{Differences, all_differences, number_at, update};
 use qap_cost::{Instance, Perm, cost};
 use std::alloc::{AllocError, Global};
 
@@ -41,10 +44,10 @@ impl Hook for Always {
 
 /// Where a search stands, and the best that it has come by.
 #[derive(Drop)]
-struct Walk {
+struct Walk<N> {
     arrangement: Arrangement,
     cost: i128,
-    differences: Differences,
+    differences: Differences<N>,
     best: Vec<u16>,
     best_cost: i128,
 }
@@ -70,28 +73,53 @@ pub fn tabu_search<H: Hook>(
     ensures no_dearer { IfOk result (λ x. x.cost ≤ℤ cost_of instance.now start.now) }
 {
     let mut memory = Memory::new(alloc, instance.size(), plan.seed)?;
-    let mut walk = begun(alloc, instance, start)?;
-    for _ in 0..plan.iterations {
+    if has_small_entries(instance) {
+        search::<i64, H>(alloc, instance, start, plan.iterations, &mut memory, hook)
+    } else {
+        search::<i128, H>(alloc, instance, start, plan.iterations, &mut memory, hook)
+    }
+}
+
+/// The same, where the differences are kept in numbers of this width.
+fn search<N: Number, H: Hook>(
+    alloc: Global,
+    instance: &Instance,
+    start: &Perm,
+    iterations: u64,
+    memory: &mut Memory,
+    hook: &mut H,
+) -> Result<Improved, AllocError>
+    requires same_size { length start.now ≡ instance.now.size }
+    requires memory { memory.old.size ≡ instance.now.size }
+    requires instance { IsInstance instance.now }
+    requires limited { HasEntriesWithin N.limit instance.now }
+    ensures permutation { IfOk result (λ x. Permutes instance.now x.permutation) }
+    ensures cost { IfOk result (λ x. x.cost ≡ cost_of instance.now x.permutation) }
+    ensures no_dearer { IfOk result (λ x. x.cost ≤ℤ cost_of instance.now start.now) }
+{
+    let mut walk = begun::<N>(alloc, instance, start)?;
+    for _ in 0..iterations {
         if !hook.goes_on(walk.best_cost) {
             break;
         }
         memory.advance();
-        step(instance, &mut walk, &mut memory);
+        step(instance, &mut walk, memory);
     }
     Ok(best_of(walk))
 }
 
 /// The walk that stands at its start.
-fn begun(alloc: Global, instance: &Instance, start: &Perm) -> Result<Walk, AllocError>
+fn begun<N: Number>(alloc: Global, instance: &Instance, start: &Perm) -> Result<Walk<N>, AllocError>
     requires instance { IsInstance instance.now }
+    requires limited { HasEntriesWithin N.limit instance.now }
     requires same_size { length start.now ≡ instance.now.size }
-    ensures walk { IfOk result (IsWalk instance.now) }
+    ensures walk { IfOk result (IsWalk N.value N.limit instance.now) }
     ensures cost { IfOk result (λ walk. walk.best_cost ≡ cost_of instance.now start.now) }
 {
     let cost = cost(instance, start);
     let arrangement = arranged(alloc, instance, start.locations())?;
     let best = Vec::from_slice(alloc, start.locations())?;
-    let differences = Differences::new(alloc, instance, &arrangement)?;
+    let differences = all_differences(alloc, instance, &arrangement)?;
     Ok(Walk {
         arrangement,
         cost,
@@ -102,7 +130,7 @@ fn begun(alloc: Global, instance: &Instance, start: &Perm) -> Result<Walk, Alloc
 }
 
 /// The best permutation that the walk has come by, with its cost.
-fn best_of(walk: Walk) -> Improved
+fn best_of<N: Number>(walk: Walk<N>) -> Improved
     requires { IsPerm walk.best.items }
     ensures permutation { result.permutation ≡ walk.best.items }
     ensures cost { result.cost ≡ walk.best_cost }
@@ -117,46 +145,58 @@ fn best_of(walk: Walk) -> Improved
 }
 
 /// Makes the exchange that is to be made next, if there is one.
-fn step(instance: &Instance, walk: &mut Walk, memory: &mut Memory)
-    requires walk { IsWalk instance.now walk.old }
+fn step<N: Number>(instance: &Instance, walk: &mut Walk<N>, memory: &mut Memory)
+    requires walk { IsWalk N.value N.limit instance.now walk.old }
     requires size { memory.old.size ≡ instance.now.size }
-    ensures walk { IsWalk instance.now walk.new }
+    ensures walk { IsWalk N.value N.limit instance.now walk.new }
     ensures no_dearer { walk.new.best_cost ≤ℤ walk.old.best_cost }
     ensures size { memory.new.size ≡ instance.now.size }
 {
-    let bar = walk.best_cost - walk.cost;
+    let bar = N::at_least(walk.best_cost - walk.cost);
     let chosen = choose(
         memory,
         &walk.arrangement.locations,
-        walk.differences.entries(),
+        &walk.differences.entries,
         bar,
     );
     if let Some(choice) = chosen {
         let (r, s) = (choice.first, choice.second);
-        memory.leave(r, usize::from(walk.arrangement.locations[r]));
-        memory.leave(s, usize::from(walk.arrangement.locations[s]));
+        leave_both(memory, &walk.arrangement.locations, r, s);
         make_exchange(instance, walk, r, s);
         keep_if_best(walk);
     }
 }
 
+/// Keeps both facilities from coming back soon to where they are.
+fn leave_both(memory: &mut Memory, locations: &[u16], r: usize, s: usize)
+    requires permutation { IsBijection locations.now }
+    requires size { memory.old.size ≡ length locations.now }
+    requires order { r < s }
+    requires second { s < length locations.now }
+    ensures { memory.new.size ≡ memory.old.size }
+{
+    memory.leave(r, usize::from(locations[r]));
+    memory.leave(s, usize::from(locations[s]));
+}
+
 /// Exchanges the locations of `r` and `s`.
-fn make_exchange(instance: &Instance, walk: &mut Walk, r: usize, s: usize)
-    requires walk { IsWalk instance.now walk.old }
+fn make_exchange<N: Number>(instance: &Instance, walk: &mut Walk<N>, r: usize, s: usize)
+    requires walk { IsWalk N.value N.limit instance.now walk.old }
     requires first { r < s }
     requires second { s < instance.now.size }
-    ensures walk { IsWalk instance.now walk.new }
+    ensures walk { IsWalk N.value N.limit instance.now walk.new }
     ensures best_cost { walk.new.best_cost ≡ walk.old.best_cost }
 {
-    walk.cost += walk.differences.entries()[r * instance.size() + s];
+    let place = r * instance.size() + s;
+    walk.cost += number_at(&walk.differences.entries, place).widen();
     exchange_two(instance, &mut walk.arrangement, r, s);
-    walk.differences.update(instance, &walk.arrangement, r, s);
+    update(instance, &walk.arrangement, &mut walk.differences, r, s);
 }
 
 /// Keeps where the walk stands if nothing as cheap is known.
-fn keep_if_best(walk: &mut Walk)
+fn keep_if_best<N: Number>(walk: &mut Walk<N>)
     requires { length walk.old.best.items ≡ length walk.old.arrangement.locations.items }
-    ensures walk { (I : Problem) → IsWalk I walk.old → IsWalk I walk.new }
+    ensures walk { (I : Problem) → IsWalk N.value N.limit I walk.old → IsWalk N.value N.limit I walk.new }
     ensures no_dearer { walk.new.best_cost ≤ℤ walk.old.best_cost }
 {
     if walk.cost < walk.best_cost {

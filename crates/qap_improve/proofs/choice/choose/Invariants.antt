@@ -1,7 +1,6 @@
 use Rattle.std.proofs.Common.{length}
-use Rattle.std.specs.Prelude.{IfSome}
-use Rattle.qap_improve.specs.Pair.{IsPair}
+use Rattle.qap_improve.specs.Pair.{IsPairIfAny}
 use Rattle.qap_improve.proofs.choice.choose.Given as goal
 
 abbrev pub invariant-loop-r : goal.invariant-loop-r
-invariant-loop-r l = IfSome l.best (IsPair (length l.locations))
+invariant-loop-r g l = IsPairIfAny (length l.locations) l.best.first l.best.second

@@ -3,8 +3,8 @@ use Rattle.qap_improve.proofs.Costs.{cost_of-bounded}
 use Rattle.qap_improve.proofs.Readings.{fits_large_less}
 use Rattle.qap_improve.proofs.tabu.step.Goals as goal
 
-pub overflow_sub-bar : goal.overflow_sub-bar
-overflow_sub-bar c =
+pub overflow_sub-walk : goal.overflow_sub-walk
+overflow_sub-walk g c =
     let I = c.args.instance.now in
     let walk = c.args.walk.now in
     let w = c.requires.walk in

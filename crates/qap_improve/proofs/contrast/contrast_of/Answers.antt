@@ -1,7 +1,7 @@
 use Rattle.std.proofs.Common.{◌∙◌, ap₂, arith}
 use Rattle.std.specs.Prelude.{◌-ℤ◌}
 use Rattle.qap_improve.proofs.Readings.{reads_contrasted}
-use Rattle.qap_improve.proofs.table.contrast_of.Goals as goal
+use Rattle.qap_improve.proofs.contrast.contrast_of.Goals as goal
 
 pub flow_contrast-requires-clause-place : goal.flow_contrast-requires-clause-place
 flow_contrast-requires-clause-place c = let size = c.rows_there-there.ensures.rows.size in omega (arith, c.requires.other)
@@ -15,8 +15,8 @@ distance_contrast-requires-clause-place c = let size = c.rows_there-there.ensure
 pub distance_contrast-requires-2-clause-place : goal.distance_contrast-requires-2-clause-place
 distance_contrast-requires-2-clause-place c = let size = c.rows_back-back.ensures.rows.size in omega (arith, c.requires.other)
 
-pub returns-clause-value : goal.returns-clause-value
-returns-clause-value c =
+pub returns : goal.returns
+returns c =
     let a = c.requires.arrangement in
     let there = c.rows_there-there.ensures.rows in
     let back = c.rows_back-back.ensures.rows in
@@ -36,11 +36,3 @@ returns-clause-value c =
       distances_back = reads_contrasted c.distance_contrast-2.result c.distance_contrast-2.ensures.bounded ∙ c.distance_contrast-2.ensures.value
           ∙ ap₂ ◌-ℤ◌ (back.distance_first.entries k hk ∙ a.distances_back.each u k hu hk) (back.distance_second.entries k hk ∙ a.distances_back.each v k hv hk);
     }
-
-pub returns-clause-small : goal.returns-clause-small
-returns-clause-small c = record {
-  flow = rw (reads_contrasted c.flow_contrast.result c.flow_contrast.ensures.bounded) c.flow_contrast.ensures.bounded;
-  flow_back = rw (reads_contrasted c.flow_contrast-2.result c.flow_contrast-2.ensures.bounded) c.flow_contrast-2.ensures.bounded;
-  distance = rw (reads_contrasted c.distance_contrast.result c.distance_contrast.ensures.bounded) c.distance_contrast.ensures.bounded;
-  distance_back = rw (reads_contrasted c.distance_contrast-2.result c.distance_contrast-2.ensures.bounded) c.distance_contrast-2.ensures.bounded;
-}

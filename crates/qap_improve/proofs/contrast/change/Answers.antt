@@ -1,21 +1,21 @@
 use Rattle.std.proofs.Common.{ap₂, ◌∙◌, arith}
 use Rattle.std.specs.Prelude.{◌+ℤ◌, ◌*ℤ◌}
 use Rattle.qap_improve.proofs.Readings.{fits_contrast, fits_large_both, reads_contrast, reads_large_both}
-use Rattle.qap_improve.proofs.table.change.Goals as goal
+use Rattle.qap_improve.proofs.contrast.change.Goals as goal
 
-pub overflow_sub-with_r-2 : goal.overflow_sub-with_r-2
-overflow_sub-with_r-2 c = fits_contrast c.args.with_r.now.flow_back c.args.with_s.now.flow_back c.requires.first.flow_back c.requires.second.flow_back
+pub overflow_sub-first-2 : goal.overflow_sub-first-2
+overflow_sub-first-2 c = fits_contrast c.args.first.now.flow_back c.args.second.now.flow_back c.requires.first.flow_back c.requires.second.flow_back
 
-pub overflow_sub-with_s-2 : goal.overflow_sub-with_s-2
-overflow_sub-with_s-2 c = fits_contrast c.args.with_s.now.distance_back c.args.with_r.now.distance_back c.requires.second.distance_back c.requires.first.distance_back
+pub overflow_sub-second-2 : goal.overflow_sub-second-2
+overflow_sub-second-2 c = fits_contrast c.args.second.now.distance_back c.args.first.now.distance_back c.requires.second.distance_back c.requires.first.distance_back
 
 pub overflow_add-result : goal.overflow_add-result
 overflow_add-result c = fits_large_both c.wide_product-there.result c.wide_product-back.result (omega (arith, c.wide_product-there.ensures.bounded)) (omega (arith, c.wide_product-back.ensures.bounded))
 
 pub returns-clause-value : goal.returns-clause-value
 returns-clause-value c =
-    let x = c.args.with_r.now in
-    let y = c.args.with_s.now in
+    let x = c.args.first.now in
+    let y = c.args.second.now in
     let hx = c.requires.first in
     let hy = c.requires.second in
     reads_large_both c.wide_product-there.result c.wide_product-back.result (omega (arith, c.wide_product-there.ensures.bounded)) (omega (arith, c.wide_product-back.ensures.bounded))
