@@ -16,6 +16,8 @@ pub struct Request<'a> {
     /// The file of the solution that the search is to begin with.
     pub start: Option<&'a str>,
     pub options: Options,
+    /// The file that the answer is written to too.
+    pub out: Option<&'a str>,
     /// The file that the answer is written to as JSON too.
     pub json: Option<&'a str>,
 }
@@ -59,6 +61,12 @@ fn solve_command<'a>(alloc: Global) -> Result<Command<'a>, AllocError> {
                 .long("start")
                 .value_name("FILE")
                 .help("begin with the solution in this file"),
+        )?
+        .arg(
+            Arg::new(alloc, "out")
+                .long("out")
+                .value_name("FILE")
+                .help("write the answer to this file too"),
         )?
         .arg(
             Arg::new(alloc, "json")
@@ -136,6 +144,7 @@ fn request_of<'a>(found: &ArgMatches<'a>) -> Option<Request<'a>>
             seed: found.get_one("seed")?,
             passes: found.get_flag("ignore-rest"),
         },
+        out: found.get_str("out"),
         json: found.get_str("json"),
     })
 }

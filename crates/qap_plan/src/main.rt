@@ -15,6 +15,7 @@ mod whole_file;
 
 ghost use Rattle.qap_plan.specs.Options.{AreLimited};
 
+use answer::answer_text;
 use answering::plan_stream;
 use clap::Error;
 use clap::error::ErrorKind;
@@ -116,13 +117,18 @@ fn faulty_file<'a>(request: &Request<'a>, error: PlanError) -> &'a str {
     }
 }
 
-/// Writes the answer's JSON where that is asked for, and tells the exit status.
+/// Writes the files that are asked for, and tells the exit status.
 fn finish(
     rt: &HostRuntime,
     request: &Request<'_>,
     answer: &Planned,
     milliseconds: u64,
 ) -> ExitCode {
+    if let Some(file) = request.out {
+        if let Err(error) = write_answer(rt, file, answer) {
+            return refuse(rt, file, error);
+        }
+    }
     if let Some(file) = request.json {
         if let Err(error) = write_json(rt, file, answer, milliseconds) {
             return refuse(rt, file, error);
@@ -136,7 +142,13 @@ fn finish(
     ExitCode::from(status.code())
 }
 
-/// Writes the answer's JSON.
+/// Writes the answer's text to a file.
+fn write_answer(rt: &HostRuntime, file: &str, answer: &Planned) -> Result<(), PlanError> {
+    let text = answer_text(rt.alloc(), &answer.permutation, answer.cost, answer.bound)?;
+    write_whole(rt, file, &text).map_err(|_| PlanError::Device)
+}
+
+/// Writes the answer's JSON to a file.
 fn write_json(
     rt: &HostRuntime,
     file: &str,

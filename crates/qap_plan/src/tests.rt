@@ -254,6 +254,7 @@ fn command_lines(rt: HostRuntime) -> Result<(), Fail> {
         file: "a.dat",
         start: None,
         options,
+        out: None,
         json: None,
     };
     assert_eq!(rt; parse(rt.alloc(), &alone).ok(), Some(request));
