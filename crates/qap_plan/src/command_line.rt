@@ -20,6 +20,8 @@ pub struct Request<'a> {
     pub out: Option<&'a str>,
     /// The file that the answer is written to as JSON too.
     pub json: Option<&'a str>,
+    /// Whether nothing is to be written to standard output.
+    pub quiet: bool,
 }
 
 /// What the words of a command line ask for, the program's name being the first. That help or the version is asked for is an error
@@ -67,6 +69,12 @@ fn solve_command<'a>(alloc: Global) -> Result<Command<'a>, AllocError> {
                 .long("out")
                 .value_name("FILE")
                 .help("write the answer to this file too"),
+        )?
+        .arg(
+            Arg::new(alloc, "quiet")
+                .long("quiet")
+                .action(ArgAction::SetTrue)
+                .help("write nothing to standard output"),
         )?
         .arg(
             Arg::new(alloc, "json")
@@ -146,5 +154,6 @@ fn request_of<'a>(found: &ArgMatches<'a>) -> Option<Request<'a>>
         },
         out: found.get_str("out"),
         json: found.get_str("json"),
+        quiet: found.get_flag("quiet"),
     })
 }

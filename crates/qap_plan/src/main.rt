@@ -25,6 +25,9 @@ use error::PlanError;
 use json::json_text;
 use planning::Planned;
 use qap_io::{Counted, Status};
+use qap_search::Stop;
+use std::alloc::Global;
+use std::io::{Read, Write};
 use std::process::ExitCode;
 use std::rt::Env;
 use std::sync::Wait;
@@ -93,20 +96,46 @@ where
         start = Some(Counted::new(file));
     }
     let elapsed = Elapsed::new(system, request.options.seconds);
-    let answer = plan_stream(
-        system,
-        rt.alloc(),
-        &mut Counted::new(file),
-        &mut start,
-        &mut Counted::new(rt.stdout()),
-        &request.options,
-        &elapsed,
-        &elapsed,
-    );
+    let alloc = rt.alloc();
+    let answer = if request.quiet {
+        let output = Vec::new(alloc);
+        answer_to(system, alloc, request, &elapsed, file, start, output)
+    } else {
+        answer_to(system, alloc, request, &elapsed, file, start, rt.stdout())
+    };
     match answer {
         Ok(answer) => finish(rt, request, &answer, elapsed.milliseconds()),
         Err(error) => refuse(rt, faulty_file(request, error), error),
     }
+}
+
+/// Solves the instance of a file, from the start of another one, and writes the answer.
+fn answer_to<T, E, R, W>(
+    system: &T,
+    alloc: Global,
+    request: &Request<'_>,
+    elapsed: &E,
+    file: R,
+    mut start: Option<Counted<R>>,
+    output: W,
+) -> Result<Planned, PlanError>
+where
+    T: Threads + Wait + Clock + Sync,
+    E: qap_search::Clock + Stop,
+    R: Read + Drop,
+    W: Write + Drop,
+    requires { AreLimited request.now.options }
+{
+    plan_stream(
+        system,
+        alloc,
+        &mut Counted::new(file),
+        &mut start,
+        &mut Counted::new(output),
+        &request.options,
+        elapsed,
+        elapsed,
+    )
 }
 
 /// The file that an error is about.

@@ -256,6 +256,7 @@ fn command_lines(rt: HostRuntime) -> Result<(), Fail> {
         options,
         out: None,
         json: None,
+        quiet: false,
     };
     assert_eq!(rt; parse(rt.alloc(), &alone).ok(), Some(request));
     let cases: [(&[&str], ErrorKind); 5] = [
