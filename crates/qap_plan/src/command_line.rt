@@ -16,8 +16,12 @@ pub struct Request<'a> {
     /// The file of the solution that the search is to begin with.
     pub start: Option<&'a str>,
     pub options: Options,
+    /// The file that the answer is written to too.
+    pub out: Option<&'a str>,
     /// The file that the answer is written to as JSON too.
     pub json: Option<&'a str>,
+    /// Whether nothing is to be written to standard output.
+    pub quiet: bool,
 }
 
 /// What the words of a command line ask for, the program's name being the first. That help or the version is asked for is an error
@@ -59,6 +63,18 @@ fn solve_command<'a>(alloc: Global) -> Result<Command<'a>, AllocError> {
                 .long("start")
                 .value_name("FILE")
                 .help("begin with the solution in this file"),
+        )?
+        .arg(
+            Arg::new(alloc, "out")
+                .long("out")
+                .value_name("FILE")
+                .help("write the answer to this file too"),
+        )?
+        .arg(
+            Arg::new(alloc, "quiet")
+                .long("quiet")
+                .action(ArgAction::SetTrue)
+                .help("write nothing to standard output"),
         )?
         .arg(
             Arg::new(alloc, "json")
@@ -136,6 +152,8 @@ fn request_of<'a>(found: &ArgMatches<'a>) -> Option<Request<'a>>
             seed: found.get_one("seed")?,
             passes: found.get_flag("ignore-rest"),
         },
+        out: found.get_str("out"),
         json: found.get_str("json"),
+        quiet: found.get_flag("quiet"),
     })
 }

@@ -15,6 +15,7 @@ mod whole_file;
 
 ghost use Rattle.qap_plan.specs.Options.{AreLimited};
 
+use answer::answer_text;
 use answering::plan_stream;
 use clap::Error;
 use clap::error::ErrorKind;
@@ -24,6 +25,9 @@ use error::PlanError;
 use json::json_text;
 use planning::Planned;
 use qap_io::{Counted, Status};
+use qap_search::Stop;
+use std::alloc::Global;
+use std::io::{Read, Write};
 use std::process::ExitCode;
 use std::rt::Env;
 use std::sync::Wait;
@@ -92,20 +96,46 @@ where
         start = Some(Counted::new(file));
     }
     let elapsed = Elapsed::new(system, request.options.seconds);
-    let answer = plan_stream(
-        system,
-        rt.alloc(),
-        &mut Counted::new(file),
-        &mut start,
-        &mut Counted::new(rt.stdout()),
-        &request.options,
-        &elapsed,
-        &elapsed,
-    );
+    let alloc = rt.alloc();
+    let answer = if request.quiet {
+        let output = Vec::new(alloc);
+        answer_to(system, alloc, request, &elapsed, file, start, output)
+    } else {
+        answer_to(system, alloc, request, &elapsed, file, start, rt.stdout())
+    };
     match answer {
         Ok(answer) => finish(rt, request, &answer, elapsed.milliseconds()),
         Err(error) => refuse(rt, faulty_file(request, error), error),
     }
+}
+
+/// Solves the instance of a file, from the start of another one, and writes the answer.
+fn answer_to<T, E, R, W>(
+    system: &T,
+    alloc: Global,
+    request: &Request<'_>,
+    elapsed: &E,
+    file: R,
+    mut start: Option<Counted<R>>,
+    output: W,
+) -> Result<Planned, PlanError>
+where
+    T: Threads + Wait + Clock + Sync,
+    E: qap_search::Clock + Stop,
+    R: Read + Drop,
+    W: Write + Drop,
+    requires { AreLimited request.now.options }
+{
+    plan_stream(
+        system,
+        alloc,
+        &mut Counted::new(file),
+        &mut start,
+        &mut Counted::new(output),
+        &request.options,
+        elapsed,
+        elapsed,
+    )
 }
 
 /// The file that an error is about.
@@ -116,13 +146,18 @@ fn faulty_file<'a>(request: &Request<'a>, error: PlanError) -> &'a str {
     }
 }
 
-/// Writes the answer's JSON where that is asked for, and tells the exit status.
+/// Writes the files that are asked for, and tells the exit status.
 fn finish(
     rt: &HostRuntime,
     request: &Request<'_>,
     answer: &Planned,
     milliseconds: u64,
 ) -> ExitCode {
+    if let Some(file) = request.out {
+        if let Err(error) = write_answer(rt, file, answer) {
+            return refuse(rt, file, error);
+        }
+    }
     if let Some(file) = request.json {
         if let Err(error) = write_json(rt, file, answer, milliseconds) {
             return refuse(rt, file, error);
@@ -136,7 +171,13 @@ fn finish(
     ExitCode::from(status.code())
 }
 
-/// Writes the answer's JSON.
+/// Writes the answer's text to a file.
+fn write_answer(rt: &HostRuntime, file: &str, answer: &Planned) -> Result<(), PlanError> {
+    let text = answer_text(rt.alloc(), &answer.permutation, answer.cost, answer.bound)?;
+    write_whole(rt, file, &text).map_err(|_| PlanError::Device)
+}
+
+/// Writes the answer's JSON to a file.
 fn write_json(
     rt: &HostRuntime,
     file: &str,

@@ -254,7 +254,9 @@ fn command_lines(rt: HostRuntime) -> Result<(), Fail> {
         file: "a.dat",
         start: None,
         options,
+        out: None,
         json: None,
+        quiet: false,
     };
     assert_eq!(rt; parse(rt.alloc(), &alone).ok(), Some(request));
     let cases: [(&[&str], ErrorKind); 5] = [
