@@ -1,7 +1,8 @@
 // Robust tabu search (Taillard 1991), timed on an instance of each size: prints for each size the nanoseconds and the least
 // cost that was found. It draws the same random numbers as ours and breaks ties alike, so it goes the same way.
 //
-// What an exchange changes is prepared once for each facility, and then a pair takes two products; sums have 64 bits.
+// What an exchange changes is prepared once for each facility in 32 bits, and then a pair takes two products; sums have 64
+// bits. A pair that costs no less than the best so far is passed over after one look at the memory, unless it may be due.
 #include "arrangement.hpp"
 #include <algorithm>
 #include <chrono>
@@ -40,7 +41,8 @@ class Random {
 };
 
 class Search : Arrangement {
-    std::vector<int64_t> differences, flow, flow_back, distance, distance_back;
+    std::vector<int64_t> differences;
+    std::vector<int32_t> flow, flow_back, distance, distance_back;
     std::vector<uint64_t> free_from;
     Random random;
     uint64_t now;
@@ -63,8 +65,8 @@ class Search : Arrangement {
         }
         for (int r = 0; r < n; r++)
             for (int s = r + 1; s < n; s++)
-                differences[size_t(r) * n + s] += (flow[r] - flow[s]) * (distance[s] - distance[r]) +
-                                                  (flow_back[r] - flow_back[s]) * (distance_back[s] - distance_back[r]);
+                differences[size_t(r) * n + s] += int64_t(flow[r] - flow[s]) * (distance[s] - distance[r]) +
+                                                  int64_t(flow_back[r] - flow_back[s]) * (distance_back[s] - distance_back[r]);
         for (int k = 0; k < n; k++)
             for (int w : {u, v})
                 if (k != w) differences[size_t(std::min(k, w)) * n + std::max(k, w)] = difference<int64_t>(std::min(k, w), std::max(k, w));
@@ -84,6 +86,7 @@ class Search : Arrangement {
             for (int s = r + 1; s < n; s++) {
                 const int64_t change = differences[size_t(r) * n + s];
                 const uint64_t there = free_from[size_t(r) * n + locations[s]];
+                if (change >= least && there >= long_ago) continue;
                 const uint64_t back = free_from[size_t(s) * n + locations[r]];
                 const bool aspiring = change < best - cost || std::max(there, back) < long_ago;
                 if ((aspiring || std::min(there, back) <= now) && (aspiring == aspires ? change < least : aspiring)) {

@@ -108,12 +108,30 @@ fn wide_product(x: i64, y: i64) -> i128
     i128::from(x) * i128::from(y)
 }
 
-/// The same of small entries.
+/// The same of small entries: one instruction multiplies two pairs of numbers of 32 bits side by side.
 fn small_product(x: i64, y: i64) -> i64
     requires left { unsigned_abs x ≤ 2 * 10 ^ 8 }
     requires right { unsigned_abs y ≤ 2 * 10 ^ 8 }
     ensures value { result ≡ x *ℤ y }
     ensures bounded { unsigned_abs result ≤ 4 * 10 ^ 16 }
 {
-    x * y
+    product(narrow(x), narrow(y))
+}
+
+/// The product of two numbers of 32 bits, which fits 64.
+fn product(x: i32, y: i32) -> i64
+    requires left { unsigned_abs x ≤ 2 * 10 ^ 8 }
+    requires right { unsigned_abs y ≤ 2 * 10 ^ 8 }
+    ensures value { result ≡ x *ℤ y }
+    ensures bounded { unsigned_abs result ≤ 4 * 10 ^ 16 }
+{
+    i64::from(x) * i64::from(y)
+}
+
+/// The number in 32 bits, which hold it.
+fn narrow(number: i64) -> i32
+    requires { unsigned_abs number ≤ 2 * 10 ^ 8 }
+    ensures { result ≡ number }
+{
+    number as i32
 }

@@ -1,6 +1,6 @@
 //! Tabu searches on instances whose least cost is known, and what ends them.
 
-use crate::tests::{cost_by_sum, instance_of, permutation_of};
+use crate::tests::{Range, cost_by_sum, instance_of, permutation_of};
 use qap_cost::{Instance, Perm, least_by_listing};
 use qap_improve::{Always, Hook, TabuPlan, tabu_search};
 use std::alloc::{AllocError, Global};
@@ -52,8 +52,9 @@ fn assert_reaches_least(
     alloc: Global,
     start: &[u16],
     seed: u64,
+    range: Range,
 ) -> Result<(), Fail> {
-    let instance = instance_of(alloc, start.len(), seed)?.ok_or("instance")?;
+    let instance = instance_of(alloc, start.len(), seed, range)?.ok_or("instance")?;
     let start = permutation_of(alloc, start)?.ok_or("start")?;
     let plan = TabuPlan {
         seed,
@@ -78,7 +79,23 @@ fn reaches_the_least_cost(rt: HostRuntime) -> Result<(), Fail> {
             [0, 1, 2, 3, 4, 5].as_slice(),
             [3, 1, 4, 0, 5, 2].as_slice(),
         ] {
-            assert_reaches_least(&rt, alloc, start, seed)?;
+            assert_reaches_least(&rt, alloc, start, seed, Range::Whole)?;
+        }
+    }
+    Ok(())
+}
+
+/// Entries are from -5 * 10^7 to 5 * 10^7, so that differences have 64 bits.
+#[test]
+fn reaches_the_least_cost_of_small_entries(rt: HostRuntime) -> Result<(), Fail> {
+    let alloc = rt.alloc();
+    for seed in 1..5 {
+        for start in [
+            [0, 1].as_slice(),
+            [3, 1, 0, 2].as_slice(),
+            [3, 1, 4, 0, 5, 2].as_slice(),
+        ] {
+            assert_reaches_least(&rt, alloc, start, seed, Range::Small)?;
         }
     }
     Ok(())
@@ -91,7 +108,7 @@ fn assert_answers_start(
     iterations: u64,
     hook: &mut Patience,
 ) -> Result<(), Fail> {
-    let instance = instance_of(alloc, 5, 7)?.ok_or("instance")?;
+    let instance = instance_of(alloc, 5, 7, Range::Whole)?.ok_or("instance")?;
     let start = permutation_of(alloc, &[2, 0, 4, 1, 3])?.ok_or("start")?;
     let plan = TabuPlan {
         seed: 1,
@@ -117,7 +134,7 @@ fn ends_where_it_starts(rt: HostRuntime) -> Result<(), Fail> {
 #[test]
 fn equal_seeds_give_equal_answers(rt: HostRuntime) -> Result<(), Fail> {
     let alloc = rt.alloc();
-    let instance = instance_of(alloc, 12, 3)?.ok_or("instance")?;
+    let instance = instance_of(alloc, 12, 3, Range::Whole)?.ok_or("instance")?;
     let start = permutation_of(alloc, &[0, 1, 2, 3, 4, 5, 6, 7, 8, 9, 10, 11])?.ok_or("start")?;
     let plan = TabuPlan {
         seed: 5,

@@ -6,8 +6,22 @@ use std::alloc::{AllocError, Global};
 use std::process::Abort;
 use std::test::Fail;
 
+/// From where to where the entries of a generated instance are.
+#[derive(Clone, Copy)]
+pub(crate) enum Range {
+    /// From -10^9 to 10^9.
+    Whole,
+    /// From -5 * 10^7 to 5 * 10^7.
+    Small,
+}
+
 /// Entries by a formula from -10^9 to 10^9, on the diagonal too.
-fn entries_of(alloc: Global, n: usize, seed: u64) -> Result<Vec<i64>, AllocError> {
+fn entries_of(
+    alloc: Global,
+    n: usize,
+    seed: u64,
+    range: Range,
+) -> Result<Vec<i64>, AllocError> {
     let mut entries = Vec::new(alloc);
     let mut state = seed;
     for _ in 0..n {
@@ -15,7 +29,11 @@ fn entries_of(alloc: Global, n: usize, seed: u64) -> Result<Vec<i64>, AllocError
             state = state
                 .wrapping_mul(6364136223846793005)
                 .wrapping_add(1442695040888963407);
-            entries.push(((state >> 33) % 2_000_000_001) as i64 - 1_000_000_000)?;
+            let entry = ((state >> 33) % 2_000_000_001) as i64 - 1_000_000_000;
+            entries.push(match range {
+                Range::Whole => entry,
+                Range::Small => entry / 20,
+            })?;
         }
     }
     Ok(entries)
@@ -26,9 +44,10 @@ pub(crate) fn instance_of(
     alloc: Global,
     n: usize,
     seed: u64,
+    range: Range,
 ) -> Result<Option<Instance>, AllocError> {
-    let a = entries_of(alloc, n, seed)?;
-    let b = entries_of(alloc, n, seed.wrapping_add(1))?;
+    let a = entries_of(alloc, n, seed, range)?;
+    let b = entries_of(alloc, n, seed.wrapping_add(1), range)?;
     Ok(Instance::new(n, a, b).ok())
 }
 
@@ -99,7 +118,7 @@ fn differences_are_those_of_the_double_sum(rt: HostRuntime) -> Result<(), Fail> 
         ([3, 1, 4, 0, 5, 2].as_slice(), 3),
     ] {
         let n = locations.len();
-        let instance = instance_of(alloc, n, seed)?.ok_or("instance")?;
+        let instance = instance_of(alloc, n, seed, Range::Whole)?.ok_or("instance")?;
         for r in 0..n {
             for s in 0..n {
                 if r != s {
