@@ -1,20 +1,18 @@
 -- The tuples of a split whose duals cut children off, as they are written one child after another.
-use Rattle.std.proofs.Common.{◌≡◌, ℕ, suc, ◌+◌, ◌<◌, ◌≤◌, Bool, true, false, List, [], ◌∷◌, ◌++◌, length, get_or, take, ℤ, pos, refl, sym, ap, ap₂, subst, ◌∙◌, arith, append_assoc, append-nil, length-take-le}
+use Rattle.std.proofs.Common.{◌≡◌, ℕ, suc, ◌+◌, ◌<◌, ◌≤◌, Bool, true, false, List, [], ◌∷◌, ◌++◌, length, get_or, take, ℤ, pos, rules, refl, sym, ap, ap₂, subst, ◌∙◌, arith, append_assoc, append-nil, length-take-le}
 use Rattle.std.specs.Prelude.{◌<ℤ◌, ◌≤ℤ◌, int_lt, if◌then◌else◌}
 use Rattle.std.proofs.lemmas.Int.{ints}
 use Rattle.std.proofs.lemmas.List.{take_all, take_more}
 use Rattle.std.proofs.lemmas.List.Elements.{All-from_recursion}
 use Rattle.qap_cost.specs.Placement.{Placement}
 use Rattle.qap_proof.specs.Tree.{Split, child_of}
-use Rattle.tuple_match.specs.FieldValue.{FieldValue, IsField}
+use Rattle.qap_proof.specs.declared.side.Side.{Side}
+use Rattle.qap_proof.specs.declared.side.Side.TheVariants.{Facility, Location}
+use Rattle.tuple_match.specs.FieldValue.{FieldValue, IsField, word}
 use Rattle.tuple_match.specs.Tuple.{IsTuple}
-use Rattle.qap_search.specs.Decision.{children_by}
-use Rattle.qap_search.specs.Piece.{cut_number, cut_numbers, node_tuple, pieces, pieces_of_all}
+use Rattle.qap_search.specs.Decision.{child_by, children_by}
+use Rattle.qap_search.specs.Piece.{cut_number, cut_numbers, node_tuple, pieces, pieces_of_all, side_word}
 use Rattle.qap_search.specs.SearchTree.{SearchTree, open_node, cut_node, tree}
-
--- a child at which the duals come to z
-abbrev pub child_by : ℤ → ℤ → SearchTree
-child_by c z = if int_lt z c then open_node else cut_node
 
 less_true : (z c : ℤ) → z <ℤ c → int_lt z c ≡ true
 less_true z c less = by (int_lt z c) refl
@@ -51,7 +49,8 @@ pieces-more c x s i (y ∷ zs) z =
 -- the children up to number n have been written behind the split
 pieces_next : (c : ℤ) (x : Placement) (s : Split) (zs : List ℤ) (n : ℕ) → n < length zs → pieces_of_all x s 0 (children_by c (take (n + 1) zs)) ≡ pieces_of_all x s 0 (children_by c (take n zs)) ++ pieces (child_of x s n) (child_by c (get_or zs n (pos 0)))
 pieces_next c x s zs n less =
-    let long : 0 + length (take n zs) ≡ n = length-take-le n zs (omega arith) in
+    let count : length (take n zs) ≡ n = length-take-le n zs (omega arith) in
+    let long : 0 + length (take n zs) ≡ n = omega arith in
     ap (λ (ys : List ℤ). pieces_of_all x s 0 (children_by c ys)) (take_more zs n (pos 0) less)
     ∙ pieces-more c x s 0 (take n zs) (get_or zs n (pos 0))
     ∙ ap (λ (j : ℕ). pieces_of_all x s 0 (children_by c (take n zs)) ++ pieces (child_of x s j) (child_by c (get_or zs n (pos 0)))) long
@@ -97,3 +96,7 @@ children_all c x s zs n head tuples all is = is ∙ ap (λ (ys : List ℤ). head
 -- seven fields within their limits are a tuple
 pub seven_fields : (a b c d e f g : FieldValue) → IsField a → IsField b → IsField c → IsField d → IsField e → IsField f → IsField g → IsTuple (a ∷ b ∷ c ∷ d ∷ e ∷ f ∷ g ∷ [])
 seven_fields a b c d e f g ha hb hc hd he hf hg = record { some = omega arith; few = omega arith; each = All-from_recursion IsField (a ∷ b ∷ c ∷ d ∷ e ∷ f ∷ g ∷ []) (ha, (hb, (hc, (hd, (he, (hf, (hg, tt))))))) }
+
+pub side_is_field : (side : Side) → IsField (word (side_word side))
+side_is_field Facility = search rules
+side_is_field Location = search rules

@@ -44,7 +44,7 @@ pub all_open : (x : Placement) (f n : ℕ) (tuples : List (List FieldValue)) (ks
 all_open x f n tuples ks placed is all listed =
     is
     ∙ ap (λ (js : List ℕ). split_tuple x f ∷ map (λ (k : ℕ). node_tuple (placing x f k)) js) (take_all n ks all ∙ listed)
-    ∙ ap (λ (ts : List (List FieldValue)). split_tuple x f ∷ ts) (open_row-pieces x f 0 (free_locations x) (λ t less. refl))
+    ∙ ap (λ (ts : List (List FieldValue)). split_tuple x f ∷ ts) (open_row-pieces x f 0 (free_locations x) (λ t less. let same : t ≡ 0 + t = omega arith in ap (λ (k : ℕ). get_or (free_locations x) k 0) same))
     ∙ ap (λ (m : ℕ). split_tuple x f ∷ pieces_of_all x (on_facility f) 0 (open_row m)) (free_location_count x placed)
 
 -- four fields within their limits are a tuple

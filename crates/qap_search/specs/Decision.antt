@@ -23,10 +23,14 @@ pub record Decides (cutting : Bool) (I : Problem) (c : ℤ) (x : Placement) (tup
 abbrev pub IsOn : Placement → Thought → Type 0
 IsOn x t = (cutting : Bool) × (I : Problem) × IsThought cutting I x t
 
--- the children of a split whose duals come to this at each: cut off where that is at least c, and else open
+-- a child of a split whose duals come to z there: open where that is less than c, and else cut off
+abbrev pub child_by : ℤ → ℤ → SearchTree
+child_by c z = if int_lt z c then open_node else cut_node
+
+-- the children, by what the duals come to at each
 abbrev pub children_by : ℤ → List ℤ → SearchTrees
 children_by c [] = no_trees
-children_by c (z ∷ zs) = tree (if int_lt z c then open_node else cut_node) (children_by c zs)
+children_by c (z ∷ zs) = tree (child_by c z) (children_by c zs)
 
 -- a split with these duals
 abbrev pub pruned_split : Side → ℕ → List ℤ → List ℤ → Split

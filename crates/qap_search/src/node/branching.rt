@@ -84,6 +84,8 @@ pub(crate) fn branch_of(
     ensures { IfOk result (λ branch. MatchOption branch (length node.now.facilities ≡ node.now.size)
         (λ b. IsBranch (cuts branching) instance.now node.now (pair_of duals.now) (branch_value b))) }
 {
+    // Its clause says that this is a node.
+    let _size = node.size();
     if matrix.size() == 0 {
         return Ok(None);
     }

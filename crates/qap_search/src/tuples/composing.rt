@@ -82,8 +82,12 @@ fn cut_flags(alloc: Global, reached: &[i128], best: i128) -> Result<Vec<i128>, A
     ensures long { IfOk result (λ v. length v.items ≡ length reached.now) }
 {
     let mut flags = Vec::with_capacity(alloc, reached.len())?;
-    for value in reached {
-        flags.push(if *value < best { 0 } else { 1 })?;
+    for child in 0..reached.len() {
+        if reached[child] < best {
+            flags.push(0)?;
+        } else {
+            flags.push(1)?;
+        }
     }
     Ok(flags)
 }

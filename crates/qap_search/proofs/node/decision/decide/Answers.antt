@@ -1,5 +1,6 @@
-use Rattle.std.proofs.Common.{◌≡◌, ◌≤ℤ◌, ◌<ℤ◌, ◌∷◌, [], ap, ap₂, ◌∙◌, arith, rules}
-use Rattle.std.proofs.lemmas.Int.{ints}
+use Rattle.std.proofs.Common.{◌≡◌, ◌≤ℤ◌, ◌<ℤ◌, ◌∷◌, [], ap, ap₂, ◌∙◌, arith, rules, to_z, of_z}
+use Rattle.std.specs.Int.{w128}
+use Rattle.std.proofs.lemmas.Int.{ints, to_z-of_z}
 use Rattle.qap_search.specs.Piece.{closed_tuple}
 use Rattle.qap_search.proofs.Deciding.{decides_closed, decides_split}
 use Rattle.qap_search.proofs.node.decision.decide.Goals as goal
@@ -18,5 +19,6 @@ pub returns : goal.returns
 returns c = λ cutting I h.
     let t = c.args.thought.now in
     let below : t.value <ℤ c.args.best = omega (arith, ints, c.ranges.best, c.if-thought-best.false) in
-    decides_split cutting I c.args.best c.args.node.now t c.in-Some.facility _ c.in_ok-split_tuples.ensures.placement (rw c.in-Some.is at h.branch) below c.in-Some.is
-    c.in_ok-split_tuples.ensures.value
+    let same : to_z w128 (of_z w128 c.args.best) ≡ c.args.best = to_z-of_z w128 c.args.best c.ranges.best in
+    decides_split cutting I c.args.best c.args.node.now t c.in-Some.branch c.in_ok-branch_tuples.field-0.items c.in_ok-branch_tuples.ensures.placement h below c.in-Some.is
+    (rw same at c.in_ok-branch_tuples.ensures.value)

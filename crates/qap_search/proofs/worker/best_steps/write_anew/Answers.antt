@@ -14,13 +14,13 @@ returns c = λ cutting I best thought there costs.
     let l = c.args.last.now in
     let cost_same : to_z w128 (of_z w128 c.args.cost) ≡ c.args.cost = to_z-of_z w128 c.args.cost c.ranges.cost in
     let thought_same : to_z w128 (of_z w128 l.thought.cost) ≡ l.thought.cost = search rules in
-    let least_same : to_z w128 (of_z w128 c.min.result) ≡ c.min.result = search rules in
+    let least_same : to_z w128 (of_z w128 c.min-standing.result) ≡ c.min-standing.result = search rules in
     let old : Best = record { cost = to_z w128 (of_z w128 c.args.cost); permutation = c.in-Some.perm } in
     let make : ℤ → List ℕ → Best = λ z p. record { cost = z; permutation = p } in
     let perm = (rw c.in-Some.is at c.in_ok-perm.ensures) best there in
     let is : best ≡ old = ap₂ make (costs ∙ sym cost_same) perm in
     let decided = (rw c.in-Some-2.is at c.in_ok-tuples.ensures) cutting I thought in
-    let either = least_either l.thought.cost (to_z w128 (of_z w128 c.args.cost)) c.min.result (rw thought_same at c.min.ensures.value) in
-    rw least_same (written_anew cutting I l best old c.min.result c.in-Some-2.tuples.items c.args.txn.now c.put.new.txn is decided
-    (λ new better. standing_cost (candidate_of l.thought) old new c.min.result better (rw thought_same at c.min.ensures.self_bound) c.min.ensures.other_bound either)
+    let either = least_either l.thought.cost (to_z w128 (of_z w128 c.args.cost)) c.min-standing.result (rw thought_same at c.min-standing.ensures.value) in
+    rw least_same (written_anew cutting I l best old c.min-standing.result c.in-Some-2.tuples.items c.args.txn.now c.put.new.txn is decided
+    (λ new better. standing_cost (candidate_of l.thought) old new c.min-standing.result better (rw thought_same at c.min-standing.ensures.self_bound) c.min-standing.ensures.other_bound either)
     c.in_ok-put.ensures.same c.in_ok-put.ensures.written)

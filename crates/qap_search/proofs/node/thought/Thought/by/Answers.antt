@@ -1,7 +1,7 @@
 use Rattle.std.proofs.Common.{◌≡◌, ℕ, List, sym, subst, ◌∙◌, ap₂, arith}
 use Rattle.std.proofs.lemmas.Int.{ints}
 use Rattle.qap_cost.specs.Matrix.{dual_value}
-use Rattle.qap_search.specs.Completion.{IsCompletion}
+use Rattle.qap_search.specs.Completion.{IsCompletion, IsMatching}
 use Rattle.qap_search.proofs.Thoughts.{duals_of, within_more}
 use Rattle.qap_search.proofs.node.thought.Thought.by.Goals as goal
 
@@ -10,10 +10,10 @@ returns c =
     let I = c.args.instance.now in
     let x = c.args.node.now in
     let M = c.args.matrix.now in
-    let a = c.in_ok-assignment.ensures in
+    let a = c.in_ok-matching.ensures in
     let done = c.in_ok-candidate.ensures in
     let completes = subst (λ (q : List ℕ). IsCompletion x q c.in_ok-candidate.candidate) c.deref.ensures.value done.completion in
-    let duals : c.dual_sum.result ≡ dual_value c.in_ok-assignment.assignment.u.items c.in_ok-assignment.assignment.v.items =
+    let duals : c.dual_sum.result ≡ dual_value c.in_ok-matching.field-0.u.items c.in_ok-matching.field-0.v.items =
     c.dual_sum.ensures.value ∙ ap₂ dual_value c.deref-2.ensures.value c.deref-3.ensures.value in
     record {
       matrix = M;
@@ -28,11 +28,20 @@ returns c =
       completes = completes;
       permutes = record { bijection = done.permutation.bijection; same_size = completes.same_size ∙ sym c.requires.same_size };
       costs = omega (arith, ints, c.cost-cost.ensures.value, c.cost-cost.ensures.bounded);
-      branch = c.in_ok-facility.ensures;
+      branch = c.in_ok-branch.ensures;
     }
 
-pub branch_of-requires-clause-u_range : goal.branch_of-requires-clause-u_range
-branch_of-requires-clause-u_range c = within_more _ _ _ (omega arith) (c.in_ok-assignment.ensures.u_range _ c.requires.bounded)
+pub branch_of-requires-clause-duals : goal.branch_of-requires-clause-duals
+branch_of-requires-clause-duals c =
+    let a = c.in_ok-matching.ensures in
+    let d = duals_of c.args.instance.now c.args.node.now c.args.matrix.now _ _ c.in_ok-candidate.ensures.placement c.requires.reduced a.fits (within_more _ _ _ (omega arith) (a.u_range _ c.requires.bounded)) (within_more _ _ _ (omega arith) (a.v_range _ c.requires.bounded)) in
+    record { rows = d.rows; columns = d.columns; u_range = d.u_range; v_range = d.v_range }
 
-pub branch_of-requires-clause-v_range : goal.branch_of-requires-clause-v_range
-branch_of-requires-clause-v_range c = within_more _ _ _ (omega arith) (c.in_ok-assignment.ensures.v_range _ c.requires.bounded)
+pub branch_of-requires-clause-matching : goal.branch_of-requires-clause-matching
+branch_of-requires-clause-matching c =
+    let x = c.args.node.now in
+    let a = c.in_ok-matching.ensures.assigns in
+    subst (IsMatching x) (sym c.deref-4.ensures.value) (record {
+      bijection = a.bijection;
+      count = omega (arith, a.same_size, c.requires.reduced.size);
+    })

@@ -1,0 +1,46 @@
+use Rattle.std.proofs.Common.{◌≡◌, ◌<◌, ℤ, length, get_or, pos, ap, arith, to_z, of_z}
+use Rattle.std.specs.Int.{w128}
+use Rattle.std.specs.Prelude.{◌<ℤ◌, ◌≤ℤ◌}
+use Rattle.std.proofs.lemmas.Int.{ints, to_z-of_z}
+use Rattle.qap_proof.proofs.ChildValues.{others_count}
+use Rattle.qap_proof.specs.Tree.{pair}
+use Rattle.qap_search.specs.Decision.{children_by, pruned_split}
+use Rattle.qap_search.specs.Piece.{cut_numbers, pruned_tuple}
+use Rattle.qap_search.proofs.Pruned.{child_cut, child_opened, children_all}
+use Rattle.qap_search.proofs.tuples.composing.pruned_tuples.Goals.{then-reached-child+in_ok-tuple_at+in_ok-push-2, else-reached-child}
+use Rattle.qap_search.proofs.tuples.composing.pruned_tuples.Goals as goal
+
+pub tuple_at-requires-clause-inside : goal.tuple_at-requires-clause-inside
+tuple_at-requires-clause-inside c =
+    let all = others_count c.args.side c.args.node.now c.free_others.ensures.placement in
+    omega (arith, all, ap length c.deref.ensures.value, ap length c.in_ok-others.ensures.value, c.requires.reached, c.loop-child-test.true)
+
+pub loop-child-preserved : goal.loop-child-preserved
+loop-child-preserved c =
+    let x = c.args.node.now in
+    let zs = c.args.reached.now in
+    let n = c.loop-child.child in
+    let best = to_z w128 (of_z w128 c.args.best) in
+    let same : best ≡ c.args.best = to_z-of_z w128 c.args.best c.ranges.best in
+    let split = pruned_split c.args.side c.args.number c.args.u.now c.args.v.now in
+    let head = pruned_tuple x split (pair c.args.u.now c.args.v.now) (cut_numbers (children_by best zs)) in
+    let below : n < length zs = c.loop-child-test.true in
+    elim c.if-reached-child.branch [
+      | then-reached-child+in_ok-tuple_at+in_ok-push-2 w ↦
+          let less : get_or zs n (pos 0) <ℤ best = omega (arith, ints, same, c.ranges.best, w.if-reached-child.true) in
+          rw w.tuples-is (child_opened best x split zs n head c.loop-child.tuples.items w.push-then-reached-child.new.self.items w.in_ok-tuple_at.field-0 below less c.loop-child.invariant
+          w.in_ok-tuple_at.ensures w.in_ok-push-2.ensures.items)
+      | else-reached-child w ↦
+          let more : best ≤ℤ get_or zs n (pos 0) = omega (arith, ints, same, c.ranges.best, w.if-reached-child.false) in
+          rw w.tuples-is (child_cut best x split zs n head c.loop-child.tuples.items below more c.loop-child.invariant)
+    ]
+
+pub returns-clause-value : goal.returns-clause-value
+returns-clause-value c =
+    let x = c.args.node.now in
+    let zs = c.args.reached.now in
+    let best = to_z w128 (of_z w128 c.args.best) in
+    let same : best ≡ c.args.best = to_z-of_z w128 c.args.best c.ranges.best in
+    let split = pruned_split c.args.side c.args.number c.args.u.now c.args.v.now in
+    let head = pruned_tuple x split (pair c.args.u.now c.args.v.now) (cut_numbers (children_by best zs)) in
+    rw same at (children_all best x split zs c.loop-child.child head c.loop-child.tuples.items (let end = c.loop-child-test.false in omega arith) c.loop-child.invariant)

@@ -1,0 +1,11 @@
+use Rattle.std.specs.Prelude.{◌≡◌, ◌∷◌, take}
+use Rattle.qap_proof.specs.Tree.{pair}
+use Rattle.qap_search.specs.Decision.{children_by, pruned_split}
+use Rattle.qap_search.specs.Piece.{cut_numbers, pieces_of_all, pruned_tuple}
+use Rattle.qap_search.proofs.tuples.composing.pruned_tuples.Given as goal
+
+abbrev pub invariant-loop-child : goal.invariant-loop-child
+invariant-loop-child l =
+    l.tuples.items
+    ≡ pruned_tuple l.node (pruned_split l.side l.number l.u l.v) (pair l.u l.v) (cut_numbers (children_by l.best l.reached))
+      ∷ pieces_of_all l.node (pruned_split l.side l.number l.u l.v) 0 (children_by l.best (take l.child l.reached))
