@@ -16,12 +16,7 @@ pub(crate) enum Range {
 }
 
 /// Entries by a formula from -10^9 to 10^9, on the diagonal too.
-fn entries_of(
-    alloc: Global,
-    n: usize,
-    seed: u64,
-    range: Range,
-) -> Result<Vec<i64>, AllocError> {
+fn entries_of(alloc: Global, n: usize, seed: u64, range: Range) -> Result<Vec<i64>, AllocError> {
     let mut entries = Vec::new(alloc);
     let mut state = seed;
     for _ in 0..n {

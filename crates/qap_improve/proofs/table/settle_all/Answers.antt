@@ -1,5 +1,4 @@
 use Rattle.std.proofs.Common.{ℕ, ◌≡◌, map, subst, arith}
-use Rattle.std.proofs.lemmas.List.{length-map}
 use Rattle.qap_improve.specs.Table.{HasSettled}
 use Rattle.qap_improve.proofs.Tables.{HasSettled-all, HasSettled-more}
 use Rattle.qap_improve.proofs.table.settle_all.Goals as goal

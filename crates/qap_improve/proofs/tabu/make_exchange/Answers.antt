@@ -9,7 +9,7 @@ use Rattle.qap_improve.specs.Table.{AreDifferences, IsDifference}
 use Rattle.qap_improve.proofs.Costs.{cost_of-bounded}
 use Rattle.qap_improve.proofs.Exchanges.{exchanging-twice}
 use Rattle.qap_improve.proofs.Readings.{fits_large_both, reads_large_both}
-use Rattle.qap_improve.proofs.Tables.{IsDifference-bounded, place_inside, told_difference}
+use Rattle.qap_improve.proofs.Tables.{IsDifference-bounded, told_difference}
 use Rattle.qap_improve.proofs.tabu.make_exchange.Goals as goal
 
 -- what was read at the pair is its difference
