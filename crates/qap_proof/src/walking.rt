@@ -11,12 +11,12 @@ ghost use Rattle.qap_proof.specs.Tree.{IsFreeOn, child as child_place, child_of,
 ghost use Rattle.qap_proof.specs.Valid.{TakesOn};
 ghost use Rattle.qap_proof.specs.Walk.{AreReached, BeginsWithTree, BeginsWithTrees, IsFaultBefore, IsToldOf, IsToldOfAll, IsToldOfClosed, IsToldOfDuals, IsToldOfSplit};
 
-use crate::reached::child_values;
 use crate::children::{child_node, free_others, has_duals};
 use crate::error::ProofError;
 use crate::image::{takes_facility, takes_location};
 use crate::judging::{Task, closed_fault};
 use crate::node_line::{NodeLine, SplitLine, read_node_line};
+use crate::reached::child_values;
 use crate::side::Side;
 use crate::tree::Duals;
 use gilmore_lawler::{RankedInstance, Workspace, fits};

@@ -67,7 +67,7 @@ standing_cost candidate old new least (inr better) below under (inl is) = let e 
 standing_cost candidate old new least (inr better) below under (inr is) = ap (λ (b : Best). b.cost) better.1 ∙ sym is
 
 -- what was decided beside the one that stands has been written
-pub written_anew : (cutting : Bool) (I : Problem) (l : LastThought) (best old : Best) (least : ℤ) (tuples : List (List FieldValue)) (t t' : TxnValue) → best ≡ old → DecidesBetter cutting I (thought_of l) old tuples → ((new : Best) → IsBetterOf (candidate_of l.thought) old new → new.cost ≡ least) → HasMarksOf t t' → SameItems (added_of t'.writes) (added_of t.writes ++ tuples) → WritesAll true I (thought_of l) best t t' least
+pub written_anew : (cutting : Bool) (I : Problem) (l : LastThought) (best old : Best) (least : ℤ) (tuples : List (List FieldValue)) (t t' : TxnValue) → best ≡ old → DecidesBetter cutting I (thought_of l) old tuples → ((new : Best) → IsBetterOf (candidate_of l.thought) old new → new.cost ≡ least) → HasMarksOf t t' → SameItems (added_of t'.writes) (added_of t.writes ++ tuples) → WritesAll cutting true I (thought_of l) best t t' least
 written_anew cutting I l best old least tuples t t' is d costs same added = record {
   standing = d.new;
   stands = subst (λ (b : Best). IsBetterOf (candidate_of l.thought) b d.new) (sym is) d.better;
@@ -116,8 +116,8 @@ same_cost I l taking number t cost m c f =
     (same_best f.best.cost cost (map pos f.best.permutation) c.locations (sym f.is ∙ ap (λ (x : Mark). x.tuple) (one_mark number t m.best c.mark m.here c.here) ∙ c.is)).0
 
 -- where the worker stands after its writes
-leads : (taking : Bool) (cutting : Bool) (I : Problem) (last : ThoughtValue) (best : Best) (t t' : TxnValue) (written : Result (Option ℤ) AllocError) (told : Told) (stage : Stage) → t.writes ≡ [] → Writes cutting taking I last best t t' written → AfterWrites written t' told stage → ((told ≡ Ok true) × (IsReady cutting taking I last best t stage ⊎ IsStuck taking last best t stage)) ⊎ (IsErr told × IsShort t stage)
-leads taking I last best t t' (Ok (Some c)) told stage none w after = inl (
+leads : (cutting taking : Bool) (I : Problem) (last : ThoughtValue) (best : Best) (t t' : TxnValue) (written : Result (Option ℤ) AllocError) (told : Told) (stage : Stage) → t.writes ≡ [] → Writes cutting taking I last best t t' written → AfterWrites written t' told stage → ((told ≡ Ok true) × (IsReady cutting taking I last best t stage ⊎ IsStuck taking last best t stage)) ⊎ (IsErr told × IsShort t stage)
+leads cutting taking I last best t t' (Ok (Some c)) told stage none w after = inl (
   after.0,
   inl (record {
     standing = w.standing;
@@ -130,7 +130,7 @@ leads taking I last best t t' (Ok (Some c)) told stage none w after = inl (
     is = after.1 ∙ ap (λ (z : ℤ). Ready t' z) (sym w.costs);
   }),
 )
-leads taking I last best t t' (Ok None) told stage none w after = inl (
+leads cutting taking I last best t t' (Ok None) told stage none w after = inl (
   after.0,
   inr (record {
     standing = w.standing;
@@ -140,7 +140,7 @@ leads taking I last best t t' (Ok None) told stage none w after = inl (
     is = after.1 ∙ ap (λ (x : TxnValue). GivingUp x) w.same;
   }),
 )
-leads taking I last best t t' (Err e) told stage none w after = inr (after.0, record { with_writes = t'; same = w; is = after.1 })
+leads cutting taking I last best t t' (Err e) told stage none w after = inr (after.0, record { with_writes = t'; same = w; is = after.1 })
 
 -- the best permutation was found, and it is there to stay
 pub has_best : (cutting : Bool) (I : Problem) (lease : ℕ) (l : LastThought) (taking : Bool) (number : ℕ) (t t' old : TxnValue) (tally tally' : Tally) (cost : ℤ) (written : Result (Option ℤ) AllocError) (told : Told) (stage : Stage) → IsLastThought cutting I l → HasBestMark I taking l.node number t → HasBestCost number t cost → ((best : Best) → IsBestAt number t best → best.cost ≡ cost → Writes cutting taking I (thought_of l) best t t' written) → AfterWrites written t' told stage → tally' ≡ record tally { best = Some cost } → HasBest taking (hand_of cutting I lease (Some (thought_of l)) (Considered old) tally) number t told (hand_of cutting I lease (Some (thought_of l)) stage tally')
@@ -156,7 +156,7 @@ has_best cutting I lease l taking number t t' old tally tally' cost written told
       here = ap (option_map (λ (x : Mark). x.tuple)) m.here ∙ ap (λ (w : List FieldValue). Some w) f.is;
       stage = stage;
       leaves = ap (λ (y : Tally). hand_of cutting I lease (Some (thought_of l)) stage y) tallied ∙ ap (λ (z : ℤ). hand_of cutting I lease (Some (thought_of l)) stage (record tally { best = Some z })) (sym costs);
-      leads = leads taking I (thought_of l) f.best t t' written told stage m.writes (writes f.best there costs) after;
+      leads = leads cutting taking I (thought_of l) f.best t t' written told stage m.writes (writes f.best there costs) after;
     }
 
 not_true : (b : Bool) → (b ≡ true → ⊥) → b ≡ false
@@ -185,7 +185,7 @@ as_good_of cutting I x t old new h (inl better) = subst (λ (b : Best). IsAsGood
 as_good_of cutting I x t old new h (inr better) = inl better.1
 
 -- what was written may be committed
-may_commit : (cutting : Bool) (I : Problem) (l : LastThought) (taking : Bool) (number : ℕ) (t t' : TxnValue) (best : Best) (cost : ℤ) → TakenLaw → ReadLaw → IsLastThought cutting I l → (m : HasBestMark I taking l.node number t) → m.best.permanent ≡ true → m.best.tuple ≡ tuple_of best → WritesAll taking I (thought_of l) best t t' cost → MayCommit (MayReplace cutting I) t'
+may_commit : (cutting : Bool) (I : Problem) (l : LastThought) (taking : Bool) (number : ℕ) (t t' : TxnValue) (best : Best) (cost : ℤ) → TakenLaw → ReadLaw → IsLastThought cutting I l → (m : HasBestMark I taking l.node number t) → m.best.permanent ≡ true → m.best.tuple ≡ tuple_of best → WritesAll cutting taking I (thought_of l) best t t' cost → MayCommit (MayReplace cutting I) t'
 may_commit cutting I l true number t t' best cost taken_law read_law h m permanent is w = λ renewed.
     let x = l.node in
     let marks : t'.marks ≡ with_mark m.best (m.node ∷ []) = w.same.marks ∙ m.marks in
@@ -209,7 +209,7 @@ may_commit cutting I l false number t t' best cost taken_law read_law h m perman
     let decides : DecidesBy cutting I best.cost (thought_of l) w.tuples = subst (λ (b : Best). DecidesBy cutting I b.cost (thought_of l) w.tuples) w.stands w.written in
     replaces_read cutting I x best (gone_of renewed t'.marks) (kept_of t'.marks) (added_of t'.writes) w.tuples h.placement h.size decides.decides gone_node kept_best added
 
-stage_after : (cutting : Bool) (I : Problem) (last : Option ThoughtValue) (taking : Bool) (lv : ThoughtValue) (best : Best) (t t' : TxnValue) (written : Result (Option ℤ) AllocError) (told : Told) (stage : Stage) → Writes cutting taking I lv best t t' written → ((cost : ℤ) → WritesAll taking I lv best t t' cost → MayCommit (MayReplace cutting I) t') → AfterWrites written t' told stage → IsStage cutting I last stage
+stage_after : (cutting : Bool) (I : Problem) (last : Option ThoughtValue) (taking : Bool) (lv : ThoughtValue) (best : Best) (t t' : TxnValue) (written : Result (Option ℤ) AllocError) (told : Told) (stage : Stage) → Writes cutting taking I lv best t t' written → ((cost : ℤ) → WritesAll cutting taking I lv best t t' cost → MayCommit (MayReplace cutting I) t') → AfterWrites written t' told stage → IsStage cutting I last stage
 stage_after cutting I last taking lv best t t' (Ok (Some c)) told stage w may after = subst (IsStage cutting I last) (sym after.1) (may c w)
 stage_after cutting I last taking lv best t t' (Ok None) told stage w may after = subst (IsStage cutting I last) (sym after.1) tt
 stage_after cutting I last taking lv best t t' (Err e) told stage w may after = subst (IsStage cutting I last) (sym after.1) tt

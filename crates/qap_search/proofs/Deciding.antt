@@ -52,12 +52,12 @@ children_by-trees : (I : Problem) (c : ℤ) (x : Placement) (s : Split) (d : Pai
 children_by-trees I c x s d i [] has reach = tt
 children_by-trees I c x s d i (z ∷ zs) has reach =
     let here : i + 0 ≡ i = omega arith in (
-  cond_both (int_lt z c) open_node cut_node (λ (t : SearchTree). IsTree (proving I c) (child x s i) t) (λ e. tt)
-      (λ e. record { duals = d; has = has; value = z; reaches = subst (λ (j : ℕ). Reaches I x d (facility_on s.side x s.number j) (location_on s.side x s.number j) z) here (reach zero (omega arith)); enough = omega (arith, ints) }),
-  children_by-trees I c x s d (i + 1) zs has (λ k less.
-      let moved : i + suc k ≡ i + 1 + k = omega arith in
-      subst (λ (j : ℕ). Reaches I x d (facility_on s.side x s.number j) (location_on s.side x s.number j) (get_or zs k (pos 0))) moved (reach (suc k) (omega arith))),
-)
+      cond_both (int_lt z c) open_node cut_node (λ (t : SearchTree). IsTree (proving I c) (child x s i) t) (λ e. tt)
+          (λ e. record { duals = d; has = has; value = z; reaches = subst (λ (j : ℕ). Reaches I x d (facility_on s.side x s.number j) (location_on s.side x s.number j) z) here (reach zero (omega arith)); enough = omega (arith, ints) }),
+      children_by-trees I c x s d (i + 1) zs has (λ k less.
+          let moved : i + suc k ≡ i + 1 + k = omega arith in
+          subst (λ (j : ℕ). Reaches I x d (facility_on s.side x s.number j) (location_on s.side x s.number j) (get_or zs k (pos 0))) moved (reach (suc k) (omega arith))),
+    )
 
 -- the split that a thought leads to is one node, which shows what it is to
 record IsSplitBy (cutting : Bool) (I : Problem) (c : ℤ) (x : Placement) (decided : SearchTree) : Type 0 where
@@ -86,11 +86,11 @@ branch_split true I c x t b placed thought h =
         less,
         h.0,
         inr (record {
-              pair = d;
-              has = refl;
-              duals = record { rows = thought.duals.rows; columns = thought.duals.columns; u_range = thought.duals.u_range; v_range = thought.duals.v_range };
-              fits = record { matrix = thought.matrix; square = thought.square; reduced = thought.reduced; fits = thought.fits };
-            }),
+          pair = d;
+          has = refl;
+          duals = record { rows = thought.duals.rows; columns = thought.duals.columns; u_range = thought.duals.u_range; v_range = thought.duals.v_range };
+          fits = record { matrix = thought.matrix; square = thought.square; reduced = thought.reduced; fits = thought.fits };
+        }),
         omega arith,
         children_by-trees I c x s d 0 zs refl (λ k less.
             let at : k ≡ 0 + k = omega arith in

@@ -1,5 +1,6 @@
 -- Trees that are taken from the front of tuples, one after another.
-use Rattle.std.proofs.Common.{◌≡◌, ◌≢◌, ℕ, zero, suc, ◌+◌, ◌<◌, ◌≤◌, List, [], ◌∷◌, ◌++◌, length, get_or, ℤ, pos, refl, sym, ap, subst, ◌∙◌, arith, append_assoc}
+use Rattle.std.proofs.Common.{◌≡◌, ◌≢◌, ℕ, zero, suc, ◌+◌, ◌<◌, ◌≤◌, List, [], ◌∷◌, ◌++◌, length, reverse, get_or, ℤ, pos, refl, sym, ap, subst, ◌∙◌, arith, append_assoc}
+use Rattle.std.proofs.lemmas.List.{reverse-append}
 use Rattle.qap_cost.specs.Placement.{Placement, IsPlacement, IsFreeFacility, free_locations, placing}
 use Rattle.qap_cert.specs.Code.{joined}
 use Rattle.qap_cert.specs.Shape.{child_count}
@@ -8,14 +9,18 @@ use Rattle.qap_cert.specs.declared.tree.Tree.{Tree}
 use Rattle.qap_proof.specs.Tree.{Place, whole, child, child_of, node_at}
 use Rattle.qap_proof.specs.declared.side.Side.TheVariants.{Facility}
 use Rattle.tuple_match.specs.FieldValue.{FieldValue}
-use Rattle.qap_search.specs.TreeBuilding.{AnyDuals, BeginWith, BeginWithNone}
-use Rattle.qap_search.specs.DecidedTuples.{split_of}
+use Rattle.qap_search.specs.TreeBuilding.{AnyDuals, BeginWith, BeginWithNone, ahead}
+use Rattle.qap_search.specs.DecidedTuples.{decision_tuple, split_of}
+use Rattle.qap_search.specs.Pieces.{decided_tuples}
+use Rattle.qap_search.specs.declared.tuples.parsing.DecidedNode.{DecidedNode}
+use Rattle.qap_search.specs.declared.tuples.parsing.Decision.{Decision}
+use Rattle.qap_search.specs.declared.tuples.parsing.Decision.TheVariants.{Split as SplitOn, Closed}
 use Rattle.qap_search.specs.Piece.{node_list, pieces, pieces_of_all, split_tuple}
 use Rattle.qap_search.specs.SearchTree.{IsTree, AreTrees, plain, on_facility, searched, searched_all}
 use Rattle.qap_search.proofs.Certificates.{free_depth, free_location_count, tree_count-searched}
 use Rattle.qap_search.proofs.OneTree.{closed_tag, first_tuple, later_tuples, one_tree}
 use Rattle.qap_search.proofs.Replacing.{split_tag}
-use Rattle.qap_search.proofs.TupleReadings.{natural, number_at, tag}
+use Rattle.qap_search.proofs.TupleReadings.{list_at, natural, number_at, tag}
 
 pub nodes_of-push : (xs : List Tree) (t : Tree) → nodes_of (xs ++ t ∷ []) ≡ joined (nodes_of xs) (node (node_of t) no_nodes)
 nodes_of-push [] t = refl
@@ -28,6 +33,10 @@ joined-more (node t rest) s us = ap (node t) (joined-more rest s us)
 joined-none : (ts : Nodes) → joined ts no_nodes ≡ ts
 joined-none no_nodes = refl
 joined-none (node t rest) = ap (node t) (joined-none rest)
+
+list_of_decision : (list : List ℤ) (d : Decision) → list_at 1 (decision_tuple list d) ≡ list
+list_of_decision list (SplitOn f) = refl
+list_of_decision list (Closed u v) = refl
 
 count-joined : (ts : Nodes) (s : Node) → child_count (joined ts (node s no_nodes)) ≡ child_count ts + 1
 count-joined no_nodes s = refl
@@ -43,9 +52,9 @@ alone (bound u v) p h = h
 alone (split f children) p h = h
 
 -- the tuples go on with those of these children of x, from number i on, and with the rest
-record GoOn (x : Placement) (f i : ℕ) (us : Nodes) (tuples rest : List (List FieldValue)) : Type 0 where
-  trees : AreTrees (plain AnyDuals) x (on_facility f) i (searched_all us)
-  is : tuples ≡ pieces_of_all x (on_facility f) i (searched_all us) ++ rest
+pub record GoOn (x : Placement) (f i : ℕ) (us : Nodes) (tuples rest : List (List FieldValue)) : Type 0 where
+  pub trees : AreTrees (plain AnyDuals) x (on_facility f) i (searched_all us)
+  pub is : tuples ≡ pieces_of_all x (on_facility f) i (searched_all us) ++ rest
 
 -- the old tuples begin with these i trees, one for each of the first locations, and go on with the rest: what the rest begins with,
 -- for the other locations, makes what the old ones begin with, and there is no other way
@@ -56,7 +65,7 @@ pub record HaveTaken (x : Placement) (f : ℕ) (old : List (List FieldValue)) (t
   pub only : (us : Nodes) (r : List (List FieldValue)) → GoOn x f 0 us old r → i ≤ child_count us → (vs : Nodes) × GoOn x f i vs rest r × (i + child_count vs ≡ child_count us)
 
 pub HaveTaken-none : (x : Placement) (f : ℕ) (old : List (List FieldValue)) → HaveTaken x f old no_nodes 0 old
-HaveTaken-none x f old = record { counted = refl; within = omega arith; whole = λ us r h. h; only = λ us r h long. (us, h, refl) }
+HaveTaken-none x f old = record { counted = refl; within = omega arith; whole = λ us r h. h; only = λ us r h long. (us, h, omega arith) }
 
 -- a first child and others
 record IsFirst (x : Placement) (f i : ℕ) (vs : Nodes) (rest r : List (List FieldValue)) : Type 0 where
@@ -102,6 +111,20 @@ HaveTaken-more x f old ts i rest behind s h less b =
           let one = one_tree s first.child (whole at) behind (pieces_of_all x on (i + 1) (searched_all first.others) ++ r) b.tree first.begins.tree (sym b.is ∙ first.begins.is) in
           (first.others, record { trees = first.trees; is = one.1 }, omega arith);
     }
+
+-- where no node is left, there is no tree
+pub none_at_end : (x : Placement) (nodes : List DecidedNode) → nodes ≡ [] → BeginWithNone x (ahead nodes)
+none_at_end x nodes is (bound u v) r b = let long : 0 ≡ length (pieces x (searched (bound u v)) ++ r) = ap length (sym (ap ahead is) ∙ b.is) in absurd (omega arith)
+none_at_end x nodes is (split f ss) r b = let long : 0 ≡ length (pieces x (searched (split f ss)) ++ r) = ap length (sym (ap ahead is) ∙ b.is) in absurd (omega arith)
+
+-- the list of the node that is taken next
+next_list : (old new : List DecidedNode) (d : DecidedNode) → old ≡ new ++ d ∷ [] → list_at 1 (first_tuple (ahead old)) ≡ d.node.items
+next_list old new d is = ap (λ (nodes : List DecidedNode). list_at 1 (first_tuple (decided_tuples nodes))) (ap reverse is ∙ reverse-append new (d ∷ [])) ∙ list_of_decision d.node.items d.decision
+
+-- nor is there one where that is another node's
+pub none_other_node : (x : Placement) (old new : List DecidedNode) (d : DecidedNode) → old ≡ new ++ d ∷ [] → d.node.items ≢ node_list x → BeginWithNone x (ahead old)
+none_other_node x old new d is other (bound u v) r b = other (sym (next_list old new d is) ∙ ap (λ (l : List (List FieldValue)). list_at 1 (first_tuple l)) b.is)
+none_other_node x old new d is other (split f ss) r b = other (sym (next_list old new d is) ∙ ap (λ (l : List (List FieldValue)). list_at 1 (first_tuple l)) b.is)
 
 -- where no facility is free of which the split could be, there is no tree
 pub none_split : (x : Placement) (number : ℤ) (rest : List (List FieldValue)) → ((f : ℕ) → IsFreeFacility x f → number ≢ pos f) → BeginWithNone x (split_of (node_list x) number ∷ rest)

@@ -22,8 +22,8 @@ use Rattle.qap_search.specs.declared.node.thought.Thought.{Thought}
 pub record AreReached (I : Problem) (x : Placement) (d : Pair) (side : Side) (number : ℕ) (reached : List ℤ) : Type 0 where
   pub one_each : length reached ≡ free_count x
   pub are :
-    (c : ℕ) → c < length reached →
-    Reaches I x d (facility_on side x number c) (location_on side x number c) (slice_index_or reached c (pos 0))
+      (c : ℕ) → c < length reached →
+      Reaches I x d (facility_on side x number c) (location_on side x number c) (slice_index_or reached c (pos 0))
 
 -- what a node is to be split on, and what its duals come to at each child, where children may be cut off by that
 pub record BranchValue : Type 0 where

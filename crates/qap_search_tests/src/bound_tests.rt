@@ -231,7 +231,14 @@ where
 {
     let least = least_below(alloc, instance, depth)?;
     let first = cost_in_order(alloc, instance)?;
-    let (cost, bound, open_nodes) = free_search(rt, alloc, instance, depth, branching, Some(limit))?;
+    let (cost, bound, open_nodes) = free_search(
+        rt,
+        alloc,
+        instance,
+        depth,
+        branching,
+        Some(limit),
+    )?;
     assert!(rt; bound <= least && bound <= cost && least.min(first) <= cost && cost <= first);
     assert!(rt; open_nodes > 0 || bound == cost);
     assert!(rt; limit > 0 || (cost, open_nodes) == (first, 1));

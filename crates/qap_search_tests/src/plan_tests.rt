@@ -101,7 +101,10 @@ where
         branching: Branching::Cutting,
     };
     let answer = solve_least_from(rt, alloc, instance, &plan, &Stopped, &Always, &Never, &Nobody)?;
-    assert_eq!(rt; (answer.cost, answer.bound, answer.open_nodes), (least, least, 0));
+    assert_eq!(rt;
+        (answer.cost, answer.bound, answer.open_nodes),
+        (least, least, 0)
+    );
     Ok(())
 }
 

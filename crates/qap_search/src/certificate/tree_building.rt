@@ -103,6 +103,7 @@ fn take_children(
 }
 
 /// Takes what was decided at the root from the end of the nodes.
+#[tactic(auto, using(crate::proofs::Taking::none_at_end))]
 fn decision_at_root(nodes: &mut Vec<DecidedNode>) -> Option<Decision>
     ensures { MatchOption result
         ((n : ℕ) → BeginWithNone (root_of n) (ahead nodes.old.items))
@@ -117,6 +118,7 @@ fn decision_at_root(nodes: &mut Vec<DecidedNode>) -> Option<Decision>
 }
 
 /// Takes what was decided at the node that puts the facility at the location too.
+#[tactic(auto, using(crate::proofs::Taking::none_at_end))]
 fn decision_at_child(
     parent: &Partial,
     facility: u16,

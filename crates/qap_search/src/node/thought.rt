@@ -78,14 +78,7 @@ impl Thought {
         let gap = best.map(|best| best.saturating_sub(value));
         let duals = Duals { u, v };
         let branch = branch_of(
-            alloc,
-            branching,
-            instance,
-            node,
-            matrix,
-            &matching,
-            &duals,
-            gap,
+            alloc, branching, instance, node, matrix, &matching, &duals, gap,
         )?;
         let Duals { u, v } = duals;
         Ok(Thought {

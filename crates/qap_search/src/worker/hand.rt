@@ -58,7 +58,13 @@ impl Hand {
         ensures accepted { IfOk result (λ hand. hand.accepted ≡ 0) }
         ensures value { IfOk result (λ hand. hand ≡ new_hand false (arc_value instance) lease_ms) }
     {
-        Hand::by(alloc, Branching::GreatestMatched, worker, instance, lease_ms)
+        Hand::by(
+            alloc,
+            Branching::GreatestMatched,
+            worker,
+            instance,
+            lease_ms,
+        )
     }
 
     /// Such a worker, which splits nodes by this rule.

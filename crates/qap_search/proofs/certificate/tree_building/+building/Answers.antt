@@ -1,4 +1,6 @@
-use Rattle.std.proofs.Common.{◌≡◌, ◌+◌, ◌-◌, ◌*◌, ◌<◌, ◌≤◌, ◌∷◌, ◌++◌, [], ℕ, List, length, get_or, ap, sym, ◌∙◌, subst, refl, inl, inr, ⊎_elim, arith, rules, length-append}
+use Rattle.std.proofs.Common.{◌≡◌, ◌+◌, ◌-◌, ◌*◌, ◌<◌, ◌≤◌, ◌∷◌, ◌++◌, [], ℕ, List, length, get_or, ap, sym, ◌∙◌, subst, refl, inl, inr, ⊎_elim, arith, rules, length-append, to_z, of_z}
+use Rattle.std.specs.Int.{w128}
+use Rattle.std.proofs.lemmas.Int.{to_z-of_z}
 use Rattle.std.proofs.lemmas.Result.{err_from_is_err_and}
 use Rattle.qap_cost.proofs.Placements.{IsPlacement-depth}
 use Rattle.qap_cost.specs.Placement.{Placement, free_locations, placing}
@@ -6,7 +8,7 @@ use Rattle.qap_cert.specs.Tree.{Nodes, nodes_of, node_of}
 use Rattle.qap_cert.specs.declared.tree.Tree.TheViews.{Split}
 use Rattle.qap_cert.proofs.Trees.{node_of-Split}
 use Rattle.qap_search.specs.TreeBuilding.{BeginWith, BeginWithNone, ahead}
-use Rattle.qap_search.proofs.Taking.{HaveTaken, HaveTaken-all, HaveTaken-fault, HaveTaken-more, get_or-any, nodes_of-push}
+use Rattle.qap_search.proofs.Taking.{HaveTaken, HaveTaken-all, HaveTaken-fault, HaveTaken-more, get_or-any, nodes_of-push, none_split}
 use Rattle.qap_search.proofs.certificate.tree_building.+building.Goals as goal
 
 pub take_child-take_split-requires : goal.take_child-take_split-requires
@@ -65,3 +67,8 @@ take_children-returns t c =
     (HaveTaken-all x f (ahead c.args.nodes.now.items) (nodes_of c.loop-i.children.items) c.loop-i.i (ahead c.loop-i.nodes.items)
     c.free_locations.ensures.placement c.requires c.loop-i.invariant
     (subst (λ (l : List ℕ). length l ≤ c.loop-i.i) c.in_ok-locations.ensures.value (let test = c.loop-i-test.false in let end = c.loop-i.auto.i-end in let count = c.len-i-end.ensures in let long = c.in_ok-locations.locations.ok.0 in omega arith)))
+
+pub take_split-returns-in_default : goal.take_split-returns-in_default
+take_split-returns-in_default t c =
+    let number : to_z w128 (of_z w128 c.args.number) ≡ c.args.number = to_z-of_z w128 c.args.number c.ranges.number in
+    inr (refl, none_split c.args.node.now c.args.number (ahead c.args.nodes.now.items) (λ f free same. c.in_default.ensures {u = tt} f free (number ∙ same)))

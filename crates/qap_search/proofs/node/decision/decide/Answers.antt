@@ -1,7 +1,9 @@
-use Rattle.std.proofs.Common.{◌≡◌, ◌≤ℤ◌, ◌<ℤ◌, ◌∷◌, [], ap, ap₂, ◌∙◌, arith, rules, to_z, of_z}
+use Rattle.std.proofs.Common.{◌≡◌, ℤ, subst, ◌≤ℤ◌, ◌<ℤ◌, ◌∷◌, [], ap, ap₂, ◌∙◌, arith, rules, to_z, of_z}
 use Rattle.std.specs.Int.{w128}
 use Rattle.std.proofs.lemmas.Int.{ints, to_z-of_z}
-use Rattle.qap_search.specs.Piece.{closed_tuple}
+use Rattle.qap_search.specs.Decision.{split_by}
+use Rattle.qap_search.specs.Piece.{closed_tuple, pieces}
+use Rattle.qap_search.specs.Thought.{branch_value, thought_on}
 use Rattle.qap_search.proofs.Deciding.{decides_closed, decides_split}
 use Rattle.qap_search.proofs.node.decision.decide.Goals as goal
 
@@ -20,5 +22,8 @@ returns c = λ cutting I h.
     let t = c.args.thought.now in
     let below : t.value <ℤ c.args.best = omega (arith, ints, c.ranges.best, c.if-thought-best.false) in
     let same : to_z w128 (of_z w128 c.args.best) ≡ c.args.best = to_z-of_z w128 c.args.best c.ranges.best in
-    decides_split cutting I c.args.best c.args.node.now t c.in-Some.branch c.in_ok-branch_tuples.field-0.items c.in_ok-branch_tuples.ensures.placement h below c.in-Some.is
-    (rw same at c.in_ok-branch_tuples.ensures.value)
+    let x = c.args.node.now in
+    let b = c.in-Some.branch in
+    let tuples = c.in_ok-branch_tuples.field-0.items in
+    decides_split cutting I c.args.best x t b tuples c.in_ok-branch_tuples.ensures.placement h below c.in-Some.is
+    (subst (λ (z : ℤ). tuples ≡ pieces x (split_by (thought_on x t) z (branch_value b))) same c.in_ok-branch_tuples.ensures.value)

@@ -1,3 +1,4 @@
+use Rattle.std.proofs.lemmas.Result.{IfOk-weaker}
 use Rattle.qap_search.specs.Hand.{cuts}
 use Rattle.qap_search.specs.Search.{best_with, search_of}
 use Rattle.qap_search.proofs.SearchLaws.{cut_trees_are_law}
@@ -7,3 +8,8 @@ pub search-requires-clause-law : goal.search-requires-clause-law
 search-requires-clause-law g c =
     let I = c.args.instance.now in
     λ κs alive. cut_trees_are_law (search_of (cuts c.args.plan.now.branching) I c.args.plan.now.root.now (best_with I c.args.plan.now.start.now))
+
+pub returns-clause-ran : goal.returns-clause-ran
+returns-clause-ran g c =
+    let opens = c.in_ok-space.ensures (cuts c.args.plan.now.branching) in
+    IfOk-weaker c.search.result _ _ (λ run reached. record { opening = c.in_ok-space.space; opens = opens; place = reached.place; is = reached.is; run = reached.holds }) c.search.ensures.reached
