@@ -71,7 +71,9 @@ where
         start: &start,
         branching: Branching::Cutting,
     };
-    let found = solve_least_from(system, alloc, instance, &plan, clock, &Always, stop, &Nobody)?;
+    let found = solve_least_from(
+        system, alloc, instance, &plan, clock, &Always, stop, &Nobody,
+    )?;
     Ok(planned_by(found))
 }
 

@@ -376,7 +376,9 @@ fn shows_the_open_root_once_while_the_clock_stands(rt: HostRuntime) -> Result<()
         looks: AtomicU64::new(0),
         as_expected: AtomicBool::new(false),
     };
-    solve_least_from(&rt, alloc, &instance, &plan, &Stopped, &watch, &Never, &watch)?;
+    solve_least_from(
+        &rt, alloc, &instance, &plan, &Stopped, &watch, &Never, &watch,
+    )?;
     assert!(rt; watch.as_expected.load(Ordering::SeqCst));
     assert_eq!(rt; watch.looks.load(Ordering::SeqCst), 1);
     Ok(())

@@ -100,7 +100,9 @@ where
         start: &start,
         branching: Branching::Cutting,
     };
-    let answer = solve_least_from(rt, alloc, instance, &plan, &Stopped, &Always, &Never, &Nobody)?;
+    let answer = solve_least_from(
+        rt, alloc, instance, &plan, &Stopped, &Always, &Never, &Nobody,
+    )?;
     assert_eq!(rt;
         (answer.cost, answer.bound, answer.open_nodes),
         (least, least, 0)
