@@ -1,5 +1,5 @@
 -- A search tree without open nodes is that of a certificate, which certifies what the search tree's nodes show.
-use Rattle.std.proofs.Common.{◌≡◌, ℕ, suc, ◌+◌, ◌-◌, ◌*◌, ◌≤◌, ◌<◌, ◌⊎◌, ◌||◌, inl, inr, cond, eqb, List, [], ◌∷◌, ◌++◌, length, drop, get_or, ℤ, Option, None, unsigned_abs, refl, sym, ap, subst, ap₂, ◌∙◌, arith, length-append, mul-le-mul_right}
+use Rattle.std.proofs.Common.{◌≡◌, ℕ, suc, ◌+◌, ◌-◌, ◌*◌, ◌≤◌, ◌<◌, ◌⊎◌, ◌||◌, inl, inr, cond, eqb, List, [], ◌∷◌, ◌++◌, length, drop, get_or, ℤ, Option, unsigned_abs, refl, sym, ap, subst, ap₂, ◌∙◌, arith, length-append, mul-le-mul_right}
 use Rattle.std.specs.List.{sum_by}
 use Rattle.std.proofs.lemmas.Int.{ints, unsigned_abs-mul}
 use Rattle.std.proofs.lemmas.List.Sums.{sum_by-append, sum_by-cons}
@@ -10,7 +10,7 @@ use Rattle.qap_cost.proofs.Placements.{AreDifferent-length, AreDifferent-more, L
 use Rattle.qap_cost.proofs.Sums.{sum_to-bound}
 use Rattle.qap_cost.specs.Instance.{Problem, IsInstance, entry}
 use Rattle.qap_cost.specs.Objective.{Permutes, cost_of, pair_cost, row_cost}
-use Rattle.qap_cost.specs.Placement.{Placement, IsPlacement, IsFreeFacility, free_facilities, free_locations, placing, root_of}
+use Rattle.qap_cost.specs.Placement.{Placement, IsPlacement, IsFreeFacility, free_facilities, free_locations, root_of}
 use Rattle.qap_cost.specs.Range.{IsLimited}
 use Rattle.qap_cert.specs.Certificate.{Claim, Certifies, claim_of}
 use Rattle.qap_cert.specs.Shape.{AllHaveShape, HasShape, child_count}

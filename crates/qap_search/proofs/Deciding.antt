@@ -1,5 +1,5 @@
 -- A node that is decided by a thought, and what may be replaced by it.
-use Rattle.std.proofs.Common.{◌≡◌, ℕ, zero, suc, ◌+◌, ◌<◌, Bool, true, false, List, [], ◌∷◌, ◌++◌, length, get_or, ℤ, pos, ap, ap₂, ◌≤ℤ◌, ◌+ℤ◌, refl, sym, inl, inr, subst, ◌∙◌, arith}
+use Rattle.std.proofs.Common.{◌≡◌, ℕ, zero, suc, ◌+◌, ◌<◌, Bool, true, false, List, [], ◌∷◌, ◌++◌, length, get_or, ℤ, pos, ap, ◌≤ℤ◌, ◌+ℤ◌, refl, sym, inl, inr, subst, arith}
 use Rattle.std.proofs.lemmas.Bool.{cond_both}
 use Rattle.std.proofs.lemmas.Int.{ints}
 use Rattle.std.proofs.lemmas.List.Sums.{sum_by-append, sum_by-cons}
@@ -19,8 +19,8 @@ use Rattle.tuple_match.specs.FieldValue.{FieldValue}
 use Rattle.qap_search.specs.Decision.{Decides, DecidesBeside, DecidesBetter, DecidesBy, children_by, pruned_split, split_by, split_with}
 use Rattle.qap_search.specs.Piece.{best_tuple, closed_tuple, node_tuple, pieces}
 use Rattle.qap_search.specs.Replacement.{Best, IsAsGood, IsOneNode, MayReplace, tuple_of}
-use Rattle.qap_search.specs.SearchTree.{SearchTree, open_node, cut_node, closed_node, SearchTrees, tree_count, tree, Judge, IsTree, AreTrees, AreUndecided, judge_of, plain, proving, open_row, split_open}
-use Rattle.qap_search.specs.Thought.{AreReached, BranchValue, IsBranch, IsThought, ThoughtValue, branch_in, branch_value, candidate_of, thought_on}
+use Rattle.qap_search.specs.SearchTree.{SearchTree, open_node, cut_node, closed_node, tree_count, tree, Judge, IsTree, AreTrees, AreUndecided, judge_of, plain, proving, open_row}
+use Rattle.qap_search.specs.Thought.{BranchValue, IsBranch, IsThought, ThoughtValue, branch_in, branch_value, candidate_of, thought_on}
 use Rattle.qap_search.specs.declared.node.branching.Branch.{Branch}
 use Rattle.qap_search.specs.declared.node.thought.Thought.{Thought}
 use Rattle.qap_search.proofs.Certificates.{free_depth}

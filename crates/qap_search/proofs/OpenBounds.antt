@@ -12,7 +12,7 @@ use Rattle.qap_cost.specs.Instance.{Problem}
 use Rattle.qap_cost.specs.Placement.{Placement, IsPlacement}
 use Rattle.qap_cert.specs.Valid.{Closes}
 use Rattle.qap_proof.proofs.Validity.{Valid-NoneCompletesForLess}
-use Rattle.qap_proof.specs.Tree.{Pair, Split, Node, closed, split, cut, mirrored, Nodes, no_nodes, node, child_count, pair, IsFreeOn, child_of, Place, whole, child, node_at}
+use Rattle.qap_proof.specs.Tree.{Split, Node, closed, split, cut, mirrored, Nodes, no_nodes, node, child_count, pair, IsFreeOn, child_of, Place, whole, child, node_at}
 use Rattle.qap_proof.specs.Valid.{AllValid, MayFit, Valid}
 use Rattle.qap_proof.specs.Valid.{Closes as ClosesPair}
 use Rattle.tuple_match.specs.FieldValue.{FieldValue}

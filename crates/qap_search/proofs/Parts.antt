@@ -10,16 +10,16 @@ use Rattle.qap_cert.specs.Tree.{Node}
 use Rattle.qap_cert.specs.declared.error.CertError.{CertError}
 use Rattle.tuple_match.specs.FieldValue.{FieldValue}
 use Rattle.qap_search.specs.Assembling.{IsAssembleFault, IsNoCertificate, IsTreeFault}
-use Rattle.qap_search.specs.TreeBuilding.{AnyDuals, AreTuplesOf}
+use Rattle.qap_search.specs.TreeBuilding.{AreTuplesOf}
 use Rattle.qap_search.specs.DecidedTuples.{best_of}
 use Rattle.qap_search.specs.Finished.{IsAssembled}
-use Rattle.qap_search.specs.Piece.{node_tuple, split_tuple, closed_tuple, best_tuple, open_count, pieces}
+use Rattle.qap_search.specs.Piece.{best_tuple, open_count, pieces}
 use Rattle.qap_search.specs.SearchTree.{searched}
 use Rattle.qap_search.specs.declared.certificate.error.AssembleError.{AssembleError}
 use Rattle.qap_search.proofs.Assembled.{assembled_tree}
 use Rattle.qap_search.proofs.Finishing.{only_tree}
 use Rattle.qap_search.proofs.Replacing.{weighed, weighs_best}
-use Rattle.qap_search.proofs.TupleReadings.{is_it, is_it-found, is_it-itself, is_it-other, list_at, map_pos-same, number_at}
+use Rattle.qap_search.proofs.TupleReadings.{is_it, is_it-found, is_it-itself, list_at, map_pos-same, number_at}
 
 -- the certificate has this cost, these locations, and a tree of these tuples
 record IsMadeOf (n : ℕ) (cost : ℤ) (locations : List ℤ) (tuples : List (List FieldValue)) (C : Claim) : Type 0 where

@@ -1,5 +1,5 @@
 -- The tuples of a split whose duals cut children off, as they are written one child after another.
-use Rattle.std.proofs.Common.{◌≡◌, ℕ, suc, ◌+◌, ◌<◌, ◌≤◌, Bool, true, false, List, [], ◌∷◌, ◌++◌, length, get_or, take, ℤ, pos, rules, refl, sym, ap, ap₂, subst, ◌∙◌, arith, append_assoc, append-nil, length-take-le}
+use Rattle.std.proofs.Common.{◌≡◌, ℕ, suc, ◌+◌, ◌<◌, ◌≤◌, Bool, true, false, List, [], ◌∷◌, ◌++◌, length, get_or, take, ℤ, pos, rules, refl, sym, ap, ap₂, ◌∙◌, arith, append_assoc, append-nil, length-take-le}
 use Rattle.std.specs.Prelude.{◌<ℤ◌, ◌≤ℤ◌, int_lt, if◌then◌else◌}
 use Rattle.std.proofs.lemmas.Int.{ints}
 use Rattle.std.proofs.lemmas.List.{take_all, take_more}
@@ -12,7 +12,7 @@ use Rattle.tuple_match.specs.FieldValue.{FieldValue, IsField, word}
 use Rattle.tuple_match.specs.Tuple.{IsTuple}
 use Rattle.qap_search.specs.Decision.{child_by, children_by}
 use Rattle.qap_search.specs.Piece.{cut_number, cut_numbers, node_tuple, pieces, pieces_of_all, side_word}
-use Rattle.qap_search.specs.SearchTree.{SearchTree, open_node, cut_node, tree}
+use Rattle.qap_search.specs.SearchTree.{SearchTree, open_node, cut_node}
 
 less_true : (z c : ℤ) → z <ℤ c → int_lt z c ≡ true
 less_true z c less = by (int_lt z c) refl

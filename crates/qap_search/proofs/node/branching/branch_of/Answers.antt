@@ -1,4 +1,4 @@
-use Rattle.std.proofs.Common.{length, arith}
+use Rattle.std.proofs.Common.{arith}
 use Rattle.qap_cost.proofs.Placements.{IsPlacement-depth}
 use Rattle.qap_proof.specs.NodeLine.{pair_of}
 use Rattle.qap_search.proofs.Certificates.{free_facility_count}
