@@ -2,5 +2,13 @@
 #![tactic(auto)]
 
 mod decimal;
+mod error;
+mod names;
+mod records;
+mod rows;
+mod scale;
+mod table;
 
 pub use decimal::{Decimal, MAX_ENTRY, NumberFault, parse_decimal};
+pub use error::{Place, TableError};
+pub use table::{NamedMatrix, read_matrix};
