@@ -1,5 +1,5 @@
 -- Digits, one after another, and the zeros at their end.
-use Rattle.std.proofs.Common.{◌≡◌, ◌≢◌, ℕ, ◌+◌, ◌-◌, ◌*◌, ◌<◌, ◌≤◌, zero, suc, Bool, true, false, Option, Some, None, ℤ, pos, negsuc, unsigned_abs, neg_ℤ, arith, ap₂, List, [], ◌∷◌, ◌++◌, length, map, take, get_or, refl, sym, ap, ◌∙◌, append_assoc}
+use Rattle.std.proofs.Common.{◌≡◌, ◌≢◌, ℕ, ◌+◌, ◌-◌, ◌*◌, ◌<◌, zero, suc, Bool, true, false, Option, Some, None, pos, unsigned_abs, neg_ℤ, arith, ap₂, List, [], ◌∷◌, ◌++◌, length, map, take, get_or, refl, sym, ap, ◌∙◌, append_assoc}
 use Rattle.std.specs.Prelude.{if◌then◌else◌, ◌==◌, min}
 use Rattle.std.specs.Option.{option_map}
 use Rattle.std.specs.Int.Digits.{number_from_digits}
@@ -7,11 +7,10 @@ use Rattle.std.proofs.lemmas.Bool.{ne_eqb}
 use Rattle.std.proofs.lemmas.List.{map-append, take_more}
 use Rattle.std.proofs.lemmas.Int.Digits.{number_push}
 use Rattle.plan_table.specs.Decimal.{before_kept, held_magnitude, held_unsigned, magnitude_of, max_entry, unsigned, with_sign, without_zeros, IsNumberFault}
-use Rattle.plan_table.specs.declared.decimal.Decimal.{Decimal}
 use Rattle.plan_table.specs.declared.decimal.Unsigned.{Unsigned}
 use Rattle.plan_table.specs.declared.decimal.NumberFault.TheVariants.{TooLarge}
 
-magnitude_of-push : (front : List ℕ) (digit : ℕ) → magnitude_of (front ++ digit ∷ []) ≡ magnitude_of front * 10 + (digit - 48)
+pub magnitude_of-push : (front : List ℕ) (digit : ℕ) → magnitude_of (front ++ digit ∷ []) ≡ magnitude_of front * 10 + (digit - 48)
 magnitude_of-push front digit =
     ap (number_from_digits 10) (map-append (λ b. b - 48) front (digit ∷ [])) ∙ number_push 10 (map (λ b. b - 48) front) (digit - 48)
 
@@ -42,7 +41,7 @@ held-made whole fraction m p u is magnitude places =
     is ∙ ap₂ both magnitude places
 
 -- a sign doesn't change how far a number is from zero
-unsigned_abs-with_sign : (negative : Bool) (u : Unsigned) → unsigned_abs (with_sign negative u).number ≡ u.magnitude
+pub unsigned_abs-with_sign : (negative : Bool) (u : Unsigned) → unsigned_abs (with_sign negative u).number ≡ u.magnitude
 unsigned_abs-with_sign false u = refl
 unsigned_abs-with_sign true u = unsigned_abs-neg u.magnitude
   where

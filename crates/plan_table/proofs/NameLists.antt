@@ -1,10 +1,10 @@
 -- Lists of names, one more at the end.
-use Rattle.std.proofs.Common.{◌≡◌, ◌≢◌, ℕ, ◌+◌, ◌<◌, ◌≤◌, List, [], ◌∷◌, ◌++◌, length, map, take, get_or, Some, sym, ap, ◌∙◌, subst, inl, inr, arith, length-append}
+use Rattle.std.proofs.Common.{◌≡◌, ℕ, ◌+◌, ◌<◌, List, [], ◌∷◌, ◌++◌, length, map, take, Some, sym, ap, ◌∙◌, subst, inl, inr, arith, length-append}
 use Rattle.std.proofs.lemmas.Bool.{cases_lt}
 use Rattle.std.proofs.lemmas.List.{get_or_at, get_or_append_left, map-append}
 use Rattle.csv.specs.Records.{field_at}
 use Rattle.plan_table.proofs.Fields.{take_field}
-use Rattle.plan_table.specs.Names.{AreDifferent, HasName, IsNew}
+use Rattle.plan_table.specs.Names.{AreDifferent, IsNew}
 
 pub AreDifferent-none : AreDifferent []
 AreDifferent-none = record {

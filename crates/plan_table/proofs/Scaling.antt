@@ -1,10 +1,12 @@
 -- Numbers times powers of ten, and the least power that makes numbers whole.
-use Rattle.std.proofs.Common.{◌≡◌, ℕ, ◌+◌, ◌-◌, ◌*◌, ◌^◌, ◌<◌, ◌≤◌, All, List, [], ◌∷◌, ◌++◌, length, map, take, get_or, Some, ℤ, pos, negsuc, neg_ℤ, zero, suc, ◌*ℤ◌, unsigned_abs, refl, sym, ap, subst, ◌∙◌, arith, add-one}
+use Rattle.std.proofs.Common.{◌≡◌, ℕ, ◌+◌, ◌-◌, ◌*◌, ◌^◌, ◌<◌, ◌≤◌, List, [], ◌∷◌, ◌++◌, length, map, take, get_or, Some, ℤ, pos, negsuc, neg_ℤ, zero, suc, ◌*ℤ◌, unsigned_abs, refl, sym, ap, subst, ◌∙◌, arith, add-one}
 use Rattle.std.proofs.Math.Nat.{mul-le-mul_left, pow-le-pow_right, pow-suc}
 use Rattle.std.proofs.lemmas.Int.{ints, unsigned_abs-mul}
+use Rattle.std.proofs.lemmas.Nat.{pow-add}
 use Rattle.std.proofs.lemmas.List.{map_more, take_more}
 use Rattle.std.proofs.lemmas.List.Elements.{All-pop, All-push, All-weaker}
 use Rattle.plan_table.specs.Decimal.{max_entry}
+use Rattle.plan_table.specs.Least.{IsWholeAt}
 use Rattle.plan_table.specs.Scale.{scaled, shifted, AreScaled, IsLeastScale}
 use Rattle.plan_table.specs.declared.decimal.Decimal.{Decimal}
 
@@ -26,6 +28,15 @@ times_assoc (negsuc n) a b =
 pub shifted-more : (number value : ℤ) (i : ℕ) → value ≡ shifted number i → value *ℤ pos 10 ≡ shifted number (i + 1)
 shifted-more number value i is =
     ap (λ z. z *ℤ pos 10) is ∙ times_assoc number (10 ^ i) 10 ∙ ap (λ k. number *ℤ pos k) (sym (power_more i))
+
+-- a scaled number is its decimal number times the power of ten
+pub scaled-whole : (d : Decimal) (power : ℕ) → d.places ≤ power → IsWholeAt d power (scaled power d)
+scaled-whole d power enough =
+    let left = power - d.places in
+    let sum : power ≡ left + d.places = omega arith in
+    ap (λ k. d.number *ℤ pos (10 ^ k)) sum
+    ∙ ap (λ k. d.number *ℤ pos k) (pow-add 10 left d.places)
+    ∙ sym (times_assoc d.number (10 ^ left) (10 ^ d.places))
 
 -- a number that is too far from zero is so at each larger power
 pub far_stays : (number value : ℤ) (i power : ℕ) → i ≤ power → value ≡ shifted number i → max_entry < unsigned_abs value → max_entry < unsigned_abs (shifted number power)

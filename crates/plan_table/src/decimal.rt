@@ -1,8 +1,11 @@
 //! The decimal numbers that the cells of a table spell.
 
-ghost use Rattle.std.specs.Prelude.{◌≡◌, ◌≤◌, ◌+◌, ◌++◌, ◌<◌, ℕ, List, length, position, unsigned_abs, IfSome, MatchResult, Some};
+ghost use Rattle.std.specs.Prelude.{◌≡◌, ◌≤◌, ◌+◌, ◌++◌, ◌<◌, ℕ, ℤ, List, length, position, unsigned_abs, IfSome, MatchResult, Some};
 ghost use Rattle.std.specs.Option.{option_map};
 ghost use Rattle.std.specs.List.{list_all};
+ghost use Rattle.plan_table.specs.Least.{IsWholeAt};
+ghost use Rattle.plan_table.specs.Scale.{scaled};
+ghost use Rattle.plan_table.specs.declared.decimal.Decimal.{Decimal};
 ghost use Rattle.plan_table.specs.Decimal.{are_digits as digits_of, decimal_of, held_magnitude, held_unsigned, is_digit as digit_of, is_point, max_entry, pointed as pointed_of, signed_of, unsigned, unsigned_of, whole as whole_of, without_zeros as zeros_cut, IsNumberFault};
 
 /// The largest entry of an instance: each entry lies between its negative and it.
@@ -47,6 +50,12 @@ pub fn parse_decimal(word: &[u8]) -> Result<Decimal, NumberFault>
         _ => signed(false, word),
     }
 }
+
+/// A number that a word spells is whole at no power of ten below its places, and at each other is the entry of that scale.
+pub fn decimal_law()
+    ensures least { (word : List ℕ) (d : Decimal) (power : ℕ) (z : ℤ) → decimal_of word ≡ Some d → IsWholeAt d power z → d.places ≤ power }
+    ensures whole { (d : Decimal) (power : ℕ) → d.places ≤ power → IsWholeAt d power (scaled power d) }
+{}
 
 /// The number that a word without a sign spells, with a sign.
 fn signed(negative: bool, word: &[u8]) -> Result<Decimal, NumberFault>

@@ -9,6 +9,6 @@ mod rows;
 mod scale;
 mod table;
 
-pub use decimal::{Decimal, MAX_ENTRY, NumberFault, parse_decimal};
+pub use decimal::{Decimal, MAX_ENTRY, NumberFault, decimal_law, parse_decimal};
 pub use error::{Place, TableError};
 pub use table::{NamedMatrix, read_matrix};

@@ -3,7 +3,6 @@ use Rattle.std.specs.String.{string_bytes}
 use Rattle.std.proofs.lemmas.List.{take_more}
 use Rattle.csv.specs.Records.{fields_of}
 use Rattle.csv.proofs.RecordFacts.{field-there}
-use Rattle.plan_table.specs.Names.{IsNew}
 use Rattle.plan_table.proofs.NameLists.{AreDifferent-none, names_more}
 use Rattle.plan_table.proofs.names.read_names.Goals as goal
 

@@ -1,4 +1,4 @@
-use Rattle.std.proofs.Common.{◌+◌, ◌∙◌, sym}
+use Rattle.std.proofs.Common.{◌+◌, sym}
 use Rattle.csv.specs.Records.{fields_of}
 use Rattle.plan_table.proofs.Fields.{no_field}
 use Rattle.plan_table.proofs.rows.check_end.Goals as goal

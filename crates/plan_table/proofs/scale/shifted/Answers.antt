@@ -1,4 +1,4 @@
-use Rattle.std.proofs.Common.{◌∙◌, ◌*ℤ◌, ap, arith, pos, to_z, unsigned_abs}
+use Rattle.std.proofs.Common.{◌∙◌, ◌*ℤ◌, ap, arith, pos, to_z}
 use Rattle.std.specs.Int.{w64}
 use Rattle.std.proofs.lemmas.Int.{fits_signed_mul, to_z-of_z}
 use Rattle.plan_table.specs.Scale.{shifted}
