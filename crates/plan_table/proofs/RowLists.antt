@@ -1,6 +1,7 @@
 -- Rows of a table, cell by cell and row by row.
-use Rattle.std.proofs.Common.{◌≡◌, ℕ, ◌+◌, ◌<◌, ◌≤◌, List, [], ◌∷◌, ◌++◌, length, map, take, get_or, Some, refl, sym, ap, ap₂, ◌∙◌, arith, append_assoc, length-append}
-use Rattle.std.proofs.lemmas.List.{append-nil, map-append, map_more, take_all}
+use Rattle.std.proofs.Common.{◌≡◌, ℕ, suc, ◌+◌, ◌*◌, ◌/◌, ◌<◌, ◌≤◌, List, [], ◌∷◌, ◌++◌, length, map, take, get_or, Option, Some, refl, sym, ap, ap₂, ◌∙◌, arith, append_assoc, length-append}
+use Rattle.std.proofs.lemmas.List.{append-nil, map-append, map_more, take_all, length-map}
+use Rattle.std.proofs.lemmas.Nat.{div_below}
 use Rattle.csv.specs.Records.{field_at}
 use Rattle.plan_table.specs.Decimal.{decimal_of}
 use Rattle.plan_table.specs.Table.{AreRows, IsRow}
@@ -73,3 +74,25 @@ AreRows-more count f g names rows i name r decimals row newer named there is_nam
     let more_names = map_more f names i name named ∙ ap (λ x. map f (take i names) ++ f x ∷ []) (sym is_name) in
     let more_rows = map_more g rows i r there ∙ ap (λ x. map g (take i rows) ++ g x ∷ []) (sym is_row) in
     rw (more_names, more_rows, pushed) (AreRows-push count (map f (take i names)) (map g (take i rows)) decimals row (f name) (g r) read last)
+
+-- there are as many rows as names, and as many numbers as cells
+pub AreRows-counts : (count : ℕ) (names : List (List ℕ)) (rows : List (List (List ℕ))) (decimals : List Decimal) → AreRows count names rows decimals
+    → (length rows ≡ length names) × (length decimals ≡ length names * count)
+AreRows-counts count [] [] decimals none =
+    let no_number : length decimals ≡ 0 = ap (λ (l : List Decimal). length l) none in (refl, omega arith)
+AreRows-counts count [] (r ∷ rs) decimals none = absurd none
+AreRows-counts count (n ∷ ns) [] decimals none = absurd none
+AreRows-counts count (n ∷ ns) (r ∷ rs) decimals rows =
+    let (front, rest, is, first, more) = rows in
+    let (as_many, behind) = AreRows-counts count ns rs rest more in
+    let all : length decimals ≡ length front + length rest = ap (λ (l : List Decimal). length l) is ∙ length-append front rest in
+    let spelled : length front ≡ length first.cells =
+    sym (length-map front Some) ∙ sym (ap (λ (l : List (Option Decimal)). length l) first.spelled) ∙ length-map first.cells decimal_of in
+    let row : length front ≡ count = spelled ∙ first.many in
+    (ap suc as_many, omega arith)
+
+-- the row of a number is there
+pub AreRows-there : (count : ℕ) (names : List (List ℕ)) (rows : List (List (List ℕ))) (decimals : List Decimal) (i : ℕ) → AreRows count names rows decimals → 0 < count → i < length decimals → i / count < length rows
+AreRows-there count names rows decimals i read some below =
+    let (as_many, numbers) = AreRows-counts count names rows decimals read in
+    div_below i count (length rows) some (omega (arith, ap (λ k. k * count) as_many))

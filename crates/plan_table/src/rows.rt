@@ -1,6 +1,6 @@
 //! The rows of a table.
 
-ghost use Rattle.std.specs.Prelude.{◌≡◌, ◌↔◌, ◌<◌, ◌≤◌, ◌+◌, ◌-◌, ◌^◌, ◌++◌, ℕ, List, length, map, IfOk, IsTrue, OnOk, Some};
+ghost use Rattle.std.specs.Prelude.{◌≡◌, ◌↔◌, ◌/◌, ◌<◌, ◌≤◌, ◌+◌, ◌-◌, ◌^◌, ◌++◌, ℕ, List, length, map, IfOk, IsTrue, OnOk, Some};
 ghost use Rattle.std.specs.String.{string_bytes};
 ghost use Rattle.csv.specs.Records.{fields_of, field_at};
 ghost use Rattle.plan_table.specs.Decimal.{decimal_of};
@@ -139,10 +139,9 @@ fn read_cell(alloc: Global, record: &StringRecord, column: usize) -> Result<Deci
 pub fn too_large(alloc: Global, rows: &[StringRecord], columns: usize, i: usize) -> TableError
     requires positive { 0 < columns }
     requires few { columns ≤ max_names }
+    requires there { i / columns < length rows.now }
 {
-    let Some(record) = rows.get(i / columns) else {
-        return TableError::OutOfMemory;
-    };
+    let record = &rows[i / columns];
     let field = i % columns + 1;
     match String::from_str(alloc, record.get(field).unwrap_or("")) {
         Ok(word) => TableError::TooLarge {

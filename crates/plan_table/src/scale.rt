@@ -1,8 +1,8 @@
 //! Decimal numbers made whole by one power of ten.
 
-ghost use Rattle.std.specs.Prelude.{◌≡◌, ◌<◌, ◌≤◌, All, IfOk, MatchOption, unsigned_abs};
+ghost use Rattle.std.specs.Prelude.{◌≡◌, ◌<◌, ◌≤◌, All, MatchOption, MatchResult, unsigned_abs};
 ghost use Rattle.plan_table.specs.Decimal.{max_entry};
-ghost use Rattle.plan_table.specs.Scale.{scaled as scaled_of, shifted as shifted_by, AreScaled, IsLeastScale};
+ghost use Rattle.plan_table.specs.Scale.{scaled as scaled_of, shifted as shifted_by, AreScaled, IsLeastScale, IsScaleFault};
 
 use crate::decimal::{Decimal, MAX_ENTRY};
 use std::alloc::{AllocError, Global};
@@ -34,7 +34,7 @@ pub fn scaled_entries(
     scale: usize,
 ) -> Result<Vec<i64>, ScaleError>
     requires { All (λ d. d.places ≤ scale) decimals.now }
-    ensures { IfOk result (λ v. AreScaled scale decimals.now v.items) }
+    ensures { MatchResult result (λ v. AreScaled scale decimals.now v.items) (IsScaleFault scale decimals.now) }
 {
     let mut entries = Vec::with_capacity(alloc, decimals.len()).map_err(
         |_| ScaleError::OutOfMemory,
