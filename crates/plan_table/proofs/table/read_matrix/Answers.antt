@@ -1,0 +1,21 @@
+use Rattle.std.proofs.Common.{◌≡◌, ◌∙◌, ◌/◌, ◌<◌, List, ℕ, ap, arith, length, map, subst, sym}
+use Rattle.std.specs.String.{string_bytes}
+use Rattle.std.proofs.lemmas.List.{length-map}
+use Rattle.csv.specs.Records.{fields_of}
+use Rattle.plan_table.proofs.RowLists.{AreRows-there}
+use Rattle.plan_table.proofs.table.read_matrix.Goals as goal
+
+pub too_large-requires-clause-there : goal.too_large-requires-clause-there
+too_large-requires-clause-there c =
+    let names = c.deref-2.result.now in
+    let rows = c.in-Some.rows.now in
+    let decimals = c.in_ok-decimals.decimals.items in
+    let i = c.in-Err-TooLarge.i in
+    let same : length names ≡ c.len.result = c.deref-2.ensures.len ∙ sym c.len.ensures in
+    let own_names = length-map c.in_ok-names.names.items string_bytes in
+    let named : 0 < length names = omega (arith, c.in_ok-names.ensures.0.positive, own_names, ap length c.deref-2.ensures.value) in
+    let fault = rw c.in-Err-TooLarge.field-0-is at c.in-Err-TooLarge.ensures in
+    let below : i < length decimals = omega (arith, fault.0, ap length c.deref-4.ensures.value) in
+    let there = AreRows-there (length names) (map string_bytes names) (map fields_of rows) decimals i c.in_ok-decimals.ensures named below in
+    let as_many = length-map rows fields_of in
+    subst (λ (k : ℕ). i / k < length rows) same (omega (arith, there, as_many))

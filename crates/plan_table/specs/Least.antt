@@ -1,0 +1,7 @@
+-- Why a decimal number's places are the least that it can have.
+use Rattle.std.specs.Prelude.{◌≡◌, ℕ, ◌^◌, ℤ, pos, ◌*ℤ◌}
+use Rattle.plan_table.specs.declared.decimal.Decimal.{Decimal}
+
+-- number / 10^places, times 10^power, is the whole number z
+abbrev pub IsWholeAt : Decimal → ℕ → ℤ → Type 0
+IsWholeAt d power z = d.number *ℤ pos (10 ^ power) ≡ z *ℤ pos (10 ^ d.places)

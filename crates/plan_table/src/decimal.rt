@@ -1,0 +1,176 @@
+//! The decimal numbers that the cells of a table spell.
+
+ghost use Rattle.std.specs.Prelude.{◌≡◌, ◌≤◌, ◌+◌, ◌++◌, ◌<◌, ℕ, ℤ, List, length, position, unsigned_abs, IfSome, MatchResult, Some};
+ghost use Rattle.std.specs.Option.{option_map};
+ghost use Rattle.std.specs.List.{list_all};
+ghost use Rattle.plan_table.specs.Least.{IsWholeAt};
+ghost use Rattle.plan_table.specs.Scale.{scaled};
+ghost use Rattle.plan_table.specs.declared.decimal.Decimal.{Decimal};
+ghost use Rattle.plan_table.specs.Decimal.{are_digits as digits_of, decimal_of, held_magnitude, held_unsigned, is_digit as digit_of, is_point, max_entry, pointed as pointed_of, signed_of, unsigned, unsigned_of, whole as whole_of, without_zeros as zeros_cut, IsNumberFault};
+
+/// The largest entry of an instance: each entry lies between its negative and it.
+pub const MAX_ENTRY: u64 = 1_000_000_000;
+
+/// Stands for each number that is larger than an entry may be.
+const BEYOND: u64 = MAX_ENTRY + 1;
+
+/// A decimal number, `number / 10^places`, with as few places as it can have.
+#[derive(Clone, Copy, Debug, PartialEq, Eq)]
+pub struct Decimal {
+    pub number: i64,
+    pub places: usize,
+}
+
+/// A decimal number without its sign.
+#[derive(Clone, Copy)]
+struct Unsigned {
+    magnitude: u64,
+    places: usize,
+}
+
+/// Why a word is no entry, whatever the scale is.
+#[derive(Clone, Copy, Debug, PartialEq, Eq)]
+pub enum NumberFault {
+    /// It spells no decimal number.
+    NotANumber,
+    /// Its digits alone stand for more than 10^9.
+    TooLarge,
+}
+
+/// The decimal number that a word spells: an optional sign, one or more digits, and optionally a point with one or more
+/// digits behind it. Zeros at the end behind a point count for nothing.
+pub fn parse_decimal(word: &[u8]) -> Result<Decimal, NumberFault>
+    ensures { MatchResult result
+        (λ d. (decimal_of word.now ≡ Some d) × (unsigned_abs d.number ≤ max_entry))
+        (IsNumberFault (decimal_of word.now)) }
+{
+    match word.split_first() {
+        Some((b'+', digits)) => signed(false, digits),
+        Some((b'-', digits)) => signed(true, digits),
+        _ => signed(false, word),
+    }
+}
+
+/// A number that a word spells is whole at no power of ten below its places, and at each other is the entry of that scale.
+pub fn decimal_law()
+    ensures least { (word : List ℕ) (d : Decimal) (power : ℕ) (z : ℤ) → decimal_of word ≡ Some d → IsWholeAt d power z → d.places ≤ power }
+    ensures whole { (d : Decimal) (power : ℕ) → d.places ≤ power → IsWholeAt d power (scaled power d) }
+{}
+
+/// The number that a word without a sign spells, with a sign.
+fn signed(negative: bool, word: &[u8]) -> Result<Decimal, NumberFault>
+    ensures { MatchResult result
+        (λ d. (signed_of negative word.now ≡ Some d) × (unsigned_abs d.number ≤ max_entry))
+        (IsNumberFault (signed_of negative word.now)) }
+{
+    let Some(unsigned) = parse_unsigned(word) else {
+        return Err(NumberFault::NotANumber);
+    };
+    if unsigned.magnitude > MAX_ENTRY {
+        return Err(NumberFault::TooLarge);
+    }
+    let magnitude = unsigned.magnitude as i64;
+    Ok(Decimal {
+        number: if negative { -magnitude } else { magnitude },
+        places: unsigned.places,
+    })
+}
+
+/// The number that a word without a sign spells, held to one above 10^9.
+fn parse_unsigned(word: &[u8]) -> Option<Unsigned>
+    ensures { result ≡ option_map held_unsigned (unsigned_of word.now) }
+{
+    match first_point(word) {
+        Some(point) => pointed(&word[..point], &word[point + 1..]),
+        None => whole(word),
+    }
+}
+
+/// The place of the first point of a word.
+fn first_point(word: &[u8]) -> Option<usize>
+    ensures place { result ≡ position is_point word.now }
+    ensures inside { IfSome result (λ i. i < length word.now) }
+{
+    word.iter().position(|byte| *byte == b'.')
+}
+
+/// The number that digits with no point spell.
+fn whole(digits: &[u8]) -> Option<Unsigned>
+    ensures { result ≡ option_map held_unsigned (whole_of digits.now) }
+{
+    if are_digits(digits) {
+        Some(held(digits, &[]))
+    } else {
+        None
+    }
+}
+
+/// The number that the digits before a point and those behind it spell.
+fn pointed(whole: &[u8], fraction: &[u8]) -> Option<Unsigned>
+    ensures { result ≡ option_map held_unsigned (pointed_of whole.now fraction.now) }
+{
+    if are_digits(whole) && are_digits(fraction) {
+        Some(held(whole, without_zeros(fraction)))
+    } else {
+        None
+    }
+}
+
+/// Whether these are one or more digits, and nothing else.
+fn are_digits(text: &[u8]) -> bool
+    ensures { result ≡ digits_of text.now }
+{
+    !text.is_empty() && all_digits(text)
+}
+
+fn all_digits(text: &[u8]) -> bool
+    ensures { result ≡ list_all digit_of text.now }
+{
+    text.iter().all(|byte| is_digit(*byte))
+}
+
+fn is_digit(byte: u8) -> bool
+    ensures { result ≡ digit_of byte }
+{
+    matches!(byte, b'0'..=b'9')
+}
+
+/// Digits without the zeros at their end.
+fn without_zeros(digits: &[u8]) -> &[u8]
+    ensures { result.now ≡ zeros_cut digits.now }
+{
+    let mut kept = digits;
+    while let Some((last, front)) = kept.split_last() {
+        if *last != b'0' {
+            return kept;
+        }
+        kept = front;
+    }
+    kept
+}
+
+/// The number that digits and places stand for, held to one above 10^9.
+fn held(whole: &[u8], fraction: &[u8]) -> Unsigned
+    ensures { result ≡ held_unsigned (unsigned whole.now fraction.now) }
+{
+    let before = followed_by(0, whole);
+    let magnitude = followed_by(before, fraction);
+    Unsigned {
+        magnitude,
+        places: fraction.len(),
+    }
+}
+
+/// What digits stand for that follow digits which stand for `before`, held to one above 10^9.
+fn followed_by(before: u64, digits: &[u8]) -> u64
+    requires { before ≤ max_entry + 1 }
+    ensures held { result ≤ max_entry + 1 }
+    ensures value { (front : List ℕ) → before ≡ held_magnitude front → result ≡ held_magnitude (front ++ digits.now) }
+{
+    let mut magnitude = before;
+    for digit in digits {
+        let value = u64::from(digit.saturating_sub(b'0'));
+        magnitude = BEYOND.min(magnitude * 10 + value);
+    }
+    magnitude
+}

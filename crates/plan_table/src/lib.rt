@@ -1,0 +1,14 @@
+//! Tables of planners, a matrix with names, read exactly.
+#![tactic(auto)]
+
+mod decimal;
+mod error;
+mod names;
+mod records;
+mod rows;
+mod scale;
+mod table;
+
+pub use decimal::{Decimal, MAX_ENTRY, NumberFault, decimal_law, parse_decimal};
+pub use error::{Place, TableError};
+pub use table::{NamedMatrix, read_matrix};

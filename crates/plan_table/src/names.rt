@@ -1,0 +1,76 @@
+//! The names of a table's columns.
+
+ghost use Rattle.std.specs.Prelude.{◌≡◌, ◌∷◌, List, ℕ, length, map, IfOk, IsTrue, ◌↔◌};
+ghost use Rattle.std.specs.String.{string_bytes};
+ghost use Rattle.csv.specs.Records.{fields_of};
+ghost use Rattle.plan_table.specs.Names.{AreNames, HasName, IsNew};
+
+use crate::error::{Place, TableError};
+use crate::records::line_of;
+use csv::StringRecord;
+use std::alloc::Global;
+
+/// The most names that a table may have.
+pub const MAX_NAMES: usize = 256;
+
+/// The names that stand behind the first field of a record.
+pub fn read_names(alloc: Global, head: &StringRecord) -> Result<Vec<String>, TableError>
+    ensures { IfOk result (λ names. AreNames (map string_bytes names.items)
+        × (corner : List ℕ) × (fields_of head.now ≡ corner ∷ map string_bytes names.items)) }
+{
+    if head.len() < 2 {
+        return Err(TableError::NoName {
+            line: line_of(head),
+        });
+    }
+    if head.len() > MAX_NAMES + 1 {
+        return Err(TableError::TooManyNames {
+            line: line_of(head),
+            count: head.len() - 1,
+        });
+    }
+    let mut names = Vec::new(alloc);
+    for column in 1..head.len() {
+        let Some(name) = head.get(column) else {
+            unreachable!()
+        };
+        let place = Place {
+            line: line_of(head),
+            field: column + 1,
+        };
+        let name = new_name(alloc, &names, name, place)?;
+        names.push(name).map_err(|_| TableError::OutOfMemory)?;
+    }
+    Ok(names)
+}
+
+/// A name that is not empty and that none of the others is.
+fn new_name(
+    alloc: Global,
+    others: &[String],
+    name: &str,
+    place: Place,
+) -> Result<String, TableError>
+    ensures { IfOk result (λ own. (string_bytes own ≡ name.now) × IsNew (map string_bytes others.now) name.now) }
+{
+    if name.is_empty() {
+        return Err(TableError::EmptyName { place });
+    }
+    let own = String::from_str(alloc, name)?;
+    if has_name(others, name) {
+        return Err(TableError::NameTwice { place, name: own });
+    }
+    Ok(own)
+}
+
+/// Whether one of the names is this one.
+fn has_name(names: &[String], name: &str) -> bool
+    ensures { IsTrue result ↔ HasName (map string_bytes names.now) name.now }
+{
+    for other in names {
+        if other.as_str() == name {
+            return true;
+        }
+    }
+    false
+}

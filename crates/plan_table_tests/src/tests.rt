@@ -1,0 +1,135 @@
+//! What no clause says: that calls succeed, what worked tables are read as, and how each refusal is told.
+
+use plan_table::{NamedMatrix, read_matrix};
+use std::process::Abort;
+use std::test::Fail;
+
+/// The names with a blank behind each, the scale, and the entries.
+fn assert_read(
+    rt: &impl Abort,
+    matrix: &NamedMatrix,
+    names: &[&str],
+    scale: usize,
+    entries: &[i64],
+) {
+    assert_eq!(rt; matrix.names.len(), names.len());
+    for (name, want) in matrix.names.iter().zip(names) {
+        assert_eq!(rt; name.as_str(), *want);
+    }
+    assert_eq!(rt; matrix.scale, scale);
+    assert_eq!(rt; matrix.entries.as_slice(), entries);
+}
+
+#[test]
+fn reads_a_table(rt: HostRuntime) -> Result<(), Fail> {
+    let names = ["Saw", "Lathe", "Paint"];
+    let entries = [0, 250, 0, 100, 0, 1200, 0, 25, 0];
+    let table = b",Saw,Lathe,Paint\nSaw,0,2.5,0\nLathe,1,0,12\nPaint,0,0.25,0\n";
+    assert_read(&rt, &read_matrix(rt.alloc(), table)?, &names, 2, &entries);
+    let windows =
+        b"\xef\xbb\xbfflow,Saw,\"Lathe\",Paint\r\nSaw,0,\"2.50\",0\r\n\r\nLathe,+1,-0,12.000\r\nPaint,0,0.25,00";
+    assert_read(&rt, &read_matrix(rt.alloc(), windows)?, &names, 2, &entries);
+    Ok(())
+}
+
+#[test]
+fn reads_large_and_small_numbers(rt: HostRuntime) -> Result<(), Fail> {
+    let table = b",\"a, b\",c\n\"a, b\",-1000000000,0.0\nc,999999999.0,-0.000000000000000000000\n";
+    let entries = [-1_000_000_000, 0, 999_999_999, 0];
+    assert_read(
+        &rt,
+        &read_matrix(rt.alloc(), table)?,
+        &["a, b", "c"],
+        0,
+        &entries,
+    );
+    let tiny = b"x,y\ny,-0.00000000000000000000000000000000000123";
+    assert_read(&rt, &read_matrix(rt.alloc(), tiny)?, &["y"], 38, &[-123]);
+    Ok(())
+}
+
+/// A text, and what its refusal says.
+type Refused = (&'static [u8], &'static str);
+
+const REFUSED: [Refused; 17] = [
+    (
+        b"",
+        "the table is empty: begin with a line of an empty field and the names, as `,Saw,Lathe`",
+    ),
+    (
+        b"\r\n\r\n",
+        "the table is empty: begin with a line of an empty field and the names, as `,Saw,Lathe`",
+    ),
+    (
+        b"corner\n",
+        "line 1 has no name: write an empty field and then 1 to 256 names, as `,Saw,Lathe`",
+    ),
+    (
+        b",a,,c",
+        "line 1, field 3 is empty: write a name there, or take the column away",
+    ),
+    (
+        b",a,b,a",
+        "line 1, field 4: the name \"a\" stands twice: give each column a name of its own",
+    ),
+    (
+        b",a,b\na,0,1\n",
+        "the row \"b\" is missing: write a row for each column, in the columns' order",
+    ),
+    (
+        b",a,b\nb,0,1\na,1,0\n",
+        "line 2, field 1: expected the name \"a\" and found \"b\": the rows have the columns' names, in their order",
+    ),
+    (
+        b",a\na,0\nb,0\n",
+        "line 3, field 1: the row \"b\" is one too many: take it away, or add its column",
+    ),
+    (
+        b",a,b\na,0\nb,0,0\n",
+        "line 2, field 3 is missing: write a number for each column",
+    ),
+    (
+        b",a\na,3,5\n",
+        "line 2, field 3: the cell \"5\" is one too many: take it away, or quote a number's comma away",
+    ),
+    (
+        b",a\na,1e3\n",
+        "line 2, field 2: \"1e3\" is no number: write digits and at most one point, as `12` or `-0.25`, with no blanks, exponent or comma",
+    ),
+    (
+        b",a\na,\"3,5\"\n",
+        "line 2, field 2: \"3,5\" is no number: write digits and at most one point, as `12` or `-0.25`, with no blanks, exponent or comma",
+    ),
+    (
+        b",a\na, 1\n",
+        "line 2, field 2: \" 1\" is no number: write digits and at most one point, as `12` or `-0.25`, with no blanks, exponent or comma",
+    ),
+    (
+        b",a\na,\n",
+        "line 2, field 2: \"\" is no number: write digits and at most one point, as `12` or `-0.25`, with no blanks, exponent or comma",
+    ),
+    (
+        b",a,b\na,0,0.1\nb,0,100000001\n",
+        "line 3, field 3: \"100000001\" is too large: times the power of ten that makes all numbers whole it lies outside -10^9 to 10^9; round the numbers or choose a larger unit",
+    ),
+    (
+        b",a\na,-1000000001\n",
+        "line 2, field 2: \"-1000000001\" is too large: times the power of ten that makes all numbers whole it lies outside -10^9 to 10^9; round the numbers or choose a larger unit",
+    ),
+    (
+        b",a\na\xff,0\n",
+        "line 2 is no UTF-8: save the table as \"CSV UTF-8\"",
+    ),
+];
+
+#[test]
+fn tells_what_is_wrong(rt: HostRuntime) -> Result<(), Fail> {
+    for (table, want) in REFUSED {
+        let told = match read_matrix(rt.alloc(), table) {
+            Ok(_) => String::from_str(rt.alloc(), "read")?,
+            Err(error) => format!(in rt.alloc(); "{error}")?,
+        };
+        assert_eq!(rt; told.as_str(), want);
+    }
+    Ok(())
+}
