@@ -1,7 +1,8 @@
 //! Searches that go by a plan, against the listing of all permutations.
 
-ghost use Rattle.std.specs.Prelude.{◌≤◌};
+ghost use Rattle.std.specs.Prelude.{◌≡◌, ◌≤◌, false};
 ghost use Rattle.qap_cost.specs.Objective.{Permutes};
+ghost use Rattle.qap_search.specs.Hand.{cuts};
 
 use crate::examples::{patterned, told};
 use crate::worker_tests::{LEASE_MS, Stopped};
@@ -28,7 +29,8 @@ fn solved<R>(
 ) -> Result<Answer, SolveError>
 where
     R: Threads + Wait + time::Clock + Sync,
-    requires { Permutes instance.now start.now }
+    requires start { Permutes instance.now start.now }
+    requires plain { cuts branching ≡ false }
 {
     let root = Partial::root(alloc, instance.size())?;
     let plan = Plan {
@@ -53,7 +55,8 @@ fn assert_least<R>(
 ) -> Result<(), Fail>
 where
     R: Threads + Wait + time::Clock + Sync + Abort,
-    requires { Permutes instance.now best.now }
+    requires best { Permutes instance.now best.now }
+    requires plain { cuts branching ≡ false }
 {
     let answer = solved(rt, alloc, instance, best, branching, None)?;
     let costs = told(alloc, instance, &answer.certificate)?;
@@ -68,10 +71,15 @@ where
     requires { instance.now.size ≤ 6 }
 {
     let (least, best) = least_by_listing(alloc, instance)?;
-    for branching in [Branching::GreatestMatched, Branching::GreatestSum] {
-        assert_least(rt, alloc, instance, &best, branching, least)?;
-    }
-    Ok(())
+    assert_least(
+        rt,
+        alloc,
+        instance,
+        &best,
+        Branching::GreatestMatched,
+        least,
+    )?;
+    assert_least(rt, alloc, instance, &best, Branching::GreatestSum, least)
 }
 
 #[test]
