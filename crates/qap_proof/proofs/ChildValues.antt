@@ -104,14 +104,17 @@ values_more P xs ys n value long each is here = (
 reads_sum : (z : ℤ) → unsigned_abs z ≤ 10 ^ 27 → to_z w128 (of_z w128 z) ≡ z
 reads_sum z small = to_z-of_z w128 z (fits_signed_from_abs w128 z (omega arith))
 
+pub sum_of_two : (f d : ℤ) → unsigned_abs f ≤ 65536 * 10 ^ 18 → unsigned_abs d ≤ 512 * 10 ^ 24
+    → to_z w128 (of_z w128 (to_z w128 (of_z w128 f) +ℤ to_z w128 (of_z w128 d))) ≡ f +ℤ d
+sum_of_two f d f_small d_small =
+    let f_is = reads_sum f (omega (arith, f_small)) in
+    let d_is = reads_sum d (omega (arith, d_small)) in
+    let two_is = reads_sum (f +ℤ d) (omega (arith, ints, f_small, d_small)) in
+    ap (λ z. to_z w128 (of_z w128 z)) (ap₂ (λ y z. y +ℤ z) f_is d_is) ∙ two_is
+
 pub sum_of_three : (f d m : ℤ) → unsigned_abs f ≤ 65536 * 10 ^ 18 → unsigned_abs d ≤ 512 * 10 ^ 24 → unsigned_abs m ≤ 3 * 10 ^ 24
     → to_z w128 (of_z w128 (to_z w128 (of_z w128 (to_z w128 (of_z w128 f) +ℤ to_z w128 (of_z w128 d))) +ℤ to_z w128 (of_z w128 m))) ≡ f +ℤ d +ℤ m
 sum_of_three f d m f_small d_small m_small =
-    let f_is = reads_sum f (omega (arith, f_small)) in
-    let d_is = reads_sum d (omega (arith, d_small)) in
     let m_is = reads_sum m (omega (arith, m_small)) in
-    let two_is = reads_sum (f +ℤ d) (omega (arith, ints, f_small, d_small)) in
     let three_is = reads_sum (f +ℤ d +ℤ m) (omega (arith, ints, f_small, d_small, m_small)) in
-    ap (λ z. to_z w128 (of_z w128 z))
-    (ap₂ (λ y z. y +ℤ z) (ap (λ z. to_z w128 (of_z w128 z)) (ap₂ (λ y z. y +ℤ z) f_is d_is) ∙ two_is) m_is)
-    ∙ three_is
+    ap (λ z. to_z w128 (of_z w128 z)) (ap₂ (λ y z. y +ℤ z) (sum_of_two f d f_small d_small) m_is) ∙ three_is

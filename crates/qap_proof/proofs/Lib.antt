@@ -2,8 +2,11 @@ pub mod Bounds
 pub mod Checks
 pub mod ChildValues
 pub mod Completions
+pub mod CoverLaws
+pub mod Covers
 pub mod HeadTexts
 pub mod Images
+pub mod LeafLists
 pub mod Memory
 pub mod NodeLines
 pub mod Reaching

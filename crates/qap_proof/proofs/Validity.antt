@@ -20,7 +20,7 @@ use Rattle.qap_proof.specs.declared.side.Side.{Side}
 use Rattle.qap_proof.specs.declared.side.Side.TheVariants.{Facility, Location}
 
 -- no permutation that completes the node costs less
-abbrev Bounded : Problem → ℤ → Placement → Type 0
+abbrev pub Bounded : Problem → ℤ → Placement → Type 0
 Bounded I g x = (p : List ℕ) → Completes x p → g ≤ℤ cost_of I p
 
 -- the place is that of a node of a search
@@ -29,7 +29,7 @@ IsPlace (whole x) = IsPlacement x
 IsPlace (child x s c) = IsPlacement x × IsFreeOn s.side x s.number × (c + length x.facilities < x.size)
 
 -- the children before it are bounded
-abbrev HasEarlier : Problem → ℤ → Place → Type 0
+abbrev pub HasEarlier : Problem → ℤ → Place → Type 0
 HasEarlier I g (whole x) = Unit {0}
 HasEarlier I g (child x s c) = (j : ℕ) → j < c → Bounded I g (child_of x s j)
 
@@ -112,31 +112,71 @@ earlier_more I g x s c earlier here j less =
       | inr past ↦ let same : c ≡ j = omega arith in subst (λ (k : ℕ). Bounded I g (child_of x s k)) same here
     ]
 
+abbrev mutual
+  -- the splits of the tree at this place leave no permutation out, what completes a leaf costs at least g, and a mirrored child is an
+  -- image of an earlier one
+  pub Covered : Problem → ℤ → Place → Node → Type 0
+  Covered I g p (closed d) = Bounded I g (node_at p)
+  Covered I g p (split s children) =
+      IsFreeOn s.side (node_at p) s.number × (child_count children + length (node_at p).facilities ≡ (node_at p).size) × AllCovered I g (node_at p) s 0 children
+  Covered I g (whole x) cut = ⊥
+  Covered I g (child x s c) cut = Bounded I g (child_of x s c)
+  Covered I g (whole x) (mirrored j m) = ⊥
+  Covered I g (child x s c) (mirrored j m) = (j < c) × TakesOn s.side I x j c m
+
+  pub AllCovered : Problem → ℤ → Placement → Split → ℕ → Nodes → Type 0
+  AllCovered I g x s c no_nodes = Unit {0}
+  AllCovered I g x s c (node t rest) = Covered I g (child x s c) t × AllCovered I g x s (c + 1) rest
+
 mutual
-  pub valid_bounds : (t : Node) (I : Problem) (g : ℤ) (p : Place) → IsPlace p → I.size ≡ (node_at p).size → HasEarlier I g p → Valid I g p t → Bounded I g (node_at p)
-  valid_bounds (closed d) I g p place same earlier h q done =
-      let x = node_at p in
-      let least : (fixed_cost_of I x +ℤ dual_value d.u d.v) ≤ℤ cost_of I q = fixed_and_duals-le I x h.fits.matrix d.u d.v q (node_placement p place) same h.fits.reduced h.fits.fits done in
-      let enough : g ≤ℤ (fixed_cost_of I x +ℤ dual_value d.u d.v) = h.enough in
-      omega (arith, ints)
-  valid_bounds (split s children) I g p place same earlier h q done =
+  -- then what completes the node costs at least g
+  pub covered_bounds : (t : Node) (I : Problem) (g : ℤ) (p : Place) → IsPlace p → I.size ≡ (node_at p).size → HasEarlier I g p → Covered I g p t → Bounded I g (node_at p)
+  covered_bounds (closed d) I g p place same earlier h q done = h q done
+  covered_bounds (split s children) I g p place same earlier h q done =
       let x = node_at p in
       let placement = node_placement p place in
       let found = child_found s.side x s.number q placement h.0 done in
-      all_valid_bounds children I g x s 0 placement same h.0 (omega (arith, h.2)) (λ j less. absurd (omega arith)) h.3 found.0 (omega (arith, found.1, h.2)) q found.2
-  valid_bounds cut I g (whole x) place same earlier h q done = absurd h
-  valid_bounds cut I g (child x s c) place same earlier h q done = cut_bounded I g x s c place.0 same h q done
-  valid_bounds (mirrored j m) I g (whole x) place same earlier h q done = absurd h
-  valid_bounds (mirrored j m) I g (child x s c) place same earlier h q done =
+      all_covered_bounds children I g x s 0 placement same h.0 (omega (arith, h.1)) (λ j less. absurd (omega arith)) h.2 found.0 (omega (arith, found.1, h.1)) q found.2
+  covered_bounds cut I g (whole x) place same earlier h q done = absurd h
+  covered_bounds cut I g (child x s c) place same earlier h q done = h q done
+  covered_bounds (mirrored j m) I g (whole x) place same earlier h q done = absurd h
+  covered_bounds (mirrored j m) I g (child x s c) place same earlier h q done =
       image_bounded s.side I g x s.number j c m place.0 same place.1 place.2 h.0 h.1 (earlier j h.0) q done
 
   -- where those before number c are bounded, all are
-  pub all_valid_bounds : (ts : Nodes) (I : Problem) (g : ℤ) (x : Placement) (s : Split) (c : ℕ) → IsPlacement x → I.size ≡ x.size → IsFreeOn s.side x s.number → c + child_count ts + length x.facilities ≡ x.size
-      → HasEarlier I g (child x s c) → AllValid I g x s c ts → (j : ℕ) → j < c + child_count ts → Bounded I g (child_of x s j)
-  all_valid_bounds no_nodes I g x s c placement same free count earlier h j less = earlier j (omega arith)
-  all_valid_bounds (node t rest) I g x s c placement same free count earlier h j less =
-      let here = valid_bounds t I g (child x s c) (placement, free, omega (arith, count)) same earlier h.0 in
-      all_valid_bounds rest I g x s (c + 1) placement same free (omega (arith, count)) (earlier_more I g x s c earlier here) h.1 j (omega arith)
+  pub all_covered_bounds : (ts : Nodes) (I : Problem) (g : ℤ) (x : Placement) (s : Split) (c : ℕ) → IsPlacement x → I.size ≡ x.size → IsFreeOn s.side x s.number → c + child_count ts + length x.facilities ≡ x.size
+      → HasEarlier I g (child x s c) → AllCovered I g x s c ts → (j : ℕ) → j < c + child_count ts → Bounded I g (child_of x s j)
+  all_covered_bounds no_nodes I g x s c placement same free count earlier h j less = earlier j (omega arith)
+  all_covered_bounds (node t rest) I g x s c placement same free count earlier h j less =
+      let here = covered_bounds t I g (child x s c) (placement, free, omega (arith, count)) same earlier h.0 in
+      all_covered_bounds rest I g x s (c + 1) placement same free (omega (arith, count)) (earlier_more I g x s c earlier here) h.1 j (omega arith)
+
+mutual
+  -- the leaves of a valid tree are bounded
+  pub Covered-valid : (t : Node) (I : Problem) (g : ℤ) (p : Place) → IsPlace p → I.size ≡ (node_at p).size → Valid I g p t → Covered I g p t
+  Covered-valid (closed d) I g p place same h =
+      let x = node_at p in
+      let enough : g ≤ℤ (fixed_cost_of I x +ℤ dual_value d.u d.v) = h.enough in
+      λ q done.
+      let least : (fixed_cost_of I x +ℤ dual_value d.u d.v) ≤ℤ cost_of I q = fixed_and_duals-le I x h.fits.matrix d.u d.v q (node_placement p place) same h.fits.reduced h.fits.fits done in
+      omega (arith, ints, least, enough)
+  Covered-valid (split s children) I g p place same h =
+      (h.0, h.2, AllCovered-valid children I g (node_at p) s 0 (node_placement p place) same h.0 (omega (arith, h.2)) h.3)
+  Covered-valid cut I g (whole x) place same h = absurd h
+  Covered-valid cut I g (child x s c) place same h = cut_bounded I g x s c place.0 same h
+  Covered-valid (mirrored j m) I g (whole x) place same h = absurd h
+  Covered-valid (mirrored j m) I g (child x s c) place same h = h
+
+  pub AllCovered-valid : (ts : Nodes) (I : Problem) (g : ℤ) (x : Placement) (s : Split) (c : ℕ) → IsPlacement x → I.size ≡ x.size → IsFreeOn s.side x s.number → c + child_count ts + length x.facilities ≡ x.size
+      → AllValid I g x s c ts → AllCovered I g x s c ts
+  AllCovered-valid no_nodes I g x s c placement same free count h = tt
+  AllCovered-valid (node t rest) I g x s c placement same free count h = (
+    Covered-valid t I g (child x s c) (placement, free, omega (arith, count)) same h.0,
+    AllCovered-valid rest I g x s (c + 1) placement same free (omega (arith, count)) h.1,
+  )
+
+pub valid_bounds : (t : Node) (I : Problem) (g : ℤ) (p : Place) → IsPlace p → I.size ≡ (node_at p).size → HasEarlier I g p → Valid I g p t → Bounded I g (node_at p)
+valid_bounds t I g p place same earlier h = covered_bounds t I g p place same earlier (Covered-valid t I g p place same h)
 
 -- none that completes the root costs less than the bound that is proved
 pub Valid-NoneCompletesForLess : (I : Problem) (x : Placement) (g : ℤ) (t : Node) → IsPlacement x → x.size ≡ I.size → Valid I g (whole x) t → NoneCompletesForLess I x g

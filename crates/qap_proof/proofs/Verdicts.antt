@@ -7,7 +7,7 @@ use Rattle.qap_cost.specs.Objective.{IsLeast, NoneCostsLess, cost_of}
 use Rattle.qap_cost.specs.Placement.{Placement, Completes, root_of}
 use Rattle.qap_cost.proofs.Nodes.{root_completed}
 use Rattle.qap_proof.proofs.Validity.{Proves-NoneCompletesForLess, Proves-IsLeast}
-use Rattle.qap_proof.specs.Acceptance.{ShowsVerdict, IsVerdictOf, IsSo, HasFault}
+use Rattle.qap_proof.specs.Acceptance.{ProvesFor, ShowsVerdict, IsVerdictOf, IsSo, HasFault}
 use Rattle.qap_proof.specs.Claim.{Claim, claim_of, IsRoot, NoneCompletesForLess}
 use Rattle.qap_proof.specs.Fault.{IsPermMisfit, IsTreeFault}
 use Rattle.qap_proof.specs.Head.{HasHead}
@@ -21,15 +21,29 @@ use Rattle.qap_proof.specs.declared.error.ProofError.{ProofError}
 abbrev pub IsToldOfPerm : Problem → List ℕ → ℤ → Option ProofError → Type 0
 IsToldOfPerm I p c told = MatchOption told ((length p ≡ I.size) × (cost_of I p ≡ c)) (IsPermMisfit I p c)
 
-pub ShowsVerdict-told : (I : Problem) (text : List ℕ) (x : Placement) (c g : ℤ) (p : List ℕ) (line : ℕ) (rest : List ℕ) (told : Option ProofError) (verdict : Verdict) → HasHead text x c g p line rest → IsToldOfPerm I p c told
-    → EndsBehindTree x rest (IsToldOf I g (whole x) line told None) → ((q : List ℕ) (t : Node) → IsVerdictOf (claim_of x c g q t) verdict) → ShowsVerdict I text verdict
-ShowsVerdict-told I text x c g p line rest (Some d) verdict head perm h says = absurd (none-some d h.holds)
-ShowsVerdict-told I text x c g p line rest None verdict head perm h says = record {
+pub ProvesFor-told : (I : Problem) (text : List ℕ) (x : Placement) (c g : ℤ) (p : List ℕ) (line : ℕ) (rest : List ℕ) (told : Option ProofError) → HasHead text x c g p line rest → IsToldOfPerm I p c told
+    → EndsBehindTree x rest (IsToldOf I g (whole x) line told None) → ProvesFor I text x c g
+ProvesFor-told I text x c g p line rest (Some d) head perm h = absurd (none-some d h.holds)
+ProvesFor-told I text x c g p line rest None head perm h = record {
   proof = claim_of x c g p h.tree;
   is_text = head.whole h.tree h.shape h.is;
   proved = record { same_size = perm.0; cost = perm.1; tree = h.holds };
-  says = says p h.tree;
+  root = refl;
+  cost = refl;
+  bound = refl;
 }
+
+pub ShowsVerdict-proved : (I : Problem) (text : List ℕ) (x : Placement) (c g : ℤ) (verdict : Verdict) → ProvesFor I text x c g → ((p : List ℕ) (t : Node) → IsVerdictOf (claim_of x c g p t) verdict) → ShowsVerdict I text verdict
+ShowsVerdict-proved I text x c g verdict h says =
+    let C = h.proof in
+    record {
+      proof = C;
+      is_text = h.is_text;
+      proved = h.proved;
+      says = subst (λ (y : Placement). IsVerdictOf (claim_of y C.cost C.bound C.permutation C.tree) verdict) (sym h.root)
+          (subst (λ (z : ℤ). IsVerdictOf (claim_of x z C.bound C.permutation C.tree) verdict) (sym h.cost)
+          (subst (λ (z : ℤ). IsVerdictOf (claim_of x c z C.permutation C.tree) verdict) (sym h.bound) (says C.permutation C.tree)));
+    }
 
 some_same : (d e : ProofError) → Some e ≡ Some d → d ≡ e
 some_same d e same = subst (λ (o : Option ProofError). IsHeld o) same refl

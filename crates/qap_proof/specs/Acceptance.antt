@@ -1,7 +1,8 @@
 -- What a text shows of an instance's costs, and what keeps it from that.
-use Rattle.std.specs.Prelude.{◌≡◌, ℕ, ◌<◌, ◌⊎◌, List, length, ◌<ℤ◌}
+use Rattle.std.specs.Prelude.{◌≡◌, ℕ, ◌<◌, ◌⊎◌, List, length, ℤ, ◌<ℤ◌}
 use Rattle.qap_cost.specs.Instance.{Problem}
 use Rattle.qap_cost.specs.Objective.{IsLeast, NoneCostsLess, Permutes, cost_of}
+use Rattle.qap_cost.specs.Placement.{Placement}
 use Rattle.qap_cost.specs.Range.{IsLimited}
 use Rattle.qap_proof.specs.Claim.{Claim, Proves, NoneCompletesForLess}
 use Rattle.qap_proof.specs.Fault.{IsFault}
@@ -16,6 +17,15 @@ abbrev pub IsVerdictOf : Claim → Verdict → Type 0
 IsVerdictOf C (Optimal c) = (length C.root.facilities ≡ 0) × (C.bound ≡ C.cost) × (C.cost ≡ c)
 IsVerdictOf C (Gap g c) = (length C.root.facilities ≡ 0) × (C.bound ≡ g) × (C.cost ≡ c) × (g <ℤ c)
 IsVerdictOf C (Part g) = (0 < length C.root.facilities) × (C.bound ≡ g)
+
+-- the text is that of a proof of this root, this cost and this bound, which it proves
+pub record ProvesFor (I : Problem) (text : List ℕ) (x : Placement) (c g : ℤ) : Type 0 where
+  pub proof : Claim
+  pub is_text : IsProofText text proof
+  pub proved : Proves I proof
+  pub root : proof.root ≡ x
+  pub cost : proof.cost ≡ c
+  pub bound : proof.bound ≡ g
 
 -- the text is that of a proof which proves what the verdict says
 pub record ShowsVerdict (I : Problem) (text : List ℕ) (verdict : Verdict) : Type 0 where

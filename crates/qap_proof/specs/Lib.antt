@@ -2,8 +2,10 @@ pub mod Acceptance
 pub mod Cell
 pub mod Claim
 pub mod Code
+pub mod Cover
 pub mod Fault
 pub mod Head
+pub mod Leaves
 pub mod Memory
 pub mod NodeLine
 pub mod Refusal

@@ -5,7 +5,7 @@ ghost use Rattle.qap_cost.specs.Instance.{IsInstance};
 ghost use Rattle.qap_cost.specs.Objective.{cost_of};
 ghost use Rattle.qap_cost.specs.Placement.{IsPlacement};
 ghost use Rattle.qap_cost.specs.Range.{IsLimited};
-ghost use Rattle.qap_proof.specs.Acceptance.{ShowsVerdict, IsVerdictOf, IsSo, IsLimitedVerdict, IsRefused};
+ghost use Rattle.qap_proof.specs.Acceptance.{ProvesFor, ShowsVerdict, IsVerdictOf, IsSo, IsLimitedVerdict, IsRefused};
 ghost use Rattle.qap_proof.specs.Claim.{claim_of, IsBoundFor};
 ghost use Rattle.qap_proof.specs.Fault.{IsPermMisfit};
 ghost use Rattle.qap_proof.specs.TextFault.{IsFaultFromTree};
@@ -17,7 +17,7 @@ use crate::line_number::{COST_LINE, SIZE_LINE};
 use crate::reader::{Head, read_end, read_head};
 use crate::walking::{Judge, walk_root};
 use gilmore_lawler::{RankedInstance, Workspace};
-use qap_cost::{Instance, Perm, cost};
+use qap_cost::{Instance, Partial, Perm, cost};
 use std::alloc::Global;
 
 /// What a text shows of an instance's costs.
@@ -42,10 +42,25 @@ pub fn accept(alloc: Global, instance: &Instance, text: &[u8]) -> Result<Verdict
     ensures bounded { IfOk result IsLimitedVerdict }
     ensures so { IfOk result (IsSo instance.now text.now) }
 {
+    let head = proved_head(alloc, instance, text)?;
+    Ok(verdict_of(&head.root, head.bound, head.cost))
+}
+
+/// What stands before the tree of a text, where that is the text of a proof which proves its bound for the instance.
+pub(crate) fn proved_head<'a>(
+    alloc: Global,
+    instance: &Instance,
+    text: &'a [u8],
+) -> Result<Head<'a>, ProofError>
+    ensures instance { IfOk result (λ _. IsInstance instance.now) }
+    ensures proved { MatchResult result
+        (λ h. ProvesFor instance.now text.now h.root h.cost h.bound)
+        (λ e. (e ≡ ProofError.OutOfMemory) ⊎ IsRefused instance.now text.now e) }
+{
     let head = read_head(alloc, text)?;
     let misfit = perm_misfit(instance, &head.perm, head.cost);
     match walk_to_end(alloc, instance, &head, misfit)? {
-        None => Ok(verdict_of(&head)),
+        None => Ok(head),
         Some(fault) => Err(fault),
     }
 }
@@ -97,18 +112,18 @@ fn walk_to_end(
     Ok(walked.fault)
 }
 
-/// What a proof's text states.
-fn verdict_of(head: &Head<'_>) -> Verdict
-    requires cost { IsLimited head.now.cost }
-    requires bound { IsBoundFor head.now.cost head.now.bound }
-    ensures says { (p : List ℕ) (t : Node) → IsVerdictOf (claim_of head.now.root head.now.cost head.now.bound p t) result }
+/// What a proof of this root, this bound and this cost states.
+pub(crate) fn verdict_of(root: &Partial, bound: i128, cost: i128) -> Verdict
+    requires cost { IsLimited cost }
+    requires bound { IsBoundFor cost bound }
+    ensures says { (p : List ℕ) (t : Node) → IsVerdictOf (claim_of root.now cost bound p t) result }
     ensures bounded { IsLimitedVerdict result }
 {
-    if head.root.depth() > 0 {
-        Verdict::Part(head.bound)
-    } else if head.bound < head.cost {
-        Verdict::Gap(head.bound, head.cost)
+    if root.depth() > 0 {
+        Verdict::Part(bound)
+    } else if bound < cost {
+        Verdict::Gap(bound, cost)
     } else {
-        Verdict::Optimal(head.cost)
+        Verdict::Optimal(cost)
     }
 }

@@ -1,39 +1,21 @@
-use Rattle.std.proofs.Common.{◌≡◌, ℤ, inl, inr, ⊎_elim, subst, to_z, of_z, arith}
+use Rattle.std.proofs.Common.{◌≡◌, ℤ, subst, to_z, of_z, rules}
 use Rattle.std.specs.Int.{w128}
-use Rattle.std.specs.Prelude.{Option}
-use Rattle.std.proofs.lemmas.Result.{err_from_is_err_and}
-use Rattle.qap_lines.proofs.Numerals.{reads_wide}
-use Rattle.qap_proof.proofs.Verdicts.{IsToldOfPerm, ShowsVerdict-told, HasFault-told, IsSo-shown}
-use Rattle.qap_proof.specs.Tree.{whole}
-use Rattle.qap_proof.specs.Walk.{EndsBehindTree, IsToldOf}
-use Rattle.qap_proof.specs.declared.error.ProofError.{ProofError}
+use Rattle.qap_proof.proofs.Verdicts.{IsSo-shown, ShowsVerdict-proved}
+use Rattle.qap_proof.specs.Acceptance.{IsVerdictOf}
+use Rattle.qap_proof.specs.Claim.{claim_of}
 use Rattle.qap_proof.proofs.acceptance.accept.Goals as goal
-
-pub returns-in_err-walk_to_end-clause-verdict : goal.returns-in_err-walk_to_end-clause-verdict
-returns-in_err-walk_to_end-clause-verdict c =
-    let e = c.in_err-walk_to_end.field-0.0 in
-    let p = err_from_is_err_and c.from_residual-in_err-walk_to_end.result c.from_residual-in_err-walk_to_end.ensures.1 in
-    rw (p.1, p.2) (⊎_elim inl (λ fault. inr (inl (c.in_ok-head.ensures.fault e fault))) (c.in_err-walk_to_end.ensures {u = tt}).judged)
-
-pub returns-in-None-clause-verdict : goal.returns-in-None-clause-verdict
-returns-in-None-clause-verdict c =
-    let I = c.args.instance.now in
-    let head = c.in_ok-head.head in
-    let cost_is : to_z w128 (of_z w128 head.cost) ≡ head.cost = reads_wide head.cost (omega (arith, c.in_ok-head.ensures.cost)) in
-    let misfit = subst (λ (z : ℤ). IsToldOfPerm I head.perm z c.perm_misfit-misfit.result) cost_is c.perm_misfit-misfit.ensures in
-    let told = subst (λ (o : Option ProofError). EndsBehindTree head.root head.rest.now (IsToldOf I head.bound (whole head.root) head.line c.perm_misfit-misfit.result o)) c.in-None.is c.in_ok-walk_to_end.ensures.judged in
-    ShowsVerdict-told I c.args.text.now head.root head.cost head.bound head.perm head.line head.rest.now c.perm_misfit-misfit.result c.verdict_of.result c.in_ok-head.ensures misfit told c.verdict_of.ensures.says
-
-pub returns-in-None-clause-so : goal.returns-in-None-clause-so
-returns-in-None-clause-so c =
-    IsSo-shown c.args.instance.now c.args.text.now c.verdict_of.result c.in_ok-walk_to_end.ensures.instance (returns-in-None-clause-verdict c)
 
 pub returns-clause-verdict : goal.returns-clause-verdict
 returns-clause-verdict c =
-    let I = c.args.instance.now in
     let head = c.in_ok-head.head in
-    let e = c.in-Some.fault in
-    let cost_is : to_z w128 (of_z w128 head.cost) ≡ head.cost = reads_wide head.cost (omega (arith, c.in_ok-head.ensures.cost)) in
-    let misfit = subst (λ (z : ℤ). IsToldOfPerm I head.perm z c.perm_misfit-misfit.result) cost_is c.perm_misfit-misfit.ensures in
-    let told = subst (λ (o : Option ProofError). EndsBehindTree head.root head.rest.now (IsToldOf I head.bound (whole head.root) head.line c.perm_misfit-misfit.result o)) c.in-Some.is c.in_ok-walk_to_end.ensures.judged in
-    inr (inr (HasFault-told I c.args.text.now head.root head.cost head.bound head.perm head.line head.rest.now c.perm_misfit-misfit.result e c.in_ok-head.ensures misfit told))
+    let verdict = c.verdict_of.result in
+    let cost_is : to_z w128 (of_z w128 head.cost) ≡ head.cost = search rules in
+    let bound_is : to_z w128 (of_z w128 head.bound) ≡ head.bound = search rules in
+    ShowsVerdict-proved c.args.instance.now c.args.text.now head.root head.cost head.bound verdict c.in_ok-head.ensures.proved
+    (λ p t.
+    subst (λ (z : ℤ). IsVerdictOf (claim_of head.root z head.bound p t) verdict) cost_is
+    (subst (λ (z : ℤ). IsVerdictOf (claim_of head.root (to_z w128 (of_z w128 head.cost)) z p t) verdict) bound_is (c.verdict_of.ensures.says p t)))
+
+pub returns-clause-so : goal.returns-clause-so
+returns-clause-so c =
+    IsSo-shown c.args.instance.now c.args.text.now c.verdict_of.result c.in_ok-head.ensures.instance (returns-clause-verdict c)

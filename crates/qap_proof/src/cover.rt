@@ -1,0 +1,182 @@
+//! Proofs of parts beside the proof of a whole: what they show together.
+
+ghost use Rattle.std.specs.Prelude.{◌≡◌, ◌⊎◌, ◌↔◌, ◌<◌, ◌∷◌, ℤ, List, length, map, slice_index_or, slice_index, IfOk, IsTrue, MatchResult};
+ghost use Rattle.qap_cost.specs.Placement.{StandsAt};
+ghost use Rattle.qap_proof.specs.Acceptance.{IsLimitedVerdict, IsRefused};
+ghost use Rattle.qap_proof.specs.Claim.{Proves};
+ghost use Rattle.qap_proof.specs.Cover.{AreAmong, AreLeaves, AreRaised, HasPart, IsLeastOf, IsOpened, IsRaisedValue, IsSoOf, IsVerdictOn};
+ghost use Rattle.qap_proof.specs.Tree.{whole};
+ghost use Rattle.qap_proof.specs.declared.leaf.Leaf.{Leaf as LeafValue};
+
+use crate::acceptance::{Verdict, proved_head, verdict_of};
+use crate::checking::check;
+use crate::error::ProofError;
+use crate::leaf::{Leaf, leaves_of};
+use crate::proof::Proof;
+use crate::reader::read;
+use crate::walking::Judge;
+use gilmore_lawler::RankedInstance;
+use qap_cost::{Instance, Partial};
+use std::alloc::{AllocError, Global};
+use std::marker::Model;
+
+/// The proof of a whole, whose bound may be small, and proofs of parts that were added to it. Each leaf of the first's tree shows the
+/// greatest of its own value and of the bounds of all parts whose placements are among the leaf's: what completes the leaf completes
+/// such a part. Together they show the least over the leaves.
+///
+/// One text is in memory at a time, and of the trees the leaves of the first alone.
+#[derive(Drop)]
+pub struct Cover {
+    ranked: RankedInstance,
+    root: Partial,
+    cost: i128,
+    leaves: Vec<Leaf>,
+}
+
+impl Model for Cover {
+    ghost use Rattle.qap_proof.specs.Cover.{CoverValue, IsCovering, cover_of};
+
+    ghost Value = { CoverValue };
+
+    ghost view = { λ c. cover_of c.ranked c.root c.cost c.leaves.items };
+
+    ghost invariant = { λ c. IsCovering (cover_of c.ranked c.root c.cost c.leaves.items) };
+}
+
+impl Cover {
+    /// The proof of the whole alone, whose text this is. Where it isn't one that proves its bound for the instance, the first fault is
+    /// told.
+    pub fn new(alloc: Global, instance: &Instance, text: &[u8]) -> Result<Cover, ProofError>
+        ensures { MatchResult result
+            (IsOpened instance.now text.now)
+            (λ e. (e ≡ ProofError.OutOfMemory) ⊎ IsRefused instance.now text.now e) }
+    {
+        let proof = read(alloc, text)?;
+        check(alloc, instance, &proof)?;
+        let ranked = RankedInstance::new(alloc, instance)?;
+        let leaves = proof_leaves(alloc, &ranked, &proof)?;
+        let Proof {
+            root,
+            cost,
+            bound: _,
+            perm: _,
+            tree: _,
+        } = proof;
+        Ok(Cover {
+            ranked,
+            root,
+            cost,
+            leaves,
+        })
+    }
+
+    /// Adds the proof of a part, whose text this is. Where it isn't one that proves its bound for the instance, the first fault is told,
+    /// and nothing is added.
+    pub fn add(&mut self, alloc: Global, text: &[u8]) -> Result<(), ProofError>
+        ensures { MatchResult result
+            (λ done. HasPart text.now self.old self.new)
+            (λ e. ((e ≡ ProofError.OutOfMemory) ⊎ IsRefused self.old.instance text.now e) × (self.new ≡ self.old)) }
+    {
+        let part = proved_head(alloc, self.ranked.instance(), text)?;
+        raise(&mut self.leaves, &part.root, part.bound);
+        self.cost = self.cost.min(part.cost);
+        Ok(())
+    }
+
+    /// What all of them show: the least cost; or a bound, and the least cost of their permutations; or where the root of the whole isn't
+    /// empty, a bound on what the permutations cost that complete it.
+    pub fn verdict(&self) -> Verdict
+        ensures verdict { IsVerdictOn self.now result }
+        ensures bounded { IsLimitedVerdict result }
+        ensures so { IsSoOf self.now.instance self.now.root result }
+    {
+        verdict_of(&self.root, self.bound(), self.cost)
+    }
+
+    /// The least of the cost and of what the leaves show.
+    fn bound(&self) -> i128
+        ensures { IsLeastOf (self.now.cost ∷ map (λ (l : LeafValue). l.value) self.now.leaves) result }
+    {
+        let mut least = self.cost;
+        for leaf in &self.leaves {
+            least = least.min(leaf.value);
+        }
+        least
+    }
+
+    /// The leaves of the whole, in preorder, each with what it shows by now.
+    pub fn leaves(&self) -> &[Leaf]
+        ensures { result.now ≡ self.now.leaves }
+    {
+        &self.leaves
+    }
+
+    /// The least cost of the permutations of all proofs.
+    pub fn cost(&self) -> i128
+        ensures { result ≡ self.now.cost }
+    {
+        self.cost
+    }
+}
+
+/// The leaves of a proof that proves its bound.
+fn proof_leaves(
+    alloc: Global,
+    ranked: &RankedInstance,
+    proof: &Proof,
+) -> Result<Vec<Leaf>, AllocError>
+    requires { Proves ranked.now proof.now }
+    ensures { IfOk result (λ v. AreLeaves ranked.now (whole proof.now.root) proof.now.tree v.items) }
+{
+    let judge = Judge {
+        ranked,
+        bound: proof.bound(),
+    };
+    leaves_of(alloc, &judge, proof.root(), proof.tree())
+}
+
+/// Raises what those leaves show whose placements have this root's among them, to this bound at least.
+fn raise(leaves: &mut [Leaf], root: &Partial, bound: i128)
+    ensures { AreRaised root.now bound leaves.old leaves.new }
+{
+    for leaf in leaves.iter_mut() {
+        leaf.value = raised(leaf, root, bound);
+    }
+}
+
+/// What the leaf shows beside a part of this root and this bound.
+fn raised(leaf: &Leaf, root: &Partial, bound: i128) -> i128
+    ensures { IsRaisedValue root.now bound leaf.now result }
+{
+    if leaf.value < bound && are_among(root, &leaf.node) {
+        bound
+    } else {
+        leaf.value
+    }
+}
+
+/// Whether each facility that the first node places stands in the second, at the same location.
+fn are_among(part: &Partial, node: &Partial) -> bool
+    ensures { IsTrue result ↔ AreAmong part.now node.now }
+{
+    let (facilities, places) = (part.facilities(), part.places());
+    for t in 0..facilities.len() {
+        if !stands(node, facilities[t], places[t]) {
+            return false;
+        }
+    }
+    true
+}
+
+/// Whether the node places the facility at the location.
+fn stands(node: &Partial, facility: u16, location: u16) -> bool
+    ensures { IsTrue result ↔ StandsAt node.now facility location }
+{
+    let (facilities, places) = (node.facilities(), node.places());
+    for t in 0..facilities.len() {
+        if facilities[t] == facility && places[t] == location {
+            return true;
+        }
+    }
+    false
+}
