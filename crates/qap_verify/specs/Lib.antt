@@ -1,3 +1,4 @@
 pub mod Answering
+pub mod Parts
 pub mod Refusal
 pub mod Texts

@@ -8,11 +8,12 @@ use std::alloc::Global;
 const ABOUT: &str =
     "Verifies a proof of a least cost, or of a bound, of the quadratic assignment problem";
 
-/// The names of an instance's file and of a proof's.
-#[derive(Clone, Copy, Debug, PartialEq, Eq)]
+/// The names of an instance's file, of a proof's, and of those of proofs of parts.
+#[derive(Debug, PartialEq, Eq, Drop)]
 pub struct Files<'a> {
     pub instance: &'a str,
     pub proof: &'a str,
+    pub parts: Vec<&'a str>,
 }
 
 /// The files that a command line names, the program's name being the first of its words. That help or the version is asked for is an
@@ -24,15 +25,26 @@ pub fn parse<'a>(alloc: Global, words: &'a [String]) -> Result<Files<'a>, Error>
     let proof = Arg::new(alloc, "PROOF")
         .required(true)
         .help("a proof in the format qapproof 1");
+    let parts = Arg::new(alloc, "PART")
+        .num_args(0..)
+        .help("proofs of parts, each over a node of its own");
     let mut command = Command::new(alloc, "qapverify")
         .bin_name("qapverify")?
         .about(ABOUT)
         .version("0.2.0")
         .arg(instance)?
-        .arg(proof)?;
+        .arg(proof)?
+        .arg(parts)?;
     let found = command.try_get_matches_from_mut(words)?;
     match (found.get_str("INSTANCE"), found.get_str("PROOF")) {
-        (Some(instance), Some(proof)) => Ok(Files { instance, proof }),
+        (Some(instance), Some(proof)) => {
+            let parts = Vec::from_slice(alloc, found.get_strs("PART").unwrap_or(&[]))?;
+            Ok(Files {
+                instance,
+                proof,
+                parts,
+            })
+        }
         _ => Err(command.error(ErrorKind::MissingRequiredArgument, "two files are wanted")?),
     }
 }

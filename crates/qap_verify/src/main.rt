@@ -3,6 +3,7 @@
 
 mod answering;
 mod command_line;
+mod leaves;
 mod refusal;
 mod verifying;
 
@@ -10,12 +11,15 @@ use answering::{answered, refused};
 use clap::Error;
 use clap::error::ErrorKind;
 use command_line::{Files, parse};
+use leaves::short_leaves;
 use qap_io::{Counted, Status};
+use qap_proof::Cover;
 use refusal::RunError;
 use std::fs::{self, File};
 use std::process::ExitCode;
 use std::rt::Env;
 use std::{env, io};
+use verifying::{cover_stream, part_stream, verdict_stream};
 
 #[cfg(test)]
 mod tests;
@@ -59,8 +63,47 @@ fn refuse(rt: &HostRuntime, error: RunError) -> ExitCode {
     ExitCode::from(refused(error, &mut Counted::new(rt.stderr())))
 }
 
-/// Verifies the proof. Both files are opened before either is read.
+/// Verifies the proof, and those of parts, if there are any, beside it.
 fn run(rt: &HostRuntime, files: Files<'_>) -> ExitCode {
+    if files.parts.is_empty() {
+        return run_alone(rt, &files);
+    }
+    match covered(rt, &files) {
+        Ok(code) => code,
+        Err(error) => refuse(rt, error),
+    }
+}
+
+/// Verifies the proof of the whole, and those of the parts in turn, and tells what they show together; which leaves of the whole show
+/// less than the least cost is told on standard error. The name of a part that is refused is told there too.
+fn covered(rt: &HostRuntime, files: &Files<'_>) -> Result<ExitCode, RunError> {
+    let (instance, proof) = open_both(rt, files)?;
+    let mut cover = cover_stream(
+        rt.alloc(),
+        &mut Counted::new(instance),
+        &mut Counted::new(proof),
+    )?;
+    for name in &files.parts {
+        if let Err(error) = add_part(rt, &mut cover, name) {
+            let _ = rt.eprint(name);
+            let _ = rt.eprint(": ");
+            return Err(error);
+        }
+    }
+    let lines = short_leaves(rt.alloc(), &cover)?;
+    let _ = rt.eprint(&lines);
+    verdict_stream(rt.alloc(), &cover, &mut Counted::new(rt.stdout()))?;
+    Ok(ExitCode::from(Status::Done.code()))
+}
+
+/// Adds the proof of a part, which is in the file of this name.
+fn add_part(rt: &HostRuntime, cover: &mut Cover, name: &str) -> Result<(), RunError> {
+    let file = open(rt, name)?;
+    part_stream(rt.alloc(), cover, &mut Counted::new(file))
+}
+
+/// Verifies the proof. Both files are opened before either is read.
+fn run_alone(rt: &HostRuntime, files: &Files<'_>) -> ExitCode {
     match open_both(rt, files) {
         Ok((instance, proof)) => ExitCode::from(answered(
             rt.alloc(),
@@ -74,7 +117,7 @@ fn run(rt: &HostRuntime, files: Files<'_>) -> ExitCode {
 }
 
 /// Both files, opened for reading.
-fn open_both(rt: &HostRuntime, files: Files<'_>) -> Result<(File, File), RunError> {
+fn open_both(rt: &HostRuntime, files: &Files<'_>) -> Result<(File, File), RunError> {
     Ok((open(rt, files.instance)?, open(rt, files.proof)?))
 }
 

@@ -2,8 +2,12 @@
 
 use crate::answering::answered;
 use crate::command_line::{Files, parse};
+use crate::leaves::short_leaves;
+use crate::refusal::RunError;
+use crate::verifying::{cover_stream, part_stream, verdict_stream};
 use clap::error::ErrorKind;
 use qap_io::{Counted, FailAt, OneByte};
+use qap_proof::ProofError;
 use std::alloc::{AllocError, Global};
 use std::io::{Read, Write};
 use std::process::Abort;
@@ -95,6 +99,58 @@ fn refusals(rt: HostRuntime) {
     }
 }
 
+// A split on facility 1: where that stands at location 1 the duals come to 3, and at location 2 to 17.
+const WHOLE: &[u8] = b"qapproof 1\nn 2\ncost 17\nperm 2 1\nbound 3\ns 1\nb 3 0\nb 17 0\nend\n";
+
+// Facility 1 at location 1, and at location 2.
+const FIRST: &[u8] = b"qapproof 1\nn 2\ncost 11\nperm 1 2\nnode 1 1\nb 11 0\nend\n";
+
+const SECOND: &[u8] = b"qapproof 1\nn 2\ncost 17\nperm 2 1\nnode 1 2\nb 17 0\nend\n";
+
+/// What the whole and these parts show, and the lines of the leaves that are short.
+fn together(alloc: Global, parts: &[&[u8]]) -> Result<(Vec<u8>, String), RunError> {
+    let mut cover = cover_stream(alloc, &mut Counted::new(TWO), &mut Counted::new(WHOLE))?;
+    for part in parts {
+        part_stream(alloc, &mut cover, &mut Counted::new(*part))?;
+    }
+    let mut output = Counted::new(Vec::new(alloc));
+    verdict_stream(alloc, &cover, &mut output)?;
+    Ok((output.into_inner(), short_leaves(alloc, &cover)?))
+}
+
+// A part counts for the leaves that have its placements among theirs; one over the empty node, as LEAST is, for all.
+#[test]
+fn parts(rt: HostRuntime) {
+    let cases: [(&[&[u8]], &[u8], &str); 5] = [
+        (&[], b"gap 3 17\n", "short 3 node 1 1\n"),
+        (&[SECOND], b"gap 3 17\n", "short 3 node 1 1\n"),
+        (&[FIRST], b"optimal 11\n", ""),
+        (&[SECOND, FIRST], b"optimal 11\n", ""),
+        (&[LEAST], b"optimal 11\n", ""),
+    ];
+    for (parts, line, short) in cases {
+        let told = together(rt.alloc(), parts);
+        match told {
+            Ok((output, lines)) => {
+                assert_eq!(rt; output.as_slice(), line);
+                assert_eq!(rt; lines.as_str(), short);
+            }
+            Err(error) => panic!(rt; "{error}"),
+        }
+    }
+}
+
+// The duals of the part come to more than its entry.
+#[test]
+fn part_refused(rt: HostRuntime) {
+    let part: &[u8] = b"qapproof 1\nn 2\ncost 11\nperm 1 2\nnode 1 1\nb 12 0\nend\n";
+    let told = together(rt.alloc(), &[part]);
+    assert_eq!(rt;
+        told.err(),
+        Some(RunError::Proof(ProofError::NotFeasible(6)))
+    );
+}
+
 /// A device that passes a byte a call, and fails at the call of this number, counted from 1.
 fn failing<T>(device: T, call: usize) -> OneByte<FailAt<T>> {
     OneByte::new(FailAt::new(device, call.max(1) as u64))
@@ -155,13 +211,15 @@ fn command(alloc: Global, words: &[&str]) -> Result<Vec<String>, AllocError> {
 
 #[test]
 fn command_lines(rt: HostRuntime) -> Result<(), Fail> {
-    let named = command(rt.alloc(), &["a.dat", "a.proof"])?;
+    let named = command(rt.alloc(), &["a.dat", "a.proof", "b.proof", "c.proof"])?;
+    let parts = Vec::from_slice(rt.alloc(), &["b.proof", "c.proof"])?;
     let files = parse(rt.alloc(), &named).ok();
     assert_eq!(rt;
         files,
         Some(Files {
             instance: "a.dat",
-            proof: "a.proof"
+            proof: "a.proof",
+            parts,
         })
     );
     let cases: [(&[&str], ErrorKind); 4] = [

@@ -2,14 +2,17 @@
 
 ghost use Rattle.std.specs.Prelude.{◌≡◌, ◌⊎◌, IfOk, MatchResult, string_bytes};
 ghost use Rattle.qap_proof.specs.Acceptance.{IsLimitedVerdict};
+ghost use Rattle.qap_proof.specs.Cover.{IsOpened};
+ghost use Rattle.qap_text.specs.Input.{input_of};
 ghost use Rattle.qap_verify.specs.Answering.{HasAnswered, HasNotAnswered, Proves, answer_line};
+ghost use Rattle.qap_verify.specs.Parts.{HasAdded, HasNotAdded, HasNotTold, HasTold};
 ghost use Rattle.qap_verify.specs.Refusal.{HasNoTexts, IsNoProof};
 ghost use Rattle.qap_verify.specs.Texts.{ComeTo, HasTexts, inputs_of};
 
 use crate::refusal::RunError;
 use qap_cost::Instance;
 use qap_io::{Counted, send};
-use qap_proof::{Verdict, accept};
+use qap_proof::{Cover, Verdict, accept};
 use qap_text::{MAX_INPUT, read_all, read_instance};
 use std::alloc::{AllocError, Global};
 use std::io::{Read, Write};
@@ -39,6 +42,50 @@ pub fn verify_stream<R: Read, S: Read, W: Write>(
 {
     let verdict = shown(alloc, instance, proof)?;
     let line = line(alloc, verdict)?;
+    send(writer, line.as_bytes())?;
+    Ok(())
+}
+
+/// Reads an instance and the proof of a whole, beside which proofs of parts may come. The readers are asked as by `verify_stream`.
+pub fn cover_stream<R: Read, S: Read>(
+    alloc: Global,
+    instance: &mut Counted<R>,
+    proof: &mut Counted<S>,
+) -> Result<Cover, RunError>
+    ensures { let i = inputs_of R.remaining instance.old instance.new S.remaining proof.old proof.new in MatchResult result
+        (ComeTo i IsOpened)
+        (λ e. HasNoTexts i e ⊎ ComeTo i IsNoProof e) }
+{
+    let texts = read_texts(alloc, instance, proof)?;
+    Ok(Cover::new(alloc, &texts.instance, texts.proof.as_slice())?)
+}
+
+/// Reads the proof of a part, which is all that the reader has, and adds it to the others. Where it is refused, nothing is added.
+pub fn part_stream<S: Read>(
+    alloc: Global,
+    cover: &mut Cover,
+    proof: &mut Counted<S>,
+) -> Result<(), RunError>
+    ensures { let i = input_of S.remaining proof.old proof.new in MatchResult result
+        (λ done. HasAdded i cover.old cover.new)
+        (λ e. HasNotAdded i cover.old.instance e × (cover.new ≡ cover.old)) }
+{
+    let text = read_all(alloc, proof, MAX_INPUT)?;
+    cover.add(alloc, text.as_slice())?;
+    Ok(())
+}
+
+/// Writes one line with what all proofs show. Where the writer fails, a beginning of the line has gone out.
+pub fn verdict_stream<W: Write>(
+    alloc: Global,
+    cover: &Cover,
+    writer: &mut Counted<W>,
+) -> Result<(), RunError>
+    ensures { MatchResult result
+        (λ _. HasTold cover.now W.contents writer.old writer.new)
+        (HasNotTold cover.now W.contents writer.old writer.new) }
+{
+    let line = line(alloc, cover.verdict())?;
     send(writer, line.as_bytes())?;
     Ok(())
 }

@@ -1,0 +1,48 @@
+-- Proofs of parts that come beside the proof of a whole, and the line of what they show together.
+use Rattle.std.specs.Prelude.{◌≡◌, ℕ, ◌⊎◌, List, Option}
+use Rattle.qap_cost.specs.Instance.{Problem}
+use Rattle.qap_io.specs.Counting.{CountedDevice}
+use Rattle.qap_io.specs.Writing.{BreaksOff, Sends}
+use Rattle.qap_proof.specs.Acceptance.{IsRefused}
+use Rattle.qap_proof.specs.Cover.{CoverValue, HasPart, IsSoOf, IsVerdictOn}
+use Rattle.qap_proof.specs.declared.acceptance.Verdict.{Verdict}
+use Rattle.qap_proof.specs.declared.error.ProofError.{ProofError}
+use Rattle.qap_text.specs.Input.{HasText, Input, max_input}
+use Rattle.qap_text.specs.Whole.{IsReadFault}
+use Rattle.qap_text.specs.declared.error.TextError.{TextError}
+use Rattle.qap_verify.specs.Answering.{answer_line}
+use Rattle.qap_verify.specs.Refusal.{of_proof, of_text}
+use Rattle.qap_verify.specs.declared.refusal.RunError.{RunError}
+use Rattle.qap_verify.specs.declared.refusal.RunError.TheVariants.{OutOfMemory, Device}
+
+-- the input is the text of the proof of a part, which has come beside the others
+pub record HasAdded {S : Type 0} (i : Input S) (old new : CoverValue) : Type 0 where
+  pub text : List ℕ
+  pub read : HasText i text
+  pub part : HasPart text old new
+
+-- the text that was read has this first fault as one of a proof that proves its bound
+pub record IsNoPart {S : Type 0} (i : Input S) (I : Problem) (e : RunError) : Type 0 where
+  pub text : List ℕ
+  pub read : HasText i text
+  pub fault : ProofError
+  pub is : e ≡ of_proof fault
+  pub refused : IsRefused I text fault
+
+-- the bytes can't be read within the limit, the text is at fault, or memory ran out
+abbrev pub HasNotAdded : {S : Type 0} → Input S → Problem → RunError → Type 0
+HasNotAdded i I e =
+    ((fault : TextError) × (e ≡ of_text fault) × IsReadFault i.bytes max_input i.before i.after fault) ⊎ (IsNoPart i I e ⊎ (e ≡ OutOfMemory))
+
+-- the verdict is what the proofs show together, and it is so
+abbrev pub ShowTogether : CoverValue → Verdict → Type 0
+ShowTogether c v = IsVerdictOn c v × IsSoOf c.instance c.root v
+
+-- the line of what they show has gone out
+abbrev pub HasTold : {W : Type 0} → CoverValue → (W → Option (List ℕ)) → CountedDevice W → CountedDevice W → Type 0
+HasTold c contents old new = (v : Verdict) × ShowTogether c v × Sends contents old new (answer_line v)
+
+-- memory ran out, and nothing has gone out; or the writer failed, and a beginning of the line has
+abbrev pub HasNotTold : {W : Type 0} → CoverValue → (W → Option (List ℕ)) → CountedDevice W → CountedDevice W → RunError → Type 0
+HasNotTold c contents old new e =
+    ((e ≡ OutOfMemory) × (new ≡ old)) ⊎ ((e ≡ Device) × (v : Verdict) × ShowTogether c v × BreaksOff contents old new (answer_line v))
