@@ -2,7 +2,9 @@ pub mod Least
 pub mod Placing
 pub mod Ranges
 pub mod Relaxing
+pub mod Rooms
 pub mod Shifting
+pub mod Solved
 pub mod Swapping
 pub mod Trees
 pub mod Values

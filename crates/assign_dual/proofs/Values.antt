@@ -1,5 +1,5 @@
 -- The numbers that the elements of a list stand for.
-use Rattle.std.proofs.Common.{◌≡◌, ℕ, suc, ◌+◌, ◌-◌, ◌*◌, ◌<◌, ◌≤◌, arith, subst, List, length, get_or, map, take, drop, sym, ◌∙◌, ap}
+use Rattle.std.proofs.Common.{◌≡◌, ℕ, zero, suc, ◌∷◌, refl, replicate, ◌+◌, ◌-◌, ◌*◌, ◌<◌, ◌≤◌, arith, subst, List, length, get_or, map, take, drop, sym, ◌∙◌, ap}
 use Rattle.std.specs.Prelude.{ℤ, pos, unsigned_abs}
 use Rattle.std.proofs.lemmas.List.{get_or-map, length-map, length-take-le, length-drop, get_or-take, get_or-drop, take-map, drop-map}
 use Rattle.std.proofs.lemmas.Nat.{mul-le}
@@ -9,6 +9,11 @@ use Rattle.qap_cost.specs.Range.{AllWithin}
 -- an element that was read
 pub value_read : {X : Type 0} (value : X → ℤ) (xs : List X) (k : ℕ) (x : X) → x ≡ get_or xs k x → k < length xs → value x ≡ get_or (map value xs) k (pos 0)
 value_read value xs k x is below = ap value is ∙ sym (get_or-map value xs k x (pos 0) below)
+
+-- one element again and again
+pub map-replicate : {X : Type 0} (value : X → ℤ) (n : ℕ) (x : X) → map value (replicate n x) ≡ replicate n (value x)
+map-replicate value zero x = refl
+map-replicate value (suc n) x = ap (λ (xs : List ℤ). value x ∷ xs) (map-replicate value n x)
 
 -- how far from 0 it is
 pub value_within : {X : Type 0} (value : X → ℤ) (xs : List X) (k : ℕ) (x : X) (m : ℕ) → AllWithin m (map value xs) → x ≡ get_or xs k x → k < length xs → unsigned_abs (value x) ≤ m

@@ -1,3 +1,5 @@
+pub mod Least
+pub mod Lists
 pub mod Number
 pub mod Partial
 pub mod Placed

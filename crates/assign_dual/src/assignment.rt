@@ -1,25 +1,25 @@
 //! The least assignment, a row at a time (Kuhn 1955; Jonker and Volgenant 1987).
 
-ghost use Rattle.std.specs.Prelude.{◌≡◌, ℕ, ◌+◌, ◌*◌, ◌^◌, ◌<◌, ◌≤◌, List, length, map, ℤ, ◌≤ℤ◌, pos, replicate, IfOk, Option, None};
+ghost use Rattle.std.specs.Prelude.{◌≡◌, ℕ, ◌+◌, ◌*◌, ◌^◌, ◌<◌, ◌≤◌, List, length, map, ℤ, ◌≤ℤ◌, pos, replicate, IfOk, IsOk, OnOk, Option, None};
 ghost use Rattle.qap_cost.specs.Bijection.{IsBijection};
 ghost use Rattle.qap_cost.specs.Matrix.{IsMatrix, Assigns, DualsFit, assignment_cost, dual_value};
+ghost use Rattle.assign_dual.specs.Least.{IsLeast, IsPlacedWhole};
+ghost use Rattle.assign_dual.specs.Lists.{HasRoomFor, HoldsNumbers, HoldsTrees};
 ghost use Rattle.assign_dual.specs.Range.{NoneAbove};
 ghost use Rattle.qap_cost.specs.Range.{AllWithin};
 ghost use Rattle.assign_dual.specs.Placed.{IsPlaced};
 ghost use Rattle.assign_dual.specs.Room.{HasRoom};
 ghost use Rattle.assign_dual.specs.Square.{square_of};
 
+use crate::lists::{NumberLists, TreeLists};
 use crate::number::Number;
 use crate::path::augment;
-use crate::range::are_within;
 use crate::room::Room;
 use crate::shift::{lower_columns, raise_rows};
+use crate::solver::Solver;
 use crate::tree::grow;
 use qap_cost::Matrix;
 use std::alloc::{AllocError, Global};
-
-/// The greatest absolute value of entries that are sought in 64 bits: 10^18, of which eight fit.
-const MAX_NARROW: u128 = 1_000_000_000_000_000_000;
 
 /// An assignment with duals: row `i` takes the column `matching[i]`; `u` has a number for each row, `v` for each column.
 #[derive(Debug, Drop)]
@@ -27,6 +27,34 @@ pub struct Assignment {
     pub matching: Vec<u16>,
     pub u: Vec<i128>,
     pub v: Vec<i128>,
+}
+
+impl Assignment {
+    /// An assignment of no rows, with memory for so many.
+    pub fn with_room(alloc: Global, rows: usize) -> Result<Assignment, AllocError>
+        ensures room { IfOk result (HasRoomFor rows) }
+        ensures free { rows ≡ 0 → IsOk result }
+    {
+        Ok(Assignment {
+            matching: Vec::with_capacity(alloc, rows)?,
+            u: Vec::with_capacity(alloc, rows)?,
+            v: Vec::with_capacity(alloc, rows)?,
+        })
+    }
+
+    /// Makes its lists those of so many rows and columns, with any numbers.
+    fn make_ready(&mut self, rows: usize) -> Result<(), AllocError>
+        ensures matching { OnOk result (length self.new.matching.items ≡ rows) }
+        ensures u { OnOk result (length self.new.u.items ≡ rows) }
+        ensures v { OnOk result (length self.new.v.items ≡ rows) }
+        ensures there { HasRoomFor rows self.old → IsOk result }
+        ensures kept { (n : ℕ) → HasRoomFor n self.old → HasRoomFor n self.new }
+    {
+        self.matching.resize(rows, 0)?;
+        self.u.resize(rows, 0)?;
+        self.v.resize(rows, 0)?;
+        Ok(())
+    }
 }
 
 /// An assignment of least cost, with duals that fit and whose sum is that cost.
@@ -43,46 +71,67 @@ pub fn solve(alloc: Global, matrix: &Matrix) -> Result<Assignment, AllocError>
     ensures v_range { IfOk result (λ a. (m : ℕ) → AllWithin m matrix.now.entries → AllWithin (2 * m) a.v.items) }
     ensures v_sign { IfOk result (λ a. NoneAbove a.v.items) }
 {
-    if are_within(matrix.entries(), MAX_NARROW) {
-        least::<i64>(alloc, matrix)
-    } else {
-        least::<i128>(alloc, matrix)
-    }
+    Solver::new(alloc).solve(alloc, matrix)
 }
 
-/// The same, sought in numbers of this width.
-fn least<N: Number>(alloc: Global, matrix: &Matrix) -> Result<Assignment, AllocError>
+/// Makes the answer a least assignment with its duals, sought in these lists.
+pub(crate) fn least<N: Number>(
+    trees: &mut TreeLists,
+    numbers: &mut NumberLists<N>,
+    matrix: &Matrix,
+    answer: &mut Assignment,
+) -> Result<(), AllocError>
     requires { AllWithin N.most matrix.now.entries }
-    ensures assigns { IfOk result (λ a. Assigns matrix.now a.matching.items) }
-    ensures fits { IfOk result (λ a. DualsFit matrix.now a.u.items a.v.items) }
-    ensures equal { IfOk result (λ a. dual_value a.u.items a.v.items ≡ assignment_cost matrix.now a.matching.items) }
-    ensures least { IfOk result (λ a. (p : List ℕ) → Assigns matrix.now p →
-        assignment_cost matrix.now a.matching.items ≤ℤ assignment_cost matrix.now p) }
-    ensures u_range { IfOk result (λ a. (m : ℕ) → AllWithin m matrix.now.entries → AllWithin m a.u.items) }
-    ensures v_range { IfOk result (λ a. (m : ℕ) → AllWithin m matrix.now.entries → AllWithin (2 * m) a.v.items) }
-    ensures v_sign { IfOk result (λ a. NoneAbove a.v.items) }
+    ensures least { OnOk result (IsLeast matrix.now answer.new) }
+    ensures there { HoldsTrees matrix.now.size trees.old → HoldsNumbers matrix.now.size numbers.old → HasRoomFor matrix.now.size answer.old → IsOk result }
+    ensures trees { (n : ℕ) → HoldsTrees n trees.old → HoldsTrees n trees.new }
+    ensures numbers { (n : ℕ) → HoldsNumbers n numbers.old → HoldsNumbers n numbers.new }
+    ensures room { (n : ℕ) → HasRoomFor n answer.old → HasRoomFor n answer.new }
 {
     let n = matrix.size();
-    let mut matching = vec![in alloc; 0u16; n]?;
-    let mut row_of = no_rows(alloc, n)?;
-    let mut indices = vec![in alloc; 0usize; 3 * n]?;
-    let entries = narrowed(alloc, matrix.entries())?;
-    let mut zeros = N::zeros(alloc, 4 * n)?;
-    let mut room = Room::new(&mut row_of, &mut indices, &mut zeros);
-    place_rows(n, &entries, &mut matching, &mut room);
-    let u = widened(alloc, room.u)?;
-    let v = widened(alloc, room.v)?;
-    Ok(Assignment { matching, u, v })
+    trees.make_ready(n)?;
+    numbers.make_ready(n)?;
+    answer.make_ready(n)?;
+    place_all(
+        matrix,
+        &mut numbers.entries,
+        &mut numbers.zeros,
+        &mut trees.row_of,
+        &mut trees.indices,
+        &mut answer.matching,
+        &mut answer.u,
+        &mut answer.v,
+    );
+    Ok(())
 }
 
-/// The numbers in this width.
-fn narrowed<N: Number>(alloc: Global, numbers: &[i128]) -> Result<Vec<N>, AllocError>
-    requires { AllWithin N.most numbers.now }
-    ensures { IfOk result (λ narrow. map N.value narrow.items ≡ numbers.now) }
+/// Places every row of the matrix in these lists, and writes the columns that they take to `matching`, the duals to `u` and `v`.
+fn place_all<N: Number>(
+    matrix: &Matrix,
+    entries: &mut [N],
+    zeros: &mut [N],
+    row_of: &mut [Option<usize>],
+    indices: &mut [usize],
+    matching: &mut [u16],
+    u: &mut [i128],
+    v: &mut [i128],
+)
+    requires range { AllWithin N.most matrix.now.entries }
+    requires entries_count { length entries.old ≡ matrix.now.size * matrix.now.size }
+    requires zeros { map N.value zeros.old ≡ replicate (4 * matrix.now.size) (pos 0) }
+    requires row_of { row_of.old ≡ replicate matrix.now.size None }
+    requires indices_count { length indices.old ≡ 3 * matrix.now.size }
+    requires matching_count { length matching.old ≡ matrix.now.size }
+    requires u_count { length u.old ≡ matrix.now.size }
+    requires v_count { length v.old ≡ matrix.now.size }
+    ensures { IsPlacedWhole matrix.now matching.new u.new v.new }
 {
-    let mut narrow = N::zeros(alloc, numbers.len())?;
-    fill(&mut narrow, numbers);
-    Ok(narrow)
+    let n = matrix.size();
+    fill(entries, matrix.entries());
+    let mut room = Room::new(row_of, indices, zeros);
+    place_rows(n, entries, matching, &mut room);
+    widen(room.u, u);
+    widen(room.v, v);
 }
 
 /// Makes `target` the numbers, in its width.
@@ -96,22 +145,14 @@ fn fill<N: Number>(target: &mut [N], numbers: &[i128])
     }
 }
 
-/// The numbers in 128 bits.
-fn widened<N: Number>(alloc: Global, numbers: &[N]) -> Result<Vec<i128>, AllocError>
-    ensures { IfOk result (λ wide. wide.items ≡ map N.value numbers.now) }
+/// Makes `target` the numbers, in 128 bits.
+fn widen<N: Number>(numbers: &[N], target: &mut [i128])
+    requires { length target.old ≡ length numbers.now }
+    ensures { target.new ≡ map N.value numbers.now }
 {
-    let mut wide = Vec::with_capacity(alloc, numbers.len())?;
-    for number in numbers {
-        wide.push(number.widen())?;
+    for k in 0..numbers.len() {
+        target[k] = numbers[k].widen();
     }
-    Ok(wide)
-}
-
-/// That none of `n` columns has a row.
-fn no_rows(alloc: Global, n: usize) -> Result<Vec<Option<usize>>, AllocError>
-    ensures { IfOk result (λ row_of. row_of.items ≡ replicate n None) }
-{
-    vec![in alloc; None; n]
 }
 
 /// Places every row; nothing is placed before.

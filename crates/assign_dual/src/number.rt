@@ -1,19 +1,13 @@
 //! The numbers in which an assignment is sought: of 64 bits where a matrix's entries allow it, and else of 128.
 
-ghost use Rattle.std.specs.Prelude.{◌≡◌, false, ℕ, ℤ, ◌*◌, ◌^◌, ◌≤◌, pos, map, replicate, ◌+ℤ◌, ◌-ℤ◌, ◌<ℤ◌, ◌≤ℤ◌, IfOk, IsTrue, unsigned_abs};
+ghost use Rattle.std.specs.Prelude.{◌≡◌, false, ℕ, ℤ, ◌*◌, ◌^◌, ◌≤◌, ◌+ℤ◌, ◌-ℤ◌, ◌<ℤ◌, ◌≤ℤ◌, IsTrue, unsigned_abs};
 ghost use Rattle.std.proofs.Common.{lit<};
-
-use std::alloc::{AllocError, Global};
 
 /// A whole number of some width, which holds eight times the entries that it is used for.
 pub trait Number: Copy {
     ghost value: { Self → ℤ };
 
     ghost most: { ℕ };
-
-    /// So many zeros.
-    fn zeros(alloc: Global, count: usize) -> Result<Vec<Self>, AllocError>
-        ensures { IfOk result (λ numbers. map value numbers.items ≡ replicate count (pos 0)) };
 
     /// The number in this width.
     fn narrow(number: i128) -> Self
@@ -47,10 +41,6 @@ impl Number for i64 {
 
     ghost most = { 10 ^ 18 };
 
-    fn zeros(alloc: Global, count: usize) -> Result<Vec<i64>, AllocError> {
-        vec![in alloc; 0; count]
-    }
-
     fn narrow(number: i128) -> i64 {
         number as i64
     }
@@ -78,10 +68,6 @@ impl Number for i128 {
     ghost value = { λ x. x };
 
     ghost most = { 10 ^ 21 };
-
-    fn zeros(alloc: Global, count: usize) -> Result<Vec<i128>, AllocError> {
-        vec![in alloc; 0; count]
-    }
 
     fn narrow(number: i128) -> i128 {
         number

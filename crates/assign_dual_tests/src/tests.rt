@@ -1,6 +1,6 @@
 //! Worked rows, and many small matrices against a listing of all assignments.
 
-use assign_dual::{Assignment, is_in_range, solve};
+use assign_dual::{Assignment, Solver, is_in_range, solve};
 use qap_cost::Matrix;
 use std::alloc::{AllocError, Global};
 use std::process::Abort;
@@ -164,6 +164,47 @@ fn larger_sizes(rt: HostRuntime) -> Result<(), Fail> {
         assert!(rt; fits(&matrix, &answer.u, &answer.v), "at {m}");
         let value = sum(&answer.u).wrapping_add(sum(&answer.v));
         assert_eq!(rt; cost(&matrix, &answer.matching), value, "at {m}");
+    }
+    Ok(())
+}
+
+/// Asserts that the solver gives the matrix an assignment of the same cost as `solve`, in lists of the same length.
+fn assert_same(
+    rt: &impl Abort,
+    alloc: Global,
+    solver: &mut Solver,
+    matrix: &Matrix,
+    answer: &mut Assignment,
+) -> Result<(), Fail> {
+    assert!(rt; is_in_range(matrix));
+    let alone = solve(alloc, matrix)?;
+    solver.solve_into(matrix, answer)?;
+    assert_eq!(rt;
+        cost(matrix, &answer.matching),
+        cost(matrix, &alone.matching)
+    );
+    assert!(rt; fits(matrix, &answer.u, &answer.v));
+    let lengths = (answer.matching.len(), answer.u.len(), answer.v.len());
+    assert_eq!(rt; lengths, (matrix.size(), matrix.size(), matrix.size()));
+    Ok(())
+}
+
+/// Matrices of many sizes, whose entries take 64 bits and 128 by turns.
+#[test]
+fn a_solver_serves_many(rt: HostRuntime) -> Result<(), Fail> {
+    let alloc = rt.alloc();
+    let mut solver = Solver::new(alloc);
+    let mut answer = Assignment::with_room(alloc, 0)?;
+    for seed in 0..40 {
+        let m = (seed * 5 % 9) as usize;
+        let mut entries = entries_of(alloc, m, seed)?;
+        if seed % 3 == 0 {
+            for entry in &mut entries {
+                *entry = entry.wrapping_mul(50_000_000_000_000_000_000);
+            }
+        }
+        let matrix = Matrix::new(m, entries).ok_or("count")?;
+        assert_same(&rt, alloc, &mut solver, &matrix, &mut answer)?;
     }
     Ok(())
 }

@@ -1,24 +1,22 @@
 -- The children of a split: what is known of their rows, and what more one of them costs than the node.
 use Rattle.std.proofs.Common.{◌≡◌, ℕ, ◌+◌, ◌-◌, ◌*◌, ◌<◌, ◌≤◌, ◌++◌, ◌∷◌, [], refl, sym, ◌∙◌, ap, ap₂, subst, arith, List, take, length, get_or}
-use Rattle.std.specs.Prelude.{ℤ, pos, ◌+ℤ◌, ◌*ℤ◌, ◌↔◌, Bool, IsTrue, unsigned_abs}
+use Rattle.std.specs.Prelude.{ℤ, ◌+ℤ◌, ◌*ℤ◌, ◌↔◌, Bool, IsTrue}
 use Rattle.std.proofs.lemmas.Int.{ints}
 use Rattle.std.proofs.lemmas.List.{get_or_append_left, get_or_push, length_push}
 use Rattle.qap_cost.specs.Instance.{Problem, IsInstance, entry}
 use Rattle.qap_cost.specs.Placement.{Placement, IsPlacement, IsFree, IsFreeLocation, placing, placed_pair_cost, fixed_cost_of}
-use Rattle.qap_cost.specs.Range.{AllInRange, AllWithin}
 use Rattle.qap_cost.specs.Sum.{sum_to}
 use Rattle.qap_cost.proofs.Placements.{IsPlacement-placing}
 use Rattle.qap_cost.proofs.Sums.{sum_to-same, sum_to-add, sum_to-more}
 use Rattle.gilmore_lawler.specs.Duals.{ProductsFit, TellsFit}
-use Rattle.gilmore_lawler.specs.FlowRows.{HasDistanceRows, HasLocationRows}
+use Rattle.gilmore_lawler.specs.FlowRows.{HasDistanceRows}
 use Rattle.gilmore_lawler.specs.ReducedMatrix.{cost_with, linear_cost}
 use Rattle.gilmore_lawler.specs.Split.{Split, HasSplitRows}
 use Rattle.gilmore_lawler.specs.Table.{dot, segment, linear_row, IsFactorRow}
-use Rattle.gilmore_lawler.specs.declared.side.Side.TheVariants.{Flow, Distance}
+use Rattle.gilmore_lawler.specs.declared.side.Side.TheVariants.{Distance}
 use Rattle.gilmore_lawler.proofs.ChildRows.{listed, theirs, parts}
 use Rattle.gilmore_lawler.proofs.Dots.{dot-linear_row}
 use Rattle.gilmore_lawler.proofs.ReducedMatrices.{TellsFit-from_products, length-flow_rows, length-distance_rows}
-use Rattle.gilmore_lawler.proofs.Tables.{AllInRange-matrix}
 
 -- a free location stands among the free ones
 pub stands : (s : Split) (flows linear : List ℤ) (places free : List ℕ) (distances : List ℤ) (fixed : ℤ) (k : ℕ) → HasSplitRows s flows linear places free distances fixed → IsFreeLocation s.node k → (j : ℕ) × (j < length free) × (get_or free j 0 ≡ k)

@@ -31,6 +31,17 @@ impl LocationRows {
         }
     }
 
+    /// No rows, with memory for those of any locations of an instance of this size.
+    pub(crate) fn with_room(alloc: Global, size: usize) -> Result<LocationRows, AllocError>
+        requires { size ≤ 256 }
+    {
+        Ok(LocationRows {
+            places: Vec::with_capacity(alloc, size)?,
+            free: Vec::with_capacity(alloc, size)?,
+            rows: Vec::with_capacity(alloc, size * size + size)?,
+        })
+    }
+
     /// Makes `made` the rows where the free location of number `s` is taken too, with the locations.
     pub(crate) fn make_child(
         &self,

@@ -42,8 +42,9 @@ impl<'a> FlowRows<'a> {
     {
         let alloc = ranked.allocator();
         let facilities = Vec::from_slice(alloc, node.facilities())?;
+        let mut free = Vec::new(alloc);
         let mut rows = Vec::new(alloc);
-        ranked.make_flow_rows(node.facilities(), &mut rows)?;
+        ranked.make_flow_rows(node.facilities(), &mut free, &mut rows)?;
         let mut before = LocationRows::new(alloc);
         ranked.make_location_rows(but_last(node), &mut before)?;
         Ok(FlowRows {
@@ -72,7 +73,10 @@ impl<'a> FlowRows<'a> {
     {
         let distances = &mut workspace.distances;
         self.ranked.make_rows_behind(&self.before, node, distances)?;
-        self.ranked.reduced_by(&self.rows, &distances.rows, node)
+        let mut matrix = Matrix::empty(self.ranked.allocator());
+        self.ranked
+            .reduce_by(&self.rows, &distances.rows, node, &mut matrix)?;
+        Ok(matrix)
     }
 
     /// Whether `(u, v)` fits the reduced matrix of a node that places these facilities: as `fits` tells it of the matrix, which

@@ -21,6 +21,7 @@ use std::sync::Arc;
 pub struct KeptRows {
     ranked: Arc<RankedInstance>,
     facilities: Vec<u16>,
+    free: Vec<u16>,
     a_rows: Vec<i32>,
     levels: Vec<Level>,
     are_made: bool,
@@ -49,6 +50,7 @@ impl KeptRows {
         KeptRows {
             ranked,
             facilities: Vec::new(alloc),
+            free: Vec::new(alloc),
             a_rows: Vec::new(alloc),
             levels: Vec::new(alloc),
             are_made: false,
@@ -71,16 +73,31 @@ impl KeptRows {
         ensures bounded { IfOk result (λ M. AllWithin (512 * 10 ^ 18) M.entries) }
         ensures same { self.new ≡ self.old }
     {
+        let mut matrix = Matrix::empty(self.ranked.allocator());
+        self.reduce_into(node, &mut matrix)?;
+        Ok(matrix)
+    }
+
+    /// Makes the matrix the reduced one of the node, as the function `reduced` gives it for the instance, in the memory that it has
+    /// where that is enough. At an error it may be any matrix; the call can be made again.
+    pub fn reduce_into(&mut self, node: &Partial, matrix: &mut Matrix) -> Result<(), AllocError>
+        requires { self.old.size ≡ node.now.size }
+        ensures reduced { OnOk result (IsReduced self.old node.now matrix.new) }
+        ensures size { OnOk result (matrix.new.size ≡ node.now.size - length node.now.facilities) }
+        ensures bounded { OnOk result (AllWithin (512 * 10 ^ 18) matrix.new.entries) }
+        ensures same { self.new ≡ self.old }
+    {
         keep_for(
             &self.ranked,
             node,
             &mut self.facilities,
+            &mut self.free,
             &mut self.a_rows,
             &mut self.are_made,
         )?;
         keep_level(&self.ranked, node, &mut self.levels)?;
         let distances = &self.levels[node.depth()].known.rows;
-        self.ranked.reduced_by(&self.a_rows, distances, node)
+        self.ranked.reduce_by(&self.a_rows, distances, node, matrix)
     }
 }
 
@@ -89,6 +106,7 @@ fn keep_for(
     ranked: &RankedInstance,
     node: &Partial,
     facilities: &mut Vec<u16>,
+    free: &mut Vec<u16>,
     rows: &mut Vec<i32>,
     are_made: &mut bool,
 ) -> Result<(), AllocError>
@@ -103,7 +121,7 @@ fn keep_for(
     *are_made = false;
     facilities.clear();
     facilities.extend_from_slice(node.facilities())?;
-    ranked.make_flow_rows(node.facilities(), rows)?;
+    ranked.make_flow_rows(node.facilities(), free, rows)?;
     *are_made = true;
     Ok(())
 }

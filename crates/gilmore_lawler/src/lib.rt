@@ -8,7 +8,6 @@ mod duals;
 mod factors;
 mod fitting;
 mod flow_rows;
-mod free;
 mod kept_rows;
 mod left_out;
 mod levels;

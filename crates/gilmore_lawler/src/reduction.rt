@@ -16,13 +16,13 @@ ghost use Rattle.gilmore_lawler.specs.declared.side.Side.TheVariants.{Distance};
 use crate::child_rows::{LocationRows, child_rows, place_behind};
 use crate::factors::factor_rows;
 use crate::fitting::{product_with, products_fit};
-use crate::free::list_free;
 use crate::ranking::{Ranked, ranked_rows};
 use crate::side::Side;
 use crate::small::has_small_entries;
-use qap_cost::{Instance, Matrix, Partial};
+use qap_cost::{Instance, Matrix, Partial, list_free};
 use std::alloc::{AllocError, Global};
 use std::marker::Model;
+use std::mem::replace;
 
 /// The reduced matrix of the node: a row for each free facility and a column for each free location, both ascending.
 ///
@@ -83,9 +83,31 @@ impl RankedInstance {
         ensures size { IfOk result (λ M. M.size ≡ node.now.size - length node.now.facilities) }
         ensures bounded { IfOk result (λ M. AllWithin (512 * 10 ^ 18) M.entries) }
     {
-        self.make_flow_rows(node.facilities(), &mut workspace.a_rows)?;
+        let mut matrix = Matrix::empty(self.allocator());
+        self.reduce_into(workspace, node, &mut matrix)?;
+        Ok(matrix)
+    }
+
+    /// Makes the matrix the reduced one of the node, as the function `reduced` gives it for the instance, in the memory that it and
+    /// the workspace have where that is enough. At an error it may be any matrix.
+    pub fn reduce_into(
+        &self,
+        workspace: &mut Workspace,
+        node: &Partial,
+        matrix: &mut Matrix,
+    ) -> Result<(), AllocError>
+        requires { self.now.size ≡ node.now.size }
+        ensures reduced { OnOk result (IsReduced self.now node.now matrix.new) }
+        ensures size { OnOk result (matrix.new.size ≡ node.now.size - length node.now.facilities) }
+        ensures bounded { OnOk result (AllWithin (512 * 10 ^ 18) matrix.new.entries) }
+    {
+        self.make_flow_rows(
+            node.facilities(),
+            &mut workspace.free,
+            &mut workspace.a_rows,
+        )?;
         self.make_location_rows(node.places(), &mut workspace.distances)?;
-        self.reduced_by(&workspace.a_rows, &workspace.distances.rows, node)
+        self.reduce_by(&workspace.a_rows, &workspace.distances.rows, node, matrix)
     }
 
     /// Where the memory of its rows comes from.
@@ -100,23 +122,23 @@ impl RankedInstance {
         self.are_small
     }
 
-    /// Makes `rows` those of the flows for each node that places these facilities.
+    /// Makes `rows` those of the flows for each node that places these facilities, and `free` the other ones.
     pub(crate) fn make_flow_rows(
         &self,
         facilities: &[u16],
+        free: &mut Vec<u16>,
         rows: &mut Vec<i32>,
     ) -> Result<(), AllocError>
         requires { AreDifferent self.now.size facilities.now }
         ensures { OnOk result (HasFlowRows (record { instance = self.now; facilities = facilities.now }) rows.new.items) }
     {
-        let mut free = Vec::new(self.allocator());
-        list_free(self.instance.size(), facilities, &mut free)?;
+        list_free(self.instance.size(), facilities, free)?;
         factor_rows(
             &self.instance,
             Side::Flow,
             &self.a_rankings,
             facilities,
-            &free,
+            free,
             rows,
         )
     }
@@ -180,22 +202,25 @@ impl RankedInstance {
         }
     }
 
-    /// The reduced matrix of the node, from its rows of both sides.
-    pub(crate) fn reduced_by(
+    /// Makes the matrix the reduced one of the node, from its rows of both sides. At an error it may be any matrix.
+    pub(crate) fn reduce_by(
         &self,
         a_rows: &[i32],
         b_rows: &[i32],
         node: &Partial,
-    ) -> Result<Matrix, AllocError>
+        matrix: &mut Matrix,
+    ) -> Result<(), AllocError>
         requires size { self.now.size ≡ node.now.size }
         requires a_rows { HasFlowRows (record { instance = self.now; facilities = node.now.facilities }) a_rows.now }
         requires b_rows { HasDistanceRows self.now node.now.places b_rows.now }
-        ensures reduced { IfOk result (IsReduced self.now node.now) }
-        ensures size { IfOk result (λ M. M.size ≡ node.now.size - length node.now.facilities) }
-        ensures bounded { IfOk result (λ M. AllWithin (512 * 10 ^ 18) M.entries) }
+        ensures reduced { OnOk result (IsReduced self.now node.now matrix.new) }
+        ensures size { OnOk result (matrix.new.size ≡ node.now.size - length node.now.facilities) }
+        ensures bounded { OnOk result (AllWithin (512 * 10 ^ 18) matrix.new.entries) }
     {
-        let alloc = self.allocator();
-        reduced_from(alloc, &self.instance, a_rows, b_rows, self.are_small, node)
+        let memory = replace(matrix, Matrix::empty(self.allocator())).into_entries();
+        let made = reduced_from(memory, &self.instance, a_rows, b_rows, self.are_small, node)?;
+        *matrix = made;
+        Ok(())
     }
 
     /// Whether `(u, v)` fits the reduced matrix of the node, from its rows of both sides; the matrix isn't made.
@@ -223,6 +248,7 @@ impl RankedInstance {
 /// Memory for reduced matrices, kept from one to the next. It can be used again after any answer, for any instance.
 #[derive(Drop)]
 pub struct Workspace {
+    free: Vec<u16>,
     a_rows: Vec<i32>,
     pub(crate) distances: LocationRows,
 }
@@ -231,15 +257,27 @@ impl Workspace {
     /// A workspace that has no memory yet.
     pub fn new(alloc: Global) -> Workspace {
         Workspace {
+            free: Vec::new(alloc),
             a_rows: Vec::new(alloc),
             distances: LocationRows::new(alloc),
         }
     }
+
+    /// A workspace with memory for all nodes of instances of this size.
+    pub fn with_room(alloc: Global, size: usize) -> Result<Workspace, AllocError>
+        requires { size ≤ 256 }
+    {
+        Ok(Workspace {
+            free: Vec::with_capacity(alloc, size)?,
+            a_rows: Vec::with_capacity(alloc, size * size + size)?,
+            distances: LocationRows::with_room(alloc, size)?,
+        })
+    }
 }
 
-/// The reduced matrix of the node, from its rows of both sides.
+/// The reduced matrix of the node, from its rows of both sides, in this memory.
 fn reduced_from(
-    alloc: Global,
+    memory: Vec<i128>,
     instance: &Instance,
     a_rows: &[i32],
     b_rows: &[i32],
@@ -257,7 +295,7 @@ fn reduced_from(
 {
     let n = instance.size();
     let depth = node.depth();
-    let entries = products(alloc, a_rows, b_rows, n - depth, n + depth, are_small)?;
+    let entries = products(memory, a_rows, b_rows, n - depth, n + depth, are_small)?;
     Ok(Matrix::new(n - depth, entries).unwrap())
 }
 
@@ -287,9 +325,9 @@ fn fit_from(
     products_fit(a_rows, b_rows, n + depth, are_small, u, v)
 }
 
-/// The products of each row of the one table with each of the other: so many rows of this width each.
+/// The products of each row of the one table with each of the other, in this memory: so many rows of this width each.
 fn products(
-    alloc: Global,
+    memory: Vec<i128>,
     a_rows: &[i32],
     b_rows: &[i32],
     count: usize,
@@ -305,7 +343,9 @@ fn products(
     requires known { IsTrue are_small → (AllSmall a_rows.now × AllSmall b_rows.now) }
     ensures { IfOk result (λ v. IsTable count count (IsProductRow width count a_rows.now b_rows.now) v.items) }
 {
-    let mut entries = Vec::with_capacity(alloc, count * count)?;
+    let mut entries = memory;
+    entries.clear();
+    entries.reserve(count * count)?;
     for r in 0..count {
         let start = r * width;
         let row = &a_rows[start..start + width];

@@ -130,8 +130,9 @@ fn child_flows(
     let alloc = ranked.allocator();
     let mut facilities = Vec::new(alloc);
     list_with(node.facilities(), facility, &mut facilities)?;
+    let mut free = Vec::new(alloc);
     let mut flows = Vec::new(alloc);
-    ranked.make_flow_rows(&facilities, &mut flows)?;
+    ranked.make_flow_rows(&facilities, &mut free, &mut flows)?;
     Ok(flows)
 }
 

@@ -341,17 +341,21 @@ fn entries_by_their_definition(rt: HostRuntime) -> Result<(), Fail> {
     Ok(())
 }
 
-/// The entries of the reduced matrix at this node, from rows that are kept from node to node.
+/// The entries of the reduced matrix at this node, from rows that are kept from node to node, where a matrix that is kept too gives the
+/// same as none.
 fn entries_kept(
     alloc: Global,
     kept: &mut KeptRows,
+    matrix: &mut Matrix,
     node: &Partial,
 ) -> Result<Option<Vec<i128>>, AllocError> {
     if kept.instance().size() != node.size() {
         return Ok(None);
     }
-    let matrix = kept.reduced(node)?;
-    Ok(Some(entries_of(alloc, &matrix)?))
+    kept.reduce_into(node, matrix)?;
+    let found = entries_of(alloc, matrix)?;
+    let again = kept.reduced(node)?;
+    Ok((found.as_slice() == again.entries()).then_some(found))
 }
 
 #[test]
@@ -364,6 +368,7 @@ fn kept_rows_in_turn(rt: HostRuntime) -> Result<(), Fail> {
     };
     let ranked = Arc::new(alloc, RankedInstance::new(alloc, &five)?)?;
     let mut kept = KeptRows::new(alloc, ranked);
+    let mut matrix = Matrix::empty(alloc);
     // Siblings, a child and its sibling, another branch, the root, the same facilities in another order, a child of theirs, one of
     // another branch at the same depth, and a node again.
     let turns: [&[(u16, u16)]; 10] = [
@@ -382,7 +387,7 @@ fn kept_rows_in_turn(rt: HostRuntime) -> Result<(), Fail> {
         let Some(node) = node(alloc, 5, pairs)? else {
             panic!(rt; "a node is refused");
         };
-        let found = entries_kept(alloc, &mut kept, &node)?;
+        let found = entries_kept(alloc, &mut kept, &mut matrix, &node)?;
         let want = slow_entries(alloc, (5, &a, &b), pairs)?;
         assert!(rt; found.is_some(), "no matrix at {pairs:?}");
         assert_eq!(rt; found.as_deref(), want.as_deref(), "at {pairs:?}");

@@ -2,6 +2,7 @@
 #![tactic(auto)]
 
 mod error;
+mod free;
 mod instance;
 mod listing;
 mod marks;
@@ -12,6 +13,7 @@ mod permutation;
 mod placement;
 
 pub use error::CostError;
+pub use free::list_free;
 pub use instance::{Instance, MAX_ENTRY, MAX_SIZE, MAX_VALUE};
 pub use listing::least_by_listing;
 pub use marks::marked;

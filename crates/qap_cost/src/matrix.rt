@@ -1,10 +1,11 @@
 //! A square matrix, whose rows are assigned to its columns.
 
-ghost use Rattle.std.specs.Prelude.{◌≡◌, ◌<◌, ◌≤◌, ◌≤ℤ◌, List, ℕ, ℤ, MatchOption};
+ghost use Rattle.std.specs.Prelude.{◌≡◌, ◌<◌, ◌≤◌, ◌≤ℤ◌, [], List, ℕ, ℤ, IfOk, MatchOption};
 ghost use Rattle.qap_cost.specs.Row.{IsRow};
 ghost use Rattle.qap_cost.specs.Matrix.{Square, IsMatrix, Assigns, DualsFit, assignment_cost, dual_value, entry_of};
 
 use crate::MAX_SIZE;
+use std::alloc::{AllocError, Global};
 use std::marker::Model;
 
 /// A square matrix of whole numbers, of size 0 to 256.
@@ -34,6 +35,35 @@ impl Matrix {
             return None;
         }
         Some(Matrix { size: m, entries })
+    }
+
+    /// The matrix of size 0. No memory is taken.
+    pub fn empty(alloc: Global) -> Matrix
+        ensures { result ≡ record { size = 0; entries = [] } }
+    {
+        Matrix {
+            size: 0,
+            entries: Vec::new(alloc),
+        }
+    }
+
+    /// The matrix of size 0, with memory for the entries of one of this size.
+    pub fn with_room(alloc: Global, size: usize) -> Result<Matrix, AllocError>
+        requires { size ≤ 256 }
+        ensures { IfOk result (λ M. M ≡ record { size = 0; entries = [] }) }
+    {
+        Ok(Matrix {
+            size: 0,
+            entries: Vec::with_capacity(alloc, size * size)?,
+        })
+    }
+
+    /// Its entries, listed by rows, in the memory that it had.
+    pub fn into_entries(self) -> Vec<i128>
+        ensures { result.items ≡ self.entries }
+    {
+        let Matrix { entries, .. } = self;
+        entries
     }
 
     /// The number of rows, and of columns: from 0 to 256.

@@ -8,7 +8,7 @@ ghost use Rattle.qap_cost.specs.Row.{product_between};
 ghost use Rattle.qap_cost.specs.Sum.{sum_to};
 
 use crate::Instance;
-use crate::marks::marked;
+use crate::free::list_free;
 use crate::objective::product;
 use std::alloc::{AllocError, Global};
 use std::marker::Model;
@@ -123,6 +123,24 @@ impl Partial {
         free_numbers(*self.places.allocator(), self.size, &self.places)
     }
 
+    /// Makes the list that of the free facilities, ascending, in the memory that it has where that is enough.
+    pub fn list_free_facilities(&self, list: &mut Vec<u16>) -> Result<(), AllocError>
+        ensures value { OnOk result (list.new.items ≡ free_facilities self.now) }
+        ensures free { OnOk result (ListsFree self.now.size self.now.facilities list.new.items) }
+        ensures placement { IsPlacement self.now }
+    {
+        list_free(self.size, &self.facilities, list)
+    }
+
+    /// Makes the list that of the free locations, ascending, in the memory that it has where that is enough.
+    pub fn list_free_locations(&self, list: &mut Vec<u16>) -> Result<(), AllocError>
+        ensures value { OnOk result (list.new.items ≡ free_locations self.now) }
+        ensures free { OnOk result (ListsFree self.now.size self.now.places list.new.items) }
+        ensures placement { IsPlacement self.now }
+    {
+        list_free(self.size, &self.places, list)
+    }
+
     /// This node with the free facility `f` at the free location `k` too.
     pub fn place(&self, f: u16, k: u16) -> Result<Partial, AllocError>
         requires facility { IsFreeFacility self.now f }
@@ -152,6 +170,28 @@ impl Partial {
         self.facilities.push(f).unwrap();
         self.places.push(k).unwrap();
         Ok(())
+    }
+
+    /// Makes it the node of size `n` that places no facility, in the memory that it has.
+    pub fn reset(&mut self, n: usize)
+        requires positive { 0 < n }
+        requires small { n ≤ 256 }
+        ensures value { self.new ≡ root_of n }
+        ensures placement { IsPlacement self.new }
+    {
+        self.size = n;
+        self.facilities.clear();
+        self.places.clear();
+    }
+
+    /// Takes the memory for all that it may place. Refused that, the node is as it was.
+    pub fn reserve(&mut self) -> Result<(), AllocError>
+        ensures same { self.new ≡ self.old }
+        ensures placement { IsPlacement self.new }
+    {
+        let free = self.size - self.depth();
+        self.facilities.reserve(free)?;
+        self.places.reserve(free)
     }
 
     /// What the placed facilities cost among themselves: the sum over all placed `i` and `j`, equal ones included, of
@@ -194,13 +234,8 @@ fn free_numbers(alloc: Global, n: usize, taken: &[u16]) -> Result<Vec<u16>, Allo
     ensures value { IfOk result (λ v. v.items ≡ free_below n taken.now) }
     ensures free { IfOk result (λ v. ListsFree n taken.now v.items) }
 {
-    let is_taken = marked(taken);
-    let mut free = Vec::with_capacity(alloc, n - taken.len())?;
-    for k in 0..n {
-        if !is_taken[k] {
-            free.push(k as u16)?;
-        }
-    }
+    let mut free = Vec::new(alloc);
+    list_free(n, taken, &mut free)?;
     Ok(free)
 }
 

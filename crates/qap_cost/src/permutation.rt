@@ -63,6 +63,14 @@ impl Perm {
         &self.locations
     }
 
+    /// The locations of all facilities, in the memory that the permutation had.
+    pub fn into_locations(self) -> Vec<u16>
+        ensures { result.items ≡ self }
+    {
+        let Perm { locations } = self;
+        locations
+    }
+
     /// The same permutation again.
     pub fn copy(&self) -> Result<Perm, AllocError>
         ensures { IfOk result (λ p. p ≡ self.now) }

@@ -1,6 +1,6 @@
 //! What no clause says of nodes and of the listing: that calls succeed, and the costs of worked examples.
 
-use qap_cost::{Instance, Partial, Perm, cost, least_by_listing, marked, product};
+use qap_cost::{Instance, Matrix, Partial, Perm, cost, least_by_listing, marked, product};
 use std::alloc::{AllocError, Global};
 use std::process::Abort;
 use std::test::Fail;
@@ -222,5 +222,35 @@ fn least_costs_of_worked_examples(rt: HostRuntime) -> Result<(), Fail> {
             assert_eq!(rt; permutation.locations(), [0, 1].as_slice());
         }
     }
+    Ok(())
+}
+
+/// Asserts what is free of a node that places 1 at 2 and 3 at 0, in a list that is kept.
+fn assert_listed(rt: &impl Abort, node: &Partial, list: &mut Vec<u16>) -> Result<(), Fail> {
+    node.list_free_facilities(list)?;
+    assert_eq!(rt; list.as_slice(), [0, 2].as_slice());
+    node.list_free_locations(list)?;
+    assert_eq!(rt; list.as_slice(), [1, 3].as_slice());
+    Ok(())
+}
+
+#[test]
+fn memory_is_kept(rt: HostRuntime) -> Result<(), Fail> {
+    let alloc = rt.alloc();
+    let Some(mut node) = node(alloc, 4, &[(1, 2), (3, 0)])? else {
+        panic!(rt; "a node is refused");
+    };
+    let mut list = vec![in alloc; 9; 7]?;
+    assert_listed(&rt, &node, &mut list)?;
+    node.reserve()?;
+    assert_eq!(rt; counts(&node), [4, 2, 2, 2]);
+    node.reset(3);
+    assert_eq!(rt; counts(&node), [3, 0, 0, 0]);
+    let locations = Perm::new(vec![in alloc; 1, 0]?)?.into_locations();
+    assert_eq!(rt; locations.as_slice(), [1, 0].as_slice());
+    let room = Matrix::with_room(alloc, 2)?;
+    assert_eq!(rt; (room.size(), Matrix::empty(alloc).size()), (0, 0));
+    let matrix = Matrix::new(1, vec![in alloc; 7]?).ok_or("count")?;
+    assert_eq!(rt; matrix.into_entries().as_slice(), [7].as_slice());
     Ok(())
 }

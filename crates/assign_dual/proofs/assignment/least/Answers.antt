@@ -1,25 +1,19 @@
-use Rattle.std.proofs.Common.{◌≡◌, length, arith, ap, ◌∙◌, drop, map}
+use Rattle.std.proofs.Common.{arith, drop, length}
 use Rattle.std.proofs.lemmas.List.{take_at}
-use Rattle.assign_dual.proofs.Ranges.{u_within, v_within, v_NoneAbove}
-use Rattle.assign_dual.proofs.Least.{IsPartial-same, IsPartial-square, Assigns-partial, DualsFit-partial, dual_value-is, least-partial}
+use Rattle.assign_dual.proofs.Solved.{IsLeast-placed}
 use Rattle.assign_dual.proofs.assignment.least.Goals as goal
 
-pub returns : goal.returns
-returns g c =
+pub returns-clause-least : goal.returns-clause-least
+returns-clause-least g c =
     let M = c.args.matrix.now in
-    let value = g.N.Number.value in
-    let entries : map value c.deref.result.now ≡ M.entries = ap (map value) c.deref.ensures.value ∙ c.in_ok-entries.ensures ∙ c.entries.ensures in
-    let whole = IsPartial-square M _ _ _ _ _ _ c.place_rows.ensures c.size-n.ensures.value entries in
-    let long : length c.place_rows.new.matching ≡ M.size = whole.matches.matching_count in
-    let same = IsPartial-same M M.size _ _ _ _ _ _ _ whole
-    (take_at c.place_rows.new.matching (drop (length c.place_rows.new.matching) c.in_ok-matching.matching.items) c.in_ok-matching.matching.len (omega (arith, c.in_ok-matching.ensures.len, c.size-n.ensures.value, long)))
-    c.in_ok-u.ensures c.in_ok-v.ensures in
-    record {
-      assigns = Assigns-partial _ _ _ _ _ same;
-      fits = DualsFit-partial _ _ _ _ _ same;
-      equal = dual_value-is _ _ _ _ _ same;
-      least = least-partial _ _ _ _ _ same;
-      u_range = λ m. u_within _ _ _ _ _ _ m same;
-      v_range = λ m. v_within _ _ _ _ _ _ m (omega arith) same;
-      v_sign = v_NoneAbove _ _ _ _ _ _ same;
-    }
+    let ready = c.in_ok-make_ready-3.ensures in
+    let new = c.place_all.new in
+    let done = c.place_all.ensures in
+    let lists = c.make_ready-3.new.self in
+    let matching = done.placed.matches.matching_count in
+    let u = done.placed.fits.u_count in
+    let v = done.placed.fits.v_count in
+    IsLeast-placed M _ new.matching new.u new.v done
+    (take_at new.matching (drop (length new.matching) lists.matching.items) lists.matching.len (omega (arith, ready.matching, lists.matching.ok.0, c.size-n.ensures.value, matching)))
+    (take_at new.u (drop (length new.u) lists.u.items) lists.u.len (omega (arith, ready.u, lists.u.ok.0, c.size-n.ensures.value, u)))
+    (take_at new.v (drop (length new.v) lists.v.items) lists.v.len (omega (arith, ready.v, lists.v.ok.0, c.size-n.ensures.value, v)))

@@ -1,4 +1,4 @@
-use Rattle.std.proofs.Common.{◌≡◌, ℕ, ℤ, List, ◌+◌, ◌-◌, ◌<◌, ◌++◌, ◌∷◌, [], get_or, ap, ap₂, subst, sym, ◌∙◌, length, arith}
+use Rattle.std.proofs.Common.{◌≡◌, ℕ, ℤ, List, ◌+◌, ◌-◌, ◌<◌, ◌++◌, ◌∷◌, [], get_or, ap, subst, sym, ◌∙◌, length, arith}
 use Rattle.std.specs.Prelude.{◌↔◌, IsTrue}
 use Rattle.qap_cost.specs.Instance.{Problem, IsInstance}
 use Rattle.qap_cost.specs.Placement.{IsFreeLocation, placing}

@@ -4,11 +4,11 @@ ghost use Rattle.std.specs.Prelude.{◌≡◌, ◌≤◌, OnOk};
 ghost use Rattle.qap_cost.specs.Bijection.{AreDifferent};
 ghost use Rattle.qap_cost.specs.Placement.{ListsFree, free_below};
 
-use qap_cost::marked;
+use crate::marks::marked;
 use std::alloc::AllocError;
 
 /// Makes `free` the numbers below `n` that are not among these, ascending.
-pub(crate) fn list_free(n: usize, taken: &[u16], free: &mut Vec<u16>) -> Result<(), AllocError>
+pub fn list_free(n: usize, taken: &[u16], free: &mut Vec<u16>) -> Result<(), AllocError>
     requires small { n ≤ 256 }
     requires different { AreDifferent n taken.now }
     ensures value { OnOk result (free.new.items ≡ free_below n taken.now) }

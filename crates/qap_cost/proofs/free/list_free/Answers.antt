@@ -5,8 +5,8 @@ use Rattle.std.proofs.lemmas.Bool.{not_from_true, not_from_false}
 use Rattle.qap_cost.specs.Placement.{is_untaken}
 use Rattle.qap_cost.proofs.Picks.{filter-range_take, filter-range_skip}
 use Rattle.qap_cost.proofs.Placements.{ListsFree-free_below, AreDifferent-length}
-use Rattle.qap_cost.proofs.partial.free_numbers.Goals as goal
-use Rattle.qap_cost.proofs.partial.free_numbers.Goals.{then-not-is_taken-k+in_ok-push, else-not-is_taken-k}
+use Rattle.qap_cost.proofs.free.list_free.Goals as goal
+use Rattle.qap_cost.proofs.free.list_free.Goals.{then-not-is_taken-k+in_ok-push, else-not-is_taken-k}
 
 pub loop-k-preserved : goal.loop-k-preserved
 loop-k-preserved c =
