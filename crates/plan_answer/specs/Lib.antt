@@ -1,0 +1,4 @@
+pub mod Answer
+pub mod Gap
+pub mod Lines
+pub mod Pairs
