@@ -5,6 +5,6 @@ use Rattle.plan_file.specs.Problem.{flow_of}
 
 -- the first numbers, by rows, of the flows between as many departments as there are places
 pub record IsFilledUp (departments : ℕ) (flows : List ℤ) (places count : ℕ) (filled : List ℤ) : Type 0 where
-  pub count : length filled ≡ count
+  pub many : length filled ≡ count
   pub flow : (k : ℕ) → k < count → slice_index_or filled k (pos 0) ≡ flow_of departments flows (k / places) (k % places)
   pub in_range : (k : ℕ) → k < count → InRange (slice_index_or filled k (pos 0))

@@ -1,19 +1,15 @@
 -- A plan: a text in TOML that names the files of its tables.
-use Rattle.std.specs.Prelude.{◌≡◌, ◌⊎◌, ℕ, List, [], ◌∷◌, Some, All, IsUtf8, codes}
+use Rattle.std.specs.Prelude.{◌≡◌, ◌⊎◌, ⊤, ℕ, List, Some, IsUtf8, codes}
 use Rattle.toml.specs.Data.{Members, no_members, member, string, get_member}
 use Rattle.toml.specs.Parse.{parse_document}
-
--- the keys of a table
-abbrev pub keys_of : Members → List (List ℕ)
-keys_of no_members = []
-keys_of (member k d ms) = k ∷ keys_of ms
 
 -- what a plan may say
 abbrev pub IsKnown : List ℕ → Type 0
 IsKnown key = (key ≡ codes "flows") ⊎ (key ≡ codes "distances")
 
 abbrev pub AreKnown : Members → Type 0
-AreKnown members = All IsKnown (keys_of members)
+AreKnown no_members = ⊤
+AreKnown (member k d ms) = IsKnown k × AreKnown ms
 
 -- the text says these two files, and nothing else
 pub record IsPlanText (text flows distances : List ℕ) : Type 0 where
@@ -21,5 +17,5 @@ pub record IsPlanText (text flows distances : List ℕ) : Type 0 where
   pub members : Members
   pub read : parse_document text ≡ Some members
   pub known : AreKnown members
-  pub flows : get_member (codes "flows") members ≡ Some (string flows)
-  pub distances : get_member (codes "distances") members ≡ Some (string distances)
+  pub flow_file : get_member (codes "flows") members ≡ Some (string flows)
+  pub distance_file : get_member (codes "distances") members ≡ Some (string distances)

@@ -13,8 +13,8 @@ max_places = 100
 pub record AreTablesOf (flows distances : List ℕ) (P : NamedProblem) : Type 0 where
   pub flow_entries : List ℤ
   pub distance_entries : List ℤ
-  pub flows : IsMatrixText flows (map string_bytes P.departments.items) P.flow_scale flow_entries
-  pub distances : IsMatrixText distances (map string_bytes P.places.items) P.distance_scale distance_entries
+  pub flow_text : IsMatrixText flows (map string_bytes P.departments.items) P.flow_scale flow_entries
+  pub distance_text : IsMatrixText distances (map string_bytes P.places.items) P.distance_scale distance_entries
   pub problem : IsProblemOf (length P.departments.items) flow_entries (length P.places.items) distance_entries P.instance
 
 -- a facility for each place, and no fewer than departments; few places behind the points

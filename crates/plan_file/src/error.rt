@@ -51,10 +51,7 @@ impl From<AllocError> for PlanError {
 pub enum ProblemError {
     /// There are more departments than places.
     #[error("there are {departments} departments and {places} places: add places to the table of distances, or take departments out of the table of flows")]
-    TooManyDepartments {
-        departments: usize,
-        places: usize,
-    },
+    TooManyDepartments { departments: usize, places: usize },
     /// There is no memory left.
     #[error("out of memory")]
     OutOfMemory,

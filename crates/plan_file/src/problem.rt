@@ -32,7 +32,7 @@ pub fn problem_of(
         });
     }
     let a = filled_up(alloc, &flows.entries, departments, places)?;
-    let b = distances.entries.clone()?;
+    let b = Vec::from_slice(alloc, &distances.entries)?;
     match Instance::new(places, a, b) {
         Ok(instance) => Ok(instance),
         Err(_) => unreachable!(),
