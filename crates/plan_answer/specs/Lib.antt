@@ -1,4 +1,3 @@
 pub mod Answer
-pub mod Gap
 pub mod Lines
 pub mod Pairs

