@@ -29,7 +29,7 @@ before_kept-ends b (k ∷ ks) low high (inl none) = absurd (cc)
 before_kept-ends b (k ∷ ks) low high (inr ends) =
     let (front, last, is, above, below) = ends in inr (b ∷ front, last, ap (λ l. b ∷ l) is, above, below)
 
-and_parts : (a b : Bool) → (a && b) ≡ true → (a ≡ true) × (b ≡ true)
+pub and_parts : (a b : Bool) → (a && b) ≡ true → (a ≡ true) × (b ≡ true)
 and_parts true b both = (refl, both)
 and_parts false b both = absurd (false≢true both)
 

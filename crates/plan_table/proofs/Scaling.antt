@@ -13,7 +13,7 @@ use Rattle.plan_table.specs.declared.decimal.Decimal.{Decimal}
 power_more : (i : ℕ) → 10 ^ (i + 1) ≡ 10 ^ i * 10
 power_more i = ap (λ k. 10 ^ k) (add-one i) ∙ pow-suc 10 i
 
-neg_times : (k b : ℕ) → neg_ℤ (pos k) *ℤ pos b ≡ neg_ℤ (pos (k * b))
+pub neg_times : (k b : ℕ) → neg_ℤ (pos k) *ℤ pos b ≡ neg_ℤ (pos (k * b))
 neg_times zero b =
     let none : 0 * b ≡ 0 = omega arith in
     ap pos none ∙ sym (ap (λ k. neg_ℤ (pos k)) none)

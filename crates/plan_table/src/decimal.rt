@@ -136,7 +136,7 @@ fn is_digit(byte: u8) -> bool
 }
 
 /// Digits without the zeros at their end.
-fn without_zeros(digits: &[u8]) -> &[u8]
+pub fn without_zeros(digits: &[u8]) -> &[u8]
     ensures { result.now ≡ zeros_cut digits.now }
 {
     let mut kept = digits;

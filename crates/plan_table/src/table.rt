@@ -2,6 +2,7 @@
 
 ghost use Rattle.std.specs.Prelude.{map, IfOk};
 ghost use Rattle.std.specs.String.{string_bytes};
+ghost use Rattle.plan_table.specs.Shape.{IsNamedSquare};
 ghost use Rattle.plan_table.specs.Table.{IsMatrixText};
 
 use crate::error::TableError;
@@ -27,7 +28,8 @@ pub struct NamedMatrix {
 /// behind it; blanks count as parts of a name or a number. All numbers are multiplied by the least power of ten that makes them
 /// whole, and lie from -10^9 to 10^9 then. A byte order mark at the front is passed over.
 pub fn read_matrix(alloc: Global, text: &[u8]) -> Result<NamedMatrix, TableError>
-    ensures { IfOk result (λ m. IsMatrixText text.now (map string_bytes m.names.items) m.scale m.entries.items) }
+    ensures text { IfOk result (λ m. IsMatrixText text.now (map string_bytes m.names.items) m.scale m.entries.items) }
+    ensures square { IfOk result (λ m. IsNamedSquare (map string_bytes m.names.items) m.entries.items) }
 {
     let records = read_records(alloc, text)?;
     let Some((head, rows)) = records.split_first() else {

@@ -1,5 +1,6 @@
 pub mod Answer
 pub mod Answering
+pub mod Arranging
 pub mod Options
 pub mod Planning
 pub mod Reading

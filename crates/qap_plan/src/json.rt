@@ -1,6 +1,11 @@
 //! An answer as JSON.
 
+ghost use Rattle.plan_file.specs.Tables.{HasSizes};
+
 use crate::planning::Planned;
+use plan_answer::cost_text;
+use plan_file::NamedProblem;
+use qap_cost::Perm;
 use serde_json::{Value, json};
 use std::alloc::{AllocError, Global};
 
@@ -9,17 +14,12 @@ use std::alloc::{AllocError, Global};
 pub fn json_text(alloc: Global, answer: &Planned, milliseconds: u64) -> Result<String, AllocError> {
     let cost = answer.cost;
     let bound = answer.bound;
-    let status = if answer.is_optimal() {
-        "optimal"
-    } else {
-        "bounded"
-    };
     let value = json!(in alloc; {
         "version": "0.2.0",
-        "status": status,
+        "status": status_word(answer),
         "cost": format!(in alloc; "{cost}")?,
         "bound": format!(in alloc; "{bound}")?,
-        "permutation": locations(alloc, answer)?,
+        "permutation": locations(alloc, &answer.permutation)?,
         "nodes": answer.nodes,
         "open": answer.open_nodes,
         "milliseconds": milliseconds,
@@ -27,10 +27,78 @@ pub fn json_text(alloc: Global, answer: &Planned, milliseconds: u64) -> Result<S
     value.to_string(alloc)
 }
 
+/// The same of a problem with names: `cost` and `bound` are in the plan's own units, `departments` and `places` are the names, in the tables' order, and
+/// `arrangement` has the place of each department, by its name.
+pub fn named_json_text(
+    alloc: Global,
+    problem: &NamedProblem,
+    answer: &Planned,
+    milliseconds: u64,
+) -> Result<String, AllocError>
+    requires { HasSizes problem.now }
+{
+    let value = json!(in alloc; {
+        "version": "0.2.0",
+        "status": status_word(answer),
+        "cost": cost_value(alloc, problem, answer.cost)?,
+        "bound": cost_value(alloc, problem, answer.bound)?,
+        "departments": names_value(alloc, &problem.departments)?,
+        "places": names_value(alloc, &problem.places)?,
+        "arrangement": arrangement(alloc, problem, &answer.permutation)?,
+        "permutation": locations(alloc, &answer.permutation)?,
+        "flow_scale": problem.flow_scale as u64,
+        "distance_scale": problem.distance_scale as u64,
+        "nodes": answer.nodes,
+        "open": answer.open_nodes,
+        "milliseconds": milliseconds,
+    })?;
+    value.to_string(alloc)
+}
+
+fn status_word(answer: &Planned) -> &'static str {
+    if answer.is_optimal() {
+        "optimal"
+    } else {
+        "bounded"
+    }
+}
+
+/// A cost in the plan's own units.
+fn cost_value(alloc: Global, problem: &NamedProblem, cost: i128) -> Result<String, AllocError>
+    requires { HasSizes problem.now }
+{
+    let text = cost_text(alloc, problem, cost)?;
+    String::from_str(alloc, std::str::from_utf8(&text).unwrap_or(""))
+}
+
+/// Names, as a list of texts.
+fn names_value(alloc: Global, names: &[String]) -> Result<Value, AllocError> {
+    let mut values = Vec::new(alloc);
+    for name in names {
+        values.push(Value::String(name.clone()?))?;
+    }
+    Ok(Value::Array(values))
+}
+
+/// The place of each department, by its name.
+fn arrangement(
+    alloc: Global,
+    problem: &NamedProblem,
+    permutation: &Perm,
+) -> Result<Value, AllocError> {
+    let mut places = Vec::new(alloc);
+    for (_, &location) in problem.departments.iter().zip(permutation.locations()) {
+        if let Some(place) = problem.places.get(usize::from(location)) {
+            places.push(Value::String(place.clone()?))?;
+        }
+    }
+    Ok(Value::Array(places))
+}
+
 /// The location of each facility, counted from 1.
-fn locations(alloc: Global, answer: &Planned) -> Result<Value, AllocError> {
+fn locations(alloc: Global, permutation: &Perm) -> Result<Value, AllocError> {
     let mut locations = Vec::new(alloc);
-    for &location in answer.permutation.locations() {
+    for &location in permutation.locations() {
         locations.push(Value::from(u32::from(location) + 1))?;
     }
     Ok(Value::Array(locations))

@@ -3,11 +3,14 @@
 
 mod answer;
 mod answering;
+mod arranging;
 mod command_line;
 mod elapsed;
 mod error;
 mod json;
+mod loading;
 mod options;
+mod plan_run;
 mod planning;
 mod reading;
 mod starting;
@@ -23,10 +26,12 @@ use command_line::{Request, parse};
 use elapsed::Elapsed;
 use error::PlanError;
 use json::json_text;
+use plan_run::{is_plan, solve_plan};
 use planning::Planned;
 use qap_io::{Counted, Status};
 use qap_search::Stop;
 use std::alloc::Global;
+use std::fs::Files;
 use std::io::{Read, Write};
 use std::process::ExitCode;
 use std::rt::Env;
@@ -45,6 +50,7 @@ fn main(rt: HostRuntime) -> ExitCode {
         Err(error) => return tell_unread(&rt, &error),
     };
     match parse(rt.alloc(), &words) {
+        Ok(request) if is_plan(request.file) => solve_plan(&rt, &rt, &request),
         Ok(request) => solve(&rt, &rt, &request),
         Err(error) => tell(&rt, &error),
     }
@@ -74,7 +80,7 @@ fn tell(rt: &HostRuntime, error: &Error) -> ExitCode {
 }
 
 /// Tells on standard error what a file is refused for.
-fn refuse(rt: &HostRuntime, file: &str, error: PlanError) -> ExitCode {
+pub(crate) fn refuse(rt: &HostRuntime, file: &str, error: PlanError) -> ExitCode {
     let _ = rt.eprintln(format_args!("error: {file}: {error}"));
     ExitCode::from(error.status().code())
 }
@@ -88,13 +94,10 @@ where
     let Ok(file) = fs::open(rt, request.file) else {
         return refuse(rt, request.file, PlanError::Device);
     };
-    let mut start = None;
-    if let Some(name) = request.start {
-        let Ok(file) = fs::open(rt, name) else {
-            return refuse(rt, name, PlanError::Device);
-        };
-        start = Some(Counted::new(file));
-    }
+    let start = match start_of(rt, request) {
+        Ok(start) => start,
+        Err(name) => return refuse(rt, name, PlanError::Device),
+    };
     let elapsed = Elapsed::new(system, request.options.seconds);
     let alloc = rt.alloc();
     let answer = if request.quiet {
@@ -106,6 +109,20 @@ where
     match answer {
         Ok(answer) => finish(rt, request, &answer, elapsed.milliseconds()),
         Err(error) => refuse(rt, faulty_file(request, error), error),
+    }
+}
+
+/// The file of the start that is asked for; its name, where it can't be opened.
+pub(crate) fn start_of<'a, R: Files>(
+    rt: &R,
+    request: &Request<'a>,
+) -> Result<Option<Counted<R::File>>, &'a str> {
+    let Some(name) = request.start else {
+        return Ok(None);
+    };
+    match fs::open(rt, name) {
+        Ok(file) => Ok(Some(Counted::new(file))),
+        Err(_) => Err(name),
     }
 }
 
@@ -139,7 +156,7 @@ where
 }
 
 /// The file that an error is about.
-fn faulty_file<'a>(request: &Request<'a>, error: PlanError) -> &'a str {
+pub(crate) fn faulty_file<'a>(request: &Request<'a>, error: PlanError) -> &'a str {
     match (request.start, error) {
         (Some(start), PlanError::Start(_) | PlanError::StartCost(_)) => start,
         _ => request.file,
@@ -163,6 +180,11 @@ fn finish(
             return refuse(rt, file, error);
         }
     }
+    end_of(answer)
+}
+
+/// How a run ends that has come to an answer.
+pub(crate) fn end_of(answer: &Planned) -> ExitCode {
     let status = if answer.is_optimal() {
         Status::Done
     } else {

@@ -3,6 +3,7 @@ use Rattle.std.specs.String.{string_bytes}
 use Rattle.std.proofs.lemmas.List.{length-map}
 use Rattle.csv.specs.Records.{fields_of}
 use Rattle.plan_table.proofs.RowLists.{AreRows-there}
+use Rattle.plan_table.proofs.Shapes.{square_of}
 use Rattle.plan_table.proofs.table.read_matrix.Goals as goal
 
 pub too_large-requires-clause-there : goal.too_large-requires-clause-there
@@ -19,3 +20,7 @@ too_large-requires-clause-there c =
     let there = AreRows-there (length names) (map string_bytes names) (map fields_of rows) decimals i c.in_ok-decimals.ensures named below in
     let as_many = length-map rows fields_of in
     subst (λ (k : ℕ). i / k < length rows) same (omega (arith, there, as_many))
+
+pub returns-in-Ok-clause-square : goal.returns-in-Ok-clause-square
+returns-in-Ok-clause-square c =
+    square_of string_bytes c.in_ok-names.names.items c.deref-2.result.now (map fields_of c.in-Some.rows.now) c.in_ok-decimals.decimals.items c.deref-4.result.now _ c.in-Ok.entries.items c.deref-2.ensures.value c.deref-4.ensures.value c.in_ok-names.ensures.0 c.in_ok-decimals.ensures c.in-Ok.ensures

@@ -1,0 +1,106 @@
+//! The lines of an answer.
+
+ghost use Rattle.std.specs.Prelude.{◌≡◌, ◌==◌, ◌<◌, ◌≤◌, ◌++◌, [], ℕ, if◌then◌else◌, length, map, slice_index, IfOk, OnOk, string_bytes};
+ghost use Rattle.std.specs.List.{list_any};
+ghost use Rattle.plan_answer.specs.Lines.{empty_line, empty_lines, stands_line, stands_lines, verdict_line};
+
+use std::alloc::{AllocError, Global};
+
+/// Puts a line for each department and its place at the end of the text.
+pub fn push_departments(
+    alloc: Global,
+    text: &mut Vec<u8>,
+    departments: &[String],
+    places: &[String],
+    locations: &[u16],
+) -> Result<(), AllocError>
+    requires there { (i : ℕ) → i < length locations.now → slice_index locations.now i < length places.now }
+    requires room { length departments.now ≤ length locations.now }
+    ensures { OnOk result (text.new.items ≡ text.old.items ++ stands_lines (map string_bytes departments.now) (map string_bytes places.now) locations.now) }
+{
+    for (i, department) in departments.iter().enumerate() {
+        let place = &places[usize::from(locations[i])];
+        let line = stands_line(alloc, department.as_str(), place.as_str())?;
+        text.extend_from_slice(line.as_bytes())?;
+    }
+    Ok(())
+}
+
+/// Puts a line for each place that isn't taken at the end of the text.
+pub fn push_empty_places(
+    alloc: Global,
+    text: &mut Vec<u8>,
+    places: &[String],
+    taken: &[u16],
+) -> Result<(), AllocError>
+    ensures { OnOk result (text.new.items ≡ text.old.items ++ empty_lines 0 (map string_bytes places.now) taken.now) }
+{
+    for (k, place) in places.iter().enumerate() {
+        push_if_empty(alloc, text, place.as_str(), is_taken(taken, k))?;
+    }
+    Ok(())
+}
+
+/// Puts the line of a place at the end of the text, unless it is taken.
+fn push_if_empty(
+    alloc: Global,
+    text: &mut Vec<u8>,
+    place: &str,
+    taken: bool,
+) -> Result<(), AllocError>
+    ensures { OnOk result (text.new.items ≡ text.old.items ++ (if taken then [] else empty_line place.now)) }
+{
+    if !taken {
+        let line = empty_line(alloc, place)?;
+        text.extend_from_slice(line.as_bytes())?;
+    }
+    Ok(())
+}
+
+/// Whether a number is among those taken.
+fn is_taken(taken: &[u16], k: usize) -> bool
+    ensures { result ≡ list_any (λ l. k == l) taken.now }
+{
+    taken.iter().any(|other| k == usize::from(*other))
+}
+
+/// The line of a department and its place.
+fn stands_line(alloc: Global, department: &str, place: &str) -> Result<String, AllocError>
+    ensures { IfOk result (λ line. string_bytes line ≡ stands_line department.now place.now) }
+{
+    format!(in alloc; "{department} at {place}\n")
+}
+
+/// The line of a place that stays empty.
+fn empty_line(alloc: Global, place: &str) -> Result<String, AllocError>
+    ensures { IfOk result (λ line. string_bytes line ≡ empty_line place.now) }
+{
+    format!(in alloc; "{place} stays empty\n")
+}
+
+/// Puts what is proved of the cost at the end of the text: that it is optimal, or where that isn't shown, between which bounds the least
+/// cost lies.
+pub fn push_verdict(
+    text: &mut Vec<u8>,
+    is_open: bool,
+    cost: &[u8],
+    bound: &[u8],
+    apart: &[u8],
+) -> Result<(), AllocError>
+    ensures { OnOk result (text.new.items ≡ text.old.items ++ verdict_line is_open cost.now bound.now apart.now) }
+{
+    text.extend_from_slice(b"cost ")?;
+    text.extend_from_slice(cost)?;
+    if is_open {
+        text.extend_from_slice(b", within ")?;
+        text.extend_from_slice(bound)?;
+        text.extend_from_slice(b" to ")?;
+        text.extend_from_slice(cost)?;
+        text.extend_from_slice(b", proved")?;
+        text.extend_from_slice(apart)?;
+        text.extend_from_slice(b"\n")?;
+    } else {
+        text.extend_from_slice(b", optimal, proved\n")?;
+    }
+    Ok(())
+}

@@ -1,0 +1,48 @@
+-- The keys of a table, and the texts at them.
+use Rattle.std.proofs.Common.{◌≡◌, ℕ, ap, codes, List, [], ◌∷◌, map, Option, Some, None, String, Global, string_bytes, refl, sym, ◌∙◌}
+use Rattle.std.specs.Prelude.{⊤}
+use Rattle.std.specs.Map.{keys_of}
+use Rattle.std.proofs.lemmas.Option.{same_Some}
+use Rattle.toml.specs.Parse.{parse_document}
+use Rattle.toml.specs.Data.{Data, Members, get_member, string, integer, float, boolean, datetime, array, table, as_str}
+use Rattle.toml.specs.View.{members_view}
+use Rattle.toml.proofs.Views.{Entry}
+use Rattle.plan_file.specs.Plan.{AreKnown, IsKnown, IsPlanText}
+
+pub text_of : (d : Data) (s : List ℕ) → Some s ≡ as_str d → d ≡ string s
+text_of (string t) s is = cc
+text_of (integer z) s is = absurd (cc)
+text_of (float x) s is = absurd (cc)
+text_of (boolean b) s is = absurd (cc)
+text_of (datetime t) s is = absurd (cc)
+text_of (array ds) s is = absurd (cc)
+text_of (table ms) s is = absurd (cc)
+
+pub no_text : (d : Data) (s : List ℕ) → None ≡ as_str d → d ≡ string s → ⊥
+no_text (string t) s none is = absurd (cc)
+no_text (integer z) s none is = absurd (cc)
+no_text (float x) s none is = absurd (cc)
+no_text (boolean b) s none is = absurd (cc)
+no_text (datetime t) s none is = absurd (cc)
+no_text (array ds) s none is = absurd (cc)
+no_text (table ms) s none is = absurd (cc)
+
+-- names that a plan may have as keys
+abbrev pub AreKnownNames : List (String Global) → Type 0
+AreKnownNames [] = ⊤
+AreKnownNames (k ∷ ks) = IsKnown (string_bytes k) × AreKnownNames ks
+
+pub names_known : (es : List Entry) → AreKnown (members_view es) → AreKnownNames (keys_of es)
+names_known [] known = tt
+names_known (e ∷ es) known = (known.0, names_known es known.1)
+
+pub keys_known : (es : List Entry) → AreKnownNames (keys_of es) → AreKnown (members_view es)
+keys_known [] known = tt
+keys_known (e ∷ es) known = (known.0, keys_known es known.1)
+
+-- where a table has no text at a key, its text is no plan
+pub no_distances : (text : List ℕ) (members : Members) → parse_document text ≡ Some members → ((name : List ℕ) → get_member (codes "distances") members ≡ Some (string name) → ⊥)
+    → (flows distances : List ℕ) → IsPlanText text flows distances → ⊥
+no_distances text members read none flows distances plan =
+    let same : plan.members ≡ members = same_Some _ _ (sym plan.read ∙ read) in
+    none distances (ap (get_member (codes "distances")) (sym same) ∙ plan.distance_file)

@@ -1,0 +1,4 @@
+pub mod Filling
+pub mod Plan
+pub mod Problem
+pub mod Tables

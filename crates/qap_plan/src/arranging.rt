@@ -1,0 +1,67 @@
+//! A problem with names planned.
+
+ghost use Rattle.std.specs.Prelude.{◌≡◌, MatchResult};
+ghost use Rattle.plan_file.specs.Tables.{HasSizes};
+ghost use Rattle.qap_plan.specs.Arranging.{HasArranged, HasNotArranged};
+ghost use Rattle.qap_plan.specs.Options.{AreLimited};
+ghost use Rattle.qap_plan.specs.Starting.{starting_of};
+
+use crate::error::PlanError;
+use crate::options::Options;
+use crate::planning::{Planned, search};
+use crate::starting::read_start;
+use plan_answer::answer_text;
+use plan_file::NamedProblem;
+use qap_io::{Counted, send};
+use qap_search::{Clock, Stop};
+use std::alloc::Global;
+use std::io::{Read, Write};
+use std::sync::Wait;
+use std::thread::Threads;
+use std::time;
+
+/// Searches a problem with names, from a start where there is a reader of one, and writes where each department stands and what is proved of
+/// the cost, in the plan's own units; what the search has come to is answered too. Where there is no answer, nothing is written; where the writer
+/// fails, a beginning of the text has gone out.
+pub fn plan_named<T, Q, W, C, S>(
+    system: &T,
+    alloc: Global,
+    problem: &NamedProblem,
+    start: &mut Option<Counted<Q>>,
+    writer: &mut Counted<W>,
+    options: &Options,
+    clock: &C,
+    stop: &S,
+) -> Result<Planned, PlanError>
+where
+    T: Threads + Wait + time::Clock + Sync,
+    Q: Read,
+    W: Write,
+    C: Clock,
+    S: Stop,
+    requires limited { AreLimited options.now }
+    requires sizes { HasSizes problem.now }
+    ensures { let s = starting_of Q.remaining start.old start.new in MatchResult result
+        (HasArranged problem.now s W.contents writer.old writer.new)
+        (HasNotArranged problem.now s W.contents writer.old writer.new) }
+{
+    let start = read_start(alloc, start, &problem.instance)?;
+    let found = search(
+        system,
+        alloc,
+        &problem.instance,
+        start,
+        options,
+        clock,
+        stop,
+    )?;
+    let text = answer_text(
+        alloc,
+        problem,
+        &found.permutation,
+        found.cost,
+        found.bound,
+    )?;
+    send(writer, &text)?;
+    Ok(found)
+}

@@ -1,0 +1,139 @@
+//! Loads the problem of a plan, and of the tables that it names.
+
+ghost use Rattle.std.specs.Prelude.{◌≡◌, IfOk};
+ghost use Rattle.plan_file.specs.Tables.{HasSizes};
+ghost use Rattle.qap_plan.specs.declared.loading.LoadError.TheVariants.{OutOfMemory as WantOfMemory};
+
+use plan_file::{NamedProblem, PlanError, ProblemError, TablesError, read_plan, read_tables};
+use plan_table::TableError;
+use qap_io::{Counted, Status};
+use qap_text::{MAX_INPUT, TextError, read_all};
+use std::alloc::{AllocError, Global};
+use std::fs::{self, Files};
+use std::path::Path;
+use thiserror::Error;
+
+/// Why a plan has no problem, and which file is at fault.
+#[derive(Debug, Drop, Error)]
+pub enum LoadError {
+    /// A file isn't there, is a folder, or can't be read.
+    #[error("{file}: the file can't be read: name one that is there; the files of tables are sought from the plan's folder")]
+    Unread {
+        file: String,
+    },
+    /// A file is too long.
+    #[error("{file}: the file is longer than 1 GiB")]
+    TooLong {
+        file: String,
+    },
+    /// The text is no plan.
+    #[error("{file}: {error}")]
+    Plan {
+        file: String,
+        error: PlanError,
+    },
+    /// The tables make no problem.
+    #[error("{file}: {error}")]
+    Tables {
+        file: String,
+        error: TablesError,
+    },
+    /// There is no memory left.
+    #[error("out of memory")]
+    OutOfMemory,
+}
+
+impl LoadError {
+    /// How a run ends that meets this.
+    pub fn status(&self) -> Status {
+        match self {
+            LoadError::OutOfMemory => Status::OutOfMemory,
+            LoadError::Plan { error, .. } => plan_status(error),
+            LoadError::Tables { error, .. } => tables_status(error),
+            _ => Status::Refused,
+        }
+    }
+}
+
+fn plan_status(error: &PlanError) -> Status {
+    match error {
+        PlanError::OutOfMemory => Status::OutOfMemory,
+        _ => Status::Refused,
+    }
+}
+
+fn tables_status(error: &TablesError) -> Status {
+    match error {
+        TablesError::Flows(TableError::OutOfMemory)
+        | TablesError::Distances(TableError::OutOfMemory)
+        | TablesError::Problem(ProblemError::OutOfMemory) => Status::OutOfMemory,
+        _ => Status::Refused,
+    }
+}
+
+impl From<AllocError> for LoadError {
+    ghost from_gives = { λ _ e. e ≡ WantOfMemory };
+
+    fn from(_error: AllocError) -> LoadError {
+        LoadError::OutOfMemory
+    }
+}
+
+/// The problem of a plan's file and of the tables' files that it names.
+pub fn load_problem<R: Files + AllocGlobal>(rt: &R, file: &str) -> Result<NamedProblem, LoadError>
+    ensures { IfOk result HasSizes }
+{
+    let alloc = rt.alloc();
+    let text = read_file(rt, file)?;
+    let plan = match read_plan(alloc, &text) {
+        Ok(plan) => plan,
+        Err(error) => {
+            let file = String::from_str(alloc, file)?;
+            return Err(LoadError::Plan { file, error });
+        }
+    };
+    let flows_file = beside(alloc, file, plan.flows.as_str())?;
+    let distances_file = beside(alloc, file, plan.distances.as_str())?;
+    let flows = read_file(rt, flows_file.as_str())?;
+    let distances = read_file(rt, distances_file.as_str())?;
+    match read_tables(alloc, &flows, &distances) {
+        Ok(problem) => Ok(problem),
+        Err(error) => {
+            let file = match &error {
+                TablesError::Flows(_) | TablesError::FlowsTooFine => flows_file,
+                TablesError::Distances(_) | TablesError::DistancesTooFine => distances_file,
+                TablesError::Problem(_) => String::from_str(alloc, file)?,
+            };
+            Err(LoadError::Tables { file, error })
+        }
+    }
+}
+
+/// The file of a name that stands in a plan: what is no absolute path is sought from the plan's folder.
+fn beside(alloc: Global, plan: &str, name: &str) -> Result<String, AllocError> {
+    match Path::new(plan).parent() {
+        Some(folder) => Ok(folder.join(alloc, name)?.into_string()),
+        None => String::from_str(alloc, name),
+    }
+}
+
+/// All bytes of a file.
+fn read_file<R: Files + AllocGlobal>(rt: &R, file: &str) -> Result<Vec<u8>, LoadError> {
+    let alloc = rt.alloc();
+    let Ok(opened) = fs::open(rt, file) else {
+        let file = String::from_str(alloc, file)?;
+        return Err(LoadError::Unread { file });
+    };
+    match read_all(alloc, &mut Counted::new(opened), MAX_INPUT) {
+        Ok(bytes) => Ok(bytes),
+        Err(TextError::OutOfMemory) => Err(LoadError::OutOfMemory),
+        Err(TextError::InputTooLong) => {
+            let file = String::from_str(alloc, file)?;
+            Err(LoadError::TooLong { file })
+        }
+        Err(_) => {
+            let file = String::from_str(alloc, file)?;
+            Err(LoadError::Unread { file })
+        }
+    }
+}
