@@ -1,6 +1,6 @@
 //! What no clause says: that calls succeed, what worked tables are read as, and how each refusal is told.
 
-use plan_table::{NamedMatrix, read_matrix};
+use plan_table::{NamedMatrix, decimal_text, read_matrix};
 use std::process::Abort;
 use std::test::Fail;
 
@@ -130,6 +130,24 @@ fn tells_what_is_wrong(rt: HostRuntime) -> Result<(), Fail> {
             Err(error) => format!(in rt.alloc(); "{error}")?,
         };
         assert_eq!(rt; told.as_str(), want);
+    }
+    Ok(())
+}
+
+#[test]
+fn spells_numbers(rt: HostRuntime) -> Result<(), Fail> {
+    let cases: [(i128, usize, &str); 7] = [
+        (0, 0, "0"),
+        (0, 3, "0"),
+        (42, 0, "42"),
+        (89_225, 2, "892.25"),
+        (36_000, 2, "360"),
+        (-5, 2, "-0.05"),
+        (-1_234_500_000_000_000_000_000_000, 3, "-1234500000000000000000"),
+    ];
+    for (number, places, want) in cases {
+        let text = decimal_text(rt.alloc(), number, places)?;
+        assert_eq!(rt; text.as_slice(), want.as_bytes());
     }
     Ok(())
 }
