@@ -58,6 +58,7 @@ fn reads_plans(rt: HostRuntime) -> Result<(), Fail> {
 }
 
 const FLOWS: &[u8] = b",Saw,Lathe\nSaw,0,2.5\nLathe,1,0\n";
+
 const DISTANCES: &[u8] = b",A,B,C\nA,0,1.25,4\nB,2,0,3\nC,4,3,0\n";
 
 #[test]
