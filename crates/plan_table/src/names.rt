@@ -14,18 +14,22 @@ use std::alloc::Global;
 pub const MAX_NAMES: usize = 256;
 
 /// The names that stand behind the first field of a record.
-pub fn read_names(alloc: Global, head: &StringRecord) -> Result<Vec<String>, TableError>
+pub fn read_names(
+    alloc: Global,
+    text: &[u8],
+    head: &StringRecord,
+) -> Result<Vec<String>, TableError>
     ensures { IfOk result (λ names. AreNames (map string_bytes names.items)
         × (corner : List ℕ) × (fields_of head.now ≡ corner ∷ map string_bytes names.items)) }
 {
     if head.len() < 2 {
         return Err(TableError::NoName {
-            line: line_of(head),
+            line: line_of(text, head),
         });
     }
     if head.len() > MAX_NAMES + 1 {
         return Err(TableError::TooManyNames {
-            line: line_of(head),
+            line: line_of(text, head),
             count: head.len() - 1,
         });
     }
@@ -35,7 +39,7 @@ pub fn read_names(alloc: Global, head: &StringRecord) -> Result<Vec<String>, Tab
             unreachable!()
         };
         let place = Place {
-            line: line_of(head),
+            line: line_of(text, head),
             field: column + 1,
         };
         let name = new_name(alloc, &names, name, place)?;

@@ -17,6 +17,7 @@ use std::alloc::Global;
 /// The numbers of the rows of these names, by rows.
 pub fn read_rows(
     alloc: Global,
+    text: &[u8],
     rows: &[StringRecord],
     names: &[String],
 ) -> Result<Vec<Decimal>, TableError>
@@ -32,6 +33,7 @@ pub fn read_rows(
         }
         read_row(
             alloc,
+            text,
             &rows[i],
             names[i].as_str(),
             names.len(),
@@ -39,15 +41,15 @@ pub fn read_rows(
         )?;
     }
     if rows.len() > names.len() {
-        return Err(extra_row(alloc, &rows[names.len()]));
+        return Err(extra_row(alloc, text, &rows[names.len()]));
     }
     Ok(decimals)
 }
 
-fn extra_row(alloc: Global, record: &StringRecord) -> TableError {
+fn extra_row(alloc: Global, text: &[u8], record: &StringRecord) -> TableError {
     match String::from_str(alloc, record.get(0).unwrap_or("")) {
         Ok(found) => TableError::ExtraRow {
-            place: place_of(record, 0),
+            place: place_of(text, record, 0),
             found,
         },
         Err(_) => TableError::OutOfMemory,
@@ -57,6 +59,7 @@ fn extra_row(alloc: Global, record: &StringRecord) -> TableError {
 /// Reads the row of a name: its numbers are put behind those that were read before.
 fn read_row(
     alloc: Global,
+    text: &[u8],
     record: &StringRecord,
     name: &str,
     count: usize,
@@ -66,24 +69,29 @@ fn read_row(
     ensures { OnOk result ((row : List Decimal) × IsRow count name.now (fields_of record.now) row
         × (decimals.new.items ≡ decimals.old.items ++ row)) }
 {
-    check_name(alloc, record, name)?;
+    check_name(alloc, text, record, name)?;
     for column in 0..count {
-        let decimal = read_cell(alloc, record, column)?;
+        let decimal = read_cell(alloc, text, record, column)?;
         decimals.push(decimal).map_err(|_| TableError::OutOfMemory)?;
     }
-    check_end(alloc, record, count)?;
+    check_end(alloc, text, record, count)?;
     Ok(())
 }
 
 /// Checks that a record begins with a name.
-fn check_name(alloc: Global, record: &StringRecord, name: &str) -> Result<(), TableError>
+fn check_name(
+    alloc: Global,
+    text: &[u8],
+    record: &StringRecord,
+    name: &str,
+) -> Result<(), TableError>
     ensures { OnOk result (field_at (fields_of record.now) 0 ≡ Some name.now) }
 {
     if begins_with(record, name) {
         return Ok(());
     }
     Err(TableError::OtherName {
-        place: place_of(record, 0),
+        place: place_of(text, record, 0),
         expected: String::from_str(alloc, name)?,
         found: String::from_str(alloc, record.get(0).unwrap_or(""))?,
     })
@@ -100,7 +108,12 @@ fn begins_with(record: &StringRecord, name: &str) -> bool
 }
 
 /// Checks that a record ends behind its name and so many cells.
-fn check_end(alloc: Global, record: &StringRecord, count: usize) -> Result<(), TableError>
+fn check_end(
+    alloc: Global,
+    text: &[u8],
+    record: &StringRecord,
+    count: usize,
+) -> Result<(), TableError>
     requires { count ≤ max_names }
     ensures { OnOk result (length (fields_of record.now) ≤ count + 1) }
 {
@@ -108,17 +121,22 @@ fn check_end(alloc: Global, record: &StringRecord, count: usize) -> Result<(), T
         return Ok(());
     };
     Err(TableError::ExtraCell {
-        place: place_of(record, count + 1),
+        place: place_of(text, record, count + 1),
         word: String::from_str(alloc, word)?,
     })
 }
 
 /// The number in a column's cell.
-fn read_cell(alloc: Global, record: &StringRecord, column: usize) -> Result<Decimal, TableError>
+fn read_cell(
+    alloc: Global,
+    text: &[u8],
+    record: &StringRecord,
+    column: usize,
+) -> Result<Decimal, TableError>
     requires { column < max_names }
     ensures { IfOk result (λ d. (word : List ℕ) × (field_at (fields_of record.now) (column + 1) ≡ Some word) × (decimal_of word ≡ Some d)) }
 {
-    let place = place_of(record, column + 1);
+    let place = place_of(text, record, column + 1);
     let Some(word) = record.get(column + 1) else {
         return Err(TableError::MissingCell { place });
     };
@@ -136,7 +154,13 @@ fn read_cell(alloc: Global, record: &StringRecord, column: usize) -> Result<Deci
 }
 
 /// The error of a number that doesn't fit, where it is the `i`th of the rows' numbers.
-pub fn too_large(alloc: Global, rows: &[StringRecord], columns: usize, i: usize) -> TableError
+pub fn too_large(
+    alloc: Global,
+    text: &[u8],
+    rows: &[StringRecord],
+    columns: usize,
+    i: usize,
+) -> TableError
     requires positive { 0 < columns }
     requires few { columns ≤ max_names }
     requires there { i / columns < length rows.now }
@@ -145,7 +169,7 @@ pub fn too_large(alloc: Global, rows: &[StringRecord], columns: usize, i: usize)
     let field = i % columns + 1;
     match String::from_str(alloc, record.get(field).unwrap_or("")) {
         Ok(word) => TableError::TooLarge {
-            place: place_of(record, field),
+            place: place_of(text, record, field),
             word,
         },
         Err(_) => TableError::OutOfMemory,
@@ -153,11 +177,11 @@ pub fn too_large(alloc: Global, rows: &[StringRecord], columns: usize, i: usize)
 }
 
 /// The place of a field of a record, which is given by its number from 0.
-pub fn place_of(record: &StringRecord, field: usize) -> Place
+pub fn place_of(text: &[u8], record: &StringRecord, field: usize) -> Place
     requires { field < 2 ^ 64 - 1 }
 {
     Place {
-        line: line_of(record),
+        line: line_of(text, record),
         field: field + 1,
     }
 }

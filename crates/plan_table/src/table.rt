@@ -35,8 +35,8 @@ pub fn read_matrix(alloc: Global, text: &[u8]) -> Result<NamedMatrix, TableError
     let Some((head, rows)) = records.split_first() else {
         return Err(TableError::Empty);
     };
-    let names = read_names(alloc, head)?;
-    let decimals = read_rows(alloc, rows, &names)?;
+    let names = read_names(alloc, text, head)?;
+    let decimals = read_rows(alloc, text, rows, &names)?;
     let scale = least_scale(&decimals);
     match scaled_entries(alloc, &decimals, scale) {
         Ok(entries) => Ok(NamedMatrix {
@@ -44,7 +44,7 @@ pub fn read_matrix(alloc: Global, text: &[u8]) -> Result<NamedMatrix, TableError
             scale,
             entries,
         }),
-        Err(ScaleError::TooLarge(i)) => Err(too_large(alloc, rows, names.len(), i)),
+        Err(ScaleError::TooLarge(i)) => Err(too_large(alloc, text, rows, names.len(), i)),
         Err(ScaleError::OutOfMemory) => Err(TableError::OutOfMemory),
     }
 }

@@ -1,6 +1,6 @@
 //! What no clause says: that calls succeed, what worked tables are read as, and how each refusal is told.
 
-use plan_table::{NamedMatrix, read_matrix};
+use plan_table::{NamedMatrix, decimal_text, read_matrix};
 use std::process::Abort;
 use std::test::Fail;
 
@@ -51,7 +51,7 @@ fn reads_large_and_small_numbers(rt: HostRuntime) -> Result<(), Fail> {
 /// A text, and what its refusal says.
 type Refused = (&'static [u8], &'static str);
 
-const REFUSED: [Refused; 17] = [
+const REFUSED: [Refused; 19] = [
     (
         b"",
         "the table is empty: begin with a line of an empty field and the names, as `,Saw,Lathe`",
@@ -117,6 +117,14 @@ const REFUSED: [Refused; 17] = [
         "line 2, field 2: \"-1000000001\" is too large: times the power of ten that makes all numbers whole it lies outside -10^9 to 10^9; round the numbers or choose a larger unit",
     ),
     (
+        b"\xef\xbb\xbf,a,b\r\na,0,1\r\n\r\nb,x,0\r\n",
+        "line 4, field 2: \"x\" is no number: write digits and at most one point, as `12` or `-0.25`, with no blanks, exponent or comma",
+    ),
+    (
+        b"\n\n,a,a",
+        "line 3, field 3: the name \"a\" stands twice: give each column a name of its own",
+    ),
+    (
         b",a\na\xff,0\n",
         "line 2 is no UTF-8: save the table as \"CSV UTF-8\"",
     ),
@@ -130,6 +138,28 @@ fn tells_what_is_wrong(rt: HostRuntime) -> Result<(), Fail> {
             Err(error) => format!(in rt.alloc(); "{error}")?,
         };
         assert_eq!(rt; told.as_str(), want);
+    }
+    Ok(())
+}
+
+#[test]
+fn spells_numbers(rt: HostRuntime) -> Result<(), Fail> {
+    let cases: [(i128, usize, &str); 7] = [
+        (0, 0, "0"),
+        (0, 3, "0"),
+        (42, 0, "42"),
+        (89_225, 2, "892.25"),
+        (36_000, 2, "360"),
+        (-5, 2, "-0.05"),
+        (
+            -1_234_500_000_000_000_000_000_000,
+            3,
+            "-1234500000000000000000",
+        ),
+    ];
+    for (number, places, want) in cases {
+        let text = decimal_text(rt.alloc(), number, places)?;
+        assert_eq!(rt; text.as_slice(), want.as_bytes());
     }
     Ok(())
 }

@@ -55,13 +55,7 @@ where
         clock,
         stop,
     )?;
-    let text = answer_text(
-        alloc,
-        problem,
-        &found.permutation,
-        found.cost,
-        found.bound,
-    )?;
+    let text = answer_text(alloc, problem, &found.permutation, found.cost, found.bound)?;
     send(writer, &text)?;
     Ok(found)
 }

@@ -55,8 +55,12 @@ fn asked<'a>(matches: &ArgMatches<'a>) -> Option<Request<'a>>
 /// The subcommand that solves an instance.
 fn solve_command<'a>(alloc: Global) -> Result<Command<'a>, AllocError> {
     let command = Command::new(alloc, "solve")
-        .about("Solves an instance in the QAPLIB format")
-        .arg(Arg::new(alloc, "FILE").required(true).help("the instance"))?;
+        .about("Solves a plan, or an instance in the QAPLIB format")
+        .arg(
+            Arg::new(alloc, "FILE")
+                .required(true)
+                .help("the plan, which ends in .toml, or the instance"),
+        )?;
     with_search(alloc, command)?
         .arg(
             Arg::new(alloc, "start")
@@ -86,7 +90,7 @@ fn solve_command<'a>(alloc: Global) -> Result<Command<'a>, AllocError> {
             Arg::new(alloc, "ignore-rest")
                 .long("ignore-rest")
                 .action(ArgAction::SetTrue)
-                .help("pass over what follows the instance"),
+                .help("pass over what follows an instance in the QAPLIB format"),
         )
 }
 

@@ -18,26 +18,16 @@ use thiserror::Error;
 pub enum LoadError {
     /// A file isn't there, is a folder, or can't be read.
     #[error("{file}: the file can't be read: name one that is there; the files of tables are sought from the plan's folder")]
-    Unread {
-        file: String,
-    },
+    Unread { file: String },
     /// A file is too long.
     #[error("{file}: the file is longer than 1 GiB")]
-    TooLong {
-        file: String,
-    },
+    TooLong { file: String },
     /// The text is no plan.
     #[error("{file}: {error}")]
-    Plan {
-        file: String,
-        error: PlanError,
-    },
+    Plan { file: String, error: PlanError },
     /// The tables make no problem.
     #[error("{file}: {error}")]
-    Tables {
-        file: String,
-        error: TablesError,
-    },
+    Tables { file: String, error: TablesError },
     /// There is no memory left.
     #[error("out of memory")]
     OutOfMemory,

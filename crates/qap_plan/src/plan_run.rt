@@ -48,10 +48,14 @@ where
     let options = &request.options;
     let answer = if request.quiet {
         let output = &mut Counted::new(Vec::new(alloc));
-        plan_named(system, alloc, &problem, &mut start, output, options, &elapsed, &elapsed)
+        plan_named(
+            system, alloc, &problem, &mut start, output, options, &elapsed, &elapsed,
+        )
     } else {
         let output = &mut Counted::new(rt.stdout());
-        plan_named(system, alloc, &problem, &mut start, output, options, &elapsed, &elapsed)
+        plan_named(
+            system, alloc, &problem, &mut start, output, options, &elapsed, &elapsed,
+        )
     };
     match answer {
         Ok(answer) => finish(rt, request, &problem, &answer, elapsed.milliseconds()),

@@ -3,13 +3,15 @@
 ghost use Rattle.qap_plan.specs.Options.{AreLimited};
 
 use crate::answering::plan_stream;
+use crate::arranging::plan_named;
 use crate::command_line::{Request, parse};
 use crate::elapsed::Elapsed;
 use crate::error::PlanError;
-use crate::json::json_text;
+use crate::json::{json_text, named_json_text};
 use crate::options::Options;
 use crate::planning::Planned;
 use clap::error::ErrorKind;
+use plan_file::read_tables;
 use qap_cost::Perm;
 use qap_io::{Counted, FailAt, Status};
 use qap_text::TextError;
@@ -226,6 +228,41 @@ fn answers_as_json(rt: HostRuntime) -> Result<(), Fail> {
         let text = json_text(alloc, &answer, 1500)?;
         assert_eq!(rt; text.as_str(), told);
     }
+    Ok(())
+}
+
+/// Trips between two departments, and how far three places lie apart: of the six arrangements one costs 2.5 * 1.5, and each other more.
+const FLOWS: &[u8] = b",Saw,Lathe\nSaw,0,2.5\nLathe,0,0\n";
+
+const DISTANCES: &[u8] = b",A,B,C\nA,0,1.5,4\nB,2,0,3\nC,4,3,0\n";
+
+#[test]
+fn a_plan_is_told_by_names(rt: HostRuntime) -> Result<(), Fail> {
+    let alloc = rt.alloc();
+    let problem = read_tables(alloc, FLOWS, DISTANCES)?;
+    let mut start: Option<Counted<&[u8]>> = None;
+    let mut output = Counted::new(Vec::new(alloc));
+    let elapsed = Elapsed::new(&rt, None);
+    let answer = plan_named(
+        &rt,
+        alloc,
+        &problem,
+        &mut start,
+        &mut output,
+        &ONE,
+        &elapsed,
+        &elapsed,
+    )?;
+    let told =
+        b"Saw at A\nLathe at B\nC stays empty\ncost 3.75, optimal, proved\ndearest pairs:\nSaw to Lathe: 3.75\n";
+    let written = output.into_inner();
+    assert_eq!(rt; written.as_slice(), told.as_slice());
+    let answer = Planned { nodes: 3, ..answer };
+    let text = named_json_text(alloc, &problem, &answer, 1500)?;
+    assert_eq!(rt;
+        text.as_str(),
+        "{\"arrangement\":[\"A\",\"B\"],\"bound\":\"3.75\",\"cost\":\"3.75\",\"departments\":[\"Saw\",\"Lathe\"],\"distance_scale\":1,\"flow_scale\":1,\"milliseconds\":1500,\"nodes\":3,\"open\":0,\"permutation\":[1,2,3],\"places\":[\"A\",\"B\",\"C\"],\"status\":\"optimal\",\"version\":\"0.2.0\"}"
+    );
     Ok(())
 }
 
