@@ -12,7 +12,10 @@ returns-in_err-add g c =
     let text = c.in_ok-text.text.items in
     let fault = c.in_err-add.field-0.0 in
     let refused = subst (λ (t : List ℕ). (fault ≡ ProofMemory) ⊎ IsRefused I t fault) c.as_slice.ensures.value (c.in_err-add.ensures {u = tt}).0 in
-    rw p.1 (⊎_elim
-    (λ memory. inr (inr (p.2 ∙ ap of_proof memory)))
-    (λ fault_is. inr (inl (record { text = text; read = c.in_ok-text.ensures; fault = fault; is = p.2; refused = fault_is })))
-    refused, (c.in_err-add.ensures {u = tt}).1)
+    rw p.1 (
+      ⊎_elim
+          (λ memory. inr (inr (p.2 ∙ ap of_proof memory)))
+          (λ fault_is. inr (inl (record { text = text; read = c.in_ok-text.ensures; fault = fault; is = p.2; refused = fault_is })))
+          refused,
+      (c.in_err-add.ensures {u = tt}).1,
+    )
