@@ -138,6 +138,7 @@ no_numbered_piece (a ∷ b ∷ d ∷ row) n ns other none =
       no_closed = λ xs w z e. let same = ap length e in absurd (omega arith);
       no_mirrored = λ xs j ms e. let same = ap length e in absurd (omega arith);
     }
+
 -- two lists behind more fields are those of the tuple of a split with duals, or of no piece
 pub no_pruned_piece : (row : List FieldValue) (v cuts : List ℤ) → 2 < length row → ((xs : List ℤ) (side : Side) (k : ℤ) (u : List ℤ) → row ≢ word (codes "pruned") ∷ numbers xs ∷ word (side_word side) ∷ number k ∷ numbers u ∷ []) → IsNoPiece (row ++ numbers v ∷ numbers cuts ∷ [])
 no_pruned_piece row v cuts some none =

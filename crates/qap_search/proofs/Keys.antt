@@ -206,12 +206,12 @@ mutual
       elim (found_in (is_it w) first later found) as
       (λ (_ : (1 ≤ sum_by (is_it w) first) ⊎ (1 ≤ sum_by (is_it w) later)). BeginsBelow y s c (key w)) [
         | inl here ↦ (
-            c,
-            omega arith,
-            omega arith,
-            child_begins y (facility_on s.side y s.number c) (location_on s.side y s.number c) (key w) placed.paired
-                (keyed t (child y s c) (child_placed y s c placed free (omega arith)) h.0 w here),
-          )
+          c,
+          omega arith,
+          omega arith,
+          child_begins y (facility_on s.side y s.number c) (location_on s.side y s.number c) (key w) placed.paired
+              (keyed t (child y s c) (child_placed y s c placed free (omega arith)) h.0 w here),
+        )
         | inr there ↦
             let below = keyed_below rest y s (c + 1) placed free (omega arith) h.1 w there in
             let past = below.1 in

@@ -277,7 +277,7 @@ goes_on x s r flags us old behind readable_s are b =
     record {
       trees = trees;
       flagged = same_flags (has_duals s.duals) us x s flags refl trees (λ duals. sym (on.1 duals)) (λ none.
-      plain_flags (free_count x) s flags are none ∙ ap (λ (n : ℕ). replicate n (pos 0)) (let same : free_count x ≡ child_count us = omega arith in same));
+          plain_flags (free_count x) s flags are none ∙ ap (λ (n : ℕ). replicate n (pos 0)) (let same : free_count x ≡ child_count us = omega arith in same));
       is = ap later_tuples b.is ∙ ap (λ (q : Split). pieces_of_all x q 0 (of_proofs us) ++ behind) (sym on.0);
     }
 

@@ -91,7 +91,11 @@ fn completes(locations: &[u16], depth: usize) -> bool {
 }
 
 /// The least cost of the permutations that complete the node, of which each is tried.
-pub(crate) fn least_below(alloc: Global, instance: &Instance, depth: usize) -> Result<i128, AllocError> {
+pub(crate) fn least_below(
+    alloc: Global,
+    instance: &Instance,
+    depth: usize,
+) -> Result<i128, AllocError> {
     let mut least = i128::MAX;
     for code in 0..256u16 {
         let locations = [code % 4, code / 4 % 4, code / 16 % 4, code / 64];

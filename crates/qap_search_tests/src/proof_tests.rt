@@ -17,6 +17,7 @@ use std::thread::Threads;
 use std::time;
 
 /// The empty node, and the one that puts facility 0 at location 3 and facility 2 at location 1.
+#[tactic(auto, using(crate::proofs::Roots::empty_root, crate::proofs::Roots::below_root, crate::proofs::Roots::free_facility, crate::proofs::Roots::free_location))]
 fn roots(alloc: Global) -> Result<(Partial, Partial), AllocError>
     ensures { IfOk result (λ pair. IsRoot 4 pair.0 × IsRoot 4 pair.1) }
 {
@@ -52,11 +53,7 @@ where
         rt, alloc, instance, &plan, &Stopped, &Always, &Never, &Nobody,
     )?;
     check(alloc, instance, &answer.proof)?;
-    Ok((
-        answer.proof.cost(),
-        answer.proof.bound(),
-        answer.open_nodes,
-    ))
+    Ok((answer.proof.cost(), answer.proof.bound(), answer.open_nodes))
 }
 
 /// Asserts that a search over this root, of which so many facilities are placed, proves the least cost of what completes it, or the cost of
@@ -111,8 +108,15 @@ where
     let start = in_order(alloc, instance)?;
     let least = least_below(alloc, instance, depth)?;
     for branching in RULES {
-        let (cost, bound, open_nodes) =
-            proved(rt, alloc, instance, root, &start, branching, Some(limit))?;
+        let (cost, bound, open_nodes) = proved(
+            rt,
+            alloc,
+            instance,
+            root,
+            &start,
+            branching,
+            Some(limit),
+        )?;
         assert!(rt; bound <= cost && bound <= least);
         assert!(rt; open_nodes > 0 || bound == cost);
         assert!(rt; limit > 0 || open_nodes == 1);

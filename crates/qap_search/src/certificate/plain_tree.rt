@@ -30,10 +30,7 @@ pub(crate) fn plain_tree(alloc: Global, tree: Tree) -> Result<PlainTree, Assembl
                 return Err(AssembleError::NotATree);
             };
             let children = plain_trees(alloc, children)?;
-            Ok(PlainTree::Split {
-                facility,
-                children,
-            })
+            Ok(PlainTree::Split { facility, children })
         }
         Tree::Cut => Err(AssembleError::NotATree),
         Tree::Mirrored { .. } => Err(AssembleError::NotATree),

@@ -1,6 +1,6 @@
 //! Puts the tuples of a search together into a proof.
 
-ghost use Rattle.std.specs.Prelude.{ℕ, Bool, IfOk};
+ghost use Rattle.std.specs.Prelude.{◌≡◌, ℕ, Bool, IfOk};
 ghost use Rattle.qap_proof.specs.Claim.{IsRoot};
 ghost use Rattle.qap_proof.specs.Memory.{node_of};
 ghost use Rattle.qap_search.specs.CutTree.{IsCutTree};
@@ -42,8 +42,17 @@ pub(crate) fn proof_of<K: Closers>(
     let Assembled { cost, perm, tree } = closed;
     match Proof::new(cost, bound, root, perm, tree) {
         Ok(proof) => Ok(proof),
-        Err((ProofError::OutOfMemory, _, _, _)) => Err(AllocError),
-        Err(_) => unreachable!(),
+        Err((error, _, _, _)) => Err(want_of_memory(error)),
+    }
+}
+
+/// The want of memory that the error tells of.
+fn want_of_memory(error: ProofError) -> AllocError
+    requires { error ≡ ProofError.OutOfMemory }
+{
+    match error {
+        ProofError::OutOfMemory => AllocError,
+        _ => unreachable!(),
     }
 }
 

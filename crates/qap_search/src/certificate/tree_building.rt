@@ -116,10 +116,10 @@ fn take_pruned(
 ) -> Result<Tree, AssembleError>
     ensures { MatchResult result
         (λ t. BeginWith (whole node.now) (pos 0) (node_of t)
-            (pruned_of (node_list node.now) pruned.side pruned.number pruned.duals.u.items pruned.duals.v.items pruned.cuts.items ∷ ahead nodes.old.items)
-            (ahead nodes.new.items))
+        (pruned_of (node_list node.now) pruned.side pruned.number pruned.duals.u.items pruned.duals.v.items pruned.cuts.items ∷ ahead nodes.old.items)
+        (ahead nodes.new.items))
         (λ e. IsBuildFault (whole node.now) (pos 0)
-            (pruned_of (node_list node.now) pruned.side pruned.number pruned.duals.u.items pruned.duals.v.items pruned.cuts.items ∷ ahead nodes.old.items) e) }
+        (pruned_of (node_list node.now) pruned.side pruned.number pruned.duals.u.items pruned.duals.v.items pruned.cuts.items ∷ ahead nodes.old.items) e) }
 {
     let PrunedSplit {
         side,

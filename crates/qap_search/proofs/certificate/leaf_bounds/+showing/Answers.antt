@@ -99,7 +99,7 @@ least_shown_by_all-least_shown-requires t c =
     let whole : 2 * nodes_count (nodes_of ts) + 1 ≡ t = c.decreases in
     let less : node_count (node_of one) ≤ nodes_count (nodes_of ts) = subst (λ (u : Tree). node_count (node_of u) ≤ nodes_count (nodes_of ts)) (sym c.index-children-i.is) (node_count-le ts i one in_ts) in
     let smaller : 2 * node_count (node_of one) < t = omega (arith, whole, less) in
-    (smaller, (c.requires.same_size ∙ sym size, (child x (split_of s) i, (part_is, first.trees.0))))
+    (smaller, (c.requires.same_size ∙ sym size, (child x (split_of s) i, part_is, first.trees.0)))
 
 pub least_shown_by_all-loop-i-preserved : goal.least_shown_by_all-loop-i-preserved
 least_shown_by_all-loop-i-preserved t c =

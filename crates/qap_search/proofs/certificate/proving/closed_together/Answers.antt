@@ -20,4 +20,4 @@ unreachable-requires-in-Err-NotATree g c =
     let tuples = c.args.tuples.items in
     let h = c.requires.tree in
     let S : Search = search_of h.0 I x h.1 in
-    never_untold S tuples h.2 c.size.ensures.instance h.3 (subst (IsClosingFault x tuples) c.in-Err-NotATree.field-0-is (c.in-Err-NotATree.ensures {u = tt}))
+    never_untold S tuples h.2 c.size-size.ensures.instance h.3 (subst (IsClosingFault x tuples) c.in-Err-NotATree.field-0-is (c.in-Err-NotATree.ensures {u = tt}))

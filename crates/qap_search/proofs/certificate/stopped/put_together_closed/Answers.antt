@@ -10,7 +10,7 @@ returns-in_err-closed g c =
     let p = err_from_is_err_and c.from_residual-in_err-closed.result c.from_residual-in_err-closed.ensures.1 in
     let same = ap (λ (J : Problem). J.size) c.in_ok-ranked.ensures.value in
     rw (p.1, p.2)
-    (closing_fault c.in_ok-ranked.ranked.size c.args.root.now c.args.tuples.items c.in_err-closed.field-0.0 c.size.ensures.placement (c.requires.same_size ∙ sym same) (c.in_err-closed.ensures {u = tt}))
+    (closing_fault c.in_ok-ranked.ranked.size c.args.root.now c.args.tuples.items c.in_err-closed.field-0.0 c.size-size.ensures.placement (c.requires.same_size ∙ sym same) (c.in_err-closed.ensures {u = tt}))
 
 pub returns : goal.returns
 returns g c =
@@ -21,4 +21,4 @@ returns g c =
     let shut = subst (λ (J : Problem). AreClosed J tuples closed) c.in_ok-ranked.ensures.value c.in_ok-closed.ensures in
     MatchResult-weaker c.put_together.result c.put_together.ensures
     (λ a told. record { new = closed; closed = shut; told = told })
-    (λ e fault. telling_fault I x tuples closed e (record { size = c.requires.same_size; paired = c.size.ensures.placement.paired }) shut fault)
+    (λ e fault. telling_fault I x tuples closed e (record { size = c.requires.same_size; paired = c.size-size.ensures.placement.paired }) shut fault)

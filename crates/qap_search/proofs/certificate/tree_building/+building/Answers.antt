@@ -190,5 +190,5 @@ take_pruned-returns-then-not-are_flags t c =
     inr (
       refl,
       none_flagged x s.side s.number s.duals.u.items s.duals.v.items s.cuts.items (ahead c.args.nodes.now.items) (λ h.
-      false≢true ((c.if-not-are_flags.ensures {u = tt}).1 (subst (λ (zs : List ℤ). (length zs ≡ c.size.result - c.depth.result) × ZerosAndOnes zs) (sym c.deref.ensures.value) (h.0 ∙ (let same : free_count x ≡ c.size.result - c.depth.result = omega arith in same), h.1)))),
+          false≢true ((c.if-not-are_flags.ensures {u = tt}).1 (subst (λ (zs : List ℤ). (length zs ≡ c.size.result - c.depth.result) × ZerosAndOnes zs) (sym c.deref.ensures.value) (h.0 ∙ (let same : free_count x ≡ c.size.result - c.depth.result = omega arith in same), h.1)))),
     )
