@@ -73,7 +73,7 @@ fn put_next(node: &mut Partial, facility: i128, location: i128) -> Result<bool, 
 }
 
 /// The free location of this number.
-fn free_location(node: &Partial, number: i128) -> Option<u16>
+pub(crate) fn free_location(node: &Partial, number: i128) -> Option<u16>
     ensures { MatchOption result
         ((k : ℕ) → IsFreeLocation node.now k → number ≢ pos k)
         (λ k. IsFreeLocation node.now k × (number ≡ pos k)) }
