@@ -109,8 +109,9 @@ fn finds_the_dearest_pairs(rt: HostRuntime) -> Result<(), Fail> {
     let alloc = rt.alloc();
     let problem = read_tables(alloc, FLOWS, DISTANCES)?;
     let Ok(permutation) = Perm::new(Vec::from_slice(alloc, &[1, 0, 2])?) else {
-        return Ok(());
+        panic!(rt; "these locations are a permutation");
     };
+    assert!(rt; permutation.len() == problem.instance.size());
     let pairs = dearest_pairs(alloc, &problem.instance, &permutation, 5)?;
     let want = [
         Pair {

@@ -9,7 +9,7 @@ const ABOUT: &str =
     "Verifies a proof of a least cost, or of a bound, of the quadratic assignment problem";
 
 /// The names of an instance's file, of a proof's, and of those of proofs of parts.
-#[derive(Debug, PartialEq, Eq, Drop)]
+#[derive(Debug, Drop)]
 pub struct Files<'a> {
     pub instance: &'a str,
     pub proof: &'a str,
