@@ -38,6 +38,7 @@ const ONE: Options = Options {
     improve: 10,
     seed: 1,
     passes: false,
+    proves: false,
 };
 
 /// What a run on a text answers, and what it writes.
