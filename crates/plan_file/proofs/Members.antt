@@ -1,5 +1,5 @@
 -- The keys of a table, and the texts at them.
-use Rattle.std.proofs.Common.{◌≡◌, ℕ, ap, codes, List, [], ◌∷◌, map, Option, Some, None, String, Global, string_bytes, refl, sym, ◌∙◌}
+use Rattle.std.proofs.Common.{◌≡◌, ℕ, ap, codes, List, [], ◌∷◌, Some, None, String, Global, string_bytes, sym, ◌∙◌}
 use Rattle.std.specs.Prelude.{⊤}
 use Rattle.std.specs.Map.{keys_of}
 use Rattle.std.proofs.lemmas.Option.{same_Some}

@@ -1,5 +1,5 @@
 -- The problem that a table of flows between departments and one of distances between places make.
-use Rattle.std.specs.Prelude.{◌≡◌, ◌≢◌, ℕ, ◌<◌, ◌≤◌, ◌&&◌, nat_lt, if◌then◌else◌, ⊤, List, ℤ, pos}
+use Rattle.std.specs.Prelude.{◌≡◌, ℕ, ◌<◌, ◌≤◌, ◌&&◌, nat_lt, if◌then◌else◌, ⊤, List, ℤ, pos}
 use Rattle.qap_cost.specs.Instance.{Problem, IsInstance, entry}
 use Rattle.plan_file.specs.declared.error.ProblemError.{ProblemError}
 use Rattle.plan_file.specs.declared.error.ProblemError.TheVariants.{TooManyDepartments, OutOfMemory}

@@ -1,6 +1,5 @@
 -- A problem with names, as the texts of two tables spell it.
 use Rattle.std.specs.Prelude.{◌≡◌, ℕ, ◌≤◌, List, map, length, ℤ, string_bytes}
-use Rattle.qap_cost.specs.Instance.{Problem}
 use Rattle.plan_table.specs.Table.{IsMatrixText}
 use Rattle.plan_file.specs.Problem.{IsProblemOf}
 use Rattle.plan_file.specs.declared.tables.NamedProblem.{NamedProblem}

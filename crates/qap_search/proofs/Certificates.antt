@@ -192,7 +192,7 @@ mutual
       )
 
 mutual
-  node_count-searched : (s : Node) → decided_count (searched s) ≡ node_count s
+  pub node_count-searched : (s : Node) → decided_count (searched s) ≡ node_count s
   node_count-searched (bound u v) = refl
   node_count-searched (split f children) = ap (λ (n : ℕ). 1 + n) (nodes_count-searched_all children)
 

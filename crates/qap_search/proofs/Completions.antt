@@ -6,9 +6,19 @@ use Rattle.std.proofs.lemmas.Bool.{false≢true}
 use Rattle.std.proofs.lemmas.List.{get_or-map}
 use Rattle.qap_cost.proofs.Picks.{any_from_place, place_from_any}
 use Rattle.qap_cost.proofs.Placements.{ListsFree-free_below}
-use Rattle.qap_cost.specs.Bijection.{IsPerm}
+use Rattle.qap_cost.specs.Bijection.{AreDifferent, IsPerm}
 use Rattle.qap_cost.specs.Placement.{Placement, IsPlacement, ListsFree, free_facilities, free_locations}
 use Rattle.qap_search.specs.Completion.{IsCompletion, IsMatching, Puts}
+
+-- free numbers in a list are different
+pub different_listed : (n : ℕ) (taken free : List ℕ) → ListsFree n taken free → AreDifferent n free
+different_listed n taken free h = record {
+  within = λ i less. (h.each i less).within;
+  distinct = λ i j less_i less_j same.
+      let none_below : i < j → ⊥ = λ less. (let rises = h.ascending i j less less_j in omega arith) in
+      let none_above : j < i → ⊥ = λ less. (let rises = h.ascending j i less less_i in omega arith) in
+      grind (arith, none_below, none_above);
+}
 
 facilities_listed : (x : Placement) → IsPlacement x → ListsFree x.size x.facilities (free_facilities x)
 facilities_listed x h = ListsFree-free_below x.size x.facilities h.facilities
@@ -59,7 +69,7 @@ value_free : (x : Placement) (q p : List ℕ) (i : ℕ) → IsCompletion x q p �
 value_free x q p i c at = ap (λ (j : ℕ). get_or p j 0) (sym at.is) ∙ c.free at.number at.below
 
 -- a matching takes a free facility's number to a free location's
-matched_below : (x : Placement) (q : List ℕ) (r : ℕ) → IsPlacement x → IsMatching x q → r < length (free_facilities x) → get_or q r 0 < length (free_locations x)
+pub matched_below : (x : Placement) (q : List ℕ) (r : ℕ) → IsPlacement x → IsMatching x q → r < length (free_facilities x) → get_or q r 0 < length (free_locations x)
 matched_below x q r h m less =
     let count = m.count in
     let inside : r < length q = omega arith in

@@ -4,6 +4,7 @@ pub mod Assembled
 pub mod BehindAnswers
 pub mod BestSteps
 pub mod Certificates
+pub mod Children
 pub mod Completions
 pub mod Deciding
 pub mod DeeperNodes
@@ -22,7 +23,9 @@ pub mod OneTree
 pub mod OpenBounds
 pub mod OpenNodes
 pub mod Outcomes
-pub mod Parts
+pub mod PlainTrees
+pub mod ProofFaults
+pub mod ProvedTrees
 pub mod Pruned
 pub mod Reorderings
 pub mod Replacing
@@ -32,6 +35,7 @@ pub mod Standings
 pub mod StoppedAssembling
 pub mod StoppedLaws
 pub mod Taking
+pub mod Telling
 pub mod Thinkings
 pub mod Thoughts
 pub mod TupleReadings

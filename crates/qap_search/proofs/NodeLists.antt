@@ -8,13 +8,13 @@ use Rattle.qap_search.specs.NodeList.{IsNextOf, IsReadFrom}
 use Rattle.qap_search.proofs.Keys.{node_list-placing}
 use Rattle.qap_search.proofs.TupleReadings.{natural}
 
-length-by_turns : (fs ks : List ℕ) → length ks ≡ length fs → length (by_turns fs ks) ≡ 2 * length fs
+pub length-by_turns : (fs ks : List ℕ) → length ks ≡ length fs → length (by_turns fs ks) ≡ 2 * length fs
 length-by_turns [] [] h = omega arith
 length-by_turns [] (l ∷ ks) h = absurd (omega arith)
 length-by_turns (g ∷ fs) [] h = absurd (omega arith)
 length-by_turns (g ∷ fs) (l ∷ ks) h = let rest = length-by_turns fs ks (omega arith) in omega arith
 
-begins-by_turns : (fs ks : List ℕ) → length ks ≡ length fs → BeginsByTurns fs ks (by_turns fs ks)
+pub begins-by_turns : (fs ks : List ℕ) → length ks ≡ length fs → BeginsByTurns fs ks (by_turns fs ks)
 begins-by_turns [] ks h t less = absurd (omega arith)
 begins-by_turns (g ∷ fs) [] h t less = absurd (omega arith)
 begins-by_turns (g ∷ fs) (l ∷ ks) h zero less = (refl, refl)

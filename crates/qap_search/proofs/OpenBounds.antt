@@ -54,7 +54,7 @@ closes_by_value I g y h =
     record { fits = record { matrix = least.matrix; square = least.square; reduced = least.reduced; fits = least.fits }; enough = omega (arith, ints) }
 
 -- the duals of a split, if it has any, fit
-duals_fit : (I : Problem) (y : Placement) (s : Split) → IsPlain s ⊎ HasFit I y s → MayFit I y s.duals
+pub duals_fit : (I : Problem) (y : Placement) (s : Split) → IsPlain s ⊎ HasFit I y s → MayFit I y s.duals
 duals_fit I y s (inl h) = subst (MayFit I y) (sym h.1) tt
 duals_fit I y s (inr h) = subst (MayFit I y) (sym h.has) h.fits
 
@@ -92,9 +92,14 @@ found_above I content c g b x placed size found =
     let at = contained content w found in
     b.least at.0 w at.1 x placed size at.2
 
+-- a tree that proves g at the root of a search shows that nothing there costs less
+pub none_completes : (S : Search) (g : ℤ) (t : Node) → IsPlacement S.root → S.root.size ≡ S.instance.size → Valid S.instance g (whole S.root) t → NoneBelow S g
+none_completes S g t placed size valid p completes =
+    Valid-NoneCompletesForLess S.instance S.root g t placed size valid p (record { same_size = completes.same_size ∙ size; bijection = completes.bijection }) completes
+
 -- no permutation that completes the root costs less than the bound of the cut tree
 pub open_bounds : (S : Search) (content : List (List FieldValue)) (commits : ℕ) (g : ℤ) (h : IsCutTree S content commits) → IsOpenBound S.instance content h.cost g → NoneBelow S g
-open_bounds S content commits g h b p completes =
+open_bounds S content commits g h b =
     let I = S.instance in
     let root = S.root in
     let best = best_tuple h.cost h.permutation in
@@ -104,7 +109,7 @@ open_bounds S content commits g h b p completes =
     found_above I content h.cost g b x placed size (omega arith) in
     let shows = trees_by (judge_of S.cutting I h.cost) (proving I h.cost) (judge_proves S.cutting I h.cost) h.tree (whole root) h.valid in
     let valid = bounded_tree I h.cost g h.tree (whole root) b.at_most h.root h.same_size shows above in
-    Valid-NoneCompletesForLess I root g valid.0 h.root h.same_size valid.1 p (record { same_size = completes.same_size ∙ h.same_size; bijection = completes.bijection }) completes
+    none_completes S g valid.0 h.root h.same_size valid.1
 
 -- a tuple that stands there is counted among the open ones
 open_found : (content : List (List FieldValue)) (x : Placement) (k : ℕ) → k < length content → get_or content k (node_tuple x) ≡ node_tuple x → 1 ≤ sum_by open_weight content

@@ -1,5 +1,5 @@
 -- What the certificate of a stopped search shows of the cut tree that it comes from.
-use Rattle.std.proofs.Common.{◌≡◌, ℕ, suc, ◌+◌, ◌⊎◌, inl, inr, List, [], ◌∷◌, ◌++◌, length, drop, Option, refl, sym, subst, arith}
+use Rattle.std.proofs.Common.{◌≡◌, ℕ, false, suc, ◌+◌, ◌⊎◌, inl, inr, List, [], ◌∷◌, ◌++◌, length, drop, Option, refl, sym, ap, subst, ◌∙◌, arith}
 use Rattle.std.specs.Prelude.{ℤ, pos, ◌≤ℤ◌, ◌+ℤ◌, All}
 use Rattle.std.specs.List.{sum_by}
 use Rattle.std.proofs.lemmas.Int.{ints}
@@ -12,23 +12,27 @@ use Rattle.qap_cost.specs.Objective.{cost_of}
 use Rattle.qap_cost.specs.Placement.{Placement, IsPlacement, IsFreeFacility, fixed_cost_of, free_locations, root_of}
 use Rattle.qap_cost.specs.Range.{IsLimited}
 use Rattle.qap_cert.specs.Certificate.{Claim, Certifies}
-use Rattle.qap_cert.specs.Shape.{AllHaveShape, HasShape, child_count}
-use Rattle.qap_cert.specs.Tree.{Node, split, bound, Nodes, no_nodes, node, node_count}
-use Rattle.qap_cert.specs.Valid.{AllValid, Closes, Valid}
+use Rattle.qap_cert.specs.Shape as shape
+use Rattle.qap_cert.specs.Tree as cert
+use Rattle.qap_cert.specs.Valid as certified
 use Rattle.qap_cert.specs.declared.version.Version.TheVariants.{Second}
-use Rattle.qap_proof.specs.Tree.{Pair, Split, Place, whole, child, child_of, node_at}
+use Rattle.qap_proof.specs.Tree.{Pair, pair, Split, Node, closed, split, cut, mirrored, Nodes, no_nodes, node, child_count, IsFreeOn, Place, whole, child, child_of, node_at}
+use Rattle.qap_proof.specs.Valid.{AllValid, Closes, MayFit, Valid}
 use Rattle.tuple_match.specs.FieldValue.{FieldValue}
-use Rattle.qap_search.specs.OpenNodes.{AllClosedTo, ClosedTo, undecided_count, undecided_counts}
 use Rattle.qap_search.specs.CutTree.{IsCutTree}
-use Rattle.qap_search.specs.Piece.{best_tuple, closed_tuple, open_count, pieces, pieces_of_all, split_said, split_tuple}
+use Rattle.qap_search.specs.LeafBounds.{IsLeastOf, shown, shown_by_all}
+use Rattle.qap_search.specs.OpenNodes.{AllClosedTo, ClosedTo, undecided_count, undecided_counts}
+use Rattle.qap_search.specs.Piece.{best_tuple, closed_tuple, open_count, pieces, pieces_of_all, split_said}
 use Rattle.qap_search.specs.Replacement.{Best}
 use Rattle.qap_search.specs.Search.{from_root}
-use Rattle.qap_search.specs.SearchTree.{SearchTree, open_node, split_node, closed_node, cut_node, mirrored_node, SearchTrees, no_trees, tree, IsTree, AreTrees, plain, decided_count, on_facility}
-use Rattle.qap_search.specs.Stopped.{HasDuals, IsLeastOf, IsNotStopped, IsStopped, IsUnfinished, shown, shown_by_all}
-use Rattle.qap_search.proofs.Certificates.{FoundClose, best_is, best_of, child_placed, closed_in_both, cost_limited, decided_weight, drop_at, drop_end, free_location_count, open_weight, root_placement, weighs_decided}
+use Rattle.qap_search.specs.SearchTree.{SearchTree, open_node, split_node, closed_node, cut_node, mirrored_node, SearchTrees, no_trees, tree, IsTree, AreTrees, plain, proving, decided_count, on_facility, of_proof, as_proof, as_proofs}
+use Rattle.qap_search.specs.Stopped.{HasDuals, IsNotStopped, IsStopped, IsUnfinished}
+use Rattle.qap_search.proofs.Assembled.{shaped_tree}
+use Rattle.qap_search.proofs.Certificates.{FoundClose, best_is, best_of, child_placed, closed_in_both, cost_limited, decided_weight, drop_at, drop_end, free_location_count, node_count-searched, open_weight, root_placement, weighs_decided}
+use Rattle.qap_search.proofs.OpenBounds.{duals_fit}
 use Rattle.qap_search.proofs.OpenNodes.{closed_children, closed_count, tree_from_closed}
 use Rattle.qap_search.proofs.LeastDuals.{least_duals_above}
-use Rattle.qap_search.proofs.Replacing.{IsNode-child, plain_by, said_weighs, trees_by, weighed}
+use Rattle.qap_search.proofs.Replacing.{IsNode-child, cut_by_less, judge_proves, plain_by, said_weighs, trees_by, weighed}
 use Rattle.qap_search.proofs.TupleReadings.{IsNode, is_it, is_it-itself}
 
 -- what holds of each of two rows of numbers holds of the first, and of the second
@@ -38,86 +42,71 @@ all_left P xs ys h k d below = subst P (get_or_append_left xs ys d k below) (h k
 all_right : (P : ℤ → Type 0) (xs ys : List ℤ) → All P (xs ++ ys) → All P ys
 all_right P xs ys h k d below = subst P (get_or-append-add xs ys k d) (h (length xs + k) d (let both = length-append xs ys in omega arith))
 
--- duals that close a node close it by what they show
-closes_by_shown : (I : Problem) (c g : ℤ) (y : Placement) (u v w z : List ℤ) → Closes I c y u v → u ≡ w → v ≡ z → g ≤ℤ (fixed_cost_of I y +ℤ dual_value w z) → Closes I g y w z
-closes_by_shown I c g y u v w z h same_u same_v enough =
-    let moved = subst (λ (a : List ℤ). Closes I c y a z) same_u (subst (λ (b : List ℤ). Closes I c y u b) same_v h) in
-    record { duals = moved.duals; fits = moved.fits; enough = enough }
-
 mutual
-  -- where the duals of the closed nodes fit, and each leaf of the closed tree shows g at least, that tree proves g
-  closed_valid : (I : Problem) (d g : ℤ) (n : ℕ) (s : SearchTree) (t : Node) (p : Place) → IsPlacement (node_at p) → IsNode n (node_at p) → HasShape Second (node_at p).size (node_at p).facilities t → ClosedTo I (node_at p) s t → FoundClose I d n (pieces (node_at p) s) → All (λ z. g ≤ℤ z) (shown I (node_at p) t) → Valid I g (node_at p) t
-  closed_valid I d g n open_node (bound u v) p placed hy shape h close above = record {
-    duals = h.duals;
-    fits = record { matrix = h.matrix; square = h.square; reduced = h.reduced; fits = h.fits };
-    enough = above 0 (pos 0) (omega arith);
-  }
-  closed_valid I d g n open_node (split f nodes) p placed hy shape h close above = absurd h
-  closed_valid I d g n (closed_node u v) (bound w z) p placed hy shape h close above =
-      let itself = is_it-itself (closed_tuple (node_at p) u v) in
-      closes_by_shown I d g (node_at p) u v w z (close (node_at p) u v hy (omega arith)) h.0 h.1 (above 0 (pos 0) (omega arith))
-  closed_valid I d g n (closed_node u v) (split f nodes) p placed hy shape h close above = absurd h
-  closed_valid I d g n cut_node t p placed hy shape h close above = absurd h
-  closed_valid I d g n (mirrored_node j m) t p placed hy shape h close above = absurd h
-  closed_valid I d g n (split_node s children) (bound u v) p placed hy shape h close above = absurd h
-  closed_valid I d g n (split_node s children) (split f nodes) p placed hy shape h close above =
+  -- where the nodes of a search tree show d, and each closed node of the tree that closes it shows g at least, that tree proves g
+  pub closed_valid : (I : Problem) (d g : ℤ) → g ≤ℤ d → (s : SearchTree) (t : Node) (p : Place) → IsTree (proving I d) p s → ClosedTo I (node_at p) s t → All (λ z. g ≤ℤ z) (shown I (node_at p) t) → Valid I g p t
+  closed_valid I d g less open_node t p valid h above =
+      let there = subst (λ (n : Node). All (λ z. g ≤ℤ z) (shown I (node_at p) n)) h.1 above in
+      subst (Valid I g p) (sym h.1)
+      (record { fits = record { matrix = h.2.matrix; square = h.2.square; reduced = h.2.reduced; fits = h.2.fits }; enough = there 0 (pos 0) (omega arith) })
+  closed_valid I d g less (closed_node u v) t p valid h above =
+      let there = subst (λ (n : Node). All (λ z. g ≤ℤ z) (shown I (node_at p) n)) h above in
+      let fits = valid.fits in
+      subst (Valid I g p) (sym h)
+      (record { fits = record { matrix = fits.matrix; square = fits.square; reduced = fits.reduced; fits = fits.fits }; enough = there 0 (pos 0) (omega arith) })
+  closed_valid I d g less cut_node t (whole x) valid h above = absurd valid
+  closed_valid I d g less cut_node t (child x s c) valid h above = subst (Valid I g (child x s c)) (sym h) (cut_by_less I d g less x s c valid)
+  closed_valid I d g less (mirrored_node j m) t (whole x) valid h above = absurd valid
+  closed_valid I d g less (mirrored_node j m) t (child x s c) valid h above = subst (Valid I g (child x s c)) (sym h) valid
+  closed_valid I d g less (split_node s children) t p valid h above =
       let y = node_at p in
-      let listed = free_location_count y placed in
-      let count = shape.3 in
-      let both = subst (λ (e : Split). AllClosedTo I y e 0 children nodes × FoundClose I d n (pieces y (split_node e children))) h.0 (h.1, close) in (
-        shape.0,
-        shape.1,
-        all_closed_valid I d g n children nodes y f 0 placed shape.1 hy (omega arith) shape.4 both.0
-            (λ x u v hx found. both.1 x u v hx (let parts = sum_by-cons (is_it (closed_tuple x u v)) (split_tuple y f) (pieces_of_all y (on_facility f) 0 children) in omega arith))
-            above,
+      let there = subst (λ (n : Node). All (λ z. g ≤ℤ z) (shown I y n)) h.1 above in
+      let count = valid.3 in
+      let same = closed_children I children h.0 y s 0 h.2 in
+      subst (Valid I g p) (sym h.1) (valid.1, duals_fit I y s valid.2, omega arith, all_closed_valid I d g less children h.0 y s 0 valid.4 h.2 there)
+
+  all_closed_valid : (I : Problem) (d g : ℤ) → g ≤ℤ d → (ss : SearchTrees) (ts : Nodes) (y : Placement) (s : Split) (c : ℕ) → AreTrees (proving I d) y s c ss → AllClosedTo I y s c ss ts → All (λ z. g ≤ℤ z) (shown_by_all I y s c ts) → AllValid I g y s c ts
+  all_closed_valid I d g less no_trees ts y s c valid h above = subst (AllValid I g y s c) (sym h) tt
+  all_closed_valid I d g less (tree r ss) ts y s c valid h above =
+      let P : ℤ → Type 0 = λ z. g ≤ℤ z in
+      let there = subst (λ (ns : Nodes). All P (shown_by_all I y s c ns)) h.2 above in
+      let first = shown I (child_of y s c) h.0 in
+      let others = shown_by_all I y s (c + 1) h.1 in
+      subst (AllValid I g y s c) (sym h.2) (
+        closed_valid I d g less r h.0 (child y s c) valid.0 h.3 (all_left P first others there),
+        all_closed_valid I d g less ss h.1 y s (c + 1) valid.1 h.4 (all_right P first others there),
       )
 
-  all_closed_valid : (I : Problem) (d g : ℤ) (n : ℕ) (ss : SearchTrees) (ts : Nodes) (y : Placement) (f c : ℕ) → IsPlacement y → IsFreeFacility y f → IsNode n y → c + child_count ts ≡ length (free_locations y) → AllHaveShape Second y.size (y.facilities ++ f ∷ []) ts → AllClosedTo I y (on_facility f) c ss ts → FoundClose I d n (pieces_of_all y (on_facility f) c ss) → All (λ z. g ≤ℤ z) (shown_by_all I y f (drop c (free_locations y)) ts) → AllValid I g y f (drop c (free_locations y)) ts
-  all_closed_valid I d g n no_trees no_nodes y f c placed free hy count shape h close above =
-      subst (λ (ks : List ℕ). AllValid I g y f ks no_nodes) (sym (drop_end (free_locations y) c (omega arith))) tt
-  all_closed_valid I d g n no_trees (node t ts) y f c placed free hy count shape h close above = absurd h
-  all_closed_valid I d g n (tree s ss) no_nodes y f c placed free hy count shape h close above = absurd h
-  all_closed_valid I d g n (tree s ss) (node t ts) y f c placed free hy count shape h close above =
-      let P : ℤ → Type 0 = λ z. g ≤ℤ z in
-      let on = on_facility f in
-      let x = child_of y on c in
-      let ks = free_locations y in
+mutual
+  -- a certificate's tree that proves a bound as a proof's does proves it as a certificate's
+  certified_valid : (I : Problem) (g : ℤ) (t : cert.Node) (p : Place) → IsPlacement (node_at p) → shape.HasShape Second (node_at p).size (node_at p).facilities t → Valid I g p (as_proof t) → certified.Valid I g (node_at p) t
+  certified_valid I g (cert.bound u v) p placed shaped h =
+      let fits = h.fits in
+      record { duals = shaped; fits = record { matrix = fits.matrix; square = fits.square; reduced = fits.reduced; fits = fits.fits }; enough = h.enough }
+  certified_valid I g (cert.split f children) p placed shaped h =
+      let y = node_at p in
       let listed = free_location_count y placed in
-      let at = drop_at ks c (omega arith) in
-      let first = shown I x t in
-      let others = shown_by_all I y f (drop (c + 1) ks) ts in
-      let all = subst (λ (js : List ℕ). All P (shown_by_all I y f js (node t ts))) at above in
-      let weigh = λ (x : Placement) (u v : List ℤ). sum_by-append (is_it (closed_tuple x u v)) (pieces (child_of y on c) s) (pieces_of_all y on (c + 1) ss) in
-      subst (λ (js : List ℕ). AllValid I g y f js (node t ts)) (sym at) (
-        closed_valid I d g n s t (child y on c) (child_placed y on c placed free (omega arith)) (IsNode-child n y on c hy) shape.0 h.0
-            (λ x u v hx found. close x u v hx (let parts = weigh x u v in omega arith))
-            (all_left P first others all),
-        all_closed_valid I d g n ss ts y f (c + 1) placed free hy (omega arith) shape.1 h.1
-            (λ x u v hx found. close x u v hx (let parts = weigh x u v in omega arith))
-            (all_right P first others all),
+      let count = shaped.3 in
+      (shaped.0, shaped.1, all_certified_valid I g children y f 0 placed shaped.1 (omega arith) shaped.4 h.3)
+
+  all_certified_valid : (I : Problem) (g : ℤ) (ts : cert.Nodes) (y : Placement) (f c : ℕ) → IsPlacement y → IsFreeFacility y f → c + shape.child_count ts ≡ length (free_locations y) → shape.AllHaveShape Second y.size (y.facilities ++ f ∷ []) ts → AllValid I g y (on_facility f) c (as_proofs ts) → certified.AllValid I g y f (drop c (free_locations y)) ts
+  all_certified_valid I g cert.no_nodes y f c placed free count shaped h =
+      subst (λ (ks : List ℕ). certified.AllValid I g y f ks cert.no_nodes) (sym (drop_end (free_locations y) c (omega arith))) tt
+  all_certified_valid I g (cert.node t ts) y f c placed free count shaped h =
+      let on = on_facility f in
+      let listed = free_location_count y placed in
+      subst (λ (ks : List ℕ). certified.AllValid I g y f ks (cert.node t ts)) (sym (drop_at (free_locations y) c (omega arith))) (
+        certified_valid I g t (child y on c) (child_placed y on c placed free (omega arith)) shaped.0 h.0,
+        all_certified_valid I g ts y f (c + 1) placed free (omega arith) shaped.1 h.1,
       )
 
 -- the least of some numbers is at most the later ones
-least_behind : (c : ℤ) (xs : List ℤ) (g : ℤ) → IsLeastOf (c ∷ xs) g → All (λ z. g ≤ℤ z) xs
+pub least_behind : (c : ℤ) (xs : List ℤ) (g : ℤ) → IsLeastOf (c ∷ xs) g → All (λ z. g ≤ℤ z) xs
 least_behind c xs g h k d below = h.least (suc k) d (omega arith)
 
 -- a stopped certificate's tree, at the root of the instance's size
-root_shape : (I : Problem) (content : List (List FieldValue)) (C : Claim) → IsStopped I content C → HasShape Second I.size [] C.tree
-root_shape I content C s = subst (λ (m : ℕ). HasShape Second m [] C.tree) s.closes.same_size s.closes.certificate.tree
-
-pub stopped_certifies : (I : Problem) (known : Best) (content : List (List FieldValue)) (commits : ℕ) (C : Claim) → IsCutTree (from_root I known) content commits → IsStopped I content C → Certifies I C
-stopped_certifies I known content commits C h s =
-    let same = best_is I known content commits (best_of C) s.tree h s.taken_apart in
-    let positive = h.root.positive in
-    let small = h.root.small in
-    record {
-      same_size = s.closes.same_size;
-      cost = subst (λ (b : Best). cost_of I b.permutation ≡ b.cost) same h.costs;
-      tree =
-          closed_valid I h.cost C.bound I.size s.tree C.tree (whole (root_of I.size)) (root_placement I.size (omega arith) (omega arith)) (record { size = refl; paired = refl }) (root_shape I content C s) s.closes.closed
-          (closed_in_both I known content commits (best_of C) s.tree h s.taken_apart)
-          (least_behind C.cost (shown I (root_of I.size) C.tree) C.bound s.closes.least);
-    }
+root_shape : (I : Problem) (content : List (List FieldValue)) (C : Claim) → IsStopped I content C → shape.HasShape Second I.size [] C.tree
+root_shape I content C s = subst (λ (m : ℕ). shape.HasShape Second m [] C.tree) s.closes.same_size s.closes.certificate.tree
 
 -- its cost is that of the best permutation, which is no dearer than the one that was known
 pub stopped_no_dearer : (I : Problem) (known : Best) (content : List (List FieldValue)) (commits : ℕ) (C : Claim) → IsCutTree (from_root I known) content commits → IsStopped I content C → C.cost ≤ℤ known.cost
@@ -127,7 +116,7 @@ stopped_no_dearer I known content commits C h s =
 
 mutual
   -- a plain tree whose closed nodes' duals are found to close them
-  closing_tree : (I : Problem) (d : ℤ) (n : ℕ) (t : SearchTree) (p : Place) → IsNode n (node_at p) → IsTree (plain HasDuals) p t → FoundClose I d n (pieces (node_at p) t) → IsTree (plain (Closes I d)) p t
+  closing_tree : (I : Problem) (d : ℤ) (n : ℕ) (t : SearchTree) (p : Place) → IsNode n (node_at p) → IsTree (plain HasDuals) p t → FoundClose I d n (pieces (node_at p) t) → IsTree (plain (certified.Closes I d)) p t
   closing_tree I d n open_node p hy h close = tt
   closing_tree I d n (closed_node u v) p hy h close =
       let itself = is_it-itself (closed_tuple (node_at p) u v) in
@@ -146,7 +135,7 @@ mutual
             (λ x u v hx found. close x u v hx (let parts = sum_by-cons (is_it (closed_tuple x u v)) (split_said y s s.duals children) (pieces_of_all y s 0 children) in omega arith)),
       )
 
-  all_closing_trees : (I : Problem) (d : ℤ) (n : ℕ) (ts : SearchTrees) (y : Placement) (s : Split) (c : ℕ) → IsNode n y → AreTrees (plain HasDuals) y s c ts → FoundClose I d n (pieces_of_all y s c ts) → AreTrees (plain (Closes I d)) y s c ts
+  all_closing_trees : (I : Problem) (d : ℤ) (n : ℕ) (ts : SearchTrees) (y : Placement) (s : Split) (c : ℕ) → IsNode n y → AreTrees (plain HasDuals) y s c ts → FoundClose I d n (pieces_of_all y s c ts) → AreTrees (plain (certified.Closes I d)) y s c ts
   all_closing_trees I d n no_trees y s c hy h close = tt
   all_closing_trees I d n (tree t rest) y s c hy h close =
       let weigh = λ (x : Placement) (u v : List ℤ). sum_by-append (is_it (closed_tuple x u v)) (pieces (child_of y s c) t) (pieces_of_all y s (c + 1) rest) in (
@@ -155,20 +144,38 @@ mutual
       )
 
 -- the leaves that were closed before show the certificate's cost at least
-pub stopped_closed_before : (I : Problem) (known : Best) (content : List (List FieldValue)) (commits : ℕ) (C : Claim) → IsCutTree (from_root I known) content commits → (s : IsStopped I content C) → IsTree (plain (Closes I C.cost)) (whole (root_of I.size)) s.tree
+pub stopped_closed_before : (I : Problem) (known : Best) (content : List (List FieldValue)) (commits : ℕ) (C : Claim) → IsCutTree (from_root I known) content commits → (s : IsStopped I content C) → IsTree (plain (certified.Closes I C.cost)) (whole (root_of I.size)) s.tree
 stopped_closed_before I known content commits C h s =
     let root = root_of I.size in
     let same = best_is I known content commits (best_of C) s.tree h s.taken_apart in
-    let shaped = tree_from_closed I s.tree C.tree (whole root) (root_shape I content C s) s.closes.closed in
-    subst (λ (b : Best). IsTree (plain (Closes I b.cost)) (whole root) s.tree) same
+    let positive = h.root.positive in
+    let small = h.root.small in
+    let there = shaped_tree C.tree (whole root) (root_placement I.size positive small) (root_shape I content C s) in
+    let shaped = tree_from_closed (plain HasDuals) I s.tree (as_proof C.tree) (whole root) there s.closes.closed in
+    subst (λ (b : Best). IsTree (plain (certified.Closes I b.cost)) (whole root) s.tree) same
     (closing_tree I h.cost I.size s.tree (whole root) (record { size = refl; paired = refl }) shaped (closed_in_both I known content commits (best_of C) s.tree h s.taken_apart))
+
+pub stopped_certifies : (I : Problem) (known : Best) (content : List (List FieldValue)) (commits : ℕ) (C : Claim) → IsCutTree (from_root I known) content commits → IsStopped I content C → Certifies I C
+stopped_certifies I known content commits C h s =
+    let root = root_of I.size in
+    let same = best_is I known content commits (best_of C) s.tree h s.taken_apart in
+    let least = s.closes.least in
+    let before = trees_by (plain (certified.Closes I C.cost)) (proving I C.cost) (judge_proves false I C.cost) s.tree (whole root) (stopped_closed_before I known content commits C h s) in
+    record {
+      same_size = s.closes.same_size;
+      cost = subst (λ (b : Best). cost_of I b.permutation ≡ b.cost) same h.costs;
+      tree =
+          certified_valid I C.bound C.tree (whole root) (root_placement I.size h.root.positive h.root.small) (root_shape I content C s)
+          (closed_valid I C.cost C.bound (least.least 0 C.bound (omega arith)) s.tree (as_proof C.tree) (whole root) before s.closes.closed
+          (least_behind C.cost (shown I root (as_proof C.tree)) C.bound least));
+    }
 
 said_closed : (x : Placement) (s : Split) (d : Option Pair) (ts : SearchTrees) → open_weight (split_said x s d ts) ≡ 0
 said_closed x s d ts = said_weighs open_weight 0 (λ x f. refl) (λ x s d cuts. refl) x s d ts
 
 mutual
   -- the open nodes of a tree, counted by their tuples
-  open_weighed : (t : SearchTree) (y : Placement) → sum_by open_weight (pieces y t) ≡ undecided_count t
+  pub open_weighed : (t : SearchTree) (y : Placement) → sum_by open_weight (pieces y t) ≡ undecided_count t
   open_weighed open_node y = refl
   open_weighed (closed_node u v) y = refl
   open_weighed cut_node y = refl
@@ -187,7 +194,7 @@ mutual
       let parts = sum_by-append open_weight (pieces (child_of y s c) t) (pieces_of_all y s (c + 1) rest) in
       omega arith
 
-pub stopped_counted : (I : Problem) (known : Best) (content : List (List FieldValue)) (commits : ℕ) (C : Claim) → IsCutTree (from_root I known) content commits → (s : IsStopped I content C) → (decided_count s.tree ≡ commits) × (undecided_count s.tree ≡ open_count content) × (node_count C.tree ≡ commits + open_count content)
+pub stopped_counted : (I : Problem) (known : Best) (content : List (List FieldValue)) (commits : ℕ) (C : Claim) → IsCutTree (from_root I known) content commits → (s : IsStopped I content C) → (decided_count s.tree ≡ commits) × (undecided_count s.tree ≡ open_count content) × (cert.node_count C.tree ≡ commits + open_count content)
 stopped_counted I known content commits C h s =
     let root = root_of I.size in
     let left = weighed decided_weight 1 weighs_decided h.tree root in
@@ -202,53 +209,44 @@ stopped_counted I known content commits C h s =
     let open_parts = sum_by-cons open_weight (best_tuple C.cost C.permutation) (pieces root s.tree) in
     let open_left = open_weighed s.tree root in
     let opened : undecided_count s.tree ≡ open_count content = omega arith in
-    let all = closed_count I s.tree C.tree root s.closes.closed in
+    let all = closed_count I s.tree (as_proof C.tree) root s.closes.closed in
+    let nodes = node_count-searched C.tree in
     (decided, opened, omega arith)
 
-mutual
-  -- no leaf of the closed tree shows less than -10^24
-  shown_above : (I : Problem) (d : ℤ) (s : SearchTree) (t : Node) (p : Place) → IsInstance I → IsPlacement (node_at p) → IsLimited d → IsTree (plain (Closes I d)) p s → ClosedTo I (node_at p) s t → All (λ (z : ℤ). d ≤ℤ z ⊎ IsLimited z) (shown I (node_at p) t)
-  shown_above I d open_node (bound u v) p i placed limited valid h =
-      All-cons (λ (z : ℤ). d ≤ℤ z ⊎ IsLimited z) _ [] (inr (least_duals_above I (node_at p) u v i placed h)) (All-nil (λ (z : ℤ). d ≤ℤ z ⊎ IsLimited z))
-  shown_above I d open_node (split f nodes) p i placed limited valid h = absurd h
-  shown_above I d (closed_node u v) (bound w z) p i placed limited valid h =
-      let y = node_at p in
-      All-cons (λ (z : ℤ). d ≤ℤ z ⊎ IsLimited z) _ []
-      (inl (closes_by_shown I d d y u v w z valid h.0 h.1 (subst (λ (a : List ℤ). d ≤ℤ (fixed_cost_of I y +ℤ dual_value a z)) h.0 (subst (λ (b : List ℤ). d ≤ℤ (fixed_cost_of I y +ℤ dual_value u b)) h.1 valid.enough))).enough)
-      (All-nil (λ (z : ℤ). d ≤ℤ z ⊎ IsLimited z))
-  shown_above I d (closed_node u v) (split f nodes) p i placed limited valid h = absurd h
-  shown_above I d cut_node t p i placed limited valid h = absurd h
-  shown_above I d (mirrored_node j m) t p i placed limited valid h = absurd h
-  shown_above I d (split_node s children) (bound u v) p i placed limited valid h = absurd h
-  shown_above I d (split_node s children) (split f nodes) p i placed limited valid h =
-      let y = node_at p in
-      let inner = subst (λ (e : Split). AllClosedTo I y e 0 children nodes) h.0 h.1 in
-      let old = subst (λ (e : Split). IsTree (plain (Closes I d)) p (split_node e children)) h.0 valid in
-      let count = old.3 in
-      let listed = free_location_count y placed in
-      let same = closed_children I children nodes y (on_facility f) 0 inner in
-      all_shown_above I d children nodes y f 0 i placed old.1 (omega arith) limited old.4 inner
+-- a number that is d at least, or within the limits
+abbrev pub IsHigh : ℤ → ℤ → Type 0
+IsHigh d z = d ≤ℤ z ⊎ IsLimited z
 
-  all_shown_above : (I : Problem) (d : ℤ) (ss : SearchTrees) (ts : Nodes) (y : Placement) (f c : ℕ) → IsInstance I → IsPlacement y → IsFreeFacility y f → c + child_count ts ≡ length (free_locations y) → IsLimited d → AreTrees (plain (Closes I d)) y (on_facility f) c ss → AllClosedTo I y (on_facility f) c ss ts → All (λ (z : ℤ). d ≤ℤ z ⊎ IsLimited z) (shown_by_all I y f (drop c (free_locations y)) ts)
-  all_shown_above I d no_trees no_nodes y f c i placed free count limited valid h =
-      subst (λ (ks : List ℕ). All (λ (z : ℤ). d ≤ℤ z ⊎ IsLimited z) (shown_by_all I y f ks no_nodes)) (sym (drop_end (free_locations y) c (omega arith))) (All-nil (λ (z : ℤ). d ≤ℤ z ⊎ IsLimited z))
-  all_shown_above I d no_trees (node t ts) y f c i placed free count limited valid h = absurd h
-  all_shown_above I d (tree s ss) no_nodes y f c i placed free count limited valid h = absurd h
-  all_shown_above I d (tree s ss) (node t ts) y f c i placed free count limited valid h =
-      let on = on_facility f in
-      let ks = free_locations y in
-      let listed = free_location_count y placed in
-      subst (λ (js : List ℕ). All (λ (z : ℤ). d ≤ℤ z ⊎ IsLimited z) (shown_by_all I y f js (node t ts))) (sym (drop_at ks c (omega arith)))
-      (All-append (λ (z : ℤ). d ≤ℤ z ⊎ IsLimited z) (shown I (child_of y on c) t) (shown_by_all I y f (drop (c + 1) ks) ts)
-      (shown_above I d s t (child y on c) i (child_placed y on c placed free (omega arith)) limited valid.0 h.0)
-      (all_shown_above I d ss ts y f (c + 1) i placed free (omega arith) limited valid.1 h.1))
+mutual
+  -- no closed node of the closed tree shows less than -10^24
+  pub shown_above : (I : Problem) (d : ℤ) (s : SearchTree) (t : Node) (p : Place) → IsInstance I → IsPlacement (node_at p) → IsTree (proving I d) p s → ClosedTo I (node_at p) s t → All (IsHigh d) (shown I (node_at p) t)
+  shown_above I d open_node t p i placed valid h =
+      subst (λ (n : Node). All (IsHigh d) (shown I (node_at p) n)) (sym h.1) (All-cons (IsHigh d) _ [] (inr (least_duals_above I (node_at p) h.0.u h.0.v i placed h.2)) (All-nil (IsHigh d)))
+  shown_above I d (closed_node u v) t p i placed valid h =
+      subst (λ (n : Node). All (IsHigh d) (shown I (node_at p) n)) (sym h) (All-cons (IsHigh d) _ [] (inl valid.enough) (All-nil (IsHigh d)))
+  shown_above I d cut_node t p i placed valid h = subst (λ (n : Node). All (IsHigh d) (shown I (node_at p) n)) (sym h) (All-nil (IsHigh d))
+  shown_above I d (mirrored_node j m) t p i placed valid h = subst (λ (n : Node). All (IsHigh d) (shown I (node_at p) n)) (sym h) (All-nil (IsHigh d))
+  shown_above I d (split_node s children) t p i placed valid h =
+      let y = node_at p in
+      let count = valid.3 in
+      let same = closed_children I children h.0 y s 0 h.2 in
+      subst (λ (n : Node). All (IsHigh d) (shown I y n)) (sym h.1) (all_shown_above I d children h.0 y s 0 i placed valid.1 (omega arith) valid.4 h.2)
+
+  all_shown_above : (I : Problem) (d : ℤ) (ss : SearchTrees) (ts : Nodes) (y : Placement) (s : Split) (c : ℕ) → IsInstance I → IsPlacement y → IsFreeOn s.side y s.number → c + child_count ts + length y.facilities ≡ y.size → AreTrees (proving I d) y s c ss → AllClosedTo I y s c ss ts → All (IsHigh d) (shown_by_all I y s c ts)
+  all_shown_above I d no_trees ts y s c i placed free count valid h = subst (λ (ns : Nodes). All (IsHigh d) (shown_by_all I y s c ns)) (sym h) (All-nil (IsHigh d))
+  all_shown_above I d (tree r ss) ts y s c i placed free count valid h =
+      let long = ap child_count h.2 in
+      subst (λ (ns : Nodes). All (IsHigh d) (shown_by_all I y s c ns)) (sym h.2)
+      (All-append (IsHigh d) (shown I (child_of y s c) h.0) (shown_by_all I y s (c + 1) h.1)
+      (shown_above I d r h.0 (child y s c) i (child_placed y s c placed free (omega arith)) valid.0 h.3)
+      (all_shown_above I d ss h.1 y s (c + 1) i placed free (omega arith) valid.1 h.4))
 
 -- a number that is at most one within the limits, and is that one, or above it, or within the limits itself, is within them
 limited_between : (c g : ℤ) → IsLimited c → g ≤ℤ c → c ≤ℤ g ⊎ IsLimited g → IsLimited g
 limited_between c g limited below (inl above) = subst IsLimited (let same : c ≡ g = omega (arith, ints) in same) limited
 limited_between c g limited below (inr itself) = itself
 
-bound_limited : (c : ℤ) (xs : List ℤ) (g : ℤ) → IsLimited c → All (λ (z : ℤ). c ≤ℤ z ⊎ IsLimited z) xs → IsLeastOf (c ∷ xs) g → IsLimited g
+pub bound_limited : (c : ℤ) (xs : List ℤ) (g : ℤ) → IsLimited c → All (IsHigh c) xs → IsLeastOf (c ∷ xs) g → IsLimited g
 bound_limited c xs g limited above h =
     let all = All-cons (λ (z : ℤ). c ≤ℤ z ⊎ IsLimited z) c xs (inr limited) above in
     let at = h.one in
@@ -265,10 +263,11 @@ stopped_not_refused I known content commits i h none =
       cost = limited;
       permutation = record { bijection = h.permutes.bijection; positive = omega arith; small = omega arith };
       same_size = same;
-      tree = trees_by (plain (Closes I h.cost)) (plain HasDuals) (plain_by (Closes I h.cost) HasDuals (λ x u v closes. closes.duals)) h.tree (whole root) h.valid;
+      tree = trees_by (plain (certified.Closes I h.cost)) (plain HasDuals) (plain_by (certified.Closes I h.cost) HasDuals (λ x u v closes. closes.duals)) h.tree (whole root) h.valid;
       taken_apart = h.taken_apart;
     } in
     let low = none h.cost h.permutation h.tree unfinished in
     low.too_low
     (bound_limited h.cost (shown I root low.tree) low.bound limited
-    (shown_above I h.cost h.tree low.tree (whole root) i (root_placement I.size i.positive i.small) limited h.valid low.closed) low.least)
+    (shown_above I h.cost h.tree low.tree (whole root) i (root_placement I.size i.positive i.small)
+    (trees_by (plain (certified.Closes I h.cost)) (proving I h.cost) (judge_proves false I h.cost) h.tree (whole root) h.valid) low.closed) low.least)

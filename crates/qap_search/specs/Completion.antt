@@ -1,12 +1,20 @@
 -- The permutation that completes a node by an assignment of its free facilities to its free locations.
 use Rattle.std.specs.Prelude.{◌≡◌, ◌≢◌, ℕ, ◌<◌, List, length, slice_index}
 use Rattle.qap_cost.specs.Bijection.{IsBijection}
-use Rattle.qap_cost.specs.Placement.{Placement, free_facilities, free_locations}
+use Rattle.qap_cost.specs.Placement.{ListsFree, Placement, free_facilities, free_locations}
+use Rattle.qap_search.specs.declared.node.branching.Free.{Free}
 
 -- the free facility of number r takes the free location of number q(r)
 pub record IsMatching (x : Placement) (q : List ℕ) : Type 0 where
   pub bijection : IsBijection q
   pub count : length q ≡ length (free_facilities x)
+
+-- these are the free facilities and the free locations of x, ascending
+pub record IsFreeOf (x : Placement) (free : Free) : Type 0 where
+  pub facilities : free.facilities.now ≡ free_facilities x
+  pub locations : free.locations.now ≡ free_locations x
+  pub facilities_listed : ListsFree x.size x.facilities free.facilities.now
+  pub locations_listed : ListsFree x.size x.places free.locations.now
 
 -- p puts the placed facilities at their places, and the free ones as q says
 pub record IsCompletion (x : Placement) (q p : List ℕ) : Type 0 where

@@ -13,6 +13,7 @@ pub mod Found
 pub mod Hand
 pub mod InOrder
 pub mod Interleaving
+pub mod LeafBounds
 pub mod NodeList
 pub mod OpenBound
 pub mod OpenNodes
@@ -20,6 +21,7 @@ pub mod Opening
 pub mod Outcome
 pub mod Piece
 pub mod Pieces
+pub mod ProvedAnswer
 pub mod Putting
 pub mod Ran
 pub mod Replacement
@@ -30,5 +32,6 @@ pub mod Standing
 pub mod Stopped
 pub mod Thinking
 pub mod Thought
+pub mod Told
 pub mod TreeBuilding
 pub mod Turn

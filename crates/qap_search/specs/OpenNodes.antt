@@ -5,9 +5,8 @@ use Rattle.qap_cost.specs.Matrix.{Square, Assigns, DualsFit, IsMatrix, assignmen
 use Rattle.qap_cost.specs.Placement.{Placement}
 use Rattle.gilmore_lawler.specs.ReducedMatrix.{IsReduced}
 use Rattle.qap_cert.specs.Shape.{AreDuals}
-use Rattle.qap_cert.specs.Tree.{Node, split, bound, Nodes, no_nodes, node}
-use Rattle.qap_proof.specs.Tree.{Split, child_of}
-use Rattle.qap_search.specs.SearchTree.{SearchTree, open_node, split_node, closed_node, SearchTrees, no_trees, tree, on_facility}
+use Rattle.qap_proof.specs.Tree.{Pair, Split, Node, closed, split, cut, mirrored, Nodes, no_nodes, node, child_of, pair}
+use Rattle.qap_search.specs.SearchTree.{SearchTree, open_node, split_node, closed_node, cut_node, mirrored_node, SearchTrees, no_trees, tree}
 
 -- the duals fit the reduced matrix of x, and one of its assignments costs their sum: no assignment costs less
 pub record AreLeastDuals (I : Problem) (x : Placement) (u v : List ℤ) : Type 0 where
@@ -21,18 +20,19 @@ pub record AreLeastDuals (I : Problem) (x : Placement) (u v : List ℤ) : Type 0
   pub reached : dual_value u v ≡ assignment_cost matrix matching
 
 abbrev mutual
-  -- the same tree at x, in which no child is cut or mirrored, and whose open nodes are closed so
+  -- the same tree at x, whose open nodes are closed so
   pub ClosedTo : Problem → Placement → SearchTree → Node → Type 0
-  ClosedTo I x open_node (bound u v) = AreLeastDuals I x u v
-  ClosedTo I x (closed_node u v) (bound w z) = (u ≡ w) × (v ≡ z)
-  ClosedTo I x (split_node s children) (split f nodes) = (s ≡ on_facility f) × AllClosedTo I x s 0 children nodes
-  ClosedTo I x _ _ = ⊥
+  ClosedTo I x open_node t = (d : Pair) × (t ≡ closed d) × AreLeastDuals I x d.u d.v
+  ClosedTo I x (closed_node u v) t = t ≡ closed (pair u v)
+  ClosedTo I x (split_node s children) t = (nodes : Nodes) × (t ≡ split s nodes) × AllClosedTo I x s 0 children nodes
+  ClosedTo I x cut_node t = t ≡ cut
+  ClosedTo I x (mirrored_node j m) t = t ≡ mirrored j m
 
   -- the children of a split of x, from number c on
   pub AllClosedTo : Problem → Placement → Split → ℕ → SearchTrees → Nodes → Type 0
-  AllClosedTo I x s c no_trees no_nodes = Unit {0}
-  AllClosedTo I x s c (tree t rest) (node n nodes) = ClosedTo I (child_of x s c) t n × AllClosedTo I x s (c + 1) rest nodes
-  AllClosedTo I x s c _ _ = ⊥
+  AllClosedTo I x s c no_trees ts = ts ≡ no_nodes
+  AllClosedTo I x s c (tree r rest) ts =
+      (t : Node) × (nodes : Nodes) × (ts ≡ node t nodes) × ClosedTo I (child_of x s c) r t × AllClosedTo I x s (c + 1) rest nodes
 
 abbrev mutual
   -- how many nodes of the tree are open

@@ -48,10 +48,13 @@ abbrev pub cut_numbers : SearchTrees → List ℤ
 cut_numbers no_trees = []
 cut_numbers (tree t rest) = cut_number t ∷ cut_numbers rest
 
--- the tuple of a split, by the duals that it says
+-- the tuple of a split, by the duals that it says, and by which children they cut off
+abbrev pub split_cutting : Placement → Split → Option Pair → List ℤ → List FieldValue
+split_cutting x s None cuts = split_tuple x s.number
+split_cutting x s (Some d) cuts = pruned_tuple x s d cuts
+
 abbrev pub split_said : Placement → Split → Option Pair → SearchTrees → List FieldValue
-split_said x s None children = split_tuple x s.number
-split_said x s (Some d) children = pruned_tuple x s d (cut_numbers children)
+split_said x s d children = split_cutting x s d (cut_numbers children)
 
 -- x is closed by these duals
 abbrev pub closed_tuple : Placement → List ℤ → List ℤ → List FieldValue

@@ -1,12 +1,13 @@
 -- Search trees that may be unfinished: how the permutations that complete a node are split up, what shows of each part that none
 -- costs less than some cost, and which parts are open.
 use Rattle.std.specs.Prelude.{◌≡◌, ◌⊎◌, ℕ, zero, suc, ◌+◌, ◌<◌, List, length, ℤ, Bool, true, false, Some, None}
+use Rattle.qap_cost.specs.Bijection.{IsPerm}
 use Rattle.qap_cost.specs.Instance.{Problem}
 use Rattle.qap_cost.specs.Placement.{Placement}
-use Rattle.qap_cert.specs.Tree.{Node, split, bound, Nodes, no_nodes, node}
+use Rattle.qap_cert.specs.Tree as cert
 use Rattle.qap_cert.specs.Valid.{Closes}
-use Rattle.qap_proof.specs.Shape.{AreDuals, free_count}
-use Rattle.qap_proof.specs.Tree.{Pair, Split, IsFreeOn, Place, whole, child, node_at}
+use Rattle.qap_proof.specs.Shape.{AreDuals, free_count, has_duals}
+use Rattle.qap_proof.specs.Tree.{Pair, pair, Split, Node, closed, split, cut, mirrored, Nodes, no_nodes, node, IsFreeOn, Place, whole, child, node_at}
 use Rattle.qap_proof.specs.Valid.{Fits, IsCut, TakesOn}
 use Rattle.qap_proof.specs.declared.side.Side.TheVariants.{Facility}
 
@@ -59,6 +60,10 @@ abbrev mutual
 abbrev pub IsPlain : Split → Type 0
 IsPlain s = (s.side ≡ Facility) × (s.duals ≡ None)
 
+-- a plain split, or one that says duals
+abbrev pub IsReadableSplit : Split → Type 0
+IsReadableSplit s = IsPlain s ⊎ (has_duals s.duals ≡ true)
+
 -- the split says duals, which fit the reduced matrix
 pub record HasFit (I : Problem) (x : Placement) (s : Split) : Type 0 where
   pub pair : Pair
@@ -77,6 +82,16 @@ proving I g = record {
   splits = λ x s. IsPlain s ⊎ HasFit I x s;
   cuts = IsCut I g;
   mirrors = λ x s c j m. (j < c) × TakesOn s.side I x j c m;
+}
+
+-- trees that can be read back from their tuples, whatever their duals are: a child is cut only where its split says duals, and a mirrored
+-- one is the image of an earlier one under a permutation
+abbrev pub readable : Judge
+readable = record {
+  closes = λ x u v. Unit {0};
+  splits = λ x s. IsReadableSplit s;
+  cuts = λ x s c. has_duals s.duals ≡ true;
+  mirrors = λ x s c j m. (j < c) × IsPerm m;
 }
 
 -- the trees of a search that cuts children off, or of one that doesn't, whose parts hold nothing that costs less than g
@@ -107,14 +122,33 @@ abbrev pub on_facility : ℕ → Split
 on_facility f = record { side = Facility; number = f; duals = None }
 
 abbrev mutual
-  -- the search tree of a certificate's tree, in which no node is open
-  pub searched : Node → SearchTree
-  searched (split f children) = split_node (on_facility f) (searched_all children)
-  searched (bound u v) = closed_node u v
+  -- the search tree of a proof's tree, in which no node is open
+  pub of_proof : Node → SearchTree
+  of_proof (closed d) = closed_node d.u d.v
+  of_proof (split s children) = split_node s (of_proofs children)
+  of_proof cut = cut_node
+  of_proof (mirrored j m) = mirrored_node j m
 
-  pub searched_all : Nodes → SearchTrees
-  searched_all no_nodes = no_trees
-  searched_all (node t rest) = tree (searched t) (searched_all rest)
+  pub of_proofs : Nodes → SearchTrees
+  of_proofs no_nodes = no_trees
+  of_proofs (node t rest) = tree (of_proof t) (of_proofs rest)
+
+abbrev mutual
+  -- the proof's tree that says what a certificate's says
+  pub as_proof : cert.Node → Node
+  as_proof (cert.split f children) = split (on_facility f) (as_proofs children)
+  as_proof (cert.bound u v) = closed (pair u v)
+
+  pub as_proofs : cert.Nodes → Nodes
+  as_proofs cert.no_nodes = no_nodes
+  as_proofs (cert.node t rest) = node (as_proof t) (as_proofs rest)
+
+-- the search tree of a certificate's tree
+abbrev pub searched : cert.Node → SearchTree
+searched t = of_proof (as_proof t)
+
+abbrev pub searched_all : cert.Nodes → SearchTrees
+searched_all ts = of_proofs (as_proofs ts)
 
 -- so many open nodes
 abbrev pub open_row : ℕ → SearchTrees

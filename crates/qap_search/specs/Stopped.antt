@@ -1,48 +1,29 @@
 -- The certificate of a search that was stopped, and the bound that its tree shows.
-use Rattle.std.specs.Prelude.{◌≡◌, ℕ, ◌+◌, ◌-◌, ◌<◌, List, [], ◌∷◌, ◌++◌, length, ℤ, ◌+ℤ◌, ◌≤ℤ◌, All, Contains}
+use Rattle.std.specs.Prelude.{◌≡◌, ℕ, ◌+◌, ◌-◌, ◌<◌, List, ◌∷◌, length, ℤ}
 use Rattle.qap_cost.specs.Bijection.{IsPerm}
 use Rattle.qap_cost.specs.Instance.{Problem}
-use Rattle.qap_cost.specs.Matrix.{dual_value}
-use Rattle.qap_cost.specs.Placement.{Placement, fixed_cost_of, free_locations, placing, root_of}
+use Rattle.qap_cost.specs.Placement.{Placement, root_of}
 use Rattle.qap_cost.specs.Range.{IsLimited}
 use Rattle.qap_cert.specs.Certificate.{Claim, Certifies, IsCertificate}
 use Rattle.qap_cert.specs.Shape.{AreDuals}
-use Rattle.qap_cert.specs.Tree.{Node, split, bound, Nodes, node, node_count}
+use Rattle.qap_cert.specs.Tree.{node_count}
 use Rattle.qap_cert.specs.Valid.{Closes}
-use Rattle.qap_proof.specs.Tree.{whole}
+use Rattle.qap_proof.specs.Tree.{Node, whole}
 use Rattle.space_txn.specs.Content.{SameItems}
 use Rattle.tuple_match.specs.FieldValue.{FieldValue}
+use Rattle.qap_search.specs.LeafBounds.{IsBoundOf}
 use Rattle.qap_search.specs.OpenNodes.{ClosedTo, undecided_count}
 use Rattle.qap_search.specs.Piece.{best_tuple, pieces}
-use Rattle.qap_search.specs.SearchTree.{SearchTree, IsTree, plain, decided_count}
+use Rattle.qap_search.specs.SearchTree.{SearchTree, IsTree, as_proof, plain, decided_count}
 use Rattle.qap_search.specs.declared.certificate.error.AssembleError.{AssembleError}
 use Rattle.qap_search.specs.declared.certificate.error.AssembleError.TheVariants.{Unfinished, NotATree, OutOfMemory}
-
-abbrev mutual
-  -- what each leaf of the tree at x shows: the cost of the placed facilities among themselves, and the sum of its duals
-  pub shown : Problem → Placement → Node → List ℤ
-  shown I x (bound u v) = (fixed_cost_of I x +ℤ dual_value u v) ∷ []
-  shown I x (split f children) = shown_by_all I x f (free_locations x) children
-
-  -- the children, one for each of these locations of the facility
-  pub shown_by_all : Problem → Placement → ℕ → List ℕ → Nodes → List ℤ
-  shown_by_all I x f (k ∷ ks) (node t rest) = shown I (placing x f k) t ++ shown_by_all I x f ks rest
-  shown_by_all I x f _ _ = []
-
-pub record IsLeastOf (xs : List ℤ) (g : ℤ) : Type 0 where
-  pub one : Contains xs g
-  pub least : All (λ x. g ≤ℤ x) xs
-
--- the least of the cost c and of what the leaves of the tree show
-abbrev pub IsBoundOf : Problem → ℤ → Node → ℤ → Type 0
-IsBoundOf I c t g = IsLeastOf (c ∷ shown I (root_of I.size) t) g
 
 -- the certificate has this tree with each open node closed, and the bound that it shows
 pub record IsClosedTo (I : Problem) (s : SearchTree) (C : Claim) : Type 0 where
   pub certificate : IsCertificate C
   pub same_size : length C.permutation ≡ I.size
-  pub closed : ClosedTo I (root_of I.size) s C.tree
-  pub least : IsBoundOf I C.cost C.tree C.bound
+  pub closed : ClosedTo I (root_of I.size) s (as_proof C.tree)
+  pub least : IsBoundOf I (root_of I.size) C.cost (as_proof C.tree) C.bound
 
 -- the tuples, in any order, are those of a search tree and of the permutation of this certificate, which has that tree with
 -- each open node closed
@@ -68,7 +49,7 @@ pub record ShowsTooLow (I : Problem) (c : ℤ) (s : SearchTree) : Type 0 where
   pub tree : Node
   pub closed : ClosedTo I (root_of I.size) s tree
   pub bound : ℤ
-  pub least : IsBoundOf I c tree bound
+  pub least : IsBoundOf I (root_of I.size) c tree bound
   pub too_low : IsLimited bound → ⊥
 
 -- the tuples are those of no search tree and permutation, or of one that shows too low a bound

@@ -1,4 +1,4 @@
-//! The search for a least permutation: what its tuples are at any moment, and the certificate that they leave.
+//! The search for a least permutation: what its tuples are at any moment, and the certificate or the proof that they leave.
 #![tactic(auto)]
 
 mod certificate;
@@ -20,7 +20,7 @@ pub use node::decision::{decide, decide_anew, decide_beside};
 pub use node::node_list::read_node;
 pub use node::thought::Thought;
 pub use runs::alone::solve_alone;
-pub use runs::answer::{Answer, Bounded, Least, SolveError};
+pub use runs::answer::{Answer, Bounded, Least, Proved, SolveError};
 pub use runs::clock::Clock;
 pub use runs::observer::{Nobody, Observer, Progress};
 pub use runs::opening::{identity, opening_from, opening_space};
@@ -28,7 +28,7 @@ pub use runs::plan::Plan;
 pub use runs::run::Run;
 pub use runs::schedule::{Step, play};
 pub use runs::stop::{Never, Stop};
-pub use runs::threads::{solve, solve_from, solve_least, solve_least_from};
+pub use runs::threads::{prove_from, solve, solve_from, solve_least, solve_least_from};
 pub use tuples::composing::tuple_of_best;
 pub use tuples::templates::{best_template, node_template};
 pub use worker::gate::{Always, Gate, Kind};

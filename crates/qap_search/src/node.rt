@@ -4,4 +4,5 @@ pub(crate) mod branching;
 pub(crate) mod completion;
 pub(crate) mod decision;
 pub(crate) mod node_list;
+pub(crate) mod scratch;
 pub(crate) mod thought;

@@ -23,14 +23,14 @@ const FLOWS: [i64; 16] = [3, -2, 5, 0, 1, 0, -4, 6, -3, 2, 1, 5, 4, -1, 2, -2];
 const DISTANCES: [i64; 16] = [1, 4, -3, 2, -5, 0, 6, 1, 2, -1, 3, -4, 5, 2, 0, -2];
 
 /// The rules by which nodes are split: one that opens all children, and one that cuts children off.
-const RULES: [Branching; 2] = [Branching::GreatestMatched, Branching::Cutting];
+pub(crate) const RULES: [Branching; 2] = [Branching::GreatestMatched, Branching::Cutting];
 
 /// Facilities and their locations, of which a root places the first ones.
 const FACILITIES: [u16; 4] = [2, 0, 3, 1];
 
 const PLACES: [u16; 4] = [1, 3, 0, 2];
 
-fn signed(alloc: Global) -> Result<Instance, Fail>
+pub(crate) fn signed(alloc: Global) -> Result<Instance, Fail>
     ensures { IfOk result (λ I. I.size ≡ 4) }
 {
     let a = Vec::from_slice(alloc, &FLOWS)?;
@@ -71,7 +71,7 @@ fn perm_of(
 }
 
 /// Each facility at the location of its own number.
-fn in_order(alloc: Global, instance: &Instance) -> Result<Perm, Fail>
+pub(crate) fn in_order(alloc: Global, instance: &Instance) -> Result<Perm, Fail>
     ensures { IfOk result (Permutes instance.now) }
 {
     match perm_of(alloc, instance, &[0, 1, 2, 3])? {
@@ -91,7 +91,11 @@ fn completes(locations: &[u16], depth: usize) -> bool {
 }
 
 /// The least cost of the permutations that complete the node, of which each is tried.
-fn least_below(alloc: Global, instance: &Instance, depth: usize) -> Result<i128, AllocError> {
+pub(crate) fn least_below(
+    alloc: Global,
+    instance: &Instance,
+    depth: usize,
+) -> Result<i128, AllocError> {
     let mut least = i128::MAX;
     for code in 0..256u16 {
         let locations = [code % 4, code / 4 % 4, code / 16 % 4, code / 64];

@@ -10,6 +10,8 @@ mod hand_tests;
 #[cfg(test)]
 mod plan_tests;
 #[cfg(test)]
+mod proof_tests;
+#[cfg(test)]
 mod schedule_tests;
 #[cfg(test)]
 mod solving_tests;

@@ -1,23 +1,27 @@
-//! Puts the tuples of a finished search together into a certificate.
+//! Puts the tuples of a finished search together: into a tree and a permutation, and into a certificate.
 
 ghost use Rattle.std.specs.Prelude.{◌≡◌, ◌≢◌, ◌⊎◌, ◌<◌, ◌≤◌, ℕ, IfOk, IsTrue, MatchOption, MatchResult, SomeIndex, List, length, map, pos, slice_index_or};
 ghost use Rattle.qap_cost.specs.Bijection.{IsPerm};
-ghost use Rattle.qap_cost.specs.Placement.{root_of};
-ghost use Rattle.qap_cert.specs.Tree.{Node, node_of};
+ghost use Rattle.qap_cert.specs.Certificate.{Claim};
+ghost use Rattle.qap_proof.specs.Memory.{node_of};
+ghost use Rattle.qap_proof.specs.Tree.{Node};
 ghost use Rattle.qap_search.specs.Assembling.{IsAssembleFault, IsTreeFault};
 ghost use Rattle.qap_search.specs.TreeBuilding.{AreTuplesOf};
 ghost use Rattle.qap_search.specs.Finished.{IsAssembled};
 ghost use Rattle.qap_search.specs.Piece.{is_open, open_count};
 ghost use Rattle.qap_search.specs.Pieces.{decided_tuples, pieces_tuples};
+ghost use Rattle.qap_search.specs.Told.{IsMadeOf, IsTellingFault, Tell};
 ghost use Rattle.qap_search.specs.declared.certificate.error.AssembleError.TheVariants.{NotATree, OutOfMemory};
 
 use crate::certificate::error::AssembleError;
 use crate::certificate::ordering::put_in_order;
+use crate::certificate::plain_tree::plain_tree;
 use crate::certificate::tree_building::take_tree;
 use crate::tuples::parsing::{BestFound, DecidedNode, is_word};
 use crate::tuples::pieces::{Pieces, tell_apart};
-use qap_cert::{Certificate, Tree};
-use qap_cost::Perm;
+use qap_cert::Certificate;
+use qap_cost::{Partial, Perm};
+use qap_proof::Tree;
 use std::alloc::{AllocError, Global};
 use tuple_match::Tuple;
 
@@ -52,8 +56,10 @@ pub(crate) fn assemble_finished(
         (λ c. IsAssembled n tuples.items c)
         (λ e. IsTreeFault n tuples.items e) }
 {
-    let pieces = tell_apart(alloc, tuples)?;
-    certificate_of(alloc, n, pieces)
+    let root = Partial::root(alloc, n)?;
+    let assembled = put_together(alloc, &root, tuples)?;
+    let cost = assembled.cost;
+    certificate_with(alloc, n, assembled, cost)
 }
 
 /// How many of the tuples are of open nodes.
@@ -77,43 +83,85 @@ fn is_open(tuple: &Tuple) -> bool
     }
 }
 
-/// The certificate of these pieces.
-fn certificate_of(alloc: Global, n: usize, pieces: Pieces) -> Result<Certificate, AssembleError>
-    requires positive { 0 < n }
-    requires small { n ≤ 256 }
+/// What the tuples of a search without open nodes tell.
+#[derive(Drop)]
+pub(crate) struct Assembled {
+    /// What the permutation costs.
+    pub(crate) cost: i128,
+    pub(crate) perm: Perm,
+    pub(crate) tree: Tree,
+}
+
+/// Puts tuples together that are, in any order, those of a tree over this root, one for each of its nodes that isn't cut off, and of a
+/// permutation. The lists of duals are moved, not copied.
+pub(crate) fn put_together(
+    alloc: Global,
+    root: &Partial,
+    tuples: Vec<Tuple>,
+) -> Result<Assembled, AssembleError>
     ensures { MatchResult result
-        (λ c. IsAssembled n (pieces_tuples pieces) c)
-        (λ e. IsTreeFault n (pieces_tuples pieces) e) }
+        (λ a. Tell root.now tuples.items a.cost a.perm (node_of a.tree))
+        (λ e. IsTellingFault root.now tuples.items e) }
+{
+    let pieces = tell_apart(alloc, tuples)?;
+    assembled_of(alloc, root, pieces)
+}
+
+/// The permutation and the tree of these pieces.
+fn assembled_of(alloc: Global, root: &Partial, pieces: Pieces) -> Result<Assembled, AssembleError>
+    ensures { MatchResult result
+        (λ a. Tell root.now (pieces_tuples pieces) a.cost a.perm (node_of a.tree))
+        (λ e. IsTellingFault root.now (pieces_tuples pieces) e) }
 {
     let Pieces { best, decided } = pieces;
     let BestFound { cost, locations } = best;
     let Some(perm) = permutation_of(alloc, &locations)? else {
         return Err(AssembleError::NotATree);
     };
-    if perm.len() != n {
-        return Err(AssembleError::NotATree);
-    }
-    let tree = tree_of(alloc, n, decided)?;
-    match Certificate::new(cost, cost, perm, tree) {
-        Ok(certificate) => Ok(certificate),
-        Err(_) => Err(AssembleError::NotATree),
-    }
+    let tree = tree_of(alloc, root, decided)?;
+    Ok(Assembled { cost, perm, tree })
 }
 
-/// The tree of size `n` whose nodes these are, in any order.
-fn tree_of(alloc: Global, n: usize, mut nodes: Vec<DecidedNode>) -> Result<Tree, AssembleError>
-    requires positive { 0 < n }
-    requires small { n ≤ 256 }
+/// The tree over this root whose nodes these are, in any order.
+fn tree_of(
+    alloc: Global,
+    root: &Partial,
+    mut nodes: Vec<DecidedNode>,
+) -> Result<Tree, AssembleError>
     ensures { MatchResult result
-        (λ t. AreTuplesOf n (decided_tuples nodes.items) (node_of t))
-        (λ e. (e ≡ OutOfMemory) ⊎ ((e ≡ NotATree) × ((s : Node) → AreTuplesOf n (decided_tuples nodes.items) s → ⊥))) }
+        (λ t. AreTuplesOf root.now (decided_tuples nodes.items) (node_of t))
+        (λ e. (e ≡ OutOfMemory) ⊎ ((e ≡ NotATree) × ((t : Node) → AreTuplesOf root.now (decided_tuples nodes.items) t → ⊥))) }
 {
+    // Its clause says that this is a node.
+    let _size = root.size();
     put_in_order(&mut nodes);
-    let tree = take_tree(alloc, n, &mut nodes)?;
+    let tree = take_tree(alloc, root, &mut nodes)?;
     if nodes.is_empty() {
         Ok(tree)
     } else {
         Err(AssembleError::NotATree)
+    }
+}
+
+/// The certificate of size `n` with this bound.
+pub(crate) fn certificate_with(
+    alloc: Global,
+    n: usize,
+    assembled: Assembled,
+    bound: i128,
+) -> Result<Certificate, AssembleError>
+    ensures { MatchResult result
+        (λ c. IsMadeOf n assembled.cost bound assembled.perm (node_of assembled.tree) c)
+        (λ e. (e ≡ OutOfMemory) ⊎ ((e ≡ NotATree) × ((C : Claim) → IsMadeOf n assembled.cost bound assembled.perm (node_of assembled.tree) C → ⊥))) }
+{
+    let Assembled { cost, perm, tree } = assembled;
+    if perm.len() != n {
+        return Err(AssembleError::NotATree);
+    }
+    let tree = plain_tree(alloc, tree)?;
+    match Certificate::new(cost, bound, perm, tree) {
+        Ok(certificate) => Ok(certificate),
+        Err(_) => Err(AssembleError::NotATree),
     }
 }
 

@@ -1,75 +1,67 @@
-//! What the leaves of a certificate's tree show.
+//! What the leaves of a tree show.
 
-ghost use Rattle.std.specs.Prelude.{◌≡◌, ◌<◌, ◌-◌, ◌+ℤ◌, ◌++◌, ◌∷◌, [], ℕ, IfOk, length, slice_index};
+ghost use Rattle.std.specs.Prelude.{◌≡◌, ◌↔◌, ◌+ℤ◌, ◌∷◌, [], ℕ, Bool, IfOk, IsTrue, length};
 ghost use Rattle.qap_cost.specs.Matrix.{dual_value};
-ghost use Rattle.qap_cost.specs.Placement.{IsFreeFacility, IsFreeLocation, IsPlacement, fixed_cost_of};
-ghost use Rattle.qap_cert.specs.Shape.{AllHaveShape, AreDuals, HasShape};
-ghost use Rattle.qap_cert.specs.Tree.{node_of, nodes_of};
-ghost use Rattle.qap_cert.specs.declared.version.Version.TheVariants.{Second};
-ghost use Rattle.qap_search.specs.Stopped.{IsBoundOf, IsLeastOf, shown, shown_by_all};
+ghost use Rattle.qap_cost.specs.Placement.{fixed_cost_of};
+ghost use Rattle.qap_proof.specs.Memory.{node_of, nodes_of};
+ghost use Rattle.qap_proof.specs.NodeLine.{pair_of, split_of};
+ghost use Rattle.qap_proof.specs.Shape.{AllHaveShape, AreDuals, HasShape, free_count};
+ghost use Rattle.qap_proof.specs.Tree.{IsFreeOn, Place, node_at};
+ghost use Rattle.qap_search.specs.LeafBounds.{IsLeastOf, shown, shown_by_all};
+ghost use Rattle.qap_search.specs.SearchTree.{AreTrees, IsTree, of_proof, of_proofs, readable};
 
+use crate::certificate::tree_building::pair_with;
+use crate::tuples::composing::free_others;
 use gilmore_lawler::dual_sum;
-use qap_cert::{Certificate, Tree};
 use qap_cost::{Instance, Partial};
-use std::alloc::{AllocError, Global};
+use qap_lines::are_limited;
+use qap_proof::{Duals, SplitLine, Tree};
+use std::alloc::AllocError;
 
-/// The least of the certificate's cost and of what the leaves of its tree show.
-pub(crate) fn bound_of(
-    alloc: Global,
-    instance: &Instance,
-    certificate: &Certificate,
-) -> Result<i128, AllocError>
-    requires { length certificate.now.permutation ≡ instance.now.size }
-    ensures { IfOk result (IsBoundOf instance.now certificate.now.cost certificate.now.tree) }
-{
-    let root = Partial::root(alloc, instance.size())?;
-    let cost = certificate.cost();
-    least_shown(instance, &root, certificate.tree(), cost)
-}
-
-/// The least of this number and of what the leaves of the tree at the node show.
+/// The least of this number and of what the leaves of the tree at the node show. It says nothing of a tree whose leaves haven't a dual
+/// within -10^24 to 10^24 for each free facility and each free location.
 #[cycle(showing)]
-fn least_shown(
+pub(crate) fn least_shown(
     instance: &Instance,
     node: &Partial,
     tree: &Tree,
     least: i128,
 ) -> Result<i128, AllocError>
     requires same_size { instance.now.size ≡ node.now.size }
-    requires placement { IsPlacement node.now }
-    requires shape { HasShape Second node.now.size node.now.facilities (node_of tree.now) }
-    ensures { IfOk result (IsLeastOf (least ∷ shown instance.now node.now (node_of tree.now))) }
+    requires tree { (p : Place) × (node_at p ≡ node.now) × IsTree readable p (of_proof (node_of tree.now)) }
+    ensures { IfOk result (λ g. (earlier : ℕ) (duals : Bool) → HasShape node.now earlier duals (node_of tree.now) →
+        IsLeastOf (least ∷ shown instance.now node.now (node_of tree.now)) g) }
 {
     match tree {
-        Tree::Split { facility, children } => {
-            let locations = node.free_locations()?;
-            least_shown_by_all(instance, node, *facility, &locations, children, least)
+        Tree::Closed { duals } => Ok(least_with(instance, node, duals, least)),
+        Tree::Split { split, children } => {
+            least_shown_by_all(instance, node, split, children, least)
         }
-        Tree::Bound { u, v } => Ok(least_with(instance, node, u, v, least)),
+        Tree::Cut | Tree::Mirrored { .. } => Ok(least),
     }
 }
 
-/// The same for the trees of the nodes that put the facility at each of these locations too.
+/// The same for the children of a split.
 #[cycle(showing)]
 fn least_shown_by_all(
     instance: &Instance,
     node: &Partial,
-    facility: u16,
-    locations: &[u16],
+    split: &SplitLine,
     children: &[Tree],
     least: i128,
 ) -> Result<i128, AllocError>
     requires same_size { instance.now.size ≡ node.now.size }
-    requires placement { IsPlacement node.now }
-    requires facility { IsFreeFacility node.now facility }
-    requires free { (i : ℕ) → i < length locations.now → IsFreeLocation node.now (slice_index locations.now i) }
-    requires one_each { length children.now ≡ length locations.now }
-    requires shape { AllHaveShape Second node.now.size (node.now.facilities ++ facility ∷ []) (nodes_of children.now) }
-    ensures { IfOk result (IsLeastOf (least ∷ shown_by_all instance.now node.now facility locations.now (nodes_of children.now))) }
+    requires free { IsFreeOn split.now.side node.now split.now.number }
+    requires one_each { length children.now ≡ free_count node.now }
+    requires trees { AreTrees readable node.now (split_of split.now) 0 (of_proofs (nodes_of children.now)) }
+    ensures { IfOk result (λ g. AllHaveShape node.now (split_of split.now) 0 (nodes_of children.now) →
+        IsLeastOf (least ∷ shown_by_all instance.now node.now (split_of split.now) 0 (nodes_of children.now)) g) }
 {
+    let others = free_others(node, split.side)?;
     let mut found = least;
     for (i, child) in children.iter().enumerate() {
-        let part = node.place(facility, locations[i])?;
+        let (facility, location) = pair_with(split, others[i]);
+        let part = node.place(facility, location)?;
         found = least_shown(instance, &part, child, found)?;
     }
     Ok(found)
@@ -77,12 +69,24 @@ fn least_shown_by_all(
 
 /// The lesser of this number and of what duals show at the node: the cost of its placed facilities among themselves, and the
 /// sum of the duals.
-fn least_with(instance: &Instance, node: &Partial, u: &[i128], v: &[i128], least: i128) -> i128
+fn least_with(instance: &Instance, node: &Partial, duals: &Duals, least: i128) -> i128
     requires same_size { instance.now.size ≡ node.now.size }
-    requires placement { IsPlacement node.now }
-    requires duals { AreDuals (node.now.size - length node.now.facilities) u.now v.now }
-    ensures { IsLeastOf (least ∷ (fixed_cost_of instance.now node.now +ℤ dual_value u.now v.now) ∷ []) result }
+    ensures { AreDuals (free_count node.now) (pair_of duals.now) →
+        IsLeastOf (least ∷ (fixed_cost_of instance.now node.now +ℤ dual_value duals.now.u.items duals.now.v.items) ∷ []) result }
 {
-    let value = node.fixed_cost(instance) + dual_sum(u, v);
+    if !are_duals(duals, node.size() - node.depth()) {
+        return least;
+    }
+    let value = node.fixed_cost(instance) + dual_sum(&duals.u, &duals.v);
     if value < least { value } else { least }
+}
+
+/// Whether there are so many duals on either side, all within -10^24 to 10^24.
+fn are_duals(duals: &Duals, count: usize) -> bool
+    ensures { IsTrue result ↔ AreDuals count (pair_of duals.now) }
+{
+    duals.u.len() == count
+        && duals.v.len() == count
+        && are_limited(&duals.u)
+        && are_limited(&duals.v)
 }

@@ -1,15 +1,17 @@
-//! Puts the tuples of a search that was stopped together into a certificate.
+//! Puts the tuples of a search together whose open nodes are closed first.
 
-ghost use Rattle.std.specs.Prelude.{MatchResult};
+ghost use Rattle.std.specs.Prelude.{◌≡◌, MatchResult};
+ghost use Rattle.qap_proof.specs.Memory.{node_of};
 ghost use Rattle.qap_search.specs.Stopped.{IsStopped, IsStoppedFault};
+ghost use Rattle.qap_search.specs.Told.{IsClosingFault, TellClosed};
 
-use crate::certificate::assembling::assemble;
+use crate::certificate::assembling::{Assembled, certificate_with, put_together};
 use crate::certificate::closers::{Closers, One};
 use crate::certificate::error::AssembleError;
-use crate::certificate::leaf_bounds::bound_of;
+use crate::certificate::leaf_bounds::least_shown;
 use gilmore_lawler::RankedInstance;
 use qap_cert::Certificate;
-use qap_cost::Instance;
+use qap_cost::{Instance, Partial};
 use std::alloc::Global;
 use tuple_match::Tuple;
 
@@ -43,12 +45,31 @@ pub(crate) fn assemble_stopped_by<K: Closers>(
         (λ c. IsStopped instance.now tuples.items c)
         (λ e. IsStoppedFault instance.now tuples.items e) }
 {
+    let size = instance.size();
+    let root = Partial::root(alloc, size)?;
+    let closed = put_together_closed(closers, alloc, instance, &root, tuples)?;
+    let bound = least_shown(instance, &root, &closed.tree, closed.cost)?;
+    certificate_with(alloc, size, closed, bound)
+}
+
+/// Puts the tuples of a search together where these have closed its open nodes, each by the duals of a least assignment of its reduced
+/// matrix.
+pub(crate) fn put_together_closed<K: Closers>(
+    closers: &K,
+    alloc: Global,
+    instance: &Instance,
+    root: &Partial,
+    tuples: Vec<Tuple>,
+) -> Result<Assembled, AssembleError>
+    requires ready { K.ready }
+    requires same_size { root.now.size ≡ instance.now.size }
+    ensures { MatchResult result
+        (λ a. TellClosed instance.now root.now tuples.items a.cost a.perm (node_of a.tree))
+        (λ e. IsClosingFault root.now tuples.items e) }
+{
+    // Its clause says that this is a node.
+    let _size = root.size();
     let ranked = RankedInstance::new(alloc, instance)?;
     let closed = closers.close_open(alloc, &ranked, tuples)?;
-    let finished = assemble(alloc, instance.size(), closed)?;
-    let bound = bound_of(alloc, instance, &finished)?;
-    match finished.with_bound(bound) {
-        Ok(certificate) => Ok(certificate),
-        Err(_) => Err(AssembleError::NotATree),
-    }
+    put_together(alloc, root, closed)
 }

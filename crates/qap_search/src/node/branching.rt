@@ -3,19 +3,26 @@
 ghost use Rattle.std.specs.Prelude.{◌≡◌, ◌-◌, ◌*◌, ◌^◌, ◌<◌, ℕ, true, false, IfOk, MatchOption, length, slice_index};
 ghost use Rattle.qap_cost.specs.Instance.{Problem};
 ghost use Rattle.qap_cost.specs.Matrix.{DualsFit};
-ghost use Rattle.qap_cost.specs.Placement.{free_facilities};
+ghost use Rattle.qap_cost.specs.Placement.{IsPlacement, Placement};
 ghost use Rattle.qap_cost.specs.Range.{AllLimited, AllWithin};
 ghost use Rattle.gilmore_lawler.specs.ReducedMatrix.{IsReduced};
 ghost use Rattle.qap_proof.specs.NodeLine.{pair_of};
 ghost use Rattle.qap_proof.specs.Shape.{AreDuals, free_count};
 ghost use Rattle.qap_proof.specs.Tree.{IsFreeOn, Pair};
-ghost use Rattle.qap_search.specs.Completion.{IsMatching};
+ghost use Rattle.qap_search.specs.Completion.{IsFreeOf, IsMatching};
 ghost use Rattle.qap_search.specs.Hand.{cuts};
 ghost use Rattle.qap_search.specs.Thought.{IsBranch, branch_value};
 
 use qap_cost::{Instance, Matrix, Partial};
 use qap_proof::{Duals, Side, child_values};
 use std::alloc::{AllocError, Global};
+
+/// The free facilities and locations of a node, both ascending.
+#[derive(Drop)]
+pub(crate) struct Free<'a> {
+    pub(crate) facilities: &'a [u16],
+    pub(crate) locations: &'a [u16],
+}
 
 /// By which rule a node is split.
 #[derive(Clone, Copy, PartialEq, Eq, Debug)]
@@ -69,12 +76,14 @@ pub(crate) fn branch_of(
     branching: Branching,
     instance: &Instance,
     node: &Partial,
+    free: &Free<'_>,
     matrix: &Matrix,
     matching: &[u16],
     duals: &Duals,
     gap: Option<i128>,
 ) -> Result<Option<Branch>, AllocError>
     requires same_size { instance.now.size ≡ node.now.size }
+    requires free { IsFreeOf node.now free.now }
     requires reduced { IsReduced instance.now node.now matrix.now }
     requires bounded { AllWithin (512 * 10 ^ 18) matrix.now.entries }
     requires matching { IsMatching node.now matching.now }
@@ -93,29 +102,28 @@ pub(crate) fn branch_of(
     let branch = match branching {
         Branching::GreatestMatched => {
             let row = greatest_row(matching, u, v);
-            on_facility(node, row, Vec::new(alloc))?
+            on_facility(free, row, Vec::new(alloc))
         }
         Branching::GreatestSum => {
             let row = widest(matrix, u, v, Side::Facility, gap);
-            on_facility(node, row, reduced_row(alloc, matrix, u, v, row)?)?
+            on_facility(free, row, reduced_row(alloc, matrix, u, v, row)?)
         }
-        Branching::Cutting => widest_branch(alloc, instance, node, matrix, duals, gap)?,
+        Branching::Cutting => widest_branch(alloc, instance, node, free, matrix, duals, gap)?,
     };
     Ok(Some(branch))
 }
 
 /// A split on the facility of this row, whose children are taken by these entries.
-fn on_facility(node: &Partial, row: usize, entries: Vec<i128>) -> Result<Branch, AllocError>
-    requires { row < length (free_facilities node.now) }
-    ensures { IfOk result (λ b. (I : Problem) (d : Pair) → IsBranch false I node.now d (branch_value b)) }
+fn on_facility(free: &Free<'_>, row: usize, entries: Vec<i128>) -> Branch
+    requires { row < length free.now.facilities.now }
+    ensures { (I : Problem) (x : Placement) (d : Pair) → IsPlacement x → IsFreeOf x free.now → IsBranch false I x d (branch_value result) }
 {
-    let facilities = node.free_facilities()?;
-    Ok(Branch {
+    Branch {
         side: Side::Facility,
-        number: facilities[row],
+        number: free.facilities[row],
         reached: None,
         entries,
-    })
+    }
 }
 
 /// A split on the facility or the location of the row or column whose reduced entries have the greatest sum, each counted at most
@@ -124,11 +132,13 @@ fn widest_branch(
     alloc: Global,
     instance: &Instance,
     node: &Partial,
+    free: &Free<'_>,
     matrix: &Matrix,
     duals: &Duals,
     gap: Option<i128>,
 ) -> Result<Branch, AllocError>
     requires same_size { instance.now.size ≡ node.now.size }
+    requires free { IsFreeOf node.now free.now }
     requires some { 0 < matrix.now.size }
     requires reduced { IsReduced instance.now node.now matrix.now }
     requires bounded { AllWithin (512 * 10 ^ 18) matrix.now.entries }
@@ -136,7 +146,9 @@ fn widest_branch(
     requires fits { DualsFit matrix.now duals.now.u.items duals.now.v.items }
     ensures { IfOk result (λ b. IsBranch true instance.now node.now (pair_of duals.now) (branch_value b)) }
 {
-    let (side, number) = widest_line(node, matrix, &duals.u, &duals.v, gap)?;
+    // Its clause says that this is a node.
+    let _size = node.size();
+    let (side, number) = widest_line(free, matrix, &duals.u, &duals.v, gap);
     let reached = child_values(alloc, instance, matrix, node, side, number, duals)?;
     Ok(Branch {
         side,
@@ -148,26 +160,27 @@ fn widest_branch(
 
 /// The free facility or location whose reduced entries have the greatest sum, each counted at most up to the gap.
 fn widest_line(
-    node: &Partial,
+    free: &Free<'_>,
     matrix: &Matrix,
     u: &[i128],
     v: &[i128],
     gap: Option<i128>,
-) -> Result<(Side, u16), AllocError>
+) -> (Side, u16)
     requires some { 0 < matrix.now.size }
-    requires size { matrix.now.size ≡ free_count node.now }
+    requires rows { matrix.now.size ≡ length free.now.facilities.now }
+    requires columns { matrix.now.size ≡ length free.now.locations.now }
     requires u_count { length u.now ≡ matrix.now.size }
     requires v_count { length v.now ≡ matrix.now.size }
-    ensures { IfOk result (λ found. IsFreeOn found.0 node.now found.1) }
+    ensures { (x : Placement) → IsPlacement x → IsFreeOf x free.now → IsFreeOn result.0 x result.1 }
 {
     let row = widest(matrix, u, v, Side::Facility, gap);
     let column = widest(matrix, u, v, Side::Location, gap);
     let row_width = width_of(matrix, u, v, Side::Facility, row, gap);
     let column_width = width_of(matrix, u, v, Side::Location, column, gap);
     if column_width > row_width {
-        Ok((Side::Location, node.free_locations()?[column]))
+        (Side::Location, free.locations[column])
     } else {
-        Ok((Side::Facility, node.free_facilities()?[row]))
+        (Side::Facility, free.facilities[row])
     }
 }
 

@@ -1,50 +1,74 @@
 //! Completes a node by an assignment of its free facilities to its free locations.
 
-ghost use Rattle.std.specs.Prelude.{◌≡◌, ◌<◌, ℕ, IfOk, length, map, slice_index, vec_len};
+ghost use Rattle.std.specs.Prelude.{◌≡◌, ◌<◌, ℕ, IfOk, OnOk, length, map, slice_index, vec_len};
 ghost use Rattle.qap_cost.specs.Bijection.{AreDifferent, IsPerm};
 ghost use Rattle.qap_cost.specs.Placement.{IsPlacement};
-ghost use Rattle.qap_search.specs.Completion.{IsCompletion, IsMatching, Puts};
+ghost use Rattle.qap_search.specs.Completion.{IsCompletion, IsFreeOf, IsMatching, Puts};
 
+use crate::node::branching::Free;
 use qap_cost::{Partial, Perm};
-use std::alloc::{AllocError, Global};
+use std::alloc::AllocError;
 
 /// The permutation that puts each placed facility of the node at its place, and the free facility of number `r` at the free
-/// location of number `matching[r]`, both counted in ascending order.
-pub(crate) fn completed(alloc: Global, node: &Partial, matching: &[u16]) -> Result<Perm, AllocError>
-    requires { IsMatching node.now matching.now }
+/// location of number `matching[r]`, both counted in ascending order. The locations of the free facilities are written to `matched`,
+/// and the permutation's to `memory`.
+pub(crate) fn completed(
+    node: &Partial,
+    free: &Free<'_>,
+    matching: &[u16],
+    matched: &mut Vec<u16>,
+    memory: Vec<u16>,
+) -> Result<Perm, AllocError>
+    requires free { IsFreeOf node.now free.now }
+    requires matching { IsMatching node.now matching.now }
     ensures completion { IfOk result (IsCompletion node.now matching.now) }
     ensures permutation { IfOk result IsPerm }
     ensures placement { IfOk result (λ _. IsPlacement node.now) }
 {
-    let locations = completion(alloc, node, matching)?;
+    let locations = completion(node, free, matching, matched, memory)?;
     Ok(Perm::new(locations).unwrap())
 }
 
 /// The locations of that permutation.
-fn completion(alloc: Global, node: &Partial, matching: &[u16]) -> Result<Vec<u16>, AllocError>
-    requires { IsMatching node.now matching.now }
+fn completion(
+    node: &Partial,
+    free: &Free<'_>,
+    matching: &[u16],
+    matched: &mut Vec<u16>,
+    memory: Vec<u16>,
+) -> Result<Vec<u16>, AllocError>
+    requires free { IsFreeOf node.now free.now }
+    requires matching { IsMatching node.now matching.now }
     ensures completion { IfOk result (λ v. IsCompletion node.now matching.now v.items) }
     ensures permutation { IfOk result (λ v. IsPerm v.items) }
     ensures placement { IfOk result (λ _. IsPlacement node.now) }
 {
-    let facilities = node.free_facilities()?;
-    let locations = node.free_locations()?;
-    let matched = picked(alloc, &locations, matching)?;
-    let places = vec![in alloc; 0u16; node.size()]?;
+    let n = node.size();
+    pick(free.locations, matching, matched)?;
+    let places = sized(memory, n)?;
     let places = put_each(places, node.facilities(), node.places());
-    Ok(put_each(places, &facilities, &matched))
+    Ok(put_each(places, free.facilities, matched))
 }
 
-/// The numbers that stand at these places.
-fn picked(alloc: Global, numbers: &[u16], at: &[u16]) -> Result<Vec<u16>, AllocError>
+/// Makes the list that of the numbers that stand at these places.
+fn pick(numbers: &[u16], at: &[u16], picked: &mut Vec<u16>) -> Result<(), AllocError>
     requires { (t : ℕ) → t < length at.now → slice_index at.now t < length numbers.now }
-    ensures { IfOk result (λ v. v.items ≡ map (slice_index numbers.now) at.now) }
+    ensures { OnOk result (picked.new.items ≡ map (slice_index numbers.now) at.now) }
 {
-    let mut picked = Vec::with_capacity(alloc, at.len())?;
+    picked.clear();
+    picked.reserve(at.len())?;
     for place in at {
         picked.push(numbers[usize::from(*place)])?;
     }
-    Ok(picked)
+    Ok(())
+}
+
+/// The list with so many numbers.
+fn sized(mut list: Vec<u16>, count: usize) -> Result<Vec<u16>, AllocError>
+    ensures { IfOk result (λ v. length v.items ≡ count) }
+{
+    list.resize(count, 0)?;
+    Ok(list)
 }
 
 /// Puts each value at its place; all else stays.

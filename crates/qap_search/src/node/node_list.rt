@@ -1,6 +1,7 @@
 //! Reads a node from its list.
 
 ghost use Rattle.std.specs.Prelude.{◌≡◌, ◌≢◌, ◌<◌, ◌≤◌, ℕ, IfOk, MatchBool, MatchOption, pos};
+ghost use Rattle.tuple_match.specs.Numbers.{numbers_in};
 ghost use Rattle.qap_cost.specs.Placement.{IsFreeFacility, IsFreeLocation, IsPlacement, Placement};
 ghost use Rattle.qap_search.specs.NodeList.{IsNextOf, IsReadFrom};
 ghost use Rattle.qap_search.specs.Piece.{node_list};
@@ -8,6 +9,7 @@ ghost use Rattle.qap_search.specs.Piece.{node_list};
 use crate::certificate::tree_building::free_facility;
 use qap_cost::Partial;
 use std::alloc::{AllocError, Global};
+use tuple_match::Numbers;
 
 /// The node of size `n` whose list this is: facility and location by turns, in the order of placing. `None` where the list
 /// is that of no node of this size.
@@ -18,16 +20,40 @@ pub fn read_node(alloc: Global, n: usize, list: &[i128]) -> Result<Option<Partia
         ((x : Placement) → IsPlacement x → x.size ≡ n → node_list x ≢ list.now)
         (IsReadFrom n list.now)) }
 {
-    if list.len() % 2 != 0 {
-        return Ok(None);
-    }
     let mut node = Partial::root(alloc, n)?;
-    for t in 0..list.len() / 2 {
-        if !put_next(&mut node, list[2 * t], list[2 * t + 1])? {
-            return Ok(None);
+    if read_into(n, &Numbers::Wide(list), &mut node)? {
+        Ok(Some(node))
+    } else {
+        Ok(None)
+    }
+}
+
+/// Makes it the node of size `n` whose list this is, in the memory that it has where that is enough; answers whether it is that of a
+/// node of this size, and else it may be any node.
+pub(crate) fn read_into(
+    n: usize,
+    list: &Numbers<'_>,
+    node: &mut Partial,
+) -> Result<bool, AllocError>
+    requires positive { 0 < n }
+    requires small { n ≤ 256 }
+    ensures { IfOk result (λ read. MatchBool read
+        (IsReadFrom n (numbers_in list.now) node.new)
+        ((x : Placement) → IsPlacement x → x.size ≡ n → node_list x ≢ numbers_in list.now)) }
+{
+    let count = list.len();
+    if count % 2 != 0 {
+        return Ok(false);
+    }
+    node.reset(n);
+    for t in 0..count / 2 {
+        let facility = list.at(2 * t);
+        let location = list.at(2 * t + 1);
+        if !put_next(node, facility, location)? {
+            return Ok(false);
         }
     }
-    Ok(Some(node))
+    Ok(true)
 }
 
 /// Puts the facility of this number at the location of that number too; answers whether both are free.
@@ -47,7 +73,7 @@ fn put_next(node: &mut Partial, facility: i128, location: i128) -> Result<bool, 
 }
 
 /// The free location of this number.
-fn free_location(node: &Partial, number: i128) -> Option<u16>
+pub(crate) fn free_location(node: &Partial, number: i128) -> Option<u16>
     ensures { MatchOption result
         ((k : ℕ) → IsFreeLocation node.now k → number ≢ pos k)
         (λ k. IsFreeLocation node.now k × (number ≡ pos k)) }

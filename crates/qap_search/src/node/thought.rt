@@ -4,12 +4,9 @@ ghost use Rattle.std.specs.Prelude.{◌≡◌, ◌*◌, ◌^◌, IfOk};
 ghost use Rattle.qap_cost.specs.Range.{AllWithin};
 ghost use Rattle.gilmore_lawler.specs.ReducedMatrix.{IsReduced};
 
-use crate::node::branching::{Branch, Branching, branch_of};
-use crate::node::completion::completed;
-use assign_dual::{Assignment, solve};
-use gilmore_lawler::dual_sum;
-use qap_cost::{Instance, Matrix, Partial, Perm, cost};
-use qap_proof::Duals;
+use crate::node::branching::{Branch, Branching};
+use crate::node::scratch::Scratch;
+use qap_cost::{Instance, Matrix, Partial, Perm};
 use std::alloc::{AllocError, Global};
 
 /// What is worked out about a node: a bound on what its completions cost, and one of them.
@@ -70,24 +67,6 @@ impl Thought {
         requires bounded { AllWithin (512 * 10 ^ 18) matrix.now.entries }
         ensures { IfOk result (IsThought (cuts branching) instance.now node.now) }
     {
-        let _size = matrix.size();
-        let Assignment { matching, u, v } = solve(alloc, matrix)?;
-        let candidate = completed(alloc, node, &matching)?;
-        let cost = cost(instance, &candidate);
-        let value = node.fixed_cost(instance) + dual_sum(&u, &v);
-        let gap = best.map(|best| best.saturating_sub(value));
-        let duals = Duals { u, v };
-        let branch = branch_of(
-            alloc, branching, instance, node, matrix, &matching, &duals, gap,
-        )?;
-        let Duals { u, v } = duals;
-        Ok(Thought {
-            u,
-            v,
-            value,
-            candidate,
-            cost,
-            branch,
-        })
+        Scratch::new(alloc)?.thought(alloc, branching, instance, node, matrix, best)
     }
 }

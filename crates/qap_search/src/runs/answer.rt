@@ -3,6 +3,7 @@
 use crate::worker::report::Report;
 use qap_cert::Certificate;
 use qap_cost::Perm;
+use qap_proof::Proof;
 use std::alloc::AllocError;
 use std::fmt;
 use thiserror::Error;
@@ -65,6 +66,18 @@ pub struct Bounded {
     /// No permutation that completes the root costs less. At most the cost, and the cost where no node is open.
     pub bound: i128,
     /// How many nodes are left open.
+    pub open_nodes: u64,
+    /// One for each worker, in their order.
+    pub reports: Vec<Report>,
+}
+
+/// A proof of what a search's root lets a permutation cost, and what each worker tells of the search.
+#[derive(Drop)]
+pub struct Proved {
+    /// Its permutation is the best one found; where none that completes the root is found that is cheaper, the one that the search began
+    /// with. Its bound is the cost where no node is left open.
+    pub proof: Proof,
+    /// How many nodes the search left open; the proof closes them.
     pub open_nodes: u64,
     /// One for each worker, in their order.
     pub reports: Vec<Report>,

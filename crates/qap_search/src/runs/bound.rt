@@ -11,13 +11,13 @@ ghost use Rattle.qap_search.specs.Search.{search_of};
 
 use crate::certificate::assembling::open_nodes;
 use crate::certificate::best_permutation::best_of;
-use crate::certificate::open_nodes::least_duals;
-use crate::node::node_list::read_node;
+use crate::certificate::open_nodes::Closing;
+use crate::node::node_list::read_into;
 use crate::runs::answer::Bounded;
 use crate::runs::run::Run;
-use crate::worker::thinking::node_fields;
-use gilmore_lawler::{RankedInstance, Workspace, dual_sum};
-use qap_cost::{Instance, Partial};
+use crate::worker::thinking::node_numbers;
+use gilmore_lawler::{RankedInstance, dual_sum};
+use qap_cost::Instance;
 use std::alloc::{AllocError, Global};
 use tuple_match::Tuple;
 
@@ -38,7 +38,8 @@ pub(crate) fn bounded_of(
     };
     let (permutation, cost) = best_of(alloc, &tuples)?;
     let ranked = RankedInstance::new(alloc, instance)?;
-    let bound = open_bound(alloc, &ranked, &tuples, cost)?;
+    let mut closing = Closing::with_room(alloc, instance.size())?;
+    let bound = open_bound(&ranked, &mut closing, &tuples, cost)?;
     Ok(Bounded {
         permutation,
         cost,
@@ -50,54 +51,49 @@ pub(crate) fn bounded_of(
 
 /// The least of this cost and of the values of the open nodes among the tuples.
 pub(crate) fn open_bound(
-    alloc: Global,
     instance: &RankedInstance,
+    closing: &mut Closing,
     tuples: &[Tuple],
     cost: i128,
 ) -> Result<i128, AllocError>
     requires { All (IsSoundTuple instance.now.size) tuples.now }
     ensures { IfOk result (IsOpenBound instance.now tuples.now cost) }
 {
-    let mut workspace = Workspace::new(alloc);
     let mut bound = cost;
     for tuple in tuples {
-        bound = bound_with(alloc, instance, &mut workspace, tuple, bound)?;
+        bound = bound_with(instance, closing, tuple, bound)?;
     }
     Ok(bound)
 }
 
 /// The lesser of the bound and of the value of the tuple's node, where that is open.
 fn bound_with(
-    alloc: Global,
     instance: &RankedInstance,
-    workspace: &mut Workspace,
+    closing: &mut Closing,
     tuple: &Tuple,
     bound: i128,
 ) -> Result<i128, AllocError>
     requires { IsSoundTuple instance.now.size tuple.now }
     ensures { IfOk result (IsOpenBound instance.now (tuple.now ∷ []) bound) }
 {
-    let Some(list) = node_fields(alloc, tuple)? else {
+    let size = instance.instance().size();
+    let Some(list) = node_numbers(tuple) else {
         return Ok(bound);
     };
-    let Some(node) = read_node(alloc, instance.instance().size(), &list)? else {
+    if !read_into(size, &list, &mut closing.node)? {
         unreachable!()
-    };
-    let value = node_value(alloc, instance, workspace, &node)?;
+    }
+    let value = node_value(instance, closing)?;
     Ok(value.min(bound))
 }
 
-/// What the placed facilities of the node cost among themselves, and a least assignment of its reduced matrix.
-fn node_value(
-    alloc: Global,
-    instance: &RankedInstance,
-    workspace: &mut Workspace,
-    node: &Partial,
-) -> Result<i128, AllocError>
-    requires same_size { instance.now.size ≡ node.now.size }
-    requires placement { IsPlacement node.now }
-    ensures { IfOk result (IsNodeValue instance.now node.now) }
+/// What the placed facilities of the node that was read cost among themselves, and a least assignment of its reduced matrix.
+fn node_value(instance: &RankedInstance, closing: &mut Closing) -> Result<i128, AllocError>
+    requires same_size { instance.now.size ≡ closing.old.node.size }
+    requires placement { IsPlacement closing.old.node }
+    ensures { IfOk result (IsNodeValue instance.now closing.old.node) }
 {
-    let (u, v) = least_duals(alloc, instance, workspace, node)?;
-    Ok(node.fixed_cost(instance.instance()) + dual_sum(&u, &v))
+    closing.work_out(instance)?;
+    let duals = dual_sum(&closing.answer.u, &closing.answer.v);
+    Ok(closing.node.fixed_cost(instance.instance()) + duals)
 }

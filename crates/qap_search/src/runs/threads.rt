@@ -4,8 +4,10 @@ ghost use Rattle.std.specs.Prelude.{◌≡◌, ◌<◌, ◌≤◌, [], false, Al
 ghost use Rattle.std.specs.List.{sum_by};
 ghost use Rattle.qap_cost.specs.Objective.{Permutes};
 ghost use Rattle.qap_cost.specs.Placement.{root_of};
+ghost use Rattle.qap_proof.specs.Claim.{IsRoot};
 ghost use Rattle.qap_search.specs.Answer.{IsAnswer, IsLeastAnswer, IsSearchFault, IsSolveFault, accepted_of};
 ghost use Rattle.qap_search.specs.BoundedAnswer.{IsBoundedFrom};
+ghost use Rattle.qap_search.specs.ProvedAnswer.{IsProvedFrom};
 ghost use Rattle.qap_search.specs.Hand.{cuts};
 ghost use Rattle.qap_search.specs.Outcome.{IsEnded};
 ghost use Rattle.qap_search.specs.Opening.{IsOpening};
@@ -22,13 +24,14 @@ use crate::certificate::closers::Many;
 use crate::certificate::ordering::turned_round;
 use crate::node::branching::Branching;
 use crate::runs::alone::shared_rows;
-use crate::runs::answer::{Answer, Bounded, Least, SolveError};
+use crate::runs::answer::{Answer, Bounded, Least, Proved, SolveError};
 use crate::runs::bound::bounded_of;
 use crate::runs::clock::Clock;
 use crate::runs::observer::{Nobody, Observer, Survey};
 use crate::runs::opening::{identity, opening_from};
 use crate::runs::outcome::{answer_of, least_of};
 use crate::runs::plan::Plan;
+use crate::runs::proved::proved_of;
 use crate::runs::run::Run;
 use crate::runs::seat::{Seat, Workplace};
 use crate::runs::stop::{Never, Stop};
@@ -216,6 +219,54 @@ where
     };
     let run = run_of(rt, alloc, instance, plan, &keeper, gate)?;
     bounded_of(alloc, instance, run)
+}
+
+/// The proof that a search below the plan's root comes to: that no permutation which completes the root costs less than the proof's bound.
+/// Searches of either kind make proofs, those that cut children off and those that don't. That the facilities of the root ascend is a
+/// condition, since a proof states its root so.
+///
+/// What `solve_least_from` says of the workers, the gate, the lease, the limit, the stop and the observer holds here too. Each node that
+/// is left open, for whatever reason, is closed by the duals of a least assignment of its reduced matrix, by as many threads as there are
+/// workers, or up to twice as many. The bound is the least of the cost and of what the closed nodes show: the cost where no node is left
+/// open. The only error is want of memory.
+pub fn prove_from<R, C, G, S, O>(
+    rt: &R,
+    alloc: Global,
+    instance: &Instance,
+    plan: &Plan<'_>,
+    clock: &C,
+    gate: &G,
+    stop: &S,
+    observer: &O,
+) -> Result<Proved, AllocError>
+where
+    R: Threads + Wait + time::Clock + Sync,
+    C: Clock,
+    G: Gate + Sync,
+    S: Stop,
+    O: Observer,
+    requires some { 0 < plan.now.workers }
+    requires few { plan.now.workers ≤ 64 }
+    requires start { Permutes instance.now plan.now.start.now }
+    requires root { IsRoot instance.now.size plan.now.root.now }
+    ensures answer { IfOk result
+        (IsProvedFrom (search_of (cuts plan.now.branching) instance.now plan.now.root.now (best_with instance.now plan.now.start.now)) plan.now.workers plan.now.limit) }
+    ensures ran { IfOk result (λ a. Ran (search_of (cuts plan.now.branching) instance.now plan.now.root.now (best_with instance.now plan.now.start.now)) plan.now.workers plan.now.limit
+        (accepted_of a.reports.items) a.open_nodes) }
+{
+    let keeper = Keeper {
+        clock,
+        stop,
+        observer,
+    };
+    let run = run_of(rt, alloc, instance, plan, &keeper, gate)?;
+    proved_of(
+        &Many::new(rt, plan.workers),
+        alloc,
+        instance,
+        plan.root,
+        run,
+    )
 }
 
 /// What a search of all permutations begins with.

@@ -66,7 +66,7 @@ pub(crate) fn pruned_tuples(
 }
 
 /// The free ones that a split on this side has children for, ascending.
-fn free_others(node: &Partial, side: Side) -> Result<Vec<u16>, AllocError>
+pub(crate) fn free_others(node: &Partial, side: Side) -> Result<Vec<u16>, AllocError>
     ensures value { IfOk result (λ v. v.items ≡ others_on side node.now) }
     ensures placement { IsPlacement node.now }
 {

@@ -1,20 +1,37 @@
 //! Tuples of decided nodes and of the best permutation found, taken apart.
 
-ghost use Rattle.std.specs.Prelude.{◌≡◌, ◌≢◌, ◌↔◌, ◌++◌, ◌∷◌, [], List, ℤ, IfOk, IsTrue, MatchOption, string_bytes};
+ghost use Rattle.std.specs.Prelude.{◌≡◌, ◌≢◌, ◌↔◌, ◌++◌, ◌∷◌, [], List, ℤ, IfOk, IsTrue, MatchOption, codes, length, ◌<◌, string_bytes};
+ghost use Rattle.qap_proof.specs.declared.side.Side.{Side as Sides};
 ghost use Rattle.tuple_match.specs.Field.{field_value, fields_value};
 ghost use Rattle.tuple_match.specs.FieldValue.{number, numbers, word};
 ghost use Rattle.qap_search.specs.DecidedTuples.{IsNoPiece, IsPart, best_of, closed_of, piece_tuple};
+ghost use Rattle.qap_search.specs.Piece.{side_word};
 
+use qap_proof::{Duals, Side};
 use std::alloc::{AllocError, Global};
 use tuple_match::{Field, Tuple};
 
 /// What was decided at a node.
 #[derive(Drop)]
 pub(crate) enum Decision {
-    /// It is split on the facility of this number.
+    /// It is split on the facility of this number, and says no duals.
     Split(i128),
+    /// It is split with duals.
+    Pruned(PrunedSplit),
     /// It is closed by these duals.
-    Closed { u: Vec<i128>, v: Vec<i128> },
+    Closed(Duals),
+    /// It is the image of the earlier child of this number under a permutation.
+    Mirrored { earlier: i128, image: Vec<i128> },
+}
+
+/// A split on the facility or the location of this number, with duals.
+#[derive(Drop)]
+pub(crate) struct PrunedSplit {
+    pub(crate) side: Side,
+    pub(crate) number: i128,
+    pub(crate) duals: Duals,
+    /// Of each child a 1 where the duals cut it off, and else a 0.
+    pub(crate) cuts: Vec<i128>,
 }
 
 /// A node that is decided: facility and location by turns, in the order of placing.
@@ -82,25 +99,158 @@ fn piece_before(
         return Ok(None);
     };
     match part_of(alloc, field)? {
-        Part::Number(cost) => {
-            if is_only_word("best", &fields) {
-                Ok(Some(Piece::Best(BestFound {
-                    cost,
-                    locations: last,
-                })))
-            } else {
-                Ok(None)
-            }
-        }
-        Part::Numbers(u) => match node_behind(alloc, "closed", fields)? {
-            Some(node) => Ok(Some(Piece::Decided(DecidedNode {
-                node,
-                decision: Decision::Closed { u, v: last },
-            }))),
-            None => Ok(None),
-        },
+        Part::Number(number) => piece_by_number(alloc, fields, number, last),
+        Part::Numbers(before) => piece_by_lists(alloc, fields, before, last),
         Part::Word => Ok(None),
     }
+}
+
+/// The same for a tuple that ends in a number and a list.
+fn piece_by_number(
+    alloc: Global,
+    fields: Vec<Field>,
+    value: i128,
+    last: Vec<i128>,
+) -> Result<Option<Piece>, AllocError>
+    ensures { IfOk result (λ told. MatchOption told
+        (IsNoPiece (fields_value fields.items ++ number value ∷ numbers last.items ∷ []))
+        (λ piece. piece_tuple piece ≡ fields_value fields.items ++ number value ∷ numbers last.items ∷ [])) }
+{
+    if is_only_word("best", &fields) {
+        return Ok(Some(Piece::Best(BestFound {
+            cost: value,
+            locations: last,
+        })));
+    }
+    match node_behind(alloc, "mirrored", fields)? {
+        Some(node) => Ok(Some(Piece::Decided(DecidedNode {
+            node,
+            decision: Decision::Mirrored {
+                earlier: value,
+                image: last,
+            },
+        }))),
+        None => Ok(None),
+    }
+}
+
+/// The same for a tuple that ends in two lists.
+fn piece_by_lists(
+    alloc: Global,
+    fields: Vec<Field>,
+    before: Vec<i128>,
+    last: Vec<i128>,
+) -> Result<Option<Piece>, AllocError>
+    ensures { IfOk result (λ told. MatchOption told
+        (IsNoPiece (fields_value fields.items ++ numbers before.items ∷ numbers last.items ∷ []))
+        (λ piece. piece_tuple piece ≡ fields_value fields.items ++ numbers before.items ∷ numbers last.items ∷ [])) }
+{
+    if fields.len() > 2 {
+        return pruned_piece(alloc, fields, before, last);
+    }
+    match node_behind(alloc, "closed", fields)? {
+        Some(node) => Ok(Some(Piece::Decided(DecidedNode {
+            node,
+            decision: Decision::Closed(Duals { u: before, v: last }),
+        }))),
+        None => Ok(None),
+    }
+}
+
+/// The same for a tuple that ends in two lists behind more than two fields: that of a split with duals, or none.
+fn pruned_piece(
+    alloc: Global,
+    fields: Vec<Field>,
+    v: Vec<i128>,
+    cuts: Vec<i128>,
+) -> Result<Option<Piece>, AllocError>
+    requires { 2 < length fields.items }
+    ensures { IfOk result (λ told. MatchOption told
+        (IsNoPiece (fields_value fields.items ++ numbers v.items ∷ numbers cuts.items ∷ []))
+        (λ piece. piece_tuple piece ≡ fields_value fields.items ++ numbers v.items ∷ numbers cuts.items ∷ [])) }
+{
+    match pruned_behind(alloc, fields, v, cuts)? {
+        Some((node, split)) => Ok(Some(Piece::Decided(DecidedNode {
+            node,
+            decision: Decision::Pruned(split),
+        }))),
+        None => Ok(None),
+    }
+}
+
+/// The node and the split of a row that ends in the number of what a split is on and the duals of its free facilities.
+fn pruned_behind(
+    alloc: Global,
+    mut fields: Vec<Field>,
+    v: Vec<i128>,
+    cuts: Vec<i128>,
+) -> Result<Option<(Vec<i128>, PrunedSplit)>, AllocError>
+    ensures { IfOk result (λ told. MatchOption told
+        ((xs : List ℤ) (side : Sides) (k : ℤ) (u : List ℤ) → fields_value fields.items ≢ word (codes "pruned") ∷ numbers xs ∷ word (side_word side) ∷ number k ∷ numbers u ∷ [])
+        (λ found. (fields_value fields.items ≡ word (codes "pruned") ∷ numbers found.0.items ∷ word (side_word found.1.side) ∷ number found.1.number ∷ numbers found.1.duals.u.items ∷ [])
+        × (found.1.duals.v ≡ v) × (found.1.cuts ≡ cuts))) }
+{
+    let Some(last) = fields.pop() else {
+        return Ok(None);
+    };
+    let Part::Numbers(u) = part_of(alloc, last)? else {
+        return Ok(None);
+    };
+    let Some((node, side, number)) = split_behind(alloc, fields)? else {
+        return Ok(None);
+    };
+    let duals = Duals { u, v };
+    Ok(Some((
+        node,
+        PrunedSplit {
+            side,
+            number,
+            duals,
+            cuts,
+        },
+    )))
+}
+
+/// The node, the side and the number of a row that ends in the number of what a split is on.
+fn split_behind(
+    alloc: Global,
+    mut fields: Vec<Field>,
+) -> Result<Option<(Vec<i128>, Side, i128)>, AllocError>
+    ensures { IfOk result (λ told. MatchOption told
+        ((xs : List ℤ) (side : Sides) (k : ℤ) → fields_value fields.items ≢ word (codes "pruned") ∷ numbers xs ∷ word (side_word side) ∷ number k ∷ [])
+        (λ found. fields_value fields.items ≡ word (codes "pruned") ∷ numbers found.0.items ∷ word (side_word found.1) ∷ number found.2 ∷ [])) }
+{
+    let Some(last) = fields.pop() else {
+        return Ok(None);
+    };
+    let Part::Number(number) = part_of(alloc, last)? else {
+        return Ok(None);
+    };
+    let Some(field) = fields.pop() else {
+        return Ok(None);
+    };
+    let Some(side) = side_of(&field) else {
+        return Ok(None);
+    };
+    match node_behind(alloc, "pruned", fields)? {
+        Some(node) => Ok(Some((node, side, number))),
+        None => Ok(None),
+    }
+}
+
+/// The side whose word the field is.
+fn side_of(field: &Field) -> Option<Side>
+    ensures { MatchOption result
+        ((side : Sides) → field_value field.now ≢ word (side_word side))
+        (λ side. field_value field.now ≡ word (side_word side)) }
+{
+    if is_word("facility", field) {
+        return Some(Side::Facility);
+    }
+    if is_word("location", field) {
+        return Some(Side::Location);
+    }
+    None
 }
 
 /// What a field is, with its numbers in 128 bits each.

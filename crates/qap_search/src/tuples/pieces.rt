@@ -1,10 +1,11 @@
 //! The tuples of a search without open nodes, told apart.
 
-ghost use Rattle.std.specs.Prelude.{◌≡◌, ◌⊎◌, ◌∷◌, ℕ, MatchResult, Some};
+ghost use Rattle.std.specs.Prelude.{◌≡◌, ◌⊎◌, ◌∷◌, MatchResult, Some};
+ghost use Rattle.qap_cost.specs.Placement.{Placement};
 ghost use Rattle.space_txn.specs.Content.{SameItems};
-ghost use Rattle.qap_search.specs.Assembling.{IsTreeFault};
 ghost use Rattle.qap_search.specs.DecidedTuples.{found_tuple, piece_tuple};
 ghost use Rattle.qap_search.specs.Pieces.{pieces_tuples, told_tuples};
+ghost use Rattle.qap_search.specs.Told.{IsTellingFault};
 ghost use Rattle.qap_search.specs.declared.tuples.parsing.BestFound.{BestFound as Found};
 ghost use Rattle.qap_search.specs.declared.certificate.error.AssembleError.TheVariants.{NotATree, OutOfMemory};
 
@@ -25,7 +26,7 @@ pub(crate) struct Pieces {
 pub(crate) fn tell_apart(alloc: Global, mut tuples: Vec<Tuple>) -> Result<Pieces, AssembleError>
     ensures { MatchResult result
         (λ p. SameItems tuples.items (pieces_tuples p))
-        (λ e. (n : ℕ) → IsTreeFault n tuples.items e) }
+        (λ e. (x : Placement) → IsTellingFault x tuples.items e) }
 {
     let mut best = None;
     let mut decided = Vec::with_capacity(alloc, tuples.len())?;

@@ -12,7 +12,7 @@ use crate::node::branching::Branching;
 use crate::tuples::templates::{best_template, node_template};
 use crate::worker::gate::{Gate, Kind};
 use crate::worker::report::{Ended, Report};
-use crate::worker::stage::{LastThought, Stage, Tally, Tools};
+use crate::worker::stage::{Desk, LastThought, Stage, Tally, Tools};
 use crate::worker::thinking::{stage_thought, think_in};
 use crate::worker::turn::{is_hopeful, turn};
 use gilmore_lawler::{KeptRows, RankedInstance};
@@ -27,6 +27,7 @@ use std::sync::Arc;
 pub struct Hand {
     worker: u16,
     rows: KeptRows,
+    desk: Desk,
     tools: Tools,
     last: Option<LastThought>,
     stage: Stage,
@@ -81,6 +82,7 @@ impl Hand {
         ensures value { IfOk result (λ hand. hand ≡ new_hand (cuts branching) (arc_value instance) lease_ms) }
     {
         let _instance = instance.instance();
+        let desk = Desk::new(alloc)?;
         let tools = Tools {
             alloc,
             lease_ms,
@@ -91,6 +93,7 @@ impl Hand {
         Ok(Hand {
             worker,
             rows: KeptRows::new(alloc, instance),
+            desk,
             tools,
             last: None,
             stage: Stage::Idle,
@@ -165,6 +168,7 @@ impl Hand {
             gate,
             self.worker,
             &mut self.rows,
+            &mut self.desk,
             &self.stage,
             self.tally.best,
             &mut self.last,

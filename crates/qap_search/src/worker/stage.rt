@@ -4,8 +4,9 @@ ghost use Rattle.std.specs.Prelude.{◌≡◌, ◌+◌, ◌<◌, ◌-◌, ◌^�
 ghost use Rattle.qap_search.specs.Turn.{one_more};
 
 use crate::node::branching::Branching;
+use crate::node::scratch::Scratch;
 use crate::node::thought::Thought;
-use qap_cost::Partial;
+use qap_cost::{Matrix, Partial};
 use space_txn::Txn;
 use std::alloc::{AllocError, Global};
 use tuple_match::Template;
@@ -33,6 +34,34 @@ pub(crate) enum Stage {
 pub(crate) struct LastThought {
     pub(crate) node: Partial,
     pub(crate) thought: Thought,
+}
+
+/// Memory in which a worker thinks, kept from one node to the next.
+#[derive(Drop)]
+pub(crate) struct Desk {
+    /// The node that was read.
+    pub(crate) node: Partial,
+    /// Its reduced matrix.
+    pub(crate) matrix: Matrix,
+    pub(crate) scratch: Scratch,
+}
+
+impl Desk {
+    /// No memory is taken.
+    pub(crate) fn new(alloc: Global) -> Result<Desk, AllocError> {
+        Ok(Desk {
+            node: Partial::root(alloc, 1)?,
+            matrix: Matrix::empty(alloc),
+            scratch: Scratch::new(alloc)?,
+        })
+    }
+
+    /// Keeps the memory of a thought that isn't needed any more.
+    pub(crate) fn keep(&mut self, last: LastThought) {
+        let LastThought { node, thought } = last;
+        self.node = node;
+        self.scratch.keep(thought);
+    }
 }
 
 /// What a worker's calls are made with.

@@ -1,23 +1,25 @@
 //! A worker's thought on the node that it took.
 
-ghost use Rattle.std.specs.Prelude.{◌≡◌, ◌≢◌, ◌↔◌, ◌<◌, ◌≤◌, ◌∷◌, [], ℕ, ℤ, List, codes, IfOk, IsTrue, MatchOption, OnErr, OnOk};
+ghost use Rattle.std.specs.Prelude.{◌≡◌, ◌≢◌, ◌↔◌, ◌<◌, ◌≤◌, ◌∷◌, [], ℕ, ℤ, List, codes, IfOk, IsTrue, MatchBool, MatchOption, OnErr, OnOk, Some};
 ghost use Rattle.qap_cost.specs.Placement.{IsPlacement};
 ghost use Rattle.tuple_match.specs.FieldValue.{numbers, word};
+ghost use Rattle.tuple_match.specs.Numbers.{numbers_in};
 ghost use Rattle.space_txn.specs.Txn.{TxnValue};
 ghost use Rattle.qap_search.specs.Considering.{Considers, HasNoNode, IsNodeAt, IsOnNode, IsThoughtOn, stage_after};
 ghost use Rattle.qap_search.specs.Hand.{cuts};
 ghost use Rattle.qap_search.specs.declared.worker.stage.Stage.TheVariants.{Taken};
 
-use crate::node::node_list::read_node;
+use crate::node::node_list::read_into;
 use crate::node::thought::Thought;
 use crate::tuples::parsing::is_word;
 use crate::worker::gate::Gate;
-use crate::worker::stage::{LastThought, Stage, Tools};
+use crate::worker::stage::{Desk, LastThought, Stage, Tools};
 use gilmore_lawler::KeptRows;
 use qap_cost::Partial;
 use space_txn::Txn;
 use std::alloc::{AllocError, Global};
-use tuple_match::Tuple;
+use std::mem::replace;
+use tuple_match::{Numbers, Tuple};
 use tuple_space::EntryId;
 
 /// Thinks on the node that was taken, where this best cost is known; `false` where its entry's lease ends. At an error nothing changed.
@@ -26,6 +28,7 @@ pub(crate) fn think_in<G: Gate>(
     gate: &G,
     worker: u16,
     rows: &mut KeptRows,
+    desk: &mut Desk,
     stage: &Stage,
     best: Option<i128>,
     last: &mut Option<LastThought>,
@@ -37,44 +40,57 @@ pub(crate) fn think_in<G: Gate>(
         return Ok(false);
     };
     let size = rows.instance().size();
-    let Some(node) = node_at(tools.alloc, size, txn, *id)? else {
+    if !read_taken(size, txn, *id, &mut desk.node)? {
         return Ok(false);
-    };
-    think_on(tools, gate, worker, rows, node, best, last)?;
+    }
+    think_on(tools, gate, worker, rows, desk, best, last)?;
     Ok(true)
 }
 
-/// Thinks on the node, where that isn't the one of the last thought. At an error nothing changed.
+/// Thinks on the node that was read, where that isn't the one of the last thought. At an error nothing changed.
 fn think_on<G: Gate>(
     tools: &Tools,
     gate: &G,
     worker: u16,
     rows: &mut KeptRows,
-    node: Partial,
+    desk: &mut Desk,
     best: Option<i128>,
     last: &mut Option<LastThought>,
 ) -> Result<(), AllocError>
-    requires size { node.size ≡ rows.old.size }
-    requires placement { IsPlacement node }
-    ensures thought { OnOk result (IsThoughtOn (cuts tools.now.branching) rows.old node last.old last.new) }
+    requires size { desk.old.node.size ≡ rows.old.size }
+    requires placement { IsPlacement desk.old.node }
+    ensures thought { OnOk result (IsThoughtOn (cuts tools.now.branching) rows.old desk.old.node last.old last.new) }
     ensures same { rows.new ≡ rows.old }
     ensures unchanged { OnErr result (last.new ≡ last.old) }
 {
-    if is_on(last, &node) {
+    if is_on(last, &desk.node) {
         return Ok(());
     }
-    let matrix = rows.reduced(&node)?;
+    rows.reduce_into(&desk.node, &mut desk.matrix)?;
     gate.thinking(worker);
-    let thought = Thought::by(
+    let thought = desk.scratch.thought(
         tools.alloc,
         tools.branching,
         rows.instance(),
-        &node,
-        &matrix,
+        &desk.node,
+        &desk.matrix,
         best,
     )?;
-    *last = Some(LastThought { node, thought });
+    remember(tools.alloc, desk, thought, last);
     Ok(())
+}
+
+/// Makes the thought on the node that was read the last one, and keeps the memory of the one before.
+fn remember(alloc: Global, desk: &mut Desk, thought: Thought, last: &mut Option<LastThought>)
+    ensures { last.new ≡ Some (record { node = desk.old.node; thought = thought }) }
+{
+    let Ok(empty) = Partial::root(alloc, 1) else {
+        unreachable!()
+    };
+    let node = replace(&mut desk.node, empty);
+    if let Some(before) = last.replace(LastThought { node, thought }) {
+        desk.keep(before);
+    }
 }
 
 /// Whether the last thought is on the node.
@@ -96,37 +112,35 @@ fn is_same(node: &Partial, other: &Partial) -> bool
         && *node.places() == *other.places()
 }
 
-/// The node of size `n` whose tuple the entry has, where that is there to stay.
-fn node_at(alloc: Global, n: usize, txn: &Txn, id: EntryId) -> Result<Option<Partial>, AllocError>
+/// Makes it the node of size `n` whose tuple the entry has, where that is there to stay; answers whether there is one, and else it may
+/// be any node.
+fn read_taken(n: usize, txn: &Txn, id: EntryId, node: &mut Partial) -> Result<bool, AllocError>
     requires positive { 0 < n }
     requires small { n ≤ 256 }
-    ensures { IfOk result (λ found. MatchOption found (HasNoNode n id txn.now) (IsNodeAt n id txn.now)) }
+    ensures { IfOk result (λ read. MatchBool read (IsNodeAt n id txn.now node.new) (HasNoNode n id txn.now)) }
 {
     if txn.permanent(id) != Some(true) {
-        return Ok(None);
+        return Ok(false);
     }
     let Some(tuple) = txn.tuple(id) else {
-        return Ok(None);
+        return Ok(false);
     };
-    let Some(list) = node_fields(alloc, tuple)? else {
-        return Ok(None);
+    let Some(list) = node_numbers(tuple) else {
+        return Ok(false);
     };
-    read_node(alloc, n, &list)
+    read_into(n, &list, node)
 }
 
-/// The list of an open node's tuple.
+/// The list of an open node's tuple, as it lies there.
 #[tactic(auto, using(crate::proofs::Fields::numbers_from))]
-pub(crate) fn node_fields(alloc: Global, tuple: &Tuple) -> Result<Option<Vec<i128>>, AllocError>
-    ensures { IfOk result (λ told. MatchOption told
+pub(crate) fn node_numbers(tuple: &Tuple) -> Option<Numbers<'_>>
+    ensures { MatchOption result
         ((xs : List ℤ) → tuple.now ≢ word (codes "node") ∷ numbers xs ∷ [])
-        (λ list. tuple.now ≡ word (codes "node") ∷ numbers list.items ∷ [])) }
+        (λ list. tuple.now ≡ word (codes "node") ∷ numbers (numbers_in list) ∷ []) }
 {
     match tuple.fields() {
-        [name, field] if is_word("node", name) => match field.as_list() {
-            Some(list) => Ok(Some(list.to_vec(alloc)?)),
-            None => Ok(None),
-        },
-        _ => Ok(None),
+        [name, field] if is_word("node", name) => field.as_list(),
+        _ => None,
     }
 }
 

@@ -1,4 +1,4 @@
-use Rattle.std.proofs.Common.{arith, ◌≡◌, ◌∙◌, ◌∷◌, [], List, ap, drop, subst, sym, take}
+use Rattle.std.proofs.Common.{arith, ◌∙◌, ◌∷◌, [], ap, drop, subst, sym, take}
 use Rattle.std.specs.Prelude.{All, insert}
 use Rattle.std.proofs.lemmas.List.Elements.{All-append, All-drop, All-push, All-take}
 use Rattle.plan_answer.specs.Pairs.{IsPairOf}

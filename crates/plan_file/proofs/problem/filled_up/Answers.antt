@@ -1,5 +1,4 @@
-use Rattle.std.proofs.Common.{◌≡◌, ◌++◌, ◌∷◌, ◌/◌, ◌%◌, [], rules}
-use Rattle.plan_file.specs.Problem.{flow_of}
+use Rattle.std.proofs.Common.{◌≡◌, ◌++◌, ◌∷◌, [], rules}
 use Rattle.plan_file.proofs.Fillings.{IsFilledUp-more, IsFilledUp-none}
 use Rattle.plan_file.proofs.problem.filled_up.Goals as goal
 

@@ -1,0 +1,21 @@
+use Rattle.std.proofs.Common.{ap, arith, length, refl}
+use Rattle.qap_search.proofs.Certificates.{free_facility_count, free_location_count}
+use Rattle.qap_search.proofs.node.branching.widest_branch.Goals as goal
+
+pub widest_line-side-requires-clause-columns : goal.widest_line-side-requires-clause-columns
+widest_line-side-requires-clause-columns c =
+    let x = c.args.node.now in
+    let placed = c.size-size.ensures.placement in
+    let rows = free_facility_count x placed in
+    let columns = free_location_count x placed in
+    let listed = ap length c.requires.free.locations in
+    omega (arith, c.requires.reduced.size, rows, columns, listed)
+
+pub child_values-requires-clause-free : goal.child_values-requires-clause-free
+child_values-requires-clause-free c = c.widest_line-side.ensures c.args.node.now c.size-size.ensures.placement c.requires.free
+
+pub returns : goal.returns
+returns c = (
+  c.widest_line-side.ensures c.args.node.now c.size-size.ensures.placement c.requires.free,
+  (c.in_ok-reached.reached.items, refl, record { one_each = c.in_ok-reached.ensures.count; are = c.in_ok-reached.ensures.each }),
+)

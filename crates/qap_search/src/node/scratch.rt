@@ -1,0 +1,97 @@
+//! Memory in which thoughts on nodes are worked out, kept from one to the next.
+
+ghost use Rattle.std.specs.Prelude.{◌≡◌, ◌*◌, ◌^◌, IfOk};
+ghost use Rattle.qap_cost.specs.Range.{AllWithin};
+ghost use Rattle.gilmore_lawler.specs.ReducedMatrix.{IsReduced};
+ghost use Rattle.qap_search.specs.Hand.{cuts};
+ghost use Rattle.qap_search.specs.Thought.{IsThought};
+
+use crate::node::branching::{Branching, Free, branch_of};
+use crate::node::completion::completed;
+use crate::node::thought::Thought;
+use assign_dual::{Assignment, Solver};
+use gilmore_lawler::dual_sum;
+use qap_cost::{Instance, Matrix, Partial, cost};
+use qap_proof::Duals;
+use std::alloc::{AllocError, Global};
+use std::mem::replace;
+
+/// Lists that a thought is worked out in; what they hold doesn't matter from one to the next.
+#[derive(Drop)]
+pub(crate) struct Scratch {
+    solver: Solver,
+    answer: Assignment,
+    /// The free facilities and locations, ascending, and the locations that the matching gives the facilities.
+    facilities: Vec<u16>,
+    locations: Vec<u16>,
+    matched: Vec<u16>,
+    /// Memory for a candidate.
+    candidate: Vec<u16>,
+}
+
+impl Scratch {
+    /// No memory is taken.
+    pub(crate) fn new(alloc: Global) -> Result<Scratch, AllocError> {
+        Ok(Scratch {
+            solver: Solver::new(alloc),
+            answer: Assignment::with_room(alloc, 0)?,
+            facilities: Vec::new(alloc),
+            locations: Vec::new(alloc),
+            matched: Vec::new(alloc),
+            candidate: Vec::new(alloc),
+        })
+    }
+
+    /// What is worked out about the node from its reduced matrix, where it is to be split by this rule and this best cost is known.
+    pub(crate) fn thought(
+        &mut self,
+        alloc: Global,
+        branching: Branching,
+        instance: &Instance,
+        node: &Partial,
+        matrix: &Matrix,
+        best: Option<i128>,
+    ) -> Result<Thought, AllocError>
+        requires same_size { instance.now.size ≡ node.now.size }
+        requires reduced { IsReduced instance.now node.now matrix.now }
+        requires bounded { AllWithin (512 * 10 ^ 18) matrix.now.entries }
+        ensures { IfOk result (IsThought (cuts branching) instance.now node.now) }
+    {
+        let _size = matrix.size();
+        let mut answer = replace(&mut self.answer, Assignment::with_room(alloc, 0)?);
+        self.solver.solve_into(matrix, &mut answer)?;
+        let Assignment { matching, u, v } = answer;
+        node.list_free_facilities(&mut self.facilities)?;
+        node.list_free_locations(&mut self.locations)?;
+        let free = Free {
+            facilities: &self.facilities,
+            locations: &self.locations,
+        };
+        let memory = replace(&mut self.candidate, Vec::new(alloc));
+        let candidate = completed(node, &free, &matching, &mut self.matched, memory)?;
+        let cost = cost(instance, &candidate);
+        let value = node.fixed_cost(instance) + dual_sum(&u, &v);
+        let gap = best.map(|best| best.saturating_sub(value));
+        let duals = Duals { u, v };
+        let branch = branch_of(
+            alloc, branching, instance, node, &free, matrix, &matching, &duals, gap,
+        )?;
+        self.answer.matching = matching;
+        let Duals { u, v } = duals;
+        Ok(Thought {
+            u,
+            v,
+            value,
+            candidate,
+            cost,
+            branch,
+        })
+    }
+
+    /// Keeps the memory of a thought that isn't needed any more.
+    pub(crate) fn keep(&mut self, thought: Thought) {
+        self.answer.u = thought.u;
+        self.answer.v = thought.v;
+        self.candidate = thought.candidate.into_locations();
+    }
+}

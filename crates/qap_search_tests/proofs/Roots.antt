@@ -1,0 +1,34 @@
+-- The nodes that the tests of proofs begin with.
+use Rattle.std.proofs.Common.{◌≡◌, ℕ, zero, suc, ◌<◌, List, [], ◌∷◌, get_or, length, refl, arith}
+use Rattle.qap_cost.specs.Placement.{Placement, IsPlacement, IsFreeFacility, IsFreeLocation, placing, root_of}
+use Rattle.qap_proof.specs.Claim.{IsRoot}
+
+pub empty_root : IsPlacement (root_of 4) → IsRoot 4 (root_of 4)
+empty_root placed = record { placement = placed; size = refl; ascending = λ i j less below. absurd (omega arith) }
+
+rising : (i j : ℕ) → i < j → j < length (0 ∷ 2 ∷ []) → get_or (0 ∷ 2 ∷ []) i 0 < get_or (0 ∷ 2 ∷ []) j 0
+rising i zero less below = absurd (omega arith)
+rising zero (suc zero) less below = omega arith
+rising (suc i) (suc zero) less below = absurd (omega arith)
+rising i (suc (suc j)) less below = absurd (omega arith)
+
+-- facility 0 at location 3, and facility 2 at location 1
+abbrev pub below : Placement
+below = placing (placing (root_of 4) 0 3) 2 1
+
+pub below_root : IsPlacement below → IsRoot 4 below
+below_root placed = record { placement = placed; size = refl; ascending = rising }
+
+only_zero : (t : ℕ) → t < length (0 ∷ []) → get_or (0 ∷ []) t 0 ≡ 2 → ⊥
+only_zero zero less same = omega arith
+only_zero (suc t) less same = absurd (omega arith)
+
+only_three : (t : ℕ) → t < length (3 ∷ []) → get_or (3 ∷ []) t 0 ≡ 1 → ⊥
+only_three zero less same = omega arith
+only_three (suc t) less same = absurd (omega arith)
+
+pub free_facility : IsFreeFacility (placing (root_of 4) 0 3) 2
+free_facility = record { within = omega arith; untaken = only_zero }
+
+pub free_location : IsFreeLocation (placing (root_of 4) 0 3) 1
+free_location = record { within = omega arith; untaken = only_three }

@@ -1,0 +1,137 @@
+//! Proofs that searches of either kind come to, judged by the checker of proofs, against all completions of the root.
+
+ghost use Rattle.std.specs.Prelude.{◌≡◌, IfOk};
+ghost use Rattle.qap_cost.specs.Objective.{Permutes};
+ghost use Rattle.qap_proof.specs.Claim.{IsRoot};
+
+use crate::bound_tests::{RULES, in_order, least_below, signed};
+use crate::worker_tests::{LEASE_MS, Stopped};
+use qap_cost::{Instance, Partial, Perm, cost};
+use qap_proof::check;
+use qap_search::{Always, Branching, Never, Nobody, Plan, prove_from};
+use std::alloc::{AllocError, Global};
+use std::process::Abort;
+use std::sync::Wait;
+use std::test::Fail;
+use std::thread::Threads;
+use std::time;
+
+/// The empty node, and the one that puts facility 0 at location 3 and facility 2 at location 1.
+#[tactic(auto, using(crate::proofs::Roots::empty_root, crate::proofs::Roots::below_root, crate::proofs::Roots::free_facility, crate::proofs::Roots::free_location))]
+fn roots(alloc: Global) -> Result<(Partial, Partial), AllocError>
+    ensures { IfOk result (λ pair. IsRoot 4 pair.0 × IsRoot 4 pair.1) }
+{
+    let root = Partial::root(alloc, 4)?;
+    let below = root.place(0, 3)?.place(2, 1)?;
+    Ok((root, below))
+}
+
+/// What the checker has accepted of a search by two workers: the cost and the bound of its proof, and how many nodes it left open.
+fn proved<R>(
+    rt: &R,
+    alloc: Global,
+    instance: &Instance,
+    root: &Partial,
+    start: &Perm,
+    branching: Branching,
+    limit: Option<u64>,
+) -> Result<(i128, i128, u64), Fail>
+where
+    R: Threads + Wait + time::Clock + Sync,
+    requires root { IsRoot instance.now.size root.now }
+    requires start { Permutes instance.now start.now }
+{
+    let plan = Plan {
+        workers: 2,
+        lease_ms: LEASE_MS,
+        limit,
+        root,
+        start,
+        branching,
+    };
+    let answer = prove_from(
+        rt, alloc, instance, &plan, &Stopped, &Always, &Never, &Nobody,
+    )?;
+    check(alloc, instance, &answer.proof)?;
+    Ok((answer.proof.cost(), answer.proof.bound(), answer.open_nodes))
+}
+
+/// Asserts that a search over this root, of which so many facilities are placed, proves the least cost of what completes it, or the cost of
+/// the start where that is less.
+fn assert_proved<R>(
+    rt: &R,
+    alloc: Global,
+    instance: &Instance,
+    root: &Partial,
+    depth: usize,
+) -> Result<(), Fail>
+where
+    R: Threads + Wait + time::Clock + Sync + Abort,
+    requires root { IsRoot instance.now.size root.now }
+    requires four { instance.now.size ≡ 4 }
+{
+    let start = in_order(alloc, instance)?;
+    let known = cost(instance, &start);
+    let least = least_below(alloc, instance, depth)?.min(known);
+    for branching in RULES {
+        let answer = proved(rt, alloc, instance, root, &start, branching, None)?;
+        assert_eq!(rt; answer, (least, least, 0));
+    }
+    Ok(())
+}
+
+#[test]
+fn searches_of_either_kind_prove_the_least_cost(rt: HostRuntime) -> Result<(), Fail> {
+    let alloc = rt.alloc();
+    let instance = signed(alloc)?;
+    let (root, below) = roots(alloc)?;
+    assert_proved(&rt, alloc, &instance, &root, 0)?;
+    assert_proved(&rt, alloc, &instance, &below, 2)?;
+    Ok(())
+}
+
+/// Asserts that a search which is stopped after so many commits proves a bound that is no higher than the least cost of what completes the
+/// root.
+fn assert_bound<R>(
+    rt: &R,
+    alloc: Global,
+    instance: &Instance,
+    root: &Partial,
+    depth: usize,
+    limit: u64,
+) -> Result<(), Fail>
+where
+    R: Threads + Wait + time::Clock + Sync + Abort,
+    requires root { IsRoot instance.now.size root.now }
+    requires four { instance.now.size ≡ 4 }
+{
+    let start = in_order(alloc, instance)?;
+    let least = least_below(alloc, instance, depth)?;
+    for branching in RULES {
+        let (cost, bound, open_nodes) = proved(
+            rt,
+            alloc,
+            instance,
+            root,
+            &start,
+            branching,
+            Some(limit),
+        )?;
+        assert!(rt; bound <= cost && bound <= least);
+        assert!(rt; open_nodes > 0 || bound == cost);
+        assert!(rt; limit > 0 || open_nodes == 1);
+    }
+    Ok(())
+}
+
+#[test]
+fn a_stopped_search_proves_a_bound(rt: HostRuntime) -> Result<(), Fail> {
+    let alloc = rt.alloc();
+    let instance = signed(alloc)?;
+    let (root, below) = roots(alloc)?;
+    for limit in [0, 1] {
+        assert_bound(&rt, alloc, &instance, &root, 0, limit)?;
+        assert_bound(&rt, alloc, &instance, &below, 2, limit)?;
+    }
+    Ok(())
+}
