@@ -19,7 +19,7 @@ pub fn write_proof<R: Files + AllocGlobal>(
 }
 
 /// The text of an answer's proof; none where it has no proof.
-fn proof_text(alloc: Global, answer: &Planned) -> Result<Vec<u8>, PlanError> {
+pub fn proof_text(alloc: Global, answer: &Planned) -> Result<Vec<u8>, PlanError> {
     let mut text = Counted::new(Vec::new(alloc));
     if let Some(proof) = &answer.proof {
         if let Err(error) = write(alloc, &mut text, proof) {
