@@ -2,6 +2,8 @@
 use Rattle.std.specs.Prelude.{◌≡◌, ◌≤ℤ◌, ℕ, ℤ, List, Option, Some, None}
 use Rattle.qap_cost.specs.Instance.{Problem}
 use Rattle.qap_cost.specs.Objective.{NoneCostsLess, Permutes, cost_of}
+use Rattle.qap_cost.specs.Placement.{root_of}
+use Rattle.qap_proof.specs.Claim.{Claim, IsProof, Proves}
 
 -- no dearer than the start, where there is one
 abbrev pub IsNoDearer : Problem → Option (List ℕ) → ℤ → Type 0
@@ -15,3 +17,12 @@ pub record IsPlanned (I : Problem) (start : Option (List ℕ)) (p : List ℕ) (c
   pub no_dearer : IsNoDearer I start c
   pub none_less : NoneCostsLess I g
   pub at_most : g ≤ℤ c
+
+-- a valid proof over the whole instance, with this permutation, its cost and this bound
+pub record ProvesPlanned (I : Problem) (p : List ℕ) (c g : ℤ) (C : Claim) : Type 0 where
+  pub shape : IsProof C
+  pub proves : Proves I C
+  pub whole : C.root ≡ root_of I.size
+  pub permutation : C.permutation ≡ p
+  pub cost : C.cost ≡ c
+  pub bound : C.bound ≡ g

@@ -20,6 +20,8 @@ pub struct Request<'a> {
     pub out: Option<&'a str>,
     /// The file that the answer is written to as JSON too.
     pub json: Option<&'a str>,
+    /// The file that the proof is written to.
+    pub proof: Option<&'a str>,
     /// Whether nothing is to be written to standard output.
     pub quiet: bool,
 }
@@ -85,6 +87,12 @@ fn solve_command<'a>(alloc: Global) -> Result<Command<'a>, AllocError> {
                 .long("json")
                 .value_name("FILE")
                 .help("write the answer to this file too, as JSON"),
+        )?
+        .arg(
+            Arg::new(alloc, "proof")
+                .long("proof")
+                .value_name("FILE")
+                .help("write a proof of the answer to this file, for qapverify"),
         )?
         .arg(
             Arg::new(alloc, "ignore-rest")
@@ -155,9 +163,11 @@ fn request_of<'a>(found: &ArgMatches<'a>) -> Option<Request<'a>>
             improve: found.get_one("improve")?,
             seed: found.get_one("seed")?,
             passes: found.get_flag("ignore-rest"),
+            proves: found.get_str("proof").is_some(),
         },
         out: found.get_str("out"),
         json: found.get_str("json"),
+        proof: found.get_str("proof"),
         quiet: found.get_flag("quiet"),
     })
 }

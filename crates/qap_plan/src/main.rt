@@ -12,6 +12,7 @@ mod loading;
 mod options;
 mod plan_run;
 mod planning;
+mod proof_file;
 mod reading;
 mod starting;
 mod whole_file;
@@ -28,6 +29,7 @@ use error::PlanError;
 use json::json_text;
 use plan_run::{is_plan, solve_plan};
 use planning::Planned;
+use proof_file::write_proof;
 use qap_io::{Counted, Status};
 use qap_search::Stop;
 use std::alloc::Global;
@@ -177,6 +179,11 @@ fn finish(
     }
     if let Some(file) = request.json {
         if let Err(error) = write_json(rt, file, answer, milliseconds) {
+            return refuse(rt, file, error);
+        }
+    }
+    if let Some(file) = request.proof {
+        if let Err(error) = write_proof(rt, file, answer) {
             return refuse(rt, file, error);
         }
     }

@@ -21,4 +21,6 @@ pub struct Options {
     pub seed: u64,
     /// Whether what follows the instance is passed over.
     pub passes: bool,
+    /// Whether the search's proof is put together.
+    pub proves: bool,
 }

@@ -11,6 +11,7 @@ use crate::error::PlanError;
 use crate::json::named_json_text;
 use crate::loading::load_problem;
 use crate::planning::Planned;
+use crate::proof_file::write_proof;
 use crate::whole_file::write_whole;
 use crate::{end_of, faulty_file, refuse, start_of};
 use plan_answer::answer_text;
@@ -81,6 +82,11 @@ fn finish(
     }
     if let Some(file) = request.json {
         if let Err(error) = write_json(rt, file, problem, answer, milliseconds) {
+            return refuse(rt, file, error);
+        }
+    }
+    if let Some(file) = request.proof {
+        if let Err(error) = write_proof(rt, file, answer) {
             return refuse(rt, file, error);
         }
     }

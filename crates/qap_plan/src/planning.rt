@@ -1,16 +1,18 @@
 //! Searches an instance for a permutation of least cost, from one that a tabu search comes to.
 
-ghost use Rattle.std.specs.Prelude.{◌≡◌, ◌≤ℤ◌, ◌↔◌, true, IfOk, IfSome};
+ghost use Rattle.std.specs.Prelude.{◌≡◌, ◌≤ℤ◌, ◌↔◌, None, Some, true, IfOk, IfSome};
 ghost use Rattle.qap_cost.specs.Objective.{Permutes, cost_of};
 ghost use Rattle.qap_cost.specs.Placement.{root_of};
 ghost use Rattle.qap_plan.specs.Options.{AreLimited};
-ghost use Rattle.qap_plan.specs.Planning.{IsNoDearer, IsPlanned};
+ghost use Rattle.qap_plan.specs.Planning.{IsNoDearer, IsPlanned, ProvesPlanned};
 
 use crate::options::Options;
 use qap_cost::{Instance, Partial, Perm};
 use qap_improve::{Hook, TabuPlan, tabu_search};
+use qap_proof::Proof;
 use qap_search::{
-    Always, Bounded, Branching, Clock, Nobody, Plan, Stop, identity, solve_least_from,
+    Always, Bounded, Branching, Clock, Nobody, Plan, Proved, Report, Stop, identity, prove_from,
+    solve_least_from,
 };
 use std::alloc::{AllocError, Global};
 use std::sync::Wait;
@@ -32,6 +34,8 @@ pub struct Planned {
     pub nodes: u64,
     /// How many nodes were left open.
     pub open_nodes: u64,
+    /// The proof of the bound, where it was asked for.
+    pub proof: Option<Proof>,
 }
 
 impl Planned {
@@ -59,7 +63,8 @@ where
     S: Stop,
     requires limited { AreLimited options.now }
     requires start { IfSome start (Permutes instance.now) }
-    ensures { IfOk result (λ x. IsPlanned instance.now start x.permutation x.cost x.bound) }
+    ensures planned { IfOk result (λ x. IsPlanned instance.now start x.permutation x.cost x.bound) }
+    ensures proof { IfOk result (λ x. IfSome x.proof (ProvesPlanned instance.now x.permutation x.cost x.bound)) }
 {
     let root = Partial::root(alloc, instance.size())?;
     let start = improved(alloc, instance, start, options, stop)?;
@@ -71,6 +76,12 @@ where
         start: &start,
         branching: Branching::Cutting,
     };
+    if options.proves {
+        let found = prove_from(
+            system, alloc, instance, &plan, clock, &Always, stop, &Nobody,
+        )?;
+        return proved_by(found);
+    }
     let found = solve_least_from(
         system, alloc, instance, &plan, clock, &Always, stop, &Nobody,
     )?;
@@ -82,18 +93,45 @@ fn planned_by(found: Bounded) -> Planned
     ensures permutation { result.permutation ≡ found.permutation }
     ensures cost { result.cost ≡ found.cost }
     ensures bound { result.bound ≡ found.bound }
+    ensures proof { result.proof ≡ None }
 {
-    let mut nodes: u64 = 0;
-    for report in &found.reports {
-        nodes = nodes.saturating_add(report.accepted);
-    }
+    let nodes = decided(&found.reports);
     Planned {
         permutation: found.permutation,
         cost: found.cost,
         bound: found.bound,
         nodes,
         open_nodes: found.open_nodes,
+        proof: None,
     }
+}
+
+/// The same of an answer that is a proof.
+fn proved_by(found: Proved) -> Result<Planned, AllocError>
+    ensures permutation { IfOk result (λ x. x.permutation ≡ found.proof.permutation) }
+    ensures cost { IfOk result (λ x. x.cost ≡ found.proof.cost) }
+    ensures bound { IfOk result (λ x. x.bound ≡ found.proof.bound) }
+    ensures proof { IfOk result (λ x. x.proof ≡ Some found.proof) }
+{
+    let nodes = decided(&found.reports);
+    let proof = found.proof;
+    Ok(Planned {
+        permutation: proof.perm().copy()?,
+        cost: proof.cost(),
+        bound: proof.bound(),
+        nodes,
+        open_nodes: found.open_nodes,
+        proof: Some(proof),
+    })
+}
+
+/// How many nodes the workers have decided.
+fn decided(reports: &[Report]) -> u64 {
+    let mut nodes: u64 = 0;
+    for report in reports {
+        nodes = nodes.saturating_add(report.accepted);
+    }
+    nodes
 }
 
 /// Lets a tabu search go on until its stop is wanted.

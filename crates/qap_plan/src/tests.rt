@@ -10,10 +10,13 @@ use crate::error::PlanError;
 use crate::json::{json_text, named_json_text};
 use crate::options::Options;
 use crate::planning::Planned;
+use crate::proof_file::proof_text;
+use crate::reading::read_problem;
 use clap::error::ErrorKind;
 use plan_file::read_tables;
 use qap_cost::Perm;
 use qap_io::{Counted, FailAt, Status};
+use qap_proof::{Verdict, accept};
 use qap_text::TextError;
 use std::alloc::{AllocError, Global};
 use std::io::{Read, Write};
@@ -38,6 +41,7 @@ const ONE: Options = Options {
     improve: 10,
     seed: 1,
     passes: false,
+    proves: false,
 };
 
 /// What a run on a text answers, and what it writes.
@@ -224,6 +228,7 @@ fn answers_as_json(rt: HostRuntime) -> Result<(), Fail> {
             bound,
             nodes: 3,
             open_nodes: 2,
+            proof: None,
         };
         let text = json_text(alloc, &answer, 1500)?;
         assert_eq!(rt; text.as_str(), told);
@@ -266,6 +271,36 @@ fn a_plan_is_told_by_names(rt: HostRuntime) -> Result<(), Fail> {
     Ok(())
 }
 
+// Each proof is verified from its text; where the search is stopped at its root, the bound is the root's.
+#[test]
+fn proofs_are_verified(rt: HostRuntime) {
+    let cases: [(&[u8], Option<u64>, Verdict); 3] = [
+        (TWO, None, Verdict::Optimal(11)),
+        (EVEN, None, Verdict::Optimal(1)),
+        (EVEN, Some(0), Verdict::Gap(0, 1)),
+    ];
+    for (text, nodes, want) in cases {
+        let proving = Options {
+            nodes,
+            proves: true,
+            ..ONE
+        };
+        assert_eq!(rt; verified(&rt, rt.alloc(), text, &proving), Some(want));
+    }
+}
+
+/// What the proof of a run on a text shows of its instance.
+fn verified<T>(system: &T, alloc: Global, text: &[u8], options: &Options) -> Option<Verdict>
+where
+    T: Threads + Wait + Clock + Sync,
+    requires { AreLimited options.now }
+{
+    let (answer, _) = run(system, alloc, text, options);
+    let proof = proof_text(alloc, &answer.ok()?).ok()?;
+    let instance = read_problem(alloc, &mut Counted::new(text), false).ok()?;
+    accept(alloc, &instance, &proof).ok()
+}
+
 /// The words of a command line, behind the program's name.
 fn command(alloc: Global, words: &[&str]) -> Result<Vec<String>, AllocError> {
     let mut line = Vec::new(alloc);
@@ -286,6 +321,7 @@ fn command_lines(rt: HostRuntime) -> Result<(), Fail> {
         improve: 5000,
         seed: 1,
         passes: false,
+        proves: false,
     };
     let request = Request {
         file: "a.dat",
@@ -293,6 +329,7 @@ fn command_lines(rt: HostRuntime) -> Result<(), Fail> {
         options,
         out: None,
         json: None,
+        proof: None,
         quiet: false,
     };
     assert_eq!(rt; parse(rt.alloc(), &alone).ok(), Some(request));

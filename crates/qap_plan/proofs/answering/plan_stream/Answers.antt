@@ -16,7 +16,7 @@ returns-in_err-send g c =
       refl,
       record {
         answer = found;
-        comes = record { problem = c.in_ok-instance.instance; input = c.in_ok-instance.ensures; start = c.in_ok-start.start; begins = c.in_ok-start.ensures.read; planned = c.in_ok-found.ensures };
+        comes = record { problem = c.in_ok-instance.instance; input = c.in_ok-instance.ensures; start = c.in_ok-start.start; begins = c.in_ok-start.ensures.read; planned = c.in_ok-found.ensures.planned };
         broken = rw (cost, bound) at broken;
       },
     ))
