@@ -6,7 +6,10 @@ use Rattle.qap_proof.specs.Claim.{IsRoot}
 pub empty_root : IsPlacement (root_of 4) → IsRoot 4 (root_of 4)
 empty_root placed = record { placement = placed; size = refl; ascending = λ i j less below. absurd (omega arith) }
 
-rising : (i j : ℕ) → i < j → j < length (0 ∷ 2 ∷ []) → get_or (0 ∷ 2 ∷ []) i 0 < get_or (0 ∷ 2 ∷ []) j 0
+abbrev two_placed : List ℕ
+two_placed = 0 ∷ 2 ∷ []
+
+rising : (i j : ℕ) → i < j → j < length two_placed → get_or two_placed i 0 < get_or two_placed j 0
 rising i zero less below = absurd (omega arith)
 rising zero (suc zero) less below = omega arith
 rising (suc i) (suc zero) less below = absurd (omega arith)
@@ -19,11 +22,17 @@ below = placing (placing (root_of 4) 0 3) 2 1
 pub below_root : IsPlacement below → IsRoot 4 below
 below_root placed = record { placement = placed; size = refl; ascending = rising }
 
-only_zero : (t : ℕ) → t < length (0 ∷ []) → get_or (0 ∷ []) t 0 ≡ 2 → ⊥
+abbrev zero_alone : List ℕ
+zero_alone = 0 ∷ []
+
+abbrev three_alone : List ℕ
+three_alone = 3 ∷ []
+
+only_zero : (t : ℕ) → t < length zero_alone → get_or zero_alone t 0 ≡ 2 → ⊥
 only_zero zero less same = omega arith
 only_zero (suc t) less same = absurd (omega arith)
 
-only_three : (t : ℕ) → t < length (3 ∷ []) → get_or (3 ∷ []) t 0 ≡ 1 → ⊥
+only_three : (t : ℕ) → t < length three_alone → get_or three_alone t 0 ≡ 1 → ⊥
 only_three zero less same = omega arith
 only_three (suc t) less same = absurd (omega arith)
 
