@@ -6,11 +6,12 @@ use Rattle.std.proofs.lemmas.List.Elements.{All-append, All-cons, All-nil, Conta
 use Rattle.std.specs.Prelude.{ℤ, ◌≤ℤ◌, Contains}
 use Rattle.qap_cost.specs.Instance.{Problem}
 use Rattle.qap_cost.specs.Placement.{Placement}
+use Rattle.qap_proof.specs.Cover.{IsLeastOf}
 use Rattle.qap_proof.specs.Memory.{node_of, nodes_of}
 use Rattle.qap_proof.specs.Shape.{AllHaveShape, HasShape, free_count, has_duals}
 use Rattle.qap_proof.specs.Tree.{Split, Node, split, Nodes, node, child_count, IsFreeOn, Place, child_of, node_at}
 use Rattle.qap_proof.specs.declared.tree.Tree.{Tree}
-use Rattle.qap_search.specs.LeafBounds.{IsLeastOf, shown, shown_by_all}
+use Rattle.qap_search.specs.LeafBounds.{shown, shown_by_all}
 use Rattle.qap_search.specs.SearchTree.{IsTree, AreTrees, of_proof, of_proofs, readable}
 use Rattle.qap_search.proofs.Keys.{tree_count-of_proofs}
 

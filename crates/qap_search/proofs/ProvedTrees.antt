@@ -11,6 +11,7 @@ use Rattle.qap_cost.specs.Instance.{Problem, IsInstance}
 use Rattle.qap_cost.specs.Objective.{Permutes, cost_of}
 use Rattle.qap_cost.specs.Placement.{Placement, IsPlacement}
 use Rattle.qap_cost.specs.Range.{IsLimited}
+use Rattle.qap_proof.specs.Cover.{IsLeastOf}
 use Rattle.qap_proof.specs.Claim.{Claim, IsProof, IsRoot, Proves, claim_of}
 use Rattle.qap_proof.specs.Shape.{AreDuals, HasShape, AllHaveShape, IsPermOf, IsSplit, MayBeDuals, free_count, has_duals}
 use Rattle.qap_proof.specs.Tree.{Pair, pair, Split, Node, closed, split, cut, mirrored, Nodes, no_nodes, node, child_count, IsFreeOn, Place, whole, child, child_of, node_at}
@@ -22,7 +23,7 @@ use Rattle.space_txn.specs.Content.{content_of}
 use Rattle.tuple_match.specs.FieldValue.{FieldValue}
 use Rattle.qap_search.specs.Answer.{accepted_of}
 use Rattle.qap_search.specs.CutTree.{IsCutTree}
-use Rattle.qap_search.specs.LeafBounds.{IsBoundOf, IsLeastOf, shown, shown_by_all}
+use Rattle.qap_search.specs.LeafBounds.{IsBoundOf, shown, shown_by_all}
 use Rattle.qap_search.specs.OpenNodes.{AreLeastDuals, AllClosedTo, ClosedTo, undecided_count, undecided_counts}
 use Rattle.qap_search.specs.Outcome.{IsEnded}
 use Rattle.qap_search.specs.Piece.{best_tuple, open_count, pieces}

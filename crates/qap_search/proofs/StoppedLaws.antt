@@ -16,11 +16,12 @@ use Rattle.qap_cert.specs.Shape as shape
 use Rattle.qap_cert.specs.Tree as cert
 use Rattle.qap_cert.specs.Valid as certified
 use Rattle.qap_cert.specs.declared.version.Version.TheVariants.{Second}
+use Rattle.qap_proof.specs.Cover.{IsLeastOf}
 use Rattle.qap_proof.specs.Tree.{Pair, pair, Split, Node, closed, split, cut, mirrored, Nodes, no_nodes, node, child_count, IsFreeOn, Place, whole, child, child_of, node_at}
 use Rattle.qap_proof.specs.Valid.{AllValid, Closes, MayFit, Valid}
 use Rattle.tuple_match.specs.FieldValue.{FieldValue}
 use Rattle.qap_search.specs.CutTree.{IsCutTree}
-use Rattle.qap_search.specs.LeafBounds.{IsLeastOf, shown, shown_by_all}
+use Rattle.qap_search.specs.LeafBounds.{shown, shown_by_all}
 use Rattle.qap_search.specs.OpenNodes.{AllClosedTo, ClosedTo, undecided_count, undecided_counts}
 use Rattle.qap_search.specs.Piece.{best_tuple, closed_tuple, open_count, pieces, pieces_of_all, split_said}
 use Rattle.qap_search.specs.Replacement.{Best}

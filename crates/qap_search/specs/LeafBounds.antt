@@ -1,8 +1,9 @@
 -- What the leaves of a tree show.
-use Rattle.std.specs.Prelude.{ℕ, ◌+◌, List, [], ◌∷◌, ◌++◌, ℤ, ◌+ℤ◌, ◌≤ℤ◌, All, Contains}
+use Rattle.std.specs.Prelude.{ℕ, ◌+◌, List, [], ◌∷◌, ◌++◌, ℤ, ◌+ℤ◌}
 use Rattle.qap_cost.specs.Instance.{Problem}
 use Rattle.qap_cost.specs.Matrix.{dual_value}
 use Rattle.qap_cost.specs.Placement.{Placement, fixed_cost_of}
+use Rattle.qap_proof.specs.Cover.{IsLeastOf}
 use Rattle.qap_proof.specs.Tree.{Split, Node, closed, split, Nodes, no_nodes, node, child_of}
 
 abbrev mutual
@@ -16,10 +17,6 @@ abbrev mutual
   pub shown_by_all : Problem → Placement → Split → ℕ → Nodes → List ℤ
   shown_by_all I x s c no_nodes = []
   shown_by_all I x s c (node t rest) = shown I (child_of x s c) t ++ shown_by_all I x s (c + 1) rest
-
-pub record IsLeastOf (xs : List ℤ) (g : ℤ) : Type 0 where
-  pub one : Contains xs g
-  pub least : All (λ x. g ≤ℤ x) xs
 
 -- the least of the cost c and of what the leaves of the tree over x show
 abbrev pub IsBoundOf : Problem → Placement → ℤ → Node → ℤ → Type 0

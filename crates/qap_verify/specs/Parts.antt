@@ -39,10 +39,10 @@ abbrev pub ShowTogether : CoverValue → Verdict → Type 0
 ShowTogether c v = IsVerdictOn c v × IsSoOf c.instance c.root v
 
 -- the line of what they show has gone out
-abbrev pub HasTold : {W : Type 0} → CoverValue → (W → Option (List ℕ)) → CountedDevice W → CountedDevice W → Type 0
-HasTold c contents old new = (v : Verdict) × ShowTogether c v × Sends contents old new (answer_line v)
+abbrev pub HasShown : {W : Type 0} → CoverValue → (W → Option (List ℕ)) → CountedDevice W → CountedDevice W → Type 0
+HasShown c contents old new = (v : Verdict) × ShowTogether c v × Sends contents old new (answer_line v)
 
 -- memory ran out, and nothing has gone out; or the writer failed, and a beginning of the line has
-abbrev pub HasNotTold : {W : Type 0} → CoverValue → (W → Option (List ℕ)) → CountedDevice W → CountedDevice W → RunError → Type 0
-HasNotTold c contents old new e =
+abbrev pub HasNotShown : {W : Type 0} → CoverValue → (W → Option (List ℕ)) → CountedDevice W → CountedDevice W → RunError → Type 0
+HasNotShown c contents old new e =
     ((e ≡ OutOfMemory) × (new ≡ old)) ⊎ ((e ≡ Device) × (v : Verdict) × ShowTogether c v × BreaksOff contents old new (answer_line v))

@@ -5,7 +5,7 @@ ghost use Rattle.qap_proof.specs.Acceptance.{IsLimitedVerdict};
 ghost use Rattle.qap_proof.specs.Cover.{IsOpened};
 ghost use Rattle.qap_text.specs.Input.{input_of};
 ghost use Rattle.qap_verify.specs.Answering.{HasAnswered, HasNotAnswered, Proves, answer_line};
-ghost use Rattle.qap_verify.specs.Parts.{HasAdded, HasNotAdded, HasNotTold, HasTold};
+ghost use Rattle.qap_verify.specs.Parts.{HasAdded, HasNotAdded, HasNotShown, HasShown};
 ghost use Rattle.qap_verify.specs.Refusal.{HasNoTexts, IsNoProof};
 ghost use Rattle.qap_verify.specs.Texts.{ComeTo, HasTexts, inputs_of};
 
@@ -82,8 +82,8 @@ pub fn verdict_stream<W: Write>(
     writer: &mut Counted<W>,
 ) -> Result<(), RunError>
     ensures { MatchResult result
-        (λ _. HasTold cover.now W.contents writer.old writer.new)
-        (HasNotTold cover.now W.contents writer.old writer.new) }
+        (λ _. HasShown cover.now W.contents writer.old writer.new)
+        (HasNotShown cover.now W.contents writer.old writer.new) }
 {
     let line = line(alloc, cover.verdict())?;
     send(writer, line.as_bytes())?;

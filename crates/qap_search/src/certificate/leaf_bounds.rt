@@ -3,11 +3,12 @@
 ghost use Rattle.std.specs.Prelude.{◌≡◌, ◌↔◌, ◌+ℤ◌, ◌∷◌, [], ℕ, Bool, IfOk, IsTrue, length};
 ghost use Rattle.qap_cost.specs.Matrix.{dual_value};
 ghost use Rattle.qap_cost.specs.Placement.{fixed_cost_of};
+ghost use Rattle.qap_proof.specs.Cover.{IsLeastOf};
 ghost use Rattle.qap_proof.specs.Memory.{node_of, nodes_of};
 ghost use Rattle.qap_proof.specs.NodeLine.{pair_of, split_of};
 ghost use Rattle.qap_proof.specs.Shape.{AllHaveShape, AreDuals, HasShape, free_count};
 ghost use Rattle.qap_proof.specs.Tree.{IsFreeOn, Place, node_at};
-ghost use Rattle.qap_search.specs.LeafBounds.{IsLeastOf, shown, shown_by_all};
+ghost use Rattle.qap_search.specs.LeafBounds.{shown, shown_by_all};
 ghost use Rattle.qap_search.specs.SearchTree.{AreTrees, IsTree, of_proof, of_proofs, readable};
 
 use crate::certificate::tree_building::pair_with;

@@ -5,13 +5,14 @@ use Rattle.std.proofs.Math.ListN.{drop_of_length-le}
 use Rattle.std.proofs.lemmas.Int.{to_z-of_z}
 use Rattle.qap_cost.specs.Placement.{Placement, IsFreeFacility, IsFreeLocation, placing}
 use Rattle.qap_proof.proofs.Memory.{child_count-nodes_of, node_count-le, node_of-Split}
+use Rattle.qap_proof.specs.Cover.{IsLeastOf}
 use Rattle.qap_proof.specs.Cell.{others_on}
 use Rattle.qap_proof.specs.Memory.{node_of, nodes_of}
 use Rattle.qap_proof.specs.NodeLine.{split_of}
 use Rattle.qap_proof.specs.Shape.{HasShape}
 use Rattle.qap_proof.specs.Tree.{Node, Place, child, child_of, node_at, node_count, nodes_count}
 use Rattle.qap_proof.specs.declared.tree.Tree.{Tree}
-use Rattle.qap_search.specs.LeafBounds.{IsLeastOf, shown, shown_by_all}
+use Rattle.qap_search.specs.LeafBounds.{shown, shown_by_all}
 use Rattle.qap_search.specs.SearchTree.{IsTree, AreTrees, of_proof, of_proofs, readable}
 use Rattle.qap_search.proofs.Children.{free_pair, get_or-any, others_count}
 use Rattle.qap_search.proofs.Keys.{tree_count-of_proofs}
