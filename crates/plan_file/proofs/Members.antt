@@ -1,13 +1,13 @@
 -- The keys of a table, and the texts at them.
-use Rattle.std.proofs.Common.{◌≡◌, ℕ, ap, codes, List, [], ◌∷◌, Some, None, String, Global, string_bytes, sym, ◌∙◌}
-use Rattle.std.specs.Prelude.{⊤}
+use Rattle.std.proofs.Common.{◌≡◌, ℕ, ap, codes, List, [], ◌∷◌, Some, None, String, Global, string_bytes, inl, inr}
+use Rattle.std.specs.Prelude.{◌⊎◌, ⊤}
 use Rattle.std.specs.Map.{keys_of}
-use Rattle.std.proofs.lemmas.Option.{same_Some}
-use Rattle.toml.specs.Parse.{parse_document}
 use Rattle.toml.specs.Data.{Data, Members, get_member, string, integer, float, boolean, datetime, array, table, as_str}
 use Rattle.toml.specs.View.{members_view}
 use Rattle.toml.proofs.Views.{Entry}
-use Rattle.plan_file.specs.Plan.{AreKnown, IsKnown, IsPlanText}
+use Rattle.plan_file.specs.Plan.{AreKnown, IsFileFault, IsKnown, IsPlanFault, IsTable}
+use Rattle.plan_file.specs.declared.error.PlanError.{PlanError}
+use Rattle.plan_file.specs.declared.error.PlanError.TheVariants.{Syntax, UnknownKey, MissingKey, NoText, OutOfMemory}
 
 pub text_of : (d : Data) (s : List ℕ) → Some s ≡ as_str d → d ≡ string s
 text_of (string t) s is = cc
@@ -40,9 +40,13 @@ pub keys_known : (es : List Entry) → AreKnownNames (keys_of es) → AreKnown (
 keys_known [] known = tt
 keys_known (e ∷ es) known = (known.0, keys_known es known.1)
 
--- where a table has no text at a key, its text is no plan
-pub no_distances : (text : List ℕ) (members : Members) → parse_document text ≡ Some members → ((name : List ℕ) → get_member (codes "distances") members ≡ Some (string name) → ⊥)
-    → (flows distances : List ℕ) → IsPlanText text flows distances → ⊥
-no_distances text members read none flows distances plan =
-    let same : plan.members ≡ members = same_Some _ _ (sym plan.read ∙ read) in
-    none distances (ap (get_member (codes "distances")) (sym same) ∙ plan.distance_file)
+-- where the keys of a table are known, and something is wrong with the file that one of them names, its text is no plan
+pub fault_of_file : (text : List ℕ) (members : Members) (e : PlanError) → IsTable text members → AreKnown members
+    → IsFileFault (codes "flows") members e ⊎ IsFileFault (codes "distances") members e → IsPlanFault text e
+fault_of_file text ms (Syntax place message) is known (inl h) = absurd h
+fault_of_file text ms (Syntax place message) is known (inr h) = absurd h
+fault_of_file text ms (UnknownKey key) is known (inl h) = absurd h
+fault_of_file text ms (UnknownKey key) is known (inr h) = absurd h
+fault_of_file text ms (MissingKey key) is known h = (ms, is, inr (known, h))
+fault_of_file text ms (NoText key found) is known h = (ms, is, inr (known, h))
+fault_of_file text ms OutOfMemory is known h = tt

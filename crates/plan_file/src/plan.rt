@@ -4,7 +4,7 @@ ghost use Rattle.std.specs.Prelude.{◌≡◌, ◌≢◌, ◌↔◌, ℕ, List, 
 ghost use Rattle.toml.specs.Data.{string, get_member};
 ghost use Rattle.toml.specs.Errors.{IsMemory};
 ghost use Rattle.toml.specs.View.{table_view};
-ghost use Rattle.plan_file.specs.Plan.{AreKnown, IsKnown, IsPlanText};
+ghost use Rattle.plan_file.specs.Plan.{AreKnown, IsFileFault, IsKeyFault, IsKnown, IsPlanFault, IsPlanText, IsSyntaxError};
 ghost use Rattle.plan_file.specs.declared.error.PlanError.TheVariants.{OutOfMemory as WantOfMemory};
 
 use crate::error::PlanError;
@@ -25,7 +25,7 @@ pub struct Plan {
 /// Reads a plan: a text in TOML with the keys `flows` and `distances`, each the name of a file, and no other.
 pub fn read_plan(alloc: Global, text: &[u8]) -> Result<Plan, PlanError>
     ensures plan { IfOk result (λ plan. IsPlanText text.now (string_bytes plan.flows) (string_bytes plan.distances)) }
-    ensures refused { IfErr result (λ e. e ≢ WantOfMemory → (flows distances : List ℕ) → IsPlanText text.now flows distances → ⊥) }
+    ensures refused { IfErr result (IsPlanFault text.now) }
 {
     let table = match table_from_slice(alloc, text) {
         Ok(table) => table,
@@ -39,7 +39,8 @@ pub fn read_plan(alloc: Global, text: &[u8]) -> Result<Plan, PlanError>
 
 /// What is wrong with a text that is no TOML.
 fn syntax_error(alloc: Global, text: &[u8], error: &Error) -> PlanError
-    ensures { IsMemory error.now → result ≡ WantOfMemory }
+    ensures memory { IsMemory error.now → result ≡ WantOfMemory }
+    ensures syntax { IsSyntaxError result }
 {
     let Some(span) = error.span() else {
         return PlanError::OutOfMemory;
@@ -56,7 +57,7 @@ fn syntax_error(alloc: Global, text: &[u8], error: &Error) -> PlanError
 /// Checks that a plan may have each key of a table.
 fn check_keys(alloc: Global, table: &Table) -> Result<(), PlanError>
     ensures known { OnOk result (AreKnown (table_view table.now)) }
-    ensures refused { IfErr result (λ e. e ≢ WantOfMemory → AreKnown (table_view table.now) → ⊥) }
+    ensures refused { IfErr result (IsKeyFault (table_view table.now)) }
 {
     match unknown_key(table) {
         Some(key) => Err(PlanError::UnknownKey {
@@ -68,7 +69,8 @@ fn check_keys(alloc: Global, table: &Table) -> Result<(), PlanError>
 
 /// The first key of a table that a plan may not have.
 fn unknown_key(table: &Table) -> Option<&str>
-    ensures { MatchOption result (AreKnown (table_view table.now)) (λ _. AreKnown (table_view table.now) → ⊥) }
+    ensures { MatchOption result (AreKnown (table_view table.now))
+        (λ key. (IsKnown key.now → ⊥) × (AreKnown (table_view table.now) → ⊥)) }
 {
     for key in table.keys() {
         if !is_known(key.as_str()) {
@@ -88,7 +90,7 @@ fn is_known(key: &str) -> bool
 /// The file that a key names.
 fn file_of(alloc: Global, table: &Table, key: &'static str) -> Result<String, PlanError>
     ensures file { IfOk result (λ name. get_member key.now (table_view table.now) ≡ Some (string (string_bytes name))) }
-    ensures refused { IfErr result (λ e. e ≢ WantOfMemory → (name : List ℕ) → get_member key.now (table_view table.now) ≡ Some (string name) → ⊥) }
+    ensures refused { IfErr result (IsFileFault key.now (table_view table.now)) }
 {
     let Some(value) = table.get(key) else {
         return Err(PlanError::MissingKey { key });

@@ -1,5 +1,4 @@
-use Rattle.std.proofs.Common.{◌∙◌, ap, sym, Some}
-use Rattle.std.proofs.lemmas.Option.{none-some, same_Some}
+use Rattle.std.proofs.Common.{◌∙◌, ap, refl, sym, Some}
 use Rattle.toml.specs.Data.{string}
 use Rattle.toml.specs.View.{view}
 use Rattle.toml.proofs.Views.{table_get}
@@ -9,8 +8,7 @@ use Rattle.plan_file.proofs.plan.file_of.Goals as goal
 pub returns-in_default-clause-refused : goal.returns-in_default-clause-refused
 returns-in_default-clause-refused c =
     let found = table_get c.get.result c.args.key.now c.args.table.now.entries c.get.ensures.value in
-    let none = rw c.in_default.is at found in
-    λ _ name is. none-some (string name) (none ∙ is)
+    (refl, sym (rw c.in_default.is at found))
 
 pub returns-in_ok-from_str-in-Some-as_str-clause-file : goal.returns-in_ok-from_str-in-Some-as_str-clause-file
 returns-in_ok-from_str-in-Some-as_str-clause-file c =
@@ -23,4 +21,5 @@ pub returns-in-None-clause-refused : goal.returns-in-None-clause-refused
 returns-in-None-clause-refused c =
     let found = table_get c.get.result c.args.key.now c.args.table.now.entries c.get.ensures.value in
     let here = rw c.in-Some.is at found in
-    λ _ name is. no_text (view c.in-Some.value.now) name c.in-None.ensures (same_Some _ _ (here ∙ is))
+    let held = view c.in-Some.value.now in
+    (refl, held, sym here, λ name is. no_text held name c.in-None.ensures is)
