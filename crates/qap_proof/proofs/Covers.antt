@@ -69,7 +69,7 @@ leaves_bound t I g b x ls placement same valid are all =
     none_less I x g (covered_bounds t I g (whole x) placement same tt (Covered-leaves t I g b (whole x) ls placement same valid are all))
 
 -- the duals come to one value for a child
-Reaches-one : (I : Problem) (x : Placement) (d e : Pair) (i k : ℕ) (y z : ℤ) → IsPlacement x → d ≡ e → Reaches I x d i k y → Reaches I x e i k z → y ≡ z
+pub Reaches-one : (I : Problem) (x : Placement) (d e : Pair) (i k : ℕ) (y z : ℤ) → IsPlacement x → d ≡ e → Reaches I x d i k y → Reaches I x e i k z → y ≡ z
 Reaches-one I x d e i k y z placement same h g =
     let M = h.fits.matrix in
     let N = g.fits.matrix in

@@ -48,7 +48,7 @@ IsTextFault-behind n c p text size cost perm behind e h fault = inr (record {
 })
 
 -- the parts of a text, one behind the other
-in_parts : (a b c d k l t z : List ℕ) → a ++ b ++ c ++ d ++ k ++ l ++ t ++ z ≡ a ++ (b ++ (c ++ (d ++ (k ++ (l ++ (t ++ z))))))
+pub in_parts : (a b c d k l t z : List ℕ) → a ++ b ++ c ++ d ++ k ++ l ++ t ++ z ≡ a ++ (b ++ (c ++ (d ++ (k ++ (l ++ (t ++ z))))))
 in_parts a b c d k l t z =
     append_assoc (a ++ b ++ c ++ d ++ k ++ l) t z ∙ append_assoc (a ++ b ++ c ++ d ++ k) l (t ++ z) ∙ append_assoc (a ++ b ++ c ++ d) k (l ++ (t ++ z))
     ∙ append_assoc (a ++ b ++ c) d (k ++ (l ++ (t ++ z))) ∙ append_assoc (a ++ b) c (d ++ (k ++ (l ++ (t ++ z)))) ∙ append_assoc a b (c ++ (d ++ (k ++ (l ++ (t ++ z)))))

@@ -33,7 +33,7 @@ pub use cover::Cover;
 pub use error::ProofError;
 pub use image::{takes_facility, takes_location};
 pub use judging::{Task, closed_fault};
-pub use law::{proof_law, tree_law};
+pub use law::{fault_law, proof_law, proof_text_law, tree_law};
 pub use leaf::Leaf;
 pub use node_line::{LineRead, NodeLine, SplitLine, read_node_line};
 pub use proof::Proof;
