@@ -6,32 +6,12 @@ use Rattle.std.specs.Prelude.{codes, unsigned_abs}
 use Rattle.qap_cost.specs.Placement.{Placement}
 use Rattle.qap_cost.specs.Range.{AllLimited}
 use Rattle.qap_lines.proofs.Held.{held-all_within}
+use Rattle.qap_lines.proofs.Limits.{AllLimited-front, AllLimited-back}
 use Rattle.qap_lines.proofs.NumberLists.{numbers_text-is}
 use Rattle.qap_cert.specs.NodeLine.{HasDuals}
 use Rattle.qap_lines.specs.Number.{IsNamed, held}
 use Rattle.qap_cert.specs.Shape.{AreDuals}
 use Rattle.qap_lines.specs.LineText.{numbers_text}
-
-pub AllLimited-append : (xs ys : List ℤ) → AllLimited xs → AllLimited ys → AllLimited (xs ++ ys)
-AllLimited-append xs ys h k = record {
-  each = λ j below. elim (cases_lt j (length xs)) [
-    | inl front ↦ subst (λ (z : ℤ). unsigned_abs z ≤ 10 ^ 24) (sym (get_or_append_left xs ys (pos 0) j front)) (h.each j front)
-    | inr back ↦ subst (λ (z : ℤ). unsigned_abs z ≤ 10 ^ 24) (sym (get_or-append_right xs ys (length xs) j (pos 0) refl back)) (k.each (j - length xs) (omega (arith, length-append xs ys)))
-  ];
-}
-
-pub AllLimited-front : (xs ys : List ℤ) → AllLimited (xs ++ ys) → AllLimited xs
-AllLimited-front xs ys h = record {
-  each = λ j below. subst (λ (z : ℤ). unsigned_abs z ≤ 10 ^ 24) (get_or_append_left xs ys (pos 0) j below) (h.each j (omega (arith, length-append xs ys)));
-}
-
-pub AllLimited-back : (xs ys : List ℤ) → AllLimited (xs ++ ys) → AllLimited ys
-AllLimited-back xs ys h = record {
-  each = λ j below.
-      let at : get_or (xs ++ ys) (length xs + j) (pos 0) ≡ get_or ys j (pos 0) =
-      get_or-append_right xs ys (length xs) (length xs + j) (pos 0) refl (omega arith) ∙ ap (λ k. get_or ys k (pos 0)) (omega arith) in
-      subst (λ (z : ℤ). unsigned_abs z ≤ 10 ^ 24) at (h.each (length xs + j) (omega (arith, length-append xs ys)));
-}
 
 -- numbers that are in range were read as they are
 pub HasDuals-read : (m wanted : ℕ) (line : List ℕ) (first zs : List ℤ) → IsNamed (codes "b") line zs → length zs ≡ 2 * m → AllLimited zs → first ≡ map held (take wanted zs) → HasDuals m wanted line first

@@ -4,10 +4,11 @@ use Rattle.std.proofs.lemmas.Bool.{cases_order}
 use Rattle.std.specs.Prelude.{codes}
 use Rattle.qap_cost.specs.Bijection.{IsPerm}
 use Rattle.qap_cost.specs.Range.{AllLimited}
-use Rattle.qap_lines.proofs.Lines.{IsLine-unique, no_line-line}
+use Rattle.qap_lines.proofs.Fronts.{line_front, line_fault, named_fault, one_line_fault}
+use Rattle.qap_lines.proofs.Lines.{IsLine-unique}
 use Rattle.qap_lines.proofs.Locations.{AllLimited-permutation}
 use Rattle.qap_lines.proofs.NumberLists.{AllLimited-one, IsLine-line_text, IsNamed-unique, IsNamed-numbers_text}
-use Rattle.qap_cert.proofs.OneText.{no_line-version, no_line-size, no_line-cost, no_line-perm, no_line-split, no_line-below, no_line-end, line_front, line_fault, named_fault, split_line, split_named, split_or_bound, small_number, trees_front, tree_front, next_tree, no_tree_fault, header_line, perm_line}
+use Rattle.qap_cert.proofs.OneText.{no_line-version, no_line-size, no_line-cost, no_line-perm, no_line-split, no_line-below, no_line-end, split_line, split_named, split_or_bound, small_number, trees_front, tree_front, next_tree, no_tree_fault, header_line, perm_line}
 use Rattle.qap_cert.proofs.Versions.{AllLimited-split_numbers, same_facility, same_number, one_version, version_limited}
 use Rattle.qap_lines.specs.Line.{line_after, IsLine}
 use Rattle.qap_lines.specs.Number.{IsNamed}
@@ -19,16 +20,9 @@ use Rattle.qap_cert.specs.TextFault.{IsLineFault, IsHeaderFault, IsSizeFault, Is
 use Rattle.qap_cert.specs.Tree.{Node, Nodes, node_count, nodes_count}
 use Rattle.qap_cert.specs.Version.{version_number, split_numbers}
 use Rattle.qap_cert.specs.declared.error.CertError.{CertError}
-use Rattle.qap_cert.specs.declared.error.CertError.TheVariants.{BadHeader, BadVersion, BadLine, PermBad, SplitTooDeep, FacilityTaken, DualCount, DualRange}
+use Rattle.qap_cert.specs.declared.error.CertError.TheVariants.{BadHeader, BadVersion, BadLine, Truncated, PermBad, SplitTooDeep, FacilityTaken, DualCount, DualRange}
 use Rattle.qap_cert.specs.declared.version.Version.{Version}
 use Rattle.qap_cert.specs.declared.version.Version.TheVariants.{First, Second}
-
-one_line_fault : (number : ℕ) (text : List ℕ) (P : List ℕ → CertError → Type 0) (d e : CertError) → ((line : List ℕ) → P line d → P line e → d ≡ e) → IsLineFault number text P d → IsLineFault number text P e → d ≡ e
-one_line_fault number text P d e one (inl a) (inl b) = a.0 ∙ sym b.0
-one_line_fault number text P d e one (inl a) (inr b) = absurd (no_line-line text b.0 b.1 a.1 b.2)
-one_line_fault number text P d e one (inr a) (inl b) = absurd (no_line-line text a.0 a.1 b.1 a.2)
-one_line_fault number text P d e one (inr a) (inr b) =
-    one a.0 a.3 (subst (λ l. P l e) (IsLine-unique text b.0 b.1 a.0 a.1 b.2 a.2).0 b.3)
 
 one_header_fault : (line : List ℕ) (d e : CertError) → IsHeaderFault line d → IsHeaderFault line e → d ≡ e
 one_header_fault line BadHeader BadHeader a b = refl
@@ -86,14 +80,14 @@ one_node_fault v n placed number line _ e a b = absurd a
 -- the line of a split on a free facility is at no fault
 no_split_fault : (v : Version) (n : ℕ) (placed : List ℕ) (number : ℕ) (text : List ℕ) (e : CertError) (fault : IsLineFault number text (IsNodeFault v n placed number) e)
     (m : ℕ) (d : CertError) → n ≤ 256 → IsTreeTextFault v n (suc m) placed number text d → d ≡ e
-no_split_fault v n placed number text e fault m d small (inl a) = one_line_fault number text (IsNodeFault v n placed number) d e (λ line. one_node_fault v n placed number line d e) a fault
+no_split_fault v n placed number text e fault m d small (inl a) = one_line_fault (Truncated number) text (IsNodeFault v n placed number) d e (λ line. one_node_fault v n placed number line d e) a fault
 no_split_fault v n placed number text e fault m d small (inr a) =
     let some : length placed < n = omega (arith, a.5.4, length-append placed (a.0 ∷ [])) in
     absurd (split_line v n placed (codes "s" ++ numbers_text (split_numbers v a.0)) number a.0 e some a.4 (split_named v n placed a.0 small a.3)
-    (named_fault number text (codes "s") a.1 (split_numbers v a.0) (IsNodeFault v n placed number) e no_line-split (AllLimited-split_numbers v n placed a.0 small a.3) a.2 fault))
+    (named_fault (Truncated number) text (codes "s") a.1 (split_numbers v a.0) (IsNodeFault v n placed number) e no_line-split (AllLimited-split_numbers v n placed a.0 small a.3) a.2 fault))
 
 one_tree_fault : (v : Version) (n m : ℕ) (placed : List ℕ) (number : ℕ) (text : List ℕ) (d e : CertError) → n ≤ 256 → IsTreeTextFault v n m placed number text d → IsTreeTextFault v n m placed number text e → d ≡ e
-one_tree_fault v n zero placed number text d e small a b = one_line_fault number text (IsNodeFault v n placed number) d e (λ line. one_node_fault v n placed number line d e) a b
+one_tree_fault v n zero placed number text d e small a b = one_line_fault (Truncated number) text (IsNodeFault v n placed number) d e (λ line. one_node_fault v n placed number line d e) a b
 one_tree_fault v n (suc m) placed number text d e small a (inl b) = no_split_fault v n placed number text e b m d small a
 one_tree_fault v n (suc m) placed number text d e small (inl a) (inr b) = sym (no_split_fault v n placed number text d a m e small (inr b))
 one_tree_fault v n (suc m) placed number text d e small (inr a) (inr b) =
@@ -125,11 +119,11 @@ is_end : (text rest : List ℕ) → text ≡ codes "end\n" ++ rest → IsLine te
 is_end text rest is = record { is = is; first = no_line-end }
 
 one_end_fault : (number : ℕ) (text : List ℕ) (d e : CertError) → IsEndFault number text d → IsEndFault number text e → d ≡ e
-one_end_fault number text d e (inl a) (inl b) = one_line_fault number text (λ line f. (f ≡ BadLine number) × (line ≢ codes "end")) d e (λ line p q. p.0 ∙ sym q.0) a b
+one_end_fault number text d e (inl a) (inl b) = one_line_fault (Truncated number) text (λ line f. (f ≡ BadLine number) × (line ≢ codes "end")) d e (λ line p q. p.0 ∙ sym q.0) a b
 one_end_fault number text d e (inl a) (inr b) =
-    let p = line_fault number text (codes "end") b.1 (λ line f. (f ≡ BadLine number) × (line ≢ codes "end")) d (is_end text b.1 b.3) a in absurd (p.1 refl)
+    let p = line_fault (Truncated number) text (codes "end") b.1 (λ line f. (f ≡ BadLine number) × (line ≢ codes "end")) d (is_end text b.1 b.3) a in absurd (p.1 refl)
 one_end_fault number text d e (inr a) (inl b) =
-    let p = line_fault number text (codes "end") a.1 (λ line f. (f ≡ BadLine number) × (line ≢ codes "end")) e (is_end text a.1 a.3) b in absurd (p.1 refl)
+    let p = line_fault (Truncated number) text (codes "end") a.1 (λ line f. (f ≡ BadLine number) × (line ≢ codes "end")) e (is_end text a.1 a.3) b in absurd (p.1 refl)
 one_end_fault number text d e (inr a) (inr b) = a.0 ∙ sym b.0
 
 one_from_tree : (v : Version) (n number : ℕ) (text : List ℕ) (d e : CertError) → n ≤ 256 → IsFaultFromTree v n number text d → IsFaultFromTree v n number text e → d ≡ e
@@ -171,10 +165,10 @@ one_from_bound Second n c text d e small (inr (inr a)) (inr (inr b)) =
 -- a permutation's line is at no fault
 right_perm : (n : ℕ) (text rest p : List ℕ) (e : CertError) → IsPerm p → length p ≡ n → text ≡ line_text (codes "perm") (from_one p) ++ rest → IsLineFault 4 text (IsPermFault n) e → ⊥
 right_perm n text rest p e perm size is fault =
-    perm_line n p e perm size (named_fault 4 text (codes "perm") rest (from_one p) (IsPermFault n) e no_line-perm (AllLimited-permutation p perm) is fault)
+    perm_line n p e perm size (named_fault (Truncated 4) text (codes "perm") rest (from_one p) (IsPermFault n) e no_line-perm (AllLimited-permutation p perm) is fault)
 
 one_from_perm : (v : Version) (n : ℕ) (c : ℤ) (text : List ℕ) (d e : CertError) → n ≤ 256 → IsFaultFromPerm v n c text d → IsFaultFromPerm v n c text e → d ≡ e
-one_from_perm v n c text d e small (inl a) (inl b) = one_line_fault 4 text (IsPermFault n) d e (λ line. one_perm_fault n line d e) a b
+one_from_perm v n c text d e small (inl a) (inl b) = one_line_fault (Truncated 4) text (IsPermFault n) d e (λ line. one_perm_fault n line d e) a b
 one_from_perm v n c text d e small (inl a) (inr b) = absurd (right_perm n text b.3.rest b.0 d b.1 b.2 b.3.is a)
 one_from_perm v n c text d e small (inr a) (inl b) = absurd (right_perm n text a.3.rest a.0 e a.1 a.2 a.3.is b)
 one_from_perm v n c text d e small (inr a) (inr b) =
@@ -183,10 +177,10 @@ one_from_perm v n c text d e small (inr a) (inr b) =
 
 right_cost : (text rest : List ℕ) (c : ℤ) (e : CertError) → (limited : AllLimited (c ∷ [])) → text ≡ line_text (codes "cost") (c ∷ []) ++ rest → IsLineFault 3 text IsCostFault e → ⊥
 right_cost text rest c e limited is fault =
-    (named_fault 3 text (codes "cost") rest (c ∷ []) IsCostFault e no_line-cost limited is fault).1 c (limited.each 0 (omega arith)) (IsNamed-numbers_text (codes "cost") (c ∷ []) limited)
+    (named_fault (Truncated 3) text (codes "cost") rest (c ∷ []) IsCostFault e no_line-cost limited is fault).1 c (limited.each 0 (omega arith)) (IsNamed-numbers_text (codes "cost") (c ∷ []) limited)
 
 one_from_cost : (v : Version) (n : ℕ) (text : List ℕ) (d e : CertError) → n ≤ 256 → IsFaultFromCost v n text d → IsFaultFromCost v n text e → d ≡ e
-one_from_cost v n text d e small (inl a) (inl b) = one_line_fault 3 text IsCostFault d e (λ line p q. p.0 ∙ sym q.0) a b
+one_from_cost v n text d e small (inl a) (inl b) = one_line_fault (Truncated 3) text IsCostFault d e (λ line p q. p.0 ∙ sym q.0) a b
 one_from_cost v n text d e small (inl a) (inr b) = absurd (right_cost text b.2.rest b.0 d (AllLimited-one b.0 b.1) b.2.is a)
 one_from_cost v n text d e small (inr a) (inl b) = absurd (right_cost text a.2.rest a.0 e (AllLimited-one a.0 a.1) a.2.is b)
 one_from_cost v n text d e small (inr a) (inr b) =
@@ -197,10 +191,10 @@ one_from_cost v n text d e small (inr a) (inr b) =
 
 right_size : (text rest : List ℕ) (n : ℕ) (e : CertError) → 0 < n → n ≤ 256 → text ≡ line_text (codes "n") (pos n ∷ []) ++ rest → IsLineFault 2 text IsSizeFault e → ⊥
 right_size text rest n e some small is fault =
-    (named_fault 2 text (codes "n") rest (pos n ∷ []) IsSizeFault e no_line-size (small_number n small) is fault).1 n some small (IsNamed-numbers_text (codes "n") (pos n ∷ []) (small_number n small))
+    (named_fault (Truncated 2) text (codes "n") rest (pos n ∷ []) IsSizeFault e no_line-size (small_number n small) is fault).1 n some small (IsNamed-numbers_text (codes "n") (pos n ∷ []) (small_number n small))
 
 one_from_size : (v : Version) (text : List ℕ) (d e : CertError) → IsFaultFromSize v text d → IsFaultFromSize v text e → d ≡ e
-one_from_size v text d e (inl a) (inl b) = one_line_fault 2 text IsSizeFault d e (λ line p q. p.0 ∙ sym q.0) a b
+one_from_size v text d e (inl a) (inl b) = one_line_fault (Truncated 2) text IsSizeFault d e (λ line p q. p.0 ∙ sym q.0) a b
 one_from_size v text d e (inl a) (inr b) = absurd (right_size text b.3.rest b.0 d b.1 b.2 b.3.is a)
 one_from_size v text d e (inr a) (inl b) = absurd (right_size text a.3.rest a.0 e a.1 a.2 a.3.is b)
 one_from_size v text d e (inr a) (inr b) =
@@ -211,10 +205,10 @@ one_from_size v text d e (inr a) (inr b) =
 
 right_version : (text rest : List ℕ) (v : Version) (e : CertError) → text ≡ line_text (codes "qapcert") (pos (version_number v) ∷ []) ++ rest → IsLineFault 1 text IsHeaderFault e → ⊥
 right_version text rest v e is fault =
-    header_line v e (named_fault 1 text (codes "qapcert") rest (pos (version_number v) ∷ []) IsHeaderFault e no_line-version (version_limited v) is fault)
+    header_line v e (named_fault (Truncated 1) text (codes "qapcert") rest (pos (version_number v) ∷ []) IsHeaderFault e no_line-version (version_limited v) is fault)
 
 pub one_text_fault : (text : List ℕ) (d e : CertError) → IsTextFault text d → IsTextFault text e → d ≡ e
-one_text_fault text d e (inl a) (inl b) = one_line_fault 1 text IsHeaderFault d e (λ line. one_header_fault line d e) a b
+one_text_fault text d e (inl a) (inl b) = one_line_fault (Truncated 1) text IsHeaderFault d e (λ line. one_header_fault line d e) a b
 one_text_fault text d e (inl a) (inr b) = absurd (right_version text b.1.rest b.0 d b.1.is a)
 one_text_fault text d e (inr a) (inl b) = absurd (right_version text a.1.rest a.0 e a.1.is b)
 one_text_fault text d e (inr a) (inr b) =

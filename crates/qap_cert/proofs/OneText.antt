@@ -1,13 +1,13 @@
 -- A text is that of one certificate at most, and the text of a certificate has no fault.
-use Rattle.std.proofs.Common.{◌≡◌, ◌≢◌, ℕ, zero, suc, ◌+◌, ◌-◌, ◌<◌, ◌≤◌, List, [], ◌∷◌, ◌++◌, length, take, drop, get_or, ℤ, pos, refl, sym, ap, ap₂, subst, ◌∙◌, inl, inr, arith, append_assoc, length-append}
+use Rattle.std.proofs.Common.{◌≡◌, ◌≢◌, ℕ, zero, suc, ◌+◌, ◌-◌, ◌<◌, ◌≤◌, List, [], ◌∷◌, ◌++◌, length, drop, get_or, ℤ, pos, refl, sym, ap, ap₂, subst, ◌∙◌, inl, inr, arith, append_assoc, length-append}
 use Rattle.std.proofs.lemmas.Int.{ints, by_lt_z}
 use Rattle.std.proofs.lemmas.List.{length-map}
-use Rattle.std.proofs.Math.Seq.{take-append_seam, drop-append_seam}
 use Rattle.std.specs.Prelude.{codes, ◌⊎◌}
 use Rattle.qap_cost.specs.Bijection.{IsPerm}
 use Rattle.qap_cost.specs.Placement.{IsFree}
 use Rattle.qap_cost.specs.Range.{AllLimited}
-use Rattle.qap_cert.proofs.Duals.{AllLimited-append}
+use Rattle.qap_lines.proofs.Fronts.{no_line-nil, line_front, line_fault, named_fault}
+use Rattle.qap_lines.proofs.Limits.{AllLimited-append, same_halves}
 use Rattle.qap_lines.proofs.Lines.{HasNoLine-cons, IsLine-unique, no_line-line}
 use Rattle.qap_lines.proofs.Locations.{AllLimited-permutation, from_one-injective}
 use Rattle.qap_lines.proofs.NumberLists.{AllLimited-one, IsLine-line_text, IsNamed-unique, IsNamed-numbers_text}
@@ -23,14 +23,11 @@ use Rattle.qap_cert.specs.TextFault.{IsLineFault, IsHeaderFault, IsSizeFault, Is
 use Rattle.qap_cert.specs.Tree.{Node, split, bound, Nodes, no_nodes, node, node_count, nodes_count}
 use Rattle.qap_cert.specs.Version.{version_number, MayName, MayBound, split_numbers}
 use Rattle.qap_cert.specs.declared.error.CertError.{CertError}
-use Rattle.qap_cert.specs.declared.error.CertError.TheVariants.{BadHeader, BadVersion, BadLine, PermBad, SplitTooDeep, FacilityTaken, DualCount, DualRange}
+use Rattle.qap_cert.specs.declared.error.CertError.TheVariants.{BadHeader, BadVersion, BadLine, Truncated, PermBad, SplitTooDeep, FacilityTaken, DualCount, DualRange}
 use Rattle.qap_cert.specs.declared.version.Version.{Version}
 use Rattle.qap_cert.specs.declared.version.Version.TheVariants.{First, Second}
 
 -- the names of the lines
-
-no_line-nil : HasNoLine []
-no_line-nil = record { each = λ i below. absurd (omega arith) }
 
 pub no_line-version : HasNoLine (codes "qapcert")
 no_line-version = HasNoLine-cons 113 _ (λ e. omega arith) (HasNoLine-cons 97 _ (λ e. omega arith) (HasNoLine-cons 112 _ (λ e. omega arith)
@@ -57,32 +54,7 @@ no_line-below = HasNoLine-cons 98 _ (λ e. omega arith) (HasNoLine-cons 111 _ (�
 pub no_line-end : HasNoLine (codes "end")
 no_line-end = HasNoLine-cons 101 _ (λ e. omega arith) (HasNoLine-cons 110 _ (λ e. omega arith) (HasNoLine-cons 100 _ (λ e. omega arith) no_line-nil))
 
--- a line at the front of a text
-
-pub line_front : (name : List ℕ) (xs ys : List ℤ) (rest more : List ℕ) → HasNoLine name → AllLimited xs → AllLimited ys
-    → line_text name xs ++ rest ≡ line_text name ys ++ more → (xs ≡ ys) × (rest ≡ more)
-line_front name xs ys rest more none h k e =
-    let one = IsLine-line_text rest name xs none h in
-    let other = subst (λ t. IsLine t (name ++ numbers_text ys) more) (sym e) (IsLine-line_text more name ys none k) in
-    let u = IsLine-unique (line_text name xs ++ rest) (name ++ numbers_text xs) rest (name ++ numbers_text ys) more one other in
-    (IsNamed-unique name (name ++ numbers_text xs) xs ys (IsNamed-numbers_text name xs h) (subst (λ l. IsNamed name l ys) (sym u.0) (IsNamed-numbers_text name ys k)), u.1)
-
-pub line_fault : (number : ℕ) (text line rest : List ℕ) (P : List ℕ → CertError → Type 0) (e : CertError) → IsLine text line rest → IsLineFault number text P e → P line e
-line_fault number text line rest P e is (inl h) = absurd (no_line-line text line rest h.1 is)
-line_fault number text line rest P e is (inr h) = subst (λ l. P l e) (IsLine-unique text h.0 h.1 line rest h.2 is).0 h.3
-
-pub named_fault : (number : ℕ) (text name rest : List ℕ) (zs : List ℤ) (P : List ℕ → CertError → Type 0) (e : CertError) → HasNoLine name → AllLimited zs
-    → text ≡ line_text name zs ++ rest → IsLineFault number text P e → P (name ++ numbers_text zs) e
-named_fault number text name rest zs P e none h is fault =
-    line_fault number text (name ++ numbers_text zs) rest P e (subst (λ t. IsLine t (name ++ numbers_text zs) rest) (sym is) (IsLine-line_text rest name zs none h)) fault
-
 -- a tree at the front of a text
-
-same_halves : (u v w x : List ℤ) → length u ≡ length w → u ++ v ≡ w ++ x → (u ≡ w) × (v ≡ x)
-same_halves u v w x same e = (
-  sym (take-append_seam u v) ∙ ap (take (length u)) e ∙ ap (λ (k : ℕ). take k (w ++ x)) same ∙ take-append_seam w x,
-  sym (drop-append_seam u v) ∙ ap (drop (length u)) e ∙ ap (λ (k : ℕ). drop k (w ++ x)) same ∙ drop-append_seam w x,
-)
 
 -- texts whose first bytes differ
 differ : (b c : ℕ) (bs cs : List ℕ) → (b ≡ c → ⊥) → b ∷ bs ≡ c ∷ cs → ⊥
@@ -170,10 +142,10 @@ no_node_fault : (w : Version) (n : ℕ) (placed : List ℕ) (number : ℕ) (t : 
     → IsLineFault number text (IsNodeFault w n placed number) e → ⊥
 no_node_fault w n placed number (split f children) text rest e small h is fault =
     split_line w n placed (codes "s" ++ numbers_text (split_numbers w f)) number f e h.0 h.1 (split_named w n placed f small h.2)
-    (named_fault number text (codes "s") (trees_text w children ++ rest) (split_numbers w f) (IsNodeFault w n placed number) e no_line-split (AllLimited-split_numbers w n placed f small h.2)
+    (named_fault (Truncated number) text (codes "s") (trees_text w children ++ rest) (split_numbers w f) (IsNodeFault w n placed number) e no_line-split (AllLimited-split_numbers w n placed f small h.2)
     (is ∙ append_assoc (line_text (codes "s") (split_numbers w f)) (trees_text w children) rest) fault)
 no_node_fault w n placed number (bound u v) text rest e small h is fault =
-    bound_line w n placed number u v e h (named_fault number text (codes "b") rest (u ++ v) (IsNodeFault w n placed number) e no_line-bound (AllLimited-append u v h.u_range h.v_range) is fault)
+    bound_line w n placed number u v e h (named_fault (Truncated number) text (codes "b") rest (u ++ v) (IsNodeFault w n placed number) e no_line-bound (AllLimited-append u v h.u_range h.v_range) is fault)
 
 pub no_tree_fault : (w : Version) (n m : ℕ) (placed : List ℕ) (number : ℕ) (t : Node) (text rest : List ℕ) (e : CertError) → n ≤ 256 → HasShape w n placed t → text ≡ tree_text w t ++ rest → IsTreeTextFault w n m placed number text e → ⊥
 no_tree_fault w n zero placed number t text rest e small h is fault = no_node_fault w n placed number t text rest e small h is fault
@@ -193,7 +165,7 @@ no_tree_fault w n (suc m) placed number (split f children) text rest e small h i
 
 no_end_fault : (number : ℕ) (text : List ℕ) (e : CertError) → text ≡ codes "end\n" → IsEndFault number text e → ⊥
 no_end_fault number text e is (inl fault) =
-    let p = line_fault number text (codes "end") [] (λ line e. (e ≡ BadLine number) × (line ≢ codes "end")) e (record { is = is; first = no_line-end }) fault in p.1 refl
+    let p = line_fault (Truncated number) text (codes "end") [] (λ line e. (e ≡ BadLine number) × (line ≢ codes "end")) e (record { is = is; first = no_line-end }) fault in p.1 refl
 no_end_fault number text e is (inr fault) = fault.2 (ap (drop 4) (sym fault.3 ∙ is))
 
 -- the text of a certificate has no fault
@@ -299,7 +271,7 @@ tail_of w C = bound_text C.cost C.bound ++ (tree_text w C.tree ++ codes "end\n")
 fault_from_perm : (w : Version) (n : ℕ) (C : Claim) (text : List ℕ) (e : CertError) → n ≤ 256 → IsCertificate C → MayBound w C.cost C.bound → HasShape w n [] C.tree → length C.permutation ≡ n
     → text ≡ line_text (codes "perm") (from_one C.permutation) ++ tail_of w C → IsFaultFromPerm w n C.cost text e → ⊥
 fault_from_perm w n C text e small h may shape size is (inl fault) =
-    perm_line n C.permutation e h.permutation size (named_fault 4 text (codes "perm") (tail_of w C) (from_one C.permutation) (IsPermFault n) e no_line-perm (AllLimited-permutation C.permutation h.permutation) is fault)
+    perm_line n C.permutation e h.permutation size (named_fault (Truncated 4) text (codes "perm") (tail_of w C) (from_one C.permutation) (IsPermFault n) e no_line-perm (AllLimited-permutation C.permutation h.permutation) is fault)
 fault_from_perm w n C text e small h may shape size is (inr f) =
     let b = f.3 in
     let same = line_front (codes "perm") (from_one C.permutation) (from_one f.0) (tail_of w C) b.rest no_line-perm (AllLimited-permutation C.permutation h.permutation) (AllLimited-permutation f.0 f.1) (sym is ∙ b.is) in
@@ -308,7 +280,7 @@ fault_from_perm w n C text e small h may shape size is (inr f) =
 fault_from_cost : (w : Version) (n : ℕ) (C : Claim) (text : List ℕ) (e : CertError) → n ≤ 256 → IsCertificate C → MayBound w C.cost C.bound → HasShape w n [] C.tree → length C.permutation ≡ n
     → text ≡ line_text (codes "cost") (C.cost ∷ []) ++ (line_text (codes "perm") (from_one C.permutation) ++ tail_of w C) → IsFaultFromCost w n text e → ⊥
 fault_from_cost w n C text e small h may shape size is (inl fault) =
-    let line = named_fault 3 text (codes "cost") _ (C.cost ∷ []) IsCostFault e no_line-cost (AllLimited-one C.cost h.cost) is fault in
+    let line = named_fault (Truncated 3) text (codes "cost") _ (C.cost ∷ []) IsCostFault e no_line-cost (AllLimited-one C.cost h.cost) is fault in
     line.1 C.cost h.cost (IsNamed-numbers_text (codes "cost") (C.cost ∷ []) (AllLimited-one C.cost h.cost))
 fault_from_cost w n C text e small h may shape size is (inr f) =
     let b = f.2 in
@@ -330,7 +302,7 @@ fault_from_size : (w : Version) (C : Claim) (text : List ℕ) (e : CertError) �
     → text ≡ behind_version w C → IsFaultFromSize w text e → ⊥
 fault_from_size w C text e h may shape is (inl fault) =
     let n = length C.permutation in
-    let line = named_fault 2 text (codes "n") _ (pos n ∷ []) IsSizeFault e no_line-size (small_number n h.permutation.small) is fault in
+    let line = named_fault (Truncated 2) text (codes "n") _ (pos n ∷ []) IsSizeFault e no_line-size (small_number n h.permutation.small) is fault in
     line.1 n h.permutation.positive h.permutation.small (IsNamed-numbers_text (codes "n") (pos n ∷ []) (small_number n h.permutation.small))
 fault_from_size w C text e h may shape is (inr f) =
     let n = length C.permutation in
@@ -355,7 +327,7 @@ certificate_parts w C =
 pub no_text_fault : (text : List ℕ) (C : Claim) (e : CertError) → IsCertificateText text C → IsTextFault text e → ⊥
 no_text_fault text C e h (inl fault) =
     let w = h.version in
-    header_line w e (named_fault 1 text (codes "qapcert") (behind_version w C) (pos (version_number w) ∷ []) IsHeaderFault e no_line-version (version_limited w) (h.is ∙ certificate_parts w C) fault)
+    header_line w e (named_fault (Truncated 1) text (codes "qapcert") (behind_version w C) (pos (version_number w) ∷ []) IsHeaderFault e no_line-version (version_limited w) (h.is ∙ certificate_parts w C) fault)
 no_text_fault text C e h (inr f) =
     let w = h.version in
     let b = f.1 in

@@ -11,6 +11,7 @@ use Rattle.qap_cert.specs.Tree.{Node, split, bound, Nodes, no_nodes, node}
 use Rattle.qap_cert.specs.Version.{version_number, MayName, split_numbers}
 use Rattle.qap_cert.specs.declared.version.Version.{Version}
 use Rattle.qap_cert.specs.declared.version.Version.TheVariants.{First, Second}
+use Rattle.qap_lines.proofs.Fronts.{int_lt-yes, int_lt-no}
 use Rattle.qap_lines.proofs.NumberLists.{AllLimited-one}
 
 -- what a split's line says
@@ -49,20 +50,6 @@ mutual
   pub AllHaveShape-second : (ts : Nodes) (w : Version) (n : ℕ) (placed : List ℕ) → AllHaveShape w n placed ts → AllHaveShape Second n placed ts
   AllHaveShape-second no_nodes w n placed h = tt
   AllHaveShape-second (node t rest) w n placed h = (HasShape-second t w n placed h.0, AllHaveShape-second rest w n placed h.1)
-
-pub int_lt-yes : (g c : ℤ) → g <ℤ c → int_lt g c ≡ true
-int_lt-yes g c less = by (int_lt g c) refl
-  where
-    by : (t : Bool) → int_lt g c ≡ t → int_lt g c ≡ true
-    by true e = e
-    by false e = absurd (omega (arith, ints, less))
-
-pub int_lt-no : (g c : ℤ) → c ≤ℤ g → int_lt g c ≡ false
-int_lt-no g c most = by (int_lt g c) refl
-  where
-    by : (t : Bool) → int_lt g c ≡ t → int_lt g c ≡ false
-    by true e = absurd (omega (arith, ints, most))
-    by false e = e
 
 pub bound_text-below : (c g : ℤ) → g <ℤ c → bound_text c g ≡ line_text (codes "bound") (g ∷ [])
 bound_text-below c g less = cond-true (int_lt g c) (line_text (codes "bound") (g ∷ [])) [] (int_lt-yes g c less)

@@ -1,6 +1,7 @@
 -- A line of a name and numbers at the front of a text: the text tells which.
 use Rattle.std.proofs.Common.{◌≡◌, ◌≢◌, ℕ, List, [], ◌∷◌, ◌++◌, get_or, drop, length, ℤ, refl, sym, ap, subst, ◌∙◌, inl, inr, arith}
-use Rattle.std.specs.Prelude.{◌⊎◌}
+use Rattle.std.proofs.lemmas.Int.{ints}
+use Rattle.std.specs.Prelude.{◌⊎◌, ◌<ℤ◌, ◌≤ℤ◌, Bool, true, false, int_lt}
 use Rattle.qap_cost.specs.Range.{AllLimited}
 use Rattle.qap_lines.proofs.Lines.{IsLine-unique, no_line-line}
 use Rattle.qap_lines.proofs.NumberLists.{IsLine-line_text, IsNamed-unique, IsNamed-numbers_text}
@@ -84,3 +85,19 @@ named_front text name rest line more other zs ys h k none limited is first named
     let one = subst (λ l. IsNamed name l zs) u.0 (IsNamed-numbers_text name zs limited) in
     let same = one_name name other line zs ys h k one named in
     (same, IsNamed-unique name line zs ys one (subst (λ l. IsNamed l line ys) (sym same) named), u.1)
+
+-- whether a number that is told where it is smaller has a line
+
+pub int_lt-yes : (g c : ℤ) → g <ℤ c → int_lt g c ≡ true
+int_lt-yes g c less = by (int_lt g c) refl
+  where
+    by : (t : Bool) → int_lt g c ≡ t → int_lt g c ≡ true
+    by true e = e
+    by false e = absurd (omega (arith, ints, less))
+
+pub int_lt-no : (g c : ℤ) → c ≤ℤ g → int_lt g c ≡ false
+int_lt-no g c most = by (int_lt g c) refl
+  where
+    by : (t : Bool) → int_lt g c ≡ t → int_lt g c ≡ false
+    by true e = absurd (omega (arith, ints, most))
+    by false e = e

@@ -1,7 +1,8 @@
--- Numbers in range, one list behind another.
-use Rattle.std.proofs.Common.{◌≡◌, ◌+◌, ◌-◌, ◌^◌, ◌≤◌, ◌++◌, List, length, get_or, ℤ, pos, refl, sym, ◌∙◌, ap, subst, inl, inr, arith, length-append}
+-- One list of numbers behind another: both in range, and told apart by their lengths.
+use Rattle.std.proofs.Common.{◌≡◌, ℕ, ◌+◌, ◌-◌, ◌^◌, ◌≤◌, ◌++◌, List, length, take, drop, get_or, ℤ, pos, refl, sym, ◌∙◌, ap, subst, inl, inr, arith, length-append}
 use Rattle.std.proofs.lemmas.Bool.{cases_lt}
 use Rattle.std.proofs.lemmas.List.{get_or_append_left, get_or-append_right}
+use Rattle.std.proofs.Math.Seq.{take-append_seam, drop-append_seam}
 use Rattle.std.specs.Prelude.{unsigned_abs}
 use Rattle.qap_cost.specs.Range.{AllLimited}
 
@@ -25,3 +26,9 @@ AllLimited-back xs ys h = record {
       get_or-append_right xs ys (length xs) (length xs + j) (pos 0) refl (omega arith) ∙ ap (λ k. get_or ys k (pos 0)) (omega arith) in
       subst (λ (z : ℤ). unsigned_abs z ≤ 10 ^ 24) at (h.each (length xs + j) (omega (arith, length-append xs ys)));
 }
+
+pub same_halves : (u v w x : List ℤ) → length u ≡ length w → u ++ v ≡ w ++ x → (u ≡ w) × (v ≡ x)
+same_halves u v w x same e = (
+  sym (take-append_seam u v) ∙ ap (take (length u)) e ∙ ap (λ (k : ℕ). take k (w ++ x)) same ∙ take-append_seam w x,
+  sym (drop-append_seam u v) ∙ ap (drop (length u)) e ∙ ap (λ (k : ℕ). drop k (w ++ x)) same ∙ drop-append_seam w x,
+)

@@ -3,12 +3,12 @@ use Rattle.std.proofs.Common.{◌≡◌, ◌≢◌, ℕ, zero, suc, ◌+◌, ◌
 use Rattle.std.proofs.lemmas.Bool.{cond-true, cond-false, false≢true}
 use Rattle.std.proofs.lemmas.Int.{ints, by_lt_z}
 use Rattle.std.proofs.lemmas.List.{length-map}
-use Rattle.std.specs.Prelude.{codes, ◌⊎◌, ◌<ℤ◌, ◌≤ℤ◌, Bool, true, false, int_lt, Option, Some, None}
+use Rattle.std.specs.Prelude.{codes, ◌⊎◌, Bool, false, int_lt, Option, Some, None}
 use Rattle.qap_cost.specs.Bijection.{IsPerm}
 use Rattle.qap_cost.specs.Placement.{Placement, root_of}
 use Rattle.qap_cost.specs.Range.{AllLimited}
 use Rattle.qap_io.specs.Number.{from_one}
-use Rattle.qap_lines.proofs.Fronts.{no_line-nil, IsName, line_front, line_fault, named_fault, named_front}
+use Rattle.qap_lines.proofs.Fronts.{no_line-nil, IsName, line_front, line_fault, named_fault, named_front, int_lt-yes, int_lt-no}
 use Rattle.qap_lines.proofs.Limits.{AllLimited-append}
 use Rattle.qap_lines.proofs.Lines.{HasNoLine-cons}
 use Rattle.qap_lines.proofs.Locations.{AllLimited-permutation, from_one-injective}
@@ -146,20 +146,6 @@ fault_from_tree x number t text e small h is (inr f) =
     no_end_fault (line_after number (node_count f.0)) b.rest e (sym p.1) b.holds
 
 -- the bound
-
-pub int_lt-yes : (g c : ℤ) → g <ℤ c → int_lt g c ≡ true
-int_lt-yes g c less = by (int_lt g c) refl
-  where
-    by : (t : Bool) → int_lt g c ≡ t → int_lt g c ≡ true
-    by true e = e
-    by false e = absurd (omega (arith, ints, less))
-
-pub int_lt-no : (g c : ℤ) → c ≤ℤ g → int_lt g c ≡ false
-int_lt-no g c most = by (int_lt g c) refl
-  where
-    by : (t : Bool) → int_lt g c ≡ t → int_lt g c ≡ false
-    by true e = absurd (omega (arith, ints, most))
-    by false e = e
 
 -- a bound for a cost is below it, and has a line, or is the cost
 data Standing (c g : ℤ) : Type 0 where

@@ -1,13 +1,12 @@
 -- What the line of a node says, and that a text tells which nodes its lines are.
-use Rattle.std.proofs.Common.{◌≡◌, ℕ, ◌+◌, ◌-◌, ◌<◌, ◌≤◌, ◌++◌, List, [], ◌∷◌, length, take, drop, get_or, ℤ, pos, unsigned_abs, refl, sym, ◌∙◌, ap, ap₂, subst, arith, append_assoc, length-append}
+use Rattle.std.proofs.Common.{◌≡◌, ℕ, ◌+◌, ◌-◌, ◌<◌, ◌≤◌, ◌++◌, List, [], ◌∷◌, length, drop, get_or, ℤ, pos, unsigned_abs, refl, sym, ◌∙◌, ap, ap₂, subst, arith, append_assoc, length-append}
 use Rattle.std.proofs.lemmas.List.{length-map}
-use Rattle.std.proofs.Math.Seq.{take-append_seam, drop-append_seam}
 use Rattle.std.specs.Prelude.{codes, Bool, Option, Some, None}
 use Rattle.qap_cost.specs.Placement.{Placement}
 use Rattle.qap_cost.specs.Range.{AllLimited}
 use Rattle.qap_io.specs.Number.{from_one}
 use Rattle.qap_lines.proofs.Fronts.{no_line-nil, IsName, one_name, two_fronts}
-use Rattle.qap_lines.proofs.Limits.{AllLimited-append}
+use Rattle.qap_lines.proofs.Limits.{AllLimited-append, same_halves}
 use Rattle.qap_lines.proofs.Lines.{HasNoLine-cons}
 use Rattle.qap_lines.proofs.Locations.{AllLimited-permutation, from_one-injective}
 use Rattle.qap_lines.proofs.NumberLists.{IsNamed-unique, IsNamed-numbers_text}
@@ -161,12 +160,6 @@ Says-said (mirrored j m) x earlier duals small few h =
     (length-map m (λ k. pos (k + 1)) ∙ h.1.count, IsNamed-numbers_text (codes "m") (pos (j + 1) ∷ from_one m) (AllLimited-said (mirrored j m) x earlier duals small few h))
 
 -- a tree at the front of a text
-
-same_halves : (u v w x : List ℤ) → length u ≡ length w → u ++ v ≡ w ++ x → (u ≡ w) × (v ≡ x)
-same_halves u v w x same e = (
-  sym (take-append_seam u v) ∙ ap (take (length u)) e ∙ ap (λ (k : ℕ). take k (w ++ x)) same ∙ take-append_seam w x,
-  sym (drop-append_seam u v) ∙ ap (drop (length u)) e ∙ ap (λ (k : ℕ). drop k (w ++ x)) same ∙ drop-append_seam w x,
-)
 
 same_pairs : (d c : Pair) → length d.u ≡ length c.u → d.u ++ d.v ≡ c.u ++ c.v → d ≡ c
 same_pairs d c same e = let halves = same_halves d.u d.v c.u c.v same e in ap₂ pair halves.0 halves.1
