@@ -255,8 +255,14 @@ cost_in_parts I x p node done =
     ∙ sum_to-quarters f d m
     ∙ ap₂ ◌+ℤ◌ fixed (sum_to-same (λ r. sum_to (λ t. f (d + r) t +ℤ f t (d + r)) d +ℤ sum_to (λ l. f (d + r) (d + l)) m) (part I x p) m row)
 
-pub fixed_and_duals-le : (I : Problem) (x : Placement) (M : Square) (u v : List ℤ) (p : List ℕ) → IsPlacement x → I.size ≡ x.size → IsReduced I x M → DualsFit M u v → Completes x p → (fixed_cost_of I x +ℤ dual_value u v) ≤ℤ cost_of I p
-fixed_and_duals-le I x M u v p placement same reduced fit done =
+-- where the free facilities stand, and that the node's cost and what the reduced matrix says there are no more than the cost
+pub record IsSeated (I : Problem) (x : Placement) (M : Square) (p : List ℕ) : Type 0 where
+  pub seat : List ℕ
+  pub seating : IsSeating x p seat
+  pub below : (fixed_cost_of I x +ℤ assignment_cost M seat) ≤ℤ cost_of I p
+
+pub IsSeated-from_completes : (I : Problem) (x : Placement) (M : Square) (p : List ℕ) → IsPlacement x → I.size ≡ x.size → IsReduced I x M → Completes x p → IsSeated I x M p
+IsSeated-from_completes I x M p placement same reduced done =
     let node : Halves I.size x = Halves-from_placement I.size x placement same in
     let found = IsSeating-from_completes I.size x p node done in
     let seat = found.0 in
@@ -267,6 +273,14 @@ fixed_and_duals-le I x M u v p placement same reduced fit done =
     entry-le I x p seat r (entry_of M r (get_or seat r 0)) s (omega (arith, size))
     (reduced.entries r (get_or seat r 0) h (omega (arith, size, s.bijection.within r (omega (arith, size)))))) in
     let rows = ap (sum_to (part I x p)) reduced.size in
-    let dual = dual_value-le M u v seat fit (record { bijection = s.bijection; same_size = sym size }) in
     let cost = cost_in_parts I x p node done in
-    omega (arith, ints, below, rows, dual, cost)
+    record { seat = seat; seating = s; below = omega (arith, ints, below, rows, cost) }
+
+pub fixed_and_duals-le : (I : Problem) (x : Placement) (M : Square) (u v : List ℤ) (p : List ℕ) → IsPlacement x → I.size ≡ x.size → IsReduced I x M → DualsFit M u v → Completes x p → (fixed_cost_of I x +ℤ dual_value u v) ≤ℤ cost_of I p
+fixed_and_duals-le I x M u v p placement same reduced fit done =
+    let seated = IsSeated-from_completes I x M p placement same reduced done in
+    let s = seated.seating in
+    let size : M.size ≡ length seated.seat = reduced.size ∙ sym s.rows in
+    let dual = dual_value-le M u v seated.seat fit (record { bijection = s.bijection; same_size = sym size }) in
+    let below = seated.below in
+    omega (arith, ints, below, dual)

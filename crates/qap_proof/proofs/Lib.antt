@@ -1,7 +1,6 @@
 pub mod Bounds
 pub mod Checks
 pub mod ChildValues
-pub mod Completions
 pub mod CoverLaws
 pub mod Covers
 pub mod Faults

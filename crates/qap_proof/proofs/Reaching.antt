@@ -12,7 +12,7 @@ use Rattle.qap_cost.specs.Placement.{Placement, IsPlacement, Completes, ListsFre
 use Rattle.qap_cost.proofs.Bijections.{sum_to-in_order}
 use Rattle.qap_cost.proofs.Placements.{ListsFree-free_below}
 use Rattle.qap_cost.proofs.Sums.{sum_to-add, sum_to-monotone, only_at, sum_to-only_at}
-use Rattle.qap_proof.proofs.Completions.{IsSeated-from_completes}
+use Rattle.gilmore_lawler.proofs.Completions.{IsSeated-from_completes}
 use Rattle.qap_proof.specs.Tree.{Pair}
 use Rattle.qap_proof.specs.Valid.{Reaches}
 
