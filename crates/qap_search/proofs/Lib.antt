@@ -27,6 +27,7 @@ pub mod PlainTrees
 pub mod ProofFaults
 pub mod ProvedTrees
 pub mod Pruned
+pub mod Remaining
 pub mod Reorderings
 pub mod Replacing
 pub mod Scatter

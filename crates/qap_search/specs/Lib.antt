@@ -24,6 +24,7 @@ pub mod Pieces
 pub mod ProvedAnswer
 pub mod Putting
 pub mod Ran
+pub mod Remaining
 pub mod Replacement
 pub mod Search
 pub mod SearchLaw

@@ -9,6 +9,7 @@ pub(crate) mod opening;
 pub(crate) mod outcome;
 pub(crate) mod plan;
 pub(crate) mod proved;
+pub(crate) mod remaining;
 pub(crate) mod run;
 pub(crate) mod schedule;
 pub(crate) mod schedule_place;

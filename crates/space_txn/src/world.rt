@@ -20,7 +20,7 @@ use crate::txn::{Found, Spent, Txn};
 use std::alloc::{AllocError, Global};
 use std::marker::Model;
 use tuple_match::{Template, Tuple};
-use tuple_space::{Claim, EntryId, Lease, MOST, Space, SpaceError, Writes, granted_end};
+use tuple_space::{Claim, Entry, EntryId, Lease, MOST, Space, SpaceError, Writes, granted_end};
 
 /// A space of tuples with transactions.
 #[derive(Debug, Drop)]
@@ -322,6 +322,13 @@ impl TxnSpace {
             marks,
             writes: None,
         })
+    }
+
+    /// The entries, in order of number.
+    pub fn entries(&self) -> &[Entry]
+        ensures { result.now ≡ self.now.space.entries }
+    {
+        self.space.entries()
     }
 
     /// Takes the permanent tuples out, in the order in which they were put out, held ones included. Refused memory, the

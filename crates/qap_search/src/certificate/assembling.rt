@@ -1,6 +1,6 @@
 //! Puts the tuples of a finished search together: into a tree and a permutation, and into a certificate.
 
-ghost use Rattle.std.specs.Prelude.{◌≡◌, ◌≢◌, ◌⊎◌, ◌<◌, ◌≤◌, ℕ, IfOk, IsTrue, MatchOption, MatchResult, SomeIndex, List, length, map, pos, slice_index_or};
+ghost use Rattle.std.specs.Prelude.{◌≡◌, ◌≢◌, ◌⊎◌, ◌<◌, ◌≤◌, [], ℕ, IfOk, IsTrue, MatchOption, MatchResult, SomeIndex, List, length, map, pos, slice_index_or};
 ghost use Rattle.qap_cost.specs.Bijection.{IsPerm};
 ghost use Rattle.qap_cert.specs.Certificate.{Claim};
 ghost use Rattle.qap_proof.specs.Memory.{node_of};
@@ -12,6 +12,7 @@ ghost use Rattle.qap_search.specs.Piece.{is_open, open_count};
 ghost use Rattle.qap_search.specs.Pieces.{decided_tuples, pieces_tuples};
 ghost use Rattle.qap_search.specs.Told.{IsMadeOf, IsTellingFault, Tell};
 ghost use Rattle.qap_search.specs.declared.certificate.error.AssembleError.TheVariants.{NotATree, OutOfMemory};
+ghost use Rattle.tuple_match.specs.Numbers.{numbers_in};
 
 use crate::certificate::error::AssembleError;
 use crate::certificate::ordering::put_in_order;
@@ -23,7 +24,7 @@ use qap_cert::Certificate;
 use qap_cost::{Partial, Perm};
 use qap_proof::Tree;
 use std::alloc::{AllocError, Global};
-use tuple_match::Tuple;
+use tuple_match::{Numbers, Tuple};
 
 /// The certificate of size `n` whose tuples these are, in any order: one of the best permutation and one for each node of its
 /// tree. Its bound is its cost.
@@ -74,7 +75,7 @@ pub(crate) fn open_nodes(tuples: &[Tuple]) -> u64
 }
 
 /// Whether the tuple is of an open node.
-fn is_open(tuple: &Tuple) -> bool
+pub(crate) fn is_open(tuple: &Tuple) -> bool
     ensures { result ≡ is_open tuple.now }
 {
     match tuple.fields() {
@@ -171,7 +172,21 @@ pub(crate) fn permutation_of(alloc: Global, locations: &[i128]) -> Result<Option
         ((p : List ℕ) → IsPerm p → map pos p ≢ locations.now)
         (λ p. IsPerm p × (map pos p ≡ locations.now))) }
 {
-    let Some(locations) = small_numbers(alloc, locations)? else {
+    let room = Vec::with_capacity(alloc, locations.len())?;
+    permutation_in(&Numbers::Wide(locations), room)
+}
+
+/// The same of the numbers of a list, in an empty list that is there: where that has room for them, no memory is taken.
+pub(crate) fn permutation_in(
+    locations: &Numbers<'_>,
+    room: Vec<u16>,
+) -> Result<Option<Perm>, AllocError>
+    requires { room.items ≡ [] }
+    ensures { IfOk result (λ found. MatchOption found
+        ((p : List ℕ) → IsPerm p → map pos p ≢ numbers_in locations.now)
+        (λ p. IsPerm p × (map pos p ≡ numbers_in locations.now))) }
+{
+    let Some(locations) = small_numbers(locations, room)? else {
         return Ok(None);
     };
     match Perm::new(locations) {
@@ -181,14 +196,15 @@ pub(crate) fn permutation_of(alloc: Global, locations: &[i128]) -> Result<Option
 }
 
 /// The same numbers in 16 bits; `None` where one of them doesn't fit.
-fn small_numbers(alloc: Global, numbers: &[i128]) -> Result<Option<Vec<u16>>, AllocError>
+fn small_numbers(numbers: &Numbers<'_>, room: Vec<u16>) -> Result<Option<Vec<u16>>, AllocError>
+    requires { room.items ≡ [] }
     ensures { IfOk result (λ found. MatchOption found
-        (SomeIndex numbers.now (λ i. (k : ℕ) → k < 65536 → slice_index_or numbers.now i (pos 0) ≢ pos k))
-        (λ v. map pos v.items ≡ numbers.now)) }
+        (SomeIndex (numbers_in numbers.now) (λ i. (k : ℕ) → k < 65536 → slice_index_or (numbers_in numbers.now) i (pos 0) ≢ pos k))
+        (λ v. map pos v.items ≡ numbers_in numbers.now)) }
 {
-    let mut small = Vec::with_capacity(alloc, numbers.len())?;
-    for number in numbers {
-        let Ok(number) = u16::try_from(*number) else {
+    let mut small = room;
+    for place in 0..numbers.len() {
+        let Ok(number) = u16::try_from(numbers.at(place)) else {
             return Ok(None);
         };
         small.push(number)?;

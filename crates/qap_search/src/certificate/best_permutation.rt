@@ -7,7 +7,7 @@ ghost use Rattle.qap_search.specs.Search.{Search};
 ghost use Rattle.tuple_match.specs.FieldValue.{FieldValue};
 ghost use Rattle.tuple_match.specs.Numbers.{numbers_in};
 
-use crate::certificate::assembling::permutation_of;
+use crate::certificate::assembling::permutation_in;
 use crate::worker::best_steps::best_fields;
 use qap_cost::Perm;
 use std::alloc::{AllocError, Global};
@@ -22,8 +22,8 @@ pub(crate) fn best_of(alloc: Global, tuples: &[Tuple]) -> Result<(Perm, i128), A
     let Some((cost, locations)) = first_best(tuples) else {
         unreachable!()
     };
-    let locations = locations.to_vec(alloc)?;
-    let Some(permutation) = permutation_of(alloc, &locations)? else {
+    let room = Vec::with_capacity(alloc, locations.len())?;
+    let Some(permutation) = permutation_in(&locations, room)? else {
         unreachable!()
     };
     Ok((permutation, cost))

@@ -1,6 +1,6 @@
 //! The bound of a search whose nodes may be open.
 
-ghost use Rattle.std.specs.Prelude.{◌≡◌, ◌∷◌, [], All, Bool, IfOk, Option, ℕ, length};
+ghost use Rattle.std.specs.Prelude.{◌≡◌, ◌∷◌, [], Bool, IfOk, Option, ℕ, length};
 ghost use Rattle.qap_cost.specs.Placement.{IsPlacement, Placement};
 ghost use Rattle.qap_search.specs.BoundedAnswer.{IsBoundedFrom};
 ghost use Rattle.qap_search.specs.Outcome.{IsEnded};
@@ -9,11 +9,10 @@ ghost use Rattle.qap_search.specs.Ran.{Tells};
 ghost use Rattle.qap_search.specs.Replacement.{Best};
 ghost use Rattle.qap_search.specs.Search.{search_of};
 
-use crate::certificate::assembling::open_nodes;
-use crate::certificate::best_permutation::best_of;
 use crate::certificate::open_nodes::Closing;
 use crate::node::node_list::read_into;
 use crate::runs::answer::Bounded;
+use crate::runs::remaining::{best_among, open_among, open_bound};
 use crate::runs::run::Run;
 use crate::worker::thinking::node_numbers;
 use gilmore_lawler::{RankedInstance, dual_sum};
@@ -21,53 +20,58 @@ use qap_cost::Instance;
 use std::alloc::{AllocError, Global};
 use tuple_match::Tuple;
 
-/// The best permutation that a run leaves, and the bound by its open nodes.
-pub(crate) fn bounded_of(
-    alloc: Global,
-    instance: &Instance,
-    run: Run,
-) -> Result<Bounded, AllocError>
-    requires { (cutting : Bool) × (x : Placement) × (known : Best) × (limit : Option ℕ) × IsEnded (search_of cutting instance.now x known) limit run }
+/// Memory in which the end of a search is told, taken before it begins.
+#[derive(Drop)]
+pub(crate) struct Ending {
+    ranked: RankedInstance,
+    closing: Closing,
+    locations: Vec<u16>,
+}
+
+impl Ending {
+    /// With all the memory that the bound and the best permutation of a search of this instance want.
+    pub(crate) fn with_room(alloc: Global, instance: &Instance) -> Result<Ending, AllocError>
+        ensures instance { IfOk result (λ ending. ending.ranked ≡ instance.now) }
+        ensures empty { IfOk result (λ ending. ending.locations.items ≡ []) }
+    {
+        Ok(Ending {
+            ranked: RankedInstance::new(alloc, instance)?,
+            closing: Closing::with_room(alloc, instance.size())?,
+            locations: Vec::with_capacity(alloc, instance.size())?,
+        })
+    }
+}
+
+/// The best permutation that a run leaves, and the bound by its open nodes, read where they stand: in the memory that was taken
+/// before the search.
+pub(crate) fn bounded_of(ending: Ending, run: Run) -> Result<Bounded, AllocError>
+    requires ended { (cutting : Bool) × (x : Placement) × (known : Best) × (limit : Option ℕ) × IsEnded (search_of cutting ending.ranked x known) limit run }
+    requires empty { ending.locations.items ≡ [] }
     ensures bounded { IfOk result (λ a. (cutting : Bool) (x : Placement) (known : Best) (limit : Option ℕ) →
-        IsEnded (search_of cutting instance.now x known) limit run → IsBoundedFrom (search_of cutting instance.now x known) (length run.reports.items) limit a) }
+        IsEnded (search_of cutting ending.ranked x known) limit run → IsBoundedFrom (search_of cutting ending.ranked x known) (length run.reports.items) limit a) }
     ensures tells { IfOk result (λ a. Tells run a.open_nodes a.reports.items) }
 {
+    let Ending {
+        ranked,
+        mut closing,
+        locations,
+    } = ending;
     let Run { space, reports } = run;
-    let Ok(tuples) = space.into_tuples() else {
-        return Err(AllocError);
-    };
-    let (permutation, cost) = best_of(alloc, &tuples)?;
-    let ranked = RankedInstance::new(alloc, instance)?;
-    let mut closing = Closing::with_room(alloc, instance.size())?;
-    let bound = open_bound(&ranked, &mut closing, &tuples, cost)?;
+    let entries = space.entries();
+    let (permutation, cost) = best_among(entries, locations)?;
+    let bound = open_bound(&ranked, &mut closing, entries, cost)?;
+    let open_nodes = open_among(entries);
     Ok(Bounded {
         permutation,
         cost,
         bound,
-        open_nodes: open_nodes(&tuples),
+        open_nodes,
         reports,
     })
 }
 
-/// The least of this cost and of the values of the open nodes among the tuples.
-pub(crate) fn open_bound(
-    instance: &RankedInstance,
-    closing: &mut Closing,
-    tuples: &[Tuple],
-    cost: i128,
-) -> Result<i128, AllocError>
-    requires { All (IsSoundTuple instance.now.size) tuples.now }
-    ensures { IfOk result (IsOpenBound instance.now tuples.now cost) }
-{
-    let mut bound = cost;
-    for tuple in tuples {
-        bound = bound_with(instance, closing, tuple, bound)?;
-    }
-    Ok(bound)
-}
-
 /// The lesser of the bound and of the value of the tuple's node, where that is open.
-fn bound_with(
+pub(crate) fn bound_with(
     instance: &RankedInstance,
     closing: &mut Closing,
     tuple: &Tuple,

@@ -25,7 +25,7 @@ use crate::certificate::ordering::turned_round;
 use crate::node::branching::Branching;
 use crate::runs::alone::shared_rows;
 use crate::runs::answer::{Answer, Bounded, Least, Proved, SolveError};
-use crate::runs::bound::bounded_of;
+use crate::runs::bound::{Ending, bounded_of};
 use crate::runs::clock::Clock;
 use crate::runs::observer::{Nobody, Observer, Survey};
 use crate::runs::opening::{identity, opening_from};
@@ -186,7 +186,7 @@ where
 /// though nodes are open; no worker begins on another node then, and none waits for a lease to end. For whatever reason nodes are
 /// left, by the stop or the gate, at the limit or for want of memory, the least assignments of their reduced matrices bound the answer;
 /// where none is left, the bound is the cost. The observer is shown meanwhile how far the search has come. No certificate is put
-/// together. The only error is want of memory.
+/// together, and what the end wants of memory is taken before the search. The only error is want of memory.
 pub fn solve_least_from<R, C, G, S, O>(
     rt: &R,
     alloc: Global,
@@ -217,8 +217,9 @@ where
         stop,
         observer,
     };
+    let ending = Ending::with_room(alloc, instance)?;
     let run = run_of(rt, alloc, instance, plan, &keeper, gate)?;
-    bounded_of(alloc, instance, run)
+    bounded_of(ending, run)
 }
 
 /// The proof that a search below the plan's root comes to: that no permutation which completes the root costs less than the proof's bound.

@@ -1,12 +1,13 @@
+use Rattle.tuple_match.specs.Numbers.{numbers_in}
 use Rattle.qap_search.proofs.Finishing.{no_other-permutation, no_small-no_permutation}
-use Rattle.qap_search.proofs.certificate.assembling.permutation_of.Goals as goal
+use Rattle.qap_search.proofs.certificate.assembling.permutation_in.Goals as goal
 
 pub returns-in_default : goal.returns-in_default
 returns-in_default c =
     let none = rw c.in_default.is at c.in_ok-locations.ensures in
-    no_small-no_permutation c.args.locations.now none
+    no_small-no_permutation (numbers_in c.args.locations.now) none
 
 pub returns : goal.returns
 returns c =
     let is = rw c.in-Some.is at c.in_ok-locations.ensures in
-    no_other-permutation c.args.locations.now c.in-Some.locations.items is c.in-Err.ensures.2
+    no_other-permutation (numbers_in c.args.locations.now) c.in-Some.locations.items is c.in-Err.ensures.2

@@ -1,5 +1,6 @@
 use Rattle.std.specs.Prelude.{◌≡◌, map, pos, take}
+use Rattle.tuple_match.specs.Numbers.{numbers_in}
 use Rattle.qap_search.proofs.certificate.assembling.small_numbers.Given as goal
 
-abbrev pub invariant-loop-number : goal.invariant-loop-number
-invariant-loop-number l = map pos l.small.items ≡ take l.number-index l.numbers
+abbrev pub invariant-loop-place : goal.invariant-loop-place
+invariant-loop-place l = map pos l.small.items ≡ take l.place (numbers_in l.numbers)

@@ -1,6 +1,7 @@
 use Rattle.std.proofs.Common.{◌≡◌, ◌∙◌, List, sym, subst, rules, to_z, of_z, map, pos}
 use Rattle.std.specs.Int.{w128}
 use Rattle.std.specs.Prelude.{Contains, ℤ}
+use Rattle.tuple_match.specs.Numbers.{numbers_in}
 use Rattle.qap_search.specs.DecidedTuples.{best_of}
 use Rattle.qap_search.proofs.Outcomes.{best_contained, best_permutes, best_stands}
 use Rattle.qap_search.proofs.certificate.best_permutation.best_of.Goals as goal
@@ -14,10 +15,7 @@ unreachable-requires c =
 pub unreachable-requires-in_default-2 : goal.unreachable-requires-in_default-2
 unreachable-requires-in_default-2 c =
     let none = rw c.in_default-2.is at c.in_ok-permutation.ensures in
-    let tuples = c.args.tuples.now in
-    let ps = c.deref.result.now in
-    let at : Contains tuples (best_of c.in-Some.cost ps) = subst (λ (xs : List ℤ). Contains tuples (best_of c.in-Some.cost xs)) (sym (c.deref.ensures.value ∙ c.in_ok-locations.ensures)) c.in-Some.ensures in
-    let p = best_permutes c.requires.0 tuples c.requires.1 c.in-Some.cost ps c.requires.2 at in
+    let p = best_permutes c.requires.0 c.args.tuples.now c.requires.1 c.in-Some.cost (numbers_in c.in-Some.locations) c.requires.2 c.in-Some.ensures in
     none p.0 p.1 p.2
 
 pub returns : goal.returns
@@ -26,7 +24,7 @@ returns c = λ S commits tree.
     let cost = c.in-Some.cost in
     let p = c.in-Some-2.permutation in
     let some = rw c.in-Some-2.is at c.in_ok-permutation.ensures in
-    let at : Contains tuples (best_of cost (map pos p)) = subst (λ (ps : List ℤ). Contains tuples (best_of cost ps)) (sym (some.1 ∙ c.deref.ensures.value ∙ c.in_ok-locations.ensures)) c.in-Some.ensures in
+    let at : Contains tuples (best_of cost (map pos p)) = subst (λ (ps : List ℤ). Contains tuples (best_of cost ps)) (sym some.1) c.in-Some.ensures in
     let best = best_stands S tuples commits cost p tree at in
     let same : to_z w128 (of_z w128 cost) ≡ cost = search rules in
     (best.0, best.1 ∙ sym same)
