@@ -8,3 +8,4 @@ pub mod Placement
 pub mod Range
 pub mod Row
 pub mod Sum
+pub mod Symmetry

@@ -4,7 +4,7 @@ use Rattle.std.proofs.lemmas.Bool.{cond_both}
 use Rattle.std.proofs.lemmas.Int.{ints}
 use Rattle.std.proofs.lemmas.List.Sums.{sum_by-append, sum_by-cons}
 use Rattle.std.specs.List.{sum_by}
-use Rattle.std.specs.Prelude.{IfOk, MatchOption, Result, Option, Ok, Err, Some, None, ◌<ℤ◌, int_lt}
+use Rattle.std.specs.Prelude.{IfOk, IfSome, MatchOption, Result, Option, Ok, Err, Some, None, ◌<ℤ◌, int_lt}
 use Rattle.qap_cost.specs.Instance.{Problem}
 use Rattle.qap_cost.specs.Matrix.{dual_value}
 use Rattle.qap_cost.specs.Placement.{Placement, IsPlacement, fixed_cost_of}
@@ -16,12 +16,13 @@ use Rattle.qap_proof.specs.declared.side.Side.{Side}
 use Rattle.qap_proof.specs.declared.side.Side.TheVariants.{Facility}
 use Rattle.space_txn.specs.Content.{SameItems}
 use Rattle.tuple_match.specs.FieldValue.{FieldValue}
-use Rattle.qap_search.specs.Decision.{Decides, DecidesBeside, DecidesBetter, DecidesBy, children_by, pruned_split, split_by, split_with}
+use Rattle.qap_search.specs.Decision.{Decides, DecidesBeside, DecidesBetter, DecidesBy, children_by, pruned_split, split_by, split_with, uncut}
 use Rattle.qap_search.specs.Piece.{best_tuple, closed_tuple, node_tuple, pieces}
 use Rattle.qap_search.specs.Replacement.{Best, IsAsGood, IsOneNode, MayReplace, tuple_of}
-use Rattle.qap_search.specs.SearchTree.{SearchTree, open_node, cut_node, closed_node, tree_count, tree, Judge, IsTree, AreTrees, AreUndecided, judge_of, plain, proving, open_row}
-use Rattle.qap_search.specs.Thought.{BranchValue, IsBranch, IsThought, ThoughtValue, branch_in, branch_value, candidate_of, thought_on}
+use Rattle.qap_search.specs.SearchTree.{SearchTree, cut_node, closed_node, SearchTrees, tree_count, tree, Judge, IsTree, AreTrees, AreUndecided, judge_of, plain, proving, open_row}
+use Rattle.qap_search.specs.Thought.{AreImages, BranchValue, IsBranch, IsImage, IsThought, ThoughtValue, branch_in, branch_value, candidate_of, image_at, thought_on}
 use Rattle.qap_search.specs.declared.node.branching.Branch.{Branch}
+use Rattle.qap_search.specs.declared.node.images.Image.{Image}
 use Rattle.qap_search.specs.declared.node.thought.Thought.{Thought}
 use Rattle.qap_search.proofs.Certificates.{free_depth}
 
@@ -37,24 +38,35 @@ open_row-trees : (J : Judge) (x : Placement) (s : Split) (c n : ℕ) → AreTree
 open_row-trees J x s c zero = tt
 open_row-trees J x s c (suc n) = (tt, open_row-trees J x s (c + 1) n)
 
-children_by-undecided : (c : ℤ) (zs : List ℤ) → AreUndecided (children_by c zs)
-children_by-undecided c [] = tt
-children_by-undecided c (z ∷ zs) =
-    cond_both (int_lt z c) open_node cut_node (λ (t : SearchTree). AreUndecided (tree t (children_by c zs))) (λ e. children_by-undecided c zs) (λ e. children_by-undecided c zs)
+uncut-undecided : (m : Option Image) (rest : SearchTrees) → AreUndecided rest → AreUndecided (tree (uncut m) rest)
+uncut-undecided None rest h = h
+uncut-undecided (Some m) rest h = h
 
-children_by-count : (c : ℤ) (zs : List ℤ) → tree_count (children_by c zs) ≡ length zs
-children_by-count c [] = refl
-children_by-count c (z ∷ zs) = let rest = children_by-count c zs in omega arith
+children_by-undecided : (c : ℤ) (images : List (Option Image)) (i : ℕ) (zs : List ℤ) → AreUndecided (children_by c images i zs)
+children_by-undecided c images i [] = tt
+children_by-undecided c images i (z ∷ zs) =
+    let others = children_by c images (i + 1) zs in
+    let rest = children_by-undecided c images (i + 1) zs in
+    cond_both (int_lt z c) (uncut (image_at images i)) cut_node (λ (t : SearchTree). AreUndecided (tree t others)) (λ e. uncut-undecided (image_at images i) others rest) (λ e. rest)
 
--- the children of a split with duals, from number i on, by what the duals come to at each
-children_by-trees : (I : Problem) (c : ℤ) (x : Placement) (s : Split) (d : Pair) (i : ℕ) (zs : List ℤ) → s.duals ≡ Some d
-    → ((k : ℕ) → k < length zs → Reaches I x d (facility_on s.side x s.number (i + k)) (location_on s.side x s.number (i + k)) (get_or zs k (pos 0))) → AreTrees (proving I c) x s i (children_by c zs)
-children_by-trees I c x s d i [] has reach = tt
-children_by-trees I c x s d i (z ∷ zs) has reach =
+children_by-count : (c : ℤ) (images : List (Option Image)) (i : ℕ) (zs : List ℤ) → tree_count (children_by c images i zs) ≡ length zs
+children_by-count c images i [] = refl
+children_by-count c images i (z ∷ zs) = let rest = children_by-count c images (i + 1) zs in omega arith
+
+-- a child that isn't cut off shows what it is to: where it is told to be an image, it is one
+uncut-tree : (I : Problem) (c : ℤ) (x : Placement) (s : Split) (i : ℕ) (m : Option Image) → IfSome m (IsImage I x s.side i) → IsTree (proving I c) (child x s i) (uncut m)
+uncut-tree I c x s i None h = tt
+uncut-tree I c x s i (Some m) h = h
+
+-- the children of a split with duals, from number i on, by what the duals come to at each, and by which of them are images
+children_by-trees : (I : Problem) (c : ℤ) (x : Placement) (s : Split) (d : Pair) (images : List (Option Image)) (i : ℕ) (zs : List ℤ) → s.duals ≡ Some d → AreImages I x s.side images
+    → ((k : ℕ) → k < length zs → Reaches I x d (facility_on s.side x s.number (i + k)) (location_on s.side x s.number (i + k)) (get_or zs k (pos 0))) → AreTrees (proving I c) x s i (children_by c images i zs)
+children_by-trees I c x s d images i [] has are reach = tt
+children_by-trees I c x s d images i (z ∷ zs) has are reach =
     let here : i + 0 ≡ i = omega arith in (
-      cond_both (int_lt z c) open_node cut_node (λ (t : SearchTree). IsTree (proving I c) (child x s i) t) (λ e. tt)
+      cond_both (int_lt z c) (uncut (image_at images i)) cut_node (λ (t : SearchTree). IsTree (proving I c) (child x s i) t) (λ e. uncut-tree I c x s i (image_at images i) (are i))
           (λ e. record { duals = d; has = has; value = z; reaches = subst (λ (j : ℕ). Reaches I x d (facility_on s.side x s.number j) (location_on s.side x s.number j) z) here (reach zero (omega arith)); enough = omega (arith, ints) }),
-      children_by-trees I c x s d (i + 1) zs has (λ k less.
+      children_by-trees I c x s d images (i + 1) zs has are (λ k less.
           let moved : i + suc k ≡ i + 1 + k = omega arith in
           subst (λ (j : ℕ). Reaches I x d (facility_on s.side x s.number j) (location_on s.side x s.number j) (get_or zs k (pos 0))) moved (reach (suc k) (omega arith))),
     )
@@ -77,11 +89,11 @@ branch_split true I c x t b placed thought h =
     let reached = h.1.2 in
     let zs = h.1.0 in
     let less = free_depth b.side x b.number placed h.0 in
-    let count = children_by-count c zs in
+    let count = children_by-count c b.images 0 zs in
     let long = reached.one_each in
     subst (λ (r : Option (List ℤ)). IsSplitBy true I c x (split_with (thought_on x t) c b r)) (sym h.1.1)
     (record {
-      one = children_by-undecided c zs;
+      one = children_by-undecided c b.images 0 zs;
       valid = (
         less,
         h.0,
@@ -92,7 +104,7 @@ branch_split true I c x t b placed thought h =
           fits = record { matrix = thought.matrix; square = thought.square; reduced = thought.reduced; fits = thought.fits };
         }),
         omega arith,
-        children_by-trees I c x s d 0 zs refl (λ k less.
+        children_by-trees I c x s d b.images 0 zs refl h.1.3 (λ k less.
             let at : k ≡ 0 + k = omega arith in
             subst (λ (j : ℕ). Reaches I x d (facility_on b.side x b.number j) (location_on b.side x b.number j) (get_or zs k (pos 0))) at (reached.are k less)),
       );

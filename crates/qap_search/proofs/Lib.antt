@@ -15,6 +15,7 @@ pub mod Found
 pub mod Fronts
 pub mod Halves
 pub mod Identities
+pub mod Images
 pub mod Keys
 pub mod LeafBounds
 pub mod LeastDuals

@@ -1,5 +1,5 @@
 -- What one commit writes of a node: duals that close it under the cost of the best permutation, or its split into open nodes.
-use Rattle.std.specs.Prelude.{◌≡◌, ◌⊎◌, ℕ, Bool, List, [], ◌∷◌, ℤ, ◌<ℤ◌, ◌≤ℤ◌, int_lt, Option, Some, None, if◌then◌else◌}
+use Rattle.std.specs.Prelude.{◌≡◌, ◌⊎◌, ℕ, ◌+◌, Bool, List, [], ◌∷◌, ℤ, ◌<ℤ◌, ◌≤ℤ◌, int_lt, Option, Some, None, if◌then◌else◌}
 use Rattle.qap_cost.specs.Instance.{Problem}
 use Rattle.qap_cost.specs.Placement.{Placement}
 use Rattle.qap_proof.specs.Tree.{Split, pair, whole}
@@ -8,8 +8,9 @@ use Rattle.space_txn.specs.Content.{SameItems}
 use Rattle.tuple_match.specs.FieldValue.{FieldValue}
 use Rattle.qap_search.specs.Piece.{best_tuple, pieces}
 use Rattle.qap_search.specs.Replacement.{Best, IsOneNode}
-use Rattle.qap_search.specs.SearchTree.{SearchTree, open_node, split_node, closed_node, cut_node, SearchTrees, no_trees, tree, split_open, IsTree, judge_of}
-use Rattle.qap_search.specs.Thought.{BranchValue, IsThought, ThoughtValue}
+use Rattle.qap_search.specs.SearchTree.{SearchTree, open_node, split_node, closed_node, cut_node, mirrored_node, SearchTrees, no_trees, tree, split_open, IsTree, judge_of}
+use Rattle.qap_search.specs.Thought.{BranchValue, IsThought, ThoughtValue, image_at}
+use Rattle.qap_search.specs.declared.node.images.Image.{Image}
 use Rattle.qap_search.specs.declared.node.thought.Thought.{Thought}
 
 -- the tuples are those of one decided node at x, closed only where nothing below costs less than c
@@ -23,24 +24,29 @@ pub record Decides (cutting : Bool) (I : Problem) (c : ℤ) (x : Placement) (tup
 abbrev pub IsOn : Placement → Thought → Type 0
 IsOn x t = (cutting : Bool) × (I : Problem) × IsThought cutting I x t
 
--- a child of a split whose duals come to z there: open where that is less than c, and else cut off
-abbrev pub child_by : ℤ → ℤ → SearchTree
-child_by c z = if int_lt z c then open_node else cut_node
+-- a child of a split that isn't cut off: the image of an earlier one, if it is one, and else open
+abbrev pub uncut : Option Image → SearchTree
+uncut None = open_node
+uncut (Some m) = mirrored_node m.earlier m.by
 
--- the children, by what the duals come to at each
-abbrev pub children_by : ℤ → List ℤ → SearchTrees
-children_by c [] = no_trees
-children_by c (z ∷ zs) = tree (child_by c z) (children_by c zs)
+-- a child whose duals come to z there: where that is less than c it isn't cut off
+abbrev pub child_by : ℤ → ℤ → Option Image → SearchTree
+child_by c z m = if int_lt z c then uncut m else cut_node
+
+-- the children from number i on, by what the duals come to at each, and which of them are images
+abbrev pub children_by : ℤ → List (Option Image) → ℕ → List ℤ → SearchTrees
+children_by c images i [] = no_trees
+children_by c images i (z ∷ zs) = tree (child_by c z (image_at images i)) (children_by c images (i + 1) zs)
 
 -- a split with these duals
 abbrev pub pruned_split : Side → ℕ → List ℤ → List ℤ → Split
 pruned_split side number u v = record { side = side; number = number; duals = Some (pair u v) }
 
 -- a node split so where the best permutation costs c, by what the duals come to at each child, if that is told: with the thought's
--- duals, which may cut children off; and else with all children open
+-- duals, which may cut children off, and with images; and else with all children open
 abbrev pub split_with : ThoughtValue → ℤ → BranchValue → Option (List ℤ) → SearchTree
 split_with t c b None = split_open t.node b.number
-split_with t c b (Some zs) = split_node (pruned_split b.side b.number t.u t.v) (children_by c zs)
+split_with t c b (Some zs) = split_node (pruned_split b.side b.number t.u t.v) (children_by c b.images 0 zs)
 
 abbrev pub split_by : ThoughtValue → ℤ → BranchValue → SearchTree
 split_by t c b = split_with t c b b.reached

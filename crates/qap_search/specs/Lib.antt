@@ -11,6 +11,7 @@ pub mod Decision
 pub mod Finished
 pub mod Found
 pub mod Hand
+pub mod Images
 pub mod InOrder
 pub mod Interleaving
 pub mod LeafBounds

@@ -1,6 +1,6 @@
 -- What is worked out about a node: duals that fit its reduced matrix and whose sum an assignment reaches, the permutation that
 -- completes the node by that assignment, and what to split it on.
-use Rattle.std.specs.Prelude.{◌≡◌, ◌-◌, ◌<◌, ℕ, ℤ, pos, Bool, true, false, List, length, slice_index_or, ◌+ℤ◌, MatchOption, Option, Some, None}
+use Rattle.std.specs.Prelude.{◌≡◌, ◌-◌, ◌<◌, ℕ, ℤ, pos, Bool, true, false, List, length, slice_index_or, ◌+ℤ◌, MatchOption, Option, Some, None, IfSome}
 use Rattle.std.specs.Global.{Vec}
 use Rattle.qap_cost.specs.Instance.{Problem}
 use Rattle.qap_cost.specs.Matrix.{Square, Assigns, DualsFit, IsMatrix, assignment_cost, dual_value}
@@ -10,12 +10,13 @@ use Rattle.gilmore_lawler.specs.ReducedMatrix.{IsReduced}
 use Rattle.qap_cert.specs.Shape.{AreDuals}
 use Rattle.qap_proof.specs.Shape.{free_count}
 use Rattle.qap_proof.specs.Tree.{Pair, pair, IsFreeOn, facility_on, location_on}
-use Rattle.qap_proof.specs.Valid.{Reaches}
+use Rattle.qap_proof.specs.Valid.{Reaches, TakesOn}
 use Rattle.qap_proof.specs.declared.side.Side.{Side}
 use Rattle.qap_proof.specs.declared.side.Side.TheVariants.{Facility}
 use Rattle.qap_search.specs.Completion.{IsCompletion}
 use Rattle.qap_search.specs.Replacement.{Best}
 use Rattle.qap_search.specs.declared.node.branching.Branch.{Branch}
+use Rattle.qap_search.specs.declared.node.images.Image.{Image}
 use Rattle.qap_search.specs.declared.node.thought.Thought.{Thought}
 
 -- for each child of a split of x, what the duals come to there
@@ -25,17 +26,31 @@ pub record AreReached (I : Problem) (x : Placement) (d : Pair) (side : Side) (nu
       (c : ℕ) → c < length reached →
       Reaches I x d (facility_on side x number c) (location_on side x number c) (slice_index_or reached c (pos 0))
 
--- what a node is to be split on, and what its duals come to at each child, where children may be cut off by that
+-- by which earlier child and which permutation child number c is an image; none behind the end of the list
+abbrev pub image_at : List (Option Image) → ℕ → Option Image
+image_at images c = slice_index_or images c None
+
+-- child number c of a split of x on this side is the image of the earlier child that is told, by the permutation that is told
+abbrev pub IsImage : Problem → Placement → Side → ℕ → Image → Type 0
+IsImage I x side c m = (m.earlier < c) × TakesOn side I x m.earlier c m.by
+
+-- so is each child of which the list tells it
+abbrev pub AreImages : Problem → Placement → Side → List (Option Image) → Type 0
+AreImages I x side images = (c : ℕ) → IfSome (image_at images c) (IsImage I x side c)
+
+-- what a node is to be split on; where children may be cut off, what its duals come to at each; and which children are images of
+-- earlier ones
 pub record BranchValue : Type 0 where
   pub side : Side
   pub number : ℕ
   pub reached : Option (List ℤ)
+  pub images : List (Option Image)
 
 -- x is to be split on a facility, of whose children nothing is said; or, where children may be cut off, on a facility or a location,
--- and what the duals come to at each child is told
+-- and what the duals come to at each child is told, and of some children that they are images of earlier ones
 abbrev pub IsBranchBy : Bool → Problem → Placement → Pair → BranchValue → Type 0
 IsBranchBy false I x d b = (b.side ≡ Facility) × (b.reached ≡ None)
-IsBranchBy true I x d b = (zs : List ℤ) × (b.reached ≡ Some zs) × AreReached I x d b.side b.number zs
+IsBranchBy true I x d b = (zs : List ℤ) × (b.reached ≡ Some zs) × AreReached I x d b.side b.number zs × AreImages I x b.side b.images
 
 abbrev pub IsBranch : Bool → Problem → Placement → Pair → BranchValue → Type 0
 IsBranch cutting I x d b = IsFreeOn b.side x b.number × IsBranchBy cutting I x d b
@@ -45,7 +60,7 @@ reached_in None = None
 reached_in (Some zs) = Some zs.items
 
 abbrev pub branch_value : Branch → BranchValue
-branch_value b = record { side = b.side; number = b.number; reached = reached_in b.reached }
+branch_value b = record { side = b.side; number = b.number; reached = reached_in b.reached; images = b.images.items }
 
 abbrev pub branch_in : Option Branch → Option BranchValue
 branch_in None = None

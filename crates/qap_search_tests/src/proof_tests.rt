@@ -7,7 +7,7 @@ ghost use Rattle.qap_proof.specs.Claim.{IsRoot};
 use crate::bound_tests::{RULES, in_order, least_below, signed};
 use crate::worker_tests::{LEASE_MS, Stopped};
 use qap_cost::{Instance, Partial, Perm, cost};
-use qap_proof::check;
+use qap_proof::{Tree, check};
 use qap_search::{Always, Branching, Never, Nobody, Plan, prove_from};
 use std::alloc::{AllocError, Global};
 use std::process::Abort;
@@ -133,5 +133,86 @@ fn a_stopped_search_proves_a_bound(rt: HostRuntime) -> Result<(), Fail> {
         assert_bound(&rt, alloc, &instance, &root, 0, limit)?;
         assert_bound(&rt, alloc, &instance, &below, 2, limit)?;
     }
+    Ok(())
+}
+
+/// How far it is between four places in a square, as one walks along its sides.
+const SQUARE: [i64; 16] = [0, 1, 1, 2, 1, 0, 2, 1, 1, 2, 0, 1, 2, 1, 1, 0];
+
+/// Numbers of which no two rows are alike.
+const UNEVEN: [i64; 16] = [0, 5, -2, 3, 1, 0, 4, -1, 7, 2, 0, 6, -3, 8, 1, 0];
+
+/// An instance of size 4.
+fn four(alloc: Global, a: &[i64; 16], b: &[i64; 16]) -> Result<Instance, Fail>
+    ensures { IfOk result (λ I. I.size ≡ 4) }
+{
+    let a = Vec::from_slice(alloc, a)?;
+    let b = Vec::from_slice(alloc, b)?;
+    Ok(Instance::new(4, a, b)?)
+}
+
+#[test]
+fn searches_that_leave_images_out_prove_the_least_cost(rt: HostRuntime) -> Result<(), Fail> {
+    let alloc = rt.alloc();
+    let (root, below) = roots(alloc)?;
+    for (a, b) in [(&UNEVEN, &SQUARE), (&SQUARE, &UNEVEN), (&SQUARE, &SQUARE)] {
+        let instance = four(alloc, a, b)?;
+        assert_proved(&rt, alloc, &instance, &root, 0)?;
+        assert_proved(&rt, alloc, &instance, &below, 2)?;
+    }
+    Ok(())
+}
+
+/// How many children of the tree's root are neither cut nor images; `None` where the root isn't split.
+fn searched_children(tree: &Tree) -> Option<usize> {
+    let Tree::Split { split: _, children } = tree else {
+        return None;
+    };
+    let mut count = 0usize;
+    for child in children.iter() {
+        match child {
+            Tree::Closed { .. } | Tree::Split { .. } => count = count.wrapping_add(1),
+            Tree::Cut | Tree::Mirrored { .. } => {}
+        }
+    }
+    Some(count)
+}
+
+/// The number of such children in the proof of a search that may cut, by one worker.
+fn searched<R>(
+    rt: &R,
+    alloc: Global,
+    instance: &Instance,
+    root: &Partial,
+    start: &Perm,
+) -> Result<Option<usize>, Fail>
+where
+    R: Threads + Wait + time::Clock + Sync,
+    requires root { IsRoot instance.now.size root.now }
+    requires start { Permutes instance.now start.now }
+{
+    let plan = Plan {
+        workers: 1,
+        lease_ms: LEASE_MS,
+        limit: None,
+        root,
+        start,
+        branching: Branching::Cutting,
+    };
+    let answer = prove_from(
+        rt, alloc, instance, &plan, &Stopped, &Always, &Never, &Nobody,
+    )?;
+    check(alloc, instance, &answer.proof)?;
+    Ok(searched_children(answer.proof.tree()))
+}
+
+#[test]
+fn of_the_places_of_a_square_one_is_searched(rt: HostRuntime) -> Result<(), Fail> {
+    let alloc = rt.alloc();
+    let (root, _) = roots(alloc)?;
+    let instance = four(alloc, &UNEVEN, &SQUARE)?;
+    let start = in_order(alloc, &instance)?;
+    // Each place of a square is the image of each other one.
+    assert_eq!(rt; searched(&rt, alloc, &instance, &root, &start)?, Some(1));
     Ok(())
 }

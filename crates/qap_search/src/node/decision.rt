@@ -17,7 +17,8 @@ use tuple_match::Tuple;
 
 /// The tuples that take the place of the open node: where the thought's value is at least the best cost, that of the node
 /// closed by its duals; else those of its split, all of whose children are open
-/// but those that the thought's duals cut off under the best cost. `None` where nothing is free to split on.
+/// but those that the thought's duals cut off under the best cost, and of the others those that are images of earlier ones. `None`
+/// where nothing is free to split on.
 pub fn decide(
     alloc: Global,
     node: &Partial,
@@ -42,7 +43,7 @@ pub fn decide(
 }
 
 /// The tuples of the node, split on what the thought tells: where its duals may cut children off, those at which they come to the best
-/// cost are.
+/// cost are, and of the others those are images that it tells of.
 fn branch_tuples(
     alloc: Global,
     node: &Partial,
@@ -59,8 +60,8 @@ fn branch_tuples(
         None => split_tuples(alloc, node, branch.number),
         Some(reached) => {
             let (side, number) = (branch.side, branch.number);
-            let (u, v) = (&thought.u, &thought.v);
-            pruned_tuples(alloc, node, side, number, u, v, reached, best)
+            let (u, v, images) = (&thought.u, &thought.v, &branch.images);
+            pruned_tuples(alloc, node, side, number, u, v, reached, images, best)
         }
     }
 }

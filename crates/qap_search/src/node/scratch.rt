@@ -1,13 +1,15 @@
 //! Memory in which thoughts on nodes are worked out, kept from one to the next.
 
-ghost use Rattle.std.specs.Prelude.{◌≡◌, ◌*◌, ◌^◌, IfOk};
+ghost use Rattle.std.specs.Prelude.{◌≡◌, ◌*◌, ◌^◌, IfOk, IfSome};
 ghost use Rattle.qap_cost.specs.Range.{AllWithin};
 ghost use Rattle.gilmore_lawler.specs.ReducedMatrix.{IsReduced};
 ghost use Rattle.qap_search.specs.Hand.{cuts};
+ghost use Rattle.qap_search.specs.Images.{AreSymmetries};
 ghost use Rattle.qap_search.specs.Thought.{IsThought};
 
 use crate::node::branching::{Branching, Free, branch_of};
 use crate::node::completion::completed;
+use crate::node::images::InstanceSymmetries;
 use crate::node::thought::Thought;
 use assign_dual::{Assignment, Solver};
 use gilmore_lawler::dual_sum;
@@ -42,11 +44,13 @@ impl Scratch {
         })
     }
 
-    /// What is worked out about the node from its reduced matrix, where it is to be split by this rule and this best cost is known.
+    /// What is worked out about the node from its reduced matrix, where it is to be split by this rule, by which children are images by
+    /// these symmetries alone, and where this best cost is known.
     pub(crate) fn thought(
         &mut self,
         alloc: Global,
         branching: Branching,
+        symmetries: Option<&InstanceSymmetries>,
         instance: &Instance,
         node: &Partial,
         matrix: &Matrix,
@@ -55,6 +59,7 @@ impl Scratch {
         requires same_size { instance.now.size ≡ node.now.size }
         requires reduced { IsReduced instance.now node.now matrix.now }
         requires bounded { AllWithin (512 * 10 ^ 18) matrix.now.entries }
+        requires symmetries { IfSome symmetries (λ s. AreSymmetries instance.now s.now) }
         ensures { IfOk result (IsThought (cuts branching) instance.now node.now) }
     {
         let _size = matrix.size();
@@ -74,7 +79,7 @@ impl Scratch {
         let gap = best.map(|best| best.saturating_sub(value));
         let duals = Duals { u, v };
         let branch = branch_of(
-            alloc, branching, instance, node, &free, matrix, &matching, &duals, gap,
+            alloc, branching, symmetries, instance, node, &free, matrix, &matching, &duals, gap,
         )?;
         self.answer.matching = matching;
         let Duals { u, v } = duals;

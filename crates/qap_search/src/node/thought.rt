@@ -53,7 +53,7 @@ impl Thought {
         )
     }
 
-    /// The same, where the node is to be split by this rule, and this best cost is known.
+    /// The same, where the node is to be split by this rule, with no images among its children, and this best cost is known.
     pub fn by(
         alloc: Global,
         branching: Branching,
@@ -67,6 +67,6 @@ impl Thought {
         requires bounded { AllWithin (512 * 10 ^ 18) matrix.now.entries }
         ensures { IfOk result (IsThought (cuts branching) instance.now node.now) }
     {
-        Scratch::new(alloc)?.thought(alloc, branching, instance, node, matrix, best)
+        Scratch::new(alloc)?.thought(alloc, branching, None, instance, node, matrix, best)
     }
 }

@@ -1,6 +1,6 @@
 //! A search by many workers, each a thread of its own.
 
-ghost use Rattle.std.specs.Prelude.{◌≡◌, ◌<◌, ◌≤◌, [], false, All, IfOk, MatchResult, ℕ, length, replicate, sum, vec_capacity, vec_len};
+ghost use Rattle.std.specs.Prelude.{◌≡◌, ◌<◌, ◌≤◌, [], false, All, IfOk, IfSome, MatchResult, ℕ, length, replicate, sum, vec_capacity, vec_len};
 ghost use Rattle.std.specs.List.{sum_by};
 ghost use Rattle.qap_cost.specs.Objective.{Permutes};
 ghost use Rattle.qap_cost.specs.Placement.{root_of};
@@ -9,6 +9,7 @@ ghost use Rattle.qap_search.specs.Answer.{IsAnswer, IsLeastAnswer, IsSearchFault
 ghost use Rattle.qap_search.specs.BoundedAnswer.{IsBoundedFrom};
 ghost use Rattle.qap_search.specs.ProvedAnswer.{IsProvedFrom};
 ghost use Rattle.qap_search.specs.Hand.{cuts};
+ghost use Rattle.qap_search.specs.Images.{AreSymmetries};
 ghost use Rattle.qap_search.specs.Outcome.{IsEnded};
 ghost use Rattle.qap_search.specs.Opening.{IsOpening};
 ghost use Rattle.qap_search.specs.Ran.{Ran, RanTo, RanToFault};
@@ -23,6 +24,7 @@ ghost use Rattle.std.specs.Arc.{arc_value};
 use crate::certificate::closers::Many;
 use crate::certificate::ordering::turned_round;
 use crate::node::branching::Branching;
+use crate::node::images::{InstanceSymmetries, instance_symmetries};
 use crate::runs::alone::shared_rows;
 use crate::runs::answer::{Answer, Bounded, Least, Proved, SolveError};
 use crate::runs::bound::{Ending, bounded_of};
@@ -420,9 +422,10 @@ fn staff<L: Law>(
     ensures { IfOk result (λ made. vec_len made.seats ≡ plan.now.workers) }
 {
     let ranked = shared_rows(alloc, instance)?;
+    let symmetries = shared_symmetries(alloc, instance, plan.branching)?;
     let workers = usize::from(plan.workers);
     let (shared, shares) = shared_under::<L>(alloc, blank, space, workers, plan.limit)?;
-    let seats = seats_for(alloc, &ranked, plan, shares)?;
+    let seats = seats_for(alloc, &ranked, &symmetries, plan, shares)?;
     Ok(Staffed { shared, seats })
 }
 
@@ -466,6 +469,23 @@ where
     Run { space, reports }
 }
 
+/// The symmetries of the instance, to be shared by workers, where these split nodes by a rule that asks for them.
+fn shared_symmetries(
+    alloc: Global,
+    instance: &Instance,
+    branching: Branching,
+) -> Result<Option<Arc<InstanceSymmetries>>, AllocError>
+    ensures { IfOk result (λ found. IfSome found (λ s. AreSymmetries instance.now (arc_value s))) }
+{
+    match branching {
+        Branching::GreatestMatched | Branching::GreatestSum => Ok(None),
+        Branching::Cutting => {
+            let symmetries = instance_symmetries(alloc, instance)?;
+            Ok(Some(Arc::new(alloc, symmetries)?))
+        }
+    }
+}
+
 /// The space with its lock and its limit, if there is one, and so many shares.
 fn shared_under<L: Law>(
     alloc: Global,
@@ -497,9 +517,11 @@ fn shared_under<L: Law>(
 fn seats_for<L: Law>(
     alloc: Global,
     ranked: &Arc<RankedInstance>,
+    symmetries: &Option<Arc<InstanceSymmetries>>,
     plan: &Plan<'_>,
     shares: Vec<Share<L>>,
 ) -> Result<Vec<Mutex<Seat<L>>>, AllocError>
+    requires symmetries { IfSome symmetries.now (λ s. AreSymmetries (arc_value ranked.now) (arc_value s)) }
     requires law { IsSearchLaw (cuts plan.now.branching) (arc_value ranked.now) L.lawful L.allowed }
     requires fresh { All (λ (n : ℕ). n ≡ 0) shares.items }
     requires few { vec_len shares ≤ 64 }
@@ -510,7 +532,9 @@ fn seats_for<L: Law>(
     let mut worker = 0;
     while let Some(share) = rest.pop() {
         let ranked = ranked.clone()?;
-        let hand = Hand::by(alloc, plan.branching, worker, ranked, plan.lease_ms)?;
+        let symmetries = symmetries.clone()?;
+        let branching = plan.branching;
+        let hand = Hand::with_images(alloc, branching, symmetries, worker, ranked, plan.lease_ms)?;
         seats.push(Mutex::new(Seat::new(worker, hand, share)))?;
         worker += 1;
     }

@@ -1,16 +1,17 @@
 //! The tuples of nodes and of the best permutation.
 
-ghost use Rattle.std.specs.Prelude.{◌≡◌, ◌<◌, ◌≤◌, IfOk, length, map, pos};
+ghost use Rattle.std.specs.Prelude.{◌≡◌, ◌<◌, ◌≤◌, ◌∷◌, [], IfOk, length, map, option_map, pos};
 ghost use Rattle.qap_cost.specs.Placement.{IsPlacement, placing};
 ghost use Rattle.qap_proof.specs.Cell.{others_on};
 ghost use Rattle.qap_proof.specs.Shape.{free_count};
 ghost use Rattle.qap_proof.specs.Tree.{facility_on, location_on, pair};
 ghost use Rattle.tuple_match.specs.Field.{field_value};
 ghost use Rattle.tuple_match.specs.FieldValue.{word};
-ghost use Rattle.qap_search.specs.Decision.{children_by, pruned_split};
-ghost use Rattle.qap_search.specs.Piece.{best_tuple, by_turns, closed_tuple, cut_numbers, node_list, node_tuple, pieces, pruned_tuple, side_word, split_tuple};
+ghost use Rattle.qap_search.specs.Decision.{children_by, pruned_split, uncut};
+ghost use Rattle.qap_search.specs.Piece.{best_tuple, by_turns, closed_tuple, cut_numbers, mirrored_tuple, node_list, node_tuple, pieces, pruned_tuple, side_word, split_tuple};
 ghost use Rattle.qap_search.specs.SearchTree.{split_node, split_open};
 
+use crate::node::images::{Image, image_at};
 use qap_cost::{Partial, Perm};
 use qap_proof::Side;
 use std::alloc::{AllocError, Global};
@@ -36,7 +37,8 @@ pub(crate) fn split_tuples(
 }
 
 /// The tuples of a node that is split so with these duals, where the best permutation costs so much and the duals come to `reached` at
-/// each child: that of the split, and one for each child at which they come to less, in the order of the children.
+/// each child: that of the split, and one for each child at which they come to less, as an image or as an open node, in the order of
+/// the children.
 pub(crate) fn pruned_tuples(
     alloc: Global,
     node: &Partial,
@@ -45,12 +47,13 @@ pub(crate) fn pruned_tuples(
     u: &[i128],
     v: &[i128],
     reached: &[i128],
+    images: &[Option<Image>],
     best: i128,
 ) -> Result<Vec<Tuple>, AllocError>
     requires u_count { length u.now ≤ 256 }
     requires v_count { length v.now ≤ 256 }
     requires reached { length reached.now ≡ free_count node.now }
-    ensures value { IfOk result (λ t. t.items ≡ pieces node.now (split_node (pruned_split side number u.now v.now) (children_by best reached.now))) }
+    ensures value { IfOk result (λ t. t.items ≡ pieces node.now (split_node (pruned_split side number u.now v.now) (children_by best images.now 0 reached.now))) }
     ensures placement { IfOk result (λ _. IsPlacement node.now) }
 {
     let others = free_others(node, side)?;
@@ -59,7 +62,8 @@ pub(crate) fn pruned_tuples(
     tuples.push(tuple_of_pruned(alloc, node, side, number, u, v, cuts)?)?;
     for child in 0..reached.len() {
         if reached[child] < best {
-            tuples.push(tuple_at(alloc, node, side, number, &others, child)?)?;
+            let image = image_at(images, child);
+            tuples.push(tuple_at(alloc, node, side, number, &others, child, image)?)?;
         }
     }
     Ok(tuples)
@@ -78,7 +82,7 @@ pub(crate) fn free_others(node: &Partial, side: Side) -> Result<Vec<u16>, AllocE
 
 /// Of each child a 1 where the duals come to the best cost there, and else a 0.
 fn cut_flags(alloc: Global, reached: &[i128], best: i128) -> Result<Vec<i128>, AllocError>
-    ensures list { IfOk result (λ v. v.items ≡ cut_numbers (children_by best reached.now)) }
+    ensures list { IfOk result (λ v. v.items ≡ cut_numbers (children_by best [] 0 reached.now)) }
     ensures long { IfOk result (λ v. length v.items ≡ length reached.now) }
 {
     let mut flags = Vec::with_capacity(alloc, reached.len())?;
@@ -92,7 +96,8 @@ fn cut_flags(alloc: Global, reached: &[i128], best: i128) -> Result<Vec<i128>, A
     Ok(flags)
 }
 
-/// The tuple of the open node that is the child of this number of a split, where these are the free ones that it has children for.
+/// The tuple of the child of this number of a split, where these are the free ones that it has children for: that of the image, if it
+/// is one, and else that of an open node.
 fn tuple_at(
     alloc: Global,
     node: &Partial,
@@ -100,16 +105,51 @@ fn tuple_at(
     number: u16,
     others: &[u16],
     child: usize,
+    image: Option<&Image>,
 ) -> Result<Tuple, AllocError>
     requires others { others.now ≡ others_on side node.now }
     requires inside { child < length others.now }
-    ensures { IfOk result (λ t. t ≡ node_tuple (placing node.now (facility_on side node.now number child) (location_on side node.now number child))) }
+    ensures { IfOk result (λ t. pieces (placing node.now (facility_on side node.now number child) (location_on side node.now number child)) (uncut (option_map (λ m. m.now) image.entry)) ≡ t ∷ []) }
 {
     let other = others[child];
     match side {
-        Side::Facility => tuple_of_child(alloc, node, number, other),
-        Side::Location => tuple_of_child(alloc, node, other, number),
+        Side::Facility => tuple_of_uncut(alloc, node, number, other, image),
+        Side::Location => tuple_of_uncut(alloc, node, other, number, image),
     }
+}
+
+/// The tuple of the node that puts the facility at the location too: that of the image, if it is one, and else that of an open node.
+fn tuple_of_uncut(
+    alloc: Global,
+    node: &Partial,
+    facility: u16,
+    location: u16,
+    image: Option<&Image>,
+) -> Result<Tuple, AllocError>
+    ensures { IfOk result (λ t. pieces (placing node.now facility location) (uncut (option_map (λ m. m.now) image.entry)) ≡ t ∷ []) }
+{
+    match image {
+        Some(image) => tuple_of_mirrored(alloc, node, facility, location, image),
+        None => tuple_of_child(alloc, node, facility, location),
+    }
+}
+
+/// The tuple of the node that puts the facility at the location too and is such an image.
+fn tuple_of_mirrored(
+    alloc: Global,
+    node: &Partial,
+    facility: u16,
+    location: u16,
+    image: &Image,
+) -> Result<Tuple, AllocError>
+    ensures { IfOk result (λ t. t ≡ mirrored_tuple (placing node.now facility location) image.now.earlier image.now.by) }
+{
+    let name = word_field(alloc, "mirrored")?;
+    let list = Field::List(child_numbers(alloc, node, facility, location)?).narrowed();
+    let earlier = Field::Int(i128::from(image.earlier));
+    let by = Field::List(locations_of(alloc, &image.by)?).narrowed();
+    let fields = vec![in alloc; name, list, earlier, by]?;
+    shared(alloc, Tuple::new(fields).unwrap())
 }
 
 /// The tuple of a node that is split so with these duals, and of whose children these are cut off.

@@ -1,21 +1,24 @@
 //! A worker of the search.
 
-ghost use Rattle.std.specs.Prelude.{◌≡◌, ◌+◌, ◌≤◌, true, false, IfOk, OnErr, OnOk};
+ghost use Rattle.std.specs.Prelude.{◌≡◌, ◌+◌, ◌≤◌, true, false, IfOk, IfSome, OnErr, OnOk};
 ghost use Rattle.std.specs.Arc.{arc_value};
 ghost use Rattle.qap_search.specs.Hand.{cuts, is_due, kind_of, new_hand};
+ghost use Rattle.qap_search.specs.Images.{AreSymmetries};
 ghost use Rattle.qap_search.specs.SearchLaw.{IsSearchLaw};
 ghost use Rattle.qap_search.specs.Thinking.{Thinks};
 ghost use Rattle.qap_search.specs.Turn.{Turn};
 ghost use Rattle.qap_search.specs.declared.worker.report.Ended.TheVariants.{Done};
 
 use crate::node::branching::Branching;
+use crate::node::images::InstanceSymmetries;
 use crate::tuples::templates::{best_template, node_template};
 use crate::worker::gate::{Gate, Kind};
+use crate::worker::ground::Ground;
 use crate::worker::report::{Ended, Report};
 use crate::worker::stage::{Desk, LastThought, Stage, Tally, Tools};
 use crate::worker::thinking::{stage_thought, think_in};
 use crate::worker::turn::{is_hopeful, turn};
-use gilmore_lawler::{KeptRows, RankedInstance};
+use gilmore_lawler::RankedInstance;
 use shared_space::{Law, Room, Share};
 use std::alloc::{AllocError, Global};
 use std::marker::Model;
@@ -26,7 +29,7 @@ use std::sync::Arc;
 #[derive(Drop)]
 pub struct Hand {
     worker: u16,
-    rows: KeptRows,
+    ground: Ground,
     desk: Desk,
     tools: Tools,
     last: Option<LastThought>,
@@ -40,9 +43,9 @@ impl Model for Hand {
 
     ghost Value = { HandValue };
 
-    ghost view = { λ h. hand_of (cuts h.tools.branching) h.rows h.tools.lease_ms (last_of h.last) h.stage h.tally };
+    ghost view = { λ h. hand_of (cuts h.tools.branching) h.ground h.tools.lease_ms (last_of h.last) h.stage h.tally };
 
-    ghost invariant = { λ h. IsHand h.rows h.tools h.last h.stage };
+    ghost invariant = { λ h. IsHand h.ground h.tools h.last h.stage };
 }
 
 impl Hand {
@@ -81,6 +84,24 @@ impl Hand {
         ensures accepted { IfOk result (λ hand. hand.accepted ≡ 0) }
         ensures value { IfOk result (λ hand. hand ≡ new_hand (cuts branching) (arc_value instance) lease_ms) }
     {
+        Hand::with_images(alloc, branching, None, worker, instance, lease_ms)
+    }
+
+    /// Such a worker, to which children that are images of earlier ones by these symmetries are such.
+    pub(crate) fn with_images(
+        alloc: Global,
+        branching: Branching,
+        symmetries: Option<Arc<InstanceSymmetries>>,
+        worker: u16,
+        instance: Arc<RankedInstance>,
+        lease_ms: u64,
+    ) -> Result<Hand, AllocError>
+        requires { IfSome symmetries (λ s. AreSymmetries (arc_value instance) (arc_value s)) }
+        ensures cutting { IfOk result (λ hand. hand.cutting ≡ cuts branching) }
+        ensures instance { IfOk result (λ hand. hand.instance ≡ arc_value instance) }
+        ensures accepted { IfOk result (λ hand. hand.accepted ≡ 0) }
+        ensures value { IfOk result (λ hand. hand ≡ new_hand (cuts branching) (arc_value instance) lease_ms) }
+    {
         let _instance = instance.instance();
         let desk = Desk::new(alloc)?;
         let tools = Tools {
@@ -92,7 +113,7 @@ impl Hand {
         };
         Ok(Hand {
             worker,
-            rows: KeptRows::new(alloc, instance),
+            ground: Ground::new(alloc, instance, symmetries),
             desk,
             tools,
             last: None,
@@ -167,7 +188,7 @@ impl Hand {
             &self.tools,
             gate,
             self.worker,
-            &mut self.rows,
+            &mut self.ground,
             &mut self.desk,
             &self.stage,
             self.tally.best,

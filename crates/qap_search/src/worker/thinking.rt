@@ -13,8 +13,8 @@ use crate::node::node_list::read_into;
 use crate::node::thought::Thought;
 use crate::tuples::parsing::is_word;
 use crate::worker::gate::Gate;
+use crate::worker::ground::Ground;
 use crate::worker::stage::{Desk, LastThought, Stage, Tools};
-use gilmore_lawler::KeptRows;
 use qap_cost::Partial;
 use space_txn::Txn;
 use std::alloc::{AllocError, Global};
@@ -27,23 +27,23 @@ pub(crate) fn think_in<G: Gate>(
     tools: &Tools,
     gate: &G,
     worker: u16,
-    rows: &mut KeptRows,
+    ground: &mut Ground,
     desk: &mut Desk,
     stage: &Stage,
     best: Option<i128>,
     last: &mut Option<LastThought>,
 ) -> Result<bool, AllocError>
-    ensures considers { Considers (cuts tools.now.branching) rows.old stage.now last.old result last.new }
-    ensures same { rows.new ≡ rows.old }
+    ensures considers { Considers (cuts tools.now.branching) ground.old stage.now last.old result last.new }
+    ensures same { ground.new ≡ ground.old }
 {
     let Stage::Taken(txn, id) = stage else {
         return Ok(false);
     };
-    let size = rows.instance().size();
+    let size = ground.instance().size();
     if !read_taken(size, txn, *id, &mut desk.node)? {
         return Ok(false);
     }
-    think_on(tools, gate, worker, rows, desk, best, last)?;
+    think_on(tools, gate, worker, ground, desk, best, last)?;
     Ok(true)
 }
 
@@ -52,26 +52,27 @@ fn think_on<G: Gate>(
     tools: &Tools,
     gate: &G,
     worker: u16,
-    rows: &mut KeptRows,
+    ground: &mut Ground,
     desk: &mut Desk,
     best: Option<i128>,
     last: &mut Option<LastThought>,
 ) -> Result<(), AllocError>
-    requires size { desk.old.node.size ≡ rows.old.size }
+    requires size { desk.old.node.size ≡ ground.old.size }
     requires placement { IsPlacement desk.old.node }
-    ensures thought { OnOk result (IsThoughtOn (cuts tools.now.branching) rows.old desk.old.node last.old last.new) }
-    ensures same { rows.new ≡ rows.old }
+    ensures thought { OnOk result (IsThoughtOn (cuts tools.now.branching) ground.old desk.old.node last.old last.new) }
+    ensures same { ground.new ≡ ground.old }
     ensures unchanged { OnErr result (last.new ≡ last.old) }
 {
     if is_on(last, &desk.node) {
         return Ok(());
     }
-    rows.reduce_into(&desk.node, &mut desk.matrix)?;
+    ground.reduce_into(&desk.node, &mut desk.matrix)?;
     gate.thinking(worker);
     let thought = desk.scratch.thought(
         tools.alloc,
         tools.branching,
-        rows.instance(),
+        ground.symmetries(),
+        ground.instance(),
         &desk.node,
         &desk.matrix,
         best,

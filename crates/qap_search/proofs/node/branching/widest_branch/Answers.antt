@@ -1,5 +1,7 @@
 use Rattle.std.proofs.Common.{ap, arith, length, refl}
 use Rattle.qap_search.proofs.Certificates.{free_facility_count, free_location_count}
+use Rattle.qap_search.specs.Thought.{AreImages}
+use Rattle.qap_search.proofs.node.branching.widest_branch.Goals.{in-Facility, in-Location}
 use Rattle.qap_search.proofs.node.branching.widest_branch.Goals as goal
 
 pub widest_line-side-requires-clause-columns : goal.widest_line-side-requires-clause-columns
@@ -15,7 +17,14 @@ pub child_values-requires-clause-free : goal.child_values-requires-clause-free
 child_values-requires-clause-free c = c.widest_line-side.ensures c.args.node.now c.size-size.ensures.placement c.requires.free
 
 pub returns : goal.returns
-returns c = (
-  c.widest_line-side.ensures c.args.node.now c.size-size.ensures.placement c.requires.free,
-  (c.in_ok-reached.reached.items, refl, record { one_each = c.in_ok-reached.ensures.count; are = c.in_ok-reached.ensures.each }),
-)
+returns c =
+    let I = c.args.instance.now in
+    let x = c.args.node.now in
+    let images : AreImages I x c.widest_line-side.result.0 c.match-side.images.items =
+    elim c.match-side.branch [
+      | in-Facility w ↦ rw (w.in-Facility.is, w.images-is) c.in_ok-of_facilities.ensures
+      | in-Location w ↦ rw (w.in-Location.is, w.images-is) c.in_ok-of_locations.ensures
+    ] in (
+      c.widest_line-side.ensures x c.size-size.ensures.placement c.requires.free,
+      (c.in_ok-reached.reached.items, refl, record { one_each = c.in_ok-reached.ensures.count; are = c.in_ok-reached.ensures.each }, images),
+    )

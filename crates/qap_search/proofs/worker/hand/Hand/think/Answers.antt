@@ -7,7 +7,7 @@ invariant_of-self-2 g c =
     let due = rw (← c.self.view_is) at c.requires in
     let h = c.self.inside in
     rw (c.think_in.ensures.same)
-    (hand_after h.rows h.tools h.last c.think_in.new.last h.stage c.stage_thought.result c.in_ok-considered.considered c.self.invariant due (c.in_ok-considered.ensures.considers)
+    (hand_after h.ground h.tools h.last c.think_in.new.last h.stage c.stage_thought.result c.in_ok-considered.considered c.self.invariant due (c.in_ok-considered.ensures.considers)
     (λ t number is. c.stage_thought.ensures t number (c.replace-stage.ensures.value ∙ is)))
 
 pub returns-clause-thought : goal.returns-clause-thought
@@ -15,7 +15,7 @@ returns-clause-thought g c =
     let due = rw (← c.self.view_is) at c.requires in
     let h = c.self.inside in
     rw (← c.self.view_is, c.think_in.ensures.same)
-    (thinks h.rows h.tools.lease_ms h.tools h.last c.think_in.new.last h.stage c.stage_thought.result h.tally c.in_ok-considered.considered c.self.invariant due (c.in_ok-considered.ensures.considers)
+    (thinks h.ground h.tools.lease_ms h.tools h.last c.think_in.new.last h.stage c.stage_thought.result h.tally c.in_ok-considered.considered c.self.invariant due (c.in_ok-considered.ensures.considers)
     (λ t number is. c.stage_thought.ensures t number (c.replace-stage.ensures.value ∙ is)))
 
 pub returns-clause-not_due : goal.returns-clause-not_due
