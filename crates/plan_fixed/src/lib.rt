@@ -1,0 +1,71 @@
+//! Permutations that keep what is fixed: those that complete a node.
+#![tactic(auto)]
+
+ghost use Rattle.std.specs.Prelude.{◌≡◌, ◌<◌, ◌↔◌, IfOk, IsTrue, MatchOption, OnOk, ℕ, length, slice_index, ◌≢◌, vec_len};
+ghost use Rattle.qap_cost.specs.Bijection.{IsPerm};
+ghost use Rattle.qap_cost.specs.Placement.{Completes};
+ghost use Rattle.plan_fixed.specs.Settling.{IsSettled};
+
+use qap_cost::{Partial, Perm};
+use std::alloc::AllocError;
+
+/// Whether a permutation puts each facility that a node places at its place.
+pub fn completes(node: &Partial, permutation: &Perm) -> bool
+    requires { length permutation.now ≡ node.now.size }
+    ensures { IsTrue result ↔ Completes node.now permutation.now }
+{
+    let facilities = node.facilities();
+    let places = node.places();
+    let locations = permutation.locations();
+    for t in 0..facilities.len() {
+        if locations[usize::from(facilities[t])] != places[t] {
+            return false;
+        }
+    }
+    true
+}
+
+/// A permutation that puts each facility that a node places at its place; the same one, where it does so already. Each facility that is in the way
+/// takes the location of the one for which it makes room.
+pub fn completed(node: &Partial, permutation: &Perm) -> Result<Perm, AllocError>
+    requires { length permutation.now ≡ node.now.size }
+    ensures completes { IfOk result (Completes node.now) }
+    ensures same { Completes node.now permutation.now → IfOk result (λ p. p ≡ permutation.now) }
+{
+    let facilities = node.facilities();
+    let places = node.places();
+    let mut locations = permutation.copy()?.into_locations();
+    for t in 0..facilities.len() {
+        locations = settled(locations, usize::from(facilities[t]), places[t]);
+    }
+    Ok(Perm::new(locations).unwrap())
+}
+
+/// The locations with a facility brought to one of them, by an exchange with the facility that stood there.
+fn settled(mut locations: Vec<u16>, facility: usize, location: u16) -> Vec<u16>
+    requires permutation { IsPerm locations.items }
+    requires facility { facility < vec_len locations }
+    requires location { location < vec_len locations }
+    ensures { IsSettled locations.items facility location result.items }
+{
+    if let Some(other) = find(&locations, location) {
+        if other != facility {
+            locations.swap(facility, other);
+        }
+    }
+    locations
+}
+
+/// The first place at which a number stands.
+fn find(numbers: &[u16], number: u16) -> Option<usize>
+    ensures { MatchOption result
+        ((i : ℕ) → i < length numbers.now → slice_index numbers.now i ≢ number)
+        (λ i. (i < length numbers.now) × (slice_index numbers.now i ≡ number)) }
+{
+    for i in 0..numbers.len() {
+        if numbers[i] == number {
+            return Some(i);
+        }
+    }
+    None
+}
