@@ -2,3 +2,4 @@ pub mod Faults
 pub mod Fillings
 pub mod Fixings
 pub mod Members
+pub mod Soundness

@@ -4,6 +4,7 @@ ghost use Rattle.std.specs.Prelude.{◌≡◌, ◌↔◌, IfErr, IfOk, IsTrue, M
 ghost use Rattle.toml.specs.Errors.{IsMemory};
 ghost use Rattle.toml.specs.View.{table_view};
 ghost use Rattle.plan_file.specs.Plan.{AreKnown, IsFaultOf, IsKnown, IsKnownOfDistances, IsKnownOfFlows, IsPlanFault, IsPlanText, IsSyntaxError};
+ghost use Rattle.plan_file.specs.Tables.{IsSound};
 ghost use Rattle.plan_file.specs.declared.error.PlanError.TheVariants.{OutOfMemory as WantOfMemory};
 
 use crate::error::PlanError;
@@ -21,6 +22,7 @@ use toml::{Table, table_from_slice};
 /// `departments` goes with `trips` alone; `metric` goes with `places` and must be there; `decimals` goes with the Euclidean metric alone.
 pub fn read_plan(alloc: Global, text: &[u8]) -> Result<Plan, PlanError>
     ensures plan { IfOk result (IsPlanText text.now) }
+    ensures sound { IfOk result IsSound }
     ensures refused { IfErr result (IsPlanFault text.now) }
 {
     let table = match table_from_slice(alloc, text) {

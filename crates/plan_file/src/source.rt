@@ -22,6 +22,17 @@ pub enum Flows {
     TripsBetween(String, Vec<String>),
 }
 
+impl Flows {
+    /// The file that is named.
+    pub fn file(&self) -> &str {
+        match self {
+            Flows::Matrix(file) | Flows::Trips(file) | Flows::TripsBetween(file, _) => {
+                file.as_str()
+            }
+        }
+    }
+}
+
 /// Where the distances between places stand.
 #[derive(Debug, Drop)]
 pub enum Distances {
@@ -29,6 +40,15 @@ pub enum Distances {
     Matrix(String),
     /// In no file: they are measured between the places of this one.
     Places(String, Metric),
+}
+
+impl Distances {
+    /// The file that is named.
+    pub fn file(&self) -> &str {
+        match self {
+            Distances::Matrix(file) | Distances::Places(file, _) => file.as_str(),
+        }
+    }
 }
 
 /// A department and its place, by their names.

@@ -8,6 +8,7 @@ mod command_line;
 mod elapsed;
 mod error;
 mod json;
+mod keeping;
 mod loading;
 mod options;
 mod plan_run;

@@ -1,7 +1,7 @@
 //! A run on a plan that names its tables.
 
 ghost use Rattle.plan_file.specs.Tables.{HasSizes};
-ghost use Rattle.qap_cost.specs.Objective.{Permutes};
+ghost use Rattle.qap_cost.specs.Placement.{Completes};
 ghost use Rattle.qap_plan.specs.Options.{AreLimited};
 
 use crate::arranging::plan_named;
@@ -73,7 +73,7 @@ fn finish(
     milliseconds: u64,
 ) -> ExitCode
     requires sizes { HasSizes problem.now }
-    requires permutes { Permutes problem.now.instance answer.now.permutation }
+    requires kept { Completes problem.now.fixed answer.now.permutation }
 {
     if let Some(file) = request.out {
         if let Err(error) = write_answer(rt, file, problem, answer) {
@@ -101,7 +101,7 @@ fn write_answer(
     answer: &Planned,
 ) -> Result<(), PlanError>
     requires sizes { HasSizes problem.now }
-    requires permutes { Permutes problem.now.instance answer.now.permutation }
+    requires kept { Completes problem.now.fixed answer.now.permutation }
 {
     let text = answer_text(
         rt.alloc(),
