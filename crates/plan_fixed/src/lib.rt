@@ -1,7 +1,7 @@
 //! Permutations that keep what is fixed: those that complete a node.
 #![tactic(auto)]
 
-ghost use Rattle.std.specs.Prelude.{◌≡◌, ◌<◌, ◌↔◌, IfOk, IsTrue, MatchOption, OnOk, ℕ, length, slice_index, ◌≢◌, vec_len};
+ghost use Rattle.std.specs.Prelude.{◌≡◌, ◌≢◌, ◌<◌, ◌↔◌, ℕ, IfOk, IsTrue, MatchOption, length, slice_index};
 ghost use Rattle.qap_cost.specs.Bijection.{IsPerm};
 ghost use Rattle.qap_cost.specs.Placement.{Completes};
 ghost use Rattle.plan_fixed.specs.Settling.{IsSettled};
@@ -44,13 +44,15 @@ pub fn completed(node: &Partial, permutation: &Perm) -> Result<Perm, AllocError>
 /// The locations with a facility brought to one of them, by an exchange with the facility that stood there.
 fn settled(mut locations: Vec<u16>, facility: usize, location: u16) -> Vec<u16>
     requires permutation { IsPerm locations.items }
-    requires facility { facility < vec_len locations }
-    requires location { location < vec_len locations }
+    requires facility { facility < length locations.items }
+    requires location { location < length locations.items }
     ensures { IsSettled locations.items facility location result.items }
 {
     if let Some(other) = find(&locations, location) {
         if other != facility {
-            locations.swap(facility, other);
+            let here = locations[facility];
+            locations[facility] = location;
+            locations[other] = here;
         }
     }
     locations
