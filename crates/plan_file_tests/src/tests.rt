@@ -2,6 +2,7 @@
 
 use plan_answer::{Pair, dearest_pairs};
 use plan_file::{read_plan, read_tables};
+use plan_picture::picture;
 use qap_cost::Perm;
 use std::test::Fail;
 
@@ -295,5 +296,42 @@ fn finds_the_dearest_pairs(rt: HostRuntime) -> Result<(), Fail> {
         },
     ];
     assert_eq!(rt; pairs.as_slice(), want.as_slice());
+    Ok(())
+}
+
+/// Boxes of 44 by 46 pixels: each name has at most 3 letters. The places lie 30 and 40 apart, so that 16 pixels stand for 1.
+const PICTURE: &str = "<svg xmlns=\"http://www.w3.org/2000/svg\" width=\"580\" height=\"782\" viewBox=\"0 0 580 782\" font-family=\"monospace\">
+<rect width=\"580\" height=\"782\" fill=\"white\"/>
+<text x=\"28\" y=\"34\" font-size=\"16\">cost &quot;28&quot;</text>
+<g fill=\"none\" stroke=\"#3b6ea5\" stroke-opacity=\"0.6\">
+<path d=\"M 530 91 Q 210 350 50 731\" stroke-width=\"9.0\"/>
+</g>
+<rect x=\"28\" y=\"708\" width=\"44\" height=\"46\" rx=\"5\" fill=\"#fff3d6\" stroke=\"#7a5b00\" stroke-width=\"3\"/>
+<text x=\"50\" y=\"728\" text-anchor=\"middle\" font-size=\"13\" font-weight=\"bold\">R&amp;D</text>
+<text x=\"50\" y=\"745\" text-anchor=\"middle\" font-size=\"12\" fill=\"#666666\">A</text>
+<rect x=\"508\" y=\"68\" width=\"44\" height=\"46\" rx=\"5\" fill=\"#eef3f9\" stroke=\"#333333\"/>
+<text x=\"530\" y=\"88\" text-anchor=\"middle\" font-size=\"13\" font-weight=\"bold\">&lt;b&gt;</text>
+<text x=\"530\" y=\"105\" text-anchor=\"middle\" font-size=\"12\" fill=\"#666666\">B</text>
+<rect x=\"268\" y=\"708\" width=\"44\" height=\"46\" rx=\"5\" fill=\"#ffffff\" stroke=\"#999999\" stroke-dasharray=\"5 4\"/>
+<text x=\"290\" y=\"745\" text-anchor=\"middle\" font-size=\"12\" fill=\"#666666\">C</text>
+</svg>
+";
+
+#[test]
+fn draws_an_arrangement(rt: HostRuntime) -> Result<(), Fail> {
+    let alloc = rt.alloc();
+    let plan = read_plan(
+        alloc,
+        b"trips = 't'\nplaces = 'p'\nmetric = 'rectilinear'\n[fixed]\n'R&D' = 'A'\n",
+    )?;
+    let flows = b"from,to,amount\nR&D,\"<b>\",4\n";
+    let problem = read_tables(alloc, &plan, flows, PLACES)?;
+    let Ok(permutation) = Perm::new(Vec::from_slice(alloc, &[0, 1, 2])?) else {
+        panic!(rt; "these locations are a permutation");
+    };
+    assert!(rt; permutation.len() == problem.instance.size());
+    let text = picture(alloc, &problem, &permutation, "cost \"28\"")?;
+    let told = std::str::from_utf8(&text).unwrap_or("");
+    assert_eq!(rt; told, PICTURE);
     Ok(())
 }

@@ -14,8 +14,9 @@ use crate::planning::Planned;
 use crate::proof_file::write_proof;
 use crate::whole_file::write_whole;
 use crate::{end_of, faulty_file, refuse, start_of};
-use plan_answer::answer_text;
+use plan_answer::{answer_text, cost_text};
 use plan_file::NamedProblem;
+use plan_picture::picture;
 use qap_io::Counted;
 use std::process::ExitCode;
 use std::sync::Wait;
@@ -85,6 +86,11 @@ fn finish(
             return refuse(rt, file, error);
         }
     }
+    if let Some(file) = request.svg {
+        if let Err(error) = write_picture(rt, file, problem, answer) {
+            return refuse(rt, file, error);
+        }
+    }
     if let Some(file) = request.proof {
         if let Err(error) = write_proof(rt, file, answer) {
             return refuse(rt, file, error);
@@ -127,4 +133,22 @@ fn write_json(
         return Err(PlanError::OutOfMemory);
     };
     write_whole(rt, file, text.as_bytes()).map_err(|_| PlanError::Device)
+}
+
+/// Writes a picture of the answer to a file.
+fn write_picture(
+    rt: &HostRuntime,
+    file: &str,
+    problem: &NamedProblem,
+    answer: &Planned,
+) -> Result<(), PlanError>
+    requires sizes { HasSizes problem.now }
+    requires kept { Completes problem.now.fixed answer.now.permutation }
+{
+    let alloc = rt.alloc();
+    let cost = cost_text(alloc, problem, answer.cost)?;
+    let cost = std::str::from_utf8(&cost).unwrap_or("");
+    let title = format!(in alloc; "cost {cost}")?;
+    let text = picture(alloc, problem, &answer.permutation, title.as_str())?;
+    write_whole(rt, file, &text).map_err(|_| PlanError::Device)
 }
