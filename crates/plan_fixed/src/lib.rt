@@ -1,13 +1,14 @@
 //! Permutations that keep what is fixed: those that complete a node.
 #![tactic(auto)]
 
-ghost use Rattle.std.specs.Prelude.{◌≡◌, ◌≢◌, ◌<◌, ◌↔◌, ℕ, IfOk, IsTrue, MatchOption, length, slice_index};
+ghost use Rattle.std.specs.Prelude.{◌≡◌, ◌≢◌, ◌<◌, ◌↔◌, ◌+◌, ℕ, List, IfOk, IsTrue, MatchOption, OnOk, length, slice_index};
 ghost use Rattle.qap_cost.specs.Bijection.{IsPerm};
-ghost use Rattle.qap_cost.specs.Placement.{Completes};
+ghost use Rattle.qap_cost.specs.Placement.{Completes, IsPlacement};
 ghost use Rattle.plan_fixed.specs.Settling.{IsSettled};
+ghost use Rattle.plan_fixed.specs.Sorting.{Ascend, IsSortedTo};
 
 use qap_cost::{Partial, Perm};
-use std::alloc::AllocError;
+use std::alloc::{AllocError, Global};
 
 /// Whether a permutation puts each facility that a node places at its place.
 pub fn completes(node: &Partial, permutation: &Perm) -> bool
@@ -39,6 +40,32 @@ pub fn completed(node: &Partial, permutation: &Perm) -> Result<Perm, AllocError>
         locations = settled(locations, usize::from(facilities[t]), places[t]);
     }
     Ok(Perm::new(locations).unwrap())
+}
+
+/// The same node with its facilities listed ascending.
+pub fn ascending(alloc: Global, node: &Partial) -> Result<Partial, AllocError>
+    ensures placement { IfOk result IsPlacement }
+    ensures size { IfOk result (λ x. x.size ≡ node.now.size) }
+    ensures ascending { IfOk result (λ x. Ascend x.facilities) }
+    ensures same { IfOk result (λ x. (p : List ℕ) → Completes node.now p ↔ Completes x p) }
+{
+    let mut sorted = Partial::root(alloc, node.size())?;
+    for f in 0..node.size() {
+        place_if(&mut sorted, node, f)?;
+    }
+    Ok(sorted)
+}
+
+/// Places a facility where a node has it, if it does.
+fn place_if(sorted: &mut Partial, node: &Partial, f: usize) -> Result<(), AllocError>
+    requires inside { f < node.now.size }
+    requires sorted { IsSortedTo node.now f sorted.old }
+    ensures { OnOk result (IsSortedTo node.now (f + 1) sorted.new) }
+{
+    match node.at(f) {
+        Some(place) => sorted.put(f as u16, place),
+        None => Ok(()),
+    }
 }
 
 /// The locations with a facility brought to one of them, by an exchange with the facility that stood there.
