@@ -1,8 +1,8 @@
 -- The text of an answer with names.
-use Rattle.std.specs.Prelude.{◌≡◌, ℕ, ◌+◌, List, length, map, take, ◌++◌, ℤ, int_lt, string_bytes}
+use Rattle.std.specs.Prelude.{◌≡◌, ℕ, ◌+◌, Bool, nat_lt, List, length, map, take, ◌++◌, ℤ, int_lt, string_bytes}
 use Rattle.plan_table.specs.Spelling.{Spells}
 use Rattle.plan_file.specs.declared.tables.NamedProblem.{NamedProblem}
-use Rattle.plan_answer.specs.Lines.{empty_lines, stands_lines, verdict_line}
+use Rattle.plan_answer.specs.Lines.{empty_lines, kept_text, stands_lines, verdict_line}
 
 -- how many places behind the point a cost has
 abbrev pub cost_scale : NamedProblem → ℕ
@@ -14,6 +14,10 @@ places_text P p =
     stands_lines (map string_bytes P.departments.items) (map string_bytes P.places.items) p
     ++ empty_lines 0 (map string_bytes P.places.items) (take (length P.departments.items) p)
 
+-- whether a department is fixed at a place
+abbrev pub has_fixed : NamedProblem → Bool
+has_fixed P = nat_lt 0 (length P.fixed.facilities)
+
 -- that, what is proved of the cost, in the plan's own units, and more behind it
 pub record IsAnswerText (P : NamedProblem) (p : List ℕ) (c g : ℤ) (text : List ℕ) : Type 0 where
   pub cost : List ℕ
@@ -22,4 +26,4 @@ pub record IsAnswerText (P : NamedProblem) (p : List ℕ) (c g : ℤ) (text : Li
   pub more : List ℕ
   pub spelled_cost : Spells cost c (cost_scale P)
   pub spelled_bound : Spells bound g (cost_scale P)
-  pub is : text ≡ places_text P p ++ verdict_line (int_lt g c) cost bound apart ++ more
+  pub is : text ≡ places_text P p ++ verdict_line (int_lt g c) cost bound (kept_text (has_fixed P)) apart ++ more

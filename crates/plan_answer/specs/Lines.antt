@@ -21,9 +21,18 @@ abbrev pub empty_lines : ℕ → List (List ℕ) → List ℕ → List ℕ
 empty_lines k [] taken = []
 empty_lines k (n ∷ ns) taken = (if list_any (λ l. k == l) taken then [] else empty_line n) ++ empty_lines (k + 1) ns taken
 
--- what is proved of the cost, by the words for the cost, for the bound below it, and for how far they lie apart
-abbrev pub verdict_line : Bool → List ℕ → List ℕ → List ℕ → List ℕ
-verdict_line is_open cost bound apart =
+-- among which arrangements that is proved: where something is fixed, among those that keep it
+abbrev pub kept_text : Bool → List ℕ
+kept_text is_fixed = if is_fixed then codes " among arrangements that keep what is fixed" else []
+
+-- behind the words for the cost: between which bounds the least one lies
+abbrev pub open_verdict : List ℕ → List ℕ → List ℕ → List ℕ → List ℕ
+open_verdict cost bound kept apart =
+    codes ", within " ++ bound ++ codes " to " ++ cost ++ kept ++ codes ", proved" ++ apart ++ codes "\n"
+
+-- what is proved of the cost, by the words for the cost, for the bound below it, for what is kept, and for how far they lie apart
+abbrev pub verdict_line : Bool → List ℕ → List ℕ → List ℕ → List ℕ → List ℕ
+verdict_line is_open cost bound kept apart =
     if is_open
-    then codes "cost " ++ cost ++ codes ", within " ++ bound ++ codes " to " ++ cost ++ codes ", proved" ++ apart ++ codes "\n"
-    else codes "cost " ++ cost ++ codes ", optimal, proved\n"
+    then codes "cost " ++ cost ++ open_verdict cost bound kept apart
+    else codes "cost " ++ cost ++ codes ", optimal" ++ kept ++ codes ", proved\n"

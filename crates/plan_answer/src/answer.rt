@@ -6,7 +6,7 @@ ghost use Rattle.plan_file.specs.Tables.{HasSizes};
 ghost use Rattle.plan_answer.specs.Answer.{IsAnswerText, cost_scale, places_text};
 
 use crate::gap::apart_text;
-use crate::lines::{push_departments, push_empty_places, push_verdict};
+use crate::lines::{kept_text, push_departments, push_empty_places, push_verdict};
 use crate::pairs::{dearest_pairs, pairs_text};
 use plan_file::NamedProblem;
 use plan_table::decimal_text;
@@ -33,7 +33,8 @@ pub fn answer_text(
     let cost_words = cost_text(alloc, problem, cost)?;
     let bound_words = cost_text(alloc, problem, bound)?;
     let apart = apart_text(alloc, cost, bound)?;
-    push_verdict(&mut text, bound < cost, &cost_words, &bound_words, &apart)?;
+    let kept = kept_text(problem.fixed.depth() > 0);
+    push_verdict(&mut text, bound < cost, &cost_words, &bound_words, kept, &apart)?;
     let pairs = dearest_pairs(alloc, &problem.instance, permutation, PAIRS)?;
     text.extend_from_slice(&pairs_text(alloc, problem, &pairs)?)?;
     Ok(text)

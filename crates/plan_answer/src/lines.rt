@@ -2,7 +2,7 @@
 
 ghost use Rattle.std.specs.Prelude.{◌≡◌, ◌==◌, ◌<◌, ◌≤◌, ◌++◌, [], ℕ, if◌then◌else◌, length, map, slice_index, IfOk, OnOk, string_bytes};
 ghost use Rattle.std.specs.List.{list_any};
-ghost use Rattle.plan_answer.specs.Lines.{empty_line, empty_lines, stands_line, stands_lines, verdict_line};
+ghost use Rattle.plan_answer.specs.Lines.{empty_line, empty_lines, kept_text, open_verdict, stands_line, stands_lines, verdict_line};
 
 use std::alloc::{AllocError, Global};
 
@@ -78,6 +78,17 @@ fn empty_line(alloc: Global, place: &str) -> Result<String, AllocError>
     format!(in alloc; "{place} stays empty\n")
 }
 
+/// Among which arrangements something is proved: where something is fixed, among those that keep it.
+pub fn kept_text(is_fixed: bool) -> &'static [u8]
+    ensures { result.now ≡ kept_text is_fixed }
+{
+    if is_fixed {
+        b" among arrangements that keep what is fixed"
+    } else {
+        b""
+    }
+}
+
 /// Puts what is proved of the cost at the end of the text: that it is optimal, or where that isn't shown, between which bounds the least
 /// cost lies.
 pub fn push_verdict(
@@ -85,22 +96,40 @@ pub fn push_verdict(
     is_open: bool,
     cost: &[u8],
     bound: &[u8],
+    kept: &[u8],
     apart: &[u8],
 ) -> Result<(), AllocError>
-    ensures { OnOk result (text.new.items ≡ text.old.items ++ verdict_line is_open cost.now bound.now apart.now) }
+    ensures { OnOk result (text.new.items ≡ text.old.items ++ verdict_line is_open cost.now bound.now kept.now apart.now) }
 {
     text.extend_from_slice(b"cost ")?;
     text.extend_from_slice(cost)?;
     if is_open {
-        text.extend_from_slice(b", within ")?;
-        text.extend_from_slice(bound)?;
-        text.extend_from_slice(b" to ")?;
-        text.extend_from_slice(cost)?;
-        text.extend_from_slice(b", proved")?;
-        text.extend_from_slice(apart)?;
-        text.extend_from_slice(b"\n")?;
+        push_open(text, cost, bound, kept, apart)
     } else {
-        text.extend_from_slice(b", optimal, proved\n")?;
+        text.extend_from_slice(b", optimal")?;
+        text.extend_from_slice(kept)?;
+        text.extend_from_slice(b", proved\n")?;
+        Ok(())
     }
+}
+
+/// Puts the part of the verdict behind the cost at the end of the text, where the cost isn't shown to be least.
+fn push_open(
+    text: &mut Vec<u8>,
+    cost: &[u8],
+    bound: &[u8],
+    kept: &[u8],
+    apart: &[u8],
+) -> Result<(), AllocError>
+    ensures { OnOk result (text.new.items ≡ text.old.items ++ open_verdict cost.now bound.now kept.now apart.now) }
+{
+    text.extend_from_slice(b", within ")?;
+    text.extend_from_slice(bound)?;
+    text.extend_from_slice(b" to ")?;
+    text.extend_from_slice(cost)?;
+    text.extend_from_slice(kept)?;
+    text.extend_from_slice(b", proved")?;
+    text.extend_from_slice(apart)?;
+    text.extend_from_slice(b"\n")?;
     Ok(())
 }

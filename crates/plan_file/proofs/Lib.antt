@@ -1,2 +1,5 @@
-pub mod Members
+pub mod Faults
 pub mod Fillings
+pub mod Fixings
+pub mod Members
+pub mod Soundness

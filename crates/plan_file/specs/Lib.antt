@@ -1,4 +1,5 @@
 pub mod Filling
+pub mod Fixing
 pub mod Plan
 pub mod Problem
 pub mod Tables

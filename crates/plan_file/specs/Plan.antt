@@ -1,56 +1,146 @@
--- A plan: a text in TOML that names the files of its tables.
-use Rattle.std.specs.Prelude.{◌≡◌, ◌≢◌, ◌⊎◌, ⊤, ℕ, List, None, Some, IsUtf8, codes, string_bytes}
-use Rattle.toml.specs.Data.{Data, Members, no_members, member, string, get_member}
+-- A plan: a text in TOML that names the files of its tables, and says what is fixed.
+use Rattle.std.specs.Prelude.{◌≡◌, ◌≢◌, ◌⊎◌, ⊤, ℕ, ◌≤◌, List, [], ◌∷◌, map, Option, None, Some, IsUtf8, ℤ, pos, codes, string_bytes}
+use Rattle.toml.specs.Data.{Data, Items, no_items, item, Members, no_members, member, string, integer, array, table, get_member}
 use Rattle.toml.specs.Parse.{parse_document}
+use Rattle.plan_table.specs.Names.{AreNames}
+use Rattle.plan_metric.specs.declared.metric.Metric.{Metric}
+use Rattle.plan_metric.specs.declared.metric.Metric.TheVariants.{Rectilinear, Euclidean, Squared}
 use Rattle.plan_file.specs.declared.error.PlanError.{PlanError}
-use Rattle.plan_file.specs.declared.error.PlanError.TheVariants.{Syntax, UnknownKey, MissingKey, NoText, OutOfMemory}
+use Rattle.plan_file.specs.declared.error.PlanError.TheVariants as error
+use Rattle.plan_file.specs.declared.source.Distances.{Distances}
+use Rattle.plan_file.specs.declared.source.Distances.TheVariants as far
+use Rattle.plan_file.specs.declared.source.Flows.{Flows}
+use Rattle.plan_file.specs.declared.source.Flows.TheVariants as flow
+use Rattle.plan_file.specs.declared.source.Pin.{Pin}
+use Rattle.plan_file.specs.declared.source.Plan.{Plan}
 
--- what a plan may say
+-- what a plan may say of the flows, of the distances, and besides
+abbrev pub IsKnownOfFlows : List ℕ → Type 0
+IsKnownOfFlows key = (key ≡ codes "flows") ⊎ ((key ≡ codes "trips") ⊎ (key ≡ codes "departments"))
+
+abbrev pub IsKnownOfDistances : List ℕ → Type 0
+IsKnownOfDistances key = (key ≡ codes "distances") ⊎ ((key ≡ codes "places") ⊎ ((key ≡ codes "metric") ⊎ (key ≡ codes "decimals")))
+
 abbrev pub IsKnown : List ℕ → Type 0
-IsKnown key = (key ≡ codes "flows") ⊎ (key ≡ codes "distances")
+IsKnown key = IsKnownOfFlows key ⊎ (IsKnownOfDistances key ⊎ (key ≡ codes "fixed"))
 
 abbrev pub AreKnown : Members → Type 0
 AreKnown no_members = ⊤
 AreKnown (member k d ms) = IsKnown k × AreKnown ms
-
--- the text says these two files, and nothing else
-pub record IsPlanText (text flows distances : List ℕ) : Type 0 where
-  pub utf8 : IsUtf8 text
-  pub members : Members
-  pub read : parse_document text ≡ Some members
-  pub known : AreKnown members
-  pub flow_file : get_member (codes "flows") members ≡ Some (string flows)
-  pub distance_file : get_member (codes "distances") members ≡ Some (string distances)
-
--- a key that no plan may have is among those of the table
-abbrev pub IsKeyFault : Members → PlanError → Type 0
-IsKeyFault ms (UnknownKey key) = (IsKnown (string_bytes key) → ⊥) × (AreKnown ms → ⊥)
-IsKeyFault ms OutOfMemory = ⊤
-IsKeyFault ms _ = ⊥
-
--- the table has nothing at this key, or what is no text
-abbrev pub IsFileFault : List ℕ → Members → PlanError → Type 0
-IsFileFault k ms (MissingKey key) = (key.now ≡ k) × (get_member k ms ≡ None)
-IsFileFault k ms (NoText key found) =
-    (key.now ≡ k) × (d : Data) × (get_member k ms ≡ Some d) × ((name : List ℕ) → d ≢ string name)
-IsFileFault k ms OutOfMemory = ⊤
-IsFileFault k ms _ = ⊥
-
--- a text that is no TOML, or no memory
-abbrev pub IsSyntaxError : PlanError → Type 0
-IsSyntaxError (Syntax place message) = ⊤
-IsSyntaxError OutOfMemory = ⊤
-IsSyntaxError _ = ⊥
 
 -- the text is this table in TOML
 pub record IsTable (text : List ℕ) (members : Members) : Type 0 where
   pub utf8 : IsUtf8 text
   pub read : parse_document text ≡ Some members
 
--- why a text is no plan: it is no TOML; it has a key that none may have; or its first key at fault is missing, or has no text
+-- these texts, as the items of a list
+abbrev pub strings_of : List (List ℕ) → Items
+strings_of [] = no_items
+strings_of (s ∷ ss) = item (string s) (strings_of ss)
+
+-- the table has this text at a key
+abbrev pub HasText : Members → List ℕ → List ℕ → Type 0
+HasText ms key text = get_member key ms ≡ Some (string text)
+
+-- it has nothing there
+abbrev pub HasNone : Members → List ℕ → Type 0
+HasNone ms key = get_member key ms ≡ None
+
+-- one key of two is there, and names a file
+pub record NamesFile (ms : Members) (key other file : List ℕ) : Type 0 where
+  pub named : HasText ms key file
+  pub alone : HasNone ms other
+
+-- the flows stand in the file of a matrix, or of a list, whose departments may be given: a list of 1 to 256 different names
+abbrev pub SaysFlows : Members → Flows → Type 0
+SaysFlows ms (flow.Matrix file) = NamesFile ms (codes "flows") (codes "trips") (string_bytes file) × HasNone ms (codes "departments")
+SaysFlows ms (flow.Trips file) = NamesFile ms (codes "trips") (codes "flows") (string_bytes file) × HasNone ms (codes "departments")
+SaysFlows ms (flow.TripsBetween file names) =
+    NamesFile ms (codes "trips") (codes "flows") (string_bytes file)
+    × (get_member (codes "departments") ms ≡ Some (array (strings_of (map string_bytes names.items)))) × AreNames (map string_bytes names.items)
+
+-- how many places behind the point are kept: 2, where nothing is said of it
+abbrev pub SaysDecimals : Option Data → ℕ → Type 0
+SaysDecimals None n = n ≡ 2
+SaysDecimals (Some d) n = (d ≡ integer (pos n)) × (n ≤ 9)
+
+-- by what distances are measured
+abbrev pub SaysMetric : Members → Metric → Type 0
+SaysMetric ms Rectilinear = HasText ms (codes "metric") (codes "rectilinear") × HasNone ms (codes "decimals")
+SaysMetric ms (Euclidean n) = HasText ms (codes "metric") (codes "euclidean") × SaysDecimals (get_member (codes "decimals") ms) n
+SaysMetric ms Squared = HasText ms (codes "metric") (codes "squared") × HasNone ms (codes "decimals")
+
+-- the distances stand in the file of a matrix, or are measured between the places of a file
+abbrev pub SaysDistances : Members → Distances → Type 0
+SaysDistances ms (far.Matrix file) =
+    NamesFile ms (codes "distances") (codes "places") (string_bytes file) × HasNone ms (codes "metric") × HasNone ms (codes "decimals")
+SaysDistances ms (far.Places file metric) = NamesFile ms (codes "places") (codes "distances") (string_bytes file) × SaysMetric ms metric
+
+-- each key with its text, one after another
+abbrev pub ArePins : Members → List Pin → Type 0
+ArePins no_members [] = ⊤
+ArePins no_members (p ∷ ps) = ⊥
+ArePins (member k d ms) [] = ⊥
+ArePins (member k d ms) (p ∷ ps) = (string_bytes p.department ≡ k) × (d ≡ string (string_bytes p.place)) × ArePins ms ps
+
+-- a table of departments and places, or none
+abbrev pub SaysFixed : Option Data → List Pin → Type 0
+SaysFixed None pins = pins ≡ []
+SaysFixed (Some d) pins = (ms : Members) × (d ≡ table ms) × ArePins ms pins
+
+-- the text says all this, and nothing else
+pub record IsPlanText (text : List ℕ) (plan : Plan) : Type 0 where
+  pub members : Members
+  pub read : IsTable text members
+  pub known : AreKnown members
+  pub flows : SaysFlows members plan.flows
+  pub distances : SaysDistances members plan.distances
+  pub fixed : SaysFixed (get_member (codes "fixed") members) plan.fixed.items
+
+-- the table has something at a key
+abbrev pub HasSome : Members → List ℕ → Type 0
+HasSome ms key = (d : Data) × (get_member key ms ≡ Some d)
+
+-- it has what is no text there
+abbrev pub HasNoText : Members → List ℕ → Type 0
+HasNoText ms key = (d : Data) × (get_member key ms ≡ Some d) × ((text : List ℕ) → d ≢ string text)
+
+-- what an error says of the table
+abbrev pub IsFaultOf : Members → PlanError → Type 0
+IsFaultOf ms (error.Syntax place message) = ⊥
+IsFaultOf ms (error.UnknownKey key) = (IsKnown (string_bytes key) → ⊥) × (AreKnown ms → ⊥)
+IsFaultOf ms (error.NoText key found) = HasNoText ms key.now
+IsFaultOf ms (error.NeitherKey key other) = HasNone ms key.now × HasNone ms other.now
+IsFaultOf ms (error.BothKeys key other) = HasSome ms key.now × HasSome ms other.now
+IsFaultOf ms (error.MissingKey key other) = HasNone ms key.now × HasSome ms other.now
+IsFaultOf ms (error.LoneKey key other) = HasSome ms key.now × HasNone ms other.now
+IsFaultOf ms (error.OtherMetric found) =
+    HasText ms (codes "metric") (string_bytes found) × (string_bytes found ≢ codes "rectilinear") × (string_bytes found ≢ codes "euclidean") × (string_bytes found ≢ codes "squared")
+IsFaultOf ms error.NoDecimals = HasSome ms (codes "decimals")
+IsFaultOf ms (error.ExactMetric metric) = HasSome ms (codes "decimals") × HasText ms (codes "metric") metric.now
+IsFaultOf ms (error.Departments fault) = HasSome ms (codes "departments")
+IsFaultOf ms (error.Fixed fault) = HasSome ms (codes "fixed")
+IsFaultOf ms error.OutOfMemory = ⊤
+
+-- a text that is no TOML, or no memory
+abbrev pub IsSyntaxError : PlanError → Type 0
+IsSyntaxError (error.Syntax place message) = ⊤
+IsSyntaxError error.OutOfMemory = ⊤
+IsSyntaxError _ = ⊥
+
+-- what is wrong with a list of names, or with a table of what is fixed; or no memory
+abbrev pub IsNamesFault : PlanError → Type 0
+IsNamesFault (error.Departments fault) = ⊤
+IsNamesFault error.OutOfMemory = ⊤
+IsNamesFault _ = ⊥
+
+abbrev pub IsFixingFault : PlanError → Type 0
+IsFixingFault (error.Fixed fault) = ⊤
+IsFixingFault error.OutOfMemory = ⊤
+IsFixingFault _ = ⊥
+
+-- why a text is no plan: it is no TOML; it has a key that none may have; or all keys are known, and something is wrong at one
 abbrev pub IsPlanFault : List ℕ → PlanError → Type 0
-IsPlanFault text (Syntax place message) = (members : Members) → IsTable text members → ⊥
-IsPlanFault text OutOfMemory = ⊤
-IsPlanFault text e =
-    (members : Members) × IsTable text members
-    × (IsKeyFault members e ⊎ (AreKnown members × (IsFileFault (codes "flows") members e ⊎ IsFileFault (codes "distances") members e)))
+IsPlanFault text (error.Syntax place message) = (members : Members) → IsTable text members → ⊥
+IsPlanFault text error.OutOfMemory = ⊤
+IsPlanFault text e = (members : Members) × IsTable text members × IsFaultOf members e

@@ -1,24 +1,73 @@
--- A problem with names, as the texts of two tables spell it.
-use Rattle.std.specs.Prelude.{◌≡◌, ℕ, ◌≤◌, List, map, length, ℤ, string_bytes}
+-- A problem with names, as a plan and the texts of its tables spell it.
+use Rattle.std.specs.Prelude.{◌≡◌, ℕ, ◌≤◌, ⊤, List, [], map, length, ℤ, string_bytes}
+use Rattle.qap_cost.specs.Placement.{IsPlacement}
+use Rattle.plan_metric.specs.Distances.{AreDistances}
+use Rattle.plan_metric.specs.Metric.{IsFine, distance_scale}
+use Rattle.plan_metric.specs.declared.metric.Metric.{Metric}
+use Rattle.plan_table.specs.Names.{AreNames}
+use Rattle.plan_table.specs.Places.{IsPlacesText}
 use Rattle.plan_table.specs.Table.{IsMatrixText}
+use Rattle.plan_table.specs.Trips.{AppearInOrder, IsTripsText, words_of}
+use Rattle.plan_table.specs.declared.places.Point.{Point}
+use Rattle.plan_file.specs.Fixing.{AreFixed}
 use Rattle.plan_file.specs.Problem.{IsProblemOf}
+use Rattle.plan_file.specs.declared.source.Distances.{Distances}
+use Rattle.plan_file.specs.declared.source.Distances.TheVariants as far
+use Rattle.plan_file.specs.declared.source.Flows.{Flows}
+use Rattle.plan_file.specs.declared.source.Flows.TheVariants as flow
+use Rattle.plan_file.specs.declared.source.Plan.{Plan}
 use Rattle.plan_file.specs.declared.tables.NamedProblem.{NamedProblem}
 
 -- the most places behind a point that a table's numbers may have
 abbrev pub max_places : ℕ
 max_places = 100
 
--- one text is a matrix with the departments' names, the other one with the places'; the problem is that of the two
-pub record AreTablesOf (flows distances : List ℕ) (P : NamedProblem) : Type 0 where
+-- the departments that a plan names are names, and the number of decimals is one that is kept
+abbrev pub IsSoundFlows : Flows → Type 0
+IsSoundFlows (flow.TripsBetween file names) = AreNames (map string_bytes names.items)
+IsSoundFlows _ = ⊤
+
+abbrev pub IsSoundDistances : Distances → Type 0
+IsSoundDistances (far.Places file metric) = IsFine metric
+IsSoundDistances (far.Matrix file) = ⊤
+
+pub record IsSound (plan : Plan) : Type 0 where
+  pub flows : IsSoundFlows plan.flows
+  pub distances : IsSoundDistances plan.distances
+
+-- the text is a matrix of flows between departments of these names, or lists them pair by pair: then the names are those that are given, or those of
+-- the list in the order in which they first appear
+abbrev pub IsFlowText : Flows → List ℕ → List (List ℕ) → ℕ → List ℤ → Type 0
+IsFlowText (flow.Matrix file) text names scale entries = IsMatrixText text names scale entries
+IsFlowText (flow.Trips file) text names scale entries = (t : IsTripsText text names scale entries) × AppearInOrder (words_of t.rows) names
+IsFlowText (flow.TripsBetween file given) text names scale entries = IsTripsText text names scale entries × (names ≡ map string_bytes given.items)
+
+-- the text has these points for places of these names, and the entries are how far apart they lie
+pub record IsMeasured (metric : Metric) (text : List ℕ) (names : List (List ℕ)) (scale : ℕ) (points : List Point) (entries : List ℤ) : Type 0 where
+  pub coordinate_scale : ℕ
+  pub read : IsPlacesText text names coordinate_scale points
+  pub by : scale ≡ distance_scale metric coordinate_scale
+  pub distances : AreDistances metric coordinate_scale points entries
+
+-- the text is a matrix of distances between places of these names, or they are measured
+abbrev pub IsDistanceText : Distances → List ℕ → List (List ℕ) → ℕ → List Point → List ℤ → Type 0
+IsDistanceText (far.Matrix file) text names scale points entries = IsMatrixText text names scale entries × (points ≡ [])
+IsDistanceText (far.Places file metric) text names scale points entries = IsMeasured metric text names scale points entries
+
+-- one text has the flows between the departments of a problem, the other one the distances between its places; the problem is that of the two
+pub record AreTablesOf (plan : Plan) (flows distances : List ℕ) (P : NamedProblem) : Type 0 where
   pub flow_entries : List ℤ
   pub distance_entries : List ℤ
-  pub flow_text : IsMatrixText flows (map string_bytes P.departments.items) P.flow_scale flow_entries
-  pub distance_text : IsMatrixText distances (map string_bytes P.places.items) P.distance_scale distance_entries
+  pub flow_text : IsFlowText plan.flows flows (map string_bytes P.departments.items) P.flow_scale flow_entries
+  pub distance_text : IsDistanceText plan.distances distances (map string_bytes P.places.items) P.distance_scale P.points.items distance_entries
   pub problem : IsProblemOf (length P.departments.items) flow_entries (length P.places.items) distance_entries P.instance
+  pub fixed : AreFixed plan.fixed.items (map string_bytes P.departments.items) (map string_bytes P.places.items) P.fixed
 
--- a facility for each place, and no fewer than departments; few places behind the points
+-- a facility for each place, and no fewer than departments; few places behind the points; what is fixed is of the problem's size
 pub record HasSizes (P : NamedProblem) : Type 0 where
   pub size : P.instance.size ≡ length P.places.items
   pub room : length P.departments.items ≤ length P.places.items
   pub fine_flows : P.flow_scale ≤ max_places
   pub fine_distances : P.distance_scale ≤ max_places
+  pub fixed : P.fixed.size ≡ P.instance.size
+  pub placed : IsPlacement P.fixed

@@ -15,24 +15,110 @@ pub enum PlanError {
         message: String,
     },
     /// It has another key than a plan may have.
-    #[error("the key \"{key}\" is unknown: a plan has the keys flows and distances")]
+    #[error("the key \"{key}\" is unknown: a plan has the keys flows or trips, departments, distances or places, metric, decimals and fixed")]
     UnknownKey {
         key: String,
     },
-    /// It has no such key.
-    #[error("the key \"{key}\" is missing: name the file of that table, as `{key} = \"{key}.csv\"`")]
-    MissingKey {
-        key: &'static str,
-    },
     /// The key has no text.
-    #[error("the key \"{key}\" has the type {found}: name a file in quotes, as `{key} = \"{key}.csv\"`")]
+    #[error("the key \"{key}\" has the type {found}: write a text in quotes")]
     NoText {
         key: &'static str,
         found: &'static str,
     },
+    /// Neither of two keys is there.
+    #[error("the keys \"{key}\" and \"{other}\" are both missing: name the file of that table by one of them, as `{key} = \"{key}.csv\"`")]
+    NeitherKey {
+        key: &'static str,
+        other: &'static str,
+    },
+    /// Two keys are there, of which each stands for the other.
+    #[error("the keys \"{key}\" and \"{other}\" are both there: keep one of them")]
+    BothKeys {
+        key: &'static str,
+        other: &'static str,
+    },
+    /// A key is missing that another one wants.
+    #[error("the key \"{key}\" is missing: \"{other}\" wants it; write `{key} = \"rectilinear\"`, or \"euclidean\" or \"squared\"")]
+    MissingKey {
+        key: &'static str,
+        other: &'static str,
+    },
+    /// A key is there, and not the one that it goes with.
+    #[error("the key \"{key}\" goes with \"{other}\", which is missing: take it away, or add that one")]
+    LoneKey {
+        key: &'static str,
+        other: &'static str,
+    },
+    /// No metric has that name.
+    #[error("the key \"metric\" says \"{found}\": write \"rectilinear\", \"euclidean\" or \"squared\"")]
+    OtherMetric {
+        found: String,
+    },
+    /// What is to be the number of decimals is none.
+    #[error("the key \"decimals\" is to be a whole number from 0 to 9, without quotes, as `decimals = 2`")]
+    NoDecimals,
+    /// Distances by that metric are exact.
+    #[error("the key \"decimals\" goes with `metric = \"euclidean\"` alone: distances by \"{metric}\" are exact, so take it away")]
+    ExactMetric {
+        metric: &'static str,
+    },
+    /// The departments are no list of names.
+    #[error("{0}")]
+    Departments(NamesFault),
+    /// What is fixed is no table of departments and places.
+    #[error("{0}")]
+    Fixed(PinsFault),
     /// There is no memory left.
     #[error("out of memory")]
     OutOfMemory,
+}
+
+/// Why the departments are no list of names. Numbers are counted from 1.
+#[derive(Debug, Drop, Error)]
+pub enum NamesFault {
+    /// They are no list.
+    #[error("the key \"departments\" has the type {found}: write a list of names, as `departments = [\"Saw\", \"Lathe\"]`")]
+    NoList {
+        found: &'static str,
+    },
+    /// The list is empty, or too long.
+    #[error("the key \"departments\" has {count} names: write 1 to 256")]
+    OtherCount {
+        count: usize,
+    },
+    /// One of them is no text.
+    #[error("the key \"departments[{number}]\" has the type {found}: write a name in quotes")]
+    NoName {
+        number: usize,
+        found: &'static str,
+    },
+    /// A name is empty.
+    #[error("the key \"departments[{number}]\" is empty: write a name there, or take it away")]
+    EmptyName {
+        number: usize,
+    },
+    /// A name stands twice.
+    #[error("the key \"departments[{number}]\": the name \"{name}\" stands twice: give each department a name of its own")]
+    NameTwice {
+        number: usize,
+        name: String,
+    },
+}
+
+/// Why what is fixed is no table of departments and places.
+#[derive(Debug, Drop, Error)]
+pub enum PinsFault {
+    /// It is no table.
+    #[error("the key \"fixed\" has the type {found}: write `[fixed]` on a line of its own, and below it a line as `Saw = \"A\"` for each department that stays at its place")]
+    NoTable {
+        found: &'static str,
+    },
+    /// A place is no text.
+    #[error("the key \"fixed.{department}\" has the type {found}: write the name of a place in quotes")]
+    NoPlace {
+        department: String,
+        found: &'static str,
+    },
 }
 
 impl From<AllocError> for PlanError {
@@ -50,7 +136,7 @@ impl From<AllocError> for PlanError {
 #[derive(Clone, Copy, Debug, PartialEq, Eq, Error)]
 pub enum ProblemError {
     /// There are more departments than places.
-    #[error("there are {departments} departments and {places} places: add places to the table of distances, or take departments out of the table of flows")]
+    #[error("there are {departments} departments and {places} places: add places to their table, or take departments out of theirs")]
     TooManyDepartments { departments: usize, places: usize },
     /// There is no memory left.
     #[error("out of memory")]
@@ -68,13 +154,49 @@ impl From<AllocError> for ProblemError {
     }
 }
 
+/// Why departments can't be fixed at places.
+#[derive(Debug, Drop, Error)]
+pub enum FixingError {
+    /// No department has the name.
+    #[error("the key \"fixed.{department}\": no department has that name: mend it, or take the line away")]
+    UnknownDepartment {
+        department: String,
+    },
+    /// No place has the name.
+    #[error("the key \"fixed.{department}\": no place has the name \"{place}\": mend it, or take the line away")]
+    UnknownPlace {
+        department: String,
+        place: String,
+    },
+    /// Another department is fixed at the place.
+    #[error("the key \"fixed.{department}\": another department is fixed at \"{place}\": give each a place of its own")]
+    PlaceTwice {
+        department: String,
+        place: String,
+    },
+    /// There is no memory left.
+    #[error("out of memory")]
+    OutOfMemory,
+}
+
+impl From<AllocError> for FixingError {
+    ghost use Rattle.std.specs.Prelude.{◌≡◌};
+    ghost use Rattle.plan_file.specs.declared.error.FixingError.TheVariants.{OutOfMemory};
+
+    ghost from_gives = { λ _ e. e ≡ OutOfMemory };
+
+    fn from(_error: AllocError) -> FixingError {
+        FixingError::OutOfMemory
+    }
+}
+
 /// Why the texts of two tables make no problem with names.
 #[derive(Debug, Drop, Error)]
 pub enum TablesError {
     /// The first text is no table of flows.
     #[error("{0}")]
     Flows(TableError),
-    /// The second text is no table of distances.
+    /// The second text is no table of distances, or of places.
     #[error("{0}")]
     Distances(TableError),
     /// The numbers of the table of flows have too many places behind the point.
@@ -83,7 +205,33 @@ pub enum TablesError {
     /// The numbers of the table of distances have too many places behind the point.
     #[error("a number has more than 100 places behind the point: round the numbers, or choose a smaller unit")]
     DistancesTooFine,
+    /// The coordinates have too many places behind the point.
+    #[error("a coordinate has more than 9 places behind the point: round the coordinates, or choose a smaller unit")]
+    CoordinatesTooFine,
+    /// Two places lie too far apart.
+    #[error("the places \"{from}\" and \"{to}\" lie too far apart: with its places behind the point dropped, a distance is at most 10^9; round the coordinates, keep fewer decimals or choose a larger unit")]
+    TooFar {
+        from: String,
+        to: String,
+    },
     /// Both are tables, and make no problem.
     #[error("{0}")]
     Problem(ProblemError),
+    /// What is fixed doesn't fit the tables.
+    #[error("{0}")]
+    Fixing(FixingError),
+    /// There is no memory left.
+    #[error("out of memory")]
+    OutOfMemory,
+}
+
+impl From<AllocError> for TablesError {
+    ghost use Rattle.std.specs.Prelude.{◌≡◌};
+    ghost use Rattle.plan_file.specs.declared.error.TablesError.TheVariants.{OutOfMemory};
+
+    ghost from_gives = { λ _ e. e ≡ OutOfMemory };
+
+    fn from(_error: AllocError) -> TablesError {
+        TablesError::OutOfMemory
+    }
 }

@@ -1,14 +1,21 @@
-//! Plans that name their tables: read from TOML, and made into the instance of two named matrices.
+//! Plans that name their tables: read from TOML, and made into the instance of flows between departments and distances between places.
 #![tactic(auto)]
 
 mod error;
+mod fixing;
+mod lookup;
+mod measuring;
+mod names;
 mod place;
 mod plan;
 mod problem;
+mod source;
 mod tables;
+mod values;
 
-pub use error::{PlanError, ProblemError, TablesError};
+pub use error::{FixingError, NamesFault, PinsFault, PlanError, ProblemError, TablesError};
 pub use place::TextPlace;
-pub use plan::{Plan, read_plan};
+pub use plan::read_plan;
 pub use problem::problem_of;
+pub use source::{Distances, Flows, Pin, Plan};
 pub use tables::{MAX_PLACES, NamedProblem, read_tables};

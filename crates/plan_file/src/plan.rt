@@ -1,30 +1,28 @@
 //! Reads a plan.
 
-ghost use Rattle.std.specs.Prelude.{◌≡◌, ◌≢◌, ◌↔◌, ℕ, List, IfErr, IfOk, IsTrue, MatchOption, OnOk, Some, string_bytes};
-ghost use Rattle.toml.specs.Data.{string, get_member};
+ghost use Rattle.std.specs.Prelude.{◌≡◌, ◌↔◌, IfErr, IfOk, IsTrue, MatchOption, OnOk};
 ghost use Rattle.toml.specs.Errors.{IsMemory};
 ghost use Rattle.toml.specs.View.{table_view};
-ghost use Rattle.plan_file.specs.Plan.{AreKnown, IsFileFault, IsKeyFault, IsKnown, IsPlanFault, IsPlanText, IsSyntaxError};
+ghost use Rattle.plan_file.specs.Plan.{AreKnown, IsFaultOf, IsKnown, IsKnownOfDistances, IsKnownOfFlows, IsPlanFault, IsPlanText, IsSyntaxError};
+ghost use Rattle.plan_file.specs.Tables.{IsSound};
 ghost use Rattle.plan_file.specs.declared.error.PlanError.TheVariants.{OutOfMemory as WantOfMemory};
 
 use crate::error::PlanError;
+use crate::measuring::distances_of;
 use crate::place::TextPlace;
+use crate::source::Plan;
+use crate::values::{fixed_of, flows_of};
 use std::alloc::Global;
 use toml::de::Error;
 use toml::{Table, table_from_slice};
 
-/// The files of a plan's tables, as the plan names them.
-#[derive(Debug, Drop)]
-pub struct Plan {
-    /// The file of the matrix of flows between departments.
-    pub flows: String,
-    /// The file of the matrix of distances between places.
-    pub distances: String,
-}
-
-/// Reads a plan: a text in TOML with the keys `flows` and `distances`, each the name of a file, and no other.
+/// Reads a plan: a text in TOML with the keys `flows` or `trips`, `departments`, `distances` or `places`, `metric`, `decimals` and `fixed`,
+/// and no other.
+///
+/// `departments` goes with `trips` alone; `metric` goes with `places` and must be there; `decimals` goes with the Euclidean metric alone.
 pub fn read_plan(alloc: Global, text: &[u8]) -> Result<Plan, PlanError>
-    ensures plan { IfOk result (λ plan. IsPlanText text.now (string_bytes plan.flows) (string_bytes plan.distances)) }
+    ensures plan { IfOk result (IsPlanText text.now) }
+    ensures sound { IfOk result IsSound }
     ensures refused { IfErr result (IsPlanFault text.now) }
 {
     let table = match table_from_slice(alloc, text) {
@@ -32,9 +30,14 @@ pub fn read_plan(alloc: Global, text: &[u8]) -> Result<Plan, PlanError>
         Err(error) => return Err(syntax_error(alloc, text, &error)),
     };
     check_keys(alloc, &table)?;
-    let flows = file_of(alloc, &table, "flows")?;
-    let distances = file_of(alloc, &table, "distances")?;
-    Ok(Plan { flows, distances })
+    let flows = flows_of(alloc, &table)?;
+    let distances = distances_of(alloc, &table)?;
+    let fixed = fixed_of(alloc, &table)?;
+    Ok(Plan {
+        flows,
+        distances,
+        fixed,
+    })
 }
 
 /// What is wrong with a text that is no TOML.
@@ -57,7 +60,7 @@ fn syntax_error(alloc: Global, text: &[u8], error: &Error) -> PlanError
 /// Checks that a plan may have each key of a table.
 fn check_keys(alloc: Global, table: &Table) -> Result<(), PlanError>
     ensures known { OnOk result (AreKnown (table_view table.now)) }
-    ensures refused { IfErr result (IsKeyFault (table_view table.now)) }
+    ensures refused { IfErr result (IsFaultOf (table_view table.now)) }
 {
     match unknown_key(table) {
         Some(key) => Err(PlanError::UnknownKey {
@@ -84,22 +87,19 @@ fn unknown_key(table: &Table) -> Option<&str>
 fn is_known(key: &str) -> bool
     ensures { IsTrue result ↔ IsKnown key.now }
 {
-    key == "flows" || key == "distances"
+    is_known_of_flows(key) || is_known_of_distances(key) || key == "fixed"
 }
 
-/// The file that a key names.
-fn file_of(alloc: Global, table: &Table, key: &'static str) -> Result<String, PlanError>
-    ensures file { IfOk result (λ name. get_member key.now (table_view table.now) ≡ Some (string (string_bytes name))) }
-    ensures refused { IfErr result (IsFileFault key.now (table_view table.now)) }
+/// Whether a plan may have a key that says of the flows.
+fn is_known_of_flows(key: &str) -> bool
+    ensures { IsTrue result ↔ IsKnownOfFlows key.now }
 {
-    let Some(value) = table.get(key) else {
-        return Err(PlanError::MissingKey { key });
-    };
-    match value.as_str() {
-        Some(name) => Ok(String::from_str(alloc, name)?),
-        None => Err(PlanError::NoText {
-            key,
-            found: value.type_str(),
-        }),
-    }
+    key == "flows" || key == "trips" || key == "departments"
+}
+
+/// Whether a plan may have a key that says of the distances.
+fn is_known_of_distances(key: &str) -> bool
+    ensures { IsTrue result ↔ IsKnownOfDistances key.now }
+{
+    key == "distances" || key == "places" || key == "metric" || key == "decimals"
 }

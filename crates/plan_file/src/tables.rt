@@ -1,15 +1,19 @@
 //! Reads the two tables of a plan.
 
-ghost use Rattle.std.specs.Prelude.{◌≡◌, ◌≤◌, IfOk, map, string_bytes};
+ghost use Rattle.std.specs.Prelude.{◌≡◌, ◌<◌, ◌≤◌, [], IfOk, length, map, string_bytes};
+ghost use Rattle.plan_metric.specs.Metric.{IsFine};
 ghost use Rattle.plan_table.specs.Shape.{IsNamedSquare};
 ghost use Rattle.plan_table.specs.Table.{IsMatrixText};
-ghost use Rattle.plan_file.specs.Tables.{AreTablesOf, HasSizes, max_places};
+ghost use Rattle.plan_file.specs.Tables.{AreTablesOf, HasSizes, IsDistanceText, IsFlowText, IsMeasured, IsSound, IsSoundDistances, IsSoundFlows, max_places};
 
 use crate::error::TablesError;
+use crate::fixing::fixed_node;
 use crate::problem::problem_of;
-use plan_table::{NamedMatrix, read_matrix};
-use qap_cost::Instance;
-use std::alloc::Global;
+use crate::source::{Distances, Flows, Plan};
+use plan_metric::{DistanceError, MAX_PLACES as MAX_COORDINATE_PLACES, Metric, distance_matrix, distance_scale};
+use plan_table::{NamedMatrix, Point, TableError, read_matrix, read_places, read_trips, read_trips_between};
+use qap_cost::{Instance, Partial};
+use std::alloc::{AllocError, Global};
 
 /// The most places behind the point that a table's numbers may have.
 pub const MAX_PLACES: usize = 100;
@@ -25,53 +29,158 @@ pub struct NamedProblem {
     /// A distance `d` stands for `d / 10^distance_scale`.
     pub distance_scale: usize,
     pub instance: Instance,
+    /// The places' coordinates, where the distances were measured; else none.
+    pub points: Vec<Point>,
+    /// The departments that are fixed, at their places.
+    pub fixed: Partial,
 }
 
-/// Reads a matrix of flows between departments and one of distances between places, and makes their instance.
+/// The distances between places, and where these are, if that is known.
+#[derive(Drop)]
+struct Layout {
+    matrix: NamedMatrix,
+    points: Vec<Point>,
+}
+
+/// Reads the flows between departments and the distances between places, or these places, from the texts of the files that a plan names, and
+/// makes their instance.
 pub fn read_tables(
     alloc: Global,
+    plan: &Plan,
     flows: &[u8],
     distances: &[u8],
 ) -> Result<NamedProblem, TablesError>
-    ensures tables { IfOk result (AreTablesOf flows.now distances.now) }
+    requires { IsSound plan.now }
+    ensures tables { IfOk result (AreTablesOf plan.now flows.now distances.now) }
     ensures sizes { IfOk result HasSizes }
 {
-    let flows = read_flows(alloc, flows)?;
-    let distances = read_distances(alloc, distances)?;
-    match problem_of(alloc, &flows, &distances) {
-        Ok(instance) => Ok(NamedProblem {
-            departments: flows.names,
-            places: distances.names,
-            flow_scale: flows.scale,
-            distance_scale: distances.scale,
-            instance,
-        }),
-        Err(error) => Err(TablesError::Problem(error)),
-    }
+    let flows = read_flows(alloc, &plan.flows, flows)?;
+    let Layout {
+        matrix: distances,
+        points,
+    } = read_layout(alloc, &plan.distances, distances)?;
+    let instance = match problem_of(alloc, &flows, &distances) {
+        Ok(instance) => instance,
+        Err(error) => return Err(TablesError::Problem(error)),
+    };
+    let fixed = match fixed_node(alloc, &plan.fixed, &flows.names, &distances.names) {
+        Ok(fixed) => fixed,
+        Err(error) => return Err(TablesError::Fixing(error)),
+    };
+    Ok(NamedProblem {
+        departments: flows.names,
+        places: distances.names,
+        flow_scale: flows.scale,
+        distance_scale: distances.scale,
+        instance,
+        points,
+        fixed,
+    })
 }
 
-/// The matrix of flows.
-fn read_flows(alloc: Global, text: &[u8]) -> Result<NamedMatrix, TablesError>
-    ensures text { IfOk result (λ m. IsMatrixText text.now (map string_bytes m.names.items) m.scale m.entries.items) }
+/// The flows.
+fn read_flows(alloc: Global, source: &Flows, text: &[u8]) -> Result<NamedMatrix, TablesError>
+    requires { IsSoundFlows source.now }
+    ensures text { IfOk result (λ m. IsFlowText source.now text.now (map string_bytes m.names.items) m.scale m.entries.items) }
     ensures square { IfOk result (λ m. IsNamedSquare (map string_bytes m.names.items) m.entries.items) }
     ensures fine { IfOk result (λ m. m.scale ≤ max_places) }
 {
-    match read_matrix(alloc, text) {
+    match source {
+        Flows::Matrix(_) => fine_flows(read_matrix(alloc, text)),
+        Flows::Trips(_) => fine_flows(read_trips(alloc, text)),
+        Flows::TripsBetween(_, names) => {
+            fine_flows(read_trips_between(alloc, text, copied(alloc, names)?))
+        }
+    }
+}
+
+/// The flows that were read, where their numbers have few places behind the point.
+fn fine_flows(read: Result<NamedMatrix, TableError>) -> Result<NamedMatrix, TablesError>
+    ensures same { IfOk result (λ m. read ≡ Ok m) }
+    ensures fine { IfOk result (λ m. m.scale ≤ max_places) }
+{
+    match read {
         Ok(matrix) if matrix.scale > MAX_PLACES => Err(TablesError::FlowsTooFine),
         Ok(matrix) => Ok(matrix),
         Err(error) => Err(TablesError::Flows(error)),
     }
 }
 
+/// The same names again.
+fn copied(alloc: Global, names: &[String]) -> Result<Vec<String>, AllocError>
+    ensures { IfOk result (λ v. map string_bytes v.items ≡ map string_bytes names.now) }
+{
+    let mut copy = Vec::new(alloc);
+    for name in names {
+        copy.push(name.clone()?)?;
+    }
+    Ok(copy)
+}
+
+/// The distances.
+fn read_layout(alloc: Global, source: &Distances, text: &[u8]) -> Result<Layout, TablesError>
+    requires { IsSoundDistances source.now }
+    ensures text { IfOk result (λ l. IsDistanceText source.now text.now (map string_bytes l.matrix.names.items) l.matrix.scale l.points.items l.matrix.entries.items) }
+    ensures square { IfOk result (λ l. IsNamedSquare (map string_bytes l.matrix.names.items) l.matrix.entries.items) }
+    ensures fine { IfOk result (λ l. l.matrix.scale ≤ max_places) }
+{
+    match source {
+        Distances::Matrix(_) => read_distances(alloc, text),
+        Distances::Places(_, metric) => read_measured(alloc, *metric, text),
+    }
+}
+
 /// The matrix of distances.
-fn read_distances(alloc: Global, text: &[u8]) -> Result<NamedMatrix, TablesError>
-    ensures text { IfOk result (λ m. IsMatrixText text.now (map string_bytes m.names.items) m.scale m.entries.items) }
-    ensures square { IfOk result (λ m. IsNamedSquare (map string_bytes m.names.items) m.entries.items) }
-    ensures fine { IfOk result (λ m. m.scale ≤ max_places) }
+fn read_distances(alloc: Global, text: &[u8]) -> Result<Layout, TablesError>
+    ensures text { IfOk result (λ l. IsMatrixText text.now (map string_bytes l.matrix.names.items) l.matrix.scale l.matrix.entries.items × (l.points.items ≡ [])) }
+    ensures square { IfOk result (λ l. IsNamedSquare (map string_bytes l.matrix.names.items) l.matrix.entries.items) }
+    ensures fine { IfOk result (λ l. l.matrix.scale ≤ max_places) }
 {
     match read_matrix(alloc, text) {
         Ok(matrix) if matrix.scale > MAX_PLACES => Err(TablesError::DistancesTooFine),
-        Ok(matrix) => Ok(matrix),
+        Ok(matrix) => Ok(Layout {
+            matrix,
+            points: Vec::new(alloc),
+        }),
         Err(error) => Err(TablesError::Distances(error)),
     }
+}
+
+/// The distances between the places that a text lists.
+fn read_measured(alloc: Global, metric: Metric, text: &[u8]) -> Result<Layout, TablesError>
+    requires { IsFine metric }
+    ensures text { IfOk result (λ l. IsMeasured metric text.now (map string_bytes l.matrix.names.items) l.matrix.scale l.points.items l.matrix.entries.items) }
+    ensures square { IfOk result (λ l. IsNamedSquare (map string_bytes l.matrix.names.items) l.matrix.entries.items) }
+    ensures fine { IfOk result (λ l. l.matrix.scale ≤ max_places) }
+{
+    let table = match read_places(alloc, text) {
+        Ok(table) => table,
+        Err(error) => return Err(TablesError::Distances(error)),
+    };
+    if table.scale > MAX_COORDINATE_PLACES {
+        return Err(TablesError::CoordinatesTooFine);
+    }
+    match distance_matrix(alloc, metric, table.scale, &table.points) {
+        Ok(entries) => Ok(Layout {
+            matrix: NamedMatrix {
+                scale: distance_scale(metric, table.scale),
+                names: table.names,
+                entries,
+            },
+            points: table.points,
+        }),
+        Err(DistanceError::TooFar(i, j)) => Err(too_far(&table.names, i, j)?),
+        Err(DistanceError::OutOfMemory) => Err(TablesError::OutOfMemory),
+    }
+}
+
+/// The error of two places that lie too far apart.
+fn too_far(names: &[String], i: usize, j: usize) -> Result<TablesError, AllocError>
+    requires from { i < length names.now }
+    requires to { j < length names.now }
+{
+    Ok(TablesError::TooFar {
+        from: names[i].clone()?,
+        to: names[j].clone()?,
+    })
 }

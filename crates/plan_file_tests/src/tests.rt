@@ -2,17 +2,19 @@
 
 use plan_answer::{Pair, dearest_pairs};
 use plan_file::{read_plan, read_tables};
+use plan_picture::picture;
 use qap_cost::Perm;
 use std::test::Fail;
 
-/// What a plan's text says: its two files, or why it is none.
+/// What a plan's text says: its two files and how many departments are fixed, or why it is none.
 fn told(rt: &HostRuntime, text: &[u8]) -> Result<String, Fail> {
     let alloc = rt.alloc();
     Ok(match read_plan(alloc, text) {
         Ok(plan) => {
-            let flows = plan.flows.as_str();
-            let distances = plan.distances.as_str();
-            format!(in alloc; "{flows} {distances}")?
+            let flows = plan.flows.file();
+            let distances = plan.distances.file();
+            let fixed = plan.fixed.len();
+            format!(in alloc; "{flows} {distances} {fixed}")?
         }
         Err(error) => format!(in alloc; "{error}")?,
     })
@@ -21,22 +23,30 @@ fn told(rt: &HostRuntime, text: &[u8]) -> Result<String, Fail> {
 /// A text, and what it says.
 type Told = (&'static [u8], &'static str);
 
-const PLANS: [Told; 6] = [
+const PLANS: [Told; 24] = [
     (
         b"\xef\xbb\xbf# a plan\r\nflows = \"trips.csv\"\r\n\r\ndistances = 'metres.csv' # far\r\n",
-        "trips.csv metres.csv",
+        "trips.csv metres.csv 0",
+    ),
+    (
+        b"trips = \"t.csv\"\ndepartments = [\"A\", \"B\"]\nplaces = \"p.csv\"\nmetric = \"euclidean\"\ndecimals = 3\n[fixed]\nA = \"Dock\"\n\"B\" = 'Hall'\n",
+        "t.csv p.csv 2",
+    ),
+    (
+        b"trips = \"t.csv\"\nplaces = \"p.csv\"\nmetric = \"squared\"\n[fixed]\n",
+        "t.csv p.csv 0",
     ),
     (
         b"flows = \"a.csv\"\n",
-        "the key \"distances\" is missing: name the file of that table, as `distances = \"distances.csv\"`",
+        "the keys \"distances\" and \"places\" are both missing: name the file of that table by one of them, as `distances = \"distances.csv\"`",
     ),
     (
         b"flow = \"a.csv\"\ndistances = \"b.csv\"\n",
-        "the key \"flow\" is unknown: a plan has the keys flows and distances",
+        "the key \"flow\" is unknown: a plan has the keys flows or trips, departments, distances or places, metric, decimals and fixed",
     ),
     (
         b"distances = \"b.csv\"\nflows = 3\n",
-        "the key \"flows\" has the type integer: name a file in quotes, as `flows = \"flows.csv\"`",
+        "the key \"flows\" has the type integer: write a text in quotes",
     ),
     (
         b"flows = \"a.csv\"\ndistances = b.csv\n",
@@ -44,7 +54,71 @@ const PLANS: [Told; 6] = [
     ),
     (
         b"",
-        "the key \"flows\" is missing: name the file of that table, as `flows = \"flows.csv\"`",
+        "the keys \"flows\" and \"trips\" are both missing: name the file of that table by one of them, as `flows = \"flows.csv\"`",
+    ),
+    (
+        b"flows = \"a.csv\"\ntrips = \"t.csv\"\ndistances = \"b.csv\"\n",
+        "the keys \"flows\" and \"trips\" are both there: keep one of them",
+    ),
+    (
+        b"flows = \"a.csv\"\nplaces = \"t.csv\"\ndistances = \"b.csv\"\n",
+        "the keys \"distances\" and \"places\" are both there: keep one of them",
+    ),
+    (
+        b"flows = \"a.csv\"\nplaces = \"t.csv\"\n",
+        "the key \"metric\" is missing: \"places\" wants it; write `metric = \"rectilinear\"`, or \"euclidean\" or \"squared\"",
+    ),
+    (
+        b"flows = \"a.csv\"\ndistances = \"t.csv\"\nmetric = \"squared\"\n",
+        "the key \"metric\" goes with \"places\", which is missing: take it away, or add that one",
+    ),
+    (
+        b"flows = \"a.csv\"\ndistances = \"t.csv\"\ndepartments = [\"A\"]\n",
+        "the key \"departments\" goes with \"trips\", which is missing: take it away, or add that one",
+    ),
+    (
+        b"flows = \"a.csv\"\nplaces = \"t.csv\"\nmetric = \"manhattan\"\n",
+        "the key \"metric\" says \"manhattan\": write \"rectilinear\", \"euclidean\" or \"squared\"",
+    ),
+    (
+        b"flows = \"a.csv\"\nplaces = \"t.csv\"\nmetric = \"euclidean\"\ndecimals = 10\n",
+        "the key \"decimals\" is to be a whole number from 0 to 9, without quotes, as `decimals = 2`",
+    ),
+    (
+        b"flows = \"a.csv\"\nplaces = \"t.csv\"\nmetric = \"euclidean\"\ndecimals = -1\n",
+        "the key \"decimals\" is to be a whole number from 0 to 9, without quotes, as `decimals = 2`",
+    ),
+    (
+        b"flows = \"a.csv\"\nplaces = \"t.csv\"\nmetric = \"squared\"\ndecimals = 1\n",
+        "the key \"decimals\" goes with `metric = \"euclidean\"` alone: distances by \"squared\" are exact, so take it away",
+    ),
+    (
+        b"trips = \"a.csv\"\ndistances = \"t.csv\"\ndepartments = \"A\"\n",
+        "the key \"departments\" has the type string: write a list of names, as `departments = [\"Saw\", \"Lathe\"]`",
+    ),
+    (
+        b"trips = \"a.csv\"\ndistances = \"t.csv\"\ndepartments = []\n",
+        "the key \"departments\" has 0 names: write 1 to 256",
+    ),
+    (
+        b"trips = \"a.csv\"\ndistances = \"t.csv\"\ndepartments = [\"A\", 3]\n",
+        "the key \"departments[2]\" has the type integer: write a name in quotes",
+    ),
+    (
+        b"trips = \"a.csv\"\ndistances = \"t.csv\"\ndepartments = [\"A\", \"\"]\n",
+        "the key \"departments[2]\" is empty: write a name there, or take it away",
+    ),
+    (
+        b"trips = \"a.csv\"\ndistances = \"t.csv\"\ndepartments = [\"A\", \"B\", \"A\"]\n",
+        "the key \"departments[3]\": the name \"A\" stands twice: give each department a name of its own",
+    ),
+    (
+        b"flows = \"a.csv\"\ndistances = \"t.csv\"\nfixed = \"A\"\n",
+        "the key \"fixed\" has the type string: write `[fixed]` on a line of its own, and below it a line as `Saw = \"A\"` for each department that stays at its place",
+    ),
+    (
+        b"flows = \"a.csv\"\ndistances = \"t.csv\"\n[fixed]\nSaw = 4\n",
+        "the key \"fixed.Saw\" has the type integer: write the name of a place in quotes",
     ),
 ];
 
@@ -57,13 +131,16 @@ fn reads_plans(rt: HostRuntime) -> Result<(), Fail> {
     Ok(())
 }
 
+const MATRICES: &[u8] = b"flows = 'trips.csv'\ndistances = 'metres.csv'\n";
+
 const FLOWS: &[u8] = b",Saw,Lathe\nSaw,0,2.5\nLathe,1,0\n";
 
 const DISTANCES: &[u8] = b",A,B,C\nA,0,1.25,4\nB,2,0,3\nC,4,3,0\n";
 
 #[test]
 fn fills_up_with_departments_without_flow(rt: HostRuntime) -> Result<(), Fail> {
-    let problem = read_tables(rt.alloc(), FLOWS, DISTANCES)?;
+    let plan = read_plan(rt.alloc(), MATRICES)?;
+    let problem = read_tables(rt.alloc(), &plan, FLOWS, DISTANCES)?;
     assert_eq!(rt; (problem.flow_scale, problem.distance_scale), (1, 2));
     let flows = [[0, 25, 0], [10, 0, 0], [0, 0, 0]];
     let distances = [[0, 125, 400], [200, 0, 300], [400, 300, 0]];
@@ -75,27 +152,119 @@ fn fills_up_with_departments_without_flow(rt: HostRuntime) -> Result<(), Fail> {
     Ok(())
 }
 
+const PLACES: &[u8] = b"name,x,y\nA,0,0\nB,3,4\nC,1.5,0\n";
+
+/// A metric and a number of decimals, and by rows the distances of the three places, over a power of ten.
+type Measured = (&'static [u8], usize, [i64; 9]);
+
+const MEASURED: [Measured; 4] = [
+    (
+        b"flows = 'f'\nplaces = 'p'\nmetric = 'rectilinear'\n",
+        1,
+        [0, 70, 15, 70, 0, 55, 15, 55, 0],
+    ),
+    (
+        b"flows = 'f'\nplaces = 'p'\nmetric = 'squared'\n",
+        2,
+        [0, 2500, 225, 2500, 0, 1825, 225, 1825, 0],
+    ),
+    (
+        b"flows = 'f'\nplaces = 'p'\nmetric = 'euclidean'\n",
+        2,
+        [0, 500, 150, 500, 0, 427, 150, 427, 0],
+    ),
+    (
+        b"flows = 'f'\nplaces = 'p'\nmetric = 'euclidean'\ndecimals = 0\n",
+        0,
+        [0, 5, 2, 5, 0, 4, 2, 4, 0],
+    ),
+];
+
+#[test]
+fn measures_distances(rt: HostRuntime) -> Result<(), Fail> {
+    for (text, scale, distances) in MEASURED {
+        let plan = read_plan(rt.alloc(), text)?;
+        let problem = read_tables(rt.alloc(), &plan, FLOWS, PLACES)?;
+        assert_eq!(rt; problem.distance_scale, scale);
+        assert_eq!(rt; problem.points.len(), 3);
+        assert_eq!(rt; problem.instance.size(), 3);
+        for (i, row) in distances.chunks(3).enumerate().take(3) {
+            assert_eq!(rt; problem.instance.b_row(i), row);
+        }
+    }
+    Ok(())
+}
+
+#[test]
+fn fixes_departments(rt: HostRuntime) -> Result<(), Fail> {
+    let alloc = rt.alloc();
+    let text = b"flows = 'f'\ndistances = 'd'\n[fixed]\nSaw = 'C'\nLathe = 'A'\n";
+    let plan = read_plan(alloc, text)?;
+    let problem = read_tables(alloc, &plan, FLOWS, DISTANCES)?;
+    assert_eq!(rt; problem.fixed.facilities(), [1, 0].as_slice());
+    assert_eq!(rt; problem.fixed.places(), [0, 2].as_slice());
+    Ok(())
+}
+
+/// A plan, the texts of its tables, and why they make no problem.
+type Unmade = (&'static [u8], &'static [u8], &'static [u8], &'static str);
+
+const UNMADE: [Unmade; 8] = [
+    (
+        MATRICES,
+        DISTANCES,
+        FLOWS,
+        "there are 3 departments and 2 places: add places to their table, or take departments out of theirs",
+    ),
+    (
+        MATRICES,
+        b",a\na,3,5\n",
+        DISTANCES,
+        "line 2, field 3: the cell \"5\" is one too many: take it away, or quote a number's comma away",
+    ),
+    (
+        MATRICES,
+        FLOWS,
+        b",a,b\na,0\nb,0,0\n",
+        "line 2, field 3 is missing: write a number for each column",
+    ),
+    (
+        b"flows = 'f'\nplaces = 'p'\nmetric = 'squared'\n",
+        FLOWS,
+        b"name,x,y\nA,0,0\nB,0,100000\n",
+        "the places \"A\" and \"B\" lie too far apart: with its places behind the point dropped, a distance is at most 10^9; round the coordinates, keep fewer decimals or choose a larger unit",
+    ),
+    (
+        b"flows = 'f'\nplaces = 'p'\nmetric = 'squared'\n",
+        FLOWS,
+        b"name,x,y\nA,0,0\nB,0,0.0000000001\n",
+        "a coordinate has more than 9 places behind the point: round the coordinates, or choose a smaller unit",
+    ),
+    (
+        b"flows = 'f'\ndistances = 'd'\n[fixed]\nMill = 'A'\n",
+        FLOWS,
+        DISTANCES,
+        "the key \"fixed.Mill\": no department has that name: mend it, or take the line away",
+    ),
+    (
+        b"flows = 'f'\ndistances = 'd'\n[fixed]\nSaw = 'D'\n",
+        FLOWS,
+        DISTANCES,
+        "the key \"fixed.Saw\": no place has the name \"D\": mend it, or take the line away",
+    ),
+    (
+        b"flows = 'f'\ndistances = 'd'\n[fixed]\nSaw = 'A'\nLathe = 'A'\n",
+        FLOWS,
+        DISTANCES,
+        "the key \"fixed.Saw\": another department is fixed at \"A\": give each a place of its own",
+    ),
+];
+
 #[test]
 fn tells_why_tables_make_no_problem(rt: HostRuntime) -> Result<(), Fail> {
-    let cases: [(&[u8], &[u8], &str); 3] = [
-        (
-            DISTANCES,
-            FLOWS,
-            "there are 3 departments and 2 places: add places to the table of distances, or take departments out of the table of flows",
-        ),
-        (
-            b",a\na,3,5\n",
-            DISTANCES,
-            "line 2, field 3: the cell \"5\" is one too many: take it away, or quote a number's comma away",
-        ),
-        (
-            FLOWS,
-            b",a,b\na,0\nb,0,0\n",
-            "line 2, field 3 is missing: write a number for each column",
-        ),
-    ];
-    for (flows, distances, want) in cases {
-        let found = match read_tables(rt.alloc(), flows, distances) {
+    for (plan, flows, distances, want) in UNMADE {
+        let plan = read_plan(rt.alloc(), plan)?;
+        let found = match read_tables(rt.alloc(), &plan, flows, distances) {
             Ok(_) => String::from_str(rt.alloc(), "read")?,
             Err(error) => format!(in rt.alloc(); "{error}")?,
         };
@@ -107,7 +276,8 @@ fn tells_why_tables_make_no_problem(rt: HostRuntime) -> Result<(), Fail> {
 #[test]
 fn finds_the_dearest_pairs(rt: HostRuntime) -> Result<(), Fail> {
     let alloc = rt.alloc();
-    let problem = read_tables(alloc, FLOWS, DISTANCES)?;
+    let plan = read_plan(alloc, MATRICES)?;
+    let problem = read_tables(alloc, &plan, FLOWS, DISTANCES)?;
     let Ok(permutation) = Perm::new(Vec::from_slice(alloc, &[1, 0, 2])?) else {
         panic!(rt; "these locations are a permutation");
     };
@@ -126,5 +296,42 @@ fn finds_the_dearest_pairs(rt: HostRuntime) -> Result<(), Fail> {
         },
     ];
     assert_eq!(rt; pairs.as_slice(), want.as_slice());
+    Ok(())
+}
+
+/// Boxes of 44 by 46 pixels: each name has at most 3 letters. The places lie 30 and 40 apart, so that 16 pixels stand for 1.
+const PICTURE: &str = "<svg xmlns=\"http://www.w3.org/2000/svg\" width=\"580\" height=\"782\" viewBox=\"0 0 580 782\" font-family=\"monospace\">
+<rect width=\"580\" height=\"782\" fill=\"white\"/>
+<text x=\"28\" y=\"34\" font-size=\"16\">cost &quot;28&quot;</text>
+<g fill=\"none\" stroke=\"#3b6ea5\" stroke-opacity=\"0.6\">
+<path d=\"M 530 91 Q 210 350 50 731\" stroke-width=\"9.0\"/>
+</g>
+<rect x=\"28\" y=\"708\" width=\"44\" height=\"46\" rx=\"5\" fill=\"#fff3d6\" stroke=\"#7a5b00\" stroke-width=\"3\"/>
+<text x=\"50\" y=\"728\" text-anchor=\"middle\" font-size=\"13\" font-weight=\"bold\">R&amp;D</text>
+<text x=\"50\" y=\"745\" text-anchor=\"middle\" font-size=\"12\" fill=\"#666666\">A</text>
+<rect x=\"508\" y=\"68\" width=\"44\" height=\"46\" rx=\"5\" fill=\"#eef3f9\" stroke=\"#333333\"/>
+<text x=\"530\" y=\"88\" text-anchor=\"middle\" font-size=\"13\" font-weight=\"bold\">&lt;b&gt;</text>
+<text x=\"530\" y=\"105\" text-anchor=\"middle\" font-size=\"12\" fill=\"#666666\">B</text>
+<rect x=\"268\" y=\"708\" width=\"44\" height=\"46\" rx=\"5\" fill=\"#ffffff\" stroke=\"#999999\" stroke-dasharray=\"5 4\"/>
+<text x=\"290\" y=\"745\" text-anchor=\"middle\" font-size=\"12\" fill=\"#666666\">C</text>
+</svg>
+";
+
+#[test]
+fn draws_an_arrangement(rt: HostRuntime) -> Result<(), Fail> {
+    let alloc = rt.alloc();
+    let plan = read_plan(
+        alloc,
+        b"trips = 't'\nplaces = 'p'\nmetric = 'rectilinear'\n[fixed]\n'R&D' = 'A'\n",
+    )?;
+    let flows = b"from,to,amount\nR&D,\"<b>\",4\n";
+    let problem = read_tables(alloc, &plan, flows, PLACES)?;
+    let Ok(permutation) = Perm::new(Vec::from_slice(alloc, &[0, 1, 2])?) else {
+        panic!(rt; "these locations are a permutation");
+    };
+    assert!(rt; permutation.len() == problem.instance.size());
+    let text = picture(alloc, &problem, &permutation, "cost \"28\"")?;
+    let told = std::str::from_utf8(&text).unwrap_or("");
+    assert_eq!(rt; told, PICTURE);
     Ok(())
 }

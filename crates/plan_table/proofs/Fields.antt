@@ -1,7 +1,7 @@
 -- Fields of a record, one after another.
-use Rattle.std.proofs.Common.{◌≡◌, ℕ, ◌+◌, ◌<◌, ◌≤◌, List, [], ◌∷◌, ◌++◌, length, take, Some, None, ap, ◌∙◌, sym, inl, inr}
+use Rattle.std.proofs.Common.{◌≡◌, ℕ, ◌+◌, ◌<◌, ◌≤◌, List, [], ◌∷◌, ◌++◌, length, take, Some, None, ap, ◌∙◌, sym, inl, inr, arith}
 use Rattle.std.proofs.lemmas.Bool.{cases_lt}
-use Rattle.std.proofs.lemmas.List.{take_more}
+use Rattle.std.proofs.lemmas.List.{take_all, take_more}
 use Rattle.csv.specs.Records.{field_at}
 use Rattle.csv.proofs.RecordFacts.{field-get, field-none, field-there}
 
@@ -24,3 +24,11 @@ no_field fields i none =
       | inl below ↦ absurd (field-there fields i below none)
       | inr past ↦ past
     ]
+
+-- a record of three fields
+pub three_fields : (fields : List (List ℕ)) (a b c : List ℕ) → length fields ≡ 3 → field_at fields 0 ≡ Some a → field_at fields 1 ≡ Some b → field_at fields 2 ≡ Some c → fields ≡ a ∷ b ∷ c ∷ []
+three_fields fields a b c many first second third =
+    sym (take_all 3 fields (omega (arith, many)))
+    ∙ take_field fields 2 c third
+    ∙ ap (λ l. l ++ c ∷ []) (take_field fields 1 b second)
+    ∙ ap (λ l. (l ++ b ∷ []) ++ c ∷ []) (take_field fields 0 a first)

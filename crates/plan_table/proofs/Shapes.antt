@@ -9,11 +9,11 @@ use Rattle.plan_table.specs.declared.decimal.Decimal.{Decimal}
 use Rattle.plan_table.proofs.RowLists.{AreRows-counts}
 
 -- the entries are the numbers of the rows, as many in each as there are names
-pub square_of : {A : Type 0} (f : A → List ℕ) (names lent_names : List A) (rows : List (List (List ℕ))) (decimals lent : List Decimal) (scale : ℕ) (entries : List ℤ)
-    → lent_names ≡ names → lent ≡ decimals → AreNames (map f names) → AreRows (length lent_names) (map f lent_names) rows decimals → AreScaled scale lent entries
+pub square_of : {A : Type 0} (f : A → List ℕ) (names lent_names : List A) (count : ℕ) (rows : List (List (List ℕ))) (decimals lent : List Decimal) (scale : ℕ) (entries : List ℤ)
+    → count ≡ length names → lent_names ≡ names → lent ≡ decimals → AreNames (map f names) → AreRows count (map f lent_names) rows decimals → AreScaled scale lent entries
     → IsNamedSquare (map f names) entries
-square_of f names lent_names rows decimals lent scale entries same_names same named read scaled_so =
-    let many : length lent_names ≡ length (map f names) = ap (λ l. length l) same_names ∙ sym (length-map names f) in
+square_of f names lent_names count rows decimals lent scale entries count_is same_names same named read scaled_so =
+    let many : count ≡ length (map f names) = count_is ∙ sym (length-map names f) in
     let by_rows : length (map f lent_names) ≡ length (map f names) = ap (λ l. length (map f l)) same_names in
     record {
       named = named;
@@ -21,7 +21,7 @@ square_of f names lent_names rows decimals lent scale entries same_names same na
           ap (λ (l : List ℤ). length l) scaled_so.exact
           ∙ length-map lent (scaled scale)
           ∙ ap (λ (l : List Decimal). length l) same
-          ∙ (AreRows-counts (length lent_names) (map f lent_names) rows decimals read).1
+          ∙ (AreRows-counts count (map f lent_names) rows decimals read).1
           ∙ ap₂ (λ j k. j * k) by_rows many;
       in_range = scaled_so.in_range;
     }

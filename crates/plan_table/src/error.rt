@@ -34,13 +34,61 @@ pub enum TableError {
         line: u64,
         count: usize,
     },
+    /// There is no record, where the first one says what the columns are.
+    #[error("the table is empty: begin with the line `{head}`, and write a line for each {item} below it")]
+    NoHead {
+        head: &'static str,
+        item: &'static str,
+    },
+    /// The first record doesn't say what the columns are.
+    #[error("line {line}: expected the line `{head}`: begin with it, and write a line for each {item} below it")]
+    OtherHead {
+        line: u64,
+        head: String,
+        item: &'static str,
+    },
+    /// There is no place.
+    #[error("the table has no place: write a line for each below the first")]
+    NoPlace,
+    /// There are more than 256 places.
+    #[error("the table has {count} places: at most 256 are read, so split the table")]
+    TooManyPlaces {
+        count: usize,
+    },
+    /// There is no pair, and so no department.
+    #[error("the list has no pair: write a line for each below the first, or name the departments in the plan")]
+    NoPair,
+    /// There are more than 256 departments; another one stands here.
+    #[error("{place}: the name \"{name}\" is that of one department more than 256: at most so many are read, so split the list")]
+    TooManyDepartments {
+        place: Place,
+        name: String,
+    },
+    /// A line of a list ends early.
+    #[error("{place} is missing: write two names and a number on each line")]
+    MissingField {
+        place: Place,
+    },
+    /// A name is none of the departments'.
+    #[error("{place}: no department has the name \"{name}\": mend it, or add it to the departments of the plan")]
+    UnknownName {
+        place: Place,
+        name: String,
+    },
+    /// A pair stands twice.
+    #[error("{place}: the pair from \"{from}\" to \"{to}\" stands twice: write one line with the sum of both")]
+    PairTwice {
+        place: Place,
+        from: String,
+        to: String,
+    },
     /// A name is empty.
-    #[error("{place} is empty: write a name there, or take the column away")]
+    #[error("{place} is empty: write a name there, or take its column or its line away")]
     EmptyName {
         place: Place,
     },
     /// A name stands twice.
-    #[error("{place}: the name \"{name}\" stands twice: give each column a name of its own")]
+    #[error("{place}: the name \"{name}\" stands twice: give each a name of its own")]
     NameTwice {
         place: Place,
         name: String,

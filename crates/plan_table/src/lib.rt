@@ -2,15 +2,23 @@
 #![tactic(auto)]
 
 mod decimal;
+mod departments;
 mod error;
+mod head;
 mod names;
+mod places;
 mod records;
 mod rows;
 mod scale;
 mod spelling;
 mod table;
+mod trips;
 
 pub use decimal::{Decimal, MAX_ENTRY, NumberFault, decimal_law, parse_decimal};
+pub use departments::find_name;
 pub use error::{Place, TableError};
+pub use names::MAX_NAMES;
+pub use places::{PlaceTable, Point, read_places};
 pub use spelling::decimal_text;
 pub use table::{NamedMatrix, read_matrix};
+pub use trips::{read_trips, read_trips_between};

@@ -48,6 +48,32 @@ pub fn read_names(
     Ok(names)
 }
 
+/// The names that the rows begin with.
+pub fn read_first_names(
+    alloc: Global,
+    text: &[u8],
+    rows: &[StringRecord],
+) -> Result<Vec<String>, TableError>
+    ensures { IfOk result (λ names. AreNames (map string_bytes names.items)) }
+{
+    if rows.is_empty() {
+        return Err(TableError::NoPlace);
+    }
+    if rows.len() > MAX_NAMES {
+        return Err(TableError::TooManyPlaces { count: rows.len() });
+    }
+    let mut names = Vec::new(alloc);
+    for row in rows {
+        let place = Place {
+            line: line_of(text, row),
+            field: 1,
+        };
+        let name = new_name(alloc, &names, row.get(0).unwrap_or(""), place)?;
+        names.push(name).map_err(|_| TableError::OutOfMemory)?;
+    }
+    Ok(names)
+}
+
 /// A name that is not empty and that none of the others is.
 fn new_name(
     alloc: Global,
@@ -68,7 +94,7 @@ fn new_name(
 }
 
 /// Whether one of the names is this one.
-fn has_name(names: &[String], name: &str) -> bool
+pub fn has_name(names: &[String], name: &str) -> bool
     ensures { IsTrue result ↔ HasName (map string_bytes names.now) name.now }
 {
     for other in names {

@@ -14,15 +14,17 @@ use crate::records::line_of;
 use csv::StringRecord;
 use std::alloc::Global;
 
-/// The numbers of the rows of these names, by rows.
+/// The numbers of the rows of these names, by rows, so many in each.
 pub fn read_rows(
     alloc: Global,
     text: &[u8],
     rows: &[StringRecord],
     names: &[String],
+    count: usize,
 ) -> Result<Vec<Decimal>, TableError>
-    requires { length names.now ≤ max_names }
-    ensures { IfOk result (λ v. AreRows (length names.now) (map string_bytes names.now) (map fields_of rows.now) v.items) }
+    requires names { length names.now ≤ max_names }
+    requires count { count ≤ max_names }
+    ensures { IfOk result (λ v. AreRows count (map string_bytes names.now) (map fields_of rows.now) v.items) }
 {
     let mut decimals = Vec::new(alloc);
     for i in 0..names.len() {
@@ -36,7 +38,7 @@ pub fn read_rows(
             text,
             &rows[i],
             names[i].as_str(),
-            names.len(),
+            count,
             &mut decimals,
         )?;
     }
@@ -87,7 +89,7 @@ fn check_name(
 ) -> Result<(), TableError>
     ensures { OnOk result (field_at (fields_of record.now) 0 ≡ Some name.now) }
 {
-    if begins_with(record, name) {
+    if has_field(record, 0, name) {
         return Ok(());
     }
     Err(TableError::OtherName {
@@ -97,18 +99,18 @@ fn check_name(
     })
 }
 
-/// Whether the first field of a record is a name.
-fn begins_with(record: &StringRecord, name: &str) -> bool
-    ensures { IsTrue result ↔ (field_at (fields_of record.now) 0 ≡ Some name.now) }
+/// Whether a field of a record is this word.
+pub fn has_field(record: &StringRecord, field: usize, word: &str) -> bool
+    ensures { IsTrue result ↔ (field_at (fields_of record.now) field ≡ Some word.now) }
 {
-    match record.get(0) {
-        Some(found) => found == name,
+    match record.get(field) {
+        Some(found) => found == word,
         None => false,
     }
 }
 
 /// Checks that a record ends behind its name and so many cells.
-fn check_end(
+pub fn check_end(
     alloc: Global,
     text: &[u8],
     record: &StringRecord,
@@ -127,7 +129,7 @@ fn check_end(
 }
 
 /// The number in a column's cell.
-fn read_cell(
+pub fn read_cell(
     alloc: Global,
     text: &[u8],
     record: &StringRecord,
@@ -165,8 +167,13 @@ pub fn too_large(
     requires few { columns ≤ max_names }
     requires there { i / columns < length rows.now }
 {
-    let record = &rows[i / columns];
-    let field = i % columns + 1;
+    too_large_in(alloc, text, &rows[i / columns], i % columns + 1)
+}
+
+/// The error of a number that doesn't fit, where it stands in this field of a record.
+pub fn too_large_in(alloc: Global, text: &[u8], record: &StringRecord, field: usize) -> TableError
+    requires { field < 2 ^ 64 - 1 }
+{
     match String::from_str(alloc, record.get(field).unwrap_or("")) {
         Ok(word) => TableError::TooLarge {
             place: place_of(text, record, field),

@@ -36,7 +36,8 @@ pub fn read_matrix(alloc: Global, text: &[u8]) -> Result<NamedMatrix, TableError
         return Err(TableError::Empty);
     };
     let names = read_names(alloc, text, head)?;
-    let decimals = read_rows(alloc, text, rows, &names)?;
+    let columns = names.len();
+    let decimals = read_rows(alloc, text, rows, &names, columns)?;
     let scale = least_scale(&decimals);
     match scaled_entries(alloc, &decimals, scale) {
         Ok(entries) => Ok(NamedMatrix {
@@ -44,7 +45,7 @@ pub fn read_matrix(alloc: Global, text: &[u8]) -> Result<NamedMatrix, TableError
             scale,
             entries,
         }),
-        Err(ScaleError::TooLarge(i)) => Err(too_large(alloc, text, rows, names.len(), i)),
+        Err(ScaleError::TooLarge(i)) => Err(too_large(alloc, text, rows, columns, i)),
         Err(ScaleError::OutOfMemory) => Err(TableError::OutOfMemory),
     }
 }

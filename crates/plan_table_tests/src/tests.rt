@@ -1,6 +1,8 @@
 //! What no clause says: that calls succeed, what worked tables are read as, and how each refusal is told.
 
-use plan_table::{NamedMatrix, decimal_text, read_matrix};
+use plan_table::{
+    NamedMatrix, Point, decimal_text, read_matrix, read_places, read_trips, read_trips_between,
+};
 use std::process::Abort;
 use std::test::Fail;
 
@@ -66,11 +68,11 @@ const REFUSED: [Refused; 19] = [
     ),
     (
         b",a,,c",
-        "line 1, field 3 is empty: write a name there, or take the column away",
+        "line 1, field 3 is empty: write a name there, or take its column or its line away",
     ),
     (
         b",a,b,a",
-        "line 1, field 4: the name \"a\" stands twice: give each column a name of its own",
+        "line 1, field 4: the name \"a\" stands twice: give each a name of its own",
     ),
     (
         b",a,b\na,0,1\n",
@@ -122,7 +124,7 @@ const REFUSED: [Refused; 19] = [
     ),
     (
         b"\n\n,a,a",
-        "line 3, field 3: the name \"a\" stands twice: give each column a name of its own",
+        "line 3, field 3: the name \"a\" stands twice: give each a name of its own",
     ),
     (
         b",a\na\xff,0\n",
@@ -139,6 +141,162 @@ fn tells_what_is_wrong(rt: HostRuntime) -> Result<(), Fail> {
         };
         assert_eq!(rt; told.as_str(), want);
     }
+    Ok(())
+}
+
+#[test]
+fn reads_places(rt: HostRuntime) -> Result<(), Fail> {
+    let text = b"\xef\xbb\xbfname,x,y\r\nDock,0,-1.5\r\n\"Hall, north\",12.25,4\r\n";
+    let table = read_places(rt.alloc(), text)?;
+    assert_eq!(rt; table.names.len(), 2);
+    assert_eq!(rt; table.names[0].as_str(), "Dock");
+    assert_eq!(rt; table.names[1].as_str(), "Hall, north");
+    assert_eq!(rt; table.scale, 2);
+    let points = [Point { x: 0, y: -150 }, Point { x: 1225, y: 400 }];
+    assert_eq!(rt; table.points.as_slice(), points.as_slice());
+    Ok(())
+}
+
+#[test]
+fn reads_flows_pair_by_pair(rt: HostRuntime) -> Result<(), Fail> {
+    let alloc = rt.alloc();
+    let text = b"from,to,amount\nSaw,Lathe,2.5\nPaint,Saw,1\nLathe,Saw,12\nPaint,Paint,-3\n";
+    let entries = [0, 25, 0, 120, 0, 0, 10, 0, -30];
+    let names = ["Saw", "Lathe", "Paint"];
+    assert_read(&rt, &read_trips(alloc, text)?, &names, 1, &entries);
+    let mut departments = Vec::new(alloc);
+    for name in ["Store", "Paint", "Saw", "Lathe"] {
+        departments.push(String::from_str(alloc, name)?)?;
+    }
+    let ordered = [0, 0, 0, 0, 0, -30, 10, 0, 0, 0, 0, 25, 0, 0, 120, 0];
+    let matrix = read_trips_between(alloc, text, departments)?;
+    assert_read(
+        &rt,
+        &matrix,
+        &["Store", "Paint", "Saw", "Lathe"],
+        1,
+        &ordered,
+    );
+    Ok(())
+}
+
+const REFUSED_PLACES: [Refused; 10] = [
+    (
+        b"",
+        "the table is empty: begin with the line `name,x,y`, and write a line for each place below it",
+    ),
+    (
+        b"name,x\nA,1\n",
+        "line 1: expected the line `name,x,y`: begin with it, and write a line for each place below it",
+    ),
+    (
+        b"\nName,x,y\nA,1,2\n",
+        "line 2: expected the line `name,x,y`: begin with it, and write a line for each place below it",
+    ),
+    (
+        b"name,x,y\n",
+        "the table has no place: write a line for each below the first",
+    ),
+    (
+        b"name,x,y\nA,1,2\n,3,4\n",
+        "line 3, field 1 is empty: write a name there, or take its column or its line away",
+    ),
+    (
+        b"name,x,y\nA,1,2\nA,3,4\n",
+        "line 3, field 1: the name \"A\" stands twice: give each a name of its own",
+    ),
+    (
+        b"name,x,y\nA,1\n",
+        "line 2, field 3 is missing: write a number for each column",
+    ),
+    (
+        b"name,x,y\nA,1,2,3\n",
+        "line 2, field 4: the cell \"3\" is one too many: take it away, or quote a number's comma away",
+    ),
+    (
+        b"name,x,y\nA,1,y\n",
+        "line 2, field 3: \"y\" is no number: write digits and at most one point, as `12` or `-0.25`, with no blanks, exponent or comma",
+    ),
+    (
+        b"name,x,y\nA,1,0.5\nB,1,200000000\n",
+        "line 3, field 3: \"200000000\" is too large: times the power of ten that makes all numbers whole it lies outside -10^9 to 10^9; round the numbers or choose a larger unit",
+    ),
+];
+
+#[test]
+fn tells_what_is_wrong_with_places(rt: HostRuntime) -> Result<(), Fail> {
+    for (table, want) in REFUSED_PLACES {
+        let told = match read_places(rt.alloc(), table) {
+            Ok(_) => String::from_str(rt.alloc(), "read")?,
+            Err(error) => format!(in rt.alloc(); "{error}")?,
+        };
+        assert_eq!(rt; told.as_str(), want);
+    }
+    Ok(())
+}
+
+const REFUSED_TRIPS: [Refused; 9] = [
+    (
+        b"",
+        "the table is empty: begin with the line `from,to,amount`, and write a line for each pair below it",
+    ),
+    (
+        b"from;to;amount\n",
+        "line 1: expected the line `from,to,amount`: begin with it, and write a line for each pair below it",
+    ),
+    (
+        b"from,to,amount\n",
+        "the list has no pair: write a line for each below the first, or name the departments in the plan",
+    ),
+    (
+        b"from,to,amount\nA\n",
+        "line 2, field 2 is missing: write two names and a number on each line",
+    ),
+    (
+        b"from,to,amount\nA,B\n",
+        "line 2, field 3 is missing: write two names and a number on each line",
+    ),
+    (
+        b"from,to,amount\nA,B,3,5\n",
+        "line 2, field 4: the cell \"5\" is one too many: take it away, or quote a number's comma away",
+    ),
+    (
+        b"from,to,amount\nA,,3\n",
+        "line 2, field 2 is empty: write a name there, or take its column or its line away",
+    ),
+    (
+        b"from,to,amount\nA,B,3\nB,A,4\nA,B,3\n",
+        "line 4, field 1: the pair from \"A\" to \"B\" stands twice: write one line with the sum of both",
+    ),
+    (
+        b"from,to,amount\nA,B,0.5\nB,A,500000001\n",
+        "line 3, field 3: \"500000001\" is too large: times the power of ten that makes all numbers whole it lies outside -10^9 to 10^9; round the numbers or choose a larger unit",
+    ),
+];
+
+#[test]
+fn tells_what_is_wrong_with_trips(rt: HostRuntime) -> Result<(), Fail> {
+    for (table, want) in REFUSED_TRIPS {
+        let told = match read_trips(rt.alloc(), table) {
+            Ok(_) => String::from_str(rt.alloc(), "read")?,
+            Err(error) => format!(in rt.alloc(); "{error}")?,
+        };
+        assert_eq!(rt; told.as_str(), want);
+    }
+    Ok(())
+}
+
+#[test]
+fn tells_of_a_name_that_no_department_has(rt: HostRuntime) -> Result<(), Fail> {
+    let alloc = rt.alloc();
+    let mut departments = Vec::new(alloc);
+    departments.push(String::from_str(alloc, "A")?)?;
+    let text = b"from,to,amount\nA,A,1\nA,B,3\n";
+    let told = match read_trips_between(alloc, text, departments) {
+        Ok(_) => String::from_str(alloc, "read")?,
+        Err(error) => format!(in alloc; "{error}")?,
+    };
+    assert_eq!(rt; told.as_str(), "line 3, field 2: no department has the name \"B\": mend it, or add it to the departments of the plan");
     Ok(())
 }
 

@@ -2,7 +2,7 @@ mod Arrangements
 mod Contrasts
 mod Costs
 mod DoubleSums
-mod Exchanges
+pub mod Exchanges
 mod FacilityTables
 mod Ranges
 mod Readings

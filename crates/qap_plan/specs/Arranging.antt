@@ -4,17 +4,17 @@ use Rattle.qap_io.specs.Counting.{CountedDevice}
 use Rattle.qap_io.specs.Writing.{BreaksOff, Sends}
 use Rattle.plan_answer.specs.Answer.{IsAnswerText}
 use Rattle.plan_file.specs.declared.tables.NamedProblem.{NamedProblem}
-use Rattle.qap_plan.specs.Planning.{IsPlanned}
+use Rattle.qap_plan.specs.Keeping.{IsKept}
 use Rattle.qap_plan.specs.Starting.{HasNoStart, HasStart, Starting}
 use Rattle.qap_plan.specs.declared.error.PlanError.{PlanError}
 use Rattle.qap_plan.specs.declared.error.PlanError.TheVariants.{Device, OutOfMemory}
 use Rattle.qap_plan.specs.declared.planning.Planned.{Planned}
 
--- there is a start where one is asked for, and this is what the search of the problem has come to
+-- there is a start where one is asked for, and this is what the search of the arrangements that keep what is fixed has come to
 pub record IsArranged {Q : Type 0} (P : NamedProblem) (s : Starting Q) (x : Planned) : Type 0 where
   pub start : Option (List ℕ)
   pub begins : HasStart s P.instance start
-  pub planned : IsPlanned P.instance start x.permutation x.cost x.bound
+  pub kept : IsKept P.instance P.fixed start x.permutation x.cost x.bound
 
 -- the text of the answer, with the names, has gone out
 pub record HasArranged {Q W : Type 0} (P : NamedProblem) (s : Starting Q) (contents : W → Option (List ℕ)) (old new : CountedDevice W) (x : Planned) : Type 0 where

@@ -7,8 +7,9 @@ ghost use Rattle.qap_plan.specs.Options.{AreLimited};
 ghost use Rattle.qap_plan.specs.Starting.{starting_of};
 
 use crate::error::PlanError;
+use crate::keeping::search_keeping;
 use crate::options::Options;
-use crate::planning::{Planned, search};
+use crate::planning::Planned;
 use crate::starting::read_start;
 use plan_answer::answer_text;
 use plan_file::NamedProblem;
@@ -20,7 +21,7 @@ use std::sync::Wait;
 use std::thread::Threads;
 use std::time;
 
-/// Searches a problem with names, from a start where there is a reader of one, and writes where each department stands and what is proved of
+/// Searches the arrangements of a problem with names that keep what is fixed, from a start where there is a reader of one, and writes where each department stands and what is proved of
 /// the cost, in the plan's own units; what the search has come to is answered too. Where there is no answer, nothing is written; where the writer
 /// fails, a beginning of the text has gone out.
 pub fn plan_named<T, Q, W, C, S>(
@@ -46,10 +47,11 @@ where
         (HasNotArranged problem.now s W.contents writer.old writer.new) }
 {
     let start = read_start(alloc, start, &problem.instance)?;
-    let found = search(
+    let found = search_keeping(
         system,
         alloc,
         &problem.instance,
+        &problem.fixed,
         start,
         options,
         clock,

@@ -22,6 +22,8 @@ pub struct Request<'a> {
     pub json: Option<&'a str>,
     /// The file that the proof is written to.
     pub proof: Option<&'a str>,
+    /// The file that a picture of the answer to a plan is written to.
+    pub svg: Option<&'a str>,
     /// Whether nothing is to be written to standard output.
     pub quiet: bool,
 }
@@ -93,6 +95,12 @@ fn solve_command<'a>(alloc: Global) -> Result<Command<'a>, AllocError> {
                 .long("proof")
                 .value_name("FILE")
                 .help("write a proof of the answer to this file, for qapverify"),
+        )?
+        .arg(
+            Arg::new(alloc, "svg")
+                .long("svg")
+                .value_name("FILE")
+                .help("draw the answer to a plan, as an SVG picture in this file"),
         )?
         .arg(
             Arg::new(alloc, "ignore-rest")
@@ -168,6 +176,7 @@ fn request_of<'a>(found: &ArgMatches<'a>) -> Option<Request<'a>>
         out: found.get_str("out"),
         json: found.get_str("json"),
         proof: found.get_str("proof"),
+        svg: found.get_str("svg"),
         quiet: found.get_flag("quiet"),
     })
 }

@@ -4,7 +4,9 @@ ghost use Rattle.std.specs.Prelude.{◌≡◌, IfOk};
 ghost use Rattle.plan_file.specs.Tables.{HasSizes};
 ghost use Rattle.qap_plan.specs.declared.loading.LoadError.TheVariants.{OutOfMemory as WantOfMemory};
 
-use plan_file::{NamedProblem, PlanError, ProblemError, TablesError, read_plan, read_tables};
+use plan_file::{
+    FixingError, NamedProblem, PlanError, ProblemError, TablesError, read_plan, read_tables,
+};
 use plan_table::TableError;
 use qap_io::{Counted, Status};
 use qap_text::{MAX_INPUT, TextError, read_all};
@@ -56,7 +58,9 @@ fn tables_status(error: &TablesError) -> Status {
     match error {
         TablesError::Flows(TableError::OutOfMemory)
         | TablesError::Distances(TableError::OutOfMemory)
-        | TablesError::Problem(ProblemError::OutOfMemory) => Status::OutOfMemory,
+        | TablesError::Problem(ProblemError::OutOfMemory)
+        | TablesError::Fixing(FixingError::OutOfMemory)
+        | TablesError::OutOfMemory => Status::OutOfMemory,
         _ => Status::Refused,
     }
 }
@@ -82,20 +86,39 @@ pub fn load_problem<R: Files + AllocGlobal>(rt: &R, file: &str) -> Result<NamedP
             return Err(LoadError::Plan { file, error });
         }
     };
-    let flows_file = beside(alloc, file, plan.flows.as_str())?;
-    let distances_file = beside(alloc, file, plan.distances.as_str())?;
+    let flows_file = beside(alloc, file, plan.flows.file())?;
+    let distances_file = beside(alloc, file, plan.distances.file())?;
     let flows = read_file(rt, flows_file.as_str())?;
     let distances = read_file(rt, distances_file.as_str())?;
-    match read_tables(alloc, &flows, &distances) {
+    match read_tables(alloc, &plan, &flows, &distances) {
         Ok(problem) => Ok(problem),
         Err(error) => {
-            let file = match &error {
-                TablesError::Flows(_) | TablesError::FlowsTooFine => flows_file,
-                TablesError::Distances(_) | TablesError::DistancesTooFine => distances_file,
-                TablesError::Problem(_) => String::from_str(alloc, file)?,
+            let file = match fault_of(&error) {
+                Fault::Flows => flows_file,
+                Fault::Distances => distances_file,
+                Fault::Plan => String::from_str(alloc, file)?,
             };
             Err(LoadError::Tables { file, error })
         }
+    }
+}
+
+/// The file that is at fault.
+enum Fault {
+    Plan,
+    Flows,
+    Distances,
+}
+
+/// Which file an error is about.
+fn fault_of(error: &TablesError) -> Fault {
+    match error {
+        TablesError::Flows(_) | TablesError::FlowsTooFine => Fault::Flows,
+        TablesError::Distances(_)
+        | TablesError::DistancesTooFine
+        | TablesError::CoordinatesTooFine
+        | TablesError::TooFar { .. } => Fault::Distances,
+        TablesError::Problem(_) | TablesError::Fixing(_) | TablesError::OutOfMemory => Fault::Plan,
     }
 }
 

@@ -8,6 +8,7 @@ mod command_line;
 mod elapsed;
 mod error;
 mod json;
+mod keeping;
 mod loading;
 mod options;
 mod plan_run;
@@ -93,6 +94,9 @@ where
     T: Threads + Wait + Clock + Sync,
     requires { AreLimited request.now.options }
 {
+    if request.svg.is_some() {
+        return refuse_picture(rt, request.file);
+    }
     let Ok(file) = fs::open(rt, request.file) else {
         return refuse(rt, request.file, PlanError::Device);
     };
@@ -112,6 +116,14 @@ where
         Ok(answer) => finish(rt, request, &answer, elapsed.milliseconds()),
         Err(error) => refuse(rt, faulty_file(request, error), error),
     }
+}
+
+/// Tells that there is no picture of an instance without names.
+fn refuse_picture(rt: &HostRuntime, file: &str) -> ExitCode {
+    let _ = rt.eprintln(format_args!(
+        "error: {file}: a picture wants a plan, whose file's name ends in .toml: take --svg away, or write one"
+    ));
+    ExitCode::from(Status::Usage.code())
 }
 
 /// The file of the start that is asked for; its name, where it can't be opened.

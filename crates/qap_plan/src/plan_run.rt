@@ -1,7 +1,7 @@
 //! A run on a plan that names its tables.
 
 ghost use Rattle.plan_file.specs.Tables.{HasSizes};
-ghost use Rattle.qap_cost.specs.Objective.{Permutes};
+ghost use Rattle.qap_cost.specs.Placement.{Completes};
 ghost use Rattle.qap_plan.specs.Options.{AreLimited};
 
 use crate::arranging::plan_named;
@@ -14,8 +14,9 @@ use crate::planning::Planned;
 use crate::proof_file::write_proof;
 use crate::whole_file::write_whole;
 use crate::{end_of, faulty_file, refuse, start_of};
-use plan_answer::answer_text;
+use plan_answer::{answer_text, cost_text};
 use plan_file::NamedProblem;
+use plan_picture::picture;
 use qap_io::Counted;
 use std::process::ExitCode;
 use std::sync::Wait;
@@ -73,7 +74,7 @@ fn finish(
     milliseconds: u64,
 ) -> ExitCode
     requires sizes { HasSizes problem.now }
-    requires permutes { Permutes problem.now.instance answer.now.permutation }
+    requires kept { Completes problem.now.fixed answer.now.permutation }
 {
     if let Some(file) = request.out {
         if let Err(error) = write_answer(rt, file, problem, answer) {
@@ -82,6 +83,11 @@ fn finish(
     }
     if let Some(file) = request.json {
         if let Err(error) = write_json(rt, file, problem, answer, milliseconds) {
+            return refuse(rt, file, error);
+        }
+    }
+    if let Some(file) = request.svg {
+        if let Err(error) = write_picture(rt, file, problem, answer) {
             return refuse(rt, file, error);
         }
     }
@@ -101,7 +107,7 @@ fn write_answer(
     answer: &Planned,
 ) -> Result<(), PlanError>
     requires sizes { HasSizes problem.now }
-    requires permutes { Permutes problem.now.instance answer.now.permutation }
+    requires kept { Completes problem.now.fixed answer.now.permutation }
 {
     let text = answer_text(
         rt.alloc(),
@@ -127,4 +133,22 @@ fn write_json(
         return Err(PlanError::OutOfMemory);
     };
     write_whole(rt, file, text.as_bytes()).map_err(|_| PlanError::Device)
+}
+
+/// Writes a picture of the answer to a file.
+fn write_picture(
+    rt: &HostRuntime,
+    file: &str,
+    problem: &NamedProblem,
+    answer: &Planned,
+) -> Result<(), PlanError>
+    requires sizes { HasSizes problem.now }
+    requires kept { Completes problem.now.fixed answer.now.permutation }
+{
+    let alloc = rt.alloc();
+    let cost = cost_text(alloc, problem, answer.cost)?;
+    let cost = std::str::from_utf8(&cost).unwrap_or("");
+    let title = format!(in alloc; "cost {cost}")?;
+    let text = picture(alloc, problem, &answer.permutation, title.as_str())?;
+    write_whole(rt, file, &text).map_err(|_| PlanError::Device)
 }

@@ -20,7 +20,7 @@ use std::thread::Threads;
 use std::time;
 
 /// For how many milliseconds a worker's transaction is leased: ten minutes.
-const LEASE_MS: u64 = 600_000;
+pub(crate) const LEASE_MS: u64 = 600_000;
 
 /// What a search has come to.
 #[derive(Drop)]
@@ -89,7 +89,7 @@ where
 }
 
 /// What the search's answer says of all permutations.
-fn planned_by(found: Bounded) -> Planned
+pub(crate) fn planned_by(found: Bounded) -> Planned
     ensures permutation { result.permutation ≡ found.permutation }
     ensures cost { result.cost ≡ found.cost }
     ensures bound { result.bound ≡ found.bound }
@@ -107,7 +107,7 @@ fn planned_by(found: Bounded) -> Planned
 }
 
 /// The same of an answer that is a proof.
-fn proved_by(found: Proved) -> Result<Planned, AllocError>
+pub(crate) fn proved_by(found: Proved) -> Result<Planned, AllocError>
     ensures permutation { IfOk result (λ x. x.permutation ≡ found.proof.permutation) }
     ensures cost { IfOk result (λ x. x.cost ≡ found.proof.cost) }
     ensures bound { IfOk result (λ x. x.bound ≡ found.proof.bound) }
@@ -147,7 +147,7 @@ impl<S: Stop> Hook for UntilStopped<'_, S> {
 }
 
 /// The permutation that the search for a proof begins with.
-fn improved<S: Stop>(
+pub(crate) fn improved<S: Stop>(
     alloc: Global,
     instance: &Instance,
     start: Option<Perm>,

@@ -1,5 +1,6 @@
 //! Runs over memory: what is written, and what a run ends as; and the command line.
 
+ghost use Rattle.plan_file.specs.Tables.{HasSizes};
 ghost use Rattle.qap_plan.specs.Options.{AreLimited};
 
 use crate::answering::plan_stream;
@@ -13,7 +14,7 @@ use crate::planning::Planned;
 use crate::proof_file::proof_text;
 use crate::reading::read_problem;
 use clap::error::ErrorKind;
-use plan_file::read_tables;
+use plan_file::{NamedProblem, read_plan, read_tables};
 use qap_cost::Perm;
 use qap_io::{Counted, FailAt, Status};
 use qap_proof::{Verdict, accept};
@@ -244,23 +245,11 @@ const DISTANCES: &[u8] = b",A,B,C\nA,0,1.5,4\nB,2,0,3\nC,4,3,0\n";
 #[test]
 fn a_plan_is_told_by_names(rt: HostRuntime) -> Result<(), Fail> {
     let alloc = rt.alloc();
-    let problem = read_tables(alloc, FLOWS, DISTANCES)?;
-    let mut start: Option<Counted<&[u8]>> = None;
-    let mut output = Counted::new(Vec::new(alloc));
-    let elapsed = Elapsed::new(&rt, None);
-    let answer = plan_named(
-        &rt,
-        alloc,
-        &problem,
-        &mut start,
-        &mut output,
-        &ONE,
-        &elapsed,
-        &elapsed,
-    )?;
+    let plan = read_plan(alloc, b"flows = 'f'\ndistances = 'd'\n")?;
+    let problem = read_tables(alloc, &plan, FLOWS, DISTANCES)?;
+    let (answer, written) = planned(&rt, alloc, &problem)?;
     let told =
         b"Saw at A\nLathe at B\nC stays empty\ncost 3.75, optimal, proved\ndearest pairs:\nSaw to Lathe: 3.75\n";
-    let written = output.into_inner();
     assert_eq!(rt; written.as_slice(), told.as_slice());
     let answer = Planned { nodes: 3, ..answer };
     let text = named_json_text(alloc, &problem, &answer, 1500)?;
@@ -268,6 +257,46 @@ fn a_plan_is_told_by_names(rt: HostRuntime) -> Result<(), Fail> {
         text.as_str(),
         "{\"arrangement\":[\"A\",\"B\"],\"bound\":\"3.75\",\"cost\":\"3.75\",\"departments\":[\"Saw\",\"Lathe\"],\"distance_scale\":1,\"flow_scale\":1,\"milliseconds\":1500,\"nodes\":3,\"open\":0,\"permutation\":[1,2,3],\"places\":[\"A\",\"B\",\"C\"],\"status\":\"optimal\",\"version\":\"0.2.0\"}"
     );
+    Ok(())
+}
+
+/// What a run on a problem with names answers, and what it writes.
+fn planned<T>(
+    system: &T,
+    alloc: Global,
+    problem: &NamedProblem,
+) -> Result<(Planned, Vec<u8>), PlanError>
+where
+    T: Threads + Wait + Clock + Sync,
+    requires { HasSizes problem.now }
+{
+    let mut start: Option<Counted<&[u8]>> = None;
+    let mut output = Counted::new(Vec::new(alloc));
+    let elapsed = Elapsed::new(system, None);
+    let answer = plan_named(
+        system,
+        alloc,
+        problem,
+        &mut start,
+        &mut output,
+        &ONE,
+        &elapsed,
+        &elapsed,
+    )?;
+    Ok((answer, output.into_inner()))
+}
+
+// The saw stays at the dearest place, from which the lathe is least far at B: 2.5 * 3.
+#[test]
+fn what_is_fixed_stays(rt: HostRuntime) -> Result<(), Fail> {
+    let alloc = rt.alloc();
+    let text = b"flows = 'f'\ndistances = 'd'\n[fixed]\nSaw = 'C'\n";
+    let plan = read_plan(alloc, text)?;
+    let problem = read_tables(alloc, &plan, FLOWS, DISTANCES)?;
+    let (_, written) = planned(&rt, alloc, &problem)?;
+    let told =
+        b"Saw at C\nLathe at B\nA stays empty\ncost 7.5, optimal among arrangements that keep what is fixed, proved\ndearest pairs:\nSaw to Lathe: 7.5\n";
+    assert_eq!(rt; written.as_slice(), told.as_slice());
     Ok(())
 }
 
@@ -330,6 +359,7 @@ fn command_lines(rt: HostRuntime) -> Result<(), Fail> {
         out: None,
         json: None,
         proof: None,
+        svg: None,
         quiet: false,
     };
     assert_eq!(rt; parse(rt.alloc(), &alone).ok(), Some(request));

@@ -9,5 +9,5 @@ loop-i-preserved c =
     let (row, read, pushed) = rw c.as_str.ensures.value at c.in_ok-read_row.ensures in
     record {
       there = omega arith;
-      read = AreRows-more (length c.args.names.now) string_bytes fields_of c.args.names.now c.args.rows.now c.loop-i.i c.index-names-i-in-loop-i.result c.index-rows-i.result c.loop-i.decimals.items row _ (omega arith) (omega arith) c.index-names-i-in-loop-i.is c.index-rows-i.is c.loop-i.invariant.read read pushed;
+      read = AreRows-more c.args.count string_bytes fields_of c.args.names.now c.args.rows.now c.loop-i.i c.index-names-i-in-loop-i.result c.index-rows-i.result c.loop-i.decimals.items row _ (omega arith) (omega arith) c.index-names-i-in-loop-i.is c.index-rows-i.is c.loop-i.invariant.read read pushed;
     }

@@ -7,5 +7,5 @@ use Rattle.plan_table.proofs.rows.read_rows.Given as goal
 abbrev pub invariant-loop-i : goal.invariant-loop-i
 invariant-loop-i l = record {
   there : l.i ≤ length l.rows;
-  read : AreRows (length l.names) (map string_bytes (take l.i l.names)) (map fields_of (take l.i l.rows)) l.decimals.items;
+  read : AreRows l.count (map string_bytes (take l.i l.names)) (map fields_of (take l.i l.rows)) l.decimals.items;
 }

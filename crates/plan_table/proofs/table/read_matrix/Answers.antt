@@ -12,15 +12,14 @@ too_large-requires-clause-there c =
     let rows = c.in-Some.rows.now in
     let decimals = c.in_ok-decimals.decimals.items in
     let i = c.in-Err-TooLarge.i in
-    let same : length names ≡ c.len.result = c.deref-2.ensures.len ∙ sym c.len.ensures in
     let own_names = length-map c.in_ok-names.names.items string_bytes in
-    let named : 0 < length names = omega (arith, c.in_ok-names.ensures.0.positive, own_names, ap length c.deref-2.ensures.value) in
+    let named : 0 < c.len-columns.result = omega (arith, c.in_ok-names.ensures.0.positive, own_names, c.len-columns.ensures) in
     let fault = rw c.in-Err-TooLarge.field-0-is at c.in-Err-TooLarge.ensures in
     let below : i < length decimals = omega (arith, fault.0, ap length c.deref-4.ensures.value) in
-    let there = AreRows-there (length names) (map string_bytes names) (map fields_of rows) decimals i c.in_ok-decimals.ensures named below in
+    let there = AreRows-there c.len-columns.result (map string_bytes names) (map fields_of rows) decimals i c.in_ok-decimals.ensures named below in
     let as_many = length-map rows fields_of in
-    subst (λ (k : ℕ). i / k < length rows) same (omega (arith, there, as_many))
+    omega (arith, there, as_many)
 
 pub returns-in-Ok-clause-square : goal.returns-in-Ok-clause-square
 returns-in-Ok-clause-square c =
-    square_of string_bytes c.in_ok-names.names.items c.deref-2.result.now (map fields_of c.in-Some.rows.now) c.in_ok-decimals.decimals.items c.deref-4.result.now _ c.in-Ok.entries.items c.deref-2.ensures.value c.deref-4.ensures.value c.in_ok-names.ensures.0 c.in_ok-decimals.ensures c.in-Ok.ensures
+    square_of string_bytes c.in_ok-names.names.items c.deref-2.result.now c.len-columns.result (map fields_of c.in-Some.rows.now) c.in_ok-decimals.decimals.items c.deref-4.result.now _ c.in-Ok.entries.items (omega (arith, c.len-columns.ensures)) c.deref-2.ensures.value c.deref-4.ensures.value c.in_ok-names.ensures.0 c.in_ok-decimals.ensures c.in-Ok.ensures

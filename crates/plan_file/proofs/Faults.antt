@@ -1,0 +1,52 @@
+-- What an error says of a table, where it comes from one of its parts.
+use Rattle.std.proofs.Common.{List, ℕ, codes}
+use Rattle.toml.specs.Data.{Members}
+use Rattle.plan_file.specs.Plan.{HasSome, IsFaultOf, IsFixingFault, IsNamesFault, IsPlanFault, IsTable}
+use Rattle.plan_file.specs.declared.error.PlanError.{PlanError}
+use Rattle.plan_file.specs.declared.error.PlanError.TheVariants.{Syntax, UnknownKey, NoText, NeitherKey, BothKeys, MissingKey, LoneKey, OtherMetric, NoDecimals, ExactMetric, Departments, Fixed, OutOfMemory}
+
+pub fault_of_names : (ms : Members) (e : PlanError) → HasSome ms (codes "departments") → IsNamesFault e → IsFaultOf ms e
+fault_of_names ms (Departments fault) there h = there
+fault_of_names ms OutOfMemory there h = tt
+fault_of_names ms (Syntax place message) there h = absurd h
+fault_of_names ms (UnknownKey key) there h = absurd h
+fault_of_names ms (NoText key found) there h = absurd h
+fault_of_names ms (NeitherKey key other) there h = absurd h
+fault_of_names ms (BothKeys key other) there h = absurd h
+fault_of_names ms (MissingKey key other) there h = absurd h
+fault_of_names ms (LoneKey key other) there h = absurd h
+fault_of_names ms (OtherMetric found) there h = absurd h
+fault_of_names ms NoDecimals there h = absurd h
+fault_of_names ms (ExactMetric metric) there h = absurd h
+fault_of_names ms (Fixed fault) there h = absurd h
+
+pub fault_of_fixing : (ms : Members) (e : PlanError) → HasSome ms (codes "fixed") → IsFixingFault e → IsFaultOf ms e
+fault_of_fixing ms (Fixed fault) there h = there
+fault_of_fixing ms OutOfMemory there h = tt
+fault_of_fixing ms (Syntax place message) there h = absurd h
+fault_of_fixing ms (UnknownKey key) there h = absurd h
+fault_of_fixing ms (NoText key found) there h = absurd h
+fault_of_fixing ms (NeitherKey key other) there h = absurd h
+fault_of_fixing ms (BothKeys key other) there h = absurd h
+fault_of_fixing ms (MissingKey key other) there h = absurd h
+fault_of_fixing ms (LoneKey key other) there h = absurd h
+fault_of_fixing ms (OtherMetric found) there h = absurd h
+fault_of_fixing ms NoDecimals there h = absurd h
+fault_of_fixing ms (ExactMetric metric) there h = absurd h
+fault_of_fixing ms (Departments fault) there h = absurd h
+
+-- what is wrong with the table of a text keeps that from being a plan
+pub fault_of_table : (text : List ℕ) (ms : Members) (e : PlanError) → IsTable text ms → IsFaultOf ms e → IsPlanFault text e
+fault_of_table text ms (Syntax place message) is h = absurd h
+fault_of_table text ms OutOfMemory is h = tt
+fault_of_table text ms (UnknownKey key) is h = (ms, is, h)
+fault_of_table text ms (NoText key found) is h = (ms, is, h)
+fault_of_table text ms (NeitherKey key other) is h = (ms, is, h)
+fault_of_table text ms (BothKeys key other) is h = (ms, is, h)
+fault_of_table text ms (MissingKey key other) is h = (ms, is, h)
+fault_of_table text ms (LoneKey key other) is h = (ms, is, h)
+fault_of_table text ms (OtherMetric found) is h = (ms, is, h)
+fault_of_table text ms NoDecimals is h = (ms, is, h)
+fault_of_table text ms (ExactMetric metric) is h = (ms, is, h)
+fault_of_table text ms (Departments fault) is h = (ms, is, h)
+fault_of_table text ms (Fixed fault) is h = (ms, is, h)

@@ -1,0 +1,197 @@
+//! Where boxes stand in a picture.
+
+ghost use Rattle.std.specs.Prelude.{◌<◌};
+
+use plan_table::Point;
+use std::alloc::{AllocError, Global};
+
+/// How far boxes stand from each other and from the picture's edge, in pixels.
+const GAP: u64 = 28;
+
+/// How high the line above the boxes is.
+const HEAD: u64 = 40;
+
+/// The most pixels from the first to the last box, across and down; a picture that needs more is drawn on a grid.
+const MOST: u128 = 6000;
+
+/// How wide a picture of places at their coordinates is at least, unless it is high.
+const LEAST: u128 = 640;
+
+/// By what a factor of magnification is multiplied.
+const UNIT: u128 = 1 << 32;
+
+/// The centre of a box, in pixels from the picture's upper left corner.
+#[derive(Clone, Copy, Debug, PartialEq, Eq)]
+pub struct Centre {
+    pub x: u64,
+    pub y: u64,
+}
+
+/// How large the boxes are, in pixels.
+#[derive(Clone, Copy, Debug, PartialEq, Eq)]
+pub struct BoxSize {
+    pub width: u64,
+    pub height: u64,
+}
+
+/// A picture's size, and where its boxes stand.
+#[derive(Debug, Drop)]
+pub struct Layout {
+    pub width: u64,
+    pub height: u64,
+    pub centres: Vec<Centre>,
+}
+
+/// Where so many boxes stand: at their points, x to the right and y upwards, magnified so that no two boxes overlap, or in rows where there are no
+/// points or these lie too close together.
+pub fn layout_of(
+    alloc: Global,
+    count: usize,
+    points: &[Point],
+    size: BoxSize,
+) -> Result<Layout, AllocError> {
+    match frame_of(points) {
+        Some(frame) => match magnification(points, frame, size) {
+            Some(factor) => at_points(alloc, points, frame, factor, size),
+            None => in_rows(alloc, count, size),
+        },
+        None => in_rows(alloc, count, size),
+    }
+}
+
+/// The least and the largest coordinates of points.
+#[derive(Clone, Copy)]
+struct Frame {
+    left: i64,
+    right: i64,
+    lower: i64,
+    upper: i64,
+}
+
+/// The frame of points, where there are any.
+fn frame_of(points: &[Point]) -> Option<Frame> {
+    let (first, others) = points.split_first()?;
+    let mut frame = Frame {
+        left: first.x,
+        right: first.x,
+        lower: first.y,
+        upper: first.y,
+    };
+    for point in others {
+        frame.left = point.x.min(frame.left);
+        frame.right = point.x.max(frame.right);
+        frame.lower = point.y.min(frame.lower);
+        frame.upper = point.y.max(frame.upper);
+    }
+    Some(frame)
+}
+
+/// By how much coordinates are magnified, times `UNIT`; `None` where the picture would become too large, or two places stand at one point.
+fn magnification(points: &[Point], frame: Frame, size: BoxSize) -> Option<u128> {
+    let across = u128::from(frame.left.abs_diff(frame.right));
+    let down = u128::from(frame.lower.abs_diff(frame.upper));
+    let mut factor = factor_for(LEAST, across.max(down)).unwrap_or(UNIT);
+    for (i, p) in points.iter().enumerate() {
+        for q in points.iter().take(i) {
+            factor = factor_between(p, q, size)?.max(factor);
+        }
+    }
+    let fits = pixels(across, factor) <= MOST && pixels(down, factor) <= MOST;
+    if fits { Some(factor) } else { None }
+}
+
+/// The least factor at which the boxes of two points stand apart, across or down; `None` where the points are one.
+fn factor_between(p: &Point, q: &Point, size: BoxSize) -> Option<u128> {
+    let across = factor_for(
+        u128::from(size.width.saturating_add(GAP)),
+        u128::from(p.x.abs_diff(q.x)),
+    );
+    let down = factor_for(
+        u128::from(size.height.saturating_add(GAP)),
+        u128::from(p.y.abs_diff(q.y)),
+    );
+    match (across, down) {
+        (Some(across), Some(down)) => Some(across.min(down)),
+        (Some(factor), None) | (None, Some(factor)) => Some(factor),
+        (None, None) => None,
+    }
+}
+
+/// The least factor that makes a length so many pixels; `None` where there is no length.
+fn factor_for(pixels: u128, length: u128) -> Option<u128> {
+    if length == 0 {
+        return None;
+    }
+    Some(pixels.saturating_mul(UNIT).div_ceil(length))
+}
+
+/// How many pixels a length becomes.
+fn pixels(length: u128, factor: u128) -> u128 {
+    length.saturating_mul(factor) / UNIT
+}
+
+/// Boxes at their points.
+fn at_points(
+    alloc: Global,
+    points: &[Point],
+    frame: Frame,
+    factor: u128,
+    size: BoxSize,
+) -> Result<Layout, AllocError> {
+    let side = (size.width / 2).saturating_add(GAP);
+    let top = (size.height / 2).saturating_add(GAP).saturating_add(HEAD);
+    let mut centres = Vec::new(alloc);
+    for point in points {
+        let across = pixels(u128::from(frame.left.abs_diff(point.x)), factor);
+        let down = pixels(u128::from(frame.upper.abs_diff(point.y)), factor);
+        centres.push(Centre {
+            x: side.saturating_add(across.min(MOST) as u64),
+            y: top.saturating_add(down.min(MOST) as u64),
+        })?;
+    }
+    Ok(framed(centres, size))
+}
+
+/// Boxes in rows, as many rows as columns or fewer.
+fn in_rows(alloc: Global, count: usize, size: BoxSize) -> Result<Layout, AllocError> {
+    let columns = columns_for(count);
+    let side = (size.width / 2).saturating_add(GAP);
+    let top = (size.height / 2).saturating_add(GAP).saturating_add(HEAD);
+    let mut centres = Vec::new(alloc);
+    for k in 0..count {
+        let column = (k % columns) as u64;
+        let row = (k / columns) as u64;
+        centres.push(Centre {
+            x: side.saturating_add(column.saturating_mul(size.width.saturating_add(GAP))),
+            y: top.saturating_add(row.saturating_mul(size.height.saturating_add(GAP))),
+        })?;
+    }
+    Ok(framed(centres, size))
+}
+
+/// How many boxes stand in a row: the least number whose square is no less than the count, and at least 1.
+fn columns_for(count: usize) -> usize
+    ensures { 0 < result }
+{
+    let root = count.isqrt();
+    if root.saturating_mul(root) < count {
+        root.saturating_add(1)
+    } else {
+        root.max(1)
+    }
+}
+
+/// The boxes in a picture that has room for them.
+fn framed(centres: Vec<Centre>, size: BoxSize) -> Layout {
+    let mut width = 0;
+    let mut height = 0;
+    for centre in &centres {
+        width = centre.x.max(width);
+        height = centre.y.max(height);
+    }
+    Layout {
+        width: width.saturating_add(size.width / 2).saturating_add(GAP),
+        height: height.saturating_add(size.height / 2).saturating_add(GAP),
+        centres,
+    }
+}

@@ -1,0 +1,9 @@
+//! Pictures of arrangements: each department at its place, and lines as wide as the flows, as SVG.
+#![tactic(auto)]
+
+mod drawing;
+mod escape;
+mod layout;
+mod names;
+
+pub use drawing::picture;

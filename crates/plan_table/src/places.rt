@@ -1,0 +1,76 @@
+//! Places with coordinates.
+
+ghost use Rattle.std.specs.Prelude.{◌≡◌, ◌*◌, ◌∷◌, [], length, map, All, IfOk, unsigned_abs, ◌≤◌};
+ghost use Rattle.std.specs.String.{string_bytes};
+ghost use Rattle.plan_table.specs.Decimal.{max_entry};
+ghost use Rattle.plan_table.specs.Places.{AreNamedPoints, IsPlacesText, coordinates_of};
+
+use crate::error::TableError;
+use crate::head::check_head;
+use crate::names::read_first_names;
+use crate::records::read_records;
+use crate::rows::{read_rows, too_large};
+use crate::scale::{ScaleError, least_scale, scaled_entries};
+use std::alloc::{AllocError, Global};
+
+/// A point of the plane. In a table of places with a scale, a coordinate `c` stands for `c / 10^scale`.
+#[derive(Clone, Copy, Debug, PartialEq, Eq)]
+pub struct Point {
+    pub x: i64,
+    pub y: i64,
+}
+
+/// Places, each a name with a point.
+#[derive(Debug, Drop)]
+pub struct PlaceTable {
+    pub names: Vec<String>,
+    pub scale: usize,
+    pub points: Vec<Point>,
+}
+
+/// Reads places with coordinates from a text in CSV, and each number exactly.
+///
+/// The first record is `name,x,y`; each further one has a name and two numbers. There are 1 to 256 names, none empty and none twice. All
+/// numbers are multiplied by the least power of ten that makes them whole, and lie from -10^9 to 10^9 then.
+pub fn read_places(alloc: Global, text: &[u8]) -> Result<PlaceTable, TableError>
+    ensures text { IfOk result (λ t. IsPlacesText text.now (map string_bytes t.names.items) t.scale t.points.items) }
+    ensures points { IfOk result (λ t. AreNamedPoints (map string_bytes t.names.items) t.points.items) }
+{
+    let records = read_records(alloc, text)?;
+    let Some((head, rows)) = records.split_first() else {
+        return Err(TableError::NoHead {
+            head: "name,x,y",
+            item: "place",
+        });
+    };
+    check_head(alloc, text, head, "name", "x", "y", "place")?;
+    let names = read_first_names(alloc, text, rows)?;
+    let decimals = read_rows(alloc, text, rows, &names, 2)?;
+    let scale = least_scale(&decimals);
+    match scaled_entries(alloc, &decimals, scale) {
+        Ok(entries) => Ok(PlaceTable {
+            points: points_of(alloc, &entries, names.len())?,
+            names,
+            scale,
+        }),
+        Err(ScaleError::TooLarge(i)) => Err(too_large(alloc, text, rows, 2, i)),
+        Err(ScaleError::OutOfMemory) => Err(TableError::OutOfMemory),
+    }
+}
+
+/// The points whose coordinates these are, one after another, x before y.
+fn points_of(alloc: Global, coordinates: &[i64], count: usize) -> Result<Vec<Point>, AllocError>
+    requires many { length coordinates.now ≡ count * 2 }
+    requires few { count ≤ 256 }
+    ensures { IfOk result (λ v. coordinates_of v.items ≡ coordinates.now) }
+{
+    let mut points = Vec::new(alloc);
+    for k in 0..count {
+        let point = Point {
+            x: coordinates[2 * k],
+            y: coordinates[2 * k + 1],
+        };
+        points.push(point)?;
+    }
+    Ok(points)
+}

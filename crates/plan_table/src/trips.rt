@@ -1,0 +1,262 @@
+//! Flows listed pair by pair.
+
+ghost use Rattle.std.specs.Prelude.{◌≡◌, ◌*◌, ◌<◌, ◌≤◌, ◌^◌, ◌-◌, ◌∷◌, length, map, replicate, unsigned_abs, All, None, Some, IfOk, OnOk};
+ghost use Rattle.std.specs.String.{string_bytes};
+ghost use Rattle.csv.specs.Records.{fields_of, field_at};
+ghost use Rattle.plan_table.specs.Decimal.{max_entry};
+ghost use Rattle.plan_table.specs.Listing.{AreInside, ArePlaced, AreTripsOf, IsTripOf, cell_of as cell_number, filled as filled_with};
+ghost use Rattle.plan_table.specs.Names.{AreNames, max_names};
+ghost use Rattle.plan_table.specs.Shape.{IsNamedSquare};
+ghost use Rattle.plan_table.specs.Trips.{AppearInOrder, IsTripsMatrix, IsTripsText, name_at, trips_head, words_of};
+
+use crate::decimal::Decimal;
+use crate::departments::{appearing_names, find_name};
+use crate::error::TableError;
+use crate::head::check_head;
+use crate::records::read_records;
+use crate::rows::{check_end, place_of, read_cell, too_large_in};
+use crate::scale::{ScaleError, least_scale, scaled_entries};
+use crate::table::NamedMatrix;
+use csv::StringRecord;
+use std::alloc::{AllocError, Global};
+
+/// So much goes from one department to another, each given by its number.
+#[derive(Clone, Copy)]
+pub struct Trip {
+    pub from: usize,
+    pub to: usize,
+    pub amount: Decimal,
+}
+
+/// Reads flows that are listed pair by pair from a text in CSV, and each number exactly; the departments are those of the list, in the order in
+/// which they first appear.
+///
+/// The first record is `from,to,amount`; each further one has the names of two departments and a number. No pair stands twice; one that isn't
+/// listed has no flow. All numbers are multiplied by the least power of ten that makes them whole, and lie from -10^9 to 10^9 then.
+pub fn read_trips(alloc: Global, text: &[u8]) -> Result<NamedMatrix, TableError>
+    ensures text { IfOk result (λ m. let names = map string_bytes m.names.items in
+        (t : IsTripsText text.now names m.scale m.entries.items) × AppearInOrder (words_of t.rows) names) }
+    ensures square { IfOk result (λ m. IsNamedSquare (map string_bytes m.names.items) m.entries.items) }
+{
+    let records = read_records(alloc, text)?;
+    let rows = rows_below(alloc, text, &records)?;
+    let names = appearing_names(alloc, text, rows)?;
+    let matrix = matrix_of(alloc, text, rows, names)?;
+    Ok(matrix)
+}
+
+/// The same, between these departments: each name of the list is one of theirs.
+pub fn read_trips_between(
+    alloc: Global,
+    text: &[u8],
+    departments: Vec<String>,
+) -> Result<NamedMatrix, TableError>
+    requires { AreNames (map string_bytes departments.items) }
+    ensures text { IfOk result (λ m. IsTripsText text.now (map string_bytes m.names.items) m.scale m.entries.items) }
+    ensures names { IfOk result (λ m. m.names ≡ departments) }
+    ensures square { IfOk result (λ m. IsNamedSquare (map string_bytes m.names.items) m.entries.items) }
+{
+    let records = read_records(alloc, text)?;
+    let rows = rows_below(alloc, text, &records)?;
+    let matrix = matrix_of(alloc, text, rows, departments)?;
+    Ok(matrix)
+}
+
+/// The records below the first, which says what the columns are.
+fn rows_below<'a>(
+    alloc: Global,
+    text: &[u8],
+    records: &'a [StringRecord],
+) -> Result<&'a [StringRecord], TableError>
+    ensures { IfOk result (λ rows. map fields_of records.now ≡ trips_head ∷ map fields_of rows.now) }
+{
+    let Some((head, rows)) = records.split_first() else {
+        return Err(TableError::NoHead {
+            head: "from,to,amount",
+            item: "pair",
+        });
+    };
+    check_head(alloc, text, head, "from", "to", "amount", "pair")?;
+    Ok(rows)
+}
+
+/// The matrix of the flows that rows list between departments of these names.
+fn matrix_of(
+    alloc: Global,
+    text: &[u8],
+    rows: &[StringRecord],
+    names: Vec<String>,
+) -> Result<NamedMatrix, TableError>
+    requires { AreNames (map string_bytes names.items) }
+    ensures names { IfOk result (λ m. m.names ≡ names) }
+    ensures matrix { IfOk result (λ m. IsTripsMatrix (map string_bytes m.names.items) (map fields_of rows.now) m.scale m.entries.items) }
+    ensures square { IfOk result (λ m. IsNamedSquare (map string_bytes m.names.items) m.entries.items) }
+{
+    let trips = read_rows_of_trips(alloc, text, rows, &names)?;
+    let decimals = decimals_of(alloc, &trips)?;
+    let scale = least_scale(&decimals);
+    let amounts = match scaled_entries(alloc, &decimals, scale) {
+        Ok(amounts) => amounts,
+        Err(ScaleError::TooLarge(k)) => return Err(too_large_in(alloc, text, &rows[k], 2)),
+        Err(ScaleError::OutOfMemory) => return Err(TableError::OutOfMemory),
+    };
+    let cells = place_trips(alloc, text, rows, names.len(), &trips, &amounts)?;
+    Ok(NamedMatrix {
+        names,
+        scale,
+        entries: entries_of(alloc, &cells)?,
+    })
+}
+
+/// The trips of all rows, in their order.
+fn read_rows_of_trips(
+    alloc: Global,
+    text: &[u8],
+    rows: &[StringRecord],
+    names: &[String],
+) -> Result<Vec<Trip>, TableError>
+    requires { length names.now ≤ max_names }
+    ensures { IfOk result (λ v. AreTripsOf (map string_bytes names.now) (map fields_of rows.now) v.items) }
+{
+    let mut trips = Vec::new(alloc);
+    for row in rows {
+        let trip = read_trip(alloc, text, row, names)?;
+        trips.push(trip).map_err(|_| TableError::OutOfMemory)?;
+    }
+    Ok(trips)
+}
+
+/// The trip of a row: two names and a number, and nothing else.
+fn read_trip(
+    alloc: Global,
+    text: &[u8],
+    row: &StringRecord,
+    names: &[String],
+) -> Result<Trip, TableError>
+    requires { length names.now ≤ max_names }
+    ensures { IfOk result (IsTripOf (map string_bytes names.now) (fields_of row.now)) }
+{
+    check_start(text, row)?;
+    check_end(alloc, text, row, 2)?;
+    Ok(Trip {
+        from: department_in(alloc, text, row, 0, names)?,
+        to: department_in(alloc, text, row, 1, names)?,
+        amount: read_cell(alloc, text, row, 1)?,
+    })
+}
+
+/// Checks that a row has three fields at its front.
+fn check_start(text: &[u8], row: &StringRecord) -> Result<(), TableError>
+    ensures { OnOk result (3 ≤ length (fields_of row.now)) }
+{
+    if row.len() >= 3 {
+        return Ok(());
+    }
+    Err(TableError::MissingField {
+        place: place_of(text, row, row.len()),
+    })
+}
+
+/// The number of the department whose name stands in a field of a row.
+fn department_in(
+    alloc: Global,
+    text: &[u8],
+    row: &StringRecord,
+    field: usize,
+    names: &[String],
+) -> Result<usize, TableError>
+    requires { field < 2 ^ 64 - 1 }
+    ensures { IfOk result (λ i. (i < length names.now) × (field_at (fields_of row.now) field ≡ Some (name_at (map string_bytes names.now) i))) }
+{
+    let place = place_of(text, row, field);
+    let Some(name) = row.get(field) else {
+        return Err(TableError::MissingField { place });
+    };
+    match find_name(names, name) {
+        Some(i) => Ok(i),
+        None => Err(TableError::UnknownName {
+            place,
+            name: String::from_str(alloc, name)?,
+        }),
+    }
+}
+
+/// The numbers of trips.
+fn decimals_of(alloc: Global, trips: &[Trip]) -> Result<Vec<Decimal>, AllocError>
+    ensures { IfOk result (λ v. v.items ≡ map (λ t. t.amount) trips.now) }
+{
+    trips.iter().map(|trip| trip.amount).collect(alloc)
+}
+
+/// The matrix of trips, in which each amount has a cell of its own; no pair stands twice.
+fn place_trips(
+    alloc: Global,
+    text: &[u8],
+    rows: &[StringRecord],
+    departments: usize,
+    trips: &[Trip],
+    amounts: &[i64],
+) -> Result<Vec<Option<i64>>, TableError>
+    requires few { departments ≤ max_names }
+    requires inside { AreInside departments trips.now }
+    requires rows { length rows.now ≡ length trips.now }
+    requires amounts { length amounts.now ≡ length trips.now }
+    requires small { All (λ z. unsigned_abs z ≤ max_entry) amounts.now }
+    ensures { IfOk result (λ v. ArePlaced departments trips.now amounts.now (length trips.now) v.items) }
+{
+    let mut cells = empty_cells(alloc, departments * departments)?;
+    for k in 0..trips.len() {
+        let cell = cell_of(&trips[k], departments);
+        if cells[cell].is_some() {
+            return Err(pair_twice(alloc, text, &rows[k]));
+        }
+        cells[cell] = Some(amounts[k]);
+    }
+    Ok(cells)
+}
+
+/// So many cells that say nothing.
+fn empty_cells(alloc: Global, count: usize) -> Result<Vec<Option<i64>>, AllocError>
+    ensures { IfOk result (λ v. v.items ≡ replicate count None) }
+{
+    vec![in alloc; None; count]
+}
+
+/// Where a trip's amount stands in the matrix.
+fn cell_of(trip: &Trip, departments: usize) -> usize
+    requires few { departments ≤ max_names }
+    requires from { trip.now.from < departments }
+    requires to { trip.now.to < departments }
+    ensures number { result ≡ cell_number departments trip.now }
+    ensures inside { result < departments * departments }
+{
+    trip.from * departments + trip.to
+}
+
+/// The error of a row whose pair stood in an earlier one.
+fn pair_twice(alloc: Global, text: &[u8], row: &StringRecord) -> TableError {
+    let from = String::from_str(alloc, row.get(0).unwrap_or(""));
+    let to = String::from_str(alloc, row.get(1).unwrap_or(""));
+    match (from, to) {
+        (Ok(from), Ok(to)) => TableError::PairTwice {
+            place: place_of(text, row, 0),
+            from,
+            to,
+        },
+        _ => TableError::OutOfMemory,
+    }
+}
+
+/// The entries of cells; one that is empty says 0.
+fn entries_of(alloc: Global, cells: &[Option<i64>]) -> Result<Vec<i64>, AllocError>
+    ensures { IfOk result (λ v. v.items ≡ map filled_with cells.now) }
+{
+    cells.iter().map(|cell| filled(*cell)).collect(alloc)
+}
+
+/// What a cell says.
+fn filled(cell: Option<i64>) -> i64
+    ensures { result ≡ filled_with cell }
+{
+    cell.unwrap_or(0)
+}

@@ -1,0 +1,139 @@
+//! Searches an instance for a permutation of least cost among those that keep what is fixed.
+
+ghost use Rattle.std.specs.Prelude.{◌≡◌, ◌≤ℤ◌, ◌⊎◌, IfOk, IfSome, length};
+ghost use Rattle.qap_cost.specs.Objective.{Permutes, cost_of};
+ghost use Rattle.qap_cost.specs.Placement.{Completes};
+ghost use Rattle.qap_plan.specs.Keeping.{IsKept, IsNoDearerKept, IsSearched, ProvesKept};
+ghost use Rattle.qap_plan.specs.Options.{AreLimited};
+
+use crate::options::Options;
+use crate::planning::{LEASE_MS, Planned, improved, planned_by, proved_by};
+use plan_fixed::{completed, completes};
+use qap_cost::{Instance, Partial, Perm, cost};
+use qap_search::{
+    Always, Branching, Clock, Nobody, Plan, Stop, identity, prove_from, solve_least_from,
+};
+use std::alloc::{AllocError, Global};
+use std::sync::Wait;
+use std::thread::Threads;
+use std::time;
+
+/// Searches the permutations that complete a node, from the start or any of them, until no node is open, or the limit of nodes is reached, or the stop is
+/// wanted, and where memory ends.
+pub fn search_keeping<T, C, S>(
+    system: &T,
+    alloc: Global,
+    instance: &Instance,
+    fixed: &Partial,
+    start: Option<Perm>,
+    options: &Options,
+    clock: &C,
+    stop: &S,
+) -> Result<Planned, AllocError>
+where
+    T: Threads + Wait + time::Clock + Sync,
+    C: Clock,
+    S: Stop,
+    requires limited { AreLimited options.now }
+    requires start { IfSome start (Permutes instance.now) }
+    requires size { fixed.now.size ≡ instance.now.size }
+    ensures kept { IfOk result (λ x. IsKept instance.now fixed.now start x.permutation x.cost x.bound) }
+    ensures proof { IfOk result (λ x. IfSome x.proof (ProvesKept instance.now fixed.now x.permutation x.cost x.bound)) }
+{
+    let first = kept_start(alloc, instance, fixed, start, options, stop)?;
+    let plan = Plan {
+        workers: options.workers,
+        lease_ms: LEASE_MS,
+        limit: options.nodes,
+        root: fixed,
+        start: &first,
+        branching: Branching::Cutting,
+    };
+    if options.proves {
+        let found = prove_from(
+            system, alloc, instance, &plan, clock, &Always, stop, &Nobody,
+        )?;
+        let found = proved_by(found)?;
+        return Ok(kept_or_first(instance, fixed, first, found));
+    }
+    let found = solve_least_from(
+        system, alloc, instance, &plan, clock, &Always, stop, &Nobody,
+    )?;
+    Ok(kept_or_first(instance, fixed, first, planned_by(found)))
+}
+
+/// The permutation that the search begins with: the better one of the start, or any, and of what a tabu search comes to from there, each made to keep
+/// what is fixed.
+fn kept_start<S: Stop>(
+    alloc: Global,
+    instance: &Instance,
+    fixed: &Partial,
+    start: Option<Perm>,
+    options: &Options,
+    stop: &S,
+) -> Result<Perm, AllocError>
+    requires start { IfSome start (Permutes instance.now) }
+    requires size { fixed.now.size ≡ instance.now.size }
+    ensures completes { IfOk result (Completes fixed.now) }
+    ensures no_dearer { IfOk result (λ p. IsNoDearerKept instance.now fixed.now start (cost_of instance.now p)) }
+{
+    let own = own_start(alloc, instance, fixed, start)?;
+    let found = improved(alloc, instance, Some(own.copy()?), options, stop)?;
+    let kept = completed(fixed, &found)?;
+    Ok(cheaper(instance, kept, own))
+}
+
+/// The start, or the permutation that leaves each facility at the location of its number, made to keep what is fixed.
+fn own_start(
+    alloc: Global,
+    instance: &Instance,
+    fixed: &Partial,
+    start: Option<Perm>,
+) -> Result<Perm, AllocError>
+    requires start { IfSome start (Permutes instance.now) }
+    requires size { fixed.now.size ≡ instance.now.size }
+    ensures completes { IfOk result (Completes fixed.now) }
+    ensures no_dearer { IfOk result (λ p. IsNoDearerKept instance.now fixed.now start (cost_of instance.now p)) }
+{
+    match start {
+        Some(start) => completed(fixed, &start),
+        None => completed(fixed, &identity(alloc, instance)?),
+    }
+}
+
+/// The one of two permutations that costs less.
+fn cheaper(instance: &Instance, first: Perm, second: Perm) -> Perm
+    requires first { length first ≡ instance.now.size }
+    requires second { length second ≡ instance.now.size }
+    ensures one { (result ≡ first) ⊎ (result ≡ second) }
+    ensures no_dearer { cost_of instance.now result ≤ℤ cost_of instance.now second }
+{
+    if cost(instance, &first) <= cost(instance, &second) {
+        first
+    } else {
+        second
+    }
+}
+
+/// What a search has come to, where its permutation keeps what is fixed; else the same bound with the permutation that it began with.
+fn kept_or_first(instance: &Instance, fixed: &Partial, first: Perm, found: Planned) -> Planned
+    requires size { fixed.now.size ≡ instance.now.size }
+    requires first { Completes fixed.now first }
+    requires searched { IsSearched instance.now fixed.now first found.permutation found.cost found.bound }
+    requires proof { IfSome found.proof (ProvesKept instance.now fixed.now found.permutation found.cost found.bound) }
+    ensures completes { Completes fixed.now result.permutation }
+    ensures searched { IsSearched instance.now fixed.now first result.permutation result.cost result.bound }
+    ensures proof { IfSome result.proof (ProvesKept instance.now fixed.now result.permutation result.cost result.bound) }
+{
+    if completes(fixed, &found.permutation) {
+        return found;
+    }
+    Planned {
+        cost: cost(instance, &first),
+        permutation: first,
+        bound: found.bound,
+        nodes: found.nodes,
+        open_nodes: found.open_nodes,
+        proof: None,
+    }
+}
