@@ -1,6 +1,6 @@
 -- A node's facilities, ascending.
 use Rattle.std.proofs.Common.{◌≡◌, ◌≢◌, ◌∙◌, ℕ, ◌+◌, ◌<◌, ◌≤◌, List, [], ◌∷◌, ◌++◌, get_or, length, length-append, ap, arith, inl, inr, refl, subst, sym}
-use Rattle.std.specs.Prelude.{◌↔◌}
+use Rattle.std.specs.Prelude.{◌↔◌, Err, Ok, OnOk, Result}
 use Rattle.std.proofs.lemmas.Bool.{cases_lt}
 use Rattle.std.proofs.lemmas.List.{get_or_append_left, get_or_at}
 use Rattle.qap_cost.specs.Placement.{Completes, IsFreeFacility, IsFreeLocation, IsPlacement, Placement, StandsAt, placing, root_of}
@@ -147,3 +147,8 @@ same_completions x y f p placement whole sorted = (
         ap (λ h. get_or p h 0) (sym s.facility) ∙ completes.agrees s.turn s.placed ∙ s.location;
   }),
 )
+
+-- what follows at Ok
+pub on_ok_with : {E : Type 0} (r : Result (Unit {0}) E) (P Q : Type 0) → (P → Q) → OnOk r P → OnOk r Q
+on_ok_with (Ok u) P Q f h = f h
+on_ok_with (Err e) P Q f h = tt

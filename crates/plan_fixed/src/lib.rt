@@ -58,6 +58,7 @@ pub fn ascending(alloc: Global, node: &Partial) -> Result<Partial, AllocError>
 
 /// Places a facility where a node has it, if it does.
 fn place_if(sorted: &mut Partial, node: &Partial, f: usize) -> Result<(), AllocError>
+    requires placement { IsPlacement node.now }
     requires inside { f < node.now.size }
     requires sorted { IsSortedTo node.now f sorted.old }
     ensures { OnOk result (IsSortedTo node.now (f + 1) sorted.new) }

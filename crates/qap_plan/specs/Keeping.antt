@@ -1,5 +1,5 @@
 -- What a search of the arrangements that keep what is fixed comes to.
-use Rattle.std.specs.Prelude.{◌≡◌, ◌≤ℤ◌, ⊤, ℕ, ℤ, List, Option, Some, None}
+use Rattle.std.specs.Prelude.{◌≡◌, ◌↔◌, ◌≤ℤ◌, ⊤, ℕ, ℤ, List, Option, Some, None}
 use Rattle.qap_cost.specs.Instance.{Problem}
 use Rattle.qap_cost.specs.Objective.{Permutes, cost_of}
 use Rattle.qap_cost.specs.Placement.{Completes, Placement}
@@ -27,11 +27,11 @@ pub record IsSearched (I : Problem) (x : Placement) (first p : List ℕ) (c g : 
   pub none_less : (q : List ℕ) → Completes x q → g ≤ℤ cost_of I q
   pub at_most : g ≤ℤ c
 
--- a valid proof over what is fixed, with this permutation, its cost and this bound
+-- a valid proof over a node that the same permutations complete as what is fixed, with this permutation, its cost and this bound
 pub record ProvesKept (I : Problem) (x : Placement) (p : List ℕ) (c g : ℤ) (C : Claim) : Type 0 where
   pub shape : IsProof C
   pub proves : Proves I C
-  pub root : C.root ≡ x
+  pub root : (q : List ℕ) → Completes x q ↔ Completes C.root q
   pub permutation : C.permutation ≡ p
   pub cost : C.cost ≡ c
   pub bound : C.bound ≡ g

@@ -8,7 +8,7 @@ ghost use Rattle.qap_plan.specs.Options.{AreLimited};
 
 use crate::options::Options;
 use crate::planning::{LEASE_MS, Planned, improved, planned_by, proved_by};
-use plan_fixed::{completed, completes};
+use plan_fixed::{ascending, completed, completes};
 use qap_cost::{Instance, Partial, Perm, cost};
 use qap_search::{
     Always, Branching, Clock, Nobody, Plan, Stop, identity, prove_from, solve_least_from,
@@ -40,12 +40,13 @@ where
     ensures kept { IfOk result (λ x. IsKept instance.now fixed.now start x.permutation x.cost x.bound) }
     ensures proof { IfOk result (λ x. IfSome x.proof (ProvesKept instance.now fixed.now x.permutation x.cost x.bound)) }
 {
+    let root = ascending(alloc, fixed)?;
     let first = kept_start(alloc, instance, fixed, start, options, stop)?;
     let plan = Plan {
         workers: options.workers,
         lease_ms: LEASE_MS,
         limit: options.nodes,
-        root: fixed,
+        root: &root,
         start: &first,
         branching: Branching::Cutting,
     };

@@ -16,7 +16,7 @@ returns-in_err-send g c =
       refl,
       record {
         answer = found;
-        arranged = record { start = c.in_ok-start.start; begins = c.in_ok-start.ensures.read; planned = c.in_ok-found.ensures.planned };
+        arranged = record { start = c.in_ok-start.start; begins = c.in_ok-start.ensures.read; kept = c.in_ok-found.ensures.kept };
         text = c.in_ok-text.text.items;
         told = told;
         broken = broken;
