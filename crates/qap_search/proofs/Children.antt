@@ -1,5 +1,5 @@
 -- The pair that a child of a split puts together is free.
-use Rattle.std.proofs.Common.{ℕ, zero, suc, ◌+◌, ◌<◌, ◌≡◌, List, [], ◌∷◌, get_or, length, refl, arith}
+use Rattle.std.proofs.Common.{ℕ, zero, suc, ◌<◌, ◌≡◌, List, [], ◌∷◌, get_or, length, refl, arith}
 use Rattle.qap_cost.proofs.Placements.{ListsFree-free_below}
 use Rattle.qap_cost.specs.Placement.{Placement, IsPlacement, IsFreeFacility, IsFreeLocation}
 use Rattle.qap_proof.specs.Cell.{others_on}

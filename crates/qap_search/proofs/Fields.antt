@@ -9,7 +9,7 @@ use Rattle.tuple_match.specs.Field.{field_value, fields_value}
 use Rattle.tuple_match.specs.FieldValue.{FieldValue, number, number_of, numbers, numbers_of, word}
 use Rattle.tuple_match.specs.declared.fields.Field.{Field}
 use Rattle.qap_proof.specs.declared.side.Side.{Side}
-use Rattle.qap_search.specs.DecidedTuples.{IsNoPiece, best_of, closed_of, mirrored_of, pruned_of, split_of}
+use Rattle.qap_search.specs.DecidedTuples.{IsNoPiece}
 use Rattle.qap_search.specs.Piece.{side_word}
 
 abbrev bytes_in : FieldValue → List ℕ

@@ -1,5 +1,5 @@
 -- Trees of proofs that say what a certificate's tree says.
-use Rattle.std.proofs.Common.{◌≡◌, ◌≢◌, ℕ, ◌+◌, ◌≤◌, ◌++◌, ◌∷◌, [], refl, sym, ap, ap₂, subst, ◌∙◌, arith, Bool, List}
+use Rattle.std.proofs.Common.{◌≡◌, ◌≢◌, ℕ, ◌+◌, ◌≤◌, ◌++◌, ◌∷◌, [], refl, sym, ap, ap₂, ◌∙◌, arith, Bool, List}
 use Rattle.std.specs.Prelude.{ℤ}
 use Rattle.qap_cost.specs.Instance.{Problem}
 use Rattle.qap_cost.specs.Placement.{Placement}

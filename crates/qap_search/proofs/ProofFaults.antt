@@ -1,5 +1,5 @@
 -- What has a proof's shape has no fault of it.
-use Rattle.std.proofs.Common.{◌≡◌, ℕ, ◌+◌, ◌⊎◌, inl, inr, Bool, true, false, length, Option, Some, None, sym, ◌∙◌, arith}
+use Rattle.std.proofs.Common.{◌≡◌, ℕ, ◌+◌, inl, inr, Bool, false, Option, Some, None, sym, ◌∙◌, arith}
 use Rattle.std.proofs.lemmas.Bool.{false≢true}
 use Rattle.qap_cost.specs.Placement.{Placement}
 use Rattle.qap_lines.specs.Line.{line_after}

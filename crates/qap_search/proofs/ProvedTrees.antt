@@ -1,40 +1,37 @@
 -- The proof that a cut tree gives, with each open node closed.
-use Rattle.std.proofs.Common.{◌≡◌, ℕ, ◌+◌, ◌*◌, ◌<◌, ◌⊎◌, inl, inr, Bool, true, false, List, [], ◌∷◌, ◌++◌, length, Option, Some, None, refl, sym, ap, ap₂, subst, ◌∙◌, arith}
-use Rattle.std.specs.Prelude.{ℤ, ◌≤ℤ◌, All, Contains}
-use Rattle.std.specs.List.{sum_by}
+use Rattle.std.proofs.Common.{◌≡◌, ℕ, ◌+◌, ◌<◌, ◌⊎◌, inl, inr, Bool, true, false, List, [], ◌∷◌, length, Option, refl, sym, ap, subst, ◌∙◌, arith}
+use Rattle.std.specs.Prelude.{ℤ, ◌≤ℤ◌, All}
 use Rattle.std.proofs.lemmas.Int.{ints}
-use Rattle.std.proofs.lemmas.Bool.{false≢true}
 use Rattle.std.proofs.lemmas.List.Elements.{All-append, All-cons, All-nil}
 use Rattle.std.proofs.lemmas.List.Sums.{sum_by-cons}
 use Rattle.qap_cost.specs.Bijection.{IsBijection}
 use Rattle.qap_cost.specs.Instance.{Problem, IsInstance}
-use Rattle.qap_cost.specs.Objective.{Permutes, cost_of}
+use Rattle.qap_cost.specs.Objective.{cost_of}
 use Rattle.qap_cost.specs.Placement.{Placement, IsPlacement}
 use Rattle.qap_cost.specs.Range.{IsLimited}
 use Rattle.qap_proof.specs.Cover.{IsLeastOf}
 use Rattle.qap_proof.specs.Claim.{Claim, IsProof, IsRoot, Proves, claim_of}
-use Rattle.qap_proof.specs.Shape.{AreDuals, HasShape, AllHaveShape, IsPermOf, IsSplit, MayBeDuals, free_count, has_duals}
-use Rattle.qap_proof.specs.Tree.{Pair, pair, Split, Node, closed, split, cut, mirrored, Nodes, no_nodes, node, child_count, IsFreeOn, Place, whole, child, child_of, node_at}
+use Rattle.qap_proof.specs.Shape.{AreDuals, HasShape, AllHaveShape, IsPermOf, MayBeDuals, free_count, has_duals}
+use Rattle.qap_proof.specs.Tree.{pair, Split, Node, closed, split, cut, mirrored, Nodes, no_nodes, node, child_count, IsFreeOn, Place, whole, child, child_of, node_at}
 use Rattle.qap_proof.specs.Valid.{TakesOn}
 use Rattle.qap_proof.specs.declared.side.Side.{Side}
 use Rattle.qap_proof.specs.declared.side.Side.TheVariants.{Facility, Location}
 use Rattle.shared_space.specs.Limit.{IsWithin}
-use Rattle.space_txn.specs.Content.{content_of}
 use Rattle.tuple_match.specs.FieldValue.{FieldValue}
 use Rattle.qap_search.specs.Answer.{accepted_of}
 use Rattle.qap_search.specs.CutTree.{IsCutTree}
 use Rattle.qap_search.specs.LeafBounds.{IsBoundOf, shown, shown_by_all}
-use Rattle.qap_search.specs.OpenNodes.{AreLeastDuals, AllClosedTo, ClosedTo, undecided_count, undecided_counts}
+use Rattle.qap_search.specs.OpenNodes.{AllClosedTo, ClosedTo, undecided_count, undecided_counts}
 use Rattle.qap_search.specs.Outcome.{IsEnded}
 use Rattle.qap_search.specs.Piece.{best_tuple, open_count, pieces}
 use Rattle.qap_search.specs.ProvedAnswer.{IsProofOf, IsProvedFrom, LeavesProof}
-use Rattle.qap_search.specs.Search.{Search, NoneBelow}
+use Rattle.qap_search.specs.Search.{Search}
 use Rattle.qap_search.specs.SearchTree.{SearchTree, open_node, split_node, closed_node, cut_node, mirrored_node, SearchTrees, no_trees, tree, HasFit, IsPlain, IsReadableSplit, Judge, IsTree, AreTrees, judge_of, of_proof, of_proofs, proving, readable}
 use Rattle.qap_search.specs.Told.{IsClosingFault, TellClosed, TellSearch}
 use Rattle.qap_search.specs.declared.certificate.error.AssembleError.TheVariants.{NotATree, Unfinished as Open}
 use Rattle.qap_search.specs.declared.runs.answer.Proved.{Proved}
 use Rattle.qap_search.specs.declared.runs.run.Run.{Run}
-use Rattle.qap_search.proofs.Certificates.{cost_limited, child_placed, free_depth, open_weight}
+use Rattle.qap_search.proofs.Certificates.{cost_limited, child_placed, open_weight}
 use Rattle.qap_search.proofs.Keys.{tree_count-of_proofs}
 use Rattle.qap_search.proofs.OpenBounds.{none_completes}
 use Rattle.qap_search.proofs.OpenNodes.{closed_tree}
@@ -43,7 +40,6 @@ use Rattle.qap_search.proofs.Replacing.{AsksForLess, judge_proves, trees_by}
 use Rattle.qap_search.proofs.StoppedAssembling.{IsBoundIf}
 use Rattle.qap_search.proofs.StoppedLaws.{bound_limited, closed_valid, least_behind, open_weighed, shown_above}
 use Rattle.qap_search.proofs.Telling.{shut_to, told_once}
-use Rattle.qap_search.proofs.TupleReadings.{IsNode}
 
 -- trees of a proof's shape
 abbrev pub shaped : Judge

@@ -1,7 +1,6 @@
 -- From what the tuples of a search tell to its certificate, and back.
-use Rattle.std.proofs.Common.{◌≡◌, ◌≢◌, ℕ, Bool, false, ◌<◌, ◌≤◌, ◌⊎◌, inl, inr, List, ◌∷◌, length, refl, sym, ap, subst, ◌∙◌, arith}
+use Rattle.std.proofs.Common.{◌≡◌, ◌≢◌, ℕ, Bool, false, ◌⊎◌, inl, inr, List, ◌∷◌, length, refl, sym, ap, subst, ◌∙◌, arith}
 use Rattle.std.specs.Prelude.{ℤ, ◌≤ℤ◌}
-use Rattle.std.proofs.lemmas.Int.{ints}
 use Rattle.qap_cost.specs.Instance.{Problem}
 use Rattle.qap_cost.specs.Placement.{Placement, IsPlacement, root_of}
 use Rattle.qap_cert.proofs.Faults.{claim_fault}
@@ -15,18 +14,18 @@ use Rattle.qap_proof.specs.Shape.{HasShape}
 use Rattle.qap_proof.specs.Tree.{Node, whole}
 use Rattle.space_txn.specs.Content.{SameItems}
 use Rattle.tuple_match.specs.FieldValue.{FieldValue}
-use Rattle.qap_search.specs.Assembling.{IsAssembleFault, IsNoCertificate, IsTreeFault}
+use Rattle.qap_search.specs.Assembling.{IsAssembleFault, IsTreeFault}
 use Rattle.qap_search.specs.Finished.{IsAssembled}
 use Rattle.qap_search.specs.LeafBounds.{IsBoundOf}
 use Rattle.qap_search.specs.OpenNodes.{ClosedTo}
 use Rattle.qap_search.specs.Piece.{best_tuple, open_count, pieces}
 use Rattle.qap_search.specs.SearchTree.{SearchTree, IsTree, as_proof, of_proof, plain, readable, searched}
 use Rattle.qap_search.specs.Stopped.{HasDuals, IsNotStopped, IsStopped, IsStoppedFault, IsUnfinished}
-use Rattle.qap_search.specs.Told.{IsClosingFault, IsMadeOf, IsTellingFault, Tell, TellClosed, TellNone, TellSearch}
+use Rattle.qap_search.specs.Told.{IsClosingFault, IsMadeOf, IsTellingFault, Tell, TellClosed, TellSearch}
 use Rattle.qap_search.specs.declared.certificate.error.AssembleError.{AssembleError}
-use Rattle.qap_search.specs.declared.certificate.error.AssembleError.TheVariants.{Unfinished, NotATree, OutOfMemory}
+use Rattle.qap_search.specs.declared.certificate.error.AssembleError.TheVariants.{NotATree, OutOfMemory}
 use Rattle.qap_search.proofs.Assembled.{assembled_tree, plain_readable}
-use Rattle.qap_search.proofs.Certificates.{root_placement, tree_shape}
+use Rattle.qap_search.proofs.Certificates.{tree_shape}
 use Rattle.qap_search.proofs.OpenNodes.{closed_tree}
 use Rattle.qap_search.proofs.PlainTrees.{as_proof-same, as_proof_shape, closed_plain}
 use Rattle.qap_search.proofs.Replacing.{trees_by}

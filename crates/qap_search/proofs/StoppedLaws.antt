@@ -1,15 +1,14 @@
 -- What the certificate of a stopped search shows of the cut tree that it comes from.
-use Rattle.std.proofs.Common.{◌≡◌, ℕ, false, suc, ◌+◌, ◌⊎◌, inl, inr, List, [], ◌∷◌, ◌++◌, length, drop, Option, refl, sym, ap, subst, ◌∙◌, arith}
-use Rattle.std.specs.Prelude.{ℤ, pos, ◌≤ℤ◌, ◌+ℤ◌, All}
+use Rattle.std.proofs.Common.{◌≡◌, ℕ, false, suc, ◌+◌, ◌⊎◌, inl, inr, List, [], ◌∷◌, ◌++◌, length, drop, Option, refl, sym, ap, subst, arith}
+use Rattle.std.specs.Prelude.{ℤ, pos, ◌≤ℤ◌, All}
 use Rattle.std.specs.List.{sum_by}
 use Rattle.std.proofs.lemmas.Int.{ints}
 use Rattle.std.proofs.lemmas.List.{get_or_append_left, get_or-append-add, length-append}
 use Rattle.std.proofs.lemmas.List.Elements.{All-append, All-cons, All-nil}
 use Rattle.std.proofs.lemmas.List.Sums.{sum_by-append, sum_by-cons}
 use Rattle.qap_cost.specs.Instance.{Problem, IsInstance}
-use Rattle.qap_cost.specs.Matrix.{dual_value}
 use Rattle.qap_cost.specs.Objective.{cost_of}
-use Rattle.qap_cost.specs.Placement.{Placement, IsPlacement, IsFreeFacility, fixed_cost_of, free_locations, root_of}
+use Rattle.qap_cost.specs.Placement.{Placement, IsPlacement, IsFreeFacility, free_locations, root_of}
 use Rattle.qap_cost.specs.Range.{IsLimited}
 use Rattle.qap_cert.specs.Certificate.{Claim, Certifies}
 use Rattle.qap_cert.specs.Shape as shape
@@ -17,8 +16,8 @@ use Rattle.qap_cert.specs.Tree as cert
 use Rattle.qap_cert.specs.Valid as certified
 use Rattle.qap_cert.specs.declared.version.Version.TheVariants.{Second}
 use Rattle.qap_proof.specs.Cover.{IsLeastOf}
-use Rattle.qap_proof.specs.Tree.{Pair, pair, Split, Node, closed, split, cut, mirrored, Nodes, no_nodes, node, child_count, IsFreeOn, Place, whole, child, child_of, node_at}
-use Rattle.qap_proof.specs.Valid.{AllValid, Closes, MayFit, Valid}
+use Rattle.qap_proof.specs.Tree.{Pair, Split, Node, Nodes, child_count, IsFreeOn, Place, whole, child, child_of, node_at}
+use Rattle.qap_proof.specs.Valid.{AllValid, Valid}
 use Rattle.tuple_match.specs.FieldValue.{FieldValue}
 use Rattle.qap_search.specs.CutTree.{IsCutTree}
 use Rattle.qap_search.specs.LeafBounds.{shown, shown_by_all}
@@ -26,7 +25,7 @@ use Rattle.qap_search.specs.OpenNodes.{AllClosedTo, ClosedTo, undecided_count, u
 use Rattle.qap_search.specs.Piece.{best_tuple, closed_tuple, open_count, pieces, pieces_of_all, split_said}
 use Rattle.qap_search.specs.Replacement.{Best}
 use Rattle.qap_search.specs.Search.{from_root}
-use Rattle.qap_search.specs.SearchTree.{SearchTree, open_node, split_node, closed_node, cut_node, mirrored_node, SearchTrees, no_trees, tree, IsTree, AreTrees, plain, proving, decided_count, on_facility, of_proof, as_proof, as_proofs}
+use Rattle.qap_search.specs.SearchTree.{SearchTree, open_node, split_node, closed_node, cut_node, mirrored_node, SearchTrees, no_trees, tree, IsTree, AreTrees, plain, proving, decided_count, on_facility, as_proof, as_proofs}
 use Rattle.qap_search.specs.Stopped.{HasDuals, IsNotStopped, IsStopped, IsUnfinished}
 use Rattle.qap_search.proofs.Assembled.{shaped_tree}
 use Rattle.qap_search.proofs.Certificates.{FoundClose, best_is, best_of, child_placed, closed_in_both, cost_limited, decided_weight, drop_at, drop_end, free_location_count, node_count-searched, open_weight, root_placement, weighs_decided}

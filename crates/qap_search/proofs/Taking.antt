@@ -24,7 +24,7 @@ use Rattle.qap_search.proofs.Certificates.{free_depth}
 use Rattle.qap_search.proofs.Keys.{said_key, tree_count-of_proofs}
 use Rattle.qap_search.proofs.OneTree.{closed_tag, first_flag, first_tuple, later_flags, later_tuples, mirrored_tag, one_split, one_tree, one_side, plain_side, said_tag, same_flags, side_byte, zero_not_one}
 use Rattle.qap_search.proofs.Replacing.{pruned_tag, split_tag}
-use Rattle.qap_search.proofs.TupleReadings.{list_at, natural, number_at, tag}
+use Rattle.qap_search.proofs.TupleReadings.{list_at, number_at, tag}
 
 joined-more : (ts : Nodes) (s : Node) (us : Nodes) → joined (with_last ts s) us ≡ joined ts (node s us)
 joined-more no_nodes s us = refl

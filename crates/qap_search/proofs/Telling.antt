@@ -15,7 +15,7 @@ use Rattle.qap_search.specs.Found.{IsOpenNode}
 use Rattle.qap_search.specs.OpenNodes.{ClosedTo}
 use Rattle.qap_search.specs.Piece.{best_tuple, pieces}
 use Rattle.qap_search.specs.Replacement.{Best}
-use Rattle.qap_search.specs.SearchTree.{SearchTree, IsTree, readable, of_proof}
+use Rattle.qap_search.specs.SearchTree.{SearchTree, readable, of_proof}
 use Rattle.qap_search.specs.Told.{IsClosingFault, IsTellingFault, Tell, TellClosed, TellNone, TellSearch}
 use Rattle.qap_search.specs.TreeBuilding.{AreTuplesOf}
 use Rattle.qap_search.specs.declared.certificate.error.AssembleError.{AssembleError}

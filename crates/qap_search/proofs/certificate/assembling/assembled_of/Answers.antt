@@ -1,4 +1,4 @@
-use Rattle.std.proofs.Common.{refl, inl, inr, ⊎_elim, sym, ◌∙◌, subst, rules}
+use Rattle.std.proofs.Common.{refl, inl, inr, ⊎_elim, rules}
 use Rattle.std.proofs.lemmas.Result.{err_from_is_err_and}
 use Rattle.qap_search.specs.Pieces.{decided_tuples}
 use Rattle.qap_search.proofs.Telling.{none_of_tree, none_permuted, tells}

@@ -1,4 +1,4 @@
-use Rattle.std.proofs.Common.{◌≡◌, refl, inl, inr, ⊎_elim, sym, ap, ap₂, ◌∙◌, subst, rules, to_z, of_z}
+use Rattle.std.proofs.Common.{◌≡◌, refl, inl, inr, ⊎_elim, sym, ap₂, ◌∙◌, subst, rules, to_z, of_z}
 use Rattle.std.specs.Int.{w128}
 use Rattle.std.specs.Prelude.{ℤ}
 use Rattle.std.proofs.lemmas.Result.{err_from_is_err_and}

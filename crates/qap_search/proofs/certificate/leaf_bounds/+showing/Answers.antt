@@ -1,4 +1,4 @@
-use Rattle.std.proofs.Common.{◌≡◌, ℕ, ◌+◌, ◌*◌, ◌<◌, ◌≤◌, Bool, List, length, get_or, drop, ap, ap₂, sym, subst, refl, ◌∙◌, arith, rules, to_z, of_z, ◌∷◌}
+use Rattle.std.proofs.Common.{◌≡◌, ℕ, ◌+◌, ◌*◌, ◌<◌, ◌≤◌, Bool, List, length, get_or, drop, ap, ap₂, sym, subst, ◌∙◌, arith, rules, to_z, of_z, ◌∷◌}
 use Rattle.std.specs.Int.{w128}
 use Rattle.std.specs.Prelude.{ℤ}
 use Rattle.std.proofs.Math.ListN.{drop_of_length-le}
@@ -10,13 +10,12 @@ use Rattle.qap_proof.specs.Cell.{others_on}
 use Rattle.qap_proof.specs.Memory.{node_of, nodes_of}
 use Rattle.qap_proof.specs.NodeLine.{split_of}
 use Rattle.qap_proof.specs.Shape.{HasShape}
-use Rattle.qap_proof.specs.Tree.{Node, Place, child, child_of, node_at, node_count, nodes_count}
+use Rattle.qap_proof.specs.Tree.{child, child_of, node_count, nodes_count}
 use Rattle.qap_proof.specs.declared.tree.Tree.{Tree}
 use Rattle.qap_search.specs.LeafBounds.{shown, shown_by_all}
-use Rattle.qap_search.specs.SearchTree.{IsTree, AreTrees, of_proof, of_proofs, readable}
+use Rattle.qap_search.specs.SearchTree.{AreTrees, of_proofs, readable}
 use Rattle.qap_search.proofs.Children.{free_pair, get_or-any, others_count}
-use Rattle.qap_search.proofs.Keys.{tree_count-of_proofs}
-use Rattle.qap_search.proofs.LeafBounds.{HaveShown, HaveShown-all, HaveShown-at, HaveShown-more, parts_at}
+use Rattle.qap_search.proofs.LeafBounds.{HaveShown-all, HaveShown-at, HaveShown-more, parts_at}
 use Rattle.qap_search.proofs.certificate.leaf_bounds.+showing.Goals as goal
 
 pub least_shown-least_shown_by_all-requires : goal.least_shown-least_shown_by_all-requires

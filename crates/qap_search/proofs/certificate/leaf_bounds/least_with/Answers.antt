@@ -1,7 +1,5 @@
-use Rattle.std.proofs.Common.{◌≡◌, arith, rules, to_z, of_z}
-use Rattle.std.specs.Int.{w128}
-use Rattle.std.specs.Prelude.{ℤ, ◌+ℤ◌}
-use Rattle.std.proofs.lemmas.Int.{ints, to_z-of_z}
+use Rattle.std.proofs.Common.{arith}
+use Rattle.std.proofs.lemmas.Int.{ints}
 use Rattle.qap_search.proofs.LeafBounds.{least_first, least_second}
 use Rattle.qap_search.proofs.certificate.leaf_bounds.least_with.Goals as goal
 
