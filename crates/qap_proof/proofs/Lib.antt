@@ -1,3 +1,4 @@
+pub mod AscendingNodes
 pub mod Bounds
 pub mod Checks
 pub mod ChildValues
@@ -8,7 +9,9 @@ pub mod HeadTexts
 pub mod Images
 pub mod LeafLists
 pub mod Memory
+pub mod MissingParts
 pub mod NodeLines
+pub mod NodeTexts
 pub mod Reaching
 pub mod Roots
 pub mod Rows
