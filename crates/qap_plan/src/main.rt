@@ -7,31 +7,43 @@ mod arranging;
 mod command_line;
 mod elapsed;
 mod error;
+mod instance_file;
 mod json;
 mod loading;
+mod node_lines;
 mod options;
+mod part_command;
+mod part_run;
+mod parting;
 mod plan_run;
 mod planning;
 mod proof_file;
 mod reading;
+mod split_command;
+mod split_run;
+mod splitting;
+mod standing;
 mod starting;
 mod whole_file;
 
+ghost use Rattle.qap_plan.specs.Asking.{IsLimitedTask};
 ghost use Rattle.qap_plan.specs.Options.{AreLimited};
 
 use answer::answer_text;
 use answering::plan_stream;
 use clap::Error;
 use clap::error::ErrorKind;
-use command_line::{Request, parse};
+use command_line::{Request, Task, parse};
 use elapsed::Elapsed;
 use error::PlanError;
 use json::json_text;
+use part_run::run_part;
 use plan_run::{is_plan, solve_plan};
 use planning::Planned;
 use proof_file::write_proof;
 use qap_io::{Counted, Status};
 use qap_search::Stop;
+use split_run::run_split;
 use std::alloc::Global;
 use std::fs::Files;
 use std::io::{Read, Write};
@@ -44,6 +56,8 @@ use std::{env, fs, io};
 use whole_file::write_whole;
 
 #[cfg(test)]
+mod part_tests;
+#[cfg(test)]
 mod tests;
 
 fn main(rt: HostRuntime) -> ExitCode {
@@ -52,9 +66,22 @@ fn main(rt: HostRuntime) -> ExitCode {
         Err(error) => return tell_unread(&rt, &error),
     };
     match parse(rt.alloc(), &words) {
-        Ok(request) if is_plan(request.file) => solve_plan(&rt, &rt, &request),
-        Ok(request) => solve(&rt, &rt, &request),
+        Ok(task) => carry_out(&rt, &rt, &task),
         Err(error) => tell(&rt, &error),
+    }
+}
+
+/// Does what is asked for. `system` is what threads, waiting and the time are asked of.
+fn carry_out<T>(system: &T, rt: &HostRuntime, task: &Task<'_>) -> ExitCode
+where
+    T: Threads + Wait + Clock + Sync,
+    requires { IsLimitedTask task.now }
+{
+    match task {
+        Task::Solve(request) if is_plan(request.file) => solve_plan(system, rt, request),
+        Task::Solve(request) => solve(system, rt, request),
+        Task::Split(request) => run_split(system, rt, request),
+        Task::Part(request) => run_part(system, rt, request),
     }
 }
 

@@ -20,7 +20,7 @@ use std::thread::Threads;
 use std::time;
 
 /// For how many milliseconds a worker's transaction is leased: ten minutes.
-const LEASE_MS: u64 = 600_000;
+pub(crate) const LEASE_MS: u64 = 600_000;
 
 /// What a search has come to.
 #[derive(Drop)]
@@ -126,7 +126,7 @@ fn proved_by(found: Proved) -> Result<Planned, AllocError>
 }
 
 /// How many nodes the workers have decided.
-fn decided(reports: &[Report]) -> u64 {
+pub(crate) fn decided(reports: &[Report]) -> u64 {
     let mut nodes: u64 = 0;
     for report in reports {
         nodes = nodes.saturating_add(report.accepted);
@@ -147,7 +147,7 @@ impl<S: Stop> Hook for UntilStopped<'_, S> {
 }
 
 /// The permutation that the search for a proof begins with.
-fn improved<S: Stop>(
+pub(crate) fn improved<S: Stop>(
     alloc: Global,
     instance: &Instance,
     start: Option<Perm>,

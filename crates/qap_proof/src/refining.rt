@@ -1,7 +1,7 @@
 //! A proof one of whose leaves is taken further.
 
 ghost use Rattle.std.specs.Prelude.{◌≡◌, IfOk};
-ghost use Rattle.qap_proof.specs.Refining.{IsRefined};
+ghost use Rattle.qap_proof.specs.Refining.{IsGrafted, IsRefined};
 
 use crate::checking::check;
 use crate::error::ProofError;
@@ -25,6 +25,15 @@ pub fn refined(
 ) -> Result<Proof, ProofError>
     ensures { IfOk result (IsRefined instance.now proof part bound) }
 {
+    let refined = grafted(proof, leaf, part, bound)?;
+    check(alloc, instance, &refined)?;
+    Ok(refined)
+}
+
+/// The same, unjudged.
+fn grafted(proof: Proof, leaf: usize, part: Proof, bound: i128) -> Result<Proof, ProofError>
+    ensures { IfOk result (IsGrafted proof part bound) }
+{
     let Proof {
         root,
         cost: _,
@@ -43,10 +52,7 @@ pub fn refined(
     let mut finer = Some(finer);
     graft(&mut tree, &mut left, &mut finer);
     match Proof::new(cost, bound, root, perm, tree) {
-        Ok(refined) => {
-            check(alloc, instance, &refined)?;
-            Ok(refined)
-        }
+        Ok(grafted) => Ok(grafted),
         Err((error, _, _, _)) => Err(error),
     }
 }
