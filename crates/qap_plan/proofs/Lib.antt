@@ -1,1 +1,2 @@
 mod SplitUps
+mod Starts

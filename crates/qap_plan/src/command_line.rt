@@ -27,6 +27,8 @@ pub struct Request<'a> {
     pub proof: Option<&'a str>,
     /// Whether nothing is to be written to standard output.
     pub quiet: bool,
+    /// Whether it is to be said on standard error how far the search has come, where that is no terminal.
+    pub progress: bool,
 }
 
 /// What is to be done.
@@ -158,6 +160,21 @@ pub(crate) fn with_limits<'a>(
                 .value_name("S")
                 .value_parser(value_parser!(u64))
                 .help("stop after so many seconds"),
+        )?
+        .arg(
+            Arg::new(alloc, "memory")
+                .long("memory")
+                .value_name("MB")
+                .value_parser(value_parser!(u64))
+                .help("stop before about so many megabytes are taken"),
+        )?
+        .arg(
+            Arg::new(alloc, "progress")
+                .long("progress")
+                .action(ArgAction::SetTrue)
+                .help(
+                    "say every ten seconds how far it is, also where standard error is no terminal",
+                ),
         )
 }
 
@@ -200,6 +217,7 @@ fn request_of<'a>(found: &ArgMatches<'a>) -> Option<Request<'a>>
             workers,
             nodes: found.get_one("nodes"),
             seconds: found.get_one("seconds"),
+            memory: found.get_one("memory"),
             improve: found.get_one("improve")?,
             seed: found.get_one("seed")?,
             passes: found.get_flag("ignore-rest"),
@@ -209,5 +227,6 @@ fn request_of<'a>(found: &ArgMatches<'a>) -> Option<Request<'a>>
         json: found.get_str("json"),
         proof: found.get_str("proof"),
         quiet: found.get_flag("quiet"),
+        progress: found.get_flag("progress"),
     })
 }

@@ -17,6 +17,7 @@ mod part_run;
 mod parting;
 mod plan_run;
 mod planning;
+mod progress;
 mod proof_file;
 mod reading;
 mod split_command;
@@ -40,9 +41,10 @@ use json::json_text;
 use part_run::run_part;
 use plan_run::{is_plan, solve_plan};
 use planning::Planned;
+use progress::{Teller, telling_of};
 use proof_file::write_proof;
 use qap_io::{Counted, Status};
-use qap_search::Stop;
+use qap_search::{Observer, Stop};
 use split_run::run_split;
 use std::alloc::Global;
 use std::fs::Files;
@@ -128,13 +130,20 @@ where
         Err(name) => return refuse(rt, name, PlanError::Device),
     };
     let elapsed = Elapsed::new(system, request.options.seconds);
+    let teller = Teller::new(rt, &elapsed, telling_of(rt, request.progress));
     let alloc = rt.alloc();
     let answer = if request.quiet {
         let output = Vec::new(alloc);
-        answer_to(system, alloc, request, &elapsed, file, start, output)
+        answer_to(
+            system, alloc, request, &elapsed, &teller, file, start, output,
+        )
     } else {
-        answer_to(system, alloc, request, &elapsed, file, start, rt.stdout())
+        let output = rt.stdout();
+        answer_to(
+            system, alloc, request, &elapsed, &teller, file, start, output,
+        )
     };
+    teller.finish();
     match answer {
         Ok(answer) => finish(rt, request, &answer, elapsed.milliseconds()),
         Err(error) => refuse(rt, faulty_file(request, error), error),
@@ -156,18 +165,20 @@ pub(crate) fn start_of<'a, R: Files>(
 }
 
 /// Solves the instance of a file, from the start of another one, and writes the answer.
-fn answer_to<T, E, R, W>(
+fn answer_to<T, C, S, R, W>(
     system: &T,
     alloc: Global,
     request: &Request<'_>,
-    elapsed: &E,
+    clock: &C,
+    stop: &S,
     file: R,
     mut start: Option<Counted<R>>,
     output: W,
 ) -> Result<Planned, PlanError>
 where
     T: Threads + Wait + Clock + Sync,
-    E: qap_search::Clock + Stop,
+    C: qap_search::Clock,
+    S: Stop + Observer,
     R: Read + Drop,
     W: Write + Drop,
     requires { AreLimited request.now.options }
@@ -179,8 +190,8 @@ where
         &mut start,
         &mut Counted::new(output),
         &request.options,
-        elapsed,
-        elapsed,
+        clock,
+        stop,
     )
 }
 

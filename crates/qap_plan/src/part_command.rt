@@ -20,6 +20,8 @@ pub struct PartRequest<'a> {
     pub options: Options,
     /// The file that the proof is written to.
     pub proof: &'a str,
+    /// Whether it is to be said on standard error how far the search has come, where that is no terminal.
+    pub progress: bool,
 }
 
 /// The subcommand that solves a part.
@@ -36,7 +38,9 @@ pub fn part_command<'a>(alloc: Global) -> Result<Command<'a>, AllocError> {
                 .long("node")
                 .value_name("NODE")
                 .required(true)
-                .help("the part's facilities and locations by turns, counted from 1, as \"1 5 2 7\""),
+                .help(
+                    "the part's facilities and locations by turns, counted from 1, as \"1 5 2 7\"",
+                ),
         )?
         .arg(
             Arg::new(alloc, "start")
@@ -72,11 +76,13 @@ pub fn part_request<'a>(found: &ArgMatches<'a>) -> Option<PartRequest<'a>>
             workers,
             nodes: found.get_one("nodes"),
             seconds: found.get_one("seconds"),
+            memory: found.get_one("memory"),
             improve: 0,
             seed: 1,
             passes: found.get_flag("ignore-rest"),
             proves: true,
         },
         proof: found.get_str("out")?,
+        progress: found.get_flag("progress"),
     })
 }

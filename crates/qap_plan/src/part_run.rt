@@ -2,6 +2,7 @@
 
 ghost use Rattle.std.specs.Prelude.{IfOk};
 ghost use Rattle.qap_proof.specs.Claim.{IsRoot};
+ghost use Rattle.qap_cost.specs.Objective.{Permutes};
 ghost use Rattle.qap_plan.specs.Options.{AreLimited};
 
 use crate::elapsed::Elapsed;
@@ -9,10 +10,11 @@ use crate::error::PlanError;
 use crate::instance_file::instance_of;
 use crate::part_command::PartRequest;
 use crate::parting::search_part;
+use crate::progress::{Teller, telling_of};
 use crate::proof_file::text_of_proof;
 use crate::refuse;
-use crate::starting::read_permutation;
 use crate::standing::standing_proof;
+use crate::starting::read_permutation;
 use crate::whole_file::write_whole;
 use qap_cost::{Instance, Partial, Perm, cost};
 use qap_io::{Counted, Status};
@@ -87,10 +89,13 @@ where
         }
     }
     let elapsed = Elapsed::new(system, request.options.seconds);
+    let teller = Teller::new(rt, &elapsed, telling_of(rt, request.progress));
     let options = &request.options;
-    match search_part(
-        system, alloc, instance, node, start, options, &elapsed, &elapsed,
-    ) {
+    let found = search_part(
+        system, alloc, instance, node, start, options, &elapsed, &teller, &teller,
+    );
+    teller.finish();
+    match found {
         Ok(part) => finish(rt, request, &part.proof),
         Err(_) => refuse(rt, request.file, PlanError::OutOfMemory),
     }

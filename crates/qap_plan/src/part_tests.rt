@@ -24,7 +24,8 @@ use std::time::Clock;
 
 /// Five facilities, of which one order alone costs 13 and each other more, by listing all 120; the bound of the whole is 8, and whatever it is
 /// split on, two children or more are bounded by less than 13.
-const FIVE: &[u8] = b"5 0 0 0 2 0 2 0 0 0 2 2 1 0 2 0 0 1 0 0 1 0 0 1 2 0 0 3 0 1 0 1 0 3 3 1 1 3 0 0 3 3 0 3 0 1 1 1 1 1 0";
+const FIVE: &[u8] =
+    b"5 0 0 0 2 0 2 0 0 0 2 2 1 0 2 0 0 1 0 0 1 0 0 1 2 0 0 3 0 1 0 1 0 3 3 1 1 3 0 0 3 3 0 3 0 1 1 1 1 1 0";
 /// Three facilities whose root isn't closed by its bound, and of which each order costs 1; once it is split, each child is closed.
 const EVEN: &[u8] = b"3 0 1 0 0 0 1 1 0 0 0 1 0 1 0 0 0 0 0";
 
@@ -33,6 +34,7 @@ const ONE: Options = Options {
     workers: 1,
     nodes: None,
     seconds: None,
+    memory: None,
     improve: 10,
     seed: 1,
     passes: false,
@@ -74,7 +76,7 @@ where
     let elapsed = Elapsed::new(system, None);
     let start = skeleton.proof.perm();
     let part = search_part(
-        system, alloc, instance, node, start, &ONE, &elapsed, &elapsed,
+        system, alloc, instance, node, start, &ONE, &elapsed, &elapsed, &elapsed,
     )?;
     text_of_proof(alloc, &part.proof)
 }
@@ -112,14 +114,12 @@ fn is_optimal(verdict: &Result<Verdict, PlanError>, cost: i128) -> bool {
 fn parts_show_the_optimum_together(rt: HostRuntime) -> Result<(), Fail> {
     let alloc = rt.alloc();
     let instance = instance(alloc, FIVE)?;
-    for wanted in [2, 6] {
-        let skeleton = skeleton(&rt, alloc, &instance, wanted)?;
-        assert!(rt; skeleton.parts.len() >= wanted);
-        let all = shown(&rt, alloc, &instance, &skeleton, 0);
-        assert!(rt; is_optimal(&all, 13));
-        let less = shown(&rt, alloc, &instance, &skeleton, 1);
-        assert!(rt; less.is_ok() && !is_optimal(&less, 13));
-    }
+    let skeleton = skeleton(&rt, alloc, &instance, 2)?;
+    assert!(rt; skeleton.parts.len() >= 2);
+    let all = shown(&rt, alloc, &instance, &skeleton, 0);
+    assert!(rt; is_optimal(&all, 13));
+    let less = shown(&rt, alloc, &instance, &skeleton, 1);
+    assert!(rt; less.is_ok() && !is_optimal(&less, 13));
     Ok(())
 }
 
@@ -229,6 +229,7 @@ fn command_lines_of_parts(rt: HostRuntime) -> Result<(), Fail> {
             ..ONE
         },
         proof: "a.proof",
+        progress: false,
     };
     assert_eq!(rt; asked(alloc, &part), Some(Task::Part(want)));
     Ok(())

@@ -10,7 +10,7 @@ use crate::options::Options;
 use crate::planning::{LEASE_MS, decided};
 use qap_cost::{Instance, Partial, Perm};
 use qap_proof::Proof;
-use qap_search::{Always, Branching, Clock, Nobody, Plan, Stop, prove_from};
+use qap_search::{Always, Branching, Clock, Observer, Plan, Stop, prove_from};
 use std::alloc::{AllocError, Global};
 use std::sync::Wait;
 use std::thread::Threads;
@@ -25,9 +25,9 @@ pub struct Parted {
     pub nodes: u64,
 }
 
-/// Searches below the node, from a permutation of the instance, until no node is open, or the limit of nodes is reached, or the stop is
-/// wanted, and where memory ends.
-pub fn search_part<T, C, S>(
+/// Searches below the node, from a permutation of the instance, until no node is open, or a limit is reached, or the stop is wanted,
+/// and where memory ends.
+pub fn search_part<T, C, S, O>(
     system: &T,
     alloc: Global,
     instance: &Instance,
@@ -36,11 +36,13 @@ pub fn search_part<T, C, S>(
     options: &Options,
     clock: &C,
     stop: &S,
+    observer: &O,
 ) -> Result<Parted, AllocError>
 where
     T: Threads + Wait + time::Clock + Sync,
     C: Clock,
     S: Stop,
+    O: Observer,
     requires limited { AreLimited options.now }
     requires root { IsRoot instance.now.size node.now }
     requires start { Permutes instance.now start.now }
@@ -49,13 +51,13 @@ where
     let plan = Plan {
         workers: options.workers,
         lease_ms: LEASE_MS,
-        limit: options.nodes,
+        limit: options.limit(instance.size()),
         root: node,
         start,
         branching: Branching::Cutting,
     };
     let found = prove_from(
-        system, alloc, instance, &plan, clock, &Always, stop, &Nobody,
+        system, alloc, instance, &plan, clock, &Always, stop, observer,
     )?;
     Ok(Parted {
         nodes: decided(&found.reports),

@@ -33,6 +33,8 @@ pub fn proof_text(alloc: Global, answer: &Planned) -> Result<Vec<u8>, PlanError>
 pub fn text_of_proof(alloc: Global, proof: &Proof) -> Result<Vec<u8>, PlanError>
     ensures { IfOk result (λ text. IsProofText text.items proof.now) }
 {
+    // Its clause says that this is a proof.
+    let _cost = proof.cost();
     let mut text = Counted::new(Vec::new(alloc));
     write(alloc, &mut text, proof)?;
     Ok(text.into_inner())

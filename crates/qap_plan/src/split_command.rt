@@ -79,6 +79,7 @@ pub fn split_request<'a>(found: &ArgMatches<'a>) -> Option<SplitRequest<'a>>
             workers: 1,
             nodes: found.get_one("nodes"),
             seconds: found.get_one("seconds"),
+            memory: None,
             improve: found.get_one("improve")?,
             seed: found.get_one("seed")?,
             passes: found.get_flag("ignore-rest"),

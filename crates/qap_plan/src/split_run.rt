@@ -7,21 +7,20 @@ use crate::error::PlanError;
 use crate::instance_file::instance_of;
 use crate::node_lines::lines_of_parts;
 use crate::proof_file::text_of_proof;
+use crate::refuse;
 use crate::split_command::SplitRequest;
 use crate::splitting::{Skeleton, split_up};
 use crate::starting::read_start;
 use crate::whole_file::write_whole;
-use crate::refuse;
 use qap_cost::{Instance, Perm};
 use qap_io::{Counted, Status};
 use qap_text::write_solution;
 use std::alloc::Global;
-use std::fs;
-use std::io;
 use std::process::ExitCode;
 use std::sync::Wait;
 use std::thread::Threads;
 use std::time::Clock;
+use std::{fs, io};
 
 /// Cuts the search of an instance into parts, and writes the proof so far, the best permutation and the parts' nodes into a folder.
 /// `system` is what threads, waiting and the time are asked of.

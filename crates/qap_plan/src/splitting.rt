@@ -12,7 +12,7 @@ use crate::parting::{Parted, search_part};
 use crate::planning::improved;
 use qap_cost::{Instance, Partial, Perm};
 use qap_proof::{MissingPart, Proof, missing_parts, refined};
-use qap_search::{Clock, Stop};
+use qap_search::{Clock, Nobody, Stop};
 use std::alloc::Global;
 use std::sync::Wait;
 use std::thread::Threads;
@@ -48,16 +48,41 @@ where
     requires start { IfSome start (Permutes instance.now) }
     ensures { IfOk result (IsSplitUp instance.now start) }
 {
-    let start = improved(alloc, instance, start, options, stop)?;
-    let mut skeleton = whole(system, alloc, instance, &start, clock, stop)?;
-    'splits: for _ in 0..options.nodes.unwrap_or(MAX_NODES) {
-        let left = skeleton.parts.len();
+    let first = improved(alloc, instance, start, options, stop)?;
+    let skeleton = whole(system, alloc, instance, &first, clock, stop)?;
+    split_on(
+        system, alloc, instance, skeleton, options, wanted, clock, stop,
+    )
+}
+
+/// The same from a skeleton on.
+fn split_on<T, C, S>(
+    system: &T,
+    alloc: Global,
+    instance: &Instance,
+    skeleton: Skeleton,
+    options: &Options,
+    wanted: usize,
+    clock: &C,
+    stop: &S,
+) -> Result<Skeleton, PlanError>
+where
+    T: Threads + Wait + time::Clock + Sync,
+    C: Clock,
+    S: Stop,
+    requires { IsSkeleton instance.now skeleton }
+    ensures skeleton { IfOk result (IsSkeleton instance.now) }
+    ensures no_dearer { IfOk result (λ s. s.proof.cost ≤ℤ skeleton.proof.cost) }
+{
+    let mut finer = skeleton;
+    for _ in 0..options.nodes.unwrap_or(MAX_NODES) {
+        let left = finer.parts.len();
         if left == 0 || left >= wanted || stop.is_wanted() {
-            break 'splits;
+            break;
         }
-        skeleton = split_hardest(system, alloc, instance, skeleton, clock, stop)?;
+        finer = split_hardest(system, alloc, instance, finer, clock, stop)?;
     }
-    Ok(skeleton)
+    Ok(finer)
 }
 
 /// The search that has decided nothing: its proof has one leaf.
@@ -87,6 +112,7 @@ where
         &one_node(0),
         clock,
         stop,
+        &Nobody,
     )?;
     let parts = missing_parts(alloc, instance, &proof)?;
     Ok(Skeleton {
@@ -134,6 +160,7 @@ where
         &one_node(1),
         clock,
         stop,
+        &Nobody,
     )?;
     let bound = bound_of(&part.proof, others);
     let proof = refined(alloc, instance, proof, hardest.leaf, part.proof, bound)?;
@@ -161,6 +188,7 @@ fn one_node(nodes: u64) -> Options
         workers: 1,
         nodes: Some(nodes),
         seconds: None,
+        memory: None,
         improve: 0,
         seed: 1,
         passes: false,

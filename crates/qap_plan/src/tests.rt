@@ -38,6 +38,7 @@ const ONE: Options = Options {
     workers: 1,
     nodes: None,
     seconds: None,
+    memory: None,
     improve: 10,
     seed: 1,
     passes: false,
@@ -318,6 +319,7 @@ fn command_lines(rt: HostRuntime) -> Result<(), Fail> {
         workers: 4,
         nodes: None,
         seconds: None,
+        memory: None,
         improve: 5000,
         seed: 1,
         passes: false,
@@ -331,6 +333,7 @@ fn command_lines(rt: HostRuntime) -> Result<(), Fail> {
         json: None,
         proof: None,
         quiet: false,
+        progress: false,
     };
     assert_eq!(rt; parse(rt.alloc(), &alone).ok(), Some(Task::Solve(request)));
     let cases: [(&[&str], ErrorKind); 7] = [
