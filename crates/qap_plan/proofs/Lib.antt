@@ -1,0 +1,2 @@
+mod SplitUps
+mod Starts

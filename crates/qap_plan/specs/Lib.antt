@@ -1,8 +1,14 @@
 pub mod Answer
 pub mod Answering
 pub mod Arranging
+pub mod Asking
 pub mod Keeping
+pub mod NodeLines
 pub mod Options
+pub mod Parts
 pub mod Planning
 pub mod Reading
+pub mod Refused
+pub mod Splitting
+pub mod Standing
 pub mod Starting

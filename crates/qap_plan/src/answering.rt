@@ -13,7 +13,7 @@ use crate::planning::{Planned, search};
 use crate::reading::read_problem;
 use crate::starting::read_start;
 use qap_io::{Counted, send};
-use qap_search::{Clock, Stop};
+use qap_search::{Clock, Observer, Stop};
 use std::alloc::Global;
 use std::io::{Read, Write};
 use std::sync::Wait;
@@ -38,7 +38,7 @@ where
     Q: Read,
     W: Write,
     C: Clock,
-    S: Stop,
+    S: Stop + Observer,
     requires { AreLimited options.now }
     ensures { let i = input_of R.remaining reader.old reader.new in let s = starting_of Q.remaining start.old start.new in MatchResult result
         (HasAnswered i s options.now.passes W.contents writer.old writer.new)

@@ -14,7 +14,7 @@ use crate::starting::read_start;
 use plan_answer::answer_text;
 use plan_file::NamedProblem;
 use qap_io::{Counted, send};
-use qap_search::{Clock, Stop};
+use qap_search::{Clock, Observer, Stop};
 use std::alloc::Global;
 use std::io::{Read, Write};
 use std::sync::Wait;
@@ -39,7 +39,7 @@ where
     Q: Read,
     W: Write,
     C: Clock,
-    S: Stop,
+    S: Stop + Observer,
     requires limited { AreLimited options.now }
     requires sizes { HasSizes problem.now }
     ensures { let s = starting_of Q.remaining start.old start.new in MatchResult result

@@ -1,9 +1,12 @@
 //! What the command line asks for.
 
 ghost use Rattle.std.specs.Prelude.{IfOk, IfSome};
+ghost use Rattle.qap_plan.specs.Asking.{IsLimitedTask};
 ghost use Rattle.qap_plan.specs.Options.{AreLimited};
 
 use crate::options::{MAX_NODES, MAX_WORKERS, Options};
+use crate::part_command::{PartRequest, part_command, part_request};
+use crate::split_command::{SplitRequest, split_command, split_request};
 use clap::error::ErrorKind;
 use clap::{Arg, ArgAction, ArgMatches, Command, Error, value_parser};
 use std::alloc::{AllocError, Global};
@@ -26,32 +29,49 @@ pub struct Request<'a> {
     pub svg: Option<&'a str>,
     /// Whether nothing is to be written to standard output.
     pub quiet: bool,
+    /// Whether it is to be said on standard error how far the search has come, where that is no terminal.
+    pub progress: bool,
+}
+
+/// What is to be done.
+#[derive(Clone, Copy, Debug, PartialEq, Eq)]
+pub enum Task<'a> {
+    /// To solve an instance.
+    Solve(Request<'a>),
+    /// To cut the search of an instance into parts.
+    Split(SplitRequest<'a>),
+    /// To solve a part.
+    Part(PartRequest<'a>),
 }
 
 /// What the words of a command line ask for, the program's name being the first. That help or the version is asked for is an error
 /// that prints it.
-pub fn parse<'a>(alloc: Global, words: &'a [String]) -> Result<Request<'a>, Error>
-    ensures { IfOk result (λ request. AreLimited request.options) }
+pub fn parse<'a>(alloc: Global, words: &'a [String]) -> Result<Task<'a>, Error>
+    ensures { IfOk result IsLimitedTask }
 {
     let mut command = Command::new(alloc, "qapplan")
         .bin_name("qapplan")?
         .about("Finds an arrangement of least cost, and proves that none costs less")
         .version("0.2.0")
         .subcommand_required(true)
-        .subcommand(solve_command(alloc)?)?;
+        .subcommand(solve_command(alloc)?)?
+        .subcommand(split_command(alloc)?)?
+        .subcommand(part_command(alloc)?)?;
     let matches = command.try_get_matches_from_mut(words)?;
     match asked(&matches) {
-        Some(request) => Ok(request),
+        Some(task) => Ok(task),
         None => Err(command.error(ErrorKind::MissingRequiredArgument, "a file is wanted")?),
     }
 }
 
 /// What the words that were found ask for.
-fn asked<'a>(matches: &ArgMatches<'a>) -> Option<Request<'a>>
-    ensures { IfSome result (λ request. AreLimited request.options) }
+fn asked<'a>(matches: &ArgMatches<'a>) -> Option<Task<'a>>
+    ensures { IfSome result IsLimitedTask }
 {
     match matches.subcommand() {
-        Some(("solve", found)) => request_of(found),
+        Some(("solve", found)) => Some(Task::Solve(request_of(found)?)),
+        Some(("split", found)) => Some(Task::Split(split_request(found)?)),
+        Some(("part", found)) => Some(Task::Part(part_request(found)?)),
         _ => None,
     }
 }
@@ -65,13 +85,8 @@ fn solve_command<'a>(alloc: Global) -> Result<Command<'a>, AllocError> {
                 .required(true)
                 .help("the plan, which ends in .toml, or the instance"),
         )?;
-    with_search(alloc, command)?
-        .arg(
-            Arg::new(alloc, "start")
-                .long("start")
-                .value_name("FILE")
-                .help("begin with the solution in this file"),
-        )?
+    let command = with_improvement(alloc, with_limits(alloc, command)?)?;
+    with_start(alloc, command)?
         .arg(
             Arg::new(alloc, "out")
                 .long("out")
@@ -102,16 +117,35 @@ fn solve_command<'a>(alloc: Global) -> Result<Command<'a>, AllocError> {
                 .value_name("FILE")
                 .help("draw the answer to a plan, as an SVG picture in this file"),
         )?
-        .arg(
-            Arg::new(alloc, "ignore-rest")
-                .long("ignore-rest")
-                .action(ArgAction::SetTrue)
-                .help("pass over what follows an instance in the QAPLIB format"),
-        )
+        .arg(ignore_rest(alloc))
 }
 
-/// The command with the options of a search.
-fn with_search<'a>(alloc: Global, command: Command<'a>) -> Result<Command<'a>, AllocError> {
+/// The option that passes over what follows an instance.
+pub(crate) fn ignore_rest<'a>(alloc: Global) -> Arg<'a> {
+    Arg::new(alloc, "ignore-rest")
+        .long("ignore-rest")
+        .action(ArgAction::SetTrue)
+        .help("pass over what follows an instance in the QAPLIB format")
+}
+
+/// The command with the option of a start.
+pub(crate) fn with_start<'a>(
+    alloc: Global,
+    command: Command<'a>,
+) -> Result<Command<'a>, AllocError> {
+    command.arg(
+        Arg::new(alloc, "start")
+            .long("start")
+            .value_name("FILE")
+            .help("begin with the solution in this file"),
+    )
+}
+
+/// The command with the number of workers and the limits of a search.
+pub(crate) fn with_limits<'a>(
+    alloc: Global,
+    command: Command<'a>,
+) -> Result<Command<'a>, AllocError> {
     command
         .arg(
             Arg::new(alloc, "workers")
@@ -135,6 +169,29 @@ fn with_search<'a>(alloc: Global, command: Command<'a>) -> Result<Command<'a>, A
                 .value_parser(value_parser!(u64))
                 .help("stop after so many seconds"),
         )?
+        .arg(
+            Arg::new(alloc, "memory")
+                .long("memory")
+                .value_name("MB")
+                .value_parser(value_parser!(u64))
+                .help("stop before about so many megabytes are taken"),
+        )?
+        .arg(
+            Arg::new(alloc, "progress")
+                .long("progress")
+                .action(ArgAction::SetTrue)
+                .help(
+                    "say every ten seconds how far it is, also where standard error is no terminal",
+                ),
+        )
+}
+
+/// The command with the options of a tabu search.
+pub(crate) fn with_improvement<'a>(
+    alloc: Global,
+    command: Command<'a>,
+) -> Result<Command<'a>, AllocError> {
+    command
         .arg(
             Arg::new(alloc, "improve")
                 .long("improve")
@@ -168,6 +225,7 @@ fn request_of<'a>(found: &ArgMatches<'a>) -> Option<Request<'a>>
             workers,
             nodes: found.get_one("nodes"),
             seconds: found.get_one("seconds"),
+            memory: found.get_one("memory"),
             improve: found.get_one("improve")?,
             seed: found.get_one("seed")?,
             passes: found.get_flag("ignore-rest"),
@@ -178,5 +236,6 @@ fn request_of<'a>(found: &ArgMatches<'a>) -> Option<Request<'a>>
         proof: found.get_str("proof"),
         svg: found.get_str("svg"),
         quiet: found.get_flag("quiet"),
+        progress: found.get_flag("progress"),
     })
 }

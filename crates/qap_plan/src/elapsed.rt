@@ -1,6 +1,6 @@
 //! The time that a run has taken: the clock of its search, and what stops it.
 
-use qap_search::{Clock, Stop};
+use qap_search::{Clock, Observer, Progress, Stop};
 use std::time::{self, Instant};
 
 /// How long ago a run began, and how long it may take.
@@ -48,4 +48,12 @@ impl<T: time::Clock> Stop for Elapsed<'_, T> {
             None => false,
         }
     }
+}
+
+impl<T: time::Clock> Observer for Elapsed<'_, T> {
+    fn is_watching(&self) -> bool {
+        false
+    }
+
+    fn see(&self, _progress: &Progress) {}
 }

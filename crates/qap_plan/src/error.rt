@@ -4,6 +4,7 @@ ghost use Rattle.std.specs.Prelude.{◌≡◌};
 ghost use Rattle.qap_plan.specs.declared.error.PlanError.TheVariants.{OutOfMemory as WantOfMemory, Device as FailedDevice};
 
 use qap_io::{Device, Status};
+use qap_proof::ProofError;
 use qap_text::TextError;
 use std::alloc::AllocError;
 use thiserror::Error;
@@ -23,6 +24,12 @@ pub enum PlanError {
     /// The start states another cost than it has, which is this.
     #[error("the arrangement costs {0}, which is not what the file states")]
     StartCost(i128),
+    /// A text tells no node.
+    #[error("the node is no facilities and locations by turns, as \"1 5 2 7\": counted from 1, facilities ascending, one blank between")]
+    Node,
+    /// A proof that was put together is none for the instance.
+    #[error("the proof is refused: {0}")]
+    Proof(ProofError),
     /// There is no memory left.
     #[error("out of memory")]
     OutOfMemory,
@@ -51,6 +58,20 @@ impl From<TextError> for PlanError {
             TextError::OutOfMemory => PlanError::OutOfMemory,
             TextError::Device => PlanError::Device,
             _ => PlanError::Text(error),
+        }
+    }
+}
+
+impl From<ProofError> for PlanError {
+    ghost use Rattle.qap_plan.specs.Refused.{of_proof};
+
+    ghost from_gives = { λ e f. f ≡ of_proof e };
+
+    fn from(error: ProofError) -> PlanError {
+        match error {
+            ProofError::OutOfMemory => PlanError::OutOfMemory,
+            ProofError::Device => PlanError::Device,
+            _ => PlanError::Proof(error),
         }
     }
 }

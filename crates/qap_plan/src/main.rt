@@ -7,32 +7,46 @@ mod arranging;
 mod command_line;
 mod elapsed;
 mod error;
+mod instance_file;
 mod json;
 mod keeping;
 mod loading;
+mod node_lines;
 mod options;
+mod part_command;
+mod part_run;
+mod parting;
 mod plan_run;
 mod planning;
+mod progress;
 mod proof_file;
 mod reading;
+mod split_command;
+mod split_run;
+mod splitting;
+mod standing;
 mod starting;
 mod whole_file;
 
+ghost use Rattle.qap_plan.specs.Asking.{IsLimitedTask};
 ghost use Rattle.qap_plan.specs.Options.{AreLimited};
 
 use answer::answer_text;
 use answering::plan_stream;
 use clap::Error;
 use clap::error::ErrorKind;
-use command_line::{Request, parse};
+use command_line::{Request, Task, parse};
 use elapsed::Elapsed;
 use error::PlanError;
 use json::json_text;
+use part_run::run_part;
 use plan_run::{is_plan, solve_plan};
 use planning::Planned;
+use progress::{Teller, telling_of};
 use proof_file::write_proof;
 use qap_io::{Counted, Status};
-use qap_search::Stop;
+use qap_search::{Observer, Stop};
+use split_run::run_split;
 use std::alloc::Global;
 use std::fs::Files;
 use std::io::{Read, Write};
@@ -45,6 +59,8 @@ use std::{env, fs, io};
 use whole_file::write_whole;
 
 #[cfg(test)]
+mod part_tests;
+#[cfg(test)]
 mod tests;
 
 fn main(rt: HostRuntime) -> ExitCode {
@@ -53,9 +69,22 @@ fn main(rt: HostRuntime) -> ExitCode {
         Err(error) => return tell_unread(&rt, &error),
     };
     match parse(rt.alloc(), &words) {
-        Ok(request) if is_plan(request.file) => solve_plan(&rt, &rt, &request),
-        Ok(request) => solve(&rt, &rt, &request),
+        Ok(task) => carry_out(&rt, &rt, &task),
         Err(error) => tell(&rt, &error),
+    }
+}
+
+/// Does what is asked for. `system` is what threads, waiting and the time are asked of.
+fn carry_out<T>(system: &T, rt: &HostRuntime, task: &Task<'_>) -> ExitCode
+where
+    T: Threads + Wait + Clock + Sync,
+    requires { IsLimitedTask task.now }
+{
+    match task {
+        Task::Solve(request) if is_plan(request.file) => solve_plan(system, rt, request),
+        Task::Solve(request) => solve(system, rt, request),
+        Task::Split(request) => run_split(system, rt, request),
+        Task::Part(request) => run_part(system, rt, request),
     }
 }
 
@@ -105,13 +134,20 @@ where
         Err(name) => return refuse(rt, name, PlanError::Device),
     };
     let elapsed = Elapsed::new(system, request.options.seconds);
+    let teller = Teller::new(rt, &elapsed, telling_of(rt, request.progress));
     let alloc = rt.alloc();
     let answer = if request.quiet {
         let output = Vec::new(alloc);
-        answer_to(system, alloc, request, &elapsed, file, start, output)
+        answer_to(
+            system, alloc, request, &elapsed, &teller, file, start, output,
+        )
     } else {
-        answer_to(system, alloc, request, &elapsed, file, start, rt.stdout())
+        let output = rt.stdout();
+        answer_to(
+            system, alloc, request, &elapsed, &teller, file, start, output,
+        )
     };
+    teller.finish();
     match answer {
         Ok(answer) => finish(rt, request, &answer, elapsed.milliseconds()),
         Err(error) => refuse(rt, faulty_file(request, error), error),
@@ -141,18 +177,20 @@ pub(crate) fn start_of<'a, R: Files>(
 }
 
 /// Solves the instance of a file, from the start of another one, and writes the answer.
-fn answer_to<T, E, R, W>(
+fn answer_to<T, C, S, R, W>(
     system: &T,
     alloc: Global,
     request: &Request<'_>,
-    elapsed: &E,
+    clock: &C,
+    stop: &S,
     file: R,
     mut start: Option<Counted<R>>,
     output: W,
 ) -> Result<Planned, PlanError>
 where
     T: Threads + Wait + Clock + Sync,
-    E: qap_search::Clock + Stop,
+    C: qap_search::Clock,
+    S: Stop + Observer,
     R: Read + Drop,
     W: Write + Drop,
     requires { AreLimited request.now.options }
@@ -164,8 +202,8 @@ where
         &mut start,
         &mut Counted::new(output),
         &request.options,
-        elapsed,
-        elapsed,
+        clock,
+        stop,
     )
 }
 

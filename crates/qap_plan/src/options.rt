@@ -1,10 +1,21 @@
 //! How an instance is to be searched.
 
+ghost use Rattle.std.specs.Prelude.{◌<◌};
+
 /// The most workers.
 pub const MAX_WORKERS: u16 = 64;
 
 /// The most nodes that a limit may allow.
 pub const MAX_NODES: u64 = 1 << 62;
+
+/// What a decided node takes beside its numbers, in bytes.
+const NODE_BYTES: u64 = 300;
+
+/// What a decided node takes for each facility of the instance, in bytes.
+const NUMBER_BYTES: u64 = 8;
+
+/// The same where the proof is put together behind the search.
+const PROOF_BYTES: u64 = 64;
 
 /// How an instance is to be searched.
 #[derive(Clone, Copy, Debug, PartialEq, Eq)]
@@ -15,6 +26,8 @@ pub struct Options {
     pub nodes: Option<u64>,
     /// After how many seconds the search stops.
     pub seconds: Option<u64>,
+    /// How many megabytes the search may take.
+    pub memory: Option<u64>,
     /// How many exchanges a tabu search makes before the search for a proof begins.
     pub improve: u64,
     /// What the tabu search draws its random numbers from.
@@ -23,4 +36,28 @@ pub struct Options {
     pub passes: bool,
     /// Whether the search's proof is put together.
     pub proves: bool,
+}
+
+impl Options {
+    /// After how many decided nodes the search of an instance of this size stops: where it may take so much memory, after as many as are
+    /// expected to take it.
+    pub fn limit(&self, size: usize) -> Option<u64> {
+        let Some(megabytes) = self.memory else {
+            return self.nodes;
+        };
+        let within = megabytes.saturating_mul(1 << 20) / self.bytes_of_node(size);
+        Some(self.nodes.map_or(within, |nodes| nodes.min(within)))
+    }
+
+    /// How many bytes a decided node is expected to take.
+    fn bytes_of_node(&self, size: usize) -> u64
+        ensures { 0 < result }
+    {
+        let numbers = size.min(256) as u64;
+        if self.proves {
+            NODE_BYTES + PROOF_BYTES * numbers
+        } else {
+            NODE_BYTES + NUMBER_BYTES * numbers
+        }
+    }
 }

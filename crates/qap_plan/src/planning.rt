@@ -11,7 +11,7 @@ use qap_cost::{Instance, Partial, Perm};
 use qap_improve::{Hook, TabuPlan, tabu_search};
 use qap_proof::Proof;
 use qap_search::{
-    Always, Bounded, Branching, Clock, Nobody, Plan, Proved, Report, Stop, identity, prove_from,
+    Always, Bounded, Branching, Clock, Observer, Plan, Proved, Report, Stop, identity, prove_from,
     solve_least_from,
 };
 use std::alloc::{AllocError, Global};
@@ -47,7 +47,7 @@ impl Planned {
     }
 }
 
-/// Searches, from the start or any permutation, until no node is open, or the limit of nodes is reached, or the stop is wanted, and where memory ends.
+/// Searches, from the start or any permutation, until no node is open, or a limit is reached, or the stop is wanted, and where memory ends. Who may stop it is shown how far it has come.
 pub fn search<T, C, S>(
     system: &T,
     alloc: Global,
@@ -60,7 +60,7 @@ pub fn search<T, C, S>(
 where
     T: Threads + Wait + time::Clock + Sync,
     C: Clock,
-    S: Stop,
+    S: Stop + Observer,
     requires limited { AreLimited options.now }
     requires start { IfSome start (Permutes instance.now) }
     ensures planned { IfOk result (λ x. IsPlanned instance.now start x.permutation x.cost x.bound) }
@@ -71,20 +71,16 @@ where
     let plan = Plan {
         workers: options.workers,
         lease_ms: LEASE_MS,
-        limit: options.nodes,
+        limit: options.limit(instance.size()),
         root: &root,
         start: &start,
         branching: Branching::Cutting,
     };
     if options.proves {
-        let found = prove_from(
-            system, alloc, instance, &plan, clock, &Always, stop, &Nobody,
-        )?;
+        let found = prove_from(system, alloc, instance, &plan, clock, &Always, stop, stop)?;
         return proved_by(found);
     }
-    let found = solve_least_from(
-        system, alloc, instance, &plan, clock, &Always, stop, &Nobody,
-    )?;
+    let found = solve_least_from(system, alloc, instance, &plan, clock, &Always, stop, stop)?;
     Ok(planned_by(found))
 }
 
@@ -126,7 +122,7 @@ pub(crate) fn proved_by(found: Proved) -> Result<Planned, AllocError>
 }
 
 /// How many nodes the workers have decided.
-fn decided(reports: &[Report]) -> u64 {
+pub(crate) fn decided(reports: &[Report]) -> u64 {
     let mut nodes: u64 = 0;
     for report in reports {
         nodes = nodes.saturating_add(report.accepted);

@@ -1,10 +1,13 @@
 //! The file of a proof.
 
+ghost use Rattle.std.specs.Prelude.{IfOk};
+ghost use Rattle.qap_proof.specs.Text.{IsProofText};
+
 use crate::error::PlanError;
 use crate::planning::Planned;
 use crate::whole_file::write_whole;
 use qap_io::Counted;
-use qap_proof::{ProofError, write};
+use qap_proof::{Proof, write};
 use std::alloc::Global;
 use std::fs::Files;
 
@@ -20,19 +23,19 @@ pub fn write_proof<R: Files + AllocGlobal>(
 
 /// The text of an answer's proof; none where it has no proof.
 pub fn proof_text(alloc: Global, answer: &Planned) -> Result<Vec<u8>, PlanError> {
-    let mut text = Counted::new(Vec::new(alloc));
-    if let Some(proof) = &answer.proof {
-        if let Err(error) = write(alloc, &mut text, proof) {
-            return Err(refused(error));
-        }
+    match &answer.proof {
+        Some(proof) => text_of_proof(alloc, proof),
+        None => Ok(Vec::new(alloc)),
     }
-    Ok(text.into_inner())
 }
 
-/// Why a text in memory isn't written.
-fn refused(error: ProofError) -> PlanError {
-    match error {
-        ProofError::OutOfMemory => PlanError::OutOfMemory,
-        _ => PlanError::Device,
-    }
+/// The text of a proof.
+pub fn text_of_proof(alloc: Global, proof: &Proof) -> Result<Vec<u8>, PlanError>
+    ensures { IfOk result (λ text. IsProofText text.items proof.now) }
+{
+    // Its clause says that this is a proof.
+    let _cost = proof.cost();
+    let mut text = Counted::new(Vec::new(alloc));
+    write(alloc, &mut text, proof)?;
+    Ok(text.into_inner())
 }

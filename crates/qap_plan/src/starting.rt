@@ -31,7 +31,7 @@ pub fn read_start<Q: Read>(
 }
 
 /// The permutation that the text of a solution has, and states the cost of.
-fn read_permutation<Q: Read>(
+pub(crate) fn read_permutation<Q: Read>(
     alloc: Global,
     reader: &mut Counted<Q>,
     instance: &Instance,

@@ -5,7 +5,7 @@ ghost use Rattle.qap_plan.specs.Options.{AreLimited};
 
 use crate::answering::plan_stream;
 use crate::arranging::plan_named;
-use crate::command_line::{Request, parse};
+use crate::command_line::{Request, Task, parse};
 use crate::elapsed::Elapsed;
 use crate::error::PlanError;
 use crate::json::{json_text, named_json_text};
@@ -39,6 +39,7 @@ const ONE: Options = Options {
     workers: 1,
     nodes: None,
     seconds: None,
+    memory: None,
     improve: 10,
     seed: 1,
     passes: false,
@@ -347,6 +348,7 @@ fn command_lines(rt: HostRuntime) -> Result<(), Fail> {
         workers: 4,
         nodes: None,
         seconds: None,
+        memory: None,
         improve: 5000,
         seed: 1,
         passes: false,
@@ -361,14 +363,23 @@ fn command_lines(rt: HostRuntime) -> Result<(), Fail> {
         proof: None,
         svg: None,
         quiet: false,
+        progress: false,
     };
-    assert_eq!(rt; parse(rt.alloc(), &alone).ok(), Some(request));
-    let cases: [(&[&str], ErrorKind); 5] = [
+    assert_eq!(rt; parse(rt.alloc(), &alone).ok(), Some(Task::Solve(request)));
+    let cases: [(&[&str], ErrorKind); 7] = [
         (&[], ErrorKind::MissingSubcommand),
         (&["solve"], ErrorKind::MissingRequiredArgument),
         (
             &["solve", "a.dat", "--workers", "65"],
             ErrorKind::ValueValidation,
+        ),
+        (
+            &["split", "a.dat", "--parts", "1", "-o", "parts"],
+            ErrorKind::ValueValidation,
+        ),
+        (
+            &["part", "a.dat", "--node", "1 2", "-o", "a.proof"],
+            ErrorKind::MissingRequiredArgument,
         ),
         (&["solve", "--help"], ErrorKind::DisplayHelp),
         (&["--version"], ErrorKind::DisplayVersion),

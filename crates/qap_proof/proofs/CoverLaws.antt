@@ -44,7 +44,7 @@ IsCovering-opened I C ls shape proved are =
     }
 
 -- what completes a leaf completes a part whose placements are among the leaf's
-completes_part : (I : Problem) (y x : Placement) (p : List ℕ) → y.size ≡ I.size → Permutes I p → AreAmong y x → Completes x p → Completes y p
+pub completes_part : (I : Problem) (y x : Placement) (p : List ℕ) → y.size ≡ I.size → Permutes I p → AreAmong y x → Completes x p → Completes y p
 completes_part I y x p size permutes among done = record {
   bijection = done.bijection;
   same_size = permutes.same_size ∙ sym size;

@@ -1,3 +1,4 @@
+pub mod AscendingNodes
 pub mod Bounds
 pub mod Checks
 pub mod ChildValues
@@ -9,7 +10,9 @@ pub mod HeadTexts
 pub mod Images
 pub mod LeafLists
 pub mod Memory
+pub mod MissingParts
 pub mod NodeLines
+pub mod NodeTexts
 pub mod OneFault
 pub mod OneText
 pub mod Reaching

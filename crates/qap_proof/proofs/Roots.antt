@@ -70,10 +70,10 @@ pub HasTurns-none : (n : ℕ) (zs : List ℤ) → 0 < n → n ≤ 256 → HasTur
 HasTurns-none n zs positive small = record { root = IsRoot-none n positive small; count = refl; each = λ t below. absurd (omega arith) }
 
 -- what stands before the last, and the last
-before_last : (xs : List ℕ) (y t : ℕ) → t < length xs → get_or (xs ++ y ∷ []) t 0 ≡ get_or xs t 0
+pub before_last : (xs : List ℕ) (y t : ℕ) → t < length xs → get_or (xs ++ y ∷ []) t 0 ≡ get_or xs t 0
 before_last xs y t below = get_or_append_left xs (y ∷ []) 0 t below
 
-at_last : (xs : List ℕ) (y t : ℕ) → t ≡ length xs → get_or (xs ++ y ∷ []) t 0 ≡ y
+pub at_last : (xs : List ℕ) (y t : ℕ) → t ≡ length xs → get_or (xs ++ y ∷ []) t 0 ≡ y
 at_last xs y t here = get_or_at xs y [] 0 t (sym here)
 
 -- one turn more

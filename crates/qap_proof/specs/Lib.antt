@@ -7,7 +7,11 @@ pub mod Fault
 pub mod Head
 pub mod Leaves
 pub mod Memory
+pub mod Missing
 pub mod NodeLine
+pub mod NodeText
+pub mod OverRoot
+pub mod Refining
 pub mod Refusal
 pub mod Shape
 pub mod Text

@@ -120,7 +120,7 @@ impl Cover {
 }
 
 /// The leaves of a proof that proves its bound.
-fn proof_leaves(
+pub(crate) fn proof_leaves(
     alloc: Global,
     ranked: &RankedInstance,
     proof: &Proof,

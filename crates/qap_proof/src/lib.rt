@@ -3,6 +3,7 @@
 #![tactic(auto)]
 
 mod acceptance;
+mod ascending;
 mod bound;
 mod checking;
 mod children;
@@ -15,10 +16,14 @@ mod law;
 mod leaf;
 mod line;
 mod line_number;
+mod missing;
 mod node_line;
+mod node_text;
+mod over_root;
 mod proof;
 mod reached;
 mod reader;
+mod refining;
 mod root;
 mod shape;
 mod side;
@@ -35,10 +40,14 @@ pub use image::{stay, takes_facility, takes_location};
 pub use judging::{Task, closed_fault};
 pub use law::{fault_law, proof_law, proof_text_law, tree_law};
 pub use leaf::Leaf;
+pub use missing::{MissingPart, missing_parts};
 pub use node_line::{LineRead, NodeLine, SplitLine, read_node_line};
+pub use node_text::{read_node_text, text_of_node};
+pub use over_root::{Stated, accept_over};
 pub use proof::Proof;
 pub use reached::child_values;
 pub use reader::read;
+pub use refining::refined;
 pub use side::Side;
 pub use tree::{Duals, Tree};
 pub use writing::write;

@@ -76,7 +76,11 @@ fn stated_root(alloc: Global, text: &[u8], n: usize) -> Result<Option<Stated<'_>
 }
 
 /// The root that a line states, if it is one of `node` and numbers.
-fn judge_root(alloc: Global, line: &[u8], n: usize) -> Result<Option<Partial>, ProofError>
+pub(crate) fn judge_root(
+    alloc: Global,
+    line: &[u8],
+    n: usize,
+) -> Result<Option<Partial>, ProofError>
     requires positive { 0 < n }
     requires small { n ≤ 256 }
     ensures { MatchResult result

@@ -26,7 +26,11 @@ use std::alloc::{AllocError, Global};
 use std::io::Write;
 
 /// Puts facilities and locations at the end of a line by turns, counted from 1.
-fn push_by_turns(line: &mut Vec<u8>, facilities: &[u16], places: &[u16]) -> Result<(), AllocError>
+pub(crate) fn push_by_turns(
+    line: &mut Vec<u8>,
+    facilities: &[u16],
+    places: &[u16],
+) -> Result<(), AllocError>
     requires { length places.now ≡ length facilities.now }
     ensures { OnOk result (line.new.items ≡ line.old.items ++ numbers_text (by_turns facilities.now places.now)) }
 {

@@ -1,5 +1,4 @@
-use Rattle.std.proofs.Common.{◌≡◌, ◌∙◌, ℕ, List, ℤ, Option, Some, None, Result, Ok, Err, ◌≤ℤ◌, subst, sym, arith}
-use Rattle.std.proofs.lemmas.Int.{ints}
+use Rattle.std.proofs.Common.{◌≡◌, ◌∙◌, ℕ, List, ℤ, Option, Result, Ok, Err, subst, sym}
 use Rattle.std.specs.Prelude.{IfOk}
 use Rattle.std.specs.declared.alloc.AllocError.{AllocError}
 use Rattle.qap_cost.specs.Instance.{Problem}
@@ -7,13 +6,10 @@ use Rattle.qap_cost.specs.Objective.{cost_of}
 use Rattle.qap_cost.specs.Placement.{Completes, Placement}
 use Rattle.qap_cost.proofs.Nodes.{root_completed}
 use Rattle.qap_proof.specs.Claim.{Claim}
-use Rattle.qap_plan.specs.Planning.{IsNoDearer, IsPlanned}
+use Rattle.qap_plan.proofs.Starts.{no_dearer_still}
+use Rattle.qap_plan.specs.Planning.{IsPlanned}
 use Rattle.qap_plan.specs.declared.planning.Planned.{Planned}
 use Rattle.qap_plan.proofs.planning.search.Goals as goal
-
-no_dearer_still : (I : Problem) (start : Option (List ℕ)) (c d : ℤ) → IsNoDearer I start d → c ≤ℤ d → IsNoDearer I start c
-no_dearer_still I None c d h less = tt
-no_dearer_still I (Some p) c d h less = let most : d ≤ℤ cost_of I p = h in omega (arith, ints, less, most)
 
 -- what is told of a proof is planned, as its permutation, its cost and its bound are
 planned_as : (I : Problem) (start : Option (List ℕ)) (C : Claim) (r : Result Planned AllocError) → IfOk r (λ x. x.permutation ≡ C.permutation) → IfOk r (λ x. x.cost ≡ C.cost) → IfOk r (λ x. x.bound ≡ C.bound)

@@ -1,0 +1,10 @@
+-- What a fault of a proof that was put together is for the run: want of memory and a failed device are the run's own.
+use Rattle.qap_proof.specs.declared.error.ProofError.{ProofError}
+use Rattle.qap_proof.specs.declared.error.ProofError.TheVariants.{OutOfMemory as ProofMemory, Device as ProofDevice}
+use Rattle.qap_plan.specs.declared.error.PlanError.{PlanError}
+use Rattle.qap_plan.specs.declared.error.PlanError.TheVariants.{Proof, OutOfMemory, Device}
+
+abbrev pub of_proof : ProofError → PlanError
+of_proof ProofMemory = OutOfMemory
+of_proof ProofDevice = Device
+of_proof e = Proof e

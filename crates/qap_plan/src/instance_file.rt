@@ -1,0 +1,32 @@
+//! The instance of a file.
+
+use crate::error::PlanError;
+use crate::loading::load_problem;
+use crate::plan_run::is_plan;
+use crate::reading::read_problem;
+use crate::refuse;
+use qap_cost::Instance;
+use qap_io::Counted;
+use std::fs;
+use std::process::ExitCode;
+
+/// The instance of a plan's tables, or of a file in the QAPLIB format, behind which a word is an error unless it is to be passed over.
+/// Why there is none is told on standard error, and the exit status comes back.
+pub fn instance_of(rt: &HostRuntime, file: &str, passes: bool) -> Result<Instance, ExitCode> {
+    if is_plan(file) {
+        return match load_problem(rt, file) {
+            Ok(problem) => Ok(problem.instance),
+            Err(error) => {
+                let _ = rt.eprintln(format_args!("error: {error}"));
+                Err(ExitCode::from(error.status().code()))
+            }
+        };
+    }
+    let Ok(opened) = fs::open(rt, file) else {
+        return Err(refuse(rt, file, PlanError::Device));
+    };
+    match read_problem(rt.alloc(), &mut Counted::new(opened), passes) {
+        Ok(instance) => Ok(instance),
+        Err(error) => Err(refuse(rt, file, error)),
+    }
+}

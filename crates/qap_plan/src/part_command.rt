@@ -1,0 +1,88 @@
+//! What a command line asks for that solves a part.
+
+ghost use Rattle.std.specs.Prelude.{IfSome};
+ghost use Rattle.qap_plan.specs.Options.{AreLimited};
+
+use crate::command_line::{ignore_rest, with_limits};
+use crate::options::{MAX_WORKERS, Options};
+use clap::{Arg, ArgMatches, Command};
+use std::alloc::{AllocError, Global};
+
+/// To solve a part.
+#[derive(Clone, Copy, Debug, PartialEq, Eq)]
+pub struct PartRequest<'a> {
+    /// The file of the instance.
+    pub file: &'a str,
+    /// The node: facilities and locations by turns.
+    pub node: &'a str,
+    /// The file of the solution that is to be begun with.
+    pub start: &'a str,
+    pub options: Options,
+    /// The file that the proof is written to.
+    pub proof: &'a str,
+    /// Whether it is to be said on standard error how far the search has come, where that is no terminal.
+    pub progress: bool,
+}
+
+/// The subcommand that solves a part.
+pub fn part_command<'a>(alloc: Global) -> Result<Command<'a>, AllocError> {
+    let command = Command::new(alloc, "part")
+        .about("Solves a part of an instance's search, and writes its proof")
+        .arg(
+            Arg::new(alloc, "FILE")
+                .required(true)
+                .help("the plan, which ends in .toml, or the instance"),
+        )?
+        .arg(
+            Arg::new(alloc, "node")
+                .long("node")
+                .value_name("NODE")
+                .required(true)
+                .help(
+                    "the part's facilities and locations by turns, counted from 1, as \"1 5 2 7\"",
+                ),
+        )?
+        .arg(
+            Arg::new(alloc, "start")
+                .long("start")
+                .value_name("FILE")
+                .required(true)
+                .help("begin with the solution in this file"),
+        )?
+        .arg(
+            Arg::new(alloc, "out")
+                .short('o')
+                .long("out")
+                .value_name("PROOF")
+                .required(true)
+                .help("the file of the proof; one that is there and right is left"),
+        )?;
+    with_limits(alloc, command)?.arg(ignore_rest(alloc))
+}
+
+/// The request that was found; `None` where something is missing, or there are too many workers.
+pub fn part_request<'a>(found: &ArgMatches<'a>) -> Option<PartRequest<'a>>
+    ensures { IfSome result (λ request. AreLimited request.options) }
+{
+    let workers = found.get_one("workers")?;
+    if workers == 0 || workers > MAX_WORKERS {
+        return None;
+    }
+    Some(PartRequest {
+        file: found.get_str("FILE")?,
+        node: found.get_str("node")?,
+        start: found.get_str("start")?,
+        options: Options {
+            workers,
+            nodes: found.get_one("nodes"),
+            seconds: found.get_one("seconds"),
+            memory: found.get_one("memory"),
+            improve: 0,
+            seed: 1,
+            passes: found.get_flag("ignore-rest"),
+            proves: true,
+        },
+        proof: found.get_str("out")?,
+        progress: found.get_flag("progress"),
+    })
+}

@@ -1,0 +1,138 @@
+//! A run that solves a part.
+
+ghost use Rattle.std.specs.Prelude.{IfOk};
+ghost use Rattle.qap_proof.specs.Claim.{IsRoot};
+ghost use Rattle.qap_cost.specs.Objective.{Permutes};
+ghost use Rattle.qap_plan.specs.Options.{AreLimited};
+
+use crate::elapsed::Elapsed;
+use crate::error::PlanError;
+use crate::instance_file::instance_of;
+use crate::part_command::PartRequest;
+use crate::parting::search_part;
+use crate::progress::{Teller, telling_of};
+use crate::proof_file::text_of_proof;
+use crate::refuse;
+use crate::standing::standing_proof;
+use crate::starting::read_permutation;
+use crate::whole_file::write_whole;
+use qap_cost::{Instance, Partial, Perm, cost};
+use qap_io::{Counted, Status};
+use qap_proof::{Proof, read_node_text};
+use qap_text::{MAX_INPUT, read_all};
+use std::fs;
+use std::process::ExitCode;
+use std::sync::Wait;
+use std::thread::Threads;
+use std::time::Clock;
+
+/// Solves a part, and writes its proof; one that is there and right is left. `system` is what threads, waiting and the time are asked of.
+pub fn run_part<T>(system: &T, rt: &HostRuntime, request: &PartRequest<'_>) -> ExitCode
+where
+    T: Threads + Wait + Clock + Sync,
+    requires { AreLimited request.now.options }
+{
+    let instance = match instance_of(rt, request.file, request.options.passes) {
+        Ok(instance) => instance,
+        Err(code) => return code,
+    };
+    match node_and_start(rt, request, &instance) {
+        Ok((node, start)) => run_on(system, rt, request, &instance, &node, &start),
+        Err((file, error)) => refuse(rt, file, error),
+    }
+}
+
+/// The part's node and the permutation to begin with; the name of what is at fault, and why, where there isn't one of each.
+fn node_and_start<'a>(
+    rt: &HostRuntime,
+    request: &PartRequest<'a>,
+    instance: &Instance,
+) -> Result<(Partial, Perm), (&'a str, PlanError)>
+    ensures root { IfOk result (λ found. IsRoot instance.now.size found.0) }
+    ensures permutes { IfOk result (λ found. Permutes instance.now found.1) }
+{
+    let node = match read_node_text(rt.alloc(), request.node.as_bytes(), instance.size()) {
+        Ok(Some(node)) => node,
+        Ok(None) => return Err(("--node", PlanError::Node)),
+        Err(_) => return Err(("--node", PlanError::OutOfMemory)),
+    };
+    let Ok(file) = fs::open(rt, request.start) else {
+        return Err((request.start, PlanError::Device));
+    };
+    match read_permutation(rt.alloc(), &mut Counted::new(file), instance) {
+        Ok(start) => Ok((node, start)),
+        Err(error) => Err((request.start, error)),
+    }
+}
+
+/// Solves the part from the permutation, unless its proof stands already.
+fn run_on<T>(
+    system: &T,
+    rt: &HostRuntime,
+    request: &PartRequest<'_>,
+    instance: &Instance,
+    node: &Partial,
+    start: &Perm,
+) -> ExitCode
+where
+    T: Threads + Wait + Clock + Sync,
+    requires limited { AreLimited request.now.options }
+    requires root { IsRoot instance.now.size node.now }
+    requires start { Permutes instance.now start.now }
+{
+    let alloc = rt.alloc();
+    if let Some(text) = earlier(rt, request.proof) {
+        match standing_proof(alloc, instance, node, cost(instance, start), &text) {
+            Ok(Some(stated)) => return end(rt, stated.cost, stated.bound, " before"),
+            Ok(None) => {}
+            Err(_) => return refuse(rt, request.proof, PlanError::OutOfMemory),
+        }
+    }
+    let elapsed = Elapsed::new(system, request.options.seconds);
+    let teller = Teller::new(rt, &elapsed, telling_of(rt, request.progress));
+    let options = &request.options;
+    let found = search_part(
+        system, alloc, instance, node, start, options, &elapsed, &teller, &teller,
+    );
+    teller.finish();
+    match found {
+        Ok(part) => finish(rt, request, &part.proof),
+        Err(_) => refuse(rt, request.file, PlanError::OutOfMemory),
+    }
+}
+
+/// What stands in the file of an earlier run; `None` where there is no such file, or it can't be read.
+fn earlier(rt: &HostRuntime, name: &str) -> Option<Vec<u8>> {
+    let found = fs::metadata(rt, name).ok()?;
+    if !found.is_file() {
+        return None;
+    }
+    let file = fs::open(rt, name).ok()?;
+    read_all(rt.alloc(), &mut Counted::new(file), MAX_INPUT).ok()
+}
+
+/// Writes the proof, says what it shows, and tells the exit status.
+fn finish(rt: &HostRuntime, request: &PartRequest<'_>, proof: &Proof) -> ExitCode {
+    match write_text(rt, request.proof, proof) {
+        Ok(()) => end(rt, proof.cost(), proof.bound(), ""),
+        Err(error) => refuse(rt, request.proof, error),
+    }
+}
+
+/// Writes the text of the proof to the file.
+fn write_text(rt: &HostRuntime, file: &str, proof: &Proof) -> Result<(), PlanError> {
+    let text = text_of_proof(rt.alloc(), proof)?;
+    write_whole(rt, file, &text).map_err(|_| PlanError::Device)
+}
+
+/// Says what the proof of the part shows, and tells the exit status.
+fn end(rt: &HostRuntime, cost: i128, bound: i128, when: &str) -> ExitCode {
+    if bound < cost {
+        let _ = rt.println(format_args!(
+            "cost {cost}, part within {bound} to {cost}, proved{when}"
+        ));
+        return ExitCode::from(Status::Stopped.code());
+    }
+    let _ = rt.println(format_args!("cost {cost}, part complete, proved{when}"));
+    ExitCode::from(Status::Done.code())
+}

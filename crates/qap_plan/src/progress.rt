@@ -1,0 +1,111 @@
+//! Says how far a search has come, on standard error.
+
+use crate::elapsed::Elapsed;
+use qap_search::{Observer, Progress, Stop};
+use std::alloc::{AllocError, Global};
+use std::cell::Cell;
+use std::io::IsTerminal;
+use std::time;
+
+/// How many milliseconds lie at least between two lines.
+const PAUSE_MS: u64 = 10_000;
+
+/// How a run says how far it has come.
+#[derive(Clone, Copy, Debug, PartialEq, Eq)]
+pub enum Telling {
+    /// Not at all.
+    Never,
+    /// By a line that is kept up to date, on a terminal.
+    OneLine,
+    /// By a line every ten seconds.
+    Lines,
+}
+
+/// How a run on this system says how far it has come: on a terminal always, and elsewhere where that is asked for.
+pub fn telling_of(rt: &HostRuntime, asked: bool) -> Telling {
+    if rt.stderr().is_terminal() {
+        Telling::OneLine
+    } else if asked {
+        Telling::Lines
+    } else {
+        Telling::Never
+    }
+}
+
+/// Watches a search, and may stop it where its time is over.
+#[derive(Drop)]
+pub struct Teller<'a, R: Eprint + AllocGlobal, T: time::Clock> {
+    rt: &'a R,
+    elapsed: &'a Elapsed<'a, T>,
+    telling: Telling,
+    /// When the last line was written, in milliseconds since the run began.
+    told_ms: Cell<u64>,
+}
+
+impl<'a, R: Eprint + AllocGlobal, T: time::Clock> Teller<'a, R, T> {
+    /// One that has told nothing yet.
+    pub fn new(rt: &'a R, elapsed: &'a Elapsed<'a, T>, telling: Telling) -> Teller<'a, R, T> {
+        Teller {
+            rt,
+            elapsed,
+            telling,
+            told_ms: Cell::new(0),
+        }
+    }
+
+    /// Makes the terminal's line empty again.
+    pub fn finish(&self) {
+        if self.telling == Telling::OneLine {
+            let _ = self.rt.eprint(format_args!("\r{:<79}\r", ""));
+        }
+    }
+}
+
+impl<R: Eprint + AllocGlobal, T: time::Clock> Observer for Teller<'_, R, T> {
+    fn is_watching(&self) -> bool {
+        self.telling != Telling::Never
+    }
+
+    fn see(&self, progress: &Progress) {
+        let now = self.elapsed.milliseconds();
+        if self.telling == Telling::Lines {
+            if now.saturating_sub(self.told_ms.get()) < PAUSE_MS {
+                return;
+            }
+            self.told_ms.set(now);
+        }
+        let Ok(line) = progress_line(self.rt.alloc(), now, progress) else {
+            return;
+        };
+        let _ = if self.telling == Telling::OneLine {
+            self.rt.eprint(format_args!("\r{line:<79}"))
+        } else {
+            self.rt.eprintln(&line)
+        };
+    }
+}
+
+impl<R: Eprint + AllocGlobal, T: time::Clock> Stop for Teller<'_, R, T> {
+    fn is_wanted(&self) -> bool {
+        self.elapsed.is_wanted()
+    }
+}
+
+/// How far a search has come after so many milliseconds, in at most 79 columns: the seconds, the nodes that are decided and open, how
+/// many were decided in a second, the best cost, and how many of the root's children are done.
+pub fn progress_line(
+    alloc: Global,
+    milliseconds: u64,
+    progress: &Progress,
+) -> Result<String, AllocError> {
+    let (decided, open) = (progress.decided, progress.open);
+    let seconds = milliseconds / 1000;
+    let rate = u128::from(decided) * 1000 / u128::from(milliseconds.max(1));
+    let (done, children) = (progress.children_done, progress.children);
+    let mut line = format!(in alloc; "{seconds} s, {decided} nodes, {open} open, {rate}/s")?;
+    if let Some(cost) = progress.cost {
+        line.push_str(&format!(in alloc; ", best {cost}")?)?;
+    }
+    line.push_str(&format!(in alloc; ", {done} of {children} done")?)?;
+    format!(in alloc; "{line:.79}")
+}
