@@ -11,7 +11,7 @@ use crate::planning::{LEASE_MS, Planned, improved, planned_by, proved_by};
 use plan_fixed::{ascending, completed, completes};
 use qap_cost::{Instance, Partial, Perm, cost};
 use qap_search::{
-    Always, Branching, Clock, Nobody, Plan, Stop, identity, prove_from, solve_least_from,
+    Always, Branching, Clock, Observer, Plan, Stop, identity, prove_from, solve_least_from,
 };
 use std::alloc::{AllocError, Global};
 use std::sync::Wait;
@@ -33,7 +33,7 @@ pub fn search_keeping<T, C, S>(
 where
     T: Threads + Wait + time::Clock + Sync,
     C: Clock,
-    S: Stop,
+    S: Stop + Observer,
     requires limited { AreLimited options.now }
     requires start { IfSome start (Permutes instance.now) }
     requires size { fixed.now.size ≡ instance.now.size }
@@ -45,21 +45,17 @@ where
     let plan = Plan {
         workers: options.workers,
         lease_ms: LEASE_MS,
-        limit: options.nodes,
+        limit: options.limit(instance.size()),
         root: &root,
         start: &first,
         branching: Branching::Cutting,
     };
     if options.proves {
-        let found = prove_from(
-            system, alloc, instance, &plan, clock, &Always, stop, &Nobody,
-        )?;
+        let found = prove_from(system, alloc, instance, &plan, clock, &Always, stop, stop)?;
         let found = proved_by(found)?;
         return Ok(kept_or_first(instance, fixed, first, found));
     }
-    let found = solve_least_from(
-        system, alloc, instance, &plan, clock, &Always, stop, &Nobody,
-    )?;
+    let found = solve_least_from(system, alloc, instance, &plan, clock, &Always, stop, stop)?;
     Ok(kept_or_first(instance, fixed, first, planned_by(found)))
 }
 

@@ -11,6 +11,7 @@ use crate::error::PlanError;
 use crate::json::named_json_text;
 use crate::loading::load_problem;
 use crate::planning::Planned;
+use crate::progress::{Teller, telling_of};
 use crate::proof_file::write_proof;
 use crate::whole_file::write_whole;
 use crate::{end_of, faulty_file, refuse, start_of};
@@ -46,19 +47,21 @@ where
         Ok(start) => start,
         Err(name) => return refuse(rt, name, PlanError::Device),
     };
+    let teller = Teller::new(rt, &elapsed, telling_of(rt, request.progress));
     let alloc = rt.alloc();
     let options = &request.options;
     let answer = if request.quiet {
         let output = &mut Counted::new(Vec::new(alloc));
         plan_named(
-            system, alloc, &problem, &mut start, output, options, &elapsed, &elapsed,
+            system, alloc, &problem, &mut start, output, options, &elapsed, &teller,
         )
     } else {
         let output = &mut Counted::new(rt.stdout());
         plan_named(
-            system, alloc, &problem, &mut start, output, options, &elapsed, &elapsed,
+            system, alloc, &problem, &mut start, output, options, &elapsed, &teller,
         )
     };
+    teller.finish();
     match answer {
         Ok(answer) => finish(rt, request, &problem, &answer, elapsed.milliseconds()),
         Err(error) => refuse(rt, faulty_file(request, error), error),
