@@ -12,8 +12,7 @@ use std::process::Abort;
 use std::test::Fail;
 
 /// Facility 1 at location 1 costs 11, and 10 is shown; at location 2 it costs 17, and 4 is shown.
-const BOTH_SHORT: &[u8] =
-    b"qapproof 1\nn 2\ncost 11\nperm 1 2\nbound 4\ns 1\nb 10 0\nb 4 0\nend\n";
+const BOTH_SHORT: &[u8] = b"qapproof 1\nn 2\ncost 11\nperm 1 2\nbound 4\ns 1\nb 10 0\nb 4 0\nend\n";
 
 /// The same where the first leaf shows enough.
 const SECOND_SHORT: &[u8] =
@@ -32,7 +31,10 @@ fn missing(
     check(alloc, instance, &proof)?;
     let mut found = Vec::new(alloc);
     for part in &missing_parts(alloc, instance, &proof)? {
-        found.push((part.leaf, part.value, text_of_node(alloc, &part.node)?))?;
+        let node = text_of_node(alloc, &part.node)?;
+        found
+            .push((part.leaf, part.value, node))
+            .map_err(|_| AllocError)?;
     }
     Ok(found)
 }
@@ -155,10 +157,14 @@ fn nodes_as_texts(rt: HostRuntime) -> Result<(), Fail> {
     let right: [&[u8]; 4] = [b"", b"1 2", b"1 3 3 1", b"1 1 2 2 3 3"];
     for text in right {
         let found = told(alloc, text)?;
-        assert!(rt; found.is_some_and(|found| found.as_slice() == text), "{text:?}");
+        assert!(rt;
+            found.is_some_and(|found| found.as_slice() == text),
+            "{text:?}"
+        );
     }
     let wrong: [&[u8]; 11] = [
-        b"1", b"0 1", b"1 4", b"4 1", b"2 1 1 2", b"1 2 2 2", b"1 2 1 3", b"1  2", b" 1 2", b"1 2 ", b"a b",
+        b"1", b"0 1", b"1 4", b"4 1", b"2 1 1 2", b"1 2 2 2", b"1 2 1 3", b"1  2", b" 1 2",
+        b"1 2 ", b"a b",
     ];
     for text in wrong {
         assert!(rt; told(alloc, text)?.is_none(), "{text:?}");
