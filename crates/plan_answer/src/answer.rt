@@ -34,7 +34,14 @@ pub fn answer_text(
     let bound_words = cost_text(alloc, problem, bound)?;
     let apart = apart_text(alloc, cost, bound)?;
     let kept = kept_text(problem.fixed.depth() > 0);
-    push_verdict(&mut text, bound < cost, &cost_words, &bound_words, kept, &apart)?;
+    push_verdict(
+        &mut text,
+        bound < cost,
+        &cost_words,
+        &bound_words,
+        kept,
+        &apart,
+    )?;
     let pairs = dearest_pairs(alloc, &problem.instance, permutation, PAIRS)?;
     text.extend_from_slice(&pairs_text(alloc, problem, &pairs)?)?;
     Ok(text)

@@ -80,4 +80,3 @@ names_known (e ∷ es) known = (known.0, names_known es known.1)
 pub keys_known : (es : List Entry) → AreKnownNames (keys_of es) → AreKnown (members_view es)
 keys_known [] known = tt
 keys_known (e ∷ es) known = (known.0, keys_known es known.1)
-

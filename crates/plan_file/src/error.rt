@@ -78,31 +78,19 @@ pub enum PlanError {
 pub enum NamesFault {
     /// They are no list.
     #[error("the key \"departments\" has the type {found}: write a list of names, as `departments = [\"Saw\", \"Lathe\"]`")]
-    NoList {
-        found: &'static str,
-    },
+    NoList { found: &'static str },
     /// The list is empty, or too long.
     #[error("the key \"departments\" has {count} names: write 1 to 256")]
-    OtherCount {
-        count: usize,
-    },
+    OtherCount { count: usize },
     /// One of them is no text.
     #[error("the key \"departments[{number}]\" has the type {found}: write a name in quotes")]
-    NoName {
-        number: usize,
-        found: &'static str,
-    },
+    NoName { number: usize, found: &'static str },
     /// A name is empty.
     #[error("the key \"departments[{number}]\" is empty: write a name there, or take it away")]
-    EmptyName {
-        number: usize,
-    },
+    EmptyName { number: usize },
     /// A name stands twice.
     #[error("the key \"departments[{number}]\": the name \"{name}\" stands twice: give each department a name of its own")]
-    NameTwice {
-        number: usize,
-        name: String,
-    },
+    NameTwice { number: usize, name: String },
 }
 
 /// Why what is fixed is no table of departments and places.
@@ -159,21 +147,13 @@ impl From<AllocError> for ProblemError {
 pub enum FixingError {
     /// No department has the name.
     #[error("the key \"fixed.{department}\": no department has that name: mend it, or take the line away")]
-    UnknownDepartment {
-        department: String,
-    },
+    UnknownDepartment { department: String },
     /// No place has the name.
     #[error("the key \"fixed.{department}\": no place has the name \"{place}\": mend it, or take the line away")]
-    UnknownPlace {
-        department: String,
-        place: String,
-    },
+    UnknownPlace { department: String, place: String },
     /// Another department is fixed at the place.
     #[error("the key \"fixed.{department}\": another department is fixed at \"{place}\": give each a place of its own")]
-    PlaceTwice {
-        department: String,
-        place: String,
-    },
+    PlaceTwice { department: String, place: String },
     /// There is no memory left.
     #[error("out of memory")]
     OutOfMemory,
@@ -210,10 +190,7 @@ pub enum TablesError {
     CoordinatesTooFine,
     /// Two places lie too far apart.
     #[error("the places \"{from}\" and \"{to}\" lie too far apart: with its places behind the point dropped, a distance is at most 10^9; round the coordinates, keep fewer decimals or choose a larger unit")]
-    TooFar {
-        from: String,
-        to: String,
-    },
+    TooFar { from: String, to: String },
     /// Both are tables, and make no problem.
     #[error("{0}")]
     Problem(ProblemError),

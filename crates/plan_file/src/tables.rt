@@ -10,8 +10,12 @@ use crate::error::TablesError;
 use crate::fixing::fixed_node;
 use crate::problem::problem_of;
 use crate::source::{Distances, Flows, Plan};
-use plan_metric::{DistanceError, MAX_PLACES as MAX_COORDINATE_PLACES, Metric, distance_matrix, distance_scale};
-use plan_table::{NamedMatrix, Point, TableError, read_matrix, read_places, read_trips, read_trips_between};
+use plan_metric::{
+    DistanceError, MAX_PLACES as MAX_COORDINATE_PLACES, Metric, distance_matrix, distance_scale,
+};
+use plan_table::{
+    NamedMatrix, Point, TableError, read_matrix, read_places, read_trips, read_trips_between,
+};
 use qap_cost::{Instance, Partial};
 use std::alloc::{AllocError, Global};
 

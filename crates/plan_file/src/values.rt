@@ -14,11 +14,7 @@ use std::alloc::Global;
 use toml::{Table, Value};
 
 /// The text at a key, where there is anything.
-pub fn text_of(
-    alloc: Global,
-    table: &Table,
-    key: &'static str,
-) -> Result<Option<String>, PlanError>
+pub fn text_of(alloc: Global, table: &Table, key: &'static str) -> Result<Option<String>, PlanError>
     ensures text { IfOk result (λ found. MatchOption found (HasNone (table_view table.now) key.now) (λ s. HasText (table_view table.now) key.now (string_bytes s))) }
     ensures refused { IfErr result (IsFaultOf (table_view table.now)) }
 {

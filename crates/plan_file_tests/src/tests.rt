@@ -299,21 +299,23 @@ fn finds_the_dearest_pairs(rt: HostRuntime) -> Result<(), Fail> {
     Ok(())
 }
 
-/// Boxes of 44 by 46 pixels: each name has at most 3 letters. The places lie 30 and 40 apart, so that 16 pixels stand for 1.
-const PICTURE: &str = "<svg xmlns=\"http://www.w3.org/2000/svg\" width=\"580\" height=\"782\" viewBox=\"0 0 580 782\" font-family=\"monospace\">
-<rect width=\"580\" height=\"782\" fill=\"white\"/>
+/// Boxes of 44 by 46 pixels: each name has at most 3 letters. The places lie 30 and 40 apart, so that 16 pixels stand for 1; an eighth of the way across is
+/// left above and below, and of the way down on either side.
+const PICTURE: &str =
+    "<svg xmlns=\"http://www.w3.org/2000/svg\" width=\"740\" height=\"902\" viewBox=\"0 0 740 902\" font-family=\"monospace\">
+<rect width=\"740\" height=\"902\" fill=\"white\"/>
 <text x=\"28\" y=\"34\" font-size=\"16\">cost &quot;28&quot;</text>
 <g fill=\"none\" stroke=\"#3b6ea5\" stroke-opacity=\"0.6\">
-<path d=\"M 530 91 Q 210 350 50 731\" stroke-width=\"9.0\"/>
+<path d=\"M 610 151 Q 210 350 130 791\" stroke-width=\"9.0\"/>
 </g>
-<rect x=\"28\" y=\"708\" width=\"44\" height=\"46\" rx=\"5\" fill=\"#fff3d6\" stroke=\"#7a5b00\" stroke-width=\"3\"/>
-<text x=\"50\" y=\"728\" text-anchor=\"middle\" font-size=\"13\" font-weight=\"bold\">R&amp;D</text>
-<text x=\"50\" y=\"745\" text-anchor=\"middle\" font-size=\"12\" fill=\"#666666\">A</text>
-<rect x=\"508\" y=\"68\" width=\"44\" height=\"46\" rx=\"5\" fill=\"#eef3f9\" stroke=\"#333333\"/>
-<text x=\"530\" y=\"88\" text-anchor=\"middle\" font-size=\"13\" font-weight=\"bold\">&lt;b&gt;</text>
-<text x=\"530\" y=\"105\" text-anchor=\"middle\" font-size=\"12\" fill=\"#666666\">B</text>
-<rect x=\"268\" y=\"708\" width=\"44\" height=\"46\" rx=\"5\" fill=\"#ffffff\" stroke=\"#999999\" stroke-dasharray=\"5 4\"/>
-<text x=\"290\" y=\"745\" text-anchor=\"middle\" font-size=\"12\" fill=\"#666666\">C</text>
+<rect x=\"108\" y=\"768\" width=\"44\" height=\"46\" rx=\"5\" fill=\"#fff3d6\" stroke=\"#7a5b00\" stroke-width=\"3\"/>
+<text x=\"130\" y=\"788\" text-anchor=\"middle\" font-size=\"13\" font-weight=\"bold\">R&amp;D</text>
+<text x=\"130\" y=\"805\" text-anchor=\"middle\" font-size=\"12\" fill=\"#666666\">A</text>
+<rect x=\"588\" y=\"128\" width=\"44\" height=\"46\" rx=\"5\" fill=\"#eef3f9\" stroke=\"#333333\"/>
+<text x=\"610\" y=\"148\" text-anchor=\"middle\" font-size=\"13\" font-weight=\"bold\">&lt;b&gt;</text>
+<text x=\"610\" y=\"165\" text-anchor=\"middle\" font-size=\"12\" fill=\"#666666\">B</text>
+<rect x=\"348\" y=\"768\" width=\"44\" height=\"46\" rx=\"5\" fill=\"#ffffff\" stroke=\"#999999\" stroke-dasharray=\"5 4\"/>
+<text x=\"370\" y=\"805\" text-anchor=\"middle\" font-size=\"12\" fill=\"#666666\">C</text>
 </svg>
 ";
 

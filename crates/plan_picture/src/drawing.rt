@@ -40,7 +40,14 @@ pub fn picture(
     let mut text = Vec::new(alloc);
     push_head(alloc, &mut text, width, height, title)?;
     push_lines(alloc, &mut text, problem, permutation, &layout.centres)?;
-    push_boxes(alloc, &mut text, problem, permutation, &layout.centres, size)?;
+    push_boxes(
+        alloc,
+        &mut text,
+        problem,
+        permutation,
+        &layout.centres,
+        size,
+    )?;
     text.extend_from_slice(b"</svg>\n")?;
     Ok(text)
 }
@@ -115,7 +122,10 @@ fn flow_between(problem: &NamedProblem, i: usize, j: usize) -> u128
     requires i { i < problem.now.instance.size }
     requires j { j < problem.now.instance.size }
 {
-    let sum = problem.instance.a(i, j).saturating_add(problem.instance.a(j, i));
+    let sum = problem
+        .instance
+        .a(i, j)
+        .saturating_add(problem.instance.a(j, i));
     u128::from(sum.max(0).unsigned_abs())
 }
 
@@ -155,13 +165,13 @@ fn push_line(
     text.extend_from_slice(line.as_bytes())
 }
 
-/// A coordinate halfway from `a` to `b`, moved by an eighth of what lies between `c` and `d` of the other one.
+/// A coordinate halfway from `a` to `b`, moved by a quarter of what lies between `c` and `d` of the other one.
 fn bent(a: u64, b: u64, c: u64, d: u64) -> u64 {
     let half = (a / 2).saturating_add(b / 2);
     if c >= d {
-        half.saturating_add((c - d) / 8)
+        half.saturating_add((c - d) / 4)
     } else {
-        half.saturating_sub((d - c) / 8)
+        half.saturating_sub((d - c) / 4)
     }
 }
 
@@ -177,9 +187,23 @@ fn push_boxes(
     for (k, (place, centre)) in problem.places.iter().zip(centres).enumerate() {
         push_box(alloc, text, centre, size, style_at(problem, permutation, k))?;
         if let Some(department) = department_at(problem, permutation, k) {
-            push_name(alloc, text, department, centre.x, centre.y.saturating_sub(3), "font-size=\"13\" font-weight=\"bold\"")?;
+            push_name(
+                alloc,
+                text,
+                department,
+                centre.x,
+                centre.y.saturating_sub(3),
+                "font-size=\"13\" font-weight=\"bold\"",
+            )?;
         }
-        push_name(alloc, text, place.as_str(), centre.x, centre.y.saturating_add(14), "font-size=\"12\" fill=\"#666666\"")?;
+        push_name(
+            alloc,
+            text,
+            place.as_str(),
+            centre.x,
+            centre.y.saturating_add(14),
+            "font-size=\"12\" fill=\"#666666\"",
+        )?;
     }
     Ok(())
 }
@@ -196,7 +220,12 @@ fn department_at<'a>(problem: &'a NamedProblem, permutation: &Perm, k: usize) ->
 
 /// How the box of a place is drawn: dashed where it stays empty, and with a thick edge where its department is fixed.
 fn style_at(problem: &NamedProblem, permutation: &Perm, k: usize) -> &'static str {
-    if problem.fixed.places().iter().any(|place| usize::from(*place) == k) {
+    if problem
+        .fixed
+        .places()
+        .iter()
+        .any(|place| usize::from(*place) == k)
+    {
         return "fill=\"#fff3d6\" stroke=\"#7a5b00\" stroke-width=\"3\"";
     }
     match department_at(problem, permutation, k) {

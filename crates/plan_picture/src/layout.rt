@@ -5,7 +5,7 @@ ghost use Rattle.std.specs.Prelude.{◌<◌};
 use plan_table::Point;
 use std::alloc::{AllocError, Global};
 
-/// How far boxes stand from each other and from the picture's edge, in pixels.
+/// How far boxes stand from each other and from the picture's edge at least, in pixels.
 const GAP: u64 = 28;
 
 /// How high the line above the boxes is.
@@ -138,35 +138,31 @@ fn at_points(
     factor: u128,
     size: BoxSize,
 ) -> Result<Layout, AllocError> {
-    let side = (size.width / 2).saturating_add(GAP);
-    let top = (size.height / 2).saturating_add(GAP).saturating_add(HEAD);
     let mut centres = Vec::new(alloc);
     for point in points {
         let across = pixels(u128::from(frame.left.abs_diff(point.x)), factor);
         let down = pixels(u128::from(frame.upper.abs_diff(point.y)), factor);
         centres.push(Centre {
-            x: side.saturating_add(across.min(MOST) as u64),
-            y: top.saturating_add(down.min(MOST) as u64),
+            x: across.min(MOST) as u64,
+            y: down.min(MOST) as u64,
         })?;
     }
-    Ok(framed(centres, size))
+    framed(alloc, &centres, size)
 }
 
 /// Boxes in rows, as many rows as columns or fewer.
 fn in_rows(alloc: Global, count: usize, size: BoxSize) -> Result<Layout, AllocError> {
     let columns = columns_for(count);
-    let side = (size.width / 2).saturating_add(GAP);
-    let top = (size.height / 2).saturating_add(GAP).saturating_add(HEAD);
     let mut centres = Vec::new(alloc);
     for k in 0..count {
         let column = (k % columns) as u64;
         let row = (k / columns) as u64;
         centres.push(Centre {
-            x: side.saturating_add(column.saturating_mul(size.width.saturating_add(GAP))),
-            y: top.saturating_add(row.saturating_mul(size.height.saturating_add(GAP))),
+            x: column.saturating_mul(size.width.saturating_add(GAP)),
+            y: row.saturating_mul(size.height.saturating_add(GAP)),
         })?;
     }
-    Ok(framed(centres, size))
+    framed(alloc, &centres, size)
 }
 
 /// How many boxes stand in a row: the least number whose square is no less than the count, and at least 1.
@@ -181,17 +177,33 @@ fn columns_for(count: usize) -> usize
     }
 }
 
-/// The boxes in a picture that has room for them.
-fn framed(centres: Vec<Centre>, size: BoxSize) -> Layout {
-    let mut width = 0;
-    let mut height = 0;
-    for centre in &centres {
-        width = centre.x.max(width);
-        height = centre.y.max(height);
+/// The boxes in a picture that has room for them, for the lines that are bent around them, and for the line above.
+fn framed(alloc: Global, centres: &[Centre], size: BoxSize) -> Result<Layout, AllocError> {
+    let mut across = 0;
+    let mut down = 0;
+    for centre in centres {
+        across = centre.x.max(across);
+        down = centre.y.max(down);
     }
-    Layout {
-        width: width.saturating_add(size.width / 2).saturating_add(GAP),
-        height: height.saturating_add(size.height / 2).saturating_add(GAP),
-        centres,
+    let side = (size.width / 2)
+        .saturating_add(GAP)
+        .saturating_add(down / 8);
+    let top = (size.height / 2)
+        .saturating_add(GAP)
+        .saturating_add(across / 8);
+    let mut moved = Vec::new(alloc);
+    for centre in centres {
+        moved.push(Centre {
+            x: centre.x.saturating_add(side),
+            y: centre.y.saturating_add(top).saturating_add(HEAD),
+        })?;
     }
+    Ok(Layout {
+        width: across.saturating_add(side).saturating_add(side),
+        height: down
+            .saturating_add(HEAD)
+            .saturating_add(top)
+            .saturating_add(top),
+        centres: moved,
+    })
 }

@@ -71,9 +71,9 @@ AppearInOrder-more words names newer word order (inr (new, pushed)) =
                   omega (arith, length-append words (word ∷ []), below),
                   get_or_append_left words (word ∷ []) [] k below ∙ is ∙ sym (get_or_append_left names (word ∷ []) [] i before),
                   λ j earlier.
-                  let fewer : i ≤ length names = omega (arith, before) in
-                  subst (λ (l : List (List ℕ)). HasName l (get_or (words ++ word ∷ []) j [])) (sym (take-append-le i names (word ∷ []) fewer))
-                  (subst (λ (w : List ℕ). HasName (take i names) w) (sym (get_or_append_left words (word ∷ []) [] j (omega (arith, below, earlier)))) (earlier_ones j earlier)),
+                      let fewer : i ≤ length names = omega (arith, before) in
+                      subst (λ (l : List (List ℕ)). HasName l (get_or (words ++ word ∷ []) j [])) (sym (take-append-le i names (word ∷ []) fewer))
+                      (subst (λ (w : List ℕ). HasName (take i names) w) (sym (get_or_append_left words (word ∷ []) [] j (omega (arith, below, earlier)))) (earlier_ones j earlier)),
                 )
             | inr past ↦
                 let here : length names ≡ i = omega (arith, length-append names (word ∷ []), inside) in (
@@ -81,9 +81,9 @@ AppearInOrder-more words names newer word order (inr (new, pushed)) =
                   omega (arith, length-append words (word ∷ [])),
                   get_or_at words word [] [] (length words) refl ∙ sym (get_or_at names word [] [] i here),
                   λ j earlier.
-                  let whole : take i (names ++ word ∷ []) ≡ names = take-append-le i names (word ∷ []) (omega (arith, here)) ∙ take_all i names (omega (arith, here)) in
-                  subst (λ (l : List (List ℕ)). HasName l (get_or (words ++ word ∷ []) j [])) (sym whole)
-                  (subst (λ (w : List ℕ). HasName names w) (sym (get_or_append_left words (word ∷ []) [] j earlier)) (order.all j earlier)),
+                      let whole : take i (names ++ word ∷ []) ≡ names = take-append-le i names (word ∷ []) (omega (arith, here)) ∙ take_all i names (omega (arith, here)) in
+                      subst (λ (l : List (List ℕ)). HasName l (get_or (words ++ word ∷ []) j [])) (sym whole)
+                      (subst (λ (w : List ℕ). HasName names w) (sym (get_or_append_left words (word ∷ []) [] j earlier)) (order.all j earlier)),
                 )
           ];
     })
@@ -136,7 +136,7 @@ pub ArePlaced-more : (n : ℕ) (trips : List Trip) (amounts : List ℤ) (k cell 
     → cell_at cells cell ≡ None → amount ≡ get_or amounts k (pos 0) → unsigned_abs amount ≤ max_entry → newer ≡ set cells cell (Some amount) → ArePlaced n trips amounts (k + 1) newer
 ArePlaced-more n trips amounts k cell cells newer amount placed is inside empty amount_is within written =
     let other : (j : ℕ) → j < k → cell_of n (trip_at trips j) ≢ cell =
-        λ j before same. let filled_one = sym (placed.there j before) ∙ ap (cell_at cells) same ∙ empty in absurd (cc) in
+    λ j before same. let filled_one = sym (placed.there j before) ∙ ap (cell_at cells) same ∙ empty in absurd (cc) in
     subst (ArePlaced n trips amounts (k + 1)) (sym written) (record {
       many = length-set cells cell (Some amount) ∙ placed.many;
       there = below_more (λ j. cell_at (set cells cell (Some amount)) (cell_of n (trip_at trips j)) ≡ Some (get_or amounts j (pos 0))) k
@@ -274,10 +274,10 @@ AreTripsOf-more names rows i trips newer t many each is pushed =
     let long : length newer ≡ i + 1 = omega (arith, ap (λ (l : List Trip). length l) pushed, length-append trips (t ∷ []), many) in (
       long,
       λ k below.
-      subst (λ (l : List Trip). IsTripOf names (row_at rows k) (trip_at l k)) (sym pushed) (elim (cases_lt k (length trips)) [
-        | inl inside ↦ subst (λ (u : Trip). IsTripOf names (row_at rows k) u) (sym (get_or_append_left trips (t ∷ []) _ k inside)) (each k inside)
-        | inr past ↦
-            let here : length trips ≡ k = omega (arith, long, below, many, past) in
-            subst (λ (u : Trip). IsTripOf names (row_at rows k) u) (sym (get_or_at trips t [] _ k here)) (subst (λ m. IsTripOf names (row_at rows m) t) (sym many ∙ here) is)
-      ]),
+          subst (λ (l : List Trip). IsTripOf names (row_at rows k) (trip_at l k)) (sym pushed) (elim (cases_lt k (length trips)) [
+            | inl inside ↦ subst (λ (u : Trip). IsTripOf names (row_at rows k) u) (sym (get_or_append_left trips (t ∷ []) _ k inside)) (each k inside)
+            | inr past ↦
+                let here : length trips ≡ k = omega (arith, long, below, many, past) in
+                subst (λ (u : Trip). IsTripOf names (row_at rows k) u) (sym (get_or_at trips t [] _ k here)) (subst (λ m. IsTripOf names (row_at rows m) t) (sym many ∙ here) is)
+          ]),
     )

@@ -296,7 +296,10 @@ fn tells_of_a_name_that_no_department_has(rt: HostRuntime) -> Result<(), Fail> {
         Ok(_) => String::from_str(alloc, "read")?,
         Err(error) => format!(in alloc; "{error}")?,
     };
-    assert_eq!(rt; told.as_str(), "line 3, field 2: no department has the name \"B\": mend it, or add it to the departments of the plan");
+    assert_eq!(rt;
+        told.as_str(),
+        "line 3, field 2: no department has the name \"B\": mend it, or add it to the departments of the plan"
+    );
     Ok(())
 }
 

@@ -112,10 +112,9 @@ fn solve_command<'a>(alloc: Global) -> Result<Command<'a>, AllocError> {
                 .help("write a proof of the answer to this file, for qapverify"),
         )?
         .arg(
-            Arg::new(alloc, "svg")
-                .long("svg")
-                .value_name("FILE")
-                .help("draw the answer to a plan, as an SVG picture in this file"),
+            Arg::new(alloc, "svg").long("svg").value_name("FILE").help(
+                "draw the answer to a plan, as an SVG picture in this file",
+            ),
         )?
         .arg(ignore_rest(alloc))
 }

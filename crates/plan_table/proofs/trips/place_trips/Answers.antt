@@ -21,7 +21,7 @@ loop-k-preserved c =
     let empty : get_or cells cell None ≡ None = get_or_default cells cell None c.index.result.now inside ∙ sym c.index.ensures ∙ no_value c.index.result.now c.if-is_some.ensures in
     let below : k < length amounts = omega (arith, c.requires.amounts, c.loop-k-test.true) in
     let within : unsigned_abs (to_z w64 (of_z w64 (get_or amounts k (pos 0)))) ≤ max_entry =
-        subst (λ z. unsigned_abs z ≤ max_entry) (sym amount) (All-get_or (λ z. unsigned_abs z ≤ max_entry) amounts k (pos 0) below c.requires.small) in
+    subst (λ z. unsigned_abs z ≤ max_entry) (sym amount) (All-get_or (λ z. unsigned_abs z ≤ max_entry) amounts k (pos 0) below c.requires.small) in
     ArePlaced-more c.args.departments c.args.trips.now amounts k cell cells _ _ c.loop-k.invariant c.cell_of-cell.ensures.number inside empty amount within refl
 
 pub returns : goal.returns
