@@ -164,19 +164,6 @@ fn reads_flows_pair_by_pair(rt: HostRuntime) -> Result<(), Fail> {
     let entries = [0, 25, 0, 120, 0, 0, 10, 0, -30];
     let names = ["Saw", "Lathe", "Paint"];
     assert_read(&rt, &read_trips(alloc, text)?, &names, 1, &entries);
-    let mut departments = Vec::new(alloc);
-    for name in ["Store", "Paint", "Saw", "Lathe"] {
-        departments.push(String::from_str(alloc, name)?)?;
-    }
-    let ordered = [0, 0, 0, 0, 0, -30, 10, 0, 0, 0, 0, 25, 0, 0, 120, 0];
-    let matrix = read_trips_between(alloc, text, departments)?;
-    assert_read(
-        &rt,
-        &matrix,
-        &["Store", "Paint", "Saw", "Lathe"],
-        1,
-        &ordered,
-    );
     Ok(())
 }
 
