@@ -154,29 +154,29 @@ fn fills_up_with_departments_without_flow(rt: HostRuntime) -> Result<(), Fail> {
 
 const PLACES: &[u8] = b"name,x,y\nA,0,0\nB,3,4\nC,1.5,0\n";
 
-/// A metric and a number of decimals, and by rows the distances of the three places, over a power of ten.
-type Measured = (&'static [u8], usize, [i64; 9]);
+/// A metric and a number of decimals, and the rows of the distances of the three places, over a power of ten.
+type Measured = (&'static [u8], usize, [[i64; 3]; 3]);
 
 const MEASURED: [Measured; 4] = [
     (
         b"flows = 'f'\nplaces = 'p'\nmetric = 'rectilinear'\n",
         1,
-        [0, 70, 15, 70, 0, 55, 15, 55, 0],
+        [[0, 70, 15], [70, 0, 55], [15, 55, 0]],
     ),
     (
         b"flows = 'f'\nplaces = 'p'\nmetric = 'squared'\n",
         2,
-        [0, 2500, 225, 2500, 0, 1825, 225, 1825, 0],
+        [[0, 2500, 225], [2500, 0, 1825], [225, 1825, 0]],
     ),
     (
         b"flows = 'f'\nplaces = 'p'\nmetric = 'euclidean'\n",
         2,
-        [0, 500, 150, 500, 0, 427, 150, 427, 0],
+        [[0, 500, 150], [500, 0, 427], [150, 427, 0]],
     ),
     (
         b"flows = 'f'\nplaces = 'p'\nmetric = 'euclidean'\ndecimals = 0\n",
         0,
-        [0, 5, 2, 5, 0, 4, 2, 4, 0],
+        [[0, 5, 2], [5, 0, 4], [2, 4, 0]],
     ),
 ];
 
@@ -188,8 +188,8 @@ fn measures_distances(rt: HostRuntime) -> Result<(), Fail> {
         assert_eq!(rt; problem.distance_scale, scale);
         assert_eq!(rt; problem.points.len(), 3);
         assert_eq!(rt; problem.instance.size(), 3);
-        for (i, row) in distances.chunks(3).enumerate().take(3) {
-            assert_eq!(rt; problem.instance.b_row(i), row);
+        for (i, row) in distances.iter().enumerate() {
+            assert_eq!(rt; problem.instance.b_row(i), row.as_slice());
         }
     }
     Ok(())
