@@ -6,7 +6,7 @@ use crate::plan_run::is_plan;
 use crate::reading::read_problem;
 use crate::refuse;
 use qap_cost::Instance;
-use qap_io::Counted;
+use qap_io::{Counted, Status};
 use std::fs;
 use std::process::ExitCode;
 
@@ -14,13 +14,7 @@ use std::process::ExitCode;
 /// Why there is none is told on standard error, and the exit status comes back.
 pub fn instance_of(rt: &HostRuntime, file: &str, passes: bool) -> Result<Instance, ExitCode> {
     if is_plan(file) {
-        return match load_problem(rt, file) {
-            Ok(problem) => Ok(problem.instance),
-            Err(error) => {
-                let _ = rt.eprintln(format_args!("error: {error}"));
-                Err(ExitCode::from(error.status().code()))
-            }
-        };
+        return instance_of_plan(rt, file);
     }
     let Ok(opened) = fs::open(rt, file) else {
         return Err(refuse(rt, file, PlanError::Device));
@@ -29,4 +23,22 @@ pub fn instance_of(rt: &HostRuntime, file: &str, passes: bool) -> Result<Instanc
         Ok(instance) => Ok(instance),
         Err(error) => Err(refuse(rt, file, error)),
     }
+}
+
+/// The instance of a plan's tables, where the plan fixes nothing: parts are those of all arrangements.
+fn instance_of_plan(rt: &HostRuntime, file: &str) -> Result<Instance, ExitCode> {
+    let problem = match load_problem(rt, file) {
+        Ok(problem) => problem,
+        Err(error) => {
+            let _ = rt.eprintln(format_args!("error: {error}"));
+            return Err(ExitCode::from(error.status().code()));
+        }
+    };
+    if problem.fixed.depth() > 0 {
+        let _ = rt.eprintln(format_args!(
+            "error: {file}: departments are fixed: take [fixed] out, since parts are those of all arrangements"
+        ));
+        return Err(ExitCode::from(Status::Refused.code()));
+    }
+    Ok(problem.instance)
 }
