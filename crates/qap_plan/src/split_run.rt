@@ -1,5 +1,7 @@
 //! A run that cuts a search into parts.
 
+ghost use Rattle.std.specs.Prelude.{IfOk, IfSome};
+ghost use Rattle.qap_cost.specs.Objective.{Permutes};
 ghost use Rattle.qap_plan.specs.Options.{AreLimited};
 
 use crate::elapsed::Elapsed;
@@ -54,7 +56,9 @@ fn start_of(
     rt: &HostRuntime,
     request: &SplitRequest<'_>,
     instance: &Instance,
-) -> Result<Option<Perm>, ExitCode> {
+) -> Result<Option<Perm>, ExitCode>
+    ensures { IfOk result (λ start. IfSome start (Permutes instance.now)) }
+{
     let Some(name) = request.start else {
         return Ok(None);
     };
