@@ -7,12 +7,13 @@ use crate::node_lines::lines_of_parts;
 use crate::options::Options;
 use crate::part_command::PartRequest;
 use crate::parting::search_part;
+use crate::planning::improved;
 use crate::proof_file::text_of_proof;
 use crate::reading::read_problem;
 use crate::split_command::SplitRequest;
 use crate::splitting::{Skeleton, split_up};
 use crate::standing::standing_proof;
-use qap_cost::{Instance, Partial};
+use qap_cost::Instance;
 use qap_io::Counted;
 use qap_proof::{Cover, MissingPart, Stated, Verdict, read_node_text, text_of_node};
 use std::alloc::{AllocError, Global};
@@ -62,21 +63,23 @@ where
     )
 }
 
-/// The text of a part's proof, where the part is solved from the skeleton's permutation.
+/// The text of the proof of the part that a text names, searched from the permutation that a short tabu search finds.
 fn solved<T>(
     system: &T,
     alloc: Global,
     instance: &Instance,
-    skeleton: &Skeleton,
-    node: &Partial,
+    node: &[u8],
 ) -> Result<Vec<u8>, PlanError>
 where
     T: Threads + Wait + Clock + Sync,
 {
+    let Some(node) = read_node_text(alloc, node, instance.size())? else {
+        return Err(PlanError::Node);
+    };
     let elapsed = Elapsed::new(system, None);
-    let start = skeleton.proof.perm();
+    let start = improved(alloc, instance, None, &ONE, &elapsed)?;
     let part = search_part(
-        system, alloc, instance, node, start, &ONE, &elapsed, &elapsed, &elapsed,
+        system, alloc, instance, &node, &start, &ONE, &elapsed, &elapsed, &elapsed,
     )?;
     text_of_proof(alloc, &part.proof)
 }
@@ -96,7 +99,8 @@ where
     let mut cover = Cover::new(alloc, instance, &text)?;
     let count = skeleton.parts.len().saturating_sub(left_out);
     for part in skeleton.parts.iter().take(count) {
-        let text = solved(system, alloc, instance, skeleton, &part.node)?;
+        let node = text_of_node(alloc, &part.node)?;
+        let text = solved(system, alloc, instance, &node)?;
         cover.add(alloc, &text)?;
     }
     Ok(cover.verdict())
@@ -155,8 +159,8 @@ fn a_complete_proof_stands(rt: HostRuntime) -> Result<(), Fail> {
     let Some(part) = skeleton.parts.first() else {
         panic!(rt; "no part is left");
     };
-    let text = solved(&rt, alloc, &instance, &skeleton, &part.node)?;
     let node = text_of_node(alloc, &part.node)?;
+    let text = solved(&rt, alloc, &instance, &node)?;
     let found = stands(alloc, &instance, &node, &text)?;
     assert!(rt; found.is_some_and(|stated| stated.bound == 13));
     assert!(rt; stands(alloc, &instance, b"1 1 2 2", &text)?.is_none());
