@@ -1,12 +1,19 @@
 -- Levels that are kept, of which one is made anew.
 use Rattle.std.proofs.Common.{◌≡◌, ℕ, ◌-◌, ◌<◌, ◌++◌, ◌∙◌, sym, ap, subst, arith, List, take, drop, set, length, get_or}
+use Rattle.std.specs.Prelude.{Result, Ok, Err, OnOk}
 use Rattle.std.specs.List.{All}
 use Rattle.std.proofs.lemmas.List.{length-append, length-set, get_or-append_right, get_or-set_same}
 use Rattle.std.proofs.lemmas.List.Elements.{All-append, All-drop, All-set, All-take}
 use Rattle.qap_cost.specs.Instance.{Problem}
-use Rattle.gilmore_lawler.specs.FlowRows.{HasDistanceRows}
+use Rattle.qap_cost.specs.Placement.{Placement}
+use Rattle.gilmore_lawler.specs.FlowRows.{HasDistanceRows, HasFlowRows}
 use Rattle.gilmore_lawler.specs.Levels.{HasLevel, KeepsRows}
 use Rattle.gilmore_lawler.specs.declared.levels.Level.{Level}
+
+-- what follows from two things that hold where a call ends well
+pub on_ok_both : {T E A B C : Type 0} (r : Result T E) → (A → B → C) → OnOk r A → OnOk r B → OnOk r C
+on_ok_both (Ok x) f a b = f a b
+on_ok_both (Err e) f a b = tt
 
 -- it stands behind those above it
 level_there : (above below : List Level) (own d : Level) (k : ℕ) → length above ≡ k → 0 < length below → get_or (above ++ set below 0 own) k d ≡ own
@@ -16,10 +23,12 @@ level_there above below own d k at some =
     ∙ ap (λ (j : ℕ). get_or (set below 0 own) j d) first
     ∙ get_or-set_same below 0 own d some
 
-pub HasLevel-made : (I : Problem) (places : List ℕ) (above below : List Level) (own : Level) → length above ≡ length places → 0 < length below → HasDistanceRows I places own.known.rows.items → HasLevel I places (above ++ set below 0 own)
-HasLevel-made I places above below own at some has = record {
+pub HasLevel-made : (I : Problem) (x : Placement) (above below : List Level) (own : Level) → length above ≡ length x.places → 0 < length below → HasFlowRows (record { instance = I; facilities = x.facilities }) own.flows.rows.items
+    → HasDistanceRows I x.places own.distances.known.rows.items → HasLevel I x (above ++ set below 0 own)
+HasLevel-made I x above below own at some flows distances = record {
   deep = omega (arith, length-append above (set below 0 own), length-set below 0 own);
-  has = λ d. subst (λ (level : Level). HasDistanceRows I places level.known.rows.items) (sym (level_there above below own d (length places) at some)) has;
+  flows = λ d. subst (λ (level : Level). HasFlowRows (record { instance = I; facilities = x.facilities }) level.flows.rows.items) (sym (level_there above below own d (length x.places) at some)) flows;
+  distances = λ d. subst (λ (level : Level). HasDistanceRows I x.places level.distances.known.rows.items) (sym (level_there above below own d (length x.places) at some)) distances;
 }
 
 -- the others keep their rows

@@ -1,21 +1,22 @@
-//! Rows of the distances that are kept, one level for each count of locations that are taken.
+//! Rows that are kept, one level for each count of facilities that are placed.
 
 ghost use Rattle.std.specs.Prelude.{◌≡◌, ◌<◌, ◌≤◌, ⊤, length, IsTrue, MatchOption, OnOk};
 ghost use Rattle.std.specs.List.{All};
 ghost use Rattle.qap_cost.specs.Instance.{Problem};
-ghost use Rattle.gilmore_lawler.specs.FlowRows.{HasDistanceRows};
-ghost use Rattle.gilmore_lawler.specs.Levels.{HasLevel, KeepsRows};
+ghost use Rattle.gilmore_lawler.specs.FlowRows.{HasDistanceRows, HasFlowRows};
+ghost use Rattle.gilmore_lawler.specs.Levels.{HasLevel, KeepsDistances, KeepsRows};
 
 use crate::child_rows::LocationRows;
+use crate::flow_level::FlowLevel;
 use crate::reduction::RankedInstance;
 use qap_cost::Partial;
 use std::alloc::{AllocError, Global};
 
-/// Rows of the distances with the locations that are taken, if they were made.
+/// The rows of both sides of the last node of this depth, if they were made.
 #[derive(Drop)]
 pub(crate) struct Level {
-    pub(crate) known: LocationRows,
-    are_made: bool,
+    pub(crate) flows: FlowLevel,
+    pub(crate) distances: DistanceLevel,
 }
 
 impl Level {
@@ -24,6 +25,44 @@ impl Level {
         ensures { (I : Problem) → KeepsRows I result }
     {
         Level {
+            flows: FlowLevel::new(alloc),
+            distances: DistanceLevel::new(alloc),
+        }
+    }
+
+    /// Makes the rows those at the node, where they aren't yet.
+    fn make(
+        &mut self,
+        ranked: &RankedInstance,
+        above: Option<&Level>,
+        node: &Partial,
+        free: &mut Vec<u16>,
+    ) -> Result<(), AllocError>
+        requires size { ranked.now.size ≡ node.now.size }
+        requires above { MatchOption above ⊤ (λ level. KeepsRows ranked.now level.now) }
+        requires kept { KeepsRows ranked.now self.old }
+        ensures kept { KeepsRows ranked.now self.new }
+        ensures flows { OnOk result (HasFlowRows (record { instance = ranked.now; facilities = node.now.facilities }) self.new.flows.rows.items) }
+        ensures distances { OnOk result (HasDistanceRows ranked.now node.now.places self.new.distances.known.rows.items) }
+    {
+        self.flows.make(ranked, node, free)?;
+        self.distances.make(ranked, above, node)
+    }
+}
+
+/// Rows of the distances with the locations that are taken, if they were made.
+#[derive(Drop)]
+pub(crate) struct DistanceLevel {
+    pub(crate) known: LocationRows,
+    are_made: bool,
+}
+
+impl DistanceLevel {
+    /// No rows yet. No memory is taken.
+    fn new(alloc: Global) -> DistanceLevel
+        ensures { (I : Problem) → KeepsDistances I result }
+    {
+        DistanceLevel {
             known: LocationRows::new(alloc),
             are_made: false,
         }
@@ -45,8 +84,8 @@ impl Level {
     ) -> Result<(), AllocError>
         requires size { ranked.now.size ≡ node.now.size }
         requires above { MatchOption above ⊤ (λ level. KeepsRows ranked.now level.now) }
-        requires kept { KeepsRows ranked.now self.old }
-        ensures kept { KeepsRows ranked.now self.new }
+        requires kept { KeepsDistances ranked.now self.old }
+        ensures kept { KeepsDistances ranked.now self.new }
         ensures made { OnOk result (HasDistanceRows ranked.now node.now.places self.new.known.rows.items) }
     {
         if self.is_at(node.places()) {
@@ -54,8 +93,9 @@ impl Level {
         }
         self.are_made = false;
         match above {
-            Some(level) if level.are_made => {
-                ranked.make_known_behind(&level.known, node, &mut self.known)?;
+            Some(level) if level.distances.are_made => {
+                let before = &level.distances.known;
+                ranked.make_known_behind(before, node, &mut self.known)?;
             }
             _ => ranked.make_location_rows(node.places(), &mut self.known)?,
         }
@@ -64,19 +104,20 @@ impl Level {
     }
 }
 
-/// Makes the rows of the node's level those at the node; the other levels keep theirs.
+/// Makes the rows of the node's level those at the node; the other levels keep theirs. `free` may be any list.
 pub(crate) fn keep_level(
     ranked: &RankedInstance,
     node: &Partial,
+    free: &mut Vec<u16>,
     levels: &mut Vec<Level>,
 ) -> Result<(), AllocError>
     requires size { ranked.now.size ≡ node.now.size }
     requires kept { All (KeepsRows ranked.now) levels.old.items }
-    ensures made { OnOk result (HasLevel ranked.now node.now.places levels.new.items) }
+    ensures made { OnOk result (HasLevel ranked.now node.now levels.new.items) }
     ensures kept { All (KeepsRows ranked.now) levels.new.items }
 {
     deepen(ranked.allocator(), node.depth(), levels)?;
-    make_level(ranked, node, levels)
+    make_level(ranked, node, free, levels)
 }
 
 /// Adds levels that have no rows yet, until there is one for this depth.
@@ -91,19 +132,20 @@ fn deepen(alloc: Global, depth: usize, levels: &mut Vec<Level>) -> Result<(), Al
     Ok(())
 }
 
-/// Makes the rows of the node's level those at the node, from those of its parent where the level above has these.
+/// Makes the rows of the node's level those at the node, of the distances from those of its parent where the level above has these.
 fn make_level(
     ranked: &RankedInstance,
     node: &Partial,
+    free: &mut Vec<u16>,
     levels: &mut [Level],
 ) -> Result<(), AllocError>
     requires size { ranked.now.size ≡ node.now.size }
     requires deep { length node.now.facilities < length levels.old }
     requires kept { All (KeepsRows ranked.now) levels.old }
-    ensures made { OnOk result (HasLevel ranked.now node.now.places levels.new) }
+    ensures made { OnOk result (HasLevel ranked.now node.now levels.new) }
     ensures kept { All (KeepsRows ranked.now) levels.new }
     ensures count { length levels.new ≡ length levels.old }
 {
     let (above, own) = levels.split_at_mut(node.depth());
-    own[0].make(ranked, above.last(), node)
+    own[0].make(ranked, above.last(), node, free)
 }

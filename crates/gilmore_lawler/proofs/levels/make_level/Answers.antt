@@ -1,6 +1,5 @@
 use Rattle.std.proofs.Common.{arith}
-use Rattle.std.proofs.lemmas.Result.{on_ok_weaker}
-use Rattle.gilmore_lawler.proofs.KeptLevels.{HasLevel-made, KeepsRows-before, KeepsRows-made}
+use Rattle.gilmore_lawler.proofs.KeptLevels.{on_ok_both, HasLevel-made, KeepsRows-before, KeepsRows-made}
 use Rattle.gilmore_lawler.proofs.levels.make_level.Goals as goal
 
 pub make-requires-clause-kept : goal.make-requires-clause-kept
@@ -10,11 +9,11 @@ make-requires-clause-kept c =
 
 pub returns-clause-made : goal.returns-clause-made
 returns-clause-made c =
-    on_ok_weaker c.make.result
-    (HasLevel-made c.args.ranked.now c.args.node.now.places c.split_at_mut-above.result.0.now c.split_at_mut-above.result.1.now c.make.new.self
+    on_ok_both c.make.result
+    (HasLevel-made c.args.ranked.now c.args.node.now c.split_at_mut-above.result.0.now c.split_at_mut-above.result.1.now c.make.new.self
     (omega (arith, c.split_at_mut-above.ensures.front_len, c.depth.ensures.value, c.depth.ensures.placement.paired))
     (omega (arith, c.split_at_mut-above.ensures.back_len, c.depth.ensures.value, c.requires.deep)))
-    c.make.ensures.made
+    c.make.ensures.flows c.make.ensures.distances
 
 pub returns-clause-kept : goal.returns-clause-kept
 returns-clause-kept c =

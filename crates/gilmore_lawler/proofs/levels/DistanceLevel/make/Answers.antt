@@ -1,6 +1,6 @@
 use Rattle.std.proofs.Common.{subst, List, ℕ, ◌∙◌}
 use Rattle.gilmore_lawler.specs.FlowRows.{HasDistanceRows}
-use Rattle.gilmore_lawler.proofs.levels.Level.make.Goals as goal
+use Rattle.gilmore_lawler.proofs.levels.DistanceLevel.make.Goals as goal
 
 pub returns-then-is_at-clause-made : goal.returns-then-is_at-clause-made
 returns-then-is_at-clause-made c =
