@@ -42,7 +42,7 @@ use crate::worker::gate::Gate;
 use crate::worker::hand::Hand;
 use crate::worker::report::Report;
 use gilmore_lawler::RankedInstance;
-use qap_cost::{Instance, Partial, Perm};
+use qap_cost::{Instance, Partial, Perm, cost};
 use shared_space::{Law, Share, Shared};
 use space_txn::TxnSpace;
 use std::alloc::{AllocError, Global};
@@ -343,6 +343,7 @@ where
     requires parts { blank.parts ≡ L.parts }
     requires one_each { blank.parts ≡ plan.now.workers }
     requires few { plan.now.workers ≤ 64 }
+    requires start { Permutes instance.now plan.now.start.now }
     requires law { IsLawOf (search_of (cuts plan.now.branching) instance.now plan.now.root.now (best_with instance.now plan.now.start.now)) L.lawful L.allowed }
     requires limit { L.limit ≡ plan.now.limit }
     requires opening { IsOpening (search_of (cuts plan.now.branching) instance.now plan.now.root.now (best_with instance.now plan.now.start.now)) space }
@@ -414,6 +415,7 @@ fn staff<L: Law>(
     requires parts { blank.parts ≡ L.parts }
     requires one_each { plan.now.workers ≡ L.parts }
     requires few { plan.now.workers ≤ 64 }
+    requires start { Permutes instance.now plan.now.start.now }
     requires law { IsSearchLaw (cuts plan.now.branching) instance.now L.lawful L.allowed }
     requires limit { L.limit ≡ plan.now.limit }
     requires lawful { L.lawful (content_of space) space.commits }
@@ -522,19 +524,28 @@ fn seats_for<L: Law>(
     shares: Vec<Share<L>>,
 ) -> Result<Vec<Mutex<Seat<L>>>, AllocError>
     requires symmetries { IfSome symmetries.now (λ s. AreSymmetries (arc_value ranked.now) (arc_value s)) }
+    requires start { Permutes (arc_value ranked.now) plan.now.start.now }
     requires law { IsSearchLaw (cuts plan.now.branching) (arc_value ranked.now) L.lawful L.allowed }
     requires fresh { All (λ (n : ℕ). n ≡ 0) shares.items }
     requires few { vec_len shares ≤ 64 }
     ensures { IfOk result (λ seats. vec_len seats ≡ vec_len shares) }
 {
+    let known = Some(cost(ranked.instance(), plan.start));
     let mut seats = Vec::with_capacity(alloc, shares.len())?;
     let mut rest = shares;
     let mut worker = 0;
     while let Some(share) = rest.pop() {
         let ranked = ranked.clone()?;
         let symmetries = symmetries.clone()?;
-        let branching = plan.branching;
-        let hand = Hand::with_images(alloc, branching, symmetries, worker, ranked, plan.lease_ms)?;
+        let hand = Hand::for_search(
+            alloc,
+            plan.branching,
+            known,
+            symmetries,
+            worker,
+            ranked,
+            plan.lease_ms,
+        )?;
         seats.push(Mutex::new(Seat::new(worker, hand, share)))?;
         worker += 1;
     }

@@ -84,13 +84,15 @@ impl Hand {
         ensures accepted { IfOk result (λ hand. hand.accepted ≡ 0) }
         ensures value { IfOk result (λ hand. hand ≡ new_hand (cuts branching) (arc_value instance) lease_ms) }
     {
-        Hand::with_images(alloc, branching, None, worker, instance, lease_ms)
+        Hand::for_search(alloc, branching, None, None, worker, instance, lease_ms)
     }
 
-    /// Such a worker, to which children that are images of earlier ones by these symmetries are such.
-    pub(crate) fn with_images(
+    /// Such a worker, to which children that are images of earlier ones by these symmetries are such, in a search that begins with a
+    /// permutation of this cost.
+    pub(crate) fn for_search(
         alloc: Global,
         branching: Branching,
+        known: Option<i128>,
         symmetries: Option<Arc<InstanceSymmetries>>,
         worker: u16,
         instance: Arc<RankedInstance>,
@@ -108,6 +110,7 @@ impl Hand {
             alloc,
             lease_ms,
             branching,
+            known,
             node: node_template(alloc)?,
             best: best_template(alloc)?,
         };
@@ -184,6 +187,7 @@ impl Hand {
         ensures cutting { self.new.cutting ≡ self.old.cutting }
         ensures instance { self.new.instance ≡ self.old.instance }
     {
+        let best = self.tally.best.or(self.tools.known);
         let considered = think_in(
             &self.tools,
             gate,
@@ -191,7 +195,7 @@ impl Hand {
             &mut self.ground,
             &mut self.desk,
             &self.stage,
-            self.tally.best,
+            best,
             &mut self.last,
         )?;
         let stage = std::mem::replace(&mut self.stage, Stage::Idle);

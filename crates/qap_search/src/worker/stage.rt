@@ -72,6 +72,9 @@ pub(crate) struct Tools {
     pub(crate) lease_ms: u64,
     /// By which rule nodes are split.
     pub(crate) branching: Branching,
+    /// What the permutation costs that the search begins with, where that is known: until the worker has read the best one, how far
+    /// above a node's bound the cost may be is told by it.
+    pub(crate) known: Option<i128>,
     /// Asks for any open node.
     pub(crate) node: Template,
     /// Asks for the best permutation.
