@@ -59,12 +59,24 @@ impl Numbers<'_> {
         }
     }
 
-    /// Whether both are equal lists.
+    /// Whether both are equal lists. Those of one width are compared as they lie.
     pub(crate) fn is_same(&self, other: &Numbers<'_>) -> bool
         ensures { result ≡ pointwise int_eq (numbers_in self.now) (numbers_in other.now) }
     {
-        are_same(self, other)
+        match (self, other) {
+            (Numbers::Bytes(numbers), Numbers::Bytes(other)) => are_same_bytes(numbers, other),
+            (Numbers::Shorts(numbers), Numbers::Shorts(other)) => *numbers == *other,
+            (Numbers::Narrow(numbers), Numbers::Narrow(other)) => *numbers == *other,
+            (Numbers::Wide(numbers), Numbers::Wide(other)) => *numbers == *other,
+            _ => are_same(self, other),
+        }
     }
+}
+
+fn are_same_bytes(numbers: &[u8], other: &[u8]) -> bool
+    ensures { result ≡ pointwise int_eq (map pos numbers.now) (map pos other.now) }
+{
+    numbers == other
 }
 
 /// Whether both are equal lists, number by number.
