@@ -1,5 +1,5 @@
 -- What proofs show together is so.
-use Rattle.std.proofs.Common.{◌≡◌, ℕ, ◌+◌, ◌<◌, ◌≤◌, ◌≢◌, ◌++◌, ◌∷◌, drop, set, take, List, [], length, get_or, ℤ, pos, refl, sym, ◌∙◌, ap, subst, inl, inr, ⊎_elim, arith}
+use Rattle.std.proofs.Common.{◌≡◌, ℕ, ◌+◌, ◌<◌, ◌≤◌, ◌≢◌, ◌++◌, ◌∷◌, drop, set, take, List, [], length, get_or, ℤ, pos, refl, sym, ◌∙◌, ap, subst, inl, inr, arith}
 use Rattle.std.specs.Int.{int_min}
 use Rattle.std.specs.Prelude.{◌≤ℤ◌, ◌<ℤ◌, ◌⊎◌, neg_ℤ, All, Contains, map}
 use Rattle.std.proofs.lemmas.Int.{by_lt_z, clamps, ints}
@@ -9,10 +9,9 @@ use Rattle.std.proofs.lemmas.List.{get_or-map, get_or-set_other, get_or-set_same
 use Rattle.std.proofs.lemmas.List.Elements.{All-cons, All-contains, All-head, All-map, All-tail, Contains-append_right, Contains-get_or}
 use Rattle.qap_cost.specs.Instance.{Problem, IsInstance}
 use Rattle.qap_cost.specs.Limits.{max_value}
-use Rattle.qap_cost.specs.Objective.{IsLeast, NoneCostsLess, Permutes, cost_of}
-use Rattle.qap_cost.specs.Placement.{Placement, Completes, root_of}
+use Rattle.qap_cost.specs.Objective.{NoneCostsLess, Permutes, cost_of}
+use Rattle.qap_cost.specs.Placement.{Placement, Completes}
 use Rattle.qap_cost.specs.Range.{IsLimited}
-use Rattle.qap_cost.proofs.Nodes.{root_completed}
 use Rattle.qap_proof.proofs.Covers.{leaves_bound, leaves_shown, leaves_at_least}
 use Rattle.qap_proof.proofs.Validity.{Proves-NoneCompletesForLess}
 use Rattle.qap_proof.specs.Acceptance.{IsVerdictOf, ProvesFor}

@@ -1,14 +1,12 @@
 -- The leaves of a valid tree: what each shows is so, and a bound for all of them is one for the root.
-use Rattle.std.proofs.Common.{◌≡◌, ℕ, ◌+◌, ◌<◌, ◌++◌, ◌∷◌, [], List, length, get_or, ℤ, pos, sym, ◌∙◌, ap, subst, inl, inr, arith}
-use Rattle.std.specs.Prelude.{◌+ℤ◌, ◌-ℤ◌, ◌≤ℤ◌, All, Some}
-use Rattle.std.proofs.lemmas.Int.{ints}
+use Rattle.std.proofs.Common.{◌≡◌, ℕ, ◌+◌, ◌++◌, ◌∷◌, [], List, length, get_or, ℤ, pos, sym, ◌∙◌, ap, subst, arith}
+use Rattle.std.specs.Prelude.{◌+ℤ◌, ◌-ℤ◌, ◌≤ℤ◌, All}
 use Rattle.std.proofs.lemmas.List.{get_or_append_left, get_or-append-add, length-append}
 use Rattle.std.proofs.lemmas.List.Elements.{All-append, All-cons, All-nil, All-head}
 use Rattle.std.proofs.lemmas.Option.{same_Some}
 use Rattle.qap_cost.specs.Instance.{Problem}
 use Rattle.qap_cost.specs.Matrix.{Square, entry_of, dual_value}
-use Rattle.qap_cost.specs.Objective.{cost_of}
-use Rattle.qap_cost.specs.Placement.{Placement, IsPlacement, Completes, fixed_cost_of, free_facilities, free_locations}
+use Rattle.qap_cost.specs.Placement.{Placement, IsPlacement, fixed_cost_of, free_facilities, free_locations}
 use Rattle.qap_cost.proofs.Nodes.{child_is, parent_of}
 use Rattle.qap_cost.proofs.Placements.{ListsFree-free_below}
 use Rattle.gilmore_lawler.proofs.Completions.{fixed_and_duals-le}
@@ -16,9 +14,9 @@ use Rattle.gilmore_lawler.proofs.OneMatrix.{reduced_unique}
 use Rattle.qap_proof.proofs.Reaching.{Reaches-le, free_place}
 use Rattle.qap_proof.proofs.Validity.{Bounded, IsPlace, node_placement, Covered, AllCovered, covered_bounds}
 use Rattle.qap_proof.specs.Claim.{NoneCompletesForLess}
-use Rattle.qap_proof.specs.Cover.{AreLeaves, AreAllLeaves, IsAtLeast, IsBounded, IsCutValue, IsShown, leaf}
+use Rattle.qap_proof.specs.Cover.{AreLeaves, AreAllLeaves, IsAtLeast, IsBounded, IsShown, leaf}
 use Rattle.qap_proof.specs.Tree.{Pair, Split, Node, closed, split, cut, mirrored, Nodes, no_nodes, node, child_count, IsFreeOn, facility_on, location_on, child_of, Place, whole, child, node_at}
-use Rattle.qap_proof.specs.Valid.{IsCut, Reaches, Valid, AllValid}
+use Rattle.qap_proof.specs.Valid.{Reaches, Valid, AllValid}
 use Rattle.qap_proof.specs.declared.leaf.Leaf.{Leaf}
 
 all_left : (P : Leaf → Type 0) (xs ys : List Leaf) → All P (xs ++ ys) → All P xs

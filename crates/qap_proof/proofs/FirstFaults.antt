@@ -1,5 +1,5 @@
 -- There is one first fault of a proof's shape, and of what it says.
-use Rattle.std.proofs.Common.{◌≡◌, ℕ, ◌+◌, ◌-◌, ◌<◌, length, sym, ◌∙◌, inl, inr, arith}
+use Rattle.std.proofs.Common.{◌≡◌, ℕ, ◌+◌, length, sym, ◌∙◌, inl, inr, arith}
 use Rattle.std.specs.Prelude.{ℤ, Bool, false, Option, Some, None}
 use Rattle.qap_cost.specs.Instance.{Problem}
 use Rattle.qap_cost.specs.Objective.{cost_of}
@@ -9,7 +9,7 @@ use Rattle.qap_proof.proofs.Faults.{may_pair_fault, number_fault, split_fault, s
 use Rattle.qap_proof.proofs.Validity.{IsPlace, node_placement}
 use Rattle.qap_proof.specs.Claim.{Claim, IsProof, tree_line}
 use Rattle.qap_proof.specs.Fault.{IsPairFault, MayBePairFault, IsNumberFault, IsSplitFault, IsShapeFault, IsShapeFaultAmong, IsClaimFault, IsClosedFault, IsPermMisfit, IsTreeFault, IsTreeFaultAmong, IsFault}
-use Rattle.qap_proof.specs.Shape.{IsSplit, HasShape, AllHaveShape, free_count, has_duals}
+use Rattle.qap_proof.specs.Shape.{HasShape, AllHaveShape, free_count, has_duals}
 use Rattle.qap_proof.specs.Tree.{Pair, Split, Node, closed, split, cut, mirrored, Nodes, no_nodes, node, node_count, child_count, IsFreeOn, child_of, Place, whole, child, node_at}
 use Rattle.qap_proof.specs.declared.error.ProofError.{ProofError}
 use Rattle.qap_proof.specs.declared.side.Side.{Side}

@@ -5,7 +5,7 @@ use Rattle.std.proofs.lemmas.List.{append_assoc, append-nil}
 use Rattle.std.specs.Prelude.{ℤ, Some}
 use Rattle.qap_cost.specs.Instance.{Problem}
 use Rattle.qap_cost.specs.Placement.{Placement}
-use Rattle.qap_proof.specs.Cover.{AreLeaves, AreAllLeaves, leaf}
+use Rattle.qap_proof.specs.Cover.{AreAllLeaves, leaf}
 use Rattle.qap_proof.specs.Leaves.{AreAllPushed, ArePushed}
 use Rattle.qap_proof.specs.Memory.{node_of, nodes_of}
 use Rattle.qap_proof.specs.Shape.{AllHaveShape}

@@ -1,5 +1,5 @@
 -- A text has one first fault.
-use Rattle.std.proofs.Common.{◌≡◌, ◌≢◌, ℕ, zero, suc, ◌+◌, ◌-◌, ◌*◌, ◌<◌, ◌≤◌, ◌++◌, List, [], ◌∷◌, length, get_or, ℤ, pos, unsigned_abs, refl, sym, ◌∙◌, ap, subst, inl, inr, arith}
+use Rattle.std.proofs.Common.{◌≡◌, ◌≢◌, ℕ, zero, suc, ◌+◌, ◌<◌, ◌≤◌, ◌++◌, List, [], ◌∷◌, length, get_or, ℤ, pos, refl, sym, ◌∙◌, ap, subst, inl, inr, arith}
 use Rattle.std.proofs.lemmas.Bool.{cases_order}
 use Rattle.std.specs.Prelude.{codes, Bool, false}
 use Rattle.qap_cost.specs.Bijection.{IsPerm}
@@ -8,7 +8,7 @@ use Rattle.qap_cost.specs.Range.{AllLimited}
 use Rattle.qap_io.specs.Number.{from_one}
 use Rattle.qap_lines.proofs.Fronts.{line_front, line_fault, named_fault, one_line_fault, named_front}
 use Rattle.qap_lines.proofs.Locations.{AllLimited-permutation}
-use Rattle.qap_lines.proofs.NumberLists.{AllLimited-one, IsNamed-unique, IsNamed-numbers_text}
+use Rattle.qap_lines.proofs.NumberLists.{AllLimited-one, IsNamed-numbers_text}
 use Rattle.qap_lines.specs.Line.{line_after, IsLine}
 use Rattle.qap_lines.specs.LineText.{line_text, numbers_text}
 use Rattle.qap_lines.specs.Number.{IsNamed}
@@ -16,14 +16,13 @@ use Rattle.qap_proof.proofs.Faults.{number_fault}
 use Rattle.qap_proof.proofs.FirstFaults.{one_number_fault}
 use Rattle.qap_proof.proofs.OneText.{no_line-version, no_line-size, no_line-cost, no_line-perm, no_line-root, no_line-below, no_line-end, IsName-root, IsName-below, may_be_duals_fault, no_tree_fault, states, named_bound, root_line, named_root, same_roots, same_size, small_number, version_limited, header_line, perm_line}
 use Rattle.qap_proof.proofs.Roots.{AllLimited-by_turns}
-use Rattle.qap_proof.proofs.Sayings.{IsName-saying, no_line-saying, one_saying, said_front, same_splits, AllLimited-split, tree_front, trees_front, next_tree, free_within}
+use Rattle.qap_proof.proofs.Sayings.{no_line-saying, one_saying, said_front, same_splits, AllLimited-split, tree_front, trees_front, next_tree, free_within}
 use Rattle.qap_proof.specs.Shape.{IsSplit, HasShape, AllHaveShape, free_count, has_duals}
-use Rattle.qap_proof.specs.Text.{letter, numbers_of_duals, split_numbers, tree_text, trees_text, by_turns}
+use Rattle.qap_proof.specs.Text.{letter, numbers_of_duals, split_numbers, trees_text, by_turns}
 use Rattle.qap_proof.specs.TextFault.{IsLineFault, IsHeaderFault, IsSizeFault, IsCostFault, IsPermFault, Saying, Says, closes, splits, cuts, mirrors, IsDualsFault, IsSayingFault, IsNodeFault, IsTreeTextFault, IsEndFault, IsBelow, HasRootLine, IsFaultFromTree, IsFaultFromBound, IsFaultFromRoot, IsFaultFromPerm, IsFaultFromCost, IsFaultFromSize, IsTextFault}
-use Rattle.qap_proof.specs.Tree.{Split, Node, Nodes, node_count, nodes_count, child_count, child_of, IsFreeOn}
+use Rattle.qap_proof.specs.Tree.{Split, Node, Nodes, node_count, nodes_count, child_count, child_of}
 use Rattle.qap_proof.specs.declared.error.ProofError.{ProofError}
 use Rattle.qap_proof.specs.declared.error.ProofError.TheVariants.{Truncated, BadLine}
-use Rattle.qap_proof.specs.declared.side.Side.{Side}
 
 one_header_fault : (line : List ℕ) (d e : ProofError) → IsHeaderFault line d → IsHeaderFault line e → d ≡ e
 one_header_fault line d e (inl a) (inl b) = a.0 ∙ sym b.0

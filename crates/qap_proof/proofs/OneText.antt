@@ -1,9 +1,9 @@
 -- A text is that of one proof at most, and the text of a proof has no fault.
-use Rattle.std.proofs.Common.{◌≡◌, ◌≢◌, ℕ, zero, suc, ◌+◌, ◌-◌, ◌*◌, ◌<◌, ◌≤◌, ◌++◌, List, [], ◌∷◌, length, drop, get_or, ℤ, pos, unsigned_abs, refl, sym, ◌∙◌, ap, ap₂, subst, inl, inr, arith, append_assoc, length-append}
+use Rattle.std.proofs.Common.{◌≡◌, ◌≢◌, ℕ, zero, suc, ◌+◌, ◌<◌, ◌≤◌, ◌++◌, List, [], ◌∷◌, length, drop, get_or, ℤ, pos, unsigned_abs, refl, sym, ◌∙◌, ap, ap₂, subst, inl, inr, arith, length-append}
 use Rattle.std.proofs.lemmas.Bool.{cond-true, cond-false, false≢true}
 use Rattle.std.proofs.lemmas.Int.{ints, by_lt_z}
 use Rattle.std.proofs.lemmas.List.{length-map}
-use Rattle.std.specs.Prelude.{codes, ◌⊎◌, Bool, false, int_lt, Option, Some, None}
+use Rattle.std.specs.Prelude.{codes, Bool, false, int_lt, Option, Some, None}
 use Rattle.qap_cost.specs.Bijection.{IsPerm}
 use Rattle.qap_cost.specs.Placement.{Placement, root_of}
 use Rattle.qap_cost.specs.Range.{AllLimited}
@@ -18,13 +18,13 @@ use Rattle.qap_lines.specs.LineText.{line_text, numbers_text}
 use Rattle.qap_lines.specs.Number.{IsNamed}
 use Rattle.qap_proof.proofs.Faults.{number_fault}
 use Rattle.qap_proof.proofs.HeadTexts.{in_parts}
-use Rattle.qap_proof.proofs.Roots.{AllLimited-by_turns, root_text-some, length-by_turns, IsRoot-none}
+use Rattle.qap_proof.proofs.Roots.{AllLimited-by_turns, root_text-some}
 use Rattle.qap_proof.proofs.Sayings.{saying_name, saying_numbers, kind_of, IsName-saying, no_line-saying, one_saying, said_front, said_of, below_text, tree_text-said, AllLimited-split, AllLimited-said, Says-said, same_splits, tree_front, next_tree}
 use Rattle.qap_proof.specs.Claim.{Claim, claim_of, IsBoundFor, IsRoot, IsProof}
 use Rattle.qap_proof.specs.Code.{placement_of}
 use Rattle.qap_proof.specs.Shape.{AreDuals, MayBeDuals, IsSplit, HasShape, AllHaveShape, free_count, has_duals}
-use Rattle.qap_proof.specs.Text.{letter, numbers_of_duals, split_numbers, tree_text, trees_text, by_turns, root_text, bound_text, proof_text, IsProofText}
-use Rattle.qap_proof.specs.TextFault.{IsLineFault, IsHeaderFault, IsSizeFault, IsCostFault, IsPermFault, Saying, Says, closes, splits, cuts, mirrors, IsDualsFault, IsSayingFault, IsNodeFault, IsFaultAmong, IsTreeTextFault, IsEndFault, IsBelow, HasRootLine, IsFaultFromTree, IsFaultFromBound, IsFaultFromRoot, IsFaultFromPerm, IsFaultFromCost, IsFaultFromSize, IsTextFault}
+use Rattle.qap_proof.specs.Text.{letter, numbers_of_duals, tree_text, trees_text, by_turns, root_text, bound_text, proof_text, IsProofText}
+use Rattle.qap_proof.specs.TextFault.{IsLineFault, IsHeaderFault, IsSizeFault, IsCostFault, IsPermFault, Saying, closes, splits, cuts, mirrors, IsDualsFault, IsSayingFault, IsNodeFault, IsTreeTextFault, IsEndFault, IsBelow, HasRootLine, IsFaultFromTree, IsFaultFromBound, IsFaultFromRoot, IsFaultFromPerm, IsFaultFromCost, IsFaultFromSize, IsTextFault}
 use Rattle.qap_proof.specs.Tree.{Pair, Split, Node, closed, split, cut, mirrored, Nodes, node_count, nodes_count, child_count, child_of}
 use Rattle.qap_proof.specs.declared.error.ProofError.{ProofError}
 use Rattle.qap_proof.specs.declared.error.ProofError.TheVariants.{Truncated, BadLine}

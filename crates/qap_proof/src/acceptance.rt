@@ -16,7 +16,7 @@ use crate::error::ProofError;
 use crate::line_number::{COST_LINE, SIZE_LINE};
 use crate::reader::{Head, read_end, read_head};
 use crate::walking::{Judge, walk_root};
-use gilmore_lawler::{RankedInstance, Workspace};
+use gilmore_lawler::{NodeRows, RankedInstance};
 use qap_cost::{Instance, Partial, Perm, cost};
 use std::alloc::Global;
 
@@ -94,19 +94,13 @@ fn walk_to_end(
         (λ e. (e ≡ ProofError.OutOfMemory) ⊎ IsFaultFromTree head.now.root head.now.line head.now.rest.now e) }
 {
     let ranked = RankedInstance::new(alloc, instance)?;
-    let mut workspace = Workspace::new(alloc);
+    let mut rows = NodeRows::new(alloc, &ranked);
     let judge = Judge {
-        ranked: &ranked,
+        instance,
         bound: head.bound,
     };
     let walked = walk_root(
-        alloc,
-        &mut workspace,
-        &judge,
-        &head.root,
-        head.rest,
-        head.line,
-        told,
+        alloc, &mut rows, &judge, &head.root, head.rest, head.line, told,
     )?;
     read_end(walked.rest, walked.next)?;
     Ok(walked.fault)

@@ -22,7 +22,7 @@ use crate::node_line::SplitLine;
 use crate::proof::Proof;
 use crate::tree::{Duals, Tree};
 use crate::walking::{Judge, Parent, judge_closed, judge_cut, judge_mirrored, judge_split};
-use gilmore_lawler::{RankedInstance, Workspace};
+use gilmore_lawler::{NodeRows, RankedInstance};
 use qap_cost::{Instance, Partial, Perm};
 use std::alloc::Global;
 
@@ -46,20 +46,13 @@ pub fn check(alloc: Global, instance: &Instance, proof: &Proof) -> Result<(), Pr
 {
     check_stated(instance, proof)?;
     let ranked = RankedInstance::new(alloc, instance)?;
-    let mut workspace = Workspace::new(alloc);
+    let mut rows = NodeRows::new(alloc, &ranked);
     let judge = Judge {
-        ranked: &ranked,
+        instance,
         bound: proof.bound(),
     };
     let line = proof.tree_line();
-    check_root(
-        alloc,
-        &mut workspace,
-        &judge,
-        proof.root(),
-        proof.tree(),
-        line,
-    )?;
+    check_root(alloc, &mut rows, &judge, proof.root(), proof.tree(), line)?;
     Ok(())
 }
 
@@ -79,25 +72,26 @@ fn check_stated(instance: &Instance, proof: &Proof) -> Result<(), ProofError>
 /// root costs less than the bound; and if not, the first fault of what its nodes say.
 fn check_root(
     alloc: Global,
-    workspace: &mut Workspace,
+    rows: &mut NodeRows<'_>,
     judge: &Judge<'_>,
     node: &Partial,
     tree: &Tree,
     line: u64,
 ) -> Result<u64, ProofError>
-    requires size { judge.now.ranked.now.size ≡ node.now.size }
+    requires size { judge.now.instance.now.size ≡ node.now.size }
     requires shape { HasShape node.now 0 false (node_of tree.now) }
+    requires rows { rows.old ≡ judge.now.instance.now }
     ensures { MatchResult result
-        (λ next. Valid judge.now.ranked.now judge.now.bound (whole node.now) (node_of tree.now) × (next ≡ line_after line (node_count (node_of tree.now))))
-        (λ e. (e ≡ OutOfMemory) ⊎ IsTreeFault judge.now.ranked.now judge.now.bound (whole node.now) line (node_of tree.now) e) }
+        (λ next. Valid judge.now.instance.now judge.now.bound (whole node.now) (node_of tree.now) × (next ≡ line_after line (node_count (node_of tree.now))))
+        (λ e. (e ≡ OutOfMemory) ⊎ IsTreeFault judge.now.instance.now judge.now.bound (whole node.now) line (node_of tree.now) e) }
 {
     match tree {
         Tree::Closed { duals } => {
-            check_closed(workspace, judge, node, duals, line)?;
+            check_closed(rows, judge, node, duals, line)?;
             Ok(line.saturating_add(1))
         }
         Tree::Split { split, children } => {
-            check_split(alloc, workspace, judge, node, split, children, line)
+            check_split(alloc, rows, judge, node, split, children, line)
         }
         Tree::Cut => unreachable!(),
         Tree::Mirrored {
@@ -111,7 +105,7 @@ fn check_root(
 #[cycle(check)]
 fn check_child(
     alloc: Global,
-    workspace: &mut Workspace,
+    rows: &mut NodeRows<'_>,
     judge: &Judge<'_>,
     parent: &Parent<'_>,
     child: usize,
@@ -119,23 +113,25 @@ fn check_child(
     tree: &Tree,
     line: u64,
 ) -> Result<u64, ProofError>
-    requires size { judge.now.ranked.now.size ≡ parent.now.node.now.size }
+    requires size { judge.now.instance.now.size ≡ parent.now.node.now.size }
     requires placement { IsPlacement parent.now.node.now }
     requires others { parent.now.others.now ≡ others_on parent.now.split.now.side parent.now.node.now }
-    requires reached { AreReached judge.now.ranked.now parent.now.node.now (split_of parent.now.split.now) parent.now.values.now }
+    requires reached { AreReached judge.now.instance.now parent.now.node.now (split_of parent.now.split.now) parent.now.values.now }
     requires inside { child < length parent.now.others.now }
     requires node { node.now ≡ child_of parent.now.node.now (split_of parent.now.split.now) child }
     requires shape { HasShape node.now child (has (split_of parent.now.split.now).duals) (node_of tree.now) }
-    ensures { MatchResult result
-        (λ next. Valid judge.now.ranked.now judge.now.bound (child_place parent.now.node.now (split_of parent.now.split.now) child) (node_of tree.now)
+    requires rows { rows.old ≡ judge.now.instance.now }
+    ensures judged { MatchResult result
+        (λ next. Valid judge.now.instance.now judge.now.bound (child_place parent.now.node.now (split_of parent.now.split.now) child) (node_of tree.now)
         × (next ≡ line_after line (node_count (node_of tree.now))))
         (λ e. (e ≡ OutOfMemory)
-        ⊎ IsTreeFault judge.now.ranked.now judge.now.bound (child_place parent.now.node.now (split_of parent.now.split.now) child) line (node_of tree.now) e) }
+        ⊎ IsTreeFault judge.now.instance.now judge.now.bound (child_place parent.now.node.now (split_of parent.now.split.now) child) line (node_of tree.now) e) }
+    ensures same { rows.new ≡ rows.old }
 {
     match tree {
-        Tree::Closed { duals } => check_closed(workspace, judge, node, duals, line)?,
+        Tree::Closed { duals } => check_closed(rows, judge, node, duals, line)?,
         Tree::Split { split, children } => {
-            return check_split(alloc, workspace, judge, node, split, children, line);
+            return check_split(alloc, rows, judge, node, split, children, line);
         }
         Tree::Cut => check_cut(judge, parent, child, line)?,
         Tree::Mirrored { earlier, image } => {
@@ -149,24 +145,26 @@ fn check_child(
 #[cycle(check)]
 fn check_split(
     alloc: Global,
-    workspace: &mut Workspace,
+    rows: &mut NodeRows<'_>,
     judge: &Judge<'_>,
     node: &Partial,
     split: &SplitLine,
     children: &[Tree],
     line: u64,
 ) -> Result<u64, ProofError>
-    requires size { judge.now.ranked.now.size ≡ node.now.size }
+    requires size { judge.now.instance.now.size ≡ node.now.size }
     requires split { IsSplit node.now (split_of split.now) }
     requires one_each { length children.now ≡ free_count node.now }
     requires shape { AllHaveShape node.now (split_of split.now) 0 (nodes_of children.now) }
-    ensures { MatchResult result
-        (λ next. Valid judge.now.ranked.now judge.now.bound (whole node.now) (split_into (split_of split.now) (nodes_of children.now))
+    requires rows { rows.old ≡ judge.now.instance.now }
+    ensures judged { MatchResult result
+        (λ next. Valid judge.now.instance.now judge.now.bound (whole node.now) (split_into (split_of split.now) (nodes_of children.now))
         × (next ≡ line_after (line_after line 1) (nodes_count (nodes_of children.now))))
         (λ e. (e ≡ OutOfMemory)
-        ⊎ IsTreeFault judge.now.ranked.now judge.now.bound (whole node.now) line (split_into (split_of split.now) (nodes_of children.now)) e) }
+        ⊎ IsTreeFault judge.now.instance.now judge.now.bound (whole node.now) line (split_into (split_of split.now) (nodes_of children.now)) e) }
+    ensures same { rows.new ≡ rows.old }
 {
-    let values = check_duals(alloc, workspace, judge, node, split, line)?;
+    let values = check_duals(alloc, rows, judge, node, split, line)?;
     let others = free_others(node, split.side)?;
     let parent = Parent {
         node,
@@ -175,55 +173,59 @@ fn check_split(
         values: &values,
     };
     let first = line.saturating_add(1);
-    check_children(alloc, workspace, judge, &parent, children, first)
+    check_children(alloc, rows, judge, &parent, children, first)
 }
 
 /// The same for the children of a split, the first of which begins at this line.
 #[cycle(check)]
 fn check_children(
     alloc: Global,
-    workspace: &mut Workspace,
+    rows: &mut NodeRows<'_>,
     judge: &Judge<'_>,
     parent: &Parent<'_>,
     children: &[Tree],
     line: u64,
 ) -> Result<u64, ProofError>
-    requires size { judge.now.ranked.now.size ≡ parent.now.node.now.size }
+    requires size { judge.now.instance.now.size ≡ parent.now.node.now.size }
     requires split { IsSplit parent.now.node.now (split_of parent.now.split.now) }
     requires placement { IsPlacement parent.now.node.now }
     requires others { parent.now.others.now ≡ others_on parent.now.split.now.side parent.now.node.now }
-    requires reached { AreReached judge.now.ranked.now parent.now.node.now (split_of parent.now.split.now) parent.now.values.now }
+    requires reached { AreReached judge.now.instance.now parent.now.node.now (split_of parent.now.split.now) parent.now.values.now }
     requires one_each { length children.now ≡ length parent.now.others.now }
     requires shape { AllHaveShape parent.now.node.now (split_of parent.now.split.now) 0 (nodes_of children.now) }
-    ensures { MatchResult result
-        (λ next. AllValid judge.now.ranked.now judge.now.bound parent.now.node.now (split_of parent.now.split.now) 0 (nodes_of children.now)
+    requires rows { rows.old ≡ judge.now.instance.now }
+    ensures judged { MatchResult result
+        (λ next. AllValid judge.now.instance.now judge.now.bound parent.now.node.now (split_of parent.now.split.now) 0 (nodes_of children.now)
         × (next ≡ line_after line (nodes_count (nodes_of children.now))))
         (λ e. (e ≡ OutOfMemory)
-        ⊎ IsTreeFaultAmong judge.now.ranked.now judge.now.bound parent.now.node.now (split_of parent.now.split.now) 0 line (nodes_of children.now) e) }
+        ⊎ IsTreeFaultAmong judge.now.instance.now judge.now.bound parent.now.node.now (split_of parent.now.split.now) 0 line (nodes_of children.now) e) }
+    ensures same { rows.new ≡ rows.old }
 {
     let mut next = line;
     for (child, tree) in children.iter().enumerate() {
         let node = child_node(parent.node, parent.split, parent.others, child)?;
-        next = check_child(alloc, workspace, judge, parent, child, &node, tree, next)?;
+        next = check_child(alloc, rows, judge, parent, child, &node, tree, next)?;
     }
     Ok(next)
 }
 
 /// Whether the duals close the node.
 fn check_closed(
-    workspace: &mut Workspace,
+    rows: &mut NodeRows<'_>,
     judge: &Judge<'_>,
     node: &Partial,
     duals: &Duals,
     line: u64,
 ) -> Result<(), ProofError>
-    requires size { judge.now.ranked.now.size ≡ node.now.size }
+    requires size { judge.now.instance.now.size ≡ node.now.size }
     requires duals { AreDuals (free_count node.now) (pair_of duals.now) }
-    ensures { MatchResult result
-        (λ done. Closes judge.now.ranked.now judge.now.bound node.now (pair_of duals.now))
-        (λ e. (e ≡ OutOfMemory) ⊎ IsClosedFault judge.now.ranked.now judge.now.bound node.now line (pair_of duals.now) e) }
+    requires rows { rows.old ≡ judge.now.instance.now }
+    ensures judged { MatchResult result
+        (λ done. Closes judge.now.instance.now judge.now.bound node.now (pair_of duals.now))
+        (λ e. (e ≡ OutOfMemory) ⊎ IsClosedFault judge.now.instance.now judge.now.bound node.now line (pair_of duals.now) e) }
+    ensures same { rows.new ≡ rows.old }
 {
-    match judge_closed(workspace, judge, node, duals, line, None)? {
+    match judge_closed(rows, judge, node, duals, line, None)? {
         Some(fault) => Err(fault),
         None => Ok(()),
     }
@@ -232,19 +234,21 @@ fn check_closed(
 /// What the duals of a split, if it has any, come to for each child, where they fit the reduced matrix of the node.
 fn check_duals(
     alloc: Global,
-    workspace: &mut Workspace,
+    rows: &mut NodeRows<'_>,
     judge: &Judge<'_>,
     node: &Partial,
     split: &SplitLine,
     line: u64,
 ) -> Result<Vec<i128>, ProofError>
-    requires size { judge.now.ranked.now.size ≡ node.now.size }
+    requires size { judge.now.instance.now.size ≡ node.now.size }
     requires split { IsSplit node.now (split_of split.now) }
-    ensures { MatchResult result
-        (λ values. MayFit judge.now.ranked.now node.now (split_of split.now).duals × AreReached judge.now.ranked.now node.now (split_of split.now) values.items)
-        (λ e. (e ≡ OutOfMemory) ⊎ ((e ≡ Misfit line) × (MayFit judge.now.ranked.now node.now (split_of split.now).duals → ⊥))) }
+    requires rows { rows.old ≡ judge.now.instance.now }
+    ensures judged { MatchResult result
+        (λ values. MayFit judge.now.instance.now node.now (split_of split.now).duals × AreReached judge.now.instance.now node.now (split_of split.now) values.items)
+        (λ e. (e ≡ OutOfMemory) ⊎ ((e ≡ Misfit line) × (MayFit judge.now.instance.now node.now (split_of split.now).duals → ⊥))) }
+    ensures same { rows.new ≡ rows.old }
 {
-    let judged = judge_split(alloc, workspace, judge, node, split, line, None)?;
+    let judged = judge_split(alloc, rows, judge, node, split, line, None)?;
     match judged.fault {
         Some(fault) => Err(fault),
         None => Ok(judged.values),
@@ -259,11 +263,11 @@ fn check_cut(
     line: u64,
 ) -> Result<(), ProofError>
     requires duals { has (split_of parent.now.split.now).duals ≡ true }
-    requires reached { AreReached judge.now.ranked.now parent.now.node.now (split_of parent.now.split.now) parent.now.values.now }
+    requires reached { AreReached judge.now.instance.now parent.now.node.now (split_of parent.now.split.now) parent.now.values.now }
     requires inside { child < free_count parent.now.node.now }
     ensures { MatchResult result
-        (λ done. Valid judge.now.ranked.now judge.now.bound (child_place parent.now.node.now (split_of parent.now.split.now) child) cut)
-        (λ e. IsTreeFault judge.now.ranked.now judge.now.bound (child_place parent.now.node.now (split_of parent.now.split.now) child) line cut e) }
+        (λ done. Valid judge.now.instance.now judge.now.bound (child_place parent.now.node.now (split_of parent.now.split.now) child) cut)
+        (λ e. IsTreeFault judge.now.instance.now judge.now.bound (child_place parent.now.node.now (split_of parent.now.split.now) child) line cut e) }
 {
     match judge_cut(judge, parent, child, line, None) {
         Some(fault) => Err(fault),
@@ -280,15 +284,15 @@ fn check_mirrored(
     image: &Perm,
     line: u64,
 ) -> Result<(), ProofError>
-    requires size { judge.now.ranked.now.size ≡ parent.now.node.now.size }
+    requires size { judge.now.instance.now.size ≡ parent.now.node.now.size }
     requires placement { IsPlacement parent.now.node.now }
     requires others { parent.now.others.now ≡ others_on parent.now.split.now.side parent.now.node.now }
     requires inside { child < length parent.now.others.now }
     requires earlier { earlier < child }
     requires image { length image.now ≡ parent.now.node.now.size }
     ensures { MatchResult result
-        (λ done. Valid judge.now.ranked.now judge.now.bound (child_place parent.now.node.now (split_of parent.now.split.now) child) (mirrored earlier image.now))
-        (λ e. IsTreeFault judge.now.ranked.now judge.now.bound (child_place parent.now.node.now (split_of parent.now.split.now) child) line (mirrored earlier image.now) e) }
+        (λ done. Valid judge.now.instance.now judge.now.bound (child_place parent.now.node.now (split_of parent.now.split.now) child) (mirrored earlier image.now))
+        (λ e. IsTreeFault judge.now.instance.now judge.now.bound (child_place parent.now.node.now (split_of parent.now.split.now) child) line (mirrored earlier image.now) e) }
 {
     match judge_mirrored(judge, parent, child, earlier, image, line, None) {
         Some(fault) => Err(fault),

@@ -15,7 +15,7 @@ use crate::leaf::{Leaf, leaves_of};
 use crate::proof::Proof;
 use crate::reader::read;
 use crate::walking::Judge;
-use gilmore_lawler::RankedInstance;
+use gilmore_lawler::{NodeRows, RankedInstance};
 use qap_cost::{Instance, Partial};
 use std::alloc::{AllocError, Global};
 use std::marker::Model;
@@ -128,11 +128,12 @@ pub(crate) fn proof_leaves(
     requires { Proves ranked.now proof.now }
     ensures { IfOk result (λ v. AreLeaves ranked.now (whole proof.now.root) proof.now.tree v.items) }
 {
+    let mut rows = NodeRows::new(alloc, ranked);
     let judge = Judge {
-        ranked,
+        instance: ranked.instance(),
         bound: proof.bound(),
     };
-    leaves_of(alloc, &judge, proof.root(), proof.tree())
+    leaves_of(alloc, &mut rows, &judge, proof.root(), proof.tree())
 }
 
 /// Raises what those leaves show whose placements have this root's among them, to this bound at least.

@@ -16,7 +16,7 @@ use crate::children::{child_node, free_others};
 use crate::node_line::SplitLine;
 use crate::tree::{Duals, Tree};
 use crate::walking::{Judge, JudgedSplit, Parent, judge_split};
-use gilmore_lawler::{Workspace, dual_sum};
+use gilmore_lawler::{NodeRows, dual_sum};
 use qap_cost::Partial;
 use std::alloc::{AllocError, Global};
 
@@ -31,39 +31,42 @@ pub struct Leaf {
 /// The leaves of a tree over a root which shows that no permutation which completes the root costs less than the bound.
 pub(crate) fn leaves_of(
     alloc: Global,
+    rows: &mut NodeRows<'_>,
     judge: &Judge<'_>,
     root: &Partial,
     tree: &Tree,
 ) -> Result<Vec<Leaf>, AllocError>
-    requires size { judge.now.ranked.now.size ≡ root.now.size }
+    requires size { judge.now.instance.now.size ≡ root.now.size }
     requires shape { HasShape root.now 0 false (node_of tree.now) }
-    requires valid { Valid judge.now.ranked.now judge.now.bound (whole root.now) (node_of tree.now) }
-    ensures { IfOk result (λ v. AreLeaves judge.now.ranked.now (whole root.now) (node_of tree.now) v.items) }
+    requires valid { Valid judge.now.instance.now judge.now.bound (whole root.now) (node_of tree.now) }
+    requires rows { rows.old ≡ judge.now.instance.now }
+    ensures { IfOk result (λ v. AreLeaves judge.now.instance.now (whole root.now) (node_of tree.now) v.items) }
 {
     let mut leaves = Vec::new(alloc);
-    let mut workspace = Workspace::new(alloc);
-    push_root(alloc, &mut workspace, judge, root, tree, &mut leaves)?;
+    push_root(alloc, rows, judge, root, tree, &mut leaves)?;
     Ok(leaves)
 }
 
 /// Adds the leaves of the tree over a root.
 fn push_root(
     alloc: Global,
-    workspace: &mut Workspace,
+    rows: &mut NodeRows<'_>,
     judge: &Judge<'_>,
     node: &Partial,
     tree: &Tree,
     leaves: &mut Vec<Leaf>,
 ) -> Result<(), AllocError>
-    requires size { judge.now.ranked.now.size ≡ node.now.size }
+    requires size { judge.now.instance.now.size ≡ node.now.size }
     requires shape { HasShape node.now 0 false (node_of tree.now) }
-    requires valid { Valid judge.now.ranked.now judge.now.bound (whole node.now) (node_of tree.now) }
-    ensures { OnOk result (ArePushed judge.now.ranked.now (whole node.now) (node_of tree.now) leaves.old.items leaves.new.items) }
+    requires valid { Valid judge.now.instance.now judge.now.bound (whole node.now) (node_of tree.now) }
+    requires rows { rows.old ≡ judge.now.instance.now }
+    ensures pushed { OnOk result (ArePushed judge.now.instance.now (whole node.now) (node_of tree.now) leaves.old.items leaves.new.items) }
+    ensures same { rows.new ≡ rows.old }
 {
     match tree {
         Tree::Closed { duals } => push_closed(judge, node, duals, leaves),
         Tree::Split { split, children } => {
-            push_split(alloc, workspace, judge, node, split, children, leaves)
+            push_split(alloc, rows, judge, node, split, children, leaves)
         }
         Tree::Cut => unreachable!(),
         Tree::Mirrored {
@@ -77,7 +80,7 @@ fn push_root(
 #[cycle(leaves)]
 fn push_child(
     alloc: Global,
-    workspace: &mut Workspace,
+    rows: &mut NodeRows<'_>,
     judge: &Judge<'_>,
     parent: &Parent<'_>,
     child: usize,
@@ -85,20 +88,22 @@ fn push_child(
     tree: &Tree,
     leaves: &mut Vec<Leaf>,
 ) -> Result<(), AllocError>
-    requires size { judge.now.ranked.now.size ≡ parent.now.node.now.size }
+    requires size { judge.now.instance.now.size ≡ parent.now.node.now.size }
     requires placement { IsPlacement parent.now.node.now }
     requires others { parent.now.others.now ≡ others_on parent.now.split.now.side parent.now.node.now }
-    requires reached { AreReached judge.now.ranked.now parent.now.node.now (split_of parent.now.split.now) parent.now.values.now }
+    requires reached { AreReached judge.now.instance.now parent.now.node.now (split_of parent.now.split.now) parent.now.values.now }
     requires inside { child < length parent.now.others.now }
     requires node { node.now ≡ child_of parent.now.node.now (split_of parent.now.split.now) child }
     requires shape { HasShape node.now child (has (split_of parent.now.split.now).duals) (node_of tree.now) }
-    requires valid { Valid judge.now.ranked.now judge.now.bound (child_place parent.now.node.now (split_of parent.now.split.now) child) (node_of tree.now) }
-    ensures { OnOk result (ArePushed judge.now.ranked.now (child_place parent.now.node.now (split_of parent.now.split.now) child) (node_of tree.now) leaves.old.items leaves.new.items) }
+    requires valid { Valid judge.now.instance.now judge.now.bound (child_place parent.now.node.now (split_of parent.now.split.now) child) (node_of tree.now) }
+    requires rows { rows.old ≡ judge.now.instance.now }
+    ensures pushed { OnOk result (ArePushed judge.now.instance.now (child_place parent.now.node.now (split_of parent.now.split.now) child) (node_of tree.now) leaves.old.items leaves.new.items) }
+    ensures same { rows.new ≡ rows.old }
 {
     match tree {
         Tree::Closed { duals } => push_closed(judge, node, duals, leaves),
         Tree::Split { split, children } => {
-            push_split(alloc, workspace, judge, node, split, children, leaves)
+            push_split(alloc, rows, judge, node, split, children, leaves)
         }
         Tree::Cut => push_cut(parent, child, node, leaves),
         Tree::Mirrored {
@@ -112,22 +117,24 @@ fn push_child(
 #[cycle(leaves)]
 fn push_split(
     alloc: Global,
-    workspace: &mut Workspace,
+    rows: &mut NodeRows<'_>,
     judge: &Judge<'_>,
     node: &Partial,
     split: &SplitLine,
     children: &[Tree],
     leaves: &mut Vec<Leaf>,
 ) -> Result<(), AllocError>
-    requires size { judge.now.ranked.now.size ≡ node.now.size }
+    requires size { judge.now.instance.now.size ≡ node.now.size }
     requires split { IsSplit node.now (split_of split.now) }
     requires one_each { length children.now ≡ free_count node.now }
     requires shape { AllHaveShape node.now (split_of split.now) 0 (nodes_of children.now) }
-    requires fits { MayFit judge.now.ranked.now node.now (split_of split.now).duals }
-    requires valid { AllValid judge.now.ranked.now judge.now.bound node.now (split_of split.now) 0 (nodes_of children.now) }
-    ensures { OnOk result (AreAllPushed judge.now.ranked.now node.now (split_of split.now) (nodes_of children.now) leaves.old.items leaves.new.items) }
+    requires fits { MayFit judge.now.instance.now node.now (split_of split.now).duals }
+    requires valid { AllValid judge.now.instance.now judge.now.bound node.now (split_of split.now) 0 (nodes_of children.now) }
+    requires rows { rows.old ≡ judge.now.instance.now }
+    ensures pushed { OnOk result (AreAllPushed judge.now.instance.now node.now (split_of split.now) (nodes_of children.now) leaves.old.items leaves.new.items) }
+    ensures same { rows.new ≡ rows.old }
 {
-    let JudgedSplit { values, fault } = judge_split(alloc, workspace, judge, node, split, 0, None)?;
+    let JudgedSplit { values, fault } = judge_split(alloc, rows, judge, node, split, 0, None)?;
     match fault {
         None => {
             let others = free_others(node, split.side)?;
@@ -137,7 +144,7 @@ fn push_split(
                 others: &others,
                 values: &values,
             };
-            push_children(alloc, workspace, judge, &parent, children, leaves)
+            push_children(alloc, rows, judge, &parent, children, leaves)
         }
         Some(_) => unreachable!(),
     }
@@ -147,25 +154,27 @@ fn push_split(
 #[cycle(leaves)]
 fn push_children(
     alloc: Global,
-    workspace: &mut Workspace,
+    rows: &mut NodeRows<'_>,
     judge: &Judge<'_>,
     parent: &Parent<'_>,
     children: &[Tree],
     leaves: &mut Vec<Leaf>,
 ) -> Result<(), AllocError>
-    requires size { judge.now.ranked.now.size ≡ parent.now.node.now.size }
+    requires size { judge.now.instance.now.size ≡ parent.now.node.now.size }
     requires split { IsSplit parent.now.node.now (split_of parent.now.split.now) }
     requires placement { IsPlacement parent.now.node.now }
     requires others { parent.now.others.now ≡ others_on parent.now.split.now.side parent.now.node.now }
-    requires reached { AreReached judge.now.ranked.now parent.now.node.now (split_of parent.now.split.now) parent.now.values.now }
+    requires reached { AreReached judge.now.instance.now parent.now.node.now (split_of parent.now.split.now) parent.now.values.now }
     requires one_each { length children.now ≡ length parent.now.others.now }
     requires shape { AllHaveShape parent.now.node.now (split_of parent.now.split.now) 0 (nodes_of children.now) }
-    requires valid { AllValid judge.now.ranked.now judge.now.bound parent.now.node.now (split_of parent.now.split.now) 0 (nodes_of children.now) }
-    ensures { OnOk result (AreAllPushed judge.now.ranked.now parent.now.node.now (split_of parent.now.split.now) (nodes_of children.now) leaves.old.items leaves.new.items) }
+    requires valid { AllValid judge.now.instance.now judge.now.bound parent.now.node.now (split_of parent.now.split.now) 0 (nodes_of children.now) }
+    requires rows { rows.old ≡ judge.now.instance.now }
+    ensures pushed { OnOk result (AreAllPushed judge.now.instance.now parent.now.node.now (split_of parent.now.split.now) (nodes_of children.now) leaves.old.items leaves.new.items) }
+    ensures same { rows.new ≡ rows.old }
 {
     for (child, tree) in children.iter().enumerate() {
         let node = child_node(parent.node, parent.split, parent.others, child)?;
-        push_child(alloc, workspace, judge, parent, child, &node, tree, leaves)?;
+        push_child(alloc, rows, judge, parent, child, &node, tree, leaves)?;
     }
     Ok(())
 }
@@ -177,13 +186,13 @@ fn push_closed(
     duals: &Duals,
     leaves: &mut Vec<Leaf>,
 ) -> Result<(), AllocError>
-    requires size { judge.now.ranked.now.size ≡ node.now.size }
+    requires size { judge.now.instance.now.size ≡ node.now.size }
     requires duals { AreDuals (free_count node.now) (pair_of duals.now) }
-    ensures { OnOk result (ArePushed judge.now.ranked.now (whole node.now) (closed (pair_of duals.now)) leaves.old.items leaves.new.items) }
+    ensures { OnOk result (ArePushed judge.now.instance.now (whole node.now) (closed (pair_of duals.now)) leaves.old.items leaves.new.items) }
 {
-    let fixed = node.fixed_cost(judge.ranked.instance());
-    let value = fixed + dual_sum(&duals.u, &duals.v);
+    let fixed = node.fixed_cost(judge.instance);
     let node = node.copy()?;
+    let value = fixed + dual_sum(&duals.u, &duals.v);
     leaves.push(Leaf { node, value })?;
     Ok(())
 }

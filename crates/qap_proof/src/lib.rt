@@ -37,7 +37,6 @@ pub use checking::check;
 pub use cover::Cover;
 pub use error::ProofError;
 pub use image::{stay, takes_facility, takes_location};
-pub use judging::{Task, closed_fault};
 pub use law::{fault_law, proof_law, proof_text_law, tree_law};
 pub use leaf::Leaf;
 pub use missing::{MissingPart, missing_parts};

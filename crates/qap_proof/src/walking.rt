@@ -14,19 +14,19 @@ ghost use Rattle.qap_proof.specs.Walk.{AreReached, BeginsWithTree, BeginsWithTre
 use crate::children::{child_node, free_others, has_duals};
 use crate::error::ProofError;
 use crate::image::{takes_facility, takes_location};
-use crate::judging::{Task, closed_fault};
+use crate::judging::closed_fault;
 use crate::node_line::{NodeLine, SplitLine, read_node_line};
 use crate::reached::child_values;
 use crate::side::Side;
 use crate::tree::Duals;
-use gilmore_lawler::{RankedInstance, Workspace, fits};
-use qap_cost::{Partial, Perm};
+use gilmore_lawler::{NodeRows, fits};
+use qap_cost::{Instance, Partial, Perm};
 use std::alloc::{AllocError, Global};
 
 /// What a tree is judged by: the instance, and the bound that it is to show, in the units of the costs.
 #[derive(Clone, Copy)]
 pub(crate) struct Judge<'a> {
-    pub(crate) ranked: &'a RankedInstance,
+    pub(crate) instance: &'a Instance,
     pub(crate) bound: i128,
 }
 
@@ -59,16 +59,17 @@ pub(crate) struct JudgedSplit {
 /// first fault of what the lines say, they are judged by how they are spelled alone.
 pub(crate) fn walk_root<'a>(
     alloc: Global,
-    workspace: &mut Workspace,
+    rows: &mut NodeRows<'_>,
     judge: &Judge<'_>,
     node: &Partial,
     text: &'a [u8],
     line: u64,
     told: Option<ProofError>,
 ) -> Result<Walked<'a>, ProofError>
-    requires size { told ≡ None → judge.now.ranked.now.size ≡ node.now.size }
+    requires size { told ≡ None → judge.now.instance.now.size ≡ node.now.size }
+    requires rows { rows.old ≡ judge.now.instance.now }
     ensures { MatchResult result
-        (λ w. BeginsWithTree node.now 0 false line text.now w.rest.now w.next (IsToldOf judge.now.ranked.now judge.now.bound (whole node.now) line told w.fault))
+        (λ w. BeginsWithTree node.now 0 false line text.now w.rest.now w.next (IsToldOf judge.now.instance.now judge.now.bound (whole node.now) line told w.fault))
         (λ e. (e ≡ ProofError.OutOfMemory) ⊎ IsTreeTextFault (free_count node.now) node.now 0 false line text.now e) }
 {
     let read = read_node_line(alloc, text, node, 0, false, line)?;
@@ -76,12 +77,10 @@ pub(crate) fn walk_root<'a>(
     let next = line.saturating_add(1);
     match read.line {
         NodeLine::Closed(duals) => {
-            let fault = judge_closed(workspace, judge, node, &duals, line, told)?;
+            let fault = judge_closed(rows, judge, node, &duals, line, told)?;
             Ok(Walked { rest, next, fault })
         }
-        NodeLine::Split(split) => {
-            walk_split(alloc, workspace, judge, node, &split, rest, line, told)
-        }
+        NodeLine::Split(split) => { walk_split(alloc, rows, judge, node, &split, rest, line, told) }
         NodeLine::Cut => unreachable!(),
         NodeLine::Mirrored(_, _) => unreachable!(),
     }
@@ -91,7 +90,7 @@ pub(crate) fn walk_root<'a>(
 #[cycle(walking)]
 fn walk_child<'a>(
     alloc: Global,
-    workspace: &mut Workspace,
+    rows: &mut NodeRows<'_>,
     judge: &Judge<'_>,
     parent: &Parent<'_>,
     child: usize,
@@ -100,29 +99,29 @@ fn walk_child<'a>(
     line: u64,
     told: Option<ProofError>,
 ) -> Result<Walked<'a>, ProofError>
-    requires size { told ≡ None → judge.now.ranked.now.size ≡ parent.now.node.now.size }
+    requires size { told ≡ None → judge.now.instance.now.size ≡ parent.now.node.now.size }
     requires split { IsSplit parent.now.node.now (split_of parent.now.split.now) }
     requires placement { IsPlacement parent.now.node.now }
     requires others { parent.now.others.now ≡ others_on parent.now.split.now.side parent.now.node.now }
-    requires reached { told ≡ None → AreReached judge.now.ranked.now parent.now.node.now (split_of parent.now.split.now) parent.now.values.now }
+    requires reached { told ≡ None → AreReached judge.now.instance.now parent.now.node.now (split_of parent.now.split.now) parent.now.values.now }
     requires inside { child < length parent.now.others.now }
     requires node { node.now ≡ child_of parent.now.node.now (split_of parent.now.split.now) child }
-    ensures { MatchResult result
+    requires rows { rows.old ≡ judge.now.instance.now }
+    ensures judged { MatchResult result
         (λ w. BeginsWithTree node.now child (has (split_of parent.now.split.now).duals) line text.now w.rest.now w.next
-        (IsToldOf judge.now.ranked.now judge.now.bound (child_place parent.now.node.now (split_of parent.now.split.now) child) line told w.fault))
+        (IsToldOf judge.now.instance.now judge.now.bound (child_place parent.now.node.now (split_of parent.now.split.now) child) line told w.fault))
         (λ e. (e ≡ ProofError.OutOfMemory) ⊎ IsTreeTextFault (free_count node.now) node.now child (has (split_of parent.now.split.now).duals) line text.now e) }
+    ensures same { rows.new ≡ rows.old }
 {
     let read = read_node_line(alloc, text, node, child, has_duals(parent.split), line)?;
     let rest = read.rest;
     let next = line.saturating_add(1);
     match read.line {
         NodeLine::Closed(duals) => {
-            let fault = judge_closed(workspace, judge, node, &duals, line, told)?;
+            let fault = judge_closed(rows, judge, node, &duals, line, told)?;
             Ok(Walked { rest, next, fault })
         }
-        NodeLine::Split(split) => {
-            walk_split(alloc, workspace, judge, node, &split, rest, line, told)
-        }
+        NodeLine::Split(split) => { walk_split(alloc, rows, judge, node, &split, rest, line, told) }
         NodeLine::Cut => {
             let fault = judge_cut(judge, parent, child, line, told);
             Ok(Walked { rest, next, fault })
@@ -138,7 +137,7 @@ fn walk_child<'a>(
 #[cycle(walking)]
 fn walk_split<'a>(
     alloc: Global,
-    workspace: &mut Workspace,
+    rows: &mut NodeRows<'_>,
     judge: &Judge<'_>,
     node: &Partial,
     split: &SplitLine,
@@ -146,14 +145,16 @@ fn walk_split<'a>(
     line: u64,
     told: Option<ProofError>,
 ) -> Result<Walked<'a>, ProofError>
-    requires size { told ≡ None → judge.now.ranked.now.size ≡ node.now.size }
+    requires size { told ≡ None → judge.now.instance.now.size ≡ node.now.size }
     requires split { IsSplit node.now (split_of split.now) }
-    ensures { MatchResult result
+    requires rows { rows.old ≡ judge.now.instance.now }
+    ensures judged { MatchResult result
         (λ w. BeginsWithTrees node.now (split_of split.now) (free_count node.now) (line_after line 1) text.now w.rest.now w.next
-        (IsToldOfSplit judge.now.ranked.now judge.now.bound node.now (split_of split.now) line told w.fault))
+        (IsToldOfSplit judge.now.instance.now judge.now.bound node.now (split_of split.now) line told w.fault))
         (λ e. (e ≡ ProofError.OutOfMemory) ⊎ IsFaultBefore node.now (split_of split.now) (line_after line 1) text.now e) }
+    ensures same { rows.new ≡ rows.old }
 {
-    let judged = judge_split(alloc, workspace, judge, node, split, line, told)?;
+    let judged = judge_split(alloc, rows, judge, node, split, line, told)?;
     let others = free_others(node, split.side)?;
     let parent = Parent {
         node,
@@ -162,38 +163,38 @@ fn walk_split<'a>(
         values: &judged.values,
     };
     let next = line.saturating_add(1);
-    walk_children(alloc, workspace, judge, &parent, text, next, judged.fault)
+    walk_children(alloc, rows, judge, &parent, text, next, judged.fault)
 }
 
 /// Judges the children of a split, the first of which is at the front of the text and begins at this line.
 #[cycle(walking)]
 fn walk_children<'a>(
     alloc: Global,
-    workspace: &mut Workspace,
+    rows: &mut NodeRows<'_>,
     judge: &Judge<'_>,
     parent: &Parent<'_>,
     text: &'a [u8],
     line: u64,
     told: Option<ProofError>,
 ) -> Result<Walked<'a>, ProofError>
-    requires size { told ≡ None → judge.now.ranked.now.size ≡ parent.now.node.now.size }
+    requires size { told ≡ None → judge.now.instance.now.size ≡ parent.now.node.now.size }
     requires split { IsSplit parent.now.node.now (split_of parent.now.split.now) }
     requires placement { IsPlacement parent.now.node.now }
     requires others { parent.now.others.now ≡ others_on parent.now.split.now.side parent.now.node.now }
-    requires reached { told ≡ None → AreReached judge.now.ranked.now parent.now.node.now (split_of parent.now.split.now) parent.now.values.now }
-    ensures { MatchResult result
+    requires reached { told ≡ None → AreReached judge.now.instance.now parent.now.node.now (split_of parent.now.split.now) parent.now.values.now }
+    requires rows { rows.old ≡ judge.now.instance.now }
+    ensures judged { MatchResult result
         (λ w. BeginsWithTrees parent.now.node.now (split_of parent.now.split.now) (length parent.now.others.now) line text.now w.rest.now w.next
-        (IsToldOfAll judge.now.ranked.now judge.now.bound parent.now.node.now (split_of parent.now.split.now) line told w.fault))
+        (IsToldOfAll judge.now.instance.now judge.now.bound parent.now.node.now (split_of parent.now.split.now) line told w.fault))
         (λ e. (e ≡ ProofError.OutOfMemory) ⊎ IsFaultBefore parent.now.node.now (split_of parent.now.split.now) line text.now e) }
+    ensures same { rows.new ≡ rows.old }
 {
     let mut rest = text;
     let mut next = line;
     let mut fault = told;
     for child in 0..parent.others.len() {
         let node = child_node(parent.node, parent.split, parent.others, child)?;
-        let walked = walk_child(
-            alloc, workspace, judge, parent, child, &node, rest, next, fault,
-        )?;
+        let walked = walk_child(alloc, rows, judge, parent, child, &node, rest, next, fault)?;
         rest = walked.rest;
         next = walked.next;
         fault = walked.fault;
@@ -203,27 +204,22 @@ fn walk_children<'a>(
 
 /// The first fault that is told where a closed node follows what was told before, if there is one.
 pub(crate) fn judge_closed(
-    workspace: &mut Workspace,
+    rows: &mut NodeRows<'_>,
     judge: &Judge<'_>,
     node: &Partial,
     duals: &Duals,
     line: u64,
     told: Option<ProofError>,
 ) -> Result<Option<ProofError>, AllocError>
-    requires size { told ≡ None → judge.now.ranked.now.size ≡ node.now.size }
+    requires size { told ≡ None → judge.now.instance.now.size ≡ node.now.size }
     requires duals { AreDuals (free_count node.now) (pair_of duals.now) }
-    ensures { IfOk result (λ after. IsToldOfClosed judge.now.ranked.now judge.now.bound node.now line told after (pair_of duals.now)) }
+    requires rows { rows.old ≡ judge.now.instance.now }
+    ensures judged { IfOk result (λ after. IsToldOfClosed judge.now.instance.now judge.now.bound node.now line told after (pair_of duals.now)) }
+    ensures same { rows.new ≡ rows.old }
 {
     match told {
         Some(fault) => Ok(Some(fault)),
-        None => {
-            let matrix = judge.ranked.reduced(workspace, node)?;
-            let task = Task {
-                instance: judge.ranked.instance(),
-                bound: judge.bound,
-            };
-            Ok(closed_fault(&task, &matrix, node, &duals.u, &duals.v, line))
-        }
+        None => closed_fault(rows, judge.bound, node, duals, line),
     }
 }
 
@@ -231,17 +227,19 @@ pub(crate) fn judge_closed(
 /// it has any, come to for each child.
 pub(crate) fn judge_split(
     alloc: Global,
-    workspace: &mut Workspace,
+    rows: &mut NodeRows<'_>,
     judge: &Judge<'_>,
     node: &Partial,
     split: &SplitLine,
     line: u64,
     told: Option<ProofError>,
 ) -> Result<JudgedSplit, AllocError>
-    requires size { told ≡ None → judge.now.ranked.now.size ≡ node.now.size }
+    requires size { told ≡ None → judge.now.instance.now.size ≡ node.now.size }
     requires split { IsSplit node.now (split_of split.now) }
-    ensures told { IfOk result (λ j. IsToldOfDuals judge.now.ranked.now node.now (split_of split.now) line told j.fault) }
-    ensures reached { IfOk result (λ j. j.fault ≡ None → AreReached judge.now.ranked.now node.now (split_of split.now) j.values.items) }
+    requires rows { rows.old ≡ judge.now.instance.now }
+    ensures told { IfOk result (λ j. IsToldOfDuals judge.now.instance.now node.now (split_of split.now) line told j.fault) }
+    ensures reached { IfOk result (λ j. j.fault ≡ None → AreReached judge.now.instance.now node.now (split_of split.now) j.values.items) }
+    ensures same { rows.new ≡ rows.old }
 {
     let none = Vec::new(alloc);
     if told.is_some() {
@@ -256,7 +254,7 @@ pub(crate) fn judge_split(
             fault: None,
         }),
         Some(duals) => {
-            let matrix = judge.ranked.reduced(workspace, node)?;
+            let matrix = rows.reduced(node)?;
             if !fits(&matrix, &duals.u, &duals.v) {
                 return Ok(JudgedSplit {
                     values: none,
@@ -265,7 +263,7 @@ pub(crate) fn judge_split(
             }
             let values = child_values(
                 alloc,
-                judge.ranked.instance(),
+                judge.instance,
                 &matrix,
                 node,
                 split.side,
@@ -289,9 +287,9 @@ pub(crate) fn judge_cut(
     told: Option<ProofError>,
 ) -> Option<ProofError>
     requires duals { has (split_of parent.now.split.now).duals ≡ true }
-    requires reached { told ≡ None → AreReached judge.now.ranked.now parent.now.node.now (split_of parent.now.split.now) parent.now.values.now }
+    requires reached { told ≡ None → AreReached judge.now.instance.now parent.now.node.now (split_of parent.now.split.now) parent.now.values.now }
     requires inside { child < free_count parent.now.node.now }
-    ensures { IsToldOf judge.now.ranked.now judge.now.bound (child_place parent.now.node.now (split_of parent.now.split.now) child) line told result cut }
+    ensures { IsToldOf judge.now.instance.now judge.now.bound (child_place parent.now.node.now (split_of parent.now.split.now) child) line told result cut }
 {
     match told {
         Some(fault) => Some(fault),
@@ -310,13 +308,13 @@ pub(crate) fn judge_mirrored(
     line: u64,
     told: Option<ProofError>,
 ) -> Option<ProofError>
-    requires size { told ≡ None → judge.now.ranked.now.size ≡ parent.now.node.now.size }
+    requires size { told ≡ None → judge.now.instance.now.size ≡ parent.now.node.now.size }
     requires placement { IsPlacement parent.now.node.now }
     requires others { parent.now.others.now ≡ others_on parent.now.split.now.side parent.now.node.now }
     requires inside { child < length parent.now.others.now }
     requires earlier { earlier < child }
     requires image { length image.now ≡ parent.now.node.now.size }
-    ensures { IsToldOf judge.now.ranked.now judge.now.bound (child_place parent.now.node.now (split_of parent.now.split.now) child) line told result (mirrored earlier image.now) }
+    ensures { IsToldOf judge.now.instance.now judge.now.bound (child_place parent.now.node.now (split_of parent.now.split.now) child) line told result (mirrored earlier image.now) }
 {
     match told {
         Some(fault) => Some(fault),
@@ -333,15 +331,15 @@ fn is_image(
     earlier: u16,
     image: &Perm,
 ) -> bool
-    requires size { judge.now.ranked.now.size ≡ parent.now.node.now.size }
+    requires size { judge.now.instance.now.size ≡ parent.now.node.now.size }
     requires placement { IsPlacement parent.now.node.now }
     requires others { parent.now.others.now ≡ others_on parent.now.split.now.side parent.now.node.now }
     requires inside { child < length parent.now.others.now }
     requires earlier { earlier < child }
     requires image { length image.now ≡ parent.now.node.now.size }
-    ensures { IsTrue result ↔ TakesOn parent.now.split.now.side judge.now.ranked.now parent.now.node.now earlier child image.now }
+    ensures { IsTrue result ↔ TakesOn parent.now.split.now.side judge.now.instance.now parent.now.node.now earlier child image.now }
 {
-    let instance = judge.ranked.instance();
+    let instance = judge.instance;
     let from = parent.others[usize::from(earlier)];
     let to = parent.others[child];
     match parent.split.side {

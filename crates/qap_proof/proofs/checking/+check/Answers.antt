@@ -34,7 +34,7 @@ check_child-check_split-requires t c =
           shape.0,
           (
             ap length lent ∙ sym (child_count-nodes_of ts) ∙ shape.1,
-            subst (λ us. AllHaveShape y s 0 (nodes_of us)) (sym lent) shape.2,
+            (subst (λ us. AllHaveShape y s 0 (nodes_of us)) (sym lent) shape.2, c.requires.rows),
           ),
         ),
       ),
@@ -47,7 +47,7 @@ check_child-check_cut-requires-clause-inside t c =
 
 pub check_children-check_child-requires : goal.check_children-check_child-requires
 check_children-check_child-requires t c =
-    let I = c.args.judge.now.ranked.now in
+    let I = c.args.judge.now.instance.now in
     let g = c.args.judge.now.bound in
     let x = c.args.parent.now.node.now in
     let s = split_of c.args.parent.now.split.now in
@@ -55,7 +55,7 @@ check_children-check_child-requires t c =
     let i = c.loop-child.child in
     let child = c.index-children-child.result in
     let below : i < length ts = omega (arith, c.loop-child-test.true) in
-    let at = Checked-at I g x s c.args.line c.loop-child.next ts i child below c.index-children-child.is c.loop-child.invariant in
+    let at = Checked-at I g x s c.args.line c.loop-child.next ts i child below c.index-children-child.is c.loop-child.invariant.0 in
     let whole : 3 * nodes_count (nodes_of ts) + 1 ≡ t = c.decreases in
     let less : node_count (node_of child) ≤ nodes_count (nodes_of ts) = subst (λ (u : Tree). node_count (node_of u) ≤ nodes_count (nodes_of ts)) (sym c.index-children-child.is) (node_count-le ts i child below) in
     let smaller : 3 * node_count (node_of child) < t = omega (arith, whole, less) in (
@@ -72,7 +72,7 @@ check_children-check_child-requires t c =
                 omega (arith, below, c.requires.one_each),
                 (
                   c.in_ok-node.ensures,
-                  subst (λ (y : Placement). HasShape y i (has_duals s.duals) (node_of child)) (sym c.in_ok-node.ensures) at.shape.0,
+                  (subst (λ (y : Placement). HasShape y i (has_duals s.duals) (node_of child)) (sym c.in_ok-node.ensures) at.shape.0, c.loop-child.invariant.1),
                 ),
               ),
             ),
@@ -83,7 +83,7 @@ check_children-check_child-requires t c =
 
 pub check_split-check_children-requires : goal.check_split-check_children-requires
 check_split-check_children-requires t c =
-    let I = c.args.judge.now.ranked.now in
+    let I = c.args.judge.now.instance.now in
     let x = c.args.node.now in
     let s = split_of c.args.split.now in
     let ts = c.args.children.now in
@@ -101,10 +101,10 @@ check_split-check_children-requires t c =
             (
               others,
               (
-                subst (λ (l : List ℤ). AreReached I x s l) (sym c.deref-2.ensures.value) c.in_ok-values.ensures.1,
+                subst (λ (l : List ℤ). AreReached I x s l) (sym c.deref-2.ensures.value) c.in_ok-values.ensures.judged.1,
                 (
                   c.requires.one_each ∙ sym (ap length others ∙ others_count c.args.split.now.side x placement),
-                  c.requires.shape,
+                  (c.requires.shape, c.in_ok-values.ensures.same ∙ c.requires.rows),
                 ),
               ),
             ),
@@ -115,17 +115,20 @@ check_split-check_children-requires t c =
 
 pub check_split-returns : goal.check_split-returns
 check_split-returns t c =
-    let I = c.args.judge.now.ranked.now in
+    let I = c.args.judge.now.instance.now in
     let g = c.args.judge.now.bound in
     let x = c.args.node.now in
     let s = split_of c.args.split.now in
     let ts = c.args.children.now in
     let next_is : c.saturating_add-first.result ≡ line_after c.args.line 1 = c.saturating_add-first.ensures in
-    let fits = c.in_ok-values.ensures.0 in
-    map_result _ _ _ _ c.check_children.result
-    (λ next h. (
-      Valid-children I g x s (nodes_of ts) c.requires.split fits (child_count-nodes_of ts ∙ c.requires.one_each) h.0,
-      h.1 ∙ ap (λ (k : ℕ). line_after k (nodes_count (nodes_of ts))) next_is,
-    ))
-    (λ e. ⊎_elim inl (λ fault. inr (inr (fits, subst (λ (k : ℕ). IsTreeFaultAmong I g x s 0 k (nodes_of ts) e) next_is fault))))
-    c.check_children.ensures
+    let fits = c.in_ok-values.ensures.judged.0 in
+    record {
+      judged = map_result _ _ _ _ c.check_children.result
+          (λ next h. (
+            Valid-children I g x s (nodes_of ts) c.requires.split fits (child_count-nodes_of ts ∙ c.requires.one_each) h.0,
+            h.1 ∙ ap (λ (k : ℕ). line_after k (nodes_count (nodes_of ts))) next_is,
+          ))
+          (λ e. ⊎_elim inl (λ fault. inr (inr (fits, subst (λ (k : ℕ). IsTreeFaultAmong I g x s 0 k (nodes_of ts) e) next_is fault))))
+          c.check_children.ensures.judged;
+      same = c.check_children.ensures.same ∙ c.in_ok-values.ensures.same;
+    }

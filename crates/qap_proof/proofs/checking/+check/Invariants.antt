@@ -1,4 +1,4 @@
-use Rattle.std.proofs.Common.{◌+◌, ◌*◌, drop}
+use Rattle.std.proofs.Common.{◌≡◌, ◌+◌, ◌*◌, drop}
 use Rattle.qap_proof.proofs.Checks.{Checked}
 use Rattle.qap_proof.specs.Memory.{node_of, nodes_of}
 use Rattle.qap_proof.specs.NodeLine.{split_of}
@@ -17,4 +17,4 @@ decreases-check_children l = 3 * nodes_count (nodes_of l.children.now) + 1
 -- the children before have been checked
 abbrev pub invariant-check_children-loop-child : goal.invariant-check_children-loop-child
 invariant-check_children-loop-child l =
-    Checked l.judge.ranked.now l.judge.bound l.parent.node.now (split_of l.parent.split.now) l.line l.next l.child (nodes_of l.children) (nodes_of (drop l.child l.children))
+    (Checked l.judge.instance.now l.judge.bound l.parent.node.now (split_of l.parent.split.now) l.line l.next l.child (nodes_of l.children) (nodes_of (drop l.child l.children))) × (l.rows ≡ l.judge.instance.now)

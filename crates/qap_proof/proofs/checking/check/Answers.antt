@@ -39,7 +39,7 @@ returns-clause-bound c =
     let ranked = c.in_ok-ranked.ensures in
     let stated = c.in_ok-check_stated.ensures in
     let bound_is : to_z w128 (of_z w128 c.bound.result) ≡ c.bound.result = search rules in
-    let proved = proved_by I c.in_ok-ranked.ranked C (to_z w128 (of_z w128 c.bound.result)) c.root.result.now (node_of c.tree.result.now) ranked.value (bound_is ∙ c.bound.ensures.value) c.root.ensures.value c.tree.ensures.value stated.0 stated.1 c.in_ok-check_root.ensures.0 in
+    let proved = proved_by I I C (to_z w128 (of_z w128 c.bound.result)) c.root.result.now (node_of c.tree.result.now) refl (bound_is ∙ c.bound.ensures.value) c.root.ensures.value c.tree.ensures.value stated.0 stated.1 c.in_ok-check_root.ensures.0 in
     Proves-NoneCompletesForLess I C (subst IsInstance ranked.value ranked.instance) c.bound.ensures.proof proved
 
 pub returns-clause-least : goal.returns-clause-least
@@ -49,5 +49,5 @@ returns-clause-least c =
     let ranked = c.in_ok-ranked.ensures in
     let stated = c.in_ok-check_stated.ensures in
     let bound_is : to_z w128 (of_z w128 c.bound.result) ≡ c.bound.result = search rules in
-    let proved = proved_by I c.in_ok-ranked.ranked C (to_z w128 (of_z w128 c.bound.result)) c.root.result.now (node_of c.tree.result.now) ranked.value (bound_is ∙ c.bound.ensures.value) c.root.ensures.value c.tree.ensures.value stated.0 stated.1 c.in_ok-check_root.ensures.0 in
+    let proved = proved_by I I C (to_z w128 (of_z w128 c.bound.result)) c.root.result.now (node_of c.tree.result.now) refl (bound_is ∙ c.bound.ensures.value) c.root.ensures.value c.tree.ensures.value stated.0 stated.1 c.in_ok-check_root.ensures.0 in
     λ none. Proves-IsLeast I C (subst IsInstance ranked.value ranked.instance) c.bound.ensures.proof proved (root_is (length C.permutation) C.root c.bound.ensures.proof.root none ∙ ap root_of stated.0)

@@ -1,4 +1,3 @@
-use Rattle.std.proofs.Common.{◌≡◌, ◌+◌, ℕ, ◌<◌, ◌≤◌, get_or, length}
 use Rattle.qap_proof.proofs.CoverLaws.{AreRaisedTo}
 use Rattle.qap_proof.proofs.cover.raise.Given as goal
 

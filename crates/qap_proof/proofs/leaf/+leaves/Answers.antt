@@ -1,4 +1,4 @@
-use Rattle.std.proofs.Common.{◌≡◌, ◌+◌, ◌*◌, ◌<◌, ◌≤◌, ◌++◌, ◌∷◌, [], ℕ, List, length, get_or, drop, pos, refl, sym, ◌∙◌, ap, subst, arith}
+use Rattle.std.proofs.Common.{◌≡◌, ◌+◌, ◌*◌, ◌<◌, ◌≤◌, List, length, get_or, drop, pos, refl, sym, ◌∙◌, ap, subst, arith}
 use Rattle.std.proofs.Math.ListN.{drop_of_length-le}
 use Rattle.std.proofs.lemmas.Result.{on_ok_weaker}
 use Rattle.std.specs.Prelude.{ℤ}
@@ -7,20 +7,18 @@ use Rattle.qap_proof.proofs.ChildValues.{others_count}
 use Rattle.qap_proof.proofs.LeafLists.{Listed-at, Listed-all, Listed-more, ArePushed-cut}
 use Rattle.qap_proof.proofs.Memory.{node_of-Split, node_of-Cut, child_count-nodes_of, node_count-le}
 use Rattle.qap_proof.proofs.Telling.{some_duals}
-use Rattle.qap_proof.specs.Cover.{leaf}
 use Rattle.qap_proof.specs.Memory.{node_of, nodes_of}
 use Rattle.qap_proof.specs.NodeLine.{split_of}
 use Rattle.qap_proof.specs.Shape.{AllHaveShape, HasShape, free_count, has_duals}
-use Rattle.qap_proof.specs.Tree.{Node, split, cut, node_count, nodes_count, child, child_of}
+use Rattle.qap_proof.specs.Tree.{split, cut, node_count, nodes_count, child}
 use Rattle.qap_proof.specs.Valid.{AllValid, MayFit, Valid}
 use Rattle.qap_proof.specs.Walk.{AreReached}
-use Rattle.qap_proof.specs.declared.leaf.Leaf.{Leaf}
 use Rattle.qap_proof.specs.declared.tree.Tree.{Tree}
 use Rattle.qap_proof.proofs.leaf.+leaves.Goals as goal
 
 pub push_child-push_split-requires : goal.push_child-push_split-requires
 push_child-push_split-requires t c =
-    let I = c.args.judge.now.ranked.now in
+    let I = c.args.judge.now.instance.now in
     let g = c.args.judge.now.bound in
     let p = child c.args.parent.now.node.now (split_of c.args.parent.now.split.now) c.args.child in
     let y = c.args.node.now in
@@ -46,7 +44,7 @@ push_child-push_split-requires t c =
               subst (λ us. AllHaveShape y s 0 (nodes_of us)) (sym lent) shape.2,
               (
                 subst (λ (z : Placement). MayFit I z s.duals) here valid.1,
-                subst (λ us. AllValid I g y s 0 (nodes_of us)) (sym lent) (subst (λ (z : Placement). AllValid I g z s 0 (nodes_of ts)) here valid.3),
+                (subst (λ us. AllValid I g y s 0 (nodes_of us)) (sym lent) (subst (λ (z : Placement). AllValid I g z s 0 (nodes_of ts)) here valid.3), c.requires.rows),
               ),
             ),
           ),
@@ -67,7 +65,7 @@ push_child-push_cut-requires t c =
 
 pub push_child-returns-in-Cut : goal.push_child-returns-in-Cut
 push_child-returns-in-Cut t c =
-    let I = c.args.judge.now.ranked.now in
+    let I = c.args.judge.now.instance.now in
     let parent = c.args.parent.now in
     let x = parent.node.now in
     let s = split_of parent.split.now in
@@ -76,14 +74,17 @@ push_child-returns-in-Cut t c =
     let d = some_duals s.duals shape in
     let inside : c.args.child < free_count x = omega (arith, c.requires.inside, ap length c.requires.others, others_count parent.split.now.side x c.requires.placement) in
     let value = get_or parent.values.now c.args.child (pos 0) in
-    on_ok_weaker c.push_cut.result
-    (λ pushed. ArePushed-cut I x s c.args.child (node_of c.args.tree.now) c.args.node.now value c.args.leaves.now.items c.push_cut.new.leaves.items d.0 is c.requires.node d.1
-    (c.requires.reached.each d.0 c.args.child d.1 inside) pushed)
-    c.push_cut.ensures
+    record {
+      pushed = on_ok_weaker c.push_cut.result
+          (λ pushed. ArePushed-cut I x s c.args.child (node_of c.args.tree.now) c.args.node.now value c.args.leaves.now.items c.push_cut.new.leaves.items d.0 is c.requires.node d.1
+          (c.requires.reached.each d.0 c.args.child d.1 inside) pushed)
+          c.push_cut.ensures;
+      same = refl;
+    }
 
 pub push_children-push_child-requires : goal.push_children-push_child-requires
 push_children-push_child-requires t c =
-    let I = c.args.judge.now.ranked.now in
+    let I = c.args.judge.now.instance.now in
     let g = c.args.judge.now.bound in
     let x = c.args.parent.now.node.now in
     let s = split_of c.args.parent.now.split.now in
@@ -91,7 +92,7 @@ push_children-push_child-requires t c =
     let i = c.loop-child.child in
     let tree = c.index-children-child.result in
     let below : i < length ts = omega (arith, c.loop-child-test.true) in
-    let at = Listed-at I g x s ts i tree c.args.leaves.now.items c.loop-child.leaves.items below c.index-children-child.is c.loop-child.invariant in
+    let at = Listed-at I g x s ts i tree c.args.leaves.now.items c.loop-child.leaves.items below c.index-children-child.is c.loop-child.invariant.0 in
     let whole : 3 * nodes_count (nodes_of ts) + 1 ≡ t = c.decreases in
     let less : node_count (node_of tree) ≤ nodes_count (nodes_of ts) = subst (λ (u : Tree). node_count (node_of u) ≤ nodes_count (nodes_of ts)) (sym c.index-children-child.is) (node_count-le ts i tree below) in
     let smaller : 3 * node_count (node_of tree) < t = omega (arith, whole, less) in (
@@ -110,7 +111,7 @@ push_children-push_child-requires t c =
                   c.in_ok-node.ensures,
                   (
                     subst (λ (y : Placement). HasShape y i (has_duals s.duals) (node_of tree)) (sym c.in_ok-node.ensures) at.shape.0,
-                    at.valid.0,
+                    (at.valid.0, c.loop-child.invariant.1),
                   ),
                 ),
               ),
@@ -122,7 +123,7 @@ push_children-push_child-requires t c =
 
 pub push_children-loop-child-preserved : goal.push_children-loop-child-preserved
 push_children-loop-child-preserved t c =
-    let I = c.args.judge.now.ranked.now in
+    let I = c.args.judge.now.instance.now in
     let g = c.args.judge.now.bound in
     let x = c.args.parent.now.node.now in
     let s = split_of c.args.parent.now.split.now in
@@ -131,23 +132,26 @@ push_children-loop-child-preserved t c =
     let tree = c.index-children-child.result in
     let below : i < length ts = omega (arith, c.loop-child-test.true) in
     let old = c.args.leaves.now.items in
-    let at = Listed-at I g x s ts i tree old c.loop-child.leaves.items below c.index-children-child.is c.loop-child.invariant in
-    Listed-more I g x s i (nodes_of ts) (node_of tree) (nodes_of (drop (i + 1) ts)) old c.loop-child.leaves.items c.push_child.new.leaves.items at c.in_ok-push_child.ensures
+    let at = Listed-at I g x s ts i tree old c.loop-child.leaves.items below c.index-children-child.is c.loop-child.invariant.0 in
+    (Listed-more I g x s i (nodes_of ts) (node_of tree) (nodes_of (drop (i + 1) ts)) old c.loop-child.leaves.items c.push_child.new.leaves.items at c.in_ok-push_child.ensures.pushed, c.in_ok-push_child.ensures.same ∙ c.loop-child.invariant.1)
 
 pub push_children-returns : goal.push_children-returns
 push_children-returns t c =
-    let I = c.args.judge.now.ranked.now in
+    let I = c.args.judge.now.instance.now in
     let g = c.args.judge.now.bound in
     let x = c.args.parent.now.node.now in
     let s = split_of c.args.parent.now.split.now in
     let ts = c.args.children.now in
     let i = c.loop-child.child in
     let past : length ts ≤ i = omega (arith, c.loop-child-test.false) in
-    Listed-all I g x s i (nodes_of ts) (nodes_of (drop i ts)) c.args.leaves.now.items c.loop-child.leaves.items (ap nodes_of (drop_of_length-le ts past)) c.loop-child.invariant
+    record {
+      pushed = Listed-all I g x s i (nodes_of ts) (nodes_of (drop i ts)) c.args.leaves.now.items c.loop-child.leaves.items (ap nodes_of (drop_of_length-le ts past)) c.loop-child.invariant.0;
+      same = c.loop-child.invariant.1 ∙ sym c.requires.rows;
+    }
 
 pub push_split-push_children-requires : goal.push_split-push_children-requires
 push_split-push_children-requires t c =
-    let I = c.args.judge.now.ranked.now in
+    let I = c.args.judge.now.instance.now in
     let x = c.args.node.now in
     let s = split_of c.args.split.now in
     let ts = c.args.children.now in
@@ -168,7 +172,7 @@ push_split-push_children-requires t c =
                 subst (λ (l : List ℤ). AreReached I x s l) (sym c.deref-in-None.ensures.value) (c.in_ok-values.ensures.reached c.in-None.is),
                 (
                   c.requires.one_each ∙ sym (ap length others ∙ others_count c.args.split.now.side x placement),
-                  (c.requires.shape, c.requires.valid),
+                  (c.requires.shape, (c.requires.valid, c.in_ok-values.ensures.same ∙ c.requires.rows)),
                 ),
               ),
             ),

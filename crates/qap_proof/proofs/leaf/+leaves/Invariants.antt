@@ -1,4 +1,4 @@
-use Rattle.std.proofs.Common.{◌+◌, ◌*◌, drop}
+use Rattle.std.proofs.Common.{◌≡◌, ◌+◌, ◌*◌, drop}
 use Rattle.qap_proof.proofs.LeafLists.{Listed}
 use Rattle.qap_proof.specs.Memory.{node_of, nodes_of}
 use Rattle.qap_proof.specs.NodeLine.{split_of}
@@ -17,4 +17,4 @@ decreases-push_children l = 3 * nodes_count (nodes_of l.children.now) + 1
 -- the children before have been listed
 abbrev pub invariant-push_children-loop-child : goal.invariant-push_children-loop-child
 invariant-push_children-loop-child l =
-    Listed l.judge.ranked.now l.judge.bound l.parent.node.now (split_of l.parent.split.now) l.child (nodes_of l.children) (nodes_of (drop l.child l.children)) l.initial.leaves.items l.leaves.items
+    (Listed l.judge.instance.now l.judge.bound l.parent.node.now (split_of l.parent.split.now) l.child (nodes_of l.children) (nodes_of (drop l.child l.children)) l.initial.leaves.items l.leaves.items) × (l.rows ≡ l.judge.instance.now)

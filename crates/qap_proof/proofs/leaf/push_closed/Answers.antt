@@ -1,8 +1,7 @@
-use Rattle.std.proofs.Common.{◌≡◌, ◌∙◌, ◌∷◌, [], List, ap, ap₂}
+use Rattle.std.proofs.Common.{◌∙◌, ◌∷◌, [], List, ap₂}
 use Rattle.std.specs.Prelude.{ℤ, ◌+ℤ◌}
-use Rattle.qap_cost.specs.Instance.{Problem}
 use Rattle.qap_cost.specs.Matrix.{dual_value}
-use Rattle.qap_cost.specs.Placement.{Placement, fixed_cost_of}
+use Rattle.qap_cost.specs.Placement.{Placement}
 use Rattle.qap_proof.proofs.ChildValues.{sum_of_two}
 use Rattle.qap_proof.specs.Cover.{leaf}
 use Rattle.qap_proof.proofs.leaf.push_closed.Goals as goal
@@ -13,7 +12,7 @@ returns c =
     let duals = c.dual_sum.ensures in
     let sum = sum_of_two c.fixed_cost-fixed.result c.dual_sum.result fixed.bounded duals.bounded
     ∙ ap₂ (λ y z. y +ℤ z)
-    (fixed.value ∙ ap (λ (I : Problem). fixed_cost_of I c.args.node.now) c.instance.ensures.value)
+    fixed.value
     (duals.value ∙ ap₂ (λ (u : List ℤ) (v : List ℤ). dual_value u v) c.deref.ensures.value c.deref-2.ensures.value) in
     record {
       leaves = _;

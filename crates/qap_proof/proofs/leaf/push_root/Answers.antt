@@ -1,6 +1,6 @@
-use Rattle.std.proofs.Common.{◌≡◌, length, sym, ◌∙◌, ap, subst, false}
+use Rattle.std.proofs.Common.{length, sym, ◌∙◌, ap, subst, false}
 use Rattle.qap_proof.proofs.Memory.{node_of-Split, child_count-nodes_of}
-use Rattle.qap_proof.specs.Memory.{node_of, nodes_of}
+use Rattle.qap_proof.specs.Memory.{nodes_of}
 use Rattle.qap_proof.specs.NodeLine.{split_of}
 use Rattle.qap_proof.specs.Shape.{HasShape}
 use Rattle.qap_proof.specs.Tree.{split}

@@ -1,4 +1,4 @@
-use Rattle.std.proofs.Common.{◌≡◌, ℕ, ◌<◌, ◌++◌, length, inl, inr, refl, ap, ◌∙◌, subst, ⊎_elim, arith}
+use Rattle.std.proofs.Common.{◌≡◌, ℕ, ◌<◌, ◌++◌, length, inl, inr, refl, ap, ◌∙◌, sym, subst, ⊎_elim, arith}
 use Rattle.std.specs.Prelude.{Bool, codes, MatchResult, ◌⊎◌}
 use Rattle.std.proofs.lemmas.Result.{err_from_is_err_and}
 use Rattle.qap_cost.specs.Placement.{Placement}
@@ -28,10 +28,13 @@ walk_child-returns-in_err-read t c =
     let s = split_of c.args.parent.now.split.now in
     let e = c.in_err-read.field-0.0 in
     let p = err_from_is_err_and c.from_residual.result c.from_residual.ensures.1 in
-    rw (p.1, p.2) (⊎_elim inl (λ fault. inr (
-    IsTreeTextFault-line (free_count x) x c.args.child (has_duals s.duals) c.args.line c.args.text.now e
-    (subst (λ (b : Bool). IsLineFault c.args.line c.args.text.now (IsNodeFault x c.args.child b c.args.line) e) c.has_duals.ensures fault)))
-    (c.in_err-read.ensures {u = tt}))
+    rw (p.1, p.2) (record {
+      judged = ⊎_elim inl (λ fault. inr (
+          IsTreeTextFault-line (free_count x) x c.args.child (has_duals s.duals) c.args.line c.args.text.now e
+          (subst (λ (b : Bool). IsLineFault c.args.line c.args.text.now (IsNodeFault x c.args.child b c.args.line) e) c.has_duals.ensures fault)))
+          (c.in_err-read.ensures {u = tt});
+      same = refl;
+    })
 
 pub walk_child-judge_cut-fault-requires-clause-inside : goal.walk_child-judge_cut-fault-requires-clause-inside
 walk_child-judge_cut-fault-requires-clause-inside t c =
@@ -40,7 +43,7 @@ walk_child-judge_cut-fault-requires-clause-inside t c =
 
 pub walk_child-returns-in_ok-fault-in-Closed : goal.walk_child-returns-in_ok-fault-in-Closed
 walk_child-returns-in_ok-fault-in-Closed t c =
-    let I = c.args.judge.now.ranked.now in
+    let I = c.args.judge.now.instance.now in
     let g = c.args.judge.now.bound in
     let s = split_of c.args.parent.now.split.now in
     let x = c.args.parent.now.node.now in
@@ -48,15 +51,18 @@ walk_child-returns-in_ok-fault-in-Closed t c =
     let read = c.in_ok-read.ensures in
     let d = pair_of c.in-Closed.duals in
     let said : IsNodeLine y c.args.child c.has_duals.result read.line (Closed c.in-Closed.duals) = subst (IsNodeLine y c.args.child c.has_duals.result read.line) c.in-Closed.is read.is_node in
-    let here = subst (λ (m : Duals). IsToldOfClosed I g y c.args.line c.args.told c.in_ok-fault-in-Closed.fault (pair_of m)) c.in-Closed.duals-is c.in_ok-fault-in-Closed.ensures in
+    let here = subst (λ (m : Duals). IsToldOfClosed I g y c.args.line c.args.told c.in_ok-fault-in-Closed.fault (pair_of m)) c.in-Closed.duals-is c.in_ok-fault-in-Closed.ensures.judged in
     let told = subst (λ (z : Placement). IsToldOfClosed I g z c.args.line c.args.told c.in_ok-fault-in-Closed.fault d) c.requires.node here in
-    BeginsWithTree-line y c.args.child (has_duals s.duals) c.args.line c.args.text.now read.line c.in_ok-read.read.rest.now (codes "b") (d.u ++ d.v) c.saturating_add-next.result
-    (IsToldOf I g (child x s c.args.child) c.args.line c.args.told c.in_ok-fault-in-Closed.fault) (closed d) said.0 refl refl read.is said.1 c.saturating_add-next.ensures
-    (IsToldOf-closed I g (child x s c.args.child) c.args.line c.args.told c.in_ok-fault-in-Closed.fault d told)
+    record {
+      judged = BeginsWithTree-line y c.args.child (has_duals s.duals) c.args.line c.args.text.now read.line c.in_ok-read.read.rest.now (codes "b") (d.u ++ d.v) c.saturating_add-next.result
+          (IsToldOf I g (child x s c.args.child) c.args.line c.args.told c.in_ok-fault-in-Closed.fault) (closed d) said.0 refl refl read.is said.1 c.saturating_add-next.ensures
+          (IsToldOf-closed I g (child x s c.args.child) c.args.line c.args.told c.in_ok-fault-in-Closed.fault d told);
+      same = c.in_ok-fault-in-Closed.ensures.same;
+    }
 
 pub walk_child-returns-in-Split : goal.walk_child-returns-in-Split
 walk_child-returns-in-Split t c =
-    let I = c.args.judge.now.ranked.now in
+    let I = c.args.judge.now.instance.now in
     let g = c.args.judge.now.bound in
     let s = split_of c.args.parent.now.split.now in
     let x = c.args.parent.now.node.now in
@@ -65,25 +71,30 @@ walk_child-returns-in-Split t c =
     let inner = split_of c.in-Split.split in
     let rest = c.in_ok-read.read.rest.now in
     let said : IsNodeLine y c.args.child c.has_duals.result read.line (SplitsAt c.in-Split.split) = subst (IsNodeLine y c.args.child c.has_duals.result read.line) c.in-Split.is read.is_node in
-    map_result _ _ _ _ c.walk_split.result
-    (λ w h. BeginsWithTree-split y c.args.child (has_duals s.duals) c.args.line c.args.text.now read.line rest w.rest.now w.next inner
-    (IsToldOf I g (child x s c.args.child) c.args.line c.args.told w.fault) (IsToldOfSplit I g y inner c.args.line c.args.told w.fault) said.0 read.is said.1 h
-    (IsToldOf-split_at I g (child x s c.args.child) y c.args.line c.args.told w.fault inner h.trees c.requires.node said.0 h.counted h.holds))
-    (λ e. ⊎_elim inl (λ fault. inr (IsTreeTextFault-among y c.args.child (has_duals s.duals) c.args.line c.args.text.now read.line rest inner e said.0 read.is said.1 fault)))
-    (subst (λ (m : SplitLine). MatchResult c.walk_split.result
-    (λ w. BeginsWithTrees y (split_of m) (free_count y) (line_after c.args.line 1) rest w.rest.now w.next (IsToldOfSplit I g y (split_of m) c.args.line c.args.told w.fault))
-    (λ e. (e ≡ OutOfMemory) ⊎ IsFaultBefore y (split_of m) (line_after c.args.line 1) rest e)) c.in-Split.split-is c.walk_split.ensures)
+    record {
+      judged = map_result _ _ _ _ c.walk_split.result
+          (λ w h. BeginsWithTree-split y c.args.child (has_duals s.duals) c.args.line c.args.text.now read.line rest w.rest.now w.next inner
+          (IsToldOf I g (child x s c.args.child) c.args.line c.args.told w.fault) (IsToldOfSplit I g y inner c.args.line c.args.told w.fault) said.0 read.is said.1 h
+          (IsToldOf-split_at I g (child x s c.args.child) y c.args.line c.args.told w.fault inner h.trees c.requires.node said.0 h.counted h.holds))
+          (λ e. ⊎_elim inl (λ fault. inr (IsTreeTextFault-among y c.args.child (has_duals s.duals) c.args.line c.args.text.now read.line rest inner e said.0 read.is said.1 fault)))
+          (subst (λ (m : SplitLine). MatchResult c.walk_split.result
+          (λ w. BeginsWithTrees y (split_of m) (free_count y) (line_after c.args.line 1) rest w.rest.now w.next (IsToldOfSplit I g y (split_of m) c.args.line c.args.told w.fault))
+          (λ e. (e ≡ OutOfMemory) ⊎ IsFaultBefore y (split_of m) (line_after c.args.line 1) rest e)) c.in-Split.split-is c.walk_split.ensures.judged);
+      same = c.walk_split.ensures.same;
+    }
 
 pub walk_children-loop-child-init : goal.walk_children-loop-child-init
 walk_children-loop-child-init t c =
-    let s = split_of c.args.parent.now.split.now in
-    BeginsWithTrees-none c.args.parent.now.node.now s c.args.line c.args.text.now
-    (IsToldOfAll c.args.judge.now.ranked.now c.args.judge.now.bound c.args.parent.now.node.now s c.args.line c.args.told c.args.told) (omega (arith, c.ranges.line.fits))
-    (IsToldOfAll-none c.args.judge.now.ranked.now c.args.judge.now.bound c.args.parent.now.node.now s c.args.line c.args.told)
+    let s = split_of c.args.parent.now.split.now in (
+      BeginsWithTrees-none c.args.parent.now.node.now s c.args.line c.args.text.now
+          (IsToldOfAll c.args.judge.now.instance.now c.args.judge.now.bound c.args.parent.now.node.now s c.args.line c.args.told c.args.told) (omega (arith, c.ranges.line.fits))
+          (IsToldOfAll-none c.args.judge.now.instance.now c.args.judge.now.bound c.args.parent.now.node.now s c.args.line c.args.told),
+      c.requires.rows,
+    )
 
 pub walk_children-returns-in_err-walked : goal.walk_children-returns-in_err-walked
 walk_children-returns-in_err-walked t c =
-    let I = c.args.judge.now.ranked.now in
+    let I = c.args.judge.now.instance.now in
     let g = c.args.judge.now.bound in
     let s = split_of c.args.parent.now.split.now in
     let x = c.args.parent.now.node.now in
@@ -91,39 +102,47 @@ walk_children-returns-in_err-walked t c =
     let e = c.in_err-walked.field-0.0 in
     let few : i < free_count x = omega (arith, c.loop-child-test.true, ap length c.requires.others, others_count c.args.parent.now.split.now.side x c.requires.placement) in
     let p = err_from_is_err_and c.from_residual-in_err-walked.result c.from_residual-in_err-walked.ensures.1 in
-    rw (p.1, p.2) (⊎_elim inl (λ fault. inr (
-    IsFaultBefore-at x s i c.args.line c.args.text.now c.loop-child.rest.now c.loop-child.next (IsToldOfAll I g x s c.args.line c.args.told c.loop-child.fault) e c.loop-child.invariant few
-    (subst (λ (y : Placement). IsTreeTextFault (free_count y) y i (has_duals s.duals) c.loop-child.next c.loop-child.rest.now e) c.in_ok-node.ensures fault)))
-    (c.in_err-walked.ensures {u = tt}))
+    rw (p.1, p.2) (record {
+      judged = ⊎_elim inl (λ fault. inr (
+          IsFaultBefore-at x s i c.args.line c.args.text.now c.loop-child.rest.now c.loop-child.next (IsToldOfAll I g x s c.args.line c.args.told c.loop-child.fault) e c.loop-child.invariant.0 few
+          (subst (λ (y : Placement). IsTreeTextFault (free_count y) y i (has_duals s.duals) c.loop-child.next c.loop-child.rest.now e) c.in_ok-node.ensures fault)))
+          (c.in_err-walked.ensures {u = tt}).judged;
+      same = c.walk_child.ensures.same ∙ c.loop-child.invariant.1 ∙ sym c.requires.rows;
+    })
 
 pub walk_children-loop-child-preserved : goal.walk_children-loop-child-preserved
 walk_children-loop-child-preserved t c =
-    let I = c.args.judge.now.ranked.now in
+    let I = c.args.judge.now.instance.now in
     let g = c.args.judge.now.bound in
     let s = split_of c.args.parent.now.split.now in
     let x = c.args.parent.now.node.now in
     let i = c.loop-child.child in
-    let h = c.loop-child.invariant in
+    let h = c.loop-child.invariant.0 in
     let walked = c.in_ok-walked.walked in
     let told = IsToldOf I g (child x s i) c.loop-child.next c.loop-child.fault walked.fault in
     let k : BeginsWithTree (child_of x s i) i (has_duals s.duals) c.loop-child.next c.loop-child.rest.now walked.rest.now walked.next told =
-    subst (λ (y : Placement). BeginsWithTree y i (has_duals s.duals) c.loop-child.next c.loop-child.rest.now walked.rest.now walked.next told) c.in_ok-node.ensures c.in_ok-walked.ensures in
-    BeginsWithTrees-more x s i c.args.line c.args.text.now c.loop-child.rest.now c.loop-child.next (IsToldOfAll I g x s c.args.line c.args.told c.loop-child.fault)
-    (IsToldOfAll I g x s c.args.line c.args.told walked.fault) walked.rest.now walked.next told h k
-    (IsToldOfAll-more I g x s c.args.line c.args.told c.loop-child.fault walked.fault i c.loop-child.next h.trees k.tree h.counted (omega (arith, c.ranges.line.fits)) h.next_is h.holds k.holds)
+    subst (λ (y : Placement). BeginsWithTree y i (has_duals s.duals) c.loop-child.next c.loop-child.rest.now walked.rest.now walked.next told) c.in_ok-node.ensures c.in_ok-walked.ensures.judged in (
+      BeginsWithTrees-more x s i c.args.line c.args.text.now c.loop-child.rest.now c.loop-child.next (IsToldOfAll I g x s c.args.line c.args.told c.loop-child.fault)
+          (IsToldOfAll I g x s c.args.line c.args.told walked.fault) walked.rest.now walked.next told h k
+          (IsToldOfAll-more I g x s c.args.line c.args.told c.loop-child.fault walked.fault i c.loop-child.next h.trees k.tree h.counted (omega (arith, c.ranges.line.fits)) h.next_is h.holds k.holds),
+      c.in_ok-walked.ensures.same ∙ c.loop-child.invariant.1,
+    )
 
 pub walk_split-returns : goal.walk_split-returns
 walk_split-returns t c =
-    let I = c.args.judge.now.ranked.now in
+    let I = c.args.judge.now.instance.now in
     let g = c.args.judge.now.bound in
     let s = split_of c.args.split.now in
     let x = c.args.node.now in
     let text = c.args.text.now in
     let next_is : c.saturating_add-next.result ≡ line_after c.args.line 1 = c.saturating_add-next.ensures in
     let many : length c.deref.result.now ≡ free_count x = ap length (c.deref.ensures.value ∙ c.in_ok-others.ensures.value) ∙ others_count c.args.split.now.side x c.free_others.ensures.placement in
-    map_result _ _ _ _ c.walk_children.result
-    (λ w h. BeginsWithTrees-at x s (length c.deref.result.now) (free_count x) c.saturating_add-next.result (line_after c.args.line 1) text w.rest.now w.next
-    (λ line. IsToldOfAll I g x s line c.in_ok-judged.judged.fault w.fault) (IsToldOfSplit I g x s c.args.line c.args.told w.fault) many next_is h
-    (λ ts. IsToldOfSplit-parts I g x s c.args.line c.args.told c.in_ok-judged.judged.fault w.fault ts c.in_ok-judged.ensures.told))
-    (λ e. ⊎_elim inl (λ fault. inr (subst (λ (k : ℕ). IsFaultBefore x s k text e) next_is fault)))
-    c.walk_children.ensures
+    record {
+      judged = map_result _ _ _ _ c.walk_children.result
+          (λ w h. BeginsWithTrees-at x s (length c.deref.result.now) (free_count x) c.saturating_add-next.result (line_after c.args.line 1) text w.rest.now w.next
+          (λ line. IsToldOfAll I g x s line c.in_ok-judged.judged.fault w.fault) (IsToldOfSplit I g x s c.args.line c.args.told w.fault) many next_is h
+          (λ ts. IsToldOfSplit-parts I g x s c.args.line c.args.told c.in_ok-judged.judged.fault w.fault ts c.in_ok-judged.ensures.told))
+          (λ e. ⊎_elim inl (λ fault. inr (subst (λ (k : ℕ). IsFaultBefore x s k text e) next_is fault)))
+          c.walk_children.ensures.judged;
+      same = c.walk_children.ensures.same ∙ c.in_ok-judged.ensures.same;
+    }

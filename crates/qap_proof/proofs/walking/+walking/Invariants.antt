@@ -1,4 +1,4 @@
-use Rattle.std.proofs.Common.{◌+◌, ◌*◌}
+use Rattle.std.proofs.Common.{◌≡◌, ◌+◌, ◌*◌}
 use Rattle.qap_proof.specs.NodeLine.{split_of}
 use Rattle.qap_proof.specs.Shape.{free_count}
 use Rattle.qap_proof.specs.Walk.{BeginsWithTrees, IsToldOfAll}
@@ -15,5 +15,5 @@ decreases-walk_children l = 3 * free_count l.parent.now.node.now
 
 abbrev pub invariant-walk_children-loop-child : goal.invariant-walk_children-loop-child
 invariant-walk_children-loop-child l =
-    BeginsWithTrees l.parent.node.now (split_of l.parent.split.now) l.child l.line l.text l.rest l.next
-    (IsToldOfAll l.judge.ranked.now l.judge.bound l.parent.node.now (split_of l.parent.split.now) l.line l.fn.told l.fault)
+    (BeginsWithTrees l.parent.node.now (split_of l.parent.split.now) l.child l.line l.text l.rest l.next
+    (IsToldOfAll l.judge.instance.now l.judge.bound l.parent.node.now (split_of l.parent.split.now) l.line l.fn.told l.fault)) × (l.rows ≡ l.judge.instance.now)

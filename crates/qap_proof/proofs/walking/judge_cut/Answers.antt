@@ -9,7 +9,7 @@ use Rattle.qap_proof.proofs.walking.judge_cut.Goals as goal
 
 pub returns-in-None : goal.returns-in-None
 returns-in-None c =
-    let I = c.args.judge.now.ranked.now in
+    let I = c.args.judge.now.instance.now in
     let g = c.args.judge.now.bound in
     let parent = c.args.parent.now in
     let s = split_of parent.split.now in
@@ -23,7 +23,7 @@ returns-in-None c =
 
 pub returns-in-None-2 : goal.returns-in-None-2
 returns-in-None-2 c =
-    let I = c.args.judge.now.ranked.now in
+    let I = c.args.judge.now.instance.now in
     let g = c.args.judge.now.bound in
     let parent = c.args.parent.now in
     let s = split_of parent.split.now in

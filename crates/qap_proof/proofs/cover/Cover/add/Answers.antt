@@ -1,6 +1,5 @@
 use Rattle.std.proofs.Common.{◌≡◌, ◌++◌, ℤ, List, drop, length, take, ◌∙◌, ap, ap₂, subst, sym, to_z, of_z, arith, rules}
 use Rattle.std.specs.Int.{int_min, w128}
-use Rattle.qap_cost.specs.Instance.{Problem}
 use Rattle.qap_proof.proofs.CoverLaws.{HasPart-added, IsCovering-added, written_whole}
 use Rattle.qap_proof.specs.Cover.{AreRaised, CoverValue, HasPart, IsCovering, cover_of}
 use Rattle.qap_proof.specs.declared.leaf.Leaf.{Leaf}
