@@ -1,15 +1,15 @@
 //! Where boxes stand in a picture.
 
-ghost use Rattle.std.specs.Prelude.{◌<◌};
+ghost use Rattle.std.specs.Prelude.{◌≡◌, ◌<◌, IfOk, length};
 
 use plan_table::Point;
 use std::alloc::{AllocError, Global};
 
 /// How far boxes stand from each other and from the picture's edge at least, in pixels.
-const GAP: u64 = 28;
+const GAP: u32 = 28;
 
 /// How high the line above the boxes is.
-const HEAD: u64 = 40;
+const HEAD: u32 = 40;
 
 /// The most pixels from the first to the last box, across and down; a picture that needs more is drawn on a grid.
 const MOST: u128 = 6000;
@@ -23,33 +23,38 @@ const UNIT: u128 = 1 << 32;
 /// The centre of a box, in pixels from the picture's upper left corner.
 #[derive(Clone, Copy, Debug, PartialEq, Eq)]
 pub struct Centre {
-    pub x: u64,
-    pub y: u64,
+    pub x: u32,
+    pub y: u32,
 }
 
 /// How large the boxes are, in pixels.
 #[derive(Clone, Copy, Debug, PartialEq, Eq)]
 pub struct BoxSize {
-    pub width: u64,
-    pub height: u64,
+    pub width: u32,
+    pub height: u32,
 }
 
 /// A picture's size, and where its boxes stand.
 #[derive(Debug, Drop)]
 pub struct Layout {
-    pub width: u64,
-    pub height: u64,
+    pub width: u32,
+    pub height: u32,
     pub centres: Vec<Centre>,
 }
 
-/// Where so many boxes stand: at their points, x to the right and y upwards, magnified so that no two boxes overlap, or in rows where there are no
-/// points or these lie too close together.
+/// Where so many boxes stand: at their points, x to the right and y upwards, magnified so that no two boxes overlap, or in rows where there isn't a
+/// point for each, or these lie too close together.
 pub fn layout_of(
     alloc: Global,
     count: usize,
     points: &[Point],
     size: BoxSize,
-) -> Result<Layout, AllocError> {
+) -> Result<Layout, AllocError>
+    ensures { IfOk result (λ layout. length layout.centres.items ≡ count) }
+{
+    if points.len() != count {
+        return in_rows(alloc, count, size);
+    }
     match frame_of(points) {
         Some(frame) => match magnification(points, frame, size) {
             Some(factor) => at_points(alloc, points, frame, factor, size),
@@ -137,32 +142,40 @@ fn at_points(
     frame: Frame,
     factor: u128,
     size: BoxSize,
-) -> Result<Layout, AllocError> {
+) -> Result<Layout, AllocError>
+    ensures { IfOk result (λ layout. length layout.centres.items ≡ length points.now) }
+{
     let mut centres = Vec::new(alloc);
     for point in points {
         let across = pixels(u128::from(frame.left.abs_diff(point.x)), factor);
         let down = pixels(u128::from(frame.upper.abs_diff(point.y)), factor);
         centres.push(Centre {
-            x: across.min(MOST) as u64,
-            y: down.min(MOST) as u64,
+            x: across.min(MOST) as u32,
+            y: down.min(MOST) as u32,
         })?;
     }
     framed(alloc, &centres, size)
 }
 
 /// Boxes in rows, as many rows as columns or fewer.
-fn in_rows(alloc: Global, count: usize, size: BoxSize) -> Result<Layout, AllocError> {
+fn in_rows(alloc: Global, count: usize, size: BoxSize) -> Result<Layout, AllocError>
+    ensures { IfOk result (λ layout. length layout.centres.items ≡ count) }
+{
     let columns = columns_for(count);
     let mut centres = Vec::new(alloc);
     for k in 0..count {
-        let column = (k % columns) as u64;
-        let row = (k / columns) as u64;
         centres.push(Centre {
-            x: column.saturating_mul(size.width.saturating_add(GAP)),
-            y: row.saturating_mul(size.height.saturating_add(GAP)),
+            x: steps(k % columns, size.width),
+            y: steps(k / columns, size.height),
         })?;
     }
     framed(alloc, &centres, size)
+}
+
+/// How many pixels so many boxes and gaps take.
+fn steps(count: usize, length: u32) -> u32 {
+    let step = u64::from(length) + u64::from(GAP);
+    (count as u64).saturating_mul(step).min(u64::from(u32::MAX)) as u32
 }
 
 /// How many boxes stand in a row: the least number whose square is no less than the count, and at least 1.
@@ -178,9 +191,11 @@ fn columns_for(count: usize) -> usize
 }
 
 /// The boxes in a picture that has room for them, for the lines that are bent around them, and for the line above.
-fn framed(alloc: Global, centres: &[Centre], size: BoxSize) -> Result<Layout, AllocError> {
-    let mut across = 0;
-    let mut down = 0;
+fn framed(alloc: Global, centres: &[Centre], size: BoxSize) -> Result<Layout, AllocError>
+    ensures { IfOk result (λ layout. length layout.centres.items ≡ length centres.now) }
+{
+    let mut across: u32 = 0;
+    let mut down: u32 = 0;
     for centre in centres {
         across = centre.x.max(across);
         down = centre.y.max(down);

@@ -1,34 +1,62 @@
-//! How much room names take.
+//! How names are shown, and how much room they take.
 
+ghost use Rattle.std.specs.Prelude.{◌≡◌, ◌≤◌, ◌++◌, IfOk, OnOk, string_bytes};
+ghost use Rattle.std.specs.Str.{chars};
+ghost use Rattle.plan_picture.specs.Naming.{beginning, columns_of, cut_name, max_columns, shown_name};
+
+use crate::escape::escaped;
 use std::alloc::{AllocError, Global};
-use unicode_width::UnicodeWidthChar;
+use unicode_width::{UnicodeWidthChar, UnicodeWidthStr};
 
 /// The most columns of a name that are drawn; a longer one is cut.
 pub const MAX_COLUMNS: usize = 24;
 
-/// How many columns a name takes in a font whose letters are equally wide.
-pub fn columns_of(name: &str) -> usize {
-    let mut columns: usize = 0;
-    for letter in name.chars() {
-        columns = columns.saturating_add(letter.width().unwrap_or(0));
+/// Puts a name at the end of the text as it is shown: one that has no room is cut, and stands whole in a title.
+pub fn push_shown(alloc: Global, text: &mut Vec<u8>, name: &str) -> Result<(), AllocError>
+    ensures { OnOk result (text.new.items ≡ text.old.items ++ shown_name name.now) }
+{
+    if name.width() > MAX_COLUMNS {
+        text.extend_from_slice(b"<title>")?;
+        text.extend_from_slice(&escaped(alloc, name.as_bytes())?)?;
+        text.extend_from_slice(b"</title>")?;
+        let cut = cut_name(alloc, name)?;
+        text.extend_from_slice(&escaped(alloc, cut.as_bytes())?)?;
+        Ok(())
+    } else {
+        text.extend_from_slice(&escaped(alloc, name.as_bytes())?)?;
+        Ok(())
     }
-    columns
 }
 
-/// The name, or as much of it as has room beside the mark that something was cut.
-pub fn clipped(alloc: Global, name: &str) -> Result<String, AllocError> {
-    if columns_of(name) <= MAX_COLUMNS {
-        return String::from_str(alloc, name);
-    }
+/// As much of a name as has room beside the mark that something was cut, and that mark.
+fn cut_name(alloc: Global, name: &str) -> Result<String, AllocError>
+    ensures { IfOk result (λ cut. string_bytes cut ≡ cut_name name.now) }
+{
+    let mut cut = beginning(alloc, name)?;
+    cut.push('…')?;
+    Ok(cut)
+}
+
+/// The characters of a name up to the first that would leave none of the columns.
+fn beginning(alloc: Global, name: &str) -> Result<String, AllocError>
+    ensures { IfOk result (λ kept. string_bytes kept ≡ beginning max_columns (chars name.now)) }
+{
     let mut kept = String::new(alloc);
-    let mut columns: usize = 0;
+    let mut room = MAX_COLUMNS;
     for letter in name.chars() {
-        columns = columns.saturating_add(letter.width().unwrap_or(0));
-        if columns >= MAX_COLUMNS {
-            break;
+        let columns = columns_of(letter);
+        if room <= columns {
+            return Ok(kept);
         }
+        room -= columns;
         kept.push(letter)?;
     }
-    kept.push('…')?;
     Ok(kept)
+}
+
+/// How many columns a character takes in a font whose letters are equally wide.
+fn columns_of(letter: char) -> usize
+    ensures { result ≡ columns_of letter }
+{
+    letter.width().unwrap_or(0)
 }
