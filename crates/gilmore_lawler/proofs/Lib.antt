@@ -1,4 +1,5 @@
 pub mod ChildRows
+pub mod Closing
 pub mod Completions
 pub mod DotBlocks
 pub mod Dots

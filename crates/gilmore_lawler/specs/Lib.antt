@@ -1,3 +1,4 @@
+pub mod Closing
 pub mod Duals
 pub mod FlowRows
 pub mod LeastProduct

@@ -10,7 +10,7 @@ use Rattle.qap_lines.proofs.Limits.{AllLimited-front, AllLimited-back}
 use Rattle.qap_lines.proofs.NumberLists.{numbers_text-is}
 use Rattle.qap_cert.specs.NodeLine.{HasDuals}
 use Rattle.qap_lines.specs.Number.{IsNamed, held}
-use Rattle.qap_cert.specs.Shape.{AreDuals}
+use Rattle.gilmore_lawler.specs.Closing.{AreDuals}
 use Rattle.qap_lines.specs.LineText.{numbers_text}
 
 -- numbers that are in range were read as they are

@@ -8,9 +8,10 @@ use Rattle.qap_cost.specs.Placement.{Placement, free_locations, placing, root_of
 use Rattle.qap_cert.specs.Certificate.{Claim, IsCertificate, Certifies, tree_line}
 use Rattle.qap_cert.specs.Fault.{IsDualFault, IsShapeFault, IsShapeFaultAmong, IsClaimFault, IsBoundFault, IsTreeFault, IsTreeFaultAmong, IsFault}
 use Rattle.qap_lines.specs.Line.{line_after}
-use Rattle.qap_cert.specs.Shape.{AreDuals, HasShape, AllHaveShape}
+use Rattle.gilmore_lawler.specs.Closing.{AreDuals}
+use Rattle.qap_cert.specs.Shape.{HasShape, AllHaveShape}
 use Rattle.qap_cert.specs.Tree.{Node, split, bound, Nodes, no_nodes, node, node_count}
-use Rattle.qap_cert.specs.Valid.{Closes, Valid, AllValid}
+use Rattle.qap_cert.specs.Valid.{ClosesPart, Valid, AllValid}
 use Rattle.qap_cert.specs.declared.error.CertError.{CertError}
 use Rattle.qap_cert.specs.declared.version.Version.TheVariants.{Second}
 
@@ -54,13 +55,13 @@ claim_fault C e fault h =
       ]
     ]
 
-bound_fault : (I : Problem) (g : ℤ) (x : Placement) (line : ℕ) (u v : List ℤ) (e : CertError) → IsBoundFault I g x line u v e → Closes I g x u v → ⊥
+bound_fault : (I : Problem) (g : ℤ) (x : Placement) (line : ℕ) (u v : List ℤ) (e : CertError) → IsBoundFault I g x line u v e → ClosesPart I g x u v → ⊥
 bound_fault I g x line u v e fault h =
     elim fault [
-      | inl feasible ↦ feasible.1 h.fits
+      | inl feasible ↦ feasible.1 h.closes.fits
       | inr low ↦
           let below : (fixed_cost_of I x +ℤ dual_value u v) <ℤ g = low.2 in
-          let enough : g ≤ℤ (fixed_cost_of I x +ℤ dual_value u v) = h.enough in
+          let enough : g ≤ℤ (fixed_cost_of I x +ℤ dual_value u v) = h.closes.enough in
           absurd (omega (arith, ints, below, enough))
     ]
 

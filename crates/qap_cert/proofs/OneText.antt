@@ -12,10 +12,12 @@ use Rattle.qap_lines.proofs.Lines.{HasNoLine-cons, IsLine-unique, no_line-line}
 use Rattle.qap_lines.proofs.Locations.{AllLimited-permutation, from_one-injective}
 use Rattle.qap_lines.proofs.NumberLists.{AllLimited-one, IsLine-line_text, IsNamed-unique, IsNamed-numbers_text}
 use Rattle.qap_cert.proofs.Versions.{AllLimited-split_numbers, same_facility, same_number, one_version, version_small, version_limited, bound_text-below, bound_text-equal}
-use Rattle.qap_cert.specs.Certificate.{Claim, claim_of, IsBoundFor, IsCertificate}
+use Rattle.qap_lines.specs.Bound.{IsBoundFor}
+use Rattle.qap_cert.specs.Certificate.{Claim, claim_of, IsCertificate}
 use Rattle.qap_lines.specs.Line.{line_after, HasNoLine, IsLine}
 use Rattle.qap_lines.specs.Number.{IsNamed}
-use Rattle.qap_cert.specs.Shape.{HasShape, AllHaveShape, AreDuals, child_count}
+use Rattle.gilmore_lawler.specs.Closing.{AreDuals}
+use Rattle.qap_cert.specs.Shape.{HasShape, AllHaveShape, child_count}
 use Rattle.qap_io.specs.Number.{from_one}
 use Rattle.qap_lines.specs.LineText.{numbers_text, line_text}
 use Rattle.qap_cert.specs.Text.{tree_text, trees_text, bound_text, certificate_text, IsCertificateText}

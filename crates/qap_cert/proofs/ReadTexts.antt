@@ -3,7 +3,8 @@ use Rattle.std.proofs.Common.{◌≡◌, ℕ, ◌<◌, ◌≤◌, List, [], ◌�
 use Rattle.std.specs.Prelude.{codes}
 use Rattle.qap_cost.specs.Bijection.{IsPerm}
 use Rattle.qap_cost.specs.Range.{IsLimited}
-use Rattle.qap_cert.specs.Certificate.{claim_of, IsBoundFor, IsCertificate, tree_line}
+use Rattle.qap_lines.specs.Bound.{IsBoundFor}
+use Rattle.qap_cert.specs.Certificate.{claim_of, IsCertificate, tree_line}
 use Rattle.qap_cert.specs.Head.{HasHead}
 use Rattle.qap_cert.specs.Shape.{HasShape}
 use Rattle.qap_io.specs.Number.{from_one}

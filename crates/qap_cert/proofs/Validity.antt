@@ -16,8 +16,8 @@ use Rattle.qap_cert.specs.Valid.{Valid, AllValid}
 mutual
   pub valid_bounds : (t : Node) (I : Problem) (g : ℤ) (x : Placement) (p : List ℕ) → IsPlacement x → I.size ≡ x.size → Valid I g x t → Completes x p → g ≤ℤ cost_of I p
   valid_bounds (bound u v) I g x p placement same h q =
-      let least : (fixed_cost_of I x +ℤ dual_value u v) ≤ℤ cost_of I p = fixed_and_duals-le I x h.fits.matrix u v p placement same h.fits.reduced h.fits.fits q in
-      let enough : g ≤ℤ (fixed_cost_of I x +ℤ dual_value u v) = h.enough in
+      let least : (fixed_cost_of I x +ℤ dual_value u v) ≤ℤ cost_of I p = fixed_and_duals-le I x h.closes.fits.matrix u v p placement same h.closes.fits.reduced h.closes.fits.fits q in
+      let enough : g ≤ℤ (fixed_cost_of I x +ℤ dual_value u v) = h.closes.enough in
       omega (arith, ints)
   valid_bounds (split f children) I g x p placement same h q =
       let free = free_locations x in

@@ -7,7 +7,8 @@ use Rattle.qap_cert.proofs.Trees.{line_after-more, line_after-none}
 use Rattle.qap_lines.specs.Line.{line_after, IsLine}
 use Rattle.qap_cert.specs.NodeLine.{IsNodeLine}
 use Rattle.qap_cert.specs.TextFault.{IsEndFault, IsFaultAmong, IsFaultFromTree, IsSplitLine, IsTreeTextFault}
-use Rattle.qap_cert.specs.Shape.{AreDuals, HasShape, AllHaveShape, child_count}
+use Rattle.gilmore_lawler.specs.Closing.{AreDuals}
+use Rattle.qap_cert.specs.Shape.{HasShape, AllHaveShape, child_count}
 use Rattle.qap_lines.specs.LineText.{numbers_text, line_text}
 use Rattle.qap_cert.specs.Text.{tree_text, trees_text}
 use Rattle.qap_cert.specs.Tree.{Node, split, bound, Nodes, no_nodes, node, node_count, nodes_count}

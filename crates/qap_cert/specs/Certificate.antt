@@ -1,10 +1,11 @@
 -- Certificates: a permutation of a cost, and a tree that is to show a bound on what permutations cost.
-use Rattle.std.specs.Prelude.{◌≡◌, ℕ, List, [], length, ℤ, ◌≤ℤ◌, int_lt, if◌then◌else◌}
+use Rattle.std.specs.Prelude.{◌≡◌, ℕ, List, [], length, ℤ, int_lt, if◌then◌else◌}
 use Rattle.qap_cost.specs.Bijection.{IsPerm}
 use Rattle.qap_cost.specs.Instance.{Problem}
 use Rattle.qap_cost.specs.Objective.{cost_of}
 use Rattle.qap_cost.specs.Placement.{root_of}
 use Rattle.qap_cost.specs.Range.{IsLimited}
+use Rattle.qap_lines.specs.Bound.{IsBoundFor}
 use Rattle.qap_cert.specs.Shape.{HasShape}
 use Rattle.qap_cert.specs.Tree.{Node}
 use Rattle.qap_cert.specs.Valid.{Valid}
@@ -19,11 +20,6 @@ pub record Claim : Type 0 where
 
 abbrev pub claim_of : ℤ → ℤ → List ℕ → Node → Claim
 claim_of cost bound permutation tree = record { cost = cost; bound = bound; permutation = permutation; tree = tree }
-
--- g is a number from -10^24 to 10^24 that is at most the cost
-pub record IsBoundFor (c g : ℤ) : Type 0 where
-  pub limited : IsLimited g
-  pub at_most : g ≤ℤ c
 
 -- a certificate's shape: a cost from -10^24 to 10^24, a bound for it, a permutation, and a tree of its size
 pub record IsCertificate (C : Claim) : Type 0 where

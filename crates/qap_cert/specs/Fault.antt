@@ -7,11 +7,13 @@ use Rattle.qap_cost.specs.Matrix.{dual_value}
 use Rattle.qap_cost.specs.Objective.{cost_of}
 use Rattle.qap_cost.specs.Placement.{Placement, IsFree, root_of, placing, free_locations, fixed_cost_of}
 use Rattle.qap_cost.specs.Range.{IsLimited}
-use Rattle.qap_cert.specs.Certificate.{Claim, IsBoundFor, tree_line}
+use Rattle.qap_lines.specs.Bound.{IsBoundFor}
+use Rattle.qap_cert.specs.Certificate.{Claim, tree_line}
 use Rattle.qap_lines.specs.Line.{line_after}
 use Rattle.qap_cert.specs.Shape.{AreCounted, AreInRange, HasShape, child_count}
 use Rattle.qap_cert.specs.Tree.{Node, split, bound, Nodes, no_nodes, node, node_count}
-use Rattle.qap_cert.specs.Valid.{Fits, Valid}
+use Rattle.gilmore_lawler.specs.Closing.{Fits}
+use Rattle.qap_cert.specs.Valid.{Valid}
 use Rattle.qap_cert.specs.declared.error.CertError.{CertError}
 use Rattle.qap_cert.specs.declared.error.CertError.TheVariants.{SizeDiffers, CostDiffers, BadLine, SplitTooDeep, FacilityTaken, SplitWidth, DualCount, DualRange, NotFeasible, BoundTooLow}
 use Rattle.qap_cert.specs.declared.version.Version.TheVariants.{Second}

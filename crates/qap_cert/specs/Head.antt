@@ -2,7 +2,8 @@
 use Rattle.std.specs.Prelude.{◌≡◌, ℕ, ◌++◌, [], List, length, ℤ, codes}
 use Rattle.qap_cost.specs.Bijection.{IsPerm}
 use Rattle.qap_cost.specs.Range.{IsLimited}
-use Rattle.qap_cert.specs.Certificate.{claim_of, IsBoundFor, tree_line}
+use Rattle.qap_lines.specs.Bound.{IsBoundFor}
+use Rattle.qap_cert.specs.Certificate.{claim_of, tree_line}
 use Rattle.qap_cert.specs.Shape.{HasShape}
 use Rattle.qap_cert.specs.Text.{tree_text, IsCertificateText}
 use Rattle.qap_cert.specs.TextFault.{IsFaultFromTree, IsTextFault}

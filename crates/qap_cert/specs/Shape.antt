@@ -2,6 +2,7 @@
 use Rattle.std.specs.Prelude.{◌≡◌, ℕ, ◌+◌, ◌-◌, ◌<◌, List, [], ◌∷◌, ◌++◌, length, ℤ}
 use Rattle.qap_cost.specs.Placement.{IsFree}
 use Rattle.qap_cost.specs.Range.{AllLimited}
+use Rattle.gilmore_lawler.specs.Closing.{AreDuals}
 use Rattle.qap_cert.specs.Tree.{Node, split, bound, Nodes, no_nodes, node}
 use Rattle.qap_cert.specs.Version.{MayName}
 use Rattle.qap_cert.specs.declared.version.Version.{Version}
@@ -19,13 +20,6 @@ pub record AreCounted (m : ℕ) (u v : List ℤ) : Type 0 where
 pub record AreInRange (u v : List ℤ) : Type 0 where
   pub rows : AllLimited u
   pub columns : AllLimited v
-
--- a dual for each of m rows and each of m columns, all from -10^24 to 10^24
-pub record AreDuals (m : ℕ) (u v : List ℤ) : Type 0 where
-  pub rows : length u ≡ m
-  pub columns : length v ≡ m
-  pub u_range : AllLimited u
-  pub v_range : AllLimited v
 
 -- a tree in which these of n facilities are placed: a split is on a free facility that its version may name, and has a
 -- child for each free location; a bound has a dual for each free facility and each free location

@@ -1,25 +1,15 @@
 -- What makes a tree prove a bound: the splits leave no permutation out, and the duals of each leaf close its part, by the
 -- bound of Gilmore (1962) and Lawler (1963).
-use Rattle.std.specs.Prelude.{ℕ, ◌-◌, ◌<◌, List, [], ◌∷◌, length, ℤ, ◌+ℤ◌, ◌≤ℤ◌}
+use Rattle.std.specs.Prelude.{ℕ, ◌-◌, ◌<◌, List, [], ◌∷◌, length, ℤ}
 use Rattle.qap_cost.specs.Instance.{Problem}
-use Rattle.qap_cost.specs.Matrix.{Square, IsMatrix, DualsFit, dual_value}
-use Rattle.qap_cost.specs.Placement.{Placement, IsFreeFacility, free_locations, placing, fixed_cost_of}
-use Rattle.gilmore_lawler.specs.ReducedMatrix.{IsReduced}
-use Rattle.qap_cert.specs.Shape.{AreDuals}
+use Rattle.qap_cost.specs.Placement.{Placement, IsFreeFacility, free_locations, placing}
+use Rattle.gilmore_lawler.specs.Closing.{AreDuals, Closes}
 use Rattle.qap_cert.specs.Tree.{Node, split, bound, Nodes, no_nodes, node}
 
--- the duals fit the reduced matrix
-pub record Fits (I : Problem) (x : Placement) (u v : List ℤ) : Type 0 where
-  pub matrix : Square
-  pub square : IsMatrix matrix
-  pub reduced : IsReduced I x matrix
-  pub fits : DualsFit matrix u v
-
--- the duals fit, and with what the placed facilities cost they come to at least g
-pub record Closes (I : Problem) (g : ℤ) (x : Placement) (u v : List ℤ) : Type 0 where
+-- there is a dual for each free facility and each free location, and these close the part
+pub record ClosesPart (I : Problem) (g : ℤ) (x : Placement) (u v : List ℤ) : Type 0 where
   pub duals : AreDuals (x.size - length x.facilities) u v
-  pub fits : Fits I x u v
-  pub enough : g ≤ℤ (fixed_cost_of I x +ℤ dual_value u v)
+  pub closes : Closes I g x u v
 
 abbrev mutual
   -- no permutation that completes x costs less than g, and the tree shows why: each part that a split on a free facility
@@ -27,7 +17,7 @@ abbrev mutual
   pub Valid : Problem → ℤ → Placement → Node → Type 0
   Valid I g x (split f children) =
       (length x.facilities < x.size) × IsFreeFacility x f × AllValid I g x f (free_locations x) children
-  Valid I g x (bound u v) = Closes I g x u v
+  Valid I g x (bound u v) = ClosesPart I g x u v
 
   -- the children, one for each of these locations of the facility
   pub AllValid : Problem → ℤ → Placement → ℕ → List ℕ → Nodes → Type 0

@@ -4,7 +4,8 @@ use Rattle.qap_cost.specs.Instance.{Problem}
 use Rattle.qap_cost.specs.Placement.{Placement}
 use Rattle.qap_cert.specs.Fault.{IsTreeFault, IsTreeFaultAmong}
 use Rattle.qap_lines.specs.Line.{line_after}
-use Rattle.qap_cert.specs.Shape.{AreDuals, HasShape, AllHaveShape, child_count}
+use Rattle.gilmore_lawler.specs.Closing.{AreDuals}
+use Rattle.qap_cert.specs.Shape.{HasShape, AllHaveShape, child_count}
 use Rattle.qap_lines.specs.LineText.{numbers_text}
 use Rattle.qap_cert.specs.Text.{tree_text, trees_text}
 use Rattle.qap_cert.specs.TextFault.{IsTreeTextFault}

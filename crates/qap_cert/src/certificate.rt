@@ -1,7 +1,8 @@
 //! Certificates of a least cost, or of a bound on it.
 
 ghost use Rattle.std.specs.Prelude.{◌≡◌, ◌↔◌, IsTrue, MatchResult};
-ghost use Rattle.qap_cert.specs.Certificate.{claim_of, tree_line, IsBoundFor, IsCertificate};
+ghost use Rattle.qap_lines.specs.Bound.{IsBoundFor};
+ghost use Rattle.qap_cert.specs.Certificate.{claim_of, tree_line, IsCertificate};
 ghost use Rattle.qap_cert.specs.Fault.{IsClaimFault};
 ghost use Rattle.qap_cert.specs.Tree.{node_of};
 

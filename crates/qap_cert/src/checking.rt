@@ -6,9 +6,10 @@ ghost use Rattle.qap_cost.specs.Placement.{IsFreeFacility, IsFreeLocation, placi
 ghost use Rattle.qap_cert.specs.Certificate.{Certifies};
 ghost use Rattle.qap_cert.specs.Fault.{IsBoundFault, IsPermMisfit, IsTreeFault, IsTreeFaultAmong, IsFault};
 ghost use Rattle.qap_lines.specs.Line.{line_after};
-ghost use Rattle.qap_cert.specs.Shape.{AreDuals, HasShape, AllHaveShape};
+ghost use Rattle.gilmore_lawler.specs.Closing.{AreDuals};
+ghost use Rattle.qap_cert.specs.Shape.{HasShape, AllHaveShape};
 ghost use Rattle.qap_cert.specs.Tree.{node_of, nodes_of, node_count, nodes_count};
-ghost use Rattle.qap_cert.specs.Valid.{Closes, Valid, AllValid};
+ghost use Rattle.qap_cert.specs.Valid.{ClosesPart, Valid, AllValid};
 ghost use Rattle.qap_cert.specs.declared.error.CertError.TheVariants.{OutOfMemory};
 ghost use Rattle.qap_cert.specs.declared.version.Version.TheVariants.{Second};
 
@@ -174,7 +175,7 @@ pub(crate) fn check_bound(
     requires facilities { rows.now.facilities ≡ node.now.facilities }
     requires duals { AreDuals (node.now.size - length node.now.facilities) u.now v.now }
     ensures { MatchResult result
-        (λ done. Closes rows.now.instance bound node.now u.now v.now)
+        (λ done. ClosesPart rows.now.instance bound node.now u.now v.now)
         (λ e. (e ≡ OutOfMemory) ⊎ IsBoundFault rows.now.instance bound node.now line u.now v.now e) }
 {
     let fit = rows.fits(workspace, node, u, v)?;
@@ -201,7 +202,7 @@ pub(crate) fn check_child_bound(
     requires location { IsFreeLocation rows.now.node location }
     requires duals { AreDuals (rows.now.node.size - length (rows.now.node.facilities ++ rows.now.facility ∷ [])) u.now v.now }
     ensures { MatchResult result
-        (λ done. Closes rows.now.instance bound (placing rows.now.node rows.now.facility location) u.now v.now)
+        (λ done. ClosesPart rows.now.instance bound (placing rows.now.node rows.now.facility location) u.now v.now)
         (λ e. (e ≡ OutOfMemory) ⊎ IsBoundFault rows.now.instance bound (placing rows.now.node rows.now.facility location) line u.now v.now e) }
 {
     let fits = rows.fits(workspace, location, u, v)?;

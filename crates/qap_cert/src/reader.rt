@@ -1,7 +1,8 @@
 //! Reads certificates.
 
 ghost use Rattle.std.specs.Prelude.{◌≡◌, ◌⊎◌, ◌++◌, ◌≤◌, [], ℕ, codes, length, MatchResult};
-ghost use Rattle.qap_cert.specs.Certificate.{IsBoundFor, tree_line};
+ghost use Rattle.qap_lines.specs.Bound.{IsBoundFor};
+ghost use Rattle.qap_cert.specs.Certificate.{tree_line};
 ghost use Rattle.qap_cert.specs.Head.{HasHead};
 ghost use Rattle.qap_cert.specs.Shape.{HasShape};
 ghost use Rattle.qap_cert.specs.Text.{IsCertificateText, bound_text, tree_text};

@@ -4,7 +4,8 @@ ghost use Rattle.std.specs.Prelude.{◌≡◌, ◌-◌, ◌<◌, ◌≤◌, ◌�
 ghost use Rattle.qap_cost.specs.Placement.{IsFree};
 ghost use Rattle.qap_cert.specs.Fault.{IsDualFault, IsFacilityFault, IsSplitFault, IsShapeFault, IsShapeFaultAmong};
 ghost use Rattle.qap_lines.specs.Line.{line_after};
-ghost use Rattle.qap_cert.specs.Shape.{AreDuals, HasShape, AllHaveShape};
+ghost use Rattle.gilmore_lawler.specs.Closing.{AreDuals};
+ghost use Rattle.qap_cert.specs.Shape.{HasShape, AllHaveShape};
 ghost use Rattle.qap_cert.specs.Tree.{node_of, nodes_of, node_count, nodes_count};
 ghost use Rattle.qap_cert.specs.declared.version.Version.TheVariants.{Second};
 

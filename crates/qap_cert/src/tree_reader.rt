@@ -2,7 +2,8 @@
 
 ghost use Rattle.std.specs.Prelude.{◌≡◌, ◌⊎◌, ◌++◌, ◌+◌, ◌-◌, ◌<◌, ◌≤◌, codes, length, ℕ, MatchOption, MatchResult};
 ghost use Rattle.qap_lines.specs.Line.{line_after};
-ghost use Rattle.qap_cert.specs.Shape.{HasShape, AllHaveShape, AreDuals, child_count};
+ghost use Rattle.gilmore_lawler.specs.Closing.{AreDuals};
+ghost use Rattle.qap_cert.specs.Shape.{HasShape, AllHaveShape, child_count};
 ghost use Rattle.qap_lines.specs.LineText.{numbers_text};
 ghost use Rattle.qap_cert.specs.Text.{tree_text, trees_text};
 ghost use Rattle.qap_cert.specs.TextFault.{IsTreeTextFault, IsFaultAmong, IsNodeFault, IsSplitLine};

@@ -2,7 +2,7 @@
 
 ghost use Rattle.std.specs.Prelude.{◌≡◌, ◌⊎◌, ◌++◌, ◌∷◌, [], ◌+◌, ◌-◌, ◌<◌, ◌≤◌, length, slice_index, ℕ, MatchResult};
 ghost use Rattle.qap_cost.specs.Placement.{IsFreeFacility, IsFreeLocation, placing};
-ghost use Rattle.qap_cert.specs.Shape.{AreDuals};
+ghost use Rattle.gilmore_lawler.specs.Closing.{AreDuals};
 ghost use Rattle.qap_cert.specs.TextFault.{IsNodeFault, IsSplitLine, IsTreeTextFault};
 ghost use Rattle.qap_cert.specs.Tree.{bound};
 ghost use Rattle.qap_cert.specs.Walk.{ClosesOrTells, BeginsWithTree, BeginsWithTrees, IsFaultBefore, IsToldOf, IsToldOfAll};

@@ -1,3 +1,4 @@
+pub mod Bound
 pub mod Line
 pub mod LineText
 pub mod Number

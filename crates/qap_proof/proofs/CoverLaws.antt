@@ -15,7 +15,8 @@ use Rattle.qap_cost.specs.Range.{IsLimited}
 use Rattle.qap_proof.proofs.Covers.{leaves_bound, leaves_shown, leaves_at_least}
 use Rattle.qap_proof.proofs.Validity.{Proves-NoneCompletesForLess}
 use Rattle.qap_proof.specs.Acceptance.{IsVerdictOf, ProvesFor}
-use Rattle.qap_proof.specs.Claim.{Claim, claim_of, IsBoundFor, IsProof, NoneCompletesForLess, Proves}
+use Rattle.qap_lines.specs.Bound.{IsBoundFor}
+use Rattle.qap_proof.specs.Claim.{Claim, claim_of, IsProof, NoneCompletesForLess, Proves}
 use Rattle.qap_proof.specs.Cover.{AreAmong, AreLeaves, AreRaised, CoverValue, HasPart, IsAtLeast, IsBounded, IsCovering, IsLeastOf, IsRaised, IsRaisedValue, IsShown, IsSoOf, IsVerdictOn, cover_of, leaf}
 use Rattle.qap_proof.specs.Tree.{cut, whole}
 use Rattle.qap_proof.specs.declared.acceptance.Verdict.{Verdict}

@@ -12,13 +12,14 @@ use Rattle.qap_proof.proofs.Covers.{Reaches-one}
 use Rattle.qap_proof.proofs.Validity.{IsPlace, node_placement}
 use Rattle.qap_proof.specs.Claim.{Claim, IsProof, Proves, tree_line}
 use Rattle.qap_proof.specs.Fault.{IsPairFault, MayBePairFault, IsNumberFault, IsSplitFault, IsShapeFault, IsShapeFaultAmong, IsClaimFault, IsClosedFault, IsTreeFault, IsTreeFaultAmong, IsFault}
-use Rattle.qap_proof.specs.Shape.{AreDuals, MayBeDuals, IsSplit, HasShape, AllHaveShape, free_count, has_duals}
+use Rattle.gilmore_lawler.specs.Closing.{AreDuals, Closes}
+use Rattle.qap_proof.specs.Shape.{MayBeDuals, IsSplit, HasShape, AllHaveShape, free_count, has_duals}
 use Rattle.qap_proof.specs.Tree.{Pair, Split, Node, closed, split, cut, mirrored, Nodes, no_nodes, node, node_count, child_count, IsFreeOn, child_of, facility_on, location_on, Place, whole, child, node_at}
-use Rattle.qap_proof.specs.Valid.{Closes, Valid, AllValid}
+use Rattle.qap_proof.specs.Valid.{Valid, AllValid}
 use Rattle.qap_proof.specs.declared.error.ProofError.{ProofError}
 use Rattle.qap_proof.specs.declared.side.Side.{Side}
 
-pub pair_fault : (m line : ℕ) (d : Pair) (e : ProofError) → IsPairFault m line d e → AreDuals m d → ⊥
+pub pair_fault : (m line : ℕ) (d : Pair) (e : ProofError) → IsPairFault m line d e → AreDuals m d.u d.v → ⊥
 pair_fault m line d e fault h =
     elim fault [
       | inl count ↦ count.1 (h.rows, h.columns)
@@ -83,7 +84,7 @@ claim_fault C e fault h =
       ]
     ]
 
-pub closed_fault : (I : Problem) (g : ℤ) (x : Placement) (line : ℕ) (d : Pair) (e : ProofError) → IsClosedFault I g x line d e → Closes I g x d → ⊥
+pub closed_fault : (I : Problem) (g : ℤ) (x : Placement) (line : ℕ) (d : Pair) (e : ProofError) → IsClosedFault I g x line d e → Closes I g x d.u d.v → ⊥
 closed_fault I g x line d e fault h =
     elim fault [
       | inl feasible ↦ feasible.1 h.fits

@@ -6,7 +6,8 @@ use Rattle.qap_cost.specs.Placement.{Placement}
 use Rattle.qap_cost.specs.Range.{IsLimited}
 use Rattle.qap_io.specs.Number.{from_one}
 use Rattle.qap_lines.specs.LineText.{line_text}
-use Rattle.qap_proof.specs.Claim.{IsBoundFor, IsRoot, lines_of_bound}
+use Rattle.qap_lines.specs.Bound.{IsBoundFor}
+use Rattle.qap_proof.specs.Claim.{IsRoot, lines_of_bound}
 use Rattle.qap_proof.specs.Head.{HasHead, IsRooted}
 use Rattle.qap_proof.specs.Text.{bound_text, root_text, tree_text}
 use Rattle.qap_proof.specs.TextFault.{IsFaultFromTree, IsFaultFromBound, IsFaultFromRoot, IsTextFault}

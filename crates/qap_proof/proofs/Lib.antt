@@ -1,5 +1,4 @@
 pub mod AscendingNodes
-pub mod Bounds
 pub mod Checks
 pub mod ChildValues
 pub mod CoverLaws

@@ -12,7 +12,8 @@ use Rattle.qap_cost.specs.Bijection.{IsPerm}
 use Rattle.std.specs.Prelude.{codes}
 use Rattle.qap_lines.proofs.Limits.{AllLimited-front, AllLimited-back}
 use Rattle.qap_lines.proofs.NumberLists.{AllLimited-tail, held-within, held_within-is, numbers_text-is}
-use Rattle.qap_proof.specs.Shape.{AreDuals, IsPermOf}
+use Rattle.gilmore_lawler.specs.Closing.{AreDuals}
+use Rattle.qap_proof.specs.Shape.{IsPermOf}
 use Rattle.qap_proof.specs.TextFault.{Saying, Says, closes, splits, cuts, mirrors}
 use Rattle.qap_proof.specs.declared.side.Side.TheVariants.{Facility, Location}
 
@@ -49,7 +50,7 @@ held_first w i zs first others is front small =
 pub not_there : (lent first : List ℤ) (n : ℕ) → lent ≡ first → ((k : ℕ) → k < n → 0 < length lent → get_or lent 0 (pos 0) ≢ pos (k + 1)) → (k : ℕ) → k < n → 0 < length first → get_or first 0 (pos 0) ≢ pos (k + 1)
 not_there lent first n is none k below some = λ same. none k below (omega (arith, ap length is, some)) (ap (λ l. get_or l 0 (pos 0)) is ∙ same)
 
-pub halves : (m : ℕ) (zs u v : List ℤ) → length zs ≡ 2 * m → AllLimited zs → u ≡ take m zs → v ≡ drop m zs → AreDuals m (record { u = u; v = v }) × (u ++ v ≡ zs)
+pub halves : (m : ℕ) (zs u v : List ℤ) → length zs ≡ 2 * m → AllLimited zs → u ≡ take m zs → v ≡ drop m zs → AreDuals m u v × (u ++ v ≡ zs)
 halves m zs u v counted within u_is v_is =
     let whole : u ++ v ≡ zs = ap₂ (λ a b. a ++ b) u_is v_is ∙ take-append-drop m zs in
     let apart : AllLimited (u ++ v) = subst AllLimited (sym whole) within in (
@@ -74,7 +75,7 @@ AllLimited-cons z zs small h = record { each = each }
     each (suc j) below = h.each j (omega arith)
 
 pub closed_duals : (m w : ℕ) (name line : List ℕ) (zs first u v : List ℤ) → w ≡ 2 * m → IsNamed name line zs → length zs ≡ w → AllLimited zs → first ≡ map held (take w zs) → u ≡ take m first → v ≡ drop m first
-    → AreDuals m (record { u = u; v = v }) × (line ≡ name ++ numbers_text (u ++ v))
+    → AreDuals m u v × (line ≡ name ++ numbers_text (u ++ v))
 closed_duals m w name line zs first u v wide named counted within is u_is v_is =
     let all : first ≡ zs = all_held w zs first counted within is in
     let parts = halves m zs u v (counted ∙ wide) within (u_is ∙ ap (take m) all) (v_is ∙ ap (drop m) all) in
@@ -86,7 +87,7 @@ only_number z zs [] is one = refl
 only_number z zs (y ∷ others) is one = absurd (omega (arith, ap length is))
 
 pub split_duals : (m w i : ℕ) (name line : List ℕ) (zs first others u v : List ℤ) → w ≡ 2 * m → i < 2 ^ 16 → IsNamed name line zs → length zs ≡ 1 + w → AllLimited zs → first ≡ map held (take (1 + w) zs) → zs ≡ pos (i + 1) ∷ others
-    → u ≡ take m (drop 1 first) → v ≡ drop m (drop 1 first) → AreDuals m (record { u = u; v = v }) × (line ≡ name ++ numbers_text (pos (i + 1) ∷ (u ++ v)))
+    → u ≡ take m (drop 1 first) → v ≡ drop m (drop 1 first) → AreDuals m u v × (line ≡ name ++ numbers_text (pos (i + 1) ∷ (u ++ v)))
 split_duals m w i name line zs first others u v wide small named counted within is front u_is v_is =
     let all : first ≡ zs = all_held (1 + w) zs first counted within is in
     let rest : drop 1 first ≡ others = ap (drop 1) (all ∙ front) in

@@ -20,9 +20,11 @@ use Rattle.qap_proof.proofs.Faults.{number_fault}
 use Rattle.qap_proof.proofs.HeadTexts.{in_parts}
 use Rattle.qap_proof.proofs.Roots.{AllLimited-by_turns, root_text-some}
 use Rattle.qap_proof.proofs.Sayings.{saying_name, saying_numbers, kind_of, IsName-saying, no_line-saying, one_saying, said_front, said_of, below_text, tree_text-said, AllLimited-split, AllLimited-said, Says-said, same_splits, tree_front, next_tree}
-use Rattle.qap_proof.specs.Claim.{Claim, claim_of, IsBoundFor, IsRoot, IsProof}
+use Rattle.qap_lines.specs.Bound.{IsBoundFor}
+use Rattle.qap_proof.specs.Claim.{Claim, claim_of, IsRoot, IsProof}
 use Rattle.qap_proof.specs.Code.{placement_of}
-use Rattle.qap_proof.specs.Shape.{AreDuals, MayBeDuals, IsSplit, HasShape, AllHaveShape, free_count, has_duals}
+use Rattle.gilmore_lawler.specs.Closing.{AreDuals}
+use Rattle.qap_proof.specs.Shape.{MayBeDuals, IsSplit, HasShape, AllHaveShape, free_count, has_duals}
 use Rattle.qap_proof.specs.Text.{letter, numbers_of_duals, tree_text, trees_text, by_turns, root_text, bound_text, proof_text, IsProofText}
 use Rattle.qap_proof.specs.TextFault.{IsLineFault, IsHeaderFault, IsSizeFault, IsCostFault, IsPermFault, Saying, closes, splits, cuts, mirrors, IsDualsFault, IsSayingFault, IsNodeFault, IsTreeTextFault, IsEndFault, IsBelow, HasRootLine, IsFaultFromTree, IsFaultFromBound, IsFaultFromRoot, IsFaultFromPerm, IsFaultFromCost, IsFaultFromSize, IsTextFault}
 use Rattle.qap_proof.specs.Tree.{Pair, Split, Node, closed, split, cut, mirrored, Nodes, node_count, nodes_count, child_count, child_of}
@@ -74,7 +76,7 @@ short_name (mirrors z zs) = refl
 
 -- the text of a tree has no fault
 
-duals_fault : (m number : ℕ) (d : Pair) (e : ProofError) → AreDuals m d → IsDualsFault m number (d.u ++ d.v) e → ⊥
+duals_fault : (m number : ℕ) (d : Pair) (e : ProofError) → AreDuals m d.u d.v → IsDualsFault m number (d.u ++ d.v) e → ⊥
 duals_fault m number d e h (inl count) = count.1 (omega (arith, length-append d.u d.v, h.rows, h.columns))
 duals_fault m number d e h (inr range) = range.2 (AllLimited-append d.u d.v h.u_range h.v_range)
 

@@ -9,7 +9,8 @@ use Rattle.qap_proof.proofs.Rows.{with_last, AllValid-with_last, IsTreeFaultAmon
 use Rattle.qap_proof.specs.Fault.{IsTreeFault}
 use Rattle.qap_proof.specs.Shape.{IsSplit, free_count, has_duals}
 use Rattle.qap_proof.specs.Tree.{Pair, Split, Node, closed, split, Nodes, no_nodes, nodes_count, child_count, Place, child, node_at}
-use Rattle.qap_proof.specs.Valid.{Fits, MayFit, Valid}
+use Rattle.gilmore_lawler.specs.Closing.{Fits}
+use Rattle.qap_proof.specs.Valid.{MayFit, Valid}
 use Rattle.qap_proof.specs.Walk.{IsToldOf, IsToldOfAll, IsToldOfClosed, IsToldOfDuals, IsToldOfSplit}
 use Rattle.qap_proof.specs.declared.error.ProofError.{ProofError}
 use Rattle.qap_proof.specs.declared.error.ProofError.TheVariants.{NotFeasible}
@@ -65,7 +66,7 @@ IsToldOfAll-more I g x s line None (Some d) after count next ts t counted small 
     subst (λ (o : Option ProofError). IsToldOfAll I g x s line None o (with_last ts t)) (sym k) (IsTreeFaultAmong-with_last I g x s 0 line ts t d h)
 
 -- nothing was told before, and the duals of the split don't fit
-pub IsToldOfDuals-misfit : (I : Problem) (x : Placement) (s : Split) (line : ℕ) (told : Option ProofError) (d : Pair) → told ≡ None → s.duals ≡ Some d → (Fits I x d → ⊥) → IsToldOfDuals I x s line told (Some (NotFeasible line))
+pub IsToldOfDuals-misfit : (I : Problem) (x : Placement) (s : Split) (line : ℕ) (told : Option ProofError) (d : Pair) → told ≡ None → s.duals ≡ Some d → (Fits I x d.u d.v → ⊥) → IsToldOfDuals I x s line told (Some (NotFeasible line))
 IsToldOfDuals-misfit I x s line told d none has misfit =
     subst (λ (o : Option ProofError). IsToldOfDuals I x s line o (Some (NotFeasible line))) (sym none)
     (refl, λ fits. misfit (subst (MayFit I x) has fits))

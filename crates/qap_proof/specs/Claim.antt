@@ -6,6 +6,7 @@ use Rattle.qap_cost.specs.Instance.{Problem}
 use Rattle.qap_cost.specs.Objective.{Permutes, cost_of}
 use Rattle.qap_cost.specs.Placement.{Placement, IsPlacement, Completes}
 use Rattle.qap_cost.specs.Range.{IsLimited}
+use Rattle.qap_lines.specs.Bound.{IsBoundFor}
 use Rattle.qap_proof.specs.Shape.{HasShape}
 use Rattle.qap_proof.specs.Tree.{Node, whole}
 use Rattle.qap_proof.specs.Valid.{Valid}
@@ -21,11 +22,6 @@ pub record Claim : Type 0 where
 
 abbrev pub claim_of : Placement → ℤ → ℤ → List ℕ → Node → Claim
 claim_of root cost bound permutation tree = record { root = root; cost = cost; bound = bound; permutation = permutation; tree = tree }
-
--- g is a number from -10^24 to 10^24 that is at most the cost
-pub record IsBoundFor (c g : ℤ) : Type 0 where
-  pub limited : IsLimited g
-  pub at_most : g ≤ℤ c
 
 -- a node of size n whose facilities are listed ascending
 pub record IsRoot (n : ℕ) (x : Placement) : Type 0 where

@@ -7,10 +7,12 @@ use Rattle.qap_cost.specs.Objective.{cost_of}
 use Rattle.qap_cost.specs.Placement.{Placement, fixed_cost_of}
 use Rattle.qap_cost.specs.Range.{AllLimited, IsLimited}
 use Rattle.qap_lines.specs.Line.{line_after}
-use Rattle.qap_proof.specs.Claim.{Claim, IsBoundFor, IsRoot, tree_line}
+use Rattle.qap_lines.specs.Bound.{IsBoundFor}
+use Rattle.qap_proof.specs.Claim.{Claim, IsRoot, tree_line}
 use Rattle.qap_proof.specs.Shape.{IsPermOf, IsSplit, HasShape, free_count, has_duals}
 use Rattle.qap_proof.specs.Tree.{Pair, Split, Node, closed, split, cut, mirrored, Nodes, no_nodes, node, node_count, child_count, IsFreeOn, child_of, facility_on, location_on, Place, whole, child, node_at}
-use Rattle.qap_proof.specs.Valid.{Fits, Reaches, MayFit, TakesOn, Valid}
+use Rattle.gilmore_lawler.specs.Closing.{Fits}
+use Rattle.qap_proof.specs.Valid.{Reaches, MayFit, TakesOn, Valid}
 use Rattle.qap_proof.specs.declared.side.Side.{Side}
 use Rattle.qap_proof.specs.declared.side.Side.TheVariants.{Facility, Location}
 use Rattle.qap_proof.specs.declared.error.ProofError.{ProofError}
@@ -74,8 +76,8 @@ IsClaimFault C e =
 -- the duals don't fit; or they do, and with what the placed facilities cost they come to less than g
 abbrev pub IsClosedFault : Problem → ℤ → Placement → ℕ → Pair → ProofError → Type 0
 IsClosedFault I g x line d e =
-    ((e ≡ NotFeasible line) × (Fits I x d → ⊥))
-    ⊎ ((e ≡ BoundTooLow line) × Fits I x d × ((fixed_cost_of I x +ℤ dual_value d.u d.v) <ℤ g))
+    ((e ≡ NotFeasible line) × (Fits I x d.u d.v → ⊥))
+    ⊎ ((e ≡ BoundTooLow line) × Fits I x d.u d.v × ((fixed_cost_of I x +ℤ dual_value d.u d.v) <ℤ g))
 
 -- the duals of the split come to less than g for its child number c
 pub record IsCutTooLow (I : Problem) (g : ℤ) (x : Placement) (s : Split) (c : ℕ) : Type 0 where

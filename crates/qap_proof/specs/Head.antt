@@ -3,7 +3,8 @@ use Rattle.std.specs.Prelude.{◌≡◌, ℕ, ◌+◌, ◌*◌, ◌<◌, ◌++�
 use Rattle.qap_cost.specs.Bijection.{IsPerm}
 use Rattle.qap_cost.specs.Placement.{Placement, IsFreeFacility, IsFreeLocation}
 use Rattle.qap_cost.specs.Range.{IsLimited}
-use Rattle.qap_proof.specs.Claim.{claim_of, IsBoundFor, IsRoot, lines_of_root, tree_line}
+use Rattle.qap_lines.specs.Bound.{IsBoundFor}
+use Rattle.qap_proof.specs.Claim.{claim_of, IsRoot, lines_of_root, tree_line}
 use Rattle.qap_proof.specs.Shape.{HasShape}
 use Rattle.qap_proof.specs.Text.{root_text, tree_text, IsProofText}
 use Rattle.qap_proof.specs.TextFault.{IsFaultFromBound, IsFaultFromRoot, IsFaultFromTree, IsTextFault}

@@ -4,7 +4,8 @@ use Rattle.qap_cost.specs.Placement.{Placement}
 use Rattle.qap_io.specs.Number.{from_one}
 use Rattle.qap_lines.specs.Number.{IsNamed}
 use Rattle.qap_lines.specs.LineText.{numbers_text}
-use Rattle.qap_proof.specs.Shape.{AreDuals, IsPermOf, IsSplit, free_count}
+use Rattle.gilmore_lawler.specs.Closing.{AreDuals}
+use Rattle.qap_proof.specs.Shape.{IsPermOf, IsSplit, free_count}
 use Rattle.qap_proof.specs.Text.{letter, split_numbers}
 use Rattle.qap_proof.specs.TextFault.{IsSayingFault, mirrors}
 use Rattle.qap_proof.specs.Tree.{Pair, Split}
@@ -27,7 +28,7 @@ split_of s = record { side = s.side; number = s.number; duals = may_pair_of s.du
 -- the line is spelled by what is said, which has the shape that it is to have at x, with so many earlier children and duals above
 -- it or none
 abbrev pub IsNodeLine : Placement → ℕ → Bool → List ℕ → NodeLine → Type 0
-IsNodeLine x earlier duals line (Closed d) = AreDuals (free_count x) (pair_of d) × (line ≡ codes "b" ++ numbers_text (d.u.items ++ d.v.items))
+IsNodeLine x earlier duals line (Closed d) = AreDuals (free_count x) d.u.items d.v.items × (line ≡ codes "b" ++ numbers_text (d.u.items ++ d.v.items))
 IsNodeLine x earlier duals line (SplitsAt s) = IsSplit x (split_of s) × (line ≡ letter s.side ++ numbers_text (split_numbers (split_of s)))
 IsNodeLine x earlier duals line Cut = (duals ≡ true) × (line ≡ codes "c")
 IsNodeLine x earlier duals line (Mirrored j m) = (j < earlier) × IsPermOf x.size m × (line ≡ codes "m" ++ numbers_text (pos (j + 1) ∷ from_one m))

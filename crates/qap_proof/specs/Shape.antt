@@ -3,24 +3,17 @@
 use Rattle.std.specs.Prelude.{◌≡◌, ℕ, ◌+◌, ◌-◌, ◌<◌, List, length, Option, Some, None, Bool, true, false}
 use Rattle.qap_cost.specs.Bijection.{IsPerm}
 use Rattle.qap_cost.specs.Placement.{Placement}
-use Rattle.qap_cost.specs.Range.{AllLimited}
+use Rattle.gilmore_lawler.specs.Closing.{AreDuals}
 use Rattle.qap_proof.specs.Tree.{Pair, Split, Node, closed, split, cut, mirrored, Nodes, no_nodes, node, child_count, IsFreeOn, child_of}
 
 -- how many facilities are free, and how many locations
 abbrev pub free_count : Placement → ℕ
 free_count x = x.size - length x.facilities
 
--- a dual for each of m rows and each of m columns, all from -10^24 to 10^24
-pub record AreDuals (m : ℕ) (d : Pair) : Type 0 where
-  pub rows : length d.u ≡ m
-  pub columns : length d.v ≡ m
-  pub u_range : AllLimited d.u
-  pub v_range : AllLimited d.v
-
 -- if there are duals, they are such
 abbrev pub MayBeDuals : ℕ → Option Pair → Type 0
 MayBeDuals m None = Unit {0}
-MayBeDuals m (Some d) = AreDuals m d
+MayBeDuals m (Some d) = AreDuals m d.u d.v
 
 abbrev pub has_duals : Option Pair → Bool
 has_duals None = false
@@ -41,7 +34,7 @@ abbrev mutual
   -- a tree at the node x, before which its split has so many earlier children, and the split has duals or hasn't: the root has no
   -- earlier children and no duals above it
   pub HasShape : Placement → ℕ → Bool → Node → Type 0
-  HasShape x earlier duals (closed d) = AreDuals (free_count x) d
+  HasShape x earlier duals (closed d) = AreDuals (free_count x) d.u d.v
   HasShape x earlier duals (split s children) = IsSplit x s × (child_count children ≡ free_count x) × AllHaveShape x s 0 children
   HasShape x earlier duals cut = duals ≡ true
   HasShape x earlier duals (mirrored j m) = (j < earlier) × IsPermOf x.size m

@@ -3,36 +3,24 @@
 -- the child puts together exceeds its own two duals by; and a child that is mirrored has the same costs as an earlier one,
 -- since a permutation that keeps one of the two matrices takes that one's permutations to its own.
 use Rattle.std.specs.Prelude.{◌≡◌, ℕ, ◌+◌, ◌<◌, List, length, ℤ, pos, ◌+ℤ◌, ◌-ℤ◌, ◌≤ℤ◌, Option, Some, None, slice_index, slice_index_or}
-use Rattle.qap_cost.specs.Bijection.{IsPerm}
-use Rattle.qap_cost.specs.Instance.{Problem, entry}
-use Rattle.qap_cost.specs.Matrix.{Square, IsMatrix, DualsFit, dual_value, entry_of}
+use Rattle.qap_cost.specs.Instance.{Problem}
+use Rattle.qap_cost.specs.Matrix.{dual_value, entry_of}
 use Rattle.qap_cost.specs.Placement.{Placement, free_facilities, free_locations, fixed_cost_of}
-use Rattle.gilmore_lawler.specs.ReducedMatrix.{IsReduced}
+use Rattle.qap_cost.specs.Symmetry.{Keeps}
+use Rattle.gilmore_lawler.specs.Closing.{Fits, Closes}
 use Rattle.qap_proof.specs.Tree.{Pair, Split, Node, closed, split, cut, mirrored, Nodes, no_nodes, node, child_count, IsFreeOn, facility_on, location_on, Place, whole, child, node_at}
 use Rattle.qap_proof.specs.declared.side.Side.{Side}
 use Rattle.qap_proof.specs.declared.side.Side.TheVariants.{Facility, Location}
 
--- the duals fit the reduced matrix
-pub record Fits (I : Problem) (x : Placement) (d : Pair) : Type 0 where
-  pub matrix : Square
-  pub square : IsMatrix matrix
-  pub reduced : IsReduced I x matrix
-  pub fits : DualsFit matrix d.u d.v
-
--- the duals fit, and with what the placed facilities cost they come to at least g
-pub record Closes (I : Problem) (g : ℤ) (x : Placement) (d : Pair) : Type 0 where
-  pub fits : Fits I x d
-  pub enough : g ≤ℤ (fixed_cost_of I x +ℤ dual_value d.u d.v)
-
 -- the duals of a split, if it has any, fit
 abbrev pub MayFit : Problem → Placement → Option Pair → Type 0
 MayFit I x None = Unit {0}
-MayFit I x (Some d) = Fits I x d
+MayFit I x (Some d) = Fits I x d.u d.v
 
 -- what the duals come to where facility i is put at location k, with what the placed facilities cost: row r is that of i, column c
 -- that of k, and the entry there takes the place of its two duals
 pub record Reaches (I : Problem) (x : Placement) (d : Pair) (i k : ℕ) (value : ℤ) : Type 0 where
-  pub fits : Fits I x d
+  pub fits : Fits I x d.u d.v
   pub row : ℕ
   pub row_within : row < length (free_facilities x)
   pub row_of : slice_index (free_facilities x) row ≡ i
@@ -51,9 +39,7 @@ pub record IsCut (I : Problem) (g : ℤ) (x : Placement) (s : Split) (c : ℕ) :
 
 -- a permutation of n numbers that keeps an n by n matrix, leaves those taken where they are, and takes one number to another
 pub record Takes (n : ℕ) (matrix : List ℤ) (taken m : List ℕ) (from to : ℕ) : Type 0 where
-  pub permutation : IsPerm m
-  pub count : length m ≡ n
-  pub keeps : (g h : ℕ) → g < n → h < n → entry n matrix (slice_index m g) (slice_index m h) ≡ entry n matrix g h
+  pub keeps : Keeps n matrix m
   pub stays : (t : ℕ) → t < length taken → slice_index m (slice_index taken t) ≡ slice_index taken t
   pub takes : slice_index m from ≡ to
 
@@ -66,7 +52,7 @@ TakesOn Location I x j c m = Takes x.size I.a x.facilities m (slice_index (free_
 abbrev mutual
   -- no permutation that completes the node at this place costs less than g, and the tree shows why
   pub Valid : Problem → ℤ → Place → Node → Type 0
-  Valid I g p (closed d) = Closes I g (node_at p) d
+  Valid I g p (closed d) = Closes I g (node_at p) d.u d.v
   Valid I g p (split s children) =
       IsFreeOn s.side (node_at p) s.number × MayFit I (node_at p) s.duals
       × (child_count children + length (node_at p).facilities ≡ (node_at p).size) × AllValid I g (node_at p) s 0 children

@@ -8,7 +8,8 @@ use Rattle.qap_proof.specs.Shape.{HasShape, AllHaveShape, free_count, has_duals}
 use Rattle.qap_proof.specs.Text.{tree_text, trees_text}
 use Rattle.qap_proof.specs.TextFault.{IsFaultAmong, IsTreeTextFault}
 use Rattle.qap_proof.specs.Tree.{Pair, Split, Node, Nodes, node_count, nodes_count, child_count, child_of, facility_on, location_on, Place}
-use Rattle.qap_proof.specs.Valid.{Closes, MayFit, Reaches, Valid, AllValid}
+use Rattle.gilmore_lawler.specs.Closing.{Closes}
+use Rattle.qap_proof.specs.Valid.{MayFit, Reaches, Valid, AllValid}
 use Rattle.qap_proof.specs.declared.error.ProofError.{ProofError}
 use Rattle.qap_proof.specs.declared.error.ProofError.TheVariants.{NotFeasible}
 
@@ -64,7 +65,7 @@ IsToldOfSplit I g x s line None (Some e) ts =
 -- the same of a closed node
 abbrev pub IsToldOfClosed : Problem → ℤ → Placement → ℕ → Option ProofError → Option ProofError → Pair → Type 0
 IsToldOfClosed I g x line (Some d) after u = after ≡ Some d
-IsToldOfClosed I g x line None None d = Closes I g x d
+IsToldOfClosed I g x line None None d = Closes I g x d.u d.v
 IsToldOfClosed I g x line None (Some e) d = IsClosedFault I g x line d e
 
 -- the same of the duals of a split, if it has any

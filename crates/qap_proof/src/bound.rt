@@ -5,7 +5,8 @@ ghost use Rattle.qap_cost.specs.Placement.{Placement};
 ghost use Rattle.qap_cost.specs.Range.{IsLimited};
 ghost use Rattle.qap_lines.specs.Number.{IsNamed};
 ghost use Rattle.qap_lines.specs.LineText.{line_text};
-ghost use Rattle.qap_proof.specs.Claim.{IsBoundFor, lines_of_bound};
+ghost use Rattle.qap_lines.specs.Bound.{IsBoundFor};
+ghost use Rattle.qap_proof.specs.Claim.{lines_of_bound};
 ghost use Rattle.qap_proof.specs.Text.{bound_text};
 ghost use Rattle.qap_proof.specs.TextFault.{HasNoBound, IsBelow, IsBoundLineFault, IsFaultFromBound, IsFaultFromTree};
 

@@ -9,9 +9,10 @@ ghost use Rattle.qap_proof.specs.Claim.{NoneCompletesForLess, Proves};
 ghost use Rattle.qap_proof.specs.Fault.{IsClosedFault, IsFault, IsPermMisfit, IsTreeFault, IsTreeFaultAmong};
 ghost use Rattle.qap_proof.specs.Memory.{node_of, nodes_of};
 ghost use Rattle.qap_proof.specs.NodeLine.{pair_of, split_of};
-ghost use Rattle.qap_proof.specs.Shape.{AreDuals, HasShape, AllHaveShape, IsSplit, free_count, has_duals as has};
+ghost use Rattle.gilmore_lawler.specs.Closing.{AreDuals, Closes};
+ghost use Rattle.qap_proof.specs.Shape.{HasShape, AllHaveShape, IsSplit, free_count, has_duals as has};
 ghost use Rattle.qap_proof.specs.Tree.{child as child_place, child_of, cut, mirrored, node_count, nodes_count, split as split_into, whole};
-ghost use Rattle.qap_proof.specs.Valid.{AllValid, Closes, MayFit, Valid};
+ghost use Rattle.qap_proof.specs.Valid.{AllValid, MayFit, Valid};
 ghost use Rattle.qap_proof.specs.Walk.{AreReached};
 ghost use Rattle.qap_proof.specs.declared.error.ProofError.TheVariants.{OutOfMemory, NotFeasible as Misfit};
 
@@ -218,10 +219,10 @@ fn check_closed(
     line: u64,
 ) -> Result<(), ProofError>
     requires size { judge.now.instance.now.size ≡ node.now.size }
-    requires duals { AreDuals (free_count node.now) (pair_of duals.now) }
+    requires duals { AreDuals (free_count node.now) duals.now.u.items duals.now.v.items }
     requires rows { rows.old ≡ judge.now.instance.now }
     ensures judged { MatchResult result
-        (λ done. Closes judge.now.instance.now judge.now.bound node.now (pair_of duals.now))
+        (λ done. Closes judge.now.instance.now judge.now.bound node.now duals.now.u.items duals.now.v.items)
         (λ e. (e ≡ OutOfMemory) ⊎ IsClosedFault judge.now.instance.now judge.now.bound node.now line (pair_of duals.now) e) }
     ensures same { rows.new ≡ rows.old }
 {

@@ -3,8 +3,8 @@
 ghost use Rattle.std.specs.Prelude.{◌≡◌, IfOk, MatchOption};
 ghost use Rattle.qap_proof.specs.Fault.{IsClosedFault};
 ghost use Rattle.qap_proof.specs.NodeLine.{pair_of};
-ghost use Rattle.qap_proof.specs.Shape.{AreDuals, free_count};
-ghost use Rattle.qap_proof.specs.Valid.{Closes};
+ghost use Rattle.gilmore_lawler.specs.Closing.{AreDuals, Closes};
+ghost use Rattle.qap_proof.specs.Shape.{free_count};
 
 use crate::error::ProofError;
 use crate::tree::Duals;
@@ -21,9 +21,9 @@ pub(crate) fn closed_fault(
     line: u64,
 ) -> Result<Option<ProofError>, AllocError>
     requires size { rows.old.size ≡ node.now.size }
-    requires duals { AreDuals (free_count node.now) (pair_of duals.now) }
+    requires duals { AreDuals (free_count node.now) duals.now.u.items duals.now.v.items }
     ensures judged { IfOk result (λ found. MatchOption found
-        (Closes rows.old bound node.now (pair_of duals.now))
+        (Closes rows.old bound node.now duals.now.u.items duals.now.v.items)
         (IsClosedFault rows.old bound node.now line (pair_of duals.now))) }
     ensures same { rows.new ≡ rows.old }
 {

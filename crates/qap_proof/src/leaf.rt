@@ -7,7 +7,8 @@ ghost use Rattle.qap_proof.specs.Cover.{AreLeaves, leaf};
 ghost use Rattle.qap_proof.specs.Leaves.{AreAllPushed, ArePushed};
 ghost use Rattle.qap_proof.specs.Memory.{node_of, nodes_of};
 ghost use Rattle.qap_proof.specs.NodeLine.{pair_of, split_of};
-ghost use Rattle.qap_proof.specs.Shape.{AreDuals, HasShape, AllHaveShape, IsSplit, free_count, has_duals as has};
+ghost use Rattle.gilmore_lawler.specs.Closing.{AreDuals};
+ghost use Rattle.qap_proof.specs.Shape.{HasShape, AllHaveShape, IsSplit, free_count, has_duals as has};
 ghost use Rattle.qap_proof.specs.Tree.{child as child_place, child_of, closed, whole};
 ghost use Rattle.qap_proof.specs.Valid.{AllValid, MayFit, Valid};
 ghost use Rattle.qap_proof.specs.Walk.{AreReached};
@@ -187,7 +188,7 @@ fn push_closed(
     leaves: &mut Vec<Leaf>,
 ) -> Result<(), AllocError>
     requires size { judge.now.instance.now.size ≡ node.now.size }
-    requires duals { AreDuals (free_count node.now) (pair_of duals.now) }
+    requires duals { AreDuals (free_count node.now) duals.now.u.items duals.now.v.items }
     ensures { OnOk result (ArePushed judge.now.instance.now (whole node.now) (closed (pair_of duals.now)) leaves.old.items leaves.new.items) }
 {
     let fixed = node.fixed_cost(judge.instance);

@@ -5,8 +5,9 @@ ghost use Rattle.qap_io.specs.Number.{from_one as counted_from_one};
 ghost use Rattle.qap_lines.specs.LineText.{numbers_text};
 ghost use Rattle.qap_lines.specs.Number.{IsNamed};
 ghost use Rattle.qap_proof.specs.Fault.{IsNumberFault};
-ghost use Rattle.qap_proof.specs.NodeLine.{IsNodeLine, HasLine, pair_of, split_of, IsMirrorFault};
-ghost use Rattle.qap_proof.specs.Shape.{AreDuals, IsPermOf, IsSplit};
+ghost use Rattle.qap_proof.specs.NodeLine.{IsNodeLine, HasLine, split_of, IsMirrorFault};
+ghost use Rattle.gilmore_lawler.specs.Closing.{AreDuals};
+ghost use Rattle.qap_proof.specs.Shape.{IsPermOf, IsSplit};
 ghost use Rattle.qap_proof.specs.Text.{letter as letter_of, split_numbers};
 ghost use Rattle.qap_proof.specs.TextFault.{IsDualsFault, IsLineFault, IsNodeFault, IsSayingFault, splits};
 ghost use Rattle.qap_proof.specs.Tree.{IsFreeOn};
@@ -115,7 +116,7 @@ fn closed_line(
     ensures { MatchResult result
         (λ found. MatchOption found
         ((zs : List ℤ) → IsNamed (codes "b") line.now zs → ⊥)
-        (λ d. AreDuals (node.now.size - length node.now.facilities) (pair_of d) × (line.now ≡ codes "b" ++ numbers_text (d.u.items ++ d.v.items))))
+        (λ d. AreDuals (node.now.size - length node.now.facilities) d.u.items d.v.items × (line.now ≡ codes "b" ++ numbers_text (d.u.items ++ d.v.items))))
         (λ e. (e ≡ ProofError.OutOfMemory) ⊎ ((zs : List ℤ) × IsNamed (codes "b") line.now zs × IsDualsFault (node.now.size - length node.now.facilities) number zs e)) }
 {
     let free = node.size() - node.depth();

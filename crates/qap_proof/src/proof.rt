@@ -1,7 +1,8 @@
 //! Proofs of a least cost, or of a bound.
 
 ghost use Rattle.std.specs.Prelude.{◌≡◌, ◌<◌, ◌⊎◌, ◌↔◌, IsTrue, ℕ, length, slice_index, MatchResult};
-ghost use Rattle.qap_proof.specs.Claim.{claim_of, tree_line, IsBoundFor, IsProof, IsRoot};
+ghost use Rattle.qap_lines.specs.Bound.{IsBoundFor};
+ghost use Rattle.qap_proof.specs.Claim.{claim_of, tree_line, IsProof, IsRoot};
 ghost use Rattle.qap_proof.specs.Fault.{IsClaimFault};
 ghost use Rattle.qap_proof.specs.Memory.{node_of};
 ghost use Rattle.qap_proof.specs.declared.error.ProofError.TheVariants.{OutOfMemory};

@@ -7,7 +7,7 @@ ghost use Rattle.qap_cost.specs.Range.{AllLimited, AllWithin};
 ghost use Rattle.gilmore_lawler.specs.ReducedMatrix.{IsReduced};
 ghost use Rattle.qap_proof.specs.Cell.{IsCell, IsPlaceOf, own_on};
 ghost use Rattle.qap_proof.specs.NodeLine.{pair_of};
-ghost use Rattle.qap_proof.specs.Shape.{AreDuals};
+ghost use Rattle.gilmore_lawler.specs.Closing.{AreDuals};
 ghost use Rattle.qap_proof.specs.Tree.{IsFreeOn, facility_on, location_on};
 ghost use Rattle.qap_proof.specs.Valid.{Reaches};
 
@@ -32,7 +32,7 @@ pub fn child_values(
     requires reduced { IsReduced instance.now node.now matrix.now }
     requires bounded { AllWithin (512 * 10 ^ 18) matrix.now.entries }
     requires matrix_size { matrix.now.size ≡ node.now.size - length node.now.facilities }
-    requires duals { AreDuals (node.now.size - length node.now.facilities) (pair_of duals.now) }
+    requires duals { AreDuals (node.now.size - length node.now.facilities) duals.now.u.items duals.now.v.items }
     requires fits { DualsFit matrix.now duals.now.u.items duals.now.v.items }
     requires free { IsFreeOn side node.now number }
     ensures count { IfOk result (λ v. length v.items ≡ node.now.size - length node.now.facilities) }

@@ -5,7 +5,8 @@ ghost use Rattle.qap_lines.specs.Line.{line_after};
 ghost use Rattle.qap_proof.specs.Fault.{IsPairFault, MayBePairFault, IsSplitFault, IsShapeFault, IsShapeFaultAmong};
 ghost use Rattle.qap_proof.specs.Memory.{node_of, nodes_of};
 ghost use Rattle.qap_proof.specs.NodeLine.{pair_of, may_pair_of, split_of};
-ghost use Rattle.qap_proof.specs.Shape.{AreDuals, MayBeDuals, IsSplit, IsPermOf, HasShape, AllHaveShape, free_count};
+ghost use Rattle.gilmore_lawler.specs.Closing.{AreDuals};
+ghost use Rattle.qap_proof.specs.Shape.{MayBeDuals, IsSplit, IsPermOf, HasShape, AllHaveShape, free_count};
 ghost use Rattle.qap_proof.specs.Tree.{node_count, nodes_count};
 ghost use Rattle.qap_proof.specs.declared.error.ProofError.TheVariants.{OutOfMemory, CutWithoutDuals as WithoutDuals, NoEarlierChild as NoEarlier, PermBad as BadPermutation};
 
@@ -103,7 +104,7 @@ fn judge_split_duals(duals: &Option<Duals>, free: usize, line: u64) -> Result<()
 /// Whether there is a dual for each of so many facilities and locations, and all are within -10^24 to 10^24.
 fn judge_duals(duals: &Duals, free: usize, line: u64) -> Result<(), ProofError>
     ensures { MatchResult result
-        (λ done. AreDuals free (pair_of duals.now))
+        (λ done. AreDuals free duals.now.u.items duals.now.v.items)
         (λ e. IsPairFault free line (pair_of duals.now) e) }
 {
     if duals.u.len() != free || duals.v.len() != free {

@@ -5,7 +5,8 @@ ghost use Rattle.qap_cost.specs.Placement.{IsPlacement};
 ghost use Rattle.qap_lines.specs.Line.{line_after};
 ghost use Rattle.qap_proof.specs.Cell.{others_on};
 ghost use Rattle.qap_proof.specs.NodeLine.{pair_of, split_of};
-ghost use Rattle.qap_proof.specs.Shape.{AreDuals, IsPermOf, IsSplit, free_count, has_duals as has};
+ghost use Rattle.gilmore_lawler.specs.Closing.{AreDuals};
+ghost use Rattle.qap_proof.specs.Shape.{IsPermOf, IsSplit, free_count, has_duals as has};
 ghost use Rattle.qap_proof.specs.TextFault.{IsTreeTextFault};
 ghost use Rattle.qap_proof.specs.Tree.{IsFreeOn, child as child_place, child_of, cut, mirrored, whole};
 ghost use Rattle.qap_proof.specs.Valid.{TakesOn};
@@ -212,7 +213,7 @@ pub(crate) fn judge_closed(
     told: Option<ProofError>,
 ) -> Result<Option<ProofError>, AllocError>
     requires size { told ≡ None → judge.now.instance.now.size ≡ node.now.size }
-    requires duals { AreDuals (free_count node.now) (pair_of duals.now) }
+    requires duals { AreDuals (free_count node.now) duals.now.u.items duals.now.v.items }
     requires rows { rows.old ≡ judge.now.instance.now }
     ensures judged { IfOk result (λ after. IsToldOfClosed judge.now.instance.now judge.now.bound node.now line told after (pair_of duals.now)) }
     ensures same { rows.new ≡ rows.old }

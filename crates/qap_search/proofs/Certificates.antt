@@ -15,7 +15,7 @@ use Rattle.qap_cost.specs.Range.{IsLimited}
 use Rattle.qap_cert.specs.Certificate.{Claim, Certifies, claim_of}
 use Rattle.qap_cert.specs.Shape.{AllHaveShape, HasShape, child_count}
 use Rattle.qap_cert.specs.Tree.{Node, split, bound, Nodes, no_nodes, node, node_count, nodes_count}
-use Rattle.qap_cert.specs.Valid.{AllValid, Closes, Valid}
+use Rattle.qap_cert.specs.Valid.{AllValid, ClosesPart, Valid}
 use Rattle.qap_cert.specs.declared.version.Version.TheVariants.{Second}
 use Rattle.qap_proof.proofs.Validity.{node_placement}
 use Rattle.qap_proof.specs.Tree.{Pair, Split, IsFreeOn, child_of, Place, whole, child, node_at}
@@ -151,7 +151,7 @@ mutual
 
 -- which tuples of closed nodes are found shows that their duals close them
 abbrev pub FoundClose : Problem → ℤ → ℕ → List (List FieldValue) → Type 0
-FoundClose I c n tuples = (x : Placement) (u v : List ℤ) → IsNode n x → 1 ≤ sum_by (is_it (closed_tuple x u v)) tuples → Closes I c x u v
+FoundClose I c n tuples = (x : Placement) (u v : List ℤ) → IsNode n x → 1 ≤ sum_by (is_it (closed_tuple x u v)) tuples → ClosesPart I c x u v
 
 -- the locations from number c on
 pub drop_at : (ks : List ℕ) (c : ℕ) → c < length ks → drop c ks ≡ get_or ks c 0 ∷ drop (c + 1) ks
@@ -242,9 +242,9 @@ certificate_there I known content commits i h none =
     let root = root_of I.size in
     let apart = h.taken_apart open_weight in
     let parts = sum_by-cons open_weight (best_tuple h.cost h.permutation) (pieces root h.tree) in
-    let done = finished (Closes I h.cost) h.tree (whole root) h.valid (omega arith) in
+    let done = finished (ClosesPart I h.cost) h.tree (whole root) h.valid (omega arith) in
     let limited = subst IsLimited h.costs (cost_limited I h.permutation i h.permutes) in
-    let valid = subst (IsTree (plain HasDuals) (whole root)) done.1 (trees_by (plain (Closes I h.cost)) (plain HasDuals) (plain_by (Closes I h.cost) HasDuals (λ x u v closes. closes.duals)) h.tree (whole root) h.valid) in
+    let valid = subst (IsTree (plain HasDuals) (whole root)) done.1 (trees_by (plain (ClosesPart I h.cost)) (plain HasDuals) (plain_by (ClosesPart I h.cost) HasDuals (λ x u v closes. closes.duals)) h.tree (whole root) h.valid) in
     let same = h.permutes.same_size in
     let positive = i.positive in
     let small = i.small in (
@@ -288,7 +288,7 @@ closed_in_both I known content commits best t h same x u v hx found =
     let left = sum_by-cons w (tuple_of old) (pieces root h.tree) in
     let right = sum_by-cons w (tuple_of best) (pieces root t) in
     let other = is_it-other (closed_tuple x u v) (tuple_of old) (λ (d : 98 ≡ 99). omega arith) in
-    closed_found (plain (Closes I h.cost)) I.size x u v hx h.tree (whole root) (record { size = refl; paired = refl }) h.valid (omega arith)
+    closed_found (plain (ClosesPart I h.cost)) I.size x u v hx h.tree (whole root) (record { size = refl; paired = refl }) h.valid (omega arith)
 
 -- the bounds of a certificate whose tuples are a cut tree close their nodes
 certificate_valid : (I : Problem) (known : Best) (content : List (List FieldValue)) (commits : ℕ) (C : Claim) → IsCutTree (from_root I known) content commits → IsAssembled I.size content C → Valid I C.cost (root_of I.size) C.tree

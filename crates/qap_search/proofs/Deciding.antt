@@ -8,7 +8,7 @@ use Rattle.std.specs.Prelude.{IfOk, IfSome, MatchOption, Result, Option, Ok, Err
 use Rattle.qap_cost.specs.Instance.{Problem}
 use Rattle.qap_cost.specs.Matrix.{dual_value}
 use Rattle.qap_cost.specs.Placement.{Placement, IsPlacement, fixed_cost_of}
-use Rattle.qap_cert.specs.Valid.{Closes}
+use Rattle.qap_cert.specs.Valid.{ClosesPart}
 use Rattle.qap_proof.specs.Shape.{free_count}
 use Rattle.qap_proof.specs.Tree.{Pair, Split, pair, IsFreeOn, facility_on, location_on, child, whole}
 use Rattle.qap_proof.specs.Valid.{Reaches}
@@ -82,7 +82,7 @@ branch_split false I c x t b placed thought h =
     let less = free_depth Facility x b.number placed free in
     let count = open_row-count (free_count x) in
     subst (λ (r : Option (List ℤ)). IsSplitBy false I c x (split_with (thought_on x t) c b r)) (sym h.1.1)
-    (record { one = open_row-undecided (free_count x); valid = (less, free, (refl, refl), omega arith, open_row-trees (plain (Closes I c)) x _ 0 (free_count x)) })
+    (record { one = open_row-undecided (free_count x); valid = (less, free, (refl, refl), omega arith, open_row-trees (plain (ClosesPart I c)) x _ 0 (free_count x)) })
 branch_split true I c x t b placed thought h =
     let d = pair t.u.items t.v.items in
     let s = pruned_split b.side b.number t.u.items t.v.items in
@@ -100,7 +100,7 @@ branch_split true I c x t b placed thought h =
         inr (record {
           pair = d;
           has = refl;
-          duals = record { rows = thought.duals.rows; columns = thought.duals.columns; u_range = thought.duals.u_range; v_range = thought.duals.v_range };
+          duals = thought.duals;
           fits = record { matrix = thought.matrix; square = thought.square; reduced = thought.reduced; fits = thought.fits };
         }),
         omega arith,
@@ -120,7 +120,7 @@ decides_split cutting I c x t b tuples placed thought below branch is =
       by = inr (below, branch_value b, ap branch_in branch, refl);
     }
 
-closes_to : (cutting : Bool) (I : Problem) (c : ℤ) (x : Placement) (u v : List ℤ) → Closes I c x u v → IsTree (judge_of cutting I c) (whole x) (closed_node u v)
+closes_to : (cutting : Bool) (I : Problem) (c : ℤ) (x : Placement) (u v : List ℤ) → ClosesPart I c x u v → IsTree (judge_of cutting I c) (whole x) (closed_node u v)
 closes_to true I c x u v h = h
 closes_to false I c x u v h = h
 
@@ -134,7 +134,7 @@ decides_closed cutting I c x t tuples h enough is =
         one = tt;
         valid =
             closes_to cutting I c x t.u.items t.v.items
-            (record { duals = h.duals; fits = record { matrix = h.matrix; square = h.square; reduced = h.reduced; fits = h.fits }; enough = omega (arith, ints) });
+            (record { duals = h.duals; closes = record { fits = record { matrix = h.matrix; square = h.square; reduced = h.reduced; fits = h.fits }; enough = omega (arith, ints) } });
         are = is;
       };
       by = inl (enough, refl);

@@ -10,11 +10,11 @@ use Rattle.std.proofs.lemmas.List.Elements.{All-append, All-cons, All-nil, Conta
 use Rattle.std.proofs.lemmas.List.Sums.{sum_by-append, sum_by-cons}
 use Rattle.qap_cost.specs.Instance.{Problem}
 use Rattle.qap_cost.specs.Placement.{Placement, IsPlacement}
-use Rattle.qap_cert.specs.Valid.{Closes}
+use Rattle.qap_cert.specs.Valid.{ClosesPart}
 use Rattle.qap_proof.proofs.Validity.{Valid-NoneCompletesForLess}
 use Rattle.qap_proof.specs.Tree.{Split, Node, closed, split, cut, mirrored, Nodes, no_nodes, node, child_count, pair, IsFreeOn, child_of, Place, whole, child, node_at}
 use Rattle.qap_proof.specs.Valid.{AllValid, MayFit, Valid}
-use Rattle.qap_proof.specs.Valid.{Closes as ClosesPair}
+use Rattle.gilmore_lawler.specs.Closing.{Closes}
 use Rattle.tuple_match.specs.FieldValue.{FieldValue}
 use Rattle.qap_cost.specs.Objective.{Permutes, cost_of}
 use Rattle.shared_space.specs.Limit.{IsWithin}
@@ -40,13 +40,13 @@ abbrev pub FoundAbove : Problem → ℤ → List (List FieldValue) → Type 0
 FoundAbove I g tuples = (x : Placement) → IsPlacement x → x.size ≡ I.size → 1 ≤ sum_by (is_it (node_tuple x)) tuples → IsNodeAbove I g x
 
 -- duals that close a node for c close it for what is at most c
-closes_for_less : (I : Problem) (c g : ℤ) (y : Placement) (u v : List ℤ) → g ≤ℤ c → Closes I c y u v → ClosesPair I g y (pair u v)
+closes_for_less : (I : Problem) (c g : ℤ) (y : Placement) (u v : List ℤ) → g ≤ℤ c → ClosesPart I c y u v → Closes I g y u v
 closes_for_less I c g y u v less h =
-    let enough = h.enough in
-    record { fits = record { matrix = h.fits.matrix; square = h.fits.square; reduced = h.fits.reduced; fits = h.fits.fits }; enough = omega (arith, ints) }
+    let enough = h.closes.enough in
+    record { fits = h.closes.fits; enough = omega (arith, ints) }
 
 -- so do the duals of a node's value
-closes_by_value : (I : Problem) (g : ℤ) (y : Placement) (h : IsNodeAbove I g y) → ClosesPair I g y (pair h.is_value.u h.is_value.v)
+closes_by_value : (I : Problem) (g : ℤ) (y : Placement) (h : IsNodeAbove I g y) → Closes I g y h.is_value.u h.is_value.v
 closes_by_value I g y h =
     let least = h.is_value.least in
     let is = h.is_value.is in

@@ -10,7 +10,7 @@ use Rattle.qap_cert.specs.declared.version.Version.TheVariants.{Second}
 use Rattle.qap_proof.proofs.Memory.{node_of-Cut, node_of-Mirrored, nodes_of-push}
 use Rattle.qap_proof.proofs.Rows.{nodes_count-with_last, with_last}
 use Rattle.qap_proof.specs.Memory.{node_of, nodes_of}
-use Rattle.qap_proof.specs.Shape.{AreDuals, HasShape, AllHaveShape, free_count, has_duals}
+use Rattle.qap_proof.specs.Shape.{HasShape, AllHaveShape, has_duals}
 use Rattle.qap_proof.specs.Tree.{Node, closed, split, cut, mirrored, Nodes, no_nodes, node, child_count, node_count, nodes_count, Split, pair, child_of, Place, whole, child, node_at}
 use Rattle.qap_proof.specs.declared.tree.Tree.{Tree}
 use Rattle.qap_proof.specs.declared.tree.Tree.TheVariants.{Cut as CutTree, Mirrored as MirroredTree}
@@ -45,13 +45,10 @@ child_count-as_proofs : (ts : cert.Nodes) → child_count (as_proofs ts) ≡ sha
 child_count-as_proofs cert.no_nodes = refl
 child_count-as_proofs (cert.node t rest) = ap (λ (n : ℕ). 1 + n) (child_count-as_proofs rest)
 
-pub duals_as_pair : (m : ℕ) (u v : List ℤ) → shape.AreDuals m u v → AreDuals m (pair u v)
-duals_as_pair m u v h = record { rows = h.rows; columns = h.columns; u_range = h.u_range; v_range = h.v_range }
-
 mutual
   -- a tree of a certificate's shape has a proof's
   pub as_proof_shape : (t : cert.Node) (x : Placement) (earlier : ℕ) (duals : Bool) → shape.HasShape Second x.size x.facilities t → HasShape x earlier duals (as_proof t)
-  as_proof_shape (cert.bound u v) x earlier duals h = duals_as_pair (free_count x) u v h
+  as_proof_shape (cert.bound u v) x earlier duals h = h
   as_proof_shape (cert.split f children) x earlier duals h =
       let same = child_count-as_proofs children in
       (record { some = h.0; free = h.1; duals = tt }, same ∙ h.3, as_proofs_shape children x f 0 h.4)

@@ -5,11 +5,12 @@ use Rattle.qap_cost.specs.Placement.{Placement}
 use Rattle.qap_lines.specs.Line.{line_after}
 use Rattle.qap_proof.specs.Claim.{Claim, IsProof, tree_line}
 use Rattle.qap_proof.specs.Fault.{IsClaimFault, IsPairFault, IsShapeFault, IsShapeFaultAmong, IsSplitFault, MayBePairFault}
-use Rattle.qap_proof.specs.Shape.{AllHaveShape, AreDuals, HasShape, IsSplit, MayBeDuals, free_count, has_duals}
+use Rattle.gilmore_lawler.specs.Closing.{AreDuals}
+use Rattle.qap_proof.specs.Shape.{AllHaveShape, HasShape, IsSplit, MayBeDuals, free_count, has_duals}
 use Rattle.qap_proof.specs.Tree.{Pair, Split, Node, closed, split, cut, mirrored, Nodes, no_nodes, node, node_count, child_count, child_of}
 use Rattle.qap_proof.specs.declared.error.ProofError.{ProofError}
 
-pair_fault : (m line : ℕ) (d : Pair) (e : ProofError) → IsPairFault m line d e → AreDuals m d → ⊥
+pair_fault : (m line : ℕ) (d : Pair) (e : ProofError) → IsPairFault m line d e → AreDuals m d.u d.v → ⊥
 pair_fault m line d e fault h =
     elim fault [
       | inl count ↦ count.1 (h.rows, h.columns)

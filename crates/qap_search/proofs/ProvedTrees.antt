@@ -11,8 +11,9 @@ use Rattle.qap_cost.specs.Placement.{Placement, IsPlacement}
 use Rattle.qap_cost.specs.Range.{IsLimited}
 use Rattle.qap_proof.specs.Cover.{IsLeastOf}
 use Rattle.qap_proof.specs.Claim.{Claim, IsProof, IsRoot, Proves, claim_of}
-use Rattle.qap_proof.specs.Shape.{AreDuals, HasShape, AllHaveShape, IsPermOf, MayBeDuals, free_count, has_duals}
-use Rattle.qap_proof.specs.Tree.{pair, Split, Node, closed, split, cut, mirrored, Nodes, no_nodes, node, child_count, IsFreeOn, Place, whole, child, child_of, node_at}
+use Rattle.gilmore_lawler.specs.Closing.{AreDuals}
+use Rattle.qap_proof.specs.Shape.{HasShape, AllHaveShape, IsPermOf, MayBeDuals, free_count, has_duals}
+use Rattle.qap_proof.specs.Tree.{Split, Node, closed, split, cut, mirrored, Nodes, no_nodes, node, child_count, IsFreeOn, Place, whole, child, child_of, node_at}
 use Rattle.qap_proof.specs.Valid.{TakesOn}
 use Rattle.qap_proof.specs.declared.side.Side.{Side}
 use Rattle.qap_proof.specs.declared.side.Side.TheVariants.{Facility, Location}
@@ -35,7 +36,6 @@ use Rattle.qap_search.proofs.Certificates.{cost_limited, child_placed, open_weig
 use Rattle.qap_search.proofs.Keys.{tree_count-of_proofs}
 use Rattle.qap_search.proofs.OpenBounds.{none_completes}
 use Rattle.qap_search.proofs.OpenNodes.{closed_tree}
-use Rattle.qap_search.proofs.PlainTrees.{duals_as_pair}
 use Rattle.qap_search.proofs.Replacing.{AsksForLess, judge_proves, trees_by}
 use Rattle.qap_search.proofs.StoppedAssembling.{IsBoundIf}
 use Rattle.qap_search.proofs.StoppedLaws.{bound_limited, closed_valid, least_behind, open_weighed, shown_above}
@@ -44,7 +44,7 @@ use Rattle.qap_search.proofs.Telling.{shut_to, told_once}
 -- trees of a proof's shape
 abbrev pub shaped : Judge
 shaped = record {
-  closes = λ x u v. AreDuals (free_count x) (pair u v);
+  closes = λ x u v. AreDuals (free_count x) u v;
   splits = λ x s. IsReadableSplit s × MayBeDuals (free_count x) s.duals;
   cuts = λ x s c. has_duals s.duals ≡ true;
   mirrors = λ x s c j m. (j < c) × IsPermOf x.size m;
@@ -55,13 +55,13 @@ shaped_split I x s (inl h) = (inl h, subst (MayBeDuals (free_count x)) (sym h.1)
 shaped_split I x s (inr h) = (inr (ap has_duals h.has), subst (MayBeDuals (free_count x)) (sym h.has) h.duals)
 
 image_of : (I : Problem) (x : Placement) (side : Side) (j c : ℕ) (m : List ℕ) → TakesOn side I x j c m → IsPermOf x.size m
-image_of I x Facility j c m h = record { permutation = h.permutation; count = h.count }
-image_of I x Location j c m h = record { permutation = h.permutation; count = h.count }
+image_of I x Facility j c m h = record { permutation = h.keeps.permutation; count = h.keeps.count }
+image_of I x Location j c m h = record { permutation = h.keeps.permutation; count = h.keeps.count }
 
 -- what proves has the shape
 proving_shaped : (I : Problem) (g : ℤ) → AsksForLess (proving I g) shaped
 proving_shaped I g = record {
-  closes = λ x u v h. duals_as_pair (free_count x) u v h.duals;
+  closes = λ x u v h. h.duals;
   splits = λ x s h. shaped_split I x s h;
   cuts = λ x s c h. ap has_duals h.has;
   mirrors = λ x s c j m h. (h.0, image_of I x s.side j c m h.1);
@@ -131,7 +131,7 @@ closed_cut_tree S content commits i h c g p t told bounds =
     let one = told_once x told.new h.cost c h.permutation p made.tree_of t h.root made.told told.told in
     let closes = subst (ClosedTo I x h.tree) one.tree made.closed in
     let proves = trees_by (judge_of S.cutting I h.cost) (proving I h.cost) (judge_proves S.cutting I h.cost) h.tree (whole x) h.valid in
-    let tree = closed_tree shaped I (λ y u v least. duals_as_pair (free_count y) u v least.duals) h.tree t (whole x) (trees_by (proving I h.cost) shaped (proving_shaped I h.cost) h.tree (whole x) proves) closes in
+    let tree = closed_tree shaped I (λ y u v least. least.duals) h.tree t (whole x) (trees_by (proving I h.cost) shaped (proving_shaped I h.cost) h.tree (whole x) proves) closes in
     let shape = shape_of t (whole x) h.root tree in
     let least = bounds 0 false shape in
     let limited = subst IsLimited (h.costs ∙ one.cost) (cost_limited I h.permutation i h.permutes) in
@@ -151,7 +151,7 @@ mutual
   none_lower : (I : Problem) (d : ℤ) (s : SearchTree) (t : Node) (p : Place) → undecided_count s ≡ 0 → IsTree (proving I d) p s → ClosedTo I (node_at p) s t → All (λ z. d ≤ℤ z) (shown I (node_at p) t)
   none_lower I d open_node t p none valid h = absurd (omega arith)
   none_lower I d (closed_node u v) t p none valid h =
-      subst (λ (n : Node). All (λ z. d ≤ℤ z) (shown I (node_at p) n)) (sym h) (All-cons (λ (z : ℤ). d ≤ℤ z) _ [] valid.enough (All-nil (λ (z : ℤ). d ≤ℤ z)))
+      subst (λ (n : Node). All (λ z. d ≤ℤ z) (shown I (node_at p) n)) (sym h) (All-cons (λ (z : ℤ). d ≤ℤ z) _ [] valid.closes.enough (All-nil (λ (z : ℤ). d ≤ℤ z)))
   none_lower I d cut_node t p none valid h = subst (λ (n : Node). All (λ z. d ≤ℤ z) (shown I (node_at p) n)) (sym h) (All-nil (λ (z : ℤ). d ≤ℤ z))
   none_lower I d (mirrored_node j m) t p none valid h = subst (λ (n : Node). All (λ z. d ≤ℤ z) (shown I (node_at p) n)) (sym h) (All-nil (λ (z : ℤ). d ≤ℤ z))
   none_lower I d (split_node s children) t p none valid h =

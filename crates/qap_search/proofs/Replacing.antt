@@ -7,7 +7,7 @@ use Rattle.qap_cost.specs.Instance.{Problem}
 use Rattle.qap_cost.specs.Matrix.{dual_value}
 use Rattle.qap_cost.specs.Objective.{Permutes, cost_of}
 use Rattle.qap_cost.specs.Placement.{Placement, fixed_cost_of}
-use Rattle.qap_cert.specs.Valid.{Closes}
+use Rattle.qap_cert.specs.Valid.{ClosesPart}
 use Rattle.qap_proof.specs.Tree.{Pair, Split, IsFreeOn, facility_on, location_on, child_of, Place, whole, child, node_at}
 use Rattle.qap_proof.specs.Valid.{IsCut}
 use Rattle.space_txn.specs.Content.{SameItems}
@@ -42,10 +42,10 @@ mutual
   all_trees_by J K less (tree t rest) x s c h = (trees_by J K less t (child x s c) h.0, all_trees_by J K less rest x s (c + 1) h.1)
 
 -- what closes a node by some cost closes it by a smaller one
-pub closes_by_less : (I : Problem) (c d : ℤ) → d ≤ℤ c → (x : Placement) (u v : List ℤ) → Closes I c x u v → Closes I d x u v
+pub closes_by_less : (I : Problem) (c d : ℤ) → d ≤ℤ c → (x : Placement) (u v : List ℤ) → ClosesPart I c x u v → ClosesPart I d x u v
 closes_by_less I c d less x u v h =
-    let enough : c ≤ℤ (fixed_cost_of I x +ℤ dual_value u v) = h.enough in
-    record { duals = h.duals; fits = h.fits; enough = omega (arith, ints) }
+    let enough : c ≤ℤ (fixed_cost_of I x +ℤ dual_value u v) = h.closes.enough in
+    record { duals = h.duals; closes = record { fits = h.closes.fits; enough = omega (arith, ints) } }
 
 -- and what cuts a child off by some cost cuts it off by a smaller one
 pub cut_by_less : (I : Problem) (c d : ℤ) → d ≤ℤ c → (x : Placement) (s : Split) (i : ℕ) → IsCut I c x s i → IsCut I d x s i
@@ -63,7 +63,7 @@ proving_less I c d less = record { closes = closes_by_less I c d less; splits = 
 -- whether children may be cut off or not, a tree that shows a cost shows a smaller one
 pub judge_less : (cutting : Bool) (I : Problem) (c d : ℤ) → d ≤ℤ c → AsksForLess (judge_of cutting I c) (judge_of cutting I d)
 judge_less true I c d less = proving_less I c d less
-judge_less false I c d less = plain_by (Closes I c) (Closes I d) (closes_by_less I c d less)
+judge_less false I c d less = plain_by (ClosesPart I c) (ClosesPart I d) (closes_by_less I c d less)
 
 -- and is one that may cut children off
 pub judge_proves : (cutting : Bool) (I : Problem) (c : ℤ) → AsksForLess (judge_of cutting I c) (proving I c)

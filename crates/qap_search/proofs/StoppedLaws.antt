@@ -51,9 +51,7 @@ mutual
       (record { fits = record { matrix = h.2.matrix; square = h.2.square; reduced = h.2.reduced; fits = h.2.fits }; enough = there 0 (pos 0) (omega arith) })
   closed_valid I d g less (closed_node u v) t p valid h above =
       let there = subst (λ (n : Node). All (λ z. g ≤ℤ z) (shown I (node_at p) n)) h above in
-      let fits = valid.fits in
-      subst (Valid I g p) (sym h)
-      (record { fits = record { matrix = fits.matrix; square = fits.square; reduced = fits.reduced; fits = fits.fits }; enough = there 0 (pos 0) (omega arith) })
+      subst (Valid I g p) (sym h) (record { fits = valid.closes.fits; enough = there 0 (pos 0) (omega arith) })
   closed_valid I d g less cut_node t (whole x) valid h above = absurd valid
   closed_valid I d g less cut_node t (child x s c) valid h above = subst (Valid I g (child x s c)) (sym h) (cut_by_less I d g less x s c valid)
   closed_valid I d g less (mirrored_node j m) t (whole x) valid h above = absurd valid
@@ -81,8 +79,7 @@ mutual
   -- a certificate's tree that proves a bound as a proof's does proves it as a certificate's
   certified_valid : (I : Problem) (g : ℤ) (t : cert.Node) (p : Place) → IsPlacement (node_at p) → shape.HasShape Second (node_at p).size (node_at p).facilities t → Valid I g p (as_proof t) → certified.Valid I g (node_at p) t
   certified_valid I g (cert.bound u v) p placed shaped h =
-      let fits = h.fits in
-      record { duals = shaped; fits = record { matrix = fits.matrix; square = fits.square; reduced = fits.reduced; fits = fits.fits }; enough = h.enough }
+      record { duals = shaped; closes = h }
   certified_valid I g (cert.split f children) p placed shaped h =
       let y = node_at p in
       let listed = free_location_count y placed in
@@ -116,7 +113,7 @@ stopped_no_dearer I known content commits C h s =
 
 mutual
   -- a plain tree whose closed nodes' duals are found to close them
-  closing_tree : (I : Problem) (d : ℤ) (n : ℕ) (t : SearchTree) (p : Place) → IsNode n (node_at p) → IsTree (plain HasDuals) p t → FoundClose I d n (pieces (node_at p) t) → IsTree (plain (certified.Closes I d)) p t
+  closing_tree : (I : Problem) (d : ℤ) (n : ℕ) (t : SearchTree) (p : Place) → IsNode n (node_at p) → IsTree (plain HasDuals) p t → FoundClose I d n (pieces (node_at p) t) → IsTree (plain (certified.ClosesPart I d)) p t
   closing_tree I d n open_node p hy h close = tt
   closing_tree I d n (closed_node u v) p hy h close =
       let itself = is_it-itself (closed_tuple (node_at p) u v) in
@@ -135,7 +132,7 @@ mutual
             (λ x u v hx found. close x u v hx (let parts = sum_by-cons (is_it (closed_tuple x u v)) (split_said y s s.duals children) (pieces_of_all y s 0 children) in omega arith)),
       )
 
-  all_closing_trees : (I : Problem) (d : ℤ) (n : ℕ) (ts : SearchTrees) (y : Placement) (s : Split) (c : ℕ) → IsNode n y → AreTrees (plain HasDuals) y s c ts → FoundClose I d n (pieces_of_all y s c ts) → AreTrees (plain (certified.Closes I d)) y s c ts
+  all_closing_trees : (I : Problem) (d : ℤ) (n : ℕ) (ts : SearchTrees) (y : Placement) (s : Split) (c : ℕ) → IsNode n y → AreTrees (plain HasDuals) y s c ts → FoundClose I d n (pieces_of_all y s c ts) → AreTrees (plain (certified.ClosesPart I d)) y s c ts
   all_closing_trees I d n no_trees y s c hy h close = tt
   all_closing_trees I d n (tree t rest) y s c hy h close =
       let weigh = λ (x : Placement) (u v : List ℤ). sum_by-append (is_it (closed_tuple x u v)) (pieces (child_of y s c) t) (pieces_of_all y s (c + 1) rest) in (
@@ -144,7 +141,7 @@ mutual
       )
 
 -- the leaves that were closed before show the certificate's cost at least
-pub stopped_closed_before : (I : Problem) (known : Best) (content : List (List FieldValue)) (commits : ℕ) (C : Claim) → IsCutTree (from_root I known) content commits → (s : IsStopped I content C) → IsTree (plain (certified.Closes I C.cost)) (whole (root_of I.size)) s.tree
+pub stopped_closed_before : (I : Problem) (known : Best) (content : List (List FieldValue)) (commits : ℕ) (C : Claim) → IsCutTree (from_root I known) content commits → (s : IsStopped I content C) → IsTree (plain (certified.ClosesPart I C.cost)) (whole (root_of I.size)) s.tree
 stopped_closed_before I known content commits C h s =
     let root = root_of I.size in
     let same = best_is I known content commits (best_of C) s.tree h s.taken_apart in
@@ -152,7 +149,7 @@ stopped_closed_before I known content commits C h s =
     let small = h.root.small in
     let there = shaped_tree C.tree (whole root) (root_placement I.size positive small) (root_shape I content C s) in
     let shaped = tree_from_closed (plain HasDuals) I s.tree (as_proof C.tree) (whole root) there s.closes.closed in
-    subst (λ (b : Best). IsTree (plain (certified.Closes I b.cost)) (whole root) s.tree) same
+    subst (λ (b : Best). IsTree (plain (certified.ClosesPart I b.cost)) (whole root) s.tree) same
     (closing_tree I h.cost I.size s.tree (whole root) (record { size = refl; paired = refl }) shaped (closed_in_both I known content commits (best_of C) s.tree h s.taken_apart))
 
 pub stopped_certifies : (I : Problem) (known : Best) (content : List (List FieldValue)) (commits : ℕ) (C : Claim) → IsCutTree (from_root I known) content commits → IsStopped I content C → Certifies I C
@@ -160,7 +157,7 @@ stopped_certifies I known content commits C h s =
     let root = root_of I.size in
     let same = best_is I known content commits (best_of C) s.tree h s.taken_apart in
     let least = s.closes.least in
-    let before = trees_by (plain (certified.Closes I C.cost)) (proving I C.cost) (judge_proves false I C.cost) s.tree (whole root) (stopped_closed_before I known content commits C h s) in
+    let before = trees_by (plain (certified.ClosesPart I C.cost)) (proving I C.cost) (judge_proves false I C.cost) s.tree (whole root) (stopped_closed_before I known content commits C h s) in
     record {
       same_size = s.closes.same_size;
       cost = subst (λ (b : Best). cost_of I b.permutation ≡ b.cost) same h.costs;
@@ -223,7 +220,7 @@ mutual
   shown_above I d open_node t p i placed valid h =
       subst (λ (n : Node). All (IsHigh d) (shown I (node_at p) n)) (sym h.1) (All-cons (IsHigh d) _ [] (inr (least_duals_above I (node_at p) h.0.u h.0.v i placed h.2)) (All-nil (IsHigh d)))
   shown_above I d (closed_node u v) t p i placed valid h =
-      subst (λ (n : Node). All (IsHigh d) (shown I (node_at p) n)) (sym h) (All-cons (IsHigh d) _ [] (inl valid.enough) (All-nil (IsHigh d)))
+      subst (λ (n : Node). All (IsHigh d) (shown I (node_at p) n)) (sym h) (All-cons (IsHigh d) _ [] (inl valid.closes.enough) (All-nil (IsHigh d)))
   shown_above I d cut_node t p i placed valid h = subst (λ (n : Node). All (IsHigh d) (shown I (node_at p) n)) (sym h) (All-nil (IsHigh d))
   shown_above I d (mirrored_node j m) t p i placed valid h = subst (λ (n : Node). All (IsHigh d) (shown I (node_at p) n)) (sym h) (All-nil (IsHigh d))
   shown_above I d (split_node s children) t p i placed valid h =
@@ -263,11 +260,11 @@ stopped_not_refused I known content commits i h none =
       cost = limited;
       permutation = record { bijection = h.permutes.bijection; positive = omega arith; small = omega arith };
       same_size = same;
-      tree = trees_by (plain (certified.Closes I h.cost)) (plain HasDuals) (plain_by (certified.Closes I h.cost) HasDuals (λ x u v closes. closes.duals)) h.tree (whole root) h.valid;
+      tree = trees_by (plain (certified.ClosesPart I h.cost)) (plain HasDuals) (plain_by (certified.ClosesPart I h.cost) HasDuals (λ x u v closes. closes.duals)) h.tree (whole root) h.valid;
       taken_apart = h.taken_apart;
     } in
     let low = none h.cost h.permutation h.tree unfinished in
     low.too_low
     (bound_limited h.cost (shown I root low.tree) low.bound limited
     (shown_above I h.cost h.tree low.tree (whole root) i (root_placement I.size i.positive i.small)
-    (trees_by (plain (certified.Closes I h.cost)) (proving I h.cost) (judge_proves false I h.cost) h.tree (whole root) h.valid) low.closed) low.least)
+    (trees_by (plain (certified.ClosesPart I h.cost)) (proving I h.cost) (judge_proves false I h.cost) h.tree (whole root) h.valid) low.closed) low.least)

@@ -5,7 +5,7 @@ use Rattle.qap_cost.specs.Matrix.{Square, DualsFit}
 use Rattle.qap_cost.specs.Placement.{Placement, IsPlacement}
 use Rattle.qap_cost.specs.Range.{AllLimited, AllWithin}
 use Rattle.gilmore_lawler.specs.ReducedMatrix.{IsReduced}
-use Rattle.qap_cert.specs.Shape.{AreDuals}
+use Rattle.gilmore_lawler.specs.Closing.{AreDuals}
 use Rattle.qap_search.proofs.Certificates.{free_facility_count}
 
 pub within_more : (m n : ℕ) (xs : List ℤ) → m ≤ n → AllWithin m xs → AllWithin n xs

@@ -4,7 +4,7 @@ use Rattle.qap_cost.specs.Instance.{Problem}
 use Rattle.qap_cost.specs.Matrix.{Square, Assigns, DualsFit, IsMatrix, assignment_cost, dual_value}
 use Rattle.qap_cost.specs.Placement.{Placement}
 use Rattle.gilmore_lawler.specs.ReducedMatrix.{IsReduced}
-use Rattle.qap_cert.specs.Shape.{AreDuals}
+use Rattle.gilmore_lawler.specs.Closing.{AreDuals}
 use Rattle.qap_proof.specs.Tree.{Pair, Split, Node, closed, split, cut, mirrored, Nodes, no_nodes, node, child_of, pair}
 use Rattle.qap_search.specs.SearchTree.{SearchTree, open_node, split_node, closed_node, cut_node, mirrored_node, SearchTrees, no_trees, tree}
 

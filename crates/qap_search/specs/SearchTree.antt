@@ -5,10 +5,11 @@ use Rattle.qap_cost.specs.Bijection.{IsPerm}
 use Rattle.qap_cost.specs.Instance.{Problem}
 use Rattle.qap_cost.specs.Placement.{Placement}
 use Rattle.qap_cert.specs.Tree as cert
-use Rattle.qap_cert.specs.Valid.{Closes}
-use Rattle.qap_proof.specs.Shape.{AreDuals, free_count, has_duals}
+use Rattle.qap_cert.specs.Valid.{ClosesPart}
+use Rattle.gilmore_lawler.specs.Closing.{AreDuals, Fits}
+use Rattle.qap_proof.specs.Shape.{free_count, has_duals}
 use Rattle.qap_proof.specs.Tree.{Pair, pair, Split, Node, closed, split, cut, mirrored, Nodes, no_nodes, node, IsFreeOn, Place, whole, child, node_at}
-use Rattle.qap_proof.specs.Valid.{Fits, IsCut, TakesOn}
+use Rattle.qap_proof.specs.Valid.{IsCut, TakesOn}
 use Rattle.qap_proof.specs.declared.side.Side.TheVariants.{Facility}
 
 -- a node that is open; a split, with a child for each free one of the other side, ascending; a node that duals close; a child that
@@ -68,8 +69,8 @@ IsReadableSplit s = IsPlain s ⊎ (has_duals s.duals ≡ true)
 pub record HasFit (I : Problem) (x : Placement) (s : Split) : Type 0 where
   pub pair : Pair
   pub has : s.duals ≡ Some pair
-  pub duals : AreDuals (free_count x) pair
-  pub fits : Fits I x pair
+  pub duals : AreDuals (free_count x) pair.u pair.v
+  pub fits : Fits I x pair.u pair.v
 
 -- trees whose splits are plain, and in which no child is cut or mirrored; closed nodes are to show this
 abbrev pub plain : (Placement → List ℤ → List ℤ → Type 0) → Judge
@@ -78,7 +79,7 @@ plain P = record { closes = P; splits = λ x s. IsPlain s; cuts = λ x s c. ⊥;
 -- trees that show of each part that no permutation there costs less than g, by what proofs may say
 abbrev pub proving : Problem → ℤ → Judge
 proving I g = record {
-  closes = Closes I g;
+  closes = ClosesPart I g;
   splits = λ x s. IsPlain s ⊎ HasFit I x s;
   cuts = IsCut I g;
   mirrors = λ x s c j m. (j < c) × TakesOn s.side I x j c m;
@@ -97,7 +98,7 @@ readable = record {
 -- the trees of a search that cuts children off, or of one that doesn't, whose parts hold nothing that costs less than g
 abbrev pub judge_of : Bool → Problem → ℤ → Judge
 judge_of true I g = proving I g
-judge_of false I g = plain (Closes I g)
+judge_of false I g = plain (ClosesPart I g)
 
 abbrev mutual
   -- how many nodes of the tree are split or closed

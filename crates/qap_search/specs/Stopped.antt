@@ -5,9 +5,9 @@ use Rattle.qap_cost.specs.Instance.{Problem}
 use Rattle.qap_cost.specs.Placement.{Placement, root_of}
 use Rattle.qap_cost.specs.Range.{IsLimited}
 use Rattle.qap_cert.specs.Certificate.{Claim, Certifies, IsCertificate}
-use Rattle.qap_cert.specs.Shape.{AreDuals}
+use Rattle.gilmore_lawler.specs.Closing.{AreDuals}
 use Rattle.qap_cert.specs.Tree.{node_count}
-use Rattle.qap_cert.specs.Valid.{Closes}
+use Rattle.qap_cert.specs.Valid.{ClosesPart}
 use Rattle.qap_proof.specs.Tree.{Node, whole}
 use Rattle.space_txn.specs.Content.{SameItems}
 use Rattle.tuple_match.specs.FieldValue.{FieldValue}
@@ -68,7 +68,7 @@ pub record CertifiesStopped (I : Problem) (nodes : ℕ) (C : Claim) : Type 0 whe
   pub certified : Certifies I C
   pub tree : SearchTree
   pub closes : IsClosedTo I tree C
-  pub closed_before : IsTree (plain (Closes I C.cost)) (whole (root_of I.size)) tree
+  pub closed_before : IsTree (plain (ClosesPart I C.cost)) (whole (root_of I.size)) tree
   pub decided : decided_count tree ≡ nodes
   pub left : 0 < undecided_count tree
   pub counted : node_count C.tree ≡ nodes + undecided_count tree

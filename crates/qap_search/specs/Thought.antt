@@ -7,7 +7,7 @@ use Rattle.qap_cost.specs.Matrix.{Square, Assigns, DualsFit, IsMatrix, assignmen
 use Rattle.qap_cost.specs.Objective.{Permutes, cost_of}
 use Rattle.qap_cost.specs.Placement.{Placement, fixed_cost_of}
 use Rattle.gilmore_lawler.specs.ReducedMatrix.{IsReduced}
-use Rattle.qap_cert.specs.Shape.{AreDuals}
+use Rattle.gilmore_lawler.specs.Closing.{AreDuals}
 use Rattle.qap_proof.specs.Shape.{free_count}
 use Rattle.qap_proof.specs.Tree.{Pair, pair, IsFreeOn, facility_on, location_on}
 use Rattle.qap_proof.specs.Valid.{Reaches, TakesOn}

@@ -7,7 +7,7 @@ ghost use Rattle.qap_cert.specs.Acceptance.{IsRefused, ShowsVerdict};
 ghost use Rattle.qap_cert.specs.Certificate.{Claim, Certifies};
 ghost use Rattle.qap_cert.specs.Text.{certificate_text};
 ghost use Rattle.qap_cert.specs.Tree.{node_count};
-ghost use Rattle.qap_cert.specs.Valid.{Closes};
+ghost use Rattle.qap_cert.specs.Valid.{ClosesPart};
 ghost use Rattle.qap_cert.specs.declared.acceptance.Verdict.{Verdict};
 ghost use Rattle.qap_cert.specs.declared.acceptance.Verdict.TheVariants.{Optimal};
 ghost use Rattle.qap_cert.specs.declared.error.CertError.{CertError};
@@ -100,7 +100,7 @@ pub fn stopped_law()
     ensures no_dearer { (I : Problem) (known : Best) (content : List (List FieldValue)) (commits : ℕ) (C : Claim) →
         IsCutTree (from_root I known) content commits → IsStopped I content C → C.cost ≤ℤ known.cost }
     ensures closed_before { (I : Problem) (known : Best) (content : List (List FieldValue)) (commits : ℕ) (C : Claim) →
-        IsCutTree (from_root I known) content commits → (s : IsStopped I content C) → IsTree (plain (Closes I C.cost)) (whole (root_of I.size)) s.tree }
+        IsCutTree (from_root I known) content commits → (s : IsStopped I content C) → IsTree (plain (ClosesPart I C.cost)) (whole (root_of I.size)) s.tree }
     ensures counted { (I : Problem) (known : Best) (content : List (List FieldValue)) (commits : ℕ) (C : Claim) →
         IsCutTree (from_root I known) content commits → (s : IsStopped I content C) →
         (decided_count s.tree ≡ commits) × (undecided_count s.tree ≡ open_count content)

@@ -5,8 +5,9 @@ ghost use Rattle.qap_cost.specs.Matrix.{dual_value};
 ghost use Rattle.qap_cost.specs.Placement.{fixed_cost_of};
 ghost use Rattle.qap_proof.specs.Cover.{IsLeastOf};
 ghost use Rattle.qap_proof.specs.Memory.{node_of, nodes_of};
-ghost use Rattle.qap_proof.specs.NodeLine.{pair_of, split_of};
-ghost use Rattle.qap_proof.specs.Shape.{AllHaveShape, AreDuals, HasShape, free_count};
+ghost use Rattle.qap_proof.specs.NodeLine.{split_of};
+ghost use Rattle.gilmore_lawler.specs.Closing.{AreDuals};
+ghost use Rattle.qap_proof.specs.Shape.{AllHaveShape, HasShape, free_count};
 ghost use Rattle.qap_proof.specs.Tree.{IsFreeOn, Place, node_at};
 ghost use Rattle.qap_search.specs.LeafBounds.{shown, shown_by_all};
 ghost use Rattle.qap_search.specs.SearchTree.{AreTrees, IsTree, of_proof, of_proofs, readable};
@@ -72,7 +73,7 @@ fn least_shown_by_all(
 /// sum of the duals.
 fn least_with(instance: &Instance, node: &Partial, duals: &Duals, least: i128) -> i128
     requires same_size { instance.now.size ≡ node.now.size }
-    ensures { AreDuals (free_count node.now) (pair_of duals.now) →
+    ensures { AreDuals (free_count node.now) duals.now.u.items duals.now.v.items →
         IsLeastOf (least ∷ (fixed_cost_of instance.now node.now +ℤ dual_value duals.now.u.items duals.now.v.items) ∷ []) result }
 {
     if !are_duals(duals, node.size() - node.depth()) {
@@ -84,7 +85,7 @@ fn least_with(instance: &Instance, node: &Partial, duals: &Duals, least: i128) -
 
 /// Whether there are so many duals on either side, all within -10^24 to 10^24.
 fn are_duals(duals: &Duals, count: usize) -> bool
-    ensures { IsTrue result ↔ AreDuals count (pair_of duals.now) }
+    ensures { IsTrue result ↔ AreDuals count duals.now.u.items duals.now.v.items }
 {
     duals.u.len() == count
         && duals.v.len() == count

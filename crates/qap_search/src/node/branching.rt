@@ -7,7 +7,8 @@ ghost use Rattle.qap_cost.specs.Placement.{IsPlacement, Placement};
 ghost use Rattle.qap_cost.specs.Range.{AllLimited, AllWithin};
 ghost use Rattle.gilmore_lawler.specs.ReducedMatrix.{IsReduced};
 ghost use Rattle.qap_proof.specs.NodeLine.{pair_of};
-ghost use Rattle.qap_proof.specs.Shape.{AreDuals, free_count};
+ghost use Rattle.gilmore_lawler.specs.Closing.{AreDuals};
+ghost use Rattle.qap_proof.specs.Shape.{free_count};
 ghost use Rattle.qap_proof.specs.Tree.{IsFreeOn, Pair};
 ghost use Rattle.qap_search.specs.Completion.{IsFreeOf, IsMatching};
 ghost use Rattle.qap_search.specs.Hand.{cuts};
@@ -94,7 +95,7 @@ pub(crate) fn branch_of(
     requires bounded { AllWithin (512 * 10 ^ 18) matrix.now.entries }
     requires matching { IsMatching node.now matching.now }
     requires size { matrix.now.size ≡ length matching.now }
-    requires duals { AreDuals (free_count node.now) (pair_of duals.now) }
+    requires duals { AreDuals (free_count node.now) duals.now.u.items duals.now.v.items }
     requires fits { DualsFit matrix.now duals.now.u.items duals.now.v.items }
     requires symmetries { IfSome symmetries (λ s. AreSymmetries instance.now s.now) }
     ensures { IfOk result (λ branch. MatchOption branch (length node.now.facilities ≡ node.now.size)
@@ -153,7 +154,7 @@ fn widest_branch(
     requires some { 0 < matrix.now.size }
     requires reduced { IsReduced instance.now node.now matrix.now }
     requires bounded { AllWithin (512 * 10 ^ 18) matrix.now.entries }
-    requires duals { AreDuals (free_count node.now) (pair_of duals.now) }
+    requires duals { AreDuals (free_count node.now) duals.now.u.items duals.now.v.items }
     requires fits { DualsFit matrix.now duals.now.u.items duals.now.v.items }
     requires symmetries { IfSome symmetries (λ s. AreSymmetries instance.now s.now) }
     ensures { IfOk result (λ b. IsBranch true instance.now node.now (pair_of duals.now) (branch_value b)) }

@@ -5,8 +5,8 @@ use Rattle.std.proofs.lemmas.Int.{ints}
 use Rattle.qap_cost.specs.Instance.{Problem}
 use Rattle.qap_cost.specs.Matrix.{dual_value}
 use Rattle.qap_cost.specs.Placement.{fixed_cost_of}
-use Rattle.qap_cert.specs.Valid.{Fits}
-use Rattle.qap_cert.proofs.Bounds.{Fits-reduced}
+use Rattle.gilmore_lawler.specs.Closing.{Fits}
+use Rattle.gilmore_lawler.proofs.Closing.{Fits-reduced}
 use Rattle.qap_cert.proofs.checking.check_bound.Goals as goal
 
 pub returns-then-not-fit : goal.returns-then-not-fit
@@ -41,6 +41,8 @@ returns c =
     let duals = c.dual_sum.ensures in
     record {
       duals = c.requires.duals;
-      fits = record { matrix = c.in_ok-fit.ensures.matrix; square = c.in_ok-fit.ensures.square; reduced = c.in_ok-fit.ensures.reduced; fits = c.in_ok-fit.ensures.tells.0 c.if-not-fit.false };
-      enough = omega (arith, ints, value, fixed.bounded, duals.value, duals.bounded, c.ranges.bound, c.if-reached-bound.false);
+      closes = record {
+        fits = record { matrix = c.in_ok-fit.ensures.matrix; square = c.in_ok-fit.ensures.square; reduced = c.in_ok-fit.ensures.reduced; fits = c.in_ok-fit.ensures.tells.0 c.if-not-fit.false };
+        enough = omega (arith, ints, value, fixed.bounded, duals.value, duals.bounded, c.ranges.bound, c.if-reached-bound.false);
+      };
     }

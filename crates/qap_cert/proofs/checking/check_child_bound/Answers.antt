@@ -5,8 +5,8 @@ use Rattle.std.proofs.lemmas.Int.{ints}
 use Rattle.qap_cost.specs.Instance.{Problem}
 use Rattle.qap_cost.specs.Matrix.{dual_value}
 use Rattle.qap_cost.specs.Placement.{fixed_cost_of, placing}
-use Rattle.qap_cert.specs.Valid.{Fits}
-use Rattle.qap_cert.proofs.Bounds.{Fits-reduced}
+use Rattle.gilmore_lawler.specs.Closing.{Fits}
+use Rattle.gilmore_lawler.proofs.Closing.{Fits-reduced}
 use Rattle.qap_cert.proofs.checking.check_child_bound.Goals as goal
 
 pub returns-then-not-fits : goal.returns-then-not-fits
@@ -42,6 +42,8 @@ returns c =
     let duals = c.dual_sum.ensures in
     record {
       duals = c.requires.duals;
-      fits = record { matrix = c.in_ok-fits.ensures.matrix; square = c.in_ok-fits.ensures.square; reduced = c.in_ok-fits.ensures.reduced; fits = c.in_ok-fits.ensures.tells.0 c.if-not-fits.false };
-      enough = omega (arith, ints, fixed.value, fixed.bounded, duals.value, duals.bounded, c.ranges.bound, c.if-least-bound.false);
+      closes = record {
+        fits = record { matrix = c.in_ok-fits.ensures.matrix; square = c.in_ok-fits.ensures.square; reduced = c.in_ok-fits.ensures.reduced; fits = c.in_ok-fits.ensures.tells.0 c.if-not-fits.false };
+        enough = omega (arith, ints, fixed.value, fixed.bounded, duals.value, duals.bounded, c.ranges.bound, c.if-least-bound.false);
+      };
     }

@@ -12,7 +12,7 @@ use Rattle.qap_cert.proofs.Versions.{AllLimited-split_numbers}
 use Rattle.qap_cert.proofs.Walks.{map_result, split_of, BeginsWithTree-bound, BeginsWithTree-split, BeginsWithTrees-none, BeginsWithTrees-more, joined, BeginsWithTrees-joined, IsFaultBefore-joined, IsFaultAmong-before}
 use Rattle.qap_cert.specs.Fault.{IsTreeFault, IsTreeFaultAmong}
 use Rattle.qap_lines.specs.Line.{line_after}
-use Rattle.qap_cert.specs.Shape.{AreDuals}
+use Rattle.gilmore_lawler.specs.Closing.{AreDuals}
 use Rattle.qap_lines.specs.LineText.{line_text}
 use Rattle.qap_cert.specs.TextFault.{IsLineFault, IsNodeFault, IsTreeTextFault}
 use Rattle.qap_cert.specs.Tree.{Node, bound, split, Nodes}

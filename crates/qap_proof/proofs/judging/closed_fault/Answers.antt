@@ -5,7 +5,7 @@ use Rattle.std.specs.Prelude.{ℤ}
 use Rattle.qap_cost.specs.Instance.{Problem}
 use Rattle.qap_cost.specs.Matrix.{dual_value}
 use Rattle.qap_cost.specs.Placement.{fixed_cost_of}
-use Rattle.qap_proof.proofs.Bounds.{Fits-told}
+use Rattle.gilmore_lawler.proofs.Closing.{Fits-told}
 use Rattle.qap_proof.specs.NodeLine.{pair_of}
 use Rattle.qap_proof.proofs.judging.closed_fault.Goals as goal
 
@@ -20,6 +20,6 @@ returns-clause-judged c =
     let lent : dual_value c.deref-3.result.now c.deref-4.result.now ≡ dual_value d.u d.v = ap₂ (λ (u : List ℤ) (v : List ℤ). dual_value u v) c.deref-3.ensures.value c.deref-4.ensures.value in
     let bound_is : to_z w128 (of_z w128 c.args.bound) ≡ c.args.bound = search rules in
     record {
-      fits = Fits-told I x d c.deref.result.now c.deref-2.result.now c.in_ok-fits.field-0 c.deref.ensures.value c.deref-2.ensures.value c.in_ok-fits.ensures.fit c.if-not-branch.false;
+      fits = Fits-told I x d.u d.v c.deref.result.now c.deref-2.result.now c.in_ok-fits.field-0 c.deref.ensures.value c.deref-2.ensures.value c.in_ok-fits.ensures.fit c.if-not-branch.false;
       enough = omega (arith, ints, fixed.value, fixed.bounded, duals.value, duals.bounded, here, lent, bound_is, c.if-reached-bound.false);
     }

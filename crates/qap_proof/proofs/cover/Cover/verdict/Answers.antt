@@ -4,7 +4,8 @@ use Rattle.qap_cost.specs.Placement.{Placement}
 use Rattle.qap_lines.proofs.Numerals.{reads_wide}
 use Rattle.qap_proof.proofs.CoverLaws.{IsBoundFor-least, IsSoOf-verdict}
 use Rattle.qap_proof.specs.Acceptance.{IsVerdictOf}
-use Rattle.qap_proof.specs.Claim.{claim_of, IsBoundFor}
+use Rattle.qap_lines.specs.Bound.{IsBoundFor}
+use Rattle.qap_proof.specs.Claim.{claim_of}
 use Rattle.qap_proof.specs.Cover.{CoverValue, IsCovering}
 use Rattle.qap_proof.proofs.cover.Cover.verdict.Goals as goal
 
