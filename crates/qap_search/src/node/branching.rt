@@ -27,6 +27,28 @@ pub(crate) struct Free<'a> {
     pub(crate) locations: &'a [u16],
 }
 
+/// A node with its reduced matrix, and the duals of a least assignment of that.
+#[derive(Drop)]
+pub(crate) struct Assigned<'a> {
+    pub(crate) instance: &'a Instance,
+    pub(crate) node: &'a Partial,
+    pub(crate) free: Free<'a>,
+    pub(crate) matrix: &'a Matrix,
+    pub(crate) duals: &'a Duals,
+    /// What the placed facilities cost among themselves, and the sum of the duals.
+    pub(crate) value: i128,
+}
+
+/// By what the branch of a node is chosen.
+#[derive(Drop)]
+pub(crate) struct Guide<'a> {
+    pub(crate) branching: Branching,
+    /// By these alone are children images of earlier ones.
+    pub(crate) symmetries: Option<&'a InstanceSymmetries>,
+    /// The best cost that is known, if one is: how far it is above a node's bound is what an entry counts at most.
+    pub(crate) best: Option<i128>,
+}
+
 /// By which rule a node is split.
 #[derive(Clone, Copy, PartialEq, Eq, Debug)]
 pub enum Branching {
@@ -74,51 +96,44 @@ impl Branch {
     }
 }
 
-/// The branch of a node by this rule, from its reduced matrix and a least assignment of that with its duals; of equal facilities and
-/// locations the first, facilities before locations. `gap` is how far the best known cost is above the node's bound, `None` where
-/// no cost is known. `None` where nothing is free.
+/// The branch of a node, from a least assignment with its duals; of equal facilities and locations the first, facilities before
+/// locations. `None` where nothing is free.
 pub(crate) fn branch_of(
     alloc: Global,
-    branching: Branching,
-    symmetries: Option<&InstanceSymmetries>,
-    instance: &Instance,
-    node: &Partial,
-    free: &Free<'_>,
-    matrix: &Matrix,
+    guide: &Guide<'_>,
+    assigned: &Assigned<'_>,
     matching: &[u16],
-    duals: &Duals,
-    gap: Option<i128>,
 ) -> Result<Option<Branch>, AllocError>
-    requires same_size { instance.now.size ≡ node.now.size }
-    requires free { IsFreeOf node.now free.now }
-    requires reduced { IsReduced instance.now node.now matrix.now }
-    requires bounded { AllWithin (512 * 10 ^ 18) matrix.now.entries }
-    requires matching { IsMatching node.now matching.now }
-    requires size { matrix.now.size ≡ length matching.now }
-    requires duals { AreDuals (free_count node.now) duals.now.u.items duals.now.v.items }
-    requires fits { DualsFit matrix.now duals.now.u.items duals.now.v.items }
-    requires symmetries { IfSome symmetries (λ s. AreSymmetries instance.now s.now) }
-    ensures { IfOk result (λ branch. MatchOption branch (length node.now.facilities ≡ node.now.size)
-        (λ b. IsBranch (cuts branching) instance.now node.now (pair_of duals.now) (branch_value b))) }
+    requires same_size { assigned.now.instance.now.size ≡ assigned.now.node.now.size }
+    requires free { IsFreeOf assigned.now.node.now assigned.now.free }
+    requires reduced { IsReduced assigned.now.instance.now assigned.now.node.now assigned.now.matrix.now }
+    requires bounded { AllWithin (512 * 10 ^ 18) assigned.now.matrix.now.entries }
+    requires matching { IsMatching assigned.now.node.now matching.now }
+    requires size { assigned.now.matrix.now.size ≡ length matching.now }
+    requires duals { AreDuals (free_count assigned.now.node.now) assigned.now.duals.now.u.items assigned.now.duals.now.v.items }
+    requires fits { DualsFit assigned.now.matrix.now assigned.now.duals.now.u.items assigned.now.duals.now.v.items }
+    requires symmetries { IfSome guide.now.symmetries (λ s. AreSymmetries assigned.now.instance.now s.now) }
+    ensures { IfOk result (λ branch. MatchOption branch (length assigned.now.node.now.facilities ≡ assigned.now.node.now.size)
+        (λ b. IsBranch (cuts guide.now.branching) assigned.now.instance.now assigned.now.node.now (pair_of assigned.now.duals.now) (branch_value b))) }
 {
     // Its clause says that this is a node.
-    let _size = node.size();
+    let _size = assigned.node.size();
+    let (matrix, free) = (assigned.matrix, &assigned.free);
     if matrix.size() == 0 {
         return Ok(None);
     }
-    let Duals { u, v } = duals;
-    let branch = match branching {
+    let Duals { u, v } = assigned.duals;
+    let gap = guide.best.map(|best| best.saturating_sub(assigned.value));
+    let branch = match guide.branching {
         Branching::GreatestMatched => {
             let row = greatest_row(matching, u, v);
             on_facility(alloc, free, row, Vec::new(alloc))
         }
         Branching::GreatestSum => {
-            let row = widest(matrix, u, v, Side::Facility, gap, &[]);
+            let row = widest_lines(alloc, assigned, gap, &[], &[])?.row;
             on_facility(alloc, free, row, reduced_row(alloc, matrix, u, v, row)?)
         }
-        Branching::Cutting => widest_branch(
-            alloc, symmetries, instance, node, free, matrix, duals, gap,
-        )?,
+        Branching::Cutting => widest_branch(alloc, guide.symmetries, assigned, gap)?,
     };
     Ok(Some(branch))
 }
@@ -142,29 +157,27 @@ fn on_facility(alloc: Global, free: &Free<'_>, row: usize, entries: Vec<i128>) -
 fn widest_branch(
     alloc: Global,
     symmetries: Option<&InstanceSymmetries>,
-    instance: &Instance,
-    node: &Partial,
-    free: &Free<'_>,
-    matrix: &Matrix,
-    duals: &Duals,
+    assigned: &Assigned<'_>,
     gap: Option<i128>,
 ) -> Result<Branch, AllocError>
-    requires same_size { instance.now.size ≡ node.now.size }
-    requires free { IsFreeOf node.now free.now }
-    requires some { 0 < matrix.now.size }
-    requires reduced { IsReduced instance.now node.now matrix.now }
-    requires bounded { AllWithin (512 * 10 ^ 18) matrix.now.entries }
-    requires duals { AreDuals (free_count node.now) duals.now.u.items duals.now.v.items }
-    requires fits { DualsFit matrix.now duals.now.u.items duals.now.v.items }
-    requires symmetries { IfSome symmetries (λ s. AreSymmetries instance.now s.now) }
-    ensures { IfOk result (λ b. IsBranch true instance.now node.now (pair_of duals.now) (branch_value b)) }
+    requires same_size { assigned.now.instance.now.size ≡ assigned.now.node.now.size }
+    requires free { IsFreeOf assigned.now.node.now assigned.now.free }
+    requires some { 0 < assigned.now.matrix.now.size }
+    requires reduced { IsReduced assigned.now.instance.now assigned.now.node.now assigned.now.matrix.now }
+    requires bounded { AllWithin (512 * 10 ^ 18) assigned.now.matrix.now.entries }
+    requires duals { AreDuals (free_count assigned.now.node.now) assigned.now.duals.now.u.items assigned.now.duals.now.v.items }
+    requires fits { DualsFit assigned.now.matrix.now assigned.now.duals.now.u.items assigned.now.duals.now.v.items }
+    requires symmetries { IfSome symmetries (λ s. AreSymmetries assigned.now.instance.now s.now) }
+    ensures { IfOk result (λ b. IsBranch true assigned.now.instance.now assigned.now.node.now (pair_of assigned.now.duals.now) (branch_value b)) }
 {
+    let (instance, node, free) = (assigned.instance, assigned.node, &assigned.free);
+    let (matrix, duals) = (assigned.matrix, assigned.duals);
     // Its clause says that this is a node.
     let _size = node.size();
     let of_facilities = images_on(alloc, symmetries, instance, node, free, Side::Facility)?;
     let of_locations = images_on(alloc, symmetries, instance, node, free, Side::Location)?;
-    let (u, v) = (&duals.u, &duals.v);
-    let (side, number) = widest_line(free, matrix, u, v, gap, &of_facilities, &of_locations);
+    let widest = widest_lines(alloc, assigned, gap, &of_facilities, &of_locations)?;
+    let (side, number) = wider(&widest, free);
     let reached = child_values(alloc, instance, matrix, node, side, number, duals)?;
     let images = match side {
         Side::Facility => of_facilities,
@@ -177,35 +190,6 @@ fn widest_branch(
         images,
         entries: Vec::new(alloc),
     })
-}
-
-/// The free facility or location whose reduced entries have the greatest sum, each counted at most up to the gap, and those of images
-/// as the gap, where these are the images among the children of splits on a facility and on a location.
-fn widest_line(
-    free: &Free<'_>,
-    matrix: &Matrix,
-    u: &[i128],
-    v: &[i128],
-    gap: Option<i128>,
-    of_facilities: &[Option<Image>],
-    of_locations: &[Option<Image>],
-) -> (Side, u16)
-    requires some { 0 < matrix.now.size }
-    requires rows { matrix.now.size ≡ length free.now.facilities.now }
-    requires columns { matrix.now.size ≡ length free.now.locations.now }
-    requires u_count { length u.now ≡ matrix.now.size }
-    requires v_count { length v.now ≡ matrix.now.size }
-    ensures { (x : Placement) → IsPlacement x → IsFreeOf x free.now → IsFreeOn result.0 x result.1 }
-{
-    let row = widest(matrix, u, v, Side::Facility, gap, of_facilities);
-    let column = widest(matrix, u, v, Side::Location, gap, of_locations);
-    let row_width = width_of(matrix, u, v, Side::Facility, row, gap, of_facilities);
-    let column_width = width_of(matrix, u, v, Side::Location, column, gap, of_locations);
-    if column_width > row_width {
-        (Side::Location, free.locations[column])
-    } else {
-        (Side::Facility, free.facilities[row])
-    }
 }
 
 /// The row whose matched entry is greatest; of equal ones the first.
@@ -228,57 +212,84 @@ fn greatest_row(matching: &[u16], u: &[i128], v: &[i128]) -> usize
     row
 }
 
-/// The row, or the column where the side is that of locations, whose reduced entries have the greatest sum, each counted at most up to
-/// the gap, and those of images as the gap; of equal ones the first.
-fn widest(
-    matrix: &Matrix,
-    u: &[i128],
-    v: &[i128],
-    side: Side,
-    gap: Option<i128>,
-    images: &[Option<Image>],
-) -> usize
-    requires some { 0 < matrix.now.size }
-    requires u_count { length u.now ≡ matrix.now.size }
-    requires v_count { length v.now ≡ matrix.now.size }
-    ensures { result < matrix.now.size }
-{
-    let mut widest = 0;
-    let mut greatest = width_of(matrix, u, v, side, 0, gap, images);
-    for line in 1..matrix.size() {
-        let width = width_of(matrix, u, v, side, line, gap, images);
-        if width > greatest {
-            widest = line;
-            greatest = width;
-        }
-    }
-    widest
+/// The row and the column whose reduced entries have the greatest sum, of equal ones the first, and that sum.
+#[derive(Drop)]
+struct Widest {
+    row: usize,
+    row_width: i128,
+    column: usize,
+    column_width: i128,
 }
 
-/// The sum of the reduced entries of a row or a column, each counted at most up to the gap, and those of images as the gap.
-fn width_of(
-    matrix: &Matrix,
-    u: &[i128],
-    v: &[i128],
-    side: Side,
-    line: usize,
+/// The widest row and column, where each entry is counted at most up to the gap, and those of images as the gap: these are the images
+/// among the children of splits on a facility and on a location.
+fn widest_lines(
+    alloc: Global,
+    assigned: &Assigned<'_>,
     gap: Option<i128>,
-    images: &[Option<Image>],
-) -> i128
-    requires line { line < matrix.now.size }
-    requires u_count { length u.now ≡ matrix.now.size }
-    requires v_count { length v.now ≡ matrix.now.size }
+    of_facilities: &[Option<Image>],
+    of_locations: &[Option<Image>],
+) -> Result<Widest, AllocError>
+    requires some { 0 < assigned.now.matrix.now.size }
+    requires u_count { length assigned.now.duals.now.u.items ≡ assigned.now.matrix.now.size }
+    requires v_count { length assigned.now.duals.now.v.items ≡ assigned.now.matrix.now.size }
+    ensures row { IfOk result (λ widest. widest.row < assigned.now.matrix.now.size) }
+    ensures column { IfOk result (λ widest. widest.column < assigned.now.matrix.now.size) }
 {
-    let mut sum = 0i128;
-    for other in 0..matrix.size() {
-        let entry = match side {
-            Side::Facility => reduced_entry(matrix, u, v, line, other),
-            Side::Location => reduced_entry(matrix, u, v, other, line),
-        };
-        let counted = counted(entry, gap, image_at(images, other).is_some());
-        sum = sum.wrapping_add(counted);
+    let (matrix, u, v) = (assigned.matrix, &assigned.duals.u, &assigned.duals.v);
+    let size = matrix.size();
+    let mut columns = vec![in alloc; 0i128; size]?;
+    let mut row = 0;
+    let mut row_width = i128::MIN;
+    for facility in 0..size {
+        let is_image = image_at(of_locations, facility).is_some();
+        let mut width = 0i128;
+        for location in 0..size {
+            let entry = reduced_entry(matrix, u, v, facility, location);
+            let in_row = counted(entry, gap, image_at(of_facilities, location).is_some());
+            width = width.wrapping_add(in_row);
+            let in_column = counted(entry, gap, is_image);
+            columns[location] = columns[location].wrapping_add(in_column);
+        }
+        if width > row_width {
+            row = facility;
+            row_width = width;
+        }
     }
-    sum
+    let column = first_greatest(&columns);
+    Ok(Widest {
+        row,
+        row_width,
+        column,
+        column_width: columns[column],
+    })
+}
+
+/// The facility of the row or the location of the column, whichever is wider; of equal ones the facility.
+fn wider(widest: &Widest, free: &Free<'_>) -> (Side, u16)
+    requires row { widest.now.row < length free.now.facilities.now }
+    requires column { widest.now.column < length free.now.locations.now }
+    ensures { (x : Placement) → IsPlacement x → IsFreeOf x free.now → IsFreeOn result.0 x result.1 }
+{
+    if widest.column_width > widest.row_width {
+        (Side::Location, free.locations[widest.column])
+    } else {
+        (Side::Facility, free.facilities[widest.row])
+    }
+}
+
+/// Where the greatest number stands, the first of equal ones.
+fn first_greatest(numbers: &[i128]) -> usize
+    requires some { 0 < length numbers.now }
+    ensures { result < length numbers.now }
+{
+    let mut greatest = 0;
+    for at in 1..numbers.len() {
+        if numbers[at] > numbers[greatest] {
+            greatest = at;
+        }
+    }
+    greatest
 }
 
 /// What a reduced entry counts: at most the gap, and just that where the child is the image of another.

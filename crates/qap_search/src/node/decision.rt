@@ -10,7 +10,9 @@ ghost use Rattle.qap_search.specs.Thought.{IsThought, branch_value, candidate_of
 
 use crate::node::branching::Branch;
 use crate::node::thought::Thought;
-use crate::tuples::composing::{pruned_tuples, split_tuples, tuple_of_best, tuple_of_closed};
+use crate::tuples::composing::{
+    DualSplit, pruned_tuples, split_tuples, tuple_of_best, tuple_of_closed,
+};
 use qap_cost::{Partial, Perm};
 use std::alloc::{AllocError, Global};
 use tuple_match::Tuple;
@@ -59,9 +61,13 @@ fn branch_tuples(
     match &branch.reached {
         None => split_tuples(alloc, node, branch.number),
         Some(reached) => {
-            let (side, number) = (branch.side, branch.number);
-            let (u, v, images) = (&thought.u, &thought.v, &branch.images);
-            pruned_tuples(alloc, node, side, number, u, v, reached, images, best)
+            let split = DualSplit {
+                side: branch.side,
+                number: branch.number,
+                u: &thought.u,
+                v: &thought.v,
+            };
+            pruned_tuples(alloc, node, &split, reached, &branch.images, best)
         }
     }
 }

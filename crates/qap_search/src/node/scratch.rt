@@ -7,9 +7,8 @@ ghost use Rattle.qap_search.specs.Hand.{cuts};
 ghost use Rattle.qap_search.specs.Images.{AreSymmetries};
 ghost use Rattle.qap_search.specs.Thought.{IsThought};
 
-use crate::node::branching::{Branching, Free, branch_of};
+use crate::node::branching::{Assigned, Free, Guide, branch_of};
 use crate::node::completion::completed;
-use crate::node::images::InstanceSymmetries;
 use crate::node::thought::Thought;
 use assign_dual::{Assignment, Solver};
 use gilmore_lawler::dual_sum;
@@ -44,23 +43,20 @@ impl Scratch {
         })
     }
 
-    /// What is worked out about the node from its reduced matrix, where it is to be split by this rule, by which children are images by
-    /// these symmetries alone, and where this best cost is known.
+    /// What is worked out about the node from its reduced matrix, with a branch that is chosen so.
     pub(crate) fn thought(
         &mut self,
         alloc: Global,
-        branching: Branching,
-        symmetries: Option<&InstanceSymmetries>,
+        guide: &Guide<'_>,
         instance: &Instance,
         node: &Partial,
         matrix: &Matrix,
-        best: Option<i128>,
     ) -> Result<Thought, AllocError>
         requires same_size { instance.now.size ≡ node.now.size }
         requires reduced { IsReduced instance.now node.now matrix.now }
         requires bounded { AllWithin (512 * 10 ^ 18) matrix.now.entries }
-        requires symmetries { IfSome symmetries (λ s. AreSymmetries instance.now s.now) }
-        ensures { IfOk result (IsThought (cuts branching) instance.now node.now) }
+        requires symmetries { IfSome guide.now.symmetries (λ s. AreSymmetries instance.now s.now) }
+        ensures { IfOk result (IsThought (cuts guide.now.branching) instance.now node.now) }
     {
         let _size = matrix.size();
         let mut answer = replace(&mut self.answer, Assignment::with_room(alloc, 0)?);
@@ -76,11 +72,16 @@ impl Scratch {
         let candidate = completed(node, &free, &matching, &mut self.matched, memory)?;
         let cost = cost(instance, &candidate);
         let value = node.fixed_cost(instance) + dual_sum(&u, &v);
-        let gap = best.map(|best| best.saturating_sub(value));
         let duals = Duals { u, v };
-        let branch = branch_of(
-            alloc, branching, symmetries, instance, node, &free, matrix, &matching, &duals, gap,
-        )?;
+        let assigned = Assigned {
+            instance,
+            node,
+            free,
+            matrix,
+            duals: &duals,
+            value,
+        };
+        let branch = branch_of(alloc, guide, &assigned, &matching)?;
         self.answer.matching = matching;
         let Duals { u, v } = duals;
         Ok(Thought {

@@ -4,7 +4,7 @@ ghost use Rattle.std.specs.Prelude.{◌≡◌, ◌*◌, ◌^◌, IfOk};
 ghost use Rattle.qap_cost.specs.Range.{AllWithin};
 ghost use Rattle.gilmore_lawler.specs.ReducedMatrix.{IsReduced};
 
-use crate::node::branching::{Branch, Branching};
+use crate::node::branching::{Branch, Branching, Guide};
 use crate::node::scratch::Scratch;
 use qap_cost::{Instance, Matrix, Partial, Perm};
 use std::alloc::{AllocError, Global};
@@ -67,6 +67,11 @@ impl Thought {
         requires bounded { AllWithin (512 * 10 ^ 18) matrix.now.entries }
         ensures { IfOk result (IsThought (cuts branching) instance.now node.now) }
     {
-        Scratch::new(alloc)?.thought(alloc, branching, None, instance, node, matrix, best)
+        let guide = Guide {
+            branching,
+            symmetries: None,
+            best,
+        };
+        Scratch::new(alloc)?.thought(alloc, &guide, instance, node, matrix)
     }
 }

@@ -36,30 +36,37 @@ pub(crate) fn split_tuples(
     Ok(tuples)
 }
 
+/// A split with duals: on the facility or the location of this number.
+#[derive(Drop)]
+pub(crate) struct DualSplit<'a> {
+    pub(crate) side: Side,
+    pub(crate) number: u16,
+    pub(crate) u: &'a [i128],
+    pub(crate) v: &'a [i128],
+}
+
 /// The tuples of a node that is split so with these duals, where the best permutation costs so much and the duals come to `reached` at
 /// each child: that of the split, and one for each child at which they come to less, as an image or as an open node, in the order of
 /// the children.
 pub(crate) fn pruned_tuples(
     alloc: Global,
     node: &Partial,
-    side: Side,
-    number: u16,
-    u: &[i128],
-    v: &[i128],
+    split: &DualSplit<'_>,
     reached: &[i128],
     images: &[Option<Image>],
     best: i128,
 ) -> Result<Vec<Tuple>, AllocError>
-    requires u_count { length u.now ≤ 256 }
-    requires v_count { length v.now ≤ 256 }
+    requires u_count { length split.now.u.now ≤ 256 }
+    requires v_count { length split.now.v.now ≤ 256 }
     requires reached { length reached.now ≡ free_count node.now }
-    ensures value { IfOk result (λ t. t.items ≡ pieces node.now (split_node (pruned_split side number u.now v.now) (children_by best images.now 0 reached.now))) }
+    ensures value { IfOk result (λ t. t.items ≡ pieces node.now (split_node (pruned_split split.now.side split.now.number split.now.u.now split.now.v.now) (children_by best images.now 0 reached.now))) }
     ensures placement { IfOk result (λ _. IsPlacement node.now) }
 {
+    let DualSplit { side, number, .. } = *split;
     let others = free_others(node, side)?;
     let cuts = cut_flags(alloc, reached, best)?;
     let mut tuples = Vec::with_capacity(alloc, others.len() + 1)?;
-    tuples.push(tuple_of_pruned(alloc, node, side, number, u, v, cuts)?)?;
+    tuples.push(tuple_of_pruned(alloc, node, split, cuts)?)?;
     for child in 0..reached.len() {
         if reached[child] < best {
             let image = image_at(images, child);
@@ -156,23 +163,20 @@ fn tuple_of_mirrored(
 fn tuple_of_pruned(
     alloc: Global,
     node: &Partial,
-    side: Side,
-    number: u16,
-    u: &[i128],
-    v: &[i128],
+    split: &DualSplit<'_>,
     cuts: Vec<i128>,
 ) -> Result<Tuple, AllocError>
-    requires u_count { length u.now ≤ 256 }
-    requires v_count { length v.now ≤ 256 }
+    requires u_count { length split.now.u.now ≤ 256 }
+    requires v_count { length split.now.v.now ≤ 256 }
     requires cut_count { length cuts.items ≤ 256 }
-    ensures { IfOk result (λ t. t ≡ pruned_tuple node.now (pruned_split side number u.now v.now) (pair u.now v.now) cuts.items) }
+    ensures { IfOk result (λ t. t ≡ pruned_tuple node.now (pruned_split split.now.side split.now.number split.now.u.now split.now.v.now) (pair split.now.u.now split.now.v.now) cuts.items) }
 {
     let name = word_field(alloc, "pruned")?;
     let list = Field::List(node_numbers(alloc, node, 0)?).narrowed();
-    let on = side_field(alloc, side)?;
-    let number = Field::Int(i128::from(number));
-    let u = Field::List(Vec::from_slice(alloc, u)?).narrowed();
-    let v = Field::List(Vec::from_slice(alloc, v)?).narrowed();
+    let on = side_field(alloc, split.side)?;
+    let number = Field::Int(i128::from(split.number));
+    let u = Field::List(Vec::from_slice(alloc, split.u)?).narrowed();
+    let v = Field::List(Vec::from_slice(alloc, split.v)?).narrowed();
     let cuts = Field::List(cuts).narrowed();
     let fields = vec![in alloc; name, list, on, number, u, v, cuts]?;
     shared(alloc, Tuple::new(fields).unwrap())

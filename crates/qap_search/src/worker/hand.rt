@@ -28,7 +28,6 @@ use std::sync::Arc;
 /// room a step.
 #[derive(Drop)]
 pub struct Hand {
-    worker: u16,
     ground: Ground,
     desk: Desk,
     tools: Tools,
@@ -108,6 +107,7 @@ impl Hand {
         let desk = Desk::new(alloc)?;
         let tools = Tools {
             alloc,
+            worker,
             lease_ms,
             branching,
             known,
@@ -115,7 +115,6 @@ impl Hand {
             best: best_template(alloc)?,
         };
         Ok(Hand {
-            worker,
             ground: Ground::new(alloc, instance, symmetries),
             desk,
             tools,
@@ -191,7 +190,6 @@ impl Hand {
         let considered = think_in(
             &self.tools,
             gate,
-            self.worker,
             &mut self.ground,
             &mut self.desk,
             &self.stage,

@@ -68,6 +68,8 @@ impl Desk {
 #[derive(Drop)]
 pub(crate) struct Tools {
     pub(crate) alloc: Global,
+    /// The worker's number.
+    pub(crate) worker: u16,
     /// How many milliseconds its transactions ask for.
     pub(crate) lease_ms: u64,
     /// By which rule nodes are split.

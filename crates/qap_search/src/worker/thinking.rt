@@ -9,6 +9,7 @@ ghost use Rattle.qap_search.specs.Considering.{Considers, HasNoNode, IsNodeAt, I
 ghost use Rattle.qap_search.specs.Hand.{cuts};
 ghost use Rattle.qap_search.specs.declared.worker.stage.Stage.TheVariants.{Taken};
 
+use crate::node::branching::Guide;
 use crate::node::node_list::read_into;
 use crate::node::thought::Thought;
 use crate::tuples::parsing::is_word;
@@ -26,7 +27,6 @@ use tuple_space::EntryId;
 pub(crate) fn think_in<G: Gate>(
     tools: &Tools,
     gate: &G,
-    worker: u16,
     ground: &mut Ground,
     desk: &mut Desk,
     stage: &Stage,
@@ -43,7 +43,7 @@ pub(crate) fn think_in<G: Gate>(
     if !read_taken(size, txn, *id, &mut desk.node)? {
         return Ok(false);
     }
-    think_on(tools, gate, worker, ground, desk, best, last)?;
+    think_on(tools, gate, ground, desk, best, last)?;
     Ok(true)
 }
 
@@ -51,7 +51,6 @@ pub(crate) fn think_in<G: Gate>(
 fn think_on<G: Gate>(
     tools: &Tools,
     gate: &G,
-    worker: u16,
     ground: &mut Ground,
     desk: &mut Desk,
     best: Option<i128>,
@@ -67,15 +66,18 @@ fn think_on<G: Gate>(
         return Ok(());
     }
     ground.reduce_into(&desk.node, &mut desk.matrix)?;
-    gate.thinking(worker);
+    gate.thinking(tools.worker);
+    let guide = Guide {
+        branching: tools.branching,
+        symmetries: ground.symmetries(),
+        best,
+    };
     let thought = desk.scratch.thought(
         tools.alloc,
-        tools.branching,
-        ground.symmetries(),
+        &guide,
         ground.instance(),
         &desk.node,
         &desk.matrix,
-        best,
     )?;
     remember(tools.alloc, desk, thought, last);
     Ok(())

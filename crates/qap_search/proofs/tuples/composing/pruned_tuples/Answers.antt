@@ -14,7 +14,7 @@ use Rattle.qap_search.proofs.tuples.composing.pruned_tuples.Goals as goal
 
 pub tuple_at-requires-clause-inside : goal.tuple_at-requires-clause-inside
 tuple_at-requires-clause-inside c =
-    let all = others_count c.args.side c.args.node.now c.free_others.ensures.placement in
+    let all = others_count c.args.split.now.side c.args.node.now c.free_others.ensures.placement in
     omega (arith, all, ap length c.deref.ensures.value, ap length c.in_ok-others.ensures.value, c.requires.reached, c.loop-child-test.true)
 
 pub loop-child-init : goal.loop-child-init
@@ -23,8 +23,8 @@ loop-child-init c =
     let zs = c.args.reached.now in
     let images = c.args.images.now in
     let best = to_z w128 (of_z w128 c.args.best) in
-    let split = pruned_split c.args.side c.args.number c.args.u.now c.args.v.now in
-    let duals = pair c.args.u.now c.args.v.now in
+    let split = pruned_split c.args.split.now.side c.args.split.now.number c.args.split.now.u.now c.args.split.now.v.now in
+    let duals = pair c.args.split.now.u.now c.args.split.now.v.now in
     let cuts = c.in_ok-cuts.cuts.items in
     let head = c.in_ok-tuple_of_pruned.field-0 in
     let flags : cuts ≡ cut_numbers (children_by best images 0 zs) = c.in_ok-cuts.ensures.list ∙ same_flags best [] images 0 0 zs in
@@ -41,8 +41,8 @@ loop-child-preserved c =
     let n = c.loop-child.child in
     let best = to_z w128 (of_z w128 c.args.best) in
     let same : best ≡ c.args.best = to_z-of_z w128 c.args.best c.ranges.best in
-    let split = pruned_split c.args.side c.args.number c.args.u.now c.args.v.now in
-    let head = pruned_tuple x split (pair c.args.u.now c.args.v.now) (cut_numbers (children_by best images 0 zs)) in
+    let split = pruned_split c.args.split.now.side c.args.split.now.number c.args.split.now.u.now c.args.split.now.v.now in
+    let head = pruned_tuple x split (pair c.args.split.now.u.now c.args.split.now.v.now) (cut_numbers (children_by best images 0 zs)) in
     let below : n < length zs = c.loop-child-test.true in
     elim c.if-reached-child.branch [
       | then-reached-child+in_ok-tuple_at+in_ok-push-2 w ↦
@@ -61,6 +61,6 @@ returns-clause-value c =
     let images = c.args.images.now in
     let best = to_z w128 (of_z w128 c.args.best) in
     let same : best ≡ c.args.best = to_z-of_z w128 c.args.best c.ranges.best in
-    let split = pruned_split c.args.side c.args.number c.args.u.now c.args.v.now in
-    let head = pruned_tuple x split (pair c.args.u.now c.args.v.now) (cut_numbers (children_by best images 0 zs)) in
+    let split = pruned_split c.args.split.now.side c.args.split.now.number c.args.split.now.u.now c.args.split.now.v.now in
+    let head = pruned_tuple x split (pair c.args.split.now.u.now c.args.split.now.v.now) (cut_numbers (children_by best images 0 zs)) in
     rw same at (children_all best x split images zs c.loop-child.child head c.loop-child.tuples.items (let end = c.loop-child-test.false in omega arith) c.loop-child.invariant)

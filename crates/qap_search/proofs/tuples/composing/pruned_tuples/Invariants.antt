@@ -7,5 +7,5 @@ use Rattle.qap_search.proofs.tuples.composing.pruned_tuples.Given as goal
 abbrev pub invariant-loop-child : goal.invariant-loop-child
 invariant-loop-child l =
     l.tuples.items
-    ≡ pruned_tuple l.node (pruned_split l.side l.number l.u l.v) (pair l.u l.v) (cut_numbers (children_by l.best l.images 0 l.reached))
-    ∷ pieces_of_all l.node (pruned_split l.side l.number l.u l.v) 0 (children_by l.best l.images 0 (take l.child l.reached))
+    ≡ pruned_tuple l.node (pruned_split l.split.side l.split.number l.split.u.now l.split.v.now) (pair l.split.u.now l.split.v.now) (cut_numbers (children_by l.best l.images 0 l.reached))
+    ∷ pieces_of_all l.node (pruned_split l.split.side l.split.number l.split.u.now l.split.v.now) 0 (children_by l.best l.images 0 (take l.child l.reached))

@@ -14,7 +14,7 @@ unwrap-requires c =
     let v = ap length c.in_ok-from_slice-2.ensures.items in
     c.new.ensures.accepted.1 (subst IsTuple (sym (ap fields_value is)) (seven_fields _ _ _ _ _ _ _ (subst IsField (sym c.in_ok-name.ensures) name)
     (subst IsField (sym c.narrowed-list.ensures) (omega (arith, c.in_ok-node_numbers.ensures.short)))
-    (subst IsField (sym c.in_ok-on.ensures) (side_is_field c.args.side))
+    (subst IsField (sym c.in_ok-on.ensures) (side_is_field c.args.split.now.side))
     tt
     (subst IsField (sym c.narrowed-u.ensures) (omega (arith, c.requires.u_count, u)))
     (subst IsField (sym c.narrowed-v.ensures) (omega (arith, c.requires.v_count, v)))
