@@ -1,5 +1,5 @@
 -- What goes between departments, and how wide its line is.
-use Rattle.std.specs.Prelude.{ℕ, suc, zero, ◌*◌, ◌/◌, min, max, ℤ, pos, ◌+ℤ◌, int_lt, unsigned_abs, if◌then◌else◌}
+use Rattle.std.specs.Prelude.{ℕ, suc, zero, ◌*◌, ◌/◌, min, max, pos, ◌+ℤ◌, int_lt, unsigned_abs, if◌then◌else◌}
 use Rattle.qap_cost.specs.Instance.{Problem, entry}
 
 -- how much goes between two departments, both ways together; none where that is less

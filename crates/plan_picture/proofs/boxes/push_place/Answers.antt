@@ -1,4 +1,4 @@
-use Rattle.std.proofs.Common.{◌≡◌, ◌==◌, ◌++◌, ◌∙◌, Bool, Global, List, [], ℕ, ap, map, refl, rules, string_bytes, sym}
+use Rattle.std.proofs.Common.{◌≡◌, ◌==◌, ◌++◌, ◌∙◌, Bool, Global, List, [], ℕ, ap, map, refl, string_bytes}
 use Rattle.std.specs.List.{list_any}
 use Rattle.std.specs.Prelude.{Option, Some, None, String, is_some, slice_index_or}
 use Rattle.std.specs.Option.{option_map}
@@ -26,8 +26,8 @@ returns c =
     let box : c.as_bytes.result.now ≡ box_mark centre c.args.size drawn = c.as_bytes.ensures.value ∙ c.in_ok-box_line.ensures ∙ ap (box_mark centre c.args.size) style in
     let first : c.extend_from_slice.new.self.items ≡ c.args.text.now.items ++ box_mark centre c.args.size drawn = c.in_ok-extend_from_slice.ensures.items ∙ ap (λ (bs : List ℕ). c.args.text.now.items ++ bs) box in
     let second : c.push_department.new.text.items ≡ c.extend_from_slice.new.self.items ++ department_mark centre department =
-        c.in_ok-push_department.ensures ∙ ap (λ (o : Option (List ℕ)). c.extend_from_slice.new.self.items ++ department_mark centre o) dept in
+    c.in_ok-push_department.ensures ∙ ap (λ (o : Option (List ℕ)). c.extend_from_slice.new.self.items ++ department_mark centre o) dept in
     let place : c.name_of.result.now ≡ slice_index_or (map string_bytes P.places.items) k [] = c.name_of.ensures ∙ ap (λ (ns : List (String Global)). slice_index_or (map string_bytes ns) k []) c.deref-2.ensures.value in
     let third : c.push_place_name.new.text.items ≡ c.push_department.new.text.items ++ place_name_mark centre (slice_index_or (map string_bytes P.places.items) k []) =
-        c.in_ok-push_place_name.ensures ∙ ap (λ (bs : List ℕ). c.push_department.new.text.items ++ place_name_mark centre bs) place in
+    c.in_ok-push_place_name.ensures ∙ ap (λ (bs : List ℕ). c.push_department.new.text.items ++ place_name_mark centre bs) place in
     three_parts _ _ _ _ _ _ _ first second third
