@@ -1,3 +1,0 @@
-pub mod Kept
-pub mod PairLines
-pub mod Putting

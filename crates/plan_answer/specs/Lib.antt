@@ -1,6 +1,3 @@
 pub mod Answer
-pub mod Gap
 pub mod Lines
-pub mod Listing
 pub mod Pairs
-pub mod Putting

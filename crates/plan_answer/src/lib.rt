@@ -4,9 +4,7 @@
 mod answer;
 mod gap;
 mod lines;
-mod listing;
 mod pairs;
 
-pub use answer::answer_text;
-pub use listing::cost_text;
+pub use answer::{answer_text, cost_text};
 pub use pairs::{Pair, dearest_pairs};
