@@ -59,7 +59,7 @@ Step old (inp template) nothing new = NothingHad old Take template × (new ≡ o
 Step old (rdp template) (got number tuple) new =
     (e : Entry) × IsHad old Read template e × (number ≡ e.number) × (tuple ≡ e.tuple) × (new ≡ old)
 Step old (rdp template) nothing new = NothingHad old Read template × (new ≡ old)
-Step old (rdp template) (refused OutOfMemory) new = new ≡ old
+Step old (rdp template) (refused OutOfMemory) new = ((e : Entry) × IsHad old Read template e) × (new ≡ old)
 Step old (renew number lease) done new =
     (is_live_number old number ≡ true) × (new ≡ with_entries old (changed number (with_end (granted old.moment lease)) old.entries))
 Step old (renew number lease) (refused NotThere) new = (is_live_number old number ≡ false) × (new ≡ old)
