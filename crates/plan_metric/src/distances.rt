@@ -10,13 +10,16 @@ ghost use Rattle.plan_metric.specs.declared.distances.DistanceError.TheVariants.
 use crate::metric::{Metric, distance};
 use plan_table::{MAX_ENTRY, Point};
 use std::alloc::{AllocError, Global};
+use thiserror::Error;
 
 /// Why points have no distances.
-#[derive(Clone, Copy, Debug, PartialEq, Eq)]
+#[derive(Clone, Copy, Debug, PartialEq, Eq, Error)]
 pub enum DistanceError {
     /// The points of these numbers lie more than 10^9 apart, once all distances are whole.
+    #[error("points {0} and {1} lie more than 10^9 apart")]
     TooFar(usize, usize),
     /// There is no memory left.
+    #[error("out of memory")]
     OutOfMemory,
 }
 

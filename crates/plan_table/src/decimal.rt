@@ -8,6 +8,8 @@ ghost use Rattle.plan_table.specs.Scale.{scaled};
 ghost use Rattle.plan_table.specs.declared.decimal.Decimal.{Decimal};
 ghost use Rattle.plan_table.specs.Decimal.{are_digits as digits_of, decimal_of, held_magnitude, held_unsigned, is_digit as digit_of, is_point, max_entry, pointed as pointed_of, signed_of, unsigned, unsigned_of, whole as whole_of, without_zeros as zeros_cut, IsNumberFault};
 
+use thiserror::Error;
+
 /// The largest entry of an instance: each entry lies between its negative and it.
 pub const MAX_ENTRY: u64 = 1_000_000_000;
 
@@ -29,11 +31,13 @@ struct Unsigned {
 }
 
 /// Why a word is no entry, whatever the scale is.
-#[derive(Clone, Copy, Debug, PartialEq, Eq)]
+#[derive(Clone, Copy, Debug, PartialEq, Eq, Error)]
 pub enum NumberFault {
     /// It spells no decimal number.
+    #[error("not a decimal number")]
     NotANumber,
     /// Its digits alone stand for more than 10^9.
+    #[error("a number above 10^9")]
     TooLarge,
 }
 
