@@ -175,6 +175,28 @@ open_bound_append I xs ys c b g first second =
       least = All-append (IsTupleAbove I g) xs ys (all_above_less I b g xs lower first.least) second.least;
     }
 
+-- the bound of some tuples under another cost, which is at most the one it was worked out under
+open_bound_under : (I : Problem) (tuples : List (List FieldValue)) (c a b g : ℤ) → IsOpenBound I tuples c b → a ≤ℤ c → g ≤ℤ a → g ≤ℤ b → (g ≡ a) ⊎ (g ≡ b) → IsOpenBound I tuples a g
+open_bound_under I tuples c a b g h under below_a below_b which = record {
+  one =
+      elim which as (λ (_ : (g ≡ a) ⊎ (g ≡ b)). (g ≡ a) ⊎ IsOpenValue I tuples g) [
+        | inl same ↦ inl same
+        | inr same ↦
+            elim h.one as (λ (_ : (b ≡ c) ⊎ IsOpenValue I tuples b). (g ≡ a) ⊎ IsOpenValue I tuples g) [
+              | inl cost ↦ inl (omega (arith, ints, same, cost))
+              | inr found ↦ inr (subst (IsOpenValue I tuples) (sym same) found)
+            ]
+      ];
+  at_most = below_a;
+  least = all_above_less I b g tuples below_b h.least;
+}
+
+-- the lesser of the bounds of two parts
+pub open_bound_both : (I : Problem) (all front back : List (List FieldValue)) (c a b g : ℤ) → all ≡ front ++ back → IsOpenBound I front c a → IsOpenBound I back c b → g ≤ℤ a → g ≤ℤ b → (g ≡ a) ⊎ (g ≡ b) → IsOpenBound I all c g
+open_bound_both I all front back c a b g parts first second below_a below_b which =
+    subst (λ (ts : List (List FieldValue)). IsOpenBound I ts c g) (sym parts)
+    (open_bound_append I front back c a g first (open_bound_under I back c a b g second first.at_most below_a below_b which))
+
 -- one tuple more
 pub open_bound_more : (I : Problem) (tuples : List (List FieldValue)) (i : ℕ) (d : List FieldValue) (c b g : ℤ) → i < length tuples → IsOpenBound I (take i tuples) c b → IsOpenBound I (get_or tuples i d ∷ []) b g → IsOpenBound I (take (i + 1) tuples) c g
 open_bound_more I tuples i d c b g below first second =

@@ -1,11 +1,12 @@
 -- The permanent tuples of entries, one entry after another.
-use Rattle.std.proofs.Common.{◌≡◌, ◌≢◌, ℕ, zero, suc, ◌+◌, ◌<◌, ◌≤◌, ◌++◌, ◌∷◌, [], List, length, take, get_or, map, filter, Bool, true, false, ℤ, inl, refl, sym, ◌∙◌, ap, subst, arith}
+use Rattle.std.proofs.Common.{◌≡◌, ◌≢◌, ℕ, zero, suc, ◌+◌, ◌<◌, ◌≤◌, ◌++◌, ◌∷◌, [], List, length, take, drop, get_or, map, filter, Bool, true, false, ℤ, inl, refl, sym, ◌∙◌, ap, subst, arith}
 use Rattle.std.proofs.lemmas.Bool.{false≢true}
 use Rattle.std.specs.Option.{is_some}
 use Rattle.std.specs.Prelude.{All, Contains, MatchOption, Option, None, Some, count_by, cond, ◌&&◌, if◌then◌else◌}
+use Rattle.std.proofs.Math.Seq.{drop-append_seam, take-append_seam}
 use Rattle.std.proofs.lemmas.Int.{ints}
-use Rattle.std.proofs.lemmas.List.{map-append, take_more}
-use Rattle.std.proofs.lemmas.List.Elements.{All-append, All-cons, All-nil, Contains-append_left, Contains-append_right, filter-append}
+use Rattle.std.proofs.lemmas.List.{map-append, take-append-drop, take_more}
+use Rattle.std.proofs.lemmas.List.Elements.{All-append, All-cons, All-drop, All-nil, All-take, Contains-append_left, Contains-append_right, filter-append}
 use Rattle.std.proofs.lemmas.List.Sums.{sum_by-append, sum_by-cons}
 use Rattle.qap_cost.specs.Instance.{Problem}
 use Rattle.tuple_match.specs.FieldValue.{FieldValue}
@@ -111,3 +112,20 @@ open_bound_one I e b g is h = subst (λ (ts : List (List FieldValue)). IsOpenBou
 
 pub open_bound_none : (I : Problem) (e : Entry) (b : ℤ) → is_permanent e.end ≡ false → IsOpenBound I (permanent_tuples (e ∷ [])) b b
 open_bound_none I e b is = subst (λ (ts : List (List FieldValue)). IsOpenBound I ts b b) (sym (permanent_none e is)) (record { one = inl refl; at_most = omega (arith, ints); least = All-nil (IsTupleAbove I b) })
+
+-- those of both parts
+pub both_parts : (xs : List Entry) (m : ℕ) → permanent_tuples xs ≡ permanent_tuples (take m xs) ++ permanent_tuples (drop m xs)
+both_parts xs m = sym (ap permanent_tuples (take-append-drop m xs)) ∙ permanent_tuples-append (take m xs) (drop m xs)
+
+-- what is so of all permanent tuples is so of those of each part
+pub all_in_front : (P : List FieldValue → Type 0) (xs : List Entry) (m : ℕ) → All P (permanent_tuples xs) → All P (permanent_tuples (take m xs))
+all_in_front P xs m h =
+    let front = permanent_tuples (take m xs) in
+    let back = permanent_tuples (drop m xs) in
+    subst (All P) (take-append_seam front back) (All-take P (length front) (front ++ back) (subst (All P) (both_parts xs m) h))
+
+pub all_in_back : (P : List FieldValue → Type 0) (xs : List Entry) (m : ℕ) → All P (permanent_tuples xs) → All P (permanent_tuples (drop m xs))
+all_in_back P xs m h =
+    let front = permanent_tuples (take m xs) in
+    let back = permanent_tuples (drop m xs) in
+    subst (All P) (drop-append_seam front back) (All-drop P (length front) (front ++ back) (subst (All P) (both_parts xs m) h))

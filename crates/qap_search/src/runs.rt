@@ -3,6 +3,7 @@
 pub(crate) mod alone;
 pub(crate) mod answer;
 pub(crate) mod bound;
+pub(crate) mod bounding;
 pub(crate) mod clock;
 pub(crate) mod observer;
 pub(crate) mod opening;

@@ -53,8 +53,8 @@ impl Closers for One {
 /// Many threads, twice as many with each halving of the tuples.
 #[derive(Drop)]
 pub(crate) struct Many<'a, R: Threads> {
-    rt: &'a R,
-    halvings: u32,
+    pub(crate) rt: &'a R,
+    pub(crate) halvings: u32,
 }
 
 impl<'a, R: Threads + Sync> Many<'a, R> {

@@ -9,15 +9,18 @@ ghost use Rattle.qap_search.specs.Ran.{Tells};
 ghost use Rattle.qap_search.specs.Replacement.{Best};
 ghost use Rattle.qap_search.specs.Search.{search_of};
 
+use crate::certificate::closers::Many;
 use crate::certificate::open_nodes::Closing;
 use crate::node::node_list::read_into;
 use crate::runs::answer::Bounded;
-use crate::runs::remaining::{best_among, open_among, open_bound};
+use crate::runs::bounding::bound_by;
+use crate::runs::remaining::{best_among, open_among};
 use crate::runs::run::Run;
 use crate::worker::thinking::node_numbers;
 use gilmore_lawler::{RankedInstance, dual_sum};
 use qap_cost::Instance;
 use std::alloc::{AllocError, Global};
+use std::thread::Threads;
 use tuple_match::Tuple;
 
 /// Memory in which the end of a search is told, taken before it begins.
@@ -42,9 +45,14 @@ impl Ending {
     }
 }
 
-/// The best permutation that a run leaves, and the bound by its open nodes, read where they stand: in the memory that was taken
-/// before the search.
-pub(crate) fn bounded_of(ending: Ending, run: Run) -> Result<Bounded, AllocError>
+/// The best permutation that a run leaves, and the bound by its open nodes, read where they stand: by many threads, or, where these find no
+/// memory, by the calling one in that which was taken before the search.
+pub(crate) fn bounded_of<R: Threads + Sync>(
+    many: &Many<'_, R>,
+    alloc: Global,
+    ending: Ending,
+    run: Run,
+) -> Result<Bounded, AllocError>
     requires ended { (cutting : Bool) × (x : Placement) × (known : Best) × (limit : Option ℕ) × IsEnded (search_of cutting ending.ranked x known) limit run }
     requires empty { ending.locations.items ≡ [] }
     ensures bounded { IfOk result (λ a. (cutting : Bool) (x : Placement) (known : Best) (limit : Option ℕ) →
@@ -59,7 +67,7 @@ pub(crate) fn bounded_of(ending: Ending, run: Run) -> Result<Bounded, AllocError
     let Run { space, reports } = run;
     let entries = space.entries();
     let (permutation, cost) = best_among(entries, locations)?;
-    let bound = open_bound(&ranked, &mut closing, entries, cost)?;
+    let bound = bound_by(many, alloc, &ranked, &mut closing, entries, cost)?;
     let open_nodes = open_among(entries);
     Ok(Bounded {
         permutation,

@@ -79,7 +79,7 @@ pub(crate) fn open_among(entries: &[Entry]) -> u64
 }
 
 /// Whether the entry is permanent, and its tuple that of an open node.
-fn is_open_at(entry: &Entry) -> bool
+pub(crate) fn is_open_at(entry: &Entry) -> bool
     ensures { result ≡ is_open_entry entry.now }
 {
     entry.end.is_permanent() && is_open(&entry.tuple)

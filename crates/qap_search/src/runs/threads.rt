@@ -187,8 +187,9 @@ where
 /// What `solve` says of the workers, the gate, the lease and the limit holds here too. Where the stop is wanted the space is closed
 /// though nodes are open; no worker begins on another node then, and none waits for a lease to end. For whatever reason nodes are
 /// left, by the stop or the gate, at the limit or for want of memory, the least assignments of their reduced matrices bound the answer;
-/// where none is left, the bound is the cost. The observer is shown meanwhile how far the search has come. No certificate is put
-/// together, and what the end wants of memory is taken before the search. The only error is want of memory.
+/// where none is left, the bound is the cost. As many threads as there are workers work these out, or up to twice as many. The observer is
+/// shown meanwhile how far the search has come. No certificate is put together, and what the end wants of memory is taken before the
+/// search: where threads find none of their own, the calling one works in that. The only error is want of memory.
 pub fn solve_least_from<R, C, G, S, O>(
     rt: &R,
     alloc: Global,
@@ -221,7 +222,7 @@ where
     };
     let ending = Ending::with_room(alloc, instance)?;
     let run = run_of(rt, alloc, instance, plan, &keeper, gate)?;
-    bounded_of(ending, run)
+    bounded_of(&Many::new(rt, plan.workers), alloc, ending, run)
 }
 
 /// The proof that a search below the plan's root comes to: that no permutation which completes the root costs less than the proof's bound.

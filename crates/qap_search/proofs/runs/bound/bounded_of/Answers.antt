@@ -11,23 +11,23 @@ use Rattle.qap_search.proofs.OpenBounds.{bounded_left, sound_tuples}
 use Rattle.qap_search.proofs.runs.bound.bounded_of.Goals as goal
 
 pub best_among-requires-clause-tree : goal.best_among-requires-clause-tree
-best_among-requires-clause-tree c =
+best_among-requires-clause-tree g c =
     let ended = c.requires.ended in
     let S : Search = search_of ended.0 c.args.ending.ranked ended.1 ended.2 in
     (S, c.args.run.space.commits, subst (λ (xs : List Entry). IsCutTree S (permanent_tuples xs) c.args.run.space.commits) (sym c.entries-entries.ensures) ended.4.tree)
 
-pub open_bound-requires : goal.open_bound-requires
-open_bound-requires c =
+pub bound_by-requires : goal.bound_by-requires
+bound_by-requires g c =
     let ended = c.requires.ended in
     let I = c.args.ending.ranked in
     let S : Search = search_of ended.0 I ended.1 ended.2 in
     let commits = c.args.run.space.commits in
     let xs = c.entries-entries.result.now in
     let tree : IsCutTree S (permanent_tuples xs) commits = subst (λ (ys : List Entry). IsCutTree S (permanent_tuples ys) commits) (sym c.entries-entries.ensures) ended.4.tree in
-    sound_tuples S (permanent_tuples xs) commits tree
+    (search rules, sound_tuples S (permanent_tuples xs) commits tree)
 
 pub returns-clause-bounded : goal.returns-clause-bounded
-returns-clause-bounded c = λ cutting x known limit ended.
+returns-clause-bounded g c = λ cutting x known limit ended.
     let I = c.args.ending.ranked in
     let S : Search = search_of cutting I x known in
     let r = c.args.run in

@@ -11,7 +11,8 @@ use Rattle.qap_search.proofs.runs.threads.solve_least_from.Goals as goal
 pub bounded_of-requires-clause-ended : goal.bounded_of-requires-clause-ended
 bounded_of-requires-clause-ended g c =
     let plan = c.args.plan.now in
-    let known = best_with c.args.instance.now plan.start.now in (
+    let known = best_with c.args.instance.now plan.start.now in
+    λ κs alive. (
       cuts plan.branching,
       plan.root.now,
       known,
