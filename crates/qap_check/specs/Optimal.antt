@@ -5,6 +5,7 @@ use Rattle.qap_cost.specs.Instance.{Problem}
 use Rattle.qap_cert.specs.Acceptance.{ShowsVerdict, IsSo}
 use Rattle.qap_cert.specs.declared.acceptance.Verdict.{Verdict}
 use Rattle.qap_cert.specs.declared.acceptance.Verdict.TheVariants.{Optimal, Gap}
+use Rattle.qap_text.specs.Gap.{gap_line}
 
 -- the text shows what the verdict says, and it is so
 abbrev pub Proves : Problem → List ℕ → Verdict → Type 0
@@ -13,4 +14,4 @@ Proves I text v = ShowsVerdict I text v × IsSo I v
 -- the line of a least cost, or of a bound and the cost above it
 abbrev pub answer_line : Verdict → List ℕ
 answer_line (Optimal c) = codes "optimal " ++ signed_decimal c ++ codes "\n"
-answer_line (Gap g c) = codes "gap " ++ signed_decimal g ++ codes " " ++ signed_decimal c ++ codes "\n"
+answer_line (Gap g c) = gap_line g c

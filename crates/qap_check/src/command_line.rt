@@ -1,10 +1,8 @@
 //! What the command line asks for.
 
-use clap::error::ErrorKind;
 use clap::{Arg, Command};
+use qap_command::CommandError;
 use std::alloc::{AllocError, Global};
-use std::io;
-use thiserror::Error;
 
 /// The line that tells how the program is used.
 pub const USAGE: &str = "usage: qapcheck value|optimal [INSTANCE OTHER]";
@@ -31,41 +29,6 @@ pub enum Question {
 pub struct Files<'a> {
     pub instance: &'a str,
     pub other: &'a str,
-}
-
-/// Why a command line asks for nothing.
-#[derive(Clone, Copy, Debug, PartialEq, Eq, Error)]
-pub enum CommandError {
-    /// It isn't as the usage line says.
-    #[error("the command line is not as the usage line says")]
-    Usage,
-    /// There is no memory left.
-    #[error("out of memory")]
-    OutOfMemory,
-}
-
-impl From<AllocError> for CommandError {
-    fn from(_error: AllocError) -> CommandError {
-        CommandError::OutOfMemory
-    }
-}
-
-impl From<io::Error> for CommandError {
-    fn from(error: io::Error) -> CommandError {
-        match error.kind() {
-            io::ErrorKind::OutOfMemory => CommandError::OutOfMemory,
-            _ => CommandError::Usage,
-        }
-    }
-}
-
-impl From<clap::Error> for CommandError {
-    fn from(error: clap::Error) -> CommandError {
-        match error.kind() {
-            ErrorKind::OutOfMemory => CommandError::OutOfMemory,
-            _ => CommandError::Usage,
-        }
-    }
 }
 
 /// What the words of a command line ask for, the program's name being the first.

@@ -11,7 +11,8 @@ mod valuation;
 mod value;
 
 use answering::{answered, refused};
-use command_line::{CommandError, Files, Question, Request, USAGE, parse};
+use command_line::{Files, Question, Request, USAGE, parse};
+use qap_command::CommandError;
 use qap_io::{Counted, Status};
 use refusal::RunError;
 use std::env;

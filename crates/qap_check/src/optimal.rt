@@ -13,6 +13,7 @@ use crate::refusal::RunError;
 use crate::source::Separators;
 use qap_cert::{Verdict, accept};
 use qap_io::{Counted, send};
+use qap_text::gap_line;
 use std::alloc::{AllocError, Global};
 use std::io::{Read, Write};
 
@@ -61,6 +62,6 @@ fn line(alloc: Global, verdict: Verdict) -> Result<String, AllocError>
 {
     match verdict {
         Verdict::Optimal(cost) => format!(in alloc; "optimal {cost}\n"),
-        Verdict::Gap(bound, cost) => format!(in alloc; "gap {bound} {cost}\n"),
+        Verdict::Gap(bound, cost) => gap_line(alloc, bound, cost),
     }
 }

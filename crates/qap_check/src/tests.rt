@@ -1,10 +1,11 @@
 //! Runs over memory: what is written, what is told, and the exit status.
 
-use crate::command_line::{CommandError, Files, Question, Request, USAGE, parse};
+use crate::command_line::{Files, Question, Request, USAGE, parse};
 use crate::optimal::optimal_stream;
 use crate::refusal::{RunError, fault_line, status};
 use crate::value::value_stream;
 use qap_cert::CertError;
+use qap_command::CommandError;
 use qap_io::{Counted, Status};
 use qap_text::TextError;
 use std::alloc::{AllocError, Global};

@@ -6,14 +6,16 @@ use Rattle.qap_cert.specs.Certificate.{Claim, Certifies, IsCertificate}
 use Rattle.qap_cert.specs.Text.{IsCertificateText, certificate_text}
 use Rattle.qap_cert.specs.declared.version.Version.TheVariants.{Second}
 use Rattle.shared_space.specs.Limit.{IsWithin}
-use Rattle.qap_search.specs.Answer.{CertifiesLeast, IsLeastAnswer, accepted_of}
+use Rattle.qap_search.specs.Answer.{CertifiesLeast, IsLeastAnswer, LeavesBest, accepted_of}
+use Rattle.qap_search.specs.Search.{whole}
 use Rattle.qap_search.specs.Stopped.{CertifiesStopped}
 use Rattle.qap_search.specs.declared.runs.answer.Least.{Least}
 use Rattle.qap_text.specs.Input.{HasInstance, Input}
+use Rattle.qap_text.specs.Gap.{gap_line}
 use Rattle.qap_text.specs.WrittenSolution.{solution_text}
 use Rattle.qap_solve.specs.Outcome.{IsLeastFound}
 use Rattle.qap_solve.specs.Solving.{Solves}
-use Rattle.qap_solve.specs.Solution.{IsGapProofText, IsGapText, IsLeastText, IsOutput, IsProofText, ShowsGap, ShowsLeast, gap_line}
+use Rattle.qap_solve.specs.Solution.{IsGapProofText, IsGapText, IsLeastText, IsOutput, IsProofText, ShowsGap, ShowsLeast}
 
 permuted : (I : Problem) (C : Claim) → IsCertificate C → Certifies I C → Permutes I C.permutation
 permuted I C shape certified = record { bijection = shape.permutation.bijection; same_size = certified.same_size }
@@ -28,8 +30,9 @@ least_text I nodes p c found = record {
   permutes = found.permutes;
   least = record { reached = (p, found.permutes, refl); least = subst (NoneCostsLess I) (sym found.costs) found.least };
   is = ap (λ c. solution_text c p) (sym found.costs);
-  certificate = found.certificate;
-  by = found.by;
+  decided = found.decided;
+  left = subst (LeavesBest (whole I) found.decided p) (sym found.costs) found.left;
+  within = found.within;
 }
 
 -- where the certificate's bound is its cost, it tells a proof of that
@@ -47,14 +50,15 @@ pub shows_least : (I : Problem) (nodes : Option ℕ) (commits : ℕ) (C : Claim)
 shows_least I None commits C least within = record { certified = least.certified; closed = least.closed; within = tt }
 shows_least I (Some limit) commits C least within = let same = least.nodes_are in record { certified = least.certified; closed = least.closed; within = omega arith }
 
--- a permutation that a search has left as the best one is shown by the certificate of what it has left
-pub least_found : (I : Problem) (workers : ℕ) (nodes : Option ℕ) (a : Least) (C : Claim) → IsLeastAnswer I workers nodes a → CertifiesLeast I (accepted_of a.reports.items) C → IsLeastFound I nodes a.permutation a.cost
-least_found I workers nodes a C h by = record {
+-- what a search answers is what it has found
+pub least_found : (I : Problem) (workers : ℕ) (nodes : Option ℕ) (a : Least) → IsLeastAnswer I workers nodes a → IsLeastFound I nodes a.permutation a.cost
+least_found I workers nodes a h = record {
   permutes = h.permutes;
   costs = h.costs;
   least = h.least;
-  certificate = C;
-  by = shows_least I nodes (accepted_of a.reports.items) C by h.within;
+  decided = accepted_of a.reports.items;
+  left = h.left;
+  within = h.within;
 }
 
 -- and where it comes of a search that was stopped, a permutation with a bound, and a proof of the bound

@@ -2,19 +2,24 @@
 use Rattle.std.specs.Prelude.{◌≡◌, ℕ, Bool, true, false, List, ℤ, Option, Some}
 use Rattle.qap_cost.specs.Instance.{Problem}
 use Rattle.qap_cost.specs.Objective.{NoneCostsLess, Permutes, cost_of}
-use Rattle.qap_cert.specs.Certificate.{Claim, IsCertificate}
+use Rattle.qap_cert.specs.Certificate.{IsCertificate}
+use Rattle.qap_search.specs.Answer.{LeavesBest}
+use Rattle.qap_search.specs.Search.{whole}
 use Rattle.qap_search.specs.Stopped.{CertifiesStopped}
 use Rattle.qap_solve.specs.Solution.{ShowsLeast}
+use Rattle.shared_space.specs.Limit.{IsWithin}
 use Rattle.qap_solve.specs.declared.solving.Outcome.{Outcome}
 use Rattle.qap_solve.specs.declared.solving.Outcome.TheVariants.{Permutation, Certificate, Stopped}
 
--- a permutation of the instance with its cost, and none costs less, as some certificate shows
+-- a permutation of the instance with its cost, and none costs less: it is the best one of a cut tree without open nodes, in which no
+-- more nodes are decided than the limit, where there is one
 pub record IsLeastFound (I : Problem) (nodes : Option ℕ) (p : List ℕ) (c : ℤ) : Type 0 where
   pub permutes : Permutes I p
   pub costs : cost_of I p ≡ c
   pub least : NoneCostsLess I c
-  pub certificate : Claim
-  pub by : ShowsLeast I nodes certificate
+  pub decided : ℕ
+  pub left : LeavesBest (whole I) decided p c
+  pub within : IsWithin nodes decided
 
 -- a permutation of least cost, or a certificate of that cost, as was asked for; or a certificate of a bound, where the search was
 -- stopped at its limit of nodes

@@ -1,6 +1,5 @@
 -- What a solved instance is told as, and one whose search was stopped: a permutation, or a certificate.
-use Rattle.std.specs.Prelude.{◌≡◌, ◌≤◌, ◌++◌, Bool, true, false, ℕ, List, ℤ, Option, IfSome, codes}
-use Rattle.std.specs.Fmt.{signed_decimal}
+use Rattle.std.specs.Prelude.{◌≡◌, ◌≤◌, ◌++◌, Bool, true, false, ℕ, List, Option, IfSome}
 use Rattle.qap_cost.specs.Instance.{Problem}
 use Rattle.qap_cost.specs.Objective.{IsLeast, NoneCostsLess, Permutes, cost_of}
 use Rattle.qap_cert.specs.Acceptance.{ShowsVerdict}
@@ -9,8 +8,12 @@ use Rattle.qap_cert.specs.Text.{IsCertificateText, certificate_text}
 use Rattle.qap_cert.specs.Tree.{node_count}
 use Rattle.qap_cert.specs.declared.acceptance.Verdict.TheVariants.{Optimal}
 use Rattle.qap_cert.specs.declared.version.Version.TheVariants.{Second}
+use Rattle.qap_search.specs.Answer.{LeavesBest}
+use Rattle.qap_search.specs.Search.{whole}
 use Rattle.qap_search.specs.Stopped.{CertifiesStopped}
+use Rattle.qap_text.specs.Gap.{gap_line}
 use Rattle.qap_text.specs.WrittenSolution.{solution_text}
+use Rattle.shared_space.specs.Limit.{IsWithin}
 
 -- the certificate shows the least cost of the instance, by no more nodes than the limit, where there is one
 pub record ShowsLeast (I : Problem) (nodes : Option ℕ) (C : Claim) : Type 0 where
@@ -18,14 +21,16 @@ pub record ShowsLeast (I : Problem) (nodes : Option ℕ) (C : Claim) : Type 0 wh
   pub closed : C.bound ≡ C.cost
   pub within : IfSome nodes (λ n. node_count C.tree ≤ n)
 
--- the text is that of a permutation of the instance, with its cost, and none costs less, as some certificate shows
+-- the text is that of a permutation of the instance, with its cost, and none costs less: it is the best one of a cut tree without open
+-- nodes, in which no more nodes are decided than the limit, where there is one
 pub record IsLeastText (I : Problem) (nodes : Option ℕ) (text : List ℕ) : Type 0 where
   pub permutation : List ℕ
   pub permutes : Permutes I permutation
   pub least : IsLeast I (cost_of I permutation)
   pub is : text ≡ solution_text (cost_of I permutation) permutation
-  pub certificate : Claim
-  pub by : ShowsLeast I nodes certificate
+  pub decided : ℕ
+  pub left : LeavesBest (whole I) decided permutation (cost_of I permutation)
+  pub within : IsWithin nodes decided
 
 -- the text is that of a certificate that shows the least cost of the instance
 pub record IsProofText (I : Problem) (nodes : Option ℕ) (text : List ℕ) : Type 0 where
@@ -39,10 +44,6 @@ pub record IsProofText (I : Problem) (nodes : Option ℕ) (text : List ℕ) : Ty
 abbrev pub IsOutput : Bool → Problem → Option ℕ → List ℕ → Type 0
 IsOutput true I nodes text = IsProofText I nodes text
 IsOutput false I nodes text = IsLeastText I nodes text
-
--- the line that tells a bound and a cost
-abbrev pub gap_line : ℤ → ℤ → List ℕ
-gap_line g c = codes "gap " ++ signed_decimal g ++ codes " " ++ signed_decimal c ++ codes "\n"
 
 -- the certificate of a search that was stopped when it had decided so many nodes: its permutation is one of the instance, and
 -- none costs less than its bound

@@ -4,7 +4,7 @@ ghost use Rattle.std.specs.Prelude.{◌≡◌, MatchResult};
 ghost use Rattle.qap_solve.specs.Answering.{HasAnswered, HasNotAnswered, HasRun, HasTold};
 ghost use Rattle.qap_solve.specs.Options.{MayRun};
 ghost use Rattle.qap_solve.specs.Refusal.{status_of};
-ghost use Rattle.space_script.specs.Run.{Streams};
+ghost use Rattle.space_script.specs.Run.{streams_of};
 
 use crate::command_line::Request;
 use crate::refusal::{RunError, fault_line, status};
@@ -38,14 +38,7 @@ where
     C: Clock,
     G: Gate + Sync,
     requires { MayRun request }
-    ensures { let s : Streams R W = record {
-      bytes_left = R.remaining;
-      bytes_taken = W.contents;
-      reader = input.old;
-      reader_after = input.new;
-      writer = output.old;
-      writer_after = output.new;
-    } in HasRun s request E.contents errors.old errors.new result }
+    ensures { let s = streams_of R.remaining W.contents input.old input.new output.old output.new in HasRun s request E.contents errors.old errors.new result }
 {
     match answer(system, alloc, request, input, output, clock, gate) {
         Ok(()) => Status::Done.code(),
@@ -70,14 +63,7 @@ where
     C: Clock,
     G: Gate + Sync,
     requires { MayRun request }
-    ensures { let s : Streams R W = record {
-      bytes_left = R.remaining;
-      bytes_taken = W.contents;
-      reader = input.old;
-      reader_after = input.new;
-      writer = output.old;
-      writer_after = output.new;
-    } in MatchResult result (λ _. HasAnswered s request) (HasNotAnswered s request) }
+    ensures { let s = streams_of R.remaining W.contents input.old input.new output.old output.new in MatchResult result (λ _. HasAnswered s request) (HasNotAnswered s request) }
 {
     match request {
         Request::Solve(options) => {

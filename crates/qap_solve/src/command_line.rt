@@ -4,11 +4,9 @@ ghost use Rattle.std.specs.Prelude.{IfOk};
 ghost use Rattle.qap_solve.specs.Options.{AreLimited, MayRun};
 
 use crate::options::{MAX_LEASE_MS, MAX_NODES, MAX_WORKERS, Options};
-use clap::error::ErrorKind;
 use clap::{Arg, ArgAction, ArgMatches, Command, value_parser};
+use qap_command::CommandError;
 use std::alloc::{AllocError, Global};
-use std::io;
-use thiserror::Error;
 
 /// The line that tells how the program is used.
 pub const USAGE: &str =
@@ -21,41 +19,6 @@ pub enum Request {
     Solve(Options),
     /// To carry out a script of the tuple space.
     Script,
-}
-
-/// Why a command line asks for nothing.
-#[derive(Clone, Copy, Debug, PartialEq, Eq, Error)]
-pub enum CommandError {
-    /// It isn't as the usage line says.
-    #[error("the command line is not as the usage line says")]
-    Usage,
-    /// There is no memory left.
-    #[error("out of memory")]
-    OutOfMemory,
-}
-
-impl From<AllocError> for CommandError {
-    fn from(_error: AllocError) -> CommandError {
-        CommandError::OutOfMemory
-    }
-}
-
-impl From<io::Error> for CommandError {
-    fn from(error: io::Error) -> CommandError {
-        match error.kind() {
-            io::ErrorKind::OutOfMemory => CommandError::OutOfMemory,
-            _ => CommandError::Usage,
-        }
-    }
-}
-
-impl From<clap::Error> for CommandError {
-    fn from(error: clap::Error) -> CommandError {
-        match error.kind() {
-            ErrorKind::OutOfMemory => CommandError::OutOfMemory,
-            _ => CommandError::Usage,
-        }
-    }
 }
 
 /// What the words of a command line ask for, the program's name being the first.

@@ -12,8 +12,9 @@ ghost use Rattle.std.specs.Prelude.{IfOk};
 ghost use Rattle.qap_solve.specs.Options.{MayRun};
 
 use answering::{answered, refused};
-use command_line::{CommandError, Request, USAGE, parse};
+use command_line::{Request, USAGE, parse};
 use elapsed::Elapsed;
+use qap_command::CommandError;
 use qap_io::{Counted, Status};
 use qap_search::Always;
 use refusal::RunError;

@@ -11,9 +11,10 @@ ghost use Rattle.qap_search.specs.Search.{whole};
 ghost use Rattle.qap_search.specs.Stopped.{CertifiesStopped};
 ghost use Rattle.qap_solve.specs.Options.{AreLimited};
 ghost use Rattle.qap_solve.specs.Outcome.{IsLeastFound, IsOutcome};
-ghost use Rattle.qap_solve.specs.Solution.{IsOutput, IsStoppedOutput, ShowsLeast, gap_line};
+ghost use Rattle.qap_solve.specs.Solution.{IsOutput, IsStoppedOutput, ShowsLeast};
 ghost use Rattle.qap_solve.specs.Solving.{HasNotSolved, HasSolved, IsUnread, Stops};
 ghost use Rattle.qap_solve.specs.declared.refusal.RunError.TheVariants.{OutOfMemory, Unfinished};
+ghost use Rattle.qap_text.specs.Gap.{gap_line};
 ghost use Rattle.qap_text.specs.Input.{HasInstance, input_of};
 ghost use Rattle.qap_text.specs.WrittenSolution.{solution_text};
 
@@ -22,8 +23,8 @@ use crate::refusal::RunError;
 use qap_cert::{CertError, Certificate, certified_law, write};
 use qap_cost::{Instance, Perm};
 use qap_io::{Counted, put};
-use qap_search::{Clock, Gate, Least, SolveError, certificate_law, solve, solve_least};
-use qap_text::{MAX_INPUT, TextError, read_all, read_instance, write_solution};
+use qap_search::{Clock, Gate, Least, SolveError, solve, solve_least};
+use qap_text::{MAX_INPUT, TextError, gap_line, read_all, read_instance, write_solution};
 use std::alloc::{AllocError, Global};
 use std::io::{Read, Write};
 use std::sync::Wait;
@@ -132,8 +133,6 @@ where
         (IsOutcome instance.now options.now.nodes options.now.cert)
         (IsSolveFault instance.now options.now.workers options.now.nodes) }
 {
-    certificate_law();
-    let _size = instance.size();
     let Options {
         workers,
         lease_ms,
@@ -249,7 +248,7 @@ fn put_gap<W: Write>(
         (λ _. Sends W.contents writer.old writer.new text)
         (Stops W.contents writer.old writer.new text) }
 {
-    let Ok(line) = gap_line(alloc, certificate) else {
+    let Ok(line) = gap_of(alloc, certificate) else {
         return Err(RunError::OutOfMemory);
     };
     match put(writer, line.as_bytes()) {
@@ -259,9 +258,8 @@ fn put_gap<W: Write>(
 }
 
 /// The line of a certificate's bound and cost.
-fn gap_line(alloc: Global, certificate: &Certificate) -> Result<String, AllocError>
+fn gap_of(alloc: Global, certificate: &Certificate) -> Result<String, AllocError>
     ensures { IfOk result (λ line. string_bytes line ≡ gap_line certificate.now.bound certificate.now.cost) }
 {
-    let (bound, cost) = (certificate.bound(), certificate.cost());
-    format!(in alloc; "gap {bound} {cost}\n")
+    gap_line(alloc, certificate.bound(), certificate.cost())
 }

@@ -2,11 +2,12 @@
 
 ghost use Rattle.qap_solve.specs.Options.{AreLimited};
 
-use crate::command_line::{CommandError, Request, USAGE, parse};
+use crate::command_line::{Request, USAGE, parse};
 use crate::options::Options;
 use crate::refusal::{RunError, fault_line, status};
 use crate::solving::solve_stream;
 use qap_cert::{Verdict, accept, read, write};
+use qap_command::CommandError;
 use qap_io::Counted;
 use qap_search::{Always, Clock};
 use qap_text::{TextError, read_instance};
@@ -105,10 +106,11 @@ where
 
 #[test]
 fn least_permutations(rt: HostRuntime) {
-    let cases: [(&[u8], &[u8]); 6] = [
+    let cases: [(&[u8], &[u8]); 7] = [
         (b"1 5 7", b"1 35\n1\n"),
         (b"1 1000000000 -1000000000", b"1 -1000000000000000000\n1\n"),
         (TWO, b"2 11\n1 2\n"),
+        (b"2 0 3 1 0 0 5 2 0", b"2 11\n2 1\n"),
         (THREE, b"3 24\n1 2 3\n"),
         (EVEN, b"3 1\n1 2 3\n"),
         (b"2 0 -1 2 0 0 3 -4 0 and more", b"2 -11\n1 2\n"),

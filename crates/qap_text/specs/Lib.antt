@@ -1,3 +1,4 @@
+pub mod Gap
 pub mod Input
 pub mod InstanceText
 pub mod Number

@@ -2,6 +2,7 @@
 #![tactic(auto)]
 
 mod error;
+mod gap;
 mod instance_text;
 mod number;
 mod numeral;
@@ -11,6 +12,7 @@ mod whole;
 mod word;
 
 pub use error::TextError;
+pub use gap::gap_line;
 pub use instance_text::{instance_text_law, read_instance};
 pub use solution_text::{read_solution, solution_text_law};
 pub use solution_writing::write_solution;

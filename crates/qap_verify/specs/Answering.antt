@@ -8,6 +8,7 @@ use Rattle.qap_io.specs.Writing.{BreaksOff, Sends}
 use Rattle.qap_proof.specs.Acceptance.{ShowsVerdict, IsSo}
 use Rattle.qap_proof.specs.declared.acceptance.Verdict.{Verdict}
 use Rattle.qap_proof.specs.declared.acceptance.Verdict.TheVariants.{Optimal, Gap, Part}
+use Rattle.qap_text.specs.Gap.{gap_line}
 use Rattle.qap_verify.specs.Refusal.{HasNoTexts, IsNoProof, refusal_of, status_of}
 use Rattle.qap_verify.specs.Texts.{ComeTo, Inputs}
 use Rattle.qap_verify.specs.declared.refusal.RunError.{RunError}
@@ -20,7 +21,7 @@ Proves I text v = ShowsVerdict I text v × IsSo I text v
 -- the line of a least cost, of a bound and the cost above it, or of the bound of a part
 abbrev pub answer_line : Verdict → List ℕ
 answer_line (Optimal c) = codes "optimal " ++ signed_decimal c ++ codes "\n"
-answer_line (Gap g c) = codes "gap " ++ signed_decimal g ++ codes " " ++ signed_decimal c ++ codes "\n"
+answer_line (Gap g c) = gap_line g c
 answer_line (Part g) = codes "part " ++ signed_decimal g ++ codes "\n"
 
 -- the line of what the proof shows has gone out

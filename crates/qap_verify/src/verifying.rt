@@ -13,7 +13,7 @@ use crate::refusal::RunError;
 use qap_cost::Instance;
 use qap_io::{Counted, send};
 use qap_proof::{Cover, Verdict, accept};
-use qap_text::{MAX_INPUT, read_all, read_instance};
+use qap_text::{MAX_INPUT, gap_line, read_all, read_instance};
 use std::alloc::{AllocError, Global};
 use std::io::{Read, Write};
 
@@ -128,7 +128,7 @@ fn line(alloc: Global, verdict: Verdict) -> Result<String, AllocError>
 {
     match verdict {
         Verdict::Optimal(cost) => format!(in alloc; "optimal {cost}\n"),
-        Verdict::Gap(bound, cost) => format!(in alloc; "gap {bound} {cost}\n"),
+        Verdict::Gap(bound, cost) => gap_line(alloc, bound, cost),
         Verdict::Part(bound) => format!(in alloc; "part {bound}\n"),
     }
 }

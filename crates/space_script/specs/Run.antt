@@ -67,6 +67,11 @@ pub record Streams (R W : Type 0) : Type 0 where
   pub writer : CountedDevice W
   pub writer_after : CountedDevice W
 
+-- the same, by what is known of either's bytes
+abbrev pub streams_of : {R W : Type 0} → (R → Option (List ℕ)) → (W → Option (List ℕ)) → CountedDevice R → CountedDevice R → CountedDevice W → CountedDevice W → Streams R W
+streams_of left taken reader reader_after writer writer_after =
+    record { bytes_left = left; bytes_taken = taken; reader = reader; reader_after = reader_after; writer = writer; writer_after = writer_after }
+
 -- this text came from the reader
 abbrev pub HasCome : {R W : Type 0} → Streams R W → List ℕ → Type 0
 HasCome s text = Consumes (s.bytes_left s.reader.inner) (s.bytes_left s.reader_after.inner) text

@@ -2,7 +2,7 @@
 
 ghost use Rattle.std.specs.Prelude.{MatchResult};
 ghost use Rattle.space_script.specs.Feeding.{FedWhole, FeedingFails, StopsShort};
-ghost use Rattle.space_script.specs.Run.{BreaksDown, RunsWhole, Streams};
+ghost use Rattle.space_script.specs.Run.{BreaksDown, RunsWhole, streams_of};
 
 use crate::answering::answer;
 use crate::feeding::feed;
@@ -29,14 +29,7 @@ pub fn run_script<R: Read, W: Write>(
     reader: &mut Counted<R>,
     writer: &mut Counted<W>,
 ) -> Result<(), ScriptError>
-    ensures { let s : Streams R W = record {
-      bytes_left = R.remaining;
-      bytes_taken = W.contents;
-      reader = reader.old;
-      reader_after = reader.new;
-      writer = writer.old;
-      writer_after = writer.new;
-    } in MatchResult result (λ _. RunsWhole s) (BreaksDown s) }
+    ensures { let s = streams_of R.remaining W.contents reader.old reader.new writer.old writer.new in MatchResult result (λ _. RunsWhole s) (BreaksDown s) }
 {
     let ran = run_lines(alloc, reader, writer);
     if ran == Err(ScriptError::OutOfMemory) {
@@ -51,14 +44,7 @@ fn run_lines<R: Read, W: Write>(
     reader: &mut Counted<R>,
     writer: &mut Counted<W>,
 ) -> Result<(), ScriptError>
-    ensures { let s : Streams R W = record {
-      bytes_left = R.remaining;
-      bytes_taken = W.contents;
-      reader = reader.old;
-      reader_after = reader.new;
-      writer = writer.old;
-      writer_after = writer.new;
-    } in MatchResult result (λ _. RunsWhole s) (StopsShort s) }
+    ensures { let s = streams_of R.remaining W.contents reader.old reader.new writer.old writer.new in MatchResult result (λ _. RunsWhole s) (StopsShort s) }
 {
     let mut session = Session::new(alloc);
     let mut line = Vec::new(alloc);
@@ -77,14 +63,7 @@ fn feed_all<R: Read, W: Write>(
     line: &mut Vec<u8>,
     writer: &mut Counted<W>,
 ) -> Result<(), ScriptError>
-    ensures { let s : Streams R W = record {
-      bytes_left = R.remaining;
-      bytes_taken = W.contents;
-      reader = reader.old;
-      reader_after = reader.new;
-      writer = writer.old;
-      writer_after = writer.new;
-    } in MatchResult result
+    ensures { let s = streams_of R.remaining W.contents reader.old reader.new writer.old writer.new in MatchResult result
         (λ _. FedWhole s session.old line.old.items session.new line.new.items)
         (FeedingFails s session.old line.old.items) }
 {

@@ -3,7 +3,7 @@ use Rattle.std.specs.Int.{w128}
 use Rattle.std.specs.Io.KnownBytes.{Appends}
 use Rattle.qap_io.specs.Writing.{AppendsBeginning}
 use Rattle.qap_text.specs.WrittenSolution.{solution_text}
-use Rattle.qap_solve.specs.Solution.{gap_line}
+use Rattle.qap_text.specs.Gap.{gap_line}
 use Rattle.qap_solve.proofs.Unwritten.{sends_behind, stops_before}
 use Rattle.qap_solve.proofs.solving.put_gap.Goals as goal
 

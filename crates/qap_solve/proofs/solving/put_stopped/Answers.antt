@@ -2,7 +2,8 @@ use Rattle.std.proofs.Common.{◌++◌, sym, subst, Bool}
 use Rattle.qap_cert.specs.Text.{certificate_text}
 use Rattle.qap_cert.specs.declared.version.Version.TheVariants.{Second}
 use Rattle.qap_text.specs.WrittenSolution.{solution_text}
-use Rattle.qap_solve.specs.Solution.{IsStoppedOutput, gap_line}
+use Rattle.qap_solve.specs.Solution.{IsStoppedOutput}
+use Rattle.qap_text.specs.Gap.{gap_line}
 use Rattle.qap_solve.proofs.Texts.{gap_proof_text, gap_text}
 use Rattle.qap_solve.proofs.solving.put_stopped.Goals as goal
 

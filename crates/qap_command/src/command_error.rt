@@ -1,0 +1,41 @@
+//! Why a command line asks for nothing.
+
+use clap::error::ErrorKind;
+use std::alloc::AllocError;
+use std::io;
+use thiserror::Error;
+
+/// Why a command line asks for nothing. Whatever is wrong with it, a request for help too, is answered by the usage line.
+#[derive(Clone, Copy, Debug, PartialEq, Eq, Error)]
+pub enum CommandError {
+    /// It isn't as the usage line says.
+    #[error("the command line is not as the usage line says")]
+    Usage,
+    /// There is no memory left.
+    #[error("out of memory")]
+    OutOfMemory,
+}
+
+impl From<AllocError> for CommandError {
+    fn from(_error: AllocError) -> CommandError {
+        CommandError::OutOfMemory
+    }
+}
+
+impl From<io::Error> for CommandError {
+    fn from(error: io::Error) -> CommandError {
+        match error.kind() {
+            io::ErrorKind::OutOfMemory => CommandError::OutOfMemory,
+            _ => CommandError::Usage,
+        }
+    }
+}
+
+impl From<clap::Error> for CommandError {
+    fn from(error: clap::Error) -> CommandError {
+        match error.kind() {
+            ErrorKind::OutOfMemory => CommandError::OutOfMemory,
+            _ => CommandError::Usage,
+        }
+    }
+}
