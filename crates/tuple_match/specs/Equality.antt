@@ -17,6 +17,11 @@ field_eq (word s) (word t) = bytes_eq s t
 field_eq (numbers ms) (numbers ns) = pointwise int_eq ms ns
 field_eq _ _ = false
 
+-- what `==` answers at two words, and no at all else
+abbrev pub same_word : FieldValue → FieldValue → Bool
+same_word (word s) (word t) = bytes_eq s t
+same_word _ _ = false
+
 -- what `==` answers at two lists, and no at all else
 abbrev pub same_list : FieldValue → FieldValue → Bool
 same_list (numbers ms) (numbers ns) = pointwise int_eq ms ns

@@ -1,7 +1,7 @@
 use Rattle.std.specs.Prelude.{List, map, pos, string_bytes}
 use Rattle.tuple_match.specs.FieldValue.{FieldValue, number, word, numbers}
 use Rattle.tuple_match.specs.declared.fields.Field.{Field}
-use Rattle.tuple_match.specs.declared.fields.Field.TheVariants.{Int, Word, List as Numbers, Bytes, Shorts, Narrow}
+use Rattle.tuple_match.specs.declared.fields.Field.TheVariants.{Int, Word, List as Numbers, Bytes, Shorts, Narrow, ShortWord}
 
 -- what a field says, wherever it lies in memory
 abbrev pub field_value : Field → FieldValue
@@ -11,6 +11,7 @@ field_value (Numbers ns) = numbers ns.items
 field_value (Bytes few) = numbers (map pos few)
 field_value (Shorts few) = numbers few
 field_value (Narrow ns) = numbers ns.items
+field_value (ShortWord short) = word short
 
 -- what a row of fields says
 abbrev pub fields_value : List Field → List FieldValue

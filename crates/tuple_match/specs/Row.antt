@@ -3,9 +3,13 @@ use Rattle.std.specs.Prelude.{List}
 use Rattle.tuple_match.specs.Field.{fields_value}
 use Rattle.tuple_match.specs.FieldValue.{FieldValue}
 use Rattle.tuple_match.specs.declared.row.Row.{Row}
-use Rattle.tuple_match.specs.declared.row.Row.TheVariants.{Own, Shared}
+use Rattle.tuple_match.specs.declared.row.Row.TheVariants.{Own, Shared, Two, Three, Four, Seven}
 
 -- what the fields of a tuple say, its own or shared ones
 abbrev pub row_value : Row → List FieldValue
 row_value (Own fields) = fields_value fields.items
 row_value (Shared fields) = fields_value (arc_value fields).items
+row_value (Two block) = fields_value (arc_value block.fields)
+row_value (Three block) = fields_value (arc_value block.fields)
+row_value (Four block) = fields_value (arc_value block.fields)
+row_value (Seven block) = fields_value (arc_value block.fields)

@@ -1,18 +1,19 @@
 //! One field of a tuple, and its limits.
 
-ghost use Rattle.std.specs.Prelude.{◌≡◌, ◌↔◌, ℤ, IsTrue, IfOk, IfSome};
+ghost use Rattle.std.specs.Prelude.{◌≡◌, ◌↔◌, ℤ, IsTrue, IfOk, IfSome, string_bytes};
 ghost use Rattle.std.specs.Global.{Vec};
 ghost use Rattle.std.specs.Option.{option_copied, option_map};
 ghost use Rattle.std.specs.Cmp.{on_equiv, on_per};
-ghost use Rattle.tuple_match.specs.Equality.{field_eq, field_eq_equiv, field_eq_per, same_list};
+ghost use Rattle.tuple_match.specs.Equality.{field_eq, field_eq_equiv, field_eq_per, same_list, same_word};
 ghost use Rattle.tuple_match.specs.Field.{field_value};
 ghost use Rattle.tuple_match.specs.Word.{IsWord, IsWordByte};
-ghost use Rattle.tuple_match.specs.FieldValue.{IsField, number_of, numbers, numbers_of, word_of};
+ghost use Rattle.tuple_match.specs.FieldValue.{IsField, number_of, numbers, numbers_of, word, word_of};
 ghost use Rattle.tuple_match.specs.Numbers.{numbers_in};
 
 use crate::few::{FewBytes, FewShorts};
 use crate::numbers::Numbers;
 use crate::widths::fill;
+use crate::words::ShortWord;
 use std::alloc::{AllocError, Global};
 
 /// The most bytes of a word.
@@ -35,9 +36,21 @@ pub enum Field {
     Shorts(FewShorts),
     /// The same as a `List` for numbers of 32 bits.
     Narrow(Vec<i32>),
+    /// The same as a `Word` of at most 30 bytes, in place.
+    ShortWord(ShortWord),
 }
 
 impl Field {
+    /// The word as a field: in place where it has at most 30 bytes, and else in memory of its own, for which there may be none.
+    pub fn word(alloc: Global, text: &str) -> Result<Field, AllocError>
+        ensures { IfOk result (λ field. field_value field ≡ word text.now) }
+    {
+        match ShortWord::of(text) {
+            Some(short) => Ok(Field::ShortWord(short)),
+            None => Ok(Field::Word(String::from_str(alloc, text)?)),
+        }
+    }
+
     /// Whether a tuple may hold this field: any number, a word of 1 to 32 bytes that is spelled
     /// right, or a list of at most 1,024 numbers.
     pub fn is_within_limits(&self) -> bool
@@ -50,6 +63,7 @@ impl Field {
             Field::Bytes(few) => few.as_slice().len() <= LONGEST_LIST,
             Field::Shorts(few) => few.as_slice().len() <= LONGEST_LIST,
             Field::Narrow(numbers) => numbers.len() <= LONGEST_LIST,
+            Field::ShortWord(word) => is_word(word.as_bytes()),
         }
     }
 
@@ -69,6 +83,18 @@ impl Field {
     {
         match self {
             Field::Word(word) => Some(word.as_str()),
+            Field::ShortWord(word) => Some(word.as_str()),
+            _ => None,
+        }
+    }
+
+    /// The bytes of the word that this field is, or `None` where it is none.
+    fn as_word_bytes(&self) -> Option<&[u8]>
+        ensures { option_copied result ≡ word_of (field_value self.now) }
+    {
+        match self {
+            Field::Word(word) => Some(word.as_bytes()),
+            Field::ShortWord(word) => Some(word.as_bytes()),
             _ => None,
         }
     }
@@ -82,7 +108,7 @@ impl Field {
             Field::Bytes(few) => Some(Numbers::Bytes(few.as_slice())),
             Field::Shorts(few) => Some(Numbers::Shorts(few.as_slice())),
             Field::Narrow(numbers) => Some(Numbers::Narrow(numbers.as_slice())),
-            Field::Int(_) | Field::Word(_) => None,
+            Field::Int(_) | Field::Word(_) | Field::ShortWord(_) => None,
         }
     }
 
@@ -100,14 +126,26 @@ impl Field {
         }
     }
 
-    /// The field with the numbers of a list in fewer bits, where they fit and there is memory for them; else as it is.
+    /// The field with a short word in place or the numbers of a list in fewer bits, where they fit and there is memory for them; else
+    /// as it is.
     pub fn narrowed(self) -> Field
         ensures { field_value result ≡ field_value self }
     {
         match self {
             Field::List(numbers) => narrow_list(numbers),
+            Field::Word(text) => narrow_word(text),
             field => field,
         }
+    }
+}
+
+/// The word in place, where it is short enough.
+fn narrow_word(text: String) -> Field
+    ensures { field_value result ≡ word (string_bytes text) }
+{
+    match ShortWord::of(&text) {
+        Some(short) => Field::ShortWord(short),
+        None => Field::Word(text),
     }
 }
 
@@ -153,8 +191,9 @@ impl PartialEq for Field {
     {
         match (self, other) {
             (Field::Int(number), Field::Int(other)) => number == other,
-            (Field::Word(word), Field::Word(other)) => word == other,
-            _ => is_same_list(self, other),
+            (Field::ShortWord(word), Field::ShortWord(other)) => word.as_bytes()
+                == other.as_bytes(),
+            _ => is_same_word(self, other) || is_same_list(self, other),
         }
     }
 }
@@ -178,7 +217,18 @@ impl Clone for Field {
             Field::Bytes(few) => Ok(Field::Bytes(few.copy())),
             Field::Shorts(few) => Ok(Field::Shorts(few.copy())),
             Field::Narrow(numbers) => Ok(Field::Narrow(numbers.clone()?)),
+            Field::ShortWord(word) => Ok(Field::ShortWord(word.copy())),
         }
+    }
+}
+
+/// Whether both are words, and the same.
+fn is_same_word(field: &Field, other: &Field) -> bool
+    ensures { result ≡ same_word (field_value field.now) (field_value other.now) }
+{
+    match (field.as_word_bytes(), other.as_word_bytes()) {
+        (Some(word), Some(other)) => word == other,
+        (None, _) | (_, None) => false,
     }
 }
 

@@ -5,6 +5,7 @@
 //! `matches` says whether a tuple is one that a template asks for.
 #![tactic(auto)]
 
+mod block;
 mod few;
 mod fields;
 mod matching;
@@ -14,6 +15,7 @@ mod row;
 mod templates;
 mod tuples;
 mod widths;
+mod words;
 
 pub use few::{FewBytes, FewShorts};
 pub use fields::Field;
@@ -22,3 +24,4 @@ pub use numbers::Numbers;
 pub use refusal::MatchError;
 pub use templates::{Pattern, Template};
 pub use tuples::Tuple;
+pub use words::ShortWord;

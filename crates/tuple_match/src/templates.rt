@@ -44,6 +44,7 @@ impl Pattern {
             (Pattern::Is(wanted), _) => *wanted == *field,
             (Pattern::AnyInt, Field::Int(_)) => true,
             (Pattern::AnyWord, Field::Word(_)) => true,
+            (Pattern::AnyWord, Field::ShortWord(_)) => true,
             (Pattern::AnyList, _) => field.as_list().is_some(),
             _ => false,
         }

@@ -6,6 +6,7 @@ ghost use Rattle.tuple_match.specs.Field.{field_value, fields_value};
 ghost use Rattle.tuple_match.specs.Row.{row_value};
 ghost use Rattle.tuple_match.specs.Tuple.{IsTuple};
 
+use crate::block::Block;
 use crate::fields::Field;
 use crate::refusal::MatchError;
 use crate::row::Row;
@@ -60,6 +61,42 @@ impl Tuple {
         }
     }
 
+    /// The tuple of these two fields in one block, which its copies share with it. `AllocError` where there is no memory for it.
+    pub fn of_two(alloc: Global, fields: [Field; 2]) -> Result<Tuple, AllocError>
+        requires { IsTuple (fields_value fields) }
+        ensures { IfOk result (λ tuple. tuple ≡ fields_value fields) }
+    {
+        let row = Row::Two(Block::new(alloc, fields)?);
+        Ok(Tuple { row })
+    }
+
+    /// The same of three fields.
+    pub fn of_three(alloc: Global, fields: [Field; 3]) -> Result<Tuple, AllocError>
+        requires { IsTuple (fields_value fields) }
+        ensures { IfOk result (λ tuple. tuple ≡ fields_value fields) }
+    {
+        let row = Row::Three(Block::new(alloc, fields)?);
+        Ok(Tuple { row })
+    }
+
+    /// The same of four fields.
+    pub fn of_four(alloc: Global, fields: [Field; 4]) -> Result<Tuple, AllocError>
+        requires { IsTuple (fields_value fields) }
+        ensures { IfOk result (λ tuple. tuple ≡ fields_value fields) }
+    {
+        let row = Row::Four(Block::new(alloc, fields)?);
+        Ok(Tuple { row })
+    }
+
+    /// The same of seven fields.
+    pub fn of_seven(alloc: Global, fields: [Field; 7]) -> Result<Tuple, AllocError>
+        requires { IsTuple (fields_value fields) }
+        ensures { IfOk result (λ tuple. tuple ≡ fields_value fields) }
+    {
+        let row = Row::Seven(Block::new(alloc, fields)?);
+        Ok(Tuple { row })
+    }
+
     /// The same tuple, whose copies share its fields with it and take no memory. Refused memory, it comes back.
     pub fn share(self, alloc: Global) -> Result<Tuple, (AllocError, Tuple)>
         ensures { MatchResult result (λ tuple. tuple ≡ self) (λ back. back.1 ≡ self) }
@@ -79,7 +116,8 @@ impl Tuple {
         self.row.as_slice()
     }
 
-    /// Takes the fields out, first to last. `AllocError` only where copies share them and there is no memory for others.
+    /// Takes the fields out, first to last. `AllocError` only where there is no memory for a list of them: where they lie in one block,
+    /// or copies share them.
     pub fn into_fields(self) -> Result<Vec<Field>, AllocError>
         ensures { IfOk result (λ fields. (fields_value fields.items ≡ self) × IsTuple self) }
     {

@@ -1,6 +1,0 @@
-use Rattle.tuple_match.specs.Field.{field_value}
-use Rattle.tuple_match.proofs.FieldLemmas.{IfOk-from_cases, map-AllZip}
-use Rattle.tuple_match.proofs.row.copied.Goals as goal
-
-pub returns : goal.returns
-returns c = IfOk-from_cases _ _ _ c.clone.result c.clone.ensures.cases (λ copies same. map-AllZip field_value c.args.fields.now.items copies.items same.0)
