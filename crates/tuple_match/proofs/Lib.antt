@@ -1,3 +1,4 @@
 pub mod Deciding
 pub mod FieldLemmas
 pub mod MatchingLemmas
+pub mod Orders

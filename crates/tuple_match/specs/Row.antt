@@ -9,7 +9,7 @@ use Rattle.tuple_match.specs.declared.row.Row.TheVariants.{Own, Shared, Two, Thr
 abbrev pub row_value : Row → List FieldValue
 row_value (Own fields) = fields_value fields.items
 row_value (Shared fields) = fields_value (arc_value fields).items
-row_value (Two block) = fields_value (arc_value block.fields)
-row_value (Three block) = fields_value (arc_value block.fields)
-row_value (Four block) = fields_value (arc_value block.fields)
-row_value (Seven block) = fields_value (arc_value block.fields)
+row_value (Two fields memory) = fields_value (arc_value fields)
+row_value (Three fields memory) = fields_value (arc_value fields)
+row_value (Four fields memory) = fields_value (arc_value fields)
+row_value (Seven fields memory) = fields_value (arc_value fields)

@@ -8,9 +8,11 @@ ghost use Rattle.tuple_match.specs.Equality.{field_eq, field_eq_equiv, field_eq_
 ghost use Rattle.tuple_match.specs.Field.{field_value};
 ghost use Rattle.tuple_match.specs.Word.{IsWord, IsWordByte};
 ghost use Rattle.tuple_match.specs.FieldValue.{IsField, number_of, numbers, numbers_of, word, word_of};
+ghost use Rattle.tuple_match.specs.NumberList.{numbers_held};
 ghost use Rattle.tuple_match.specs.Numbers.{numbers_in};
 
 use crate::few::{FewBytes, FewShorts};
+use crate::lists::NumberList;
 use crate::numbers::Numbers;
 use crate::widths::fill;
 use crate::words::ShortWord;
@@ -123,6 +125,19 @@ impl Field {
                 Some(list) => Ok(Some(list.to_vec(alloc)?)),
                 None => Ok(None),
             },
+        }
+    }
+
+    /// The list that this field is, as it lies, or `None` where it is none. Takes no memory.
+    pub fn into_numbers(self) -> Option<NumberList>
+        ensures { option_map numbers_held result ≡ numbers_of (field_value self) }
+    {
+        match self {
+            Field::List(numbers) => Some(NumberList::Wide(numbers)),
+            Field::Bytes(few) => Some(NumberList::Bytes(few)),
+            Field::Shorts(few) => Some(NumberList::Shorts(few)),
+            Field::Narrow(numbers) => Some(NumberList::Narrow(numbers)),
+            Field::Int(_) | Field::Word(_) | Field::ShortWord(_) => None,
         }
     }
 

@@ -8,6 +8,7 @@
 mod block;
 mod few;
 mod fields;
+mod lists;
 mod matching;
 mod numbers;
 mod refusal;
@@ -19,6 +20,7 @@ mod words;
 
 pub use few::{FewBytes, FewShorts};
 pub use fields::Field;
+pub use lists::NumberList;
 pub use matching::{does_match_law, matches};
 pub use numbers::Numbers;
 pub use refusal::MatchError;

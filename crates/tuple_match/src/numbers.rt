@@ -1,12 +1,13 @@
 //! The numbers of a list, in whatever width they lie.
 
 ghost use Rattle.std.specs.Prelude.{◌≡◌, ◌<◌, ◌↔◌, IfOk, IsTrue, length, map, pos, slice_index_or};
-ghost use Rattle.std.specs.Cmp.Lexicographic.{pointwise};
-ghost use Rattle.std.specs.Ordering.{int_eq};
+ghost use Rattle.std.specs.Cmp.Lexicographic.{pointwise, slice_cmp};
+ghost use Rattle.std.specs.Ordering.{int_cmp, int_eq};
 ghost use Rattle.tuple_match.specs.Numbers.{numbers_in};
 
 use crate::widths::widened;
 use std::alloc::{AllocError, Global};
+use std::cmp::Ordering;
 
 /// The numbers of a list that a field lends, in the width in which they lie there.
 #[derive(Clone, Copy, Debug)]
@@ -59,6 +60,17 @@ impl Numbers<'_> {
         }
     }
 
+    /// How the two lists stand to each other: the first numbers that differ decide, and a list stands before those that begin with it.
+    /// Lists of bytes are compared as they lie.
+    pub fn compare(&self, other: &Numbers<'_>) -> Ordering
+        ensures { result ≡ slice_cmp int_cmp (numbers_in self.now) (numbers_in other.now) }
+    {
+        match (self, other) {
+            (Numbers::Bytes(numbers), Numbers::Bytes(other)) => compare_bytes(numbers, other),
+            _ => compare_each(self, other),
+        }
+    }
+
     /// Whether both are equal lists. Those of one width are compared as they lie.
     pub(crate) fn is_same(&self, other: &Numbers<'_>) -> bool
         ensures { result ≡ pointwise int_eq (numbers_in self.now) (numbers_in other.now) }
@@ -77,6 +89,25 @@ fn are_same_bytes(numbers: &[u8], other: &[u8]) -> bool
     ensures { result ≡ pointwise int_eq (map pos numbers.now) (map pos other.now) }
 {
     numbers == other
+}
+
+fn compare_bytes(numbers: &[u8], other: &[u8]) -> Ordering
+    ensures { result ≡ slice_cmp int_cmp (map pos numbers.now) (map pos other.now) }
+{
+    numbers.cmp(other)
+}
+
+/// How the two lists stand to each other, number by number.
+fn compare_each(numbers: &Numbers<'_>, other: &Numbers<'_>) -> Ordering
+    ensures { result ≡ slice_cmp int_cmp (numbers_in numbers.now) (numbers_in other.now) }
+{
+    for place in 0..numbers.len().min(other.len()) {
+        let order = numbers.at(place).cmp(&other.at(place));
+        if order != Ordering::Equal {
+            return order;
+        }
+    }
+    numbers.len().cmp(&other.len())
 }
 
 /// Whether both are equal lists, number by number.

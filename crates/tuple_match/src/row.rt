@@ -4,20 +4,20 @@ ghost use Rattle.std.specs.Prelude.{◌≡◌, IfOk, IfSome, MatchResult};
 ghost use Rattle.tuple_match.specs.Field.{fields_value};
 ghost use Rattle.tuple_match.specs.Row.{row_value};
 
-use crate::block::{Block, copied};
+use crate::block::{copied, taken};
 use crate::fields::Field;
 use std::alloc::{AllocError, Global};
 use std::sync::Arc;
 
-/// Fields that a tuple has for itself, or that several tuples share: in a list, or that many in one block.
+/// Fields that a tuple has for itself, or that several tuples share: in a list, or so many in one block, with where its memory is from.
 #[derive(Drop)]
 pub(crate) enum Row {
     Own(Vec<Field>),
     Shared(Arc<Vec<Field>>),
-    Two(Block<2>),
-    Three(Block<3>),
-    Four(Block<4>),
-    Seven(Block<7>),
+    Two(Arc<[Field; 2]>, Global),
+    Three(Arc<[Field; 3]>, Global),
+    Four(Arc<[Field; 4]>, Global),
+    Seven(Arc<[Field; 7]>, Global),
 }
 
 impl Row {
@@ -40,10 +40,10 @@ impl Row {
         match self {
             Row::Own(fields) => fields.as_slice(),
             Row::Shared(fields) => fields.as_slice(),
-            Row::Two(block) => block.as_slice(),
-            Row::Three(block) => block.as_slice(),
-            Row::Four(block) => block.as_slice(),
-            Row::Seven(block) => block.as_slice(),
+            Row::Two(fields, _) => fields.as_slice(),
+            Row::Three(fields, _) => fields.as_slice(),
+            Row::Four(fields, _) => fields.as_slice(),
+            Row::Seven(fields, _) => fields.as_slice(),
         }
     }
 
@@ -53,7 +53,7 @@ impl Row {
     {
         match self.shared() {
             Some(row) => Ok(row),
-            None => Ok(Row::Own(self.copied()?)),
+            None => Ok(Row::Own(copied(self.allocator(), self.as_slice())?)),
         }
     }
 
@@ -63,25 +63,23 @@ impl Row {
     {
         match self {
             Row::Own(_) => None,
-            Row::Shared(fields) => fields.clone().ok().map(Row::Shared),
-            Row::Two(block) => block.shared().map(Row::Two),
-            Row::Three(block) => block.shared().map(Row::Three),
-            Row::Four(block) => block.shared().map(Row::Four),
-            Row::Seven(block) => block.shared().map(Row::Seven),
+            Row::Shared(fields) => Some(Row::Shared(fields.clone().ok()?)),
+            Row::Two(fields, alloc) => Some(Row::Two(fields.clone().ok()?, *alloc)),
+            Row::Three(fields, alloc) => Some(Row::Three(fields.clone().ok()?, *alloc)),
+            Row::Four(fields, alloc) => Some(Row::Four(fields.clone().ok()?, *alloc)),
+            Row::Seven(fields, alloc) => Some(Row::Seven(fields.clone().ok()?, *alloc)),
         }
     }
 
-    /// Other fields that say the same.
-    fn copied(&self) -> Result<Vec<Field>, AllocError>
-        ensures { IfOk result (λ copies. fields_value copies.items ≡ row_value self.now) }
-    {
+    /// Where the memory comes from.
+    fn allocator(&self) -> Global {
         match self {
-            Row::Own(fields) => copied(*fields.allocator(), fields),
-            Row::Shared(fields) => copied(*fields.allocator(), fields),
-            Row::Two(block) => block.copied(),
-            Row::Three(block) => block.copied(),
-            Row::Four(block) => block.copied(),
-            Row::Seven(block) => block.copied(),
+            Row::Own(fields) => *fields.allocator(),
+            Row::Shared(fields) => *fields.allocator(),
+            Row::Two(_, alloc) => *alloc,
+            Row::Three(_, alloc) => *alloc,
+            Row::Four(_, alloc) => *alloc,
+            Row::Seven(_, alloc) => *alloc,
         }
     }
 
@@ -95,10 +93,10 @@ impl Row {
                 Ok(fields) => Ok(fields),
                 Err(shared) => copied(*shared.allocator(), &shared),
             },
-            Row::Two(block) => block.into_fields(),
-            Row::Three(block) => block.into_fields(),
-            Row::Four(block) => block.into_fields(),
-            Row::Seven(block) => block.into_fields(),
+            Row::Two(fields, alloc) => taken(fields, alloc),
+            Row::Three(fields, alloc) => taken(fields, alloc),
+            Row::Four(fields, alloc) => taken(fields, alloc),
+            Row::Seven(fields, alloc) => taken(fields, alloc),
         }
     }
 }

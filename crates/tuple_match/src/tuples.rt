@@ -6,13 +6,13 @@ ghost use Rattle.tuple_match.specs.Field.{field_value, fields_value};
 ghost use Rattle.tuple_match.specs.Row.{row_value};
 ghost use Rattle.tuple_match.specs.Tuple.{IsTuple};
 
-use crate::block::Block;
 use crate::fields::Field;
 use crate::refusal::MatchError;
 use crate::row::Row;
 use std::alloc::{AllocError, Global};
 use std::fmt;
 use std::marker::Model;
+use std::sync::Arc;
 
 /// The most fields of a tuple, and the most patterns of a template.
 pub(crate) const MOST_FIELDS: usize = 8;
@@ -66,8 +66,10 @@ impl Tuple {
         requires { IsTuple (fields_value fields) }
         ensures { IfOk result (λ tuple. tuple ≡ fields_value fields) }
     {
-        let row = Row::Two(Block::new(alloc, fields)?);
-        Ok(Tuple { row })
+        let fields = Arc::new(alloc, fields).map_err(|_| AllocError)?;
+        Ok(Tuple {
+            row: Row::Two(fields, alloc),
+        })
     }
 
     /// The same of three fields.
@@ -75,8 +77,10 @@ impl Tuple {
         requires { IsTuple (fields_value fields) }
         ensures { IfOk result (λ tuple. tuple ≡ fields_value fields) }
     {
-        let row = Row::Three(Block::new(alloc, fields)?);
-        Ok(Tuple { row })
+        let fields = Arc::new(alloc, fields).map_err(|_| AllocError)?;
+        Ok(Tuple {
+            row: Row::Three(fields, alloc),
+        })
     }
 
     /// The same of four fields.
@@ -84,8 +88,10 @@ impl Tuple {
         requires { IsTuple (fields_value fields) }
         ensures { IfOk result (λ tuple. tuple ≡ fields_value fields) }
     {
-        let row = Row::Four(Block::new(alloc, fields)?);
-        Ok(Tuple { row })
+        let fields = Arc::new(alloc, fields).map_err(|_| AllocError)?;
+        Ok(Tuple {
+            row: Row::Four(fields, alloc),
+        })
     }
 
     /// The same of seven fields.
@@ -93,8 +99,10 @@ impl Tuple {
         requires { IsTuple (fields_value fields) }
         ensures { IfOk result (λ tuple. tuple ≡ fields_value fields) }
     {
-        let row = Row::Seven(Block::new(alloc, fields)?);
-        Ok(Tuple { row })
+        let fields = Arc::new(alloc, fields).map_err(|_| AllocError)?;
+        Ok(Tuple {
+            row: Row::Seven(fields, alloc),
+        })
     }
 
     /// The same tuple, whose copies share its fields with it and take no memory. Refused memory, it comes back.
