@@ -6,11 +6,21 @@ use Rattle.std.proofs.lemmas.Option.{none-some}
 use Rattle.std.specs.Str.{bytes_eq}
 use Rattle.std.proofs.lemmas.Slice.Eq.{bytes_eq-Decides}
 use Rattle.tuple_match.specs.Field.{field_value, fields_value}
-use Rattle.tuple_match.specs.FieldValue.{FieldValue, number, number_of, numbers, numbers_of, word}
+use Rattle.tuple_match.specs.FieldValue.{FieldValue, number, number_of, numbers, numbers_of, word, word_of}
 use Rattle.tuple_match.specs.declared.fields.Field.{Field}
 use Rattle.qap_proof.specs.declared.side.Side.{Side}
 use Rattle.qap_search.specs.DecidedTuples.{IsNoPiece}
 use Rattle.qap_search.specs.Piece.{side_word}
+
+abbrev word_in : Option (List ℕ) → List ℕ
+word_in (Some bytes) = bytes
+word_in None = []
+
+-- the word that a field is told to be
+pub word_said : (field : FieldValue) (bytes : List ℕ) → Some bytes ≡ word_of field → field ≡ word bytes
+word_said (number m) bytes e = absurd (none-some bytes (sym e))
+word_said (word s) bytes e = ap word (sym (ap word_in e))
+word_said (numbers ms) bytes e = absurd (none-some bytes (sym e))
 
 abbrev bytes_in : FieldValue → List ℕ
 bytes_in (word bytes) = bytes

@@ -76,6 +76,7 @@ fn push_field(line: &mut Vec<u8>, field: &Field) -> Result<(), AllocError>
     match field {
         Field::Int(number) => push_number(line, *number),
         Field::Word(word) => line.extend_from_slice(word.as_bytes()),
+        Field::ShortWord(word) => line.extend_from_slice(word.as_bytes()),
         Field::List(numbers) => push_list(line, numbers),
         Field::Bytes(_) => push_lean_list(line, field),
         Field::Shorts(_) => push_lean_list(line, field),

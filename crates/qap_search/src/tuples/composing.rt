@@ -151,12 +151,11 @@ fn tuple_of_mirrored(
 ) -> Result<Tuple, AllocError>
     ensures { IfOk result (λ t. t ≡ mirrored_tuple (placing node.now facility location) image.now.earlier image.now.by) }
 {
-    let name = word_field(alloc, "mirrored")?;
+    let name = Field::word(alloc, "mirrored")?;
     let list = Field::List(child_numbers(alloc, node, facility, location)?).narrowed();
     let earlier = Field::Int(i128::from(image.earlier));
     let by = Field::List(locations_of(alloc, &image.by)?).narrowed();
-    let fields = vec![in alloc; name, list, earlier, by]?;
-    shared(alloc, Tuple::new(fields).unwrap())
+    Tuple::of_four(alloc, [name, list, earlier, by])
 }
 
 /// The tuple of a node that is split so with these duals, and of whose children these are cut off.
@@ -171,15 +170,14 @@ fn tuple_of_pruned(
     requires cut_count { length cuts.items ≤ 256 }
     ensures { IfOk result (λ t. t ≡ pruned_tuple node.now (pruned_split split.now.side split.now.number split.now.u.now split.now.v.now) (pair split.now.u.now split.now.v.now) cuts.items) }
 {
-    let name = word_field(alloc, "pruned")?;
+    let name = Field::word(alloc, "pruned")?;
     let list = Field::List(node_numbers(alloc, node, 0)?).narrowed();
     let on = side_field(alloc, split.side)?;
     let number = Field::Int(i128::from(split.number));
     let u = Field::List(Vec::from_slice(alloc, split.u)?).narrowed();
     let v = Field::List(Vec::from_slice(alloc, split.v)?).narrowed();
     let cuts = Field::List(cuts).narrowed();
-    let fields = vec![in alloc; name, list, on, number, u, v, cuts]?;
-    shared(alloc, Tuple::new(fields).unwrap())
+    Tuple::of_seven(alloc, [name, list, on, number, u, v, cuts])
 }
 
 /// The word for what a split is on.
@@ -187,8 +185,8 @@ fn side_field(alloc: Global, side: Side) -> Result<Field, AllocError>
     ensures { IfOk result (λ field. field_value field ≡ word (side_word side)) }
 {
     match side {
-        Side::Facility => word_field(alloc, "facility"),
-        Side::Location => word_field(alloc, "location"),
+        Side::Facility => Field::word(alloc, "facility"),
+        Side::Location => Field::word(alloc, "location"),
     }
 }
 
@@ -203,21 +201,19 @@ pub(crate) fn tuple_of_closed(
     requires v_count { length v.items ≤ 256 }
     ensures { IfOk result (λ t. t ≡ closed_tuple node.now u.items v.items) }
 {
-    let name = word_field(alloc, "closed")?;
+    let name = Field::word(alloc, "closed")?;
     let list = Field::List(node_numbers(alloc, node, 0)?).narrowed();
     let (u, v) = (Field::List(u).narrowed(), Field::List(v).narrowed());
-    let fields = vec![in alloc; name, list, u, v]?;
-    shared(alloc, Tuple::new(fields).unwrap())
+    Tuple::of_four(alloc, [name, list, u, v])
 }
 
 /// The tuple of a node that is split on this facility.
 fn tuple_of_split(alloc: Global, node: &Partial, facility: u16) -> Result<Tuple, AllocError>
     ensures { IfOk result (λ t. t ≡ split_tuple node.now facility) }
 {
-    let name = word_field(alloc, "split")?;
+    let name = Field::word(alloc, "split")?;
     let list = Field::List(node_numbers(alloc, node, 0)?).narrowed();
-    let fields = vec![in alloc; name, list, Field::Int(i128::from(facility))]?;
-    shared(alloc, Tuple::new(fields).unwrap())
+    Tuple::of_three(alloc, [name, list, Field::Int(i128::from(facility))])
 }
 
 /// The tuple of an open node.
@@ -225,10 +221,9 @@ pub(crate) fn tuple_of_node(alloc: Global, node: &Partial) -> Result<Tuple, Allo
     ensures value { IfOk result (λ t. t ≡ node_tuple node.now) }
     ensures placement { IfOk result (λ _. IsPlacement node.now) }
 {
-    let name = word_field(alloc, "node")?;
+    let name = Field::word(alloc, "node")?;
     let list = Field::List(node_numbers(alloc, node, 0)?).narrowed();
-    let fields = vec![in alloc; name, list]?;
-    shared(alloc, Tuple::new(fields).unwrap())
+    Tuple::of_two(alloc, [name, list])
 }
 
 /// The tuple of the open node that puts the facility at the location too.
@@ -240,10 +235,9 @@ fn tuple_of_child(
 ) -> Result<Tuple, AllocError>
     ensures { IfOk result (λ t. t ≡ node_tuple (placing node.now facility location)) }
 {
-    let name = word_field(alloc, "node")?;
+    let name = Field::word(alloc, "node")?;
     let list = Field::List(child_numbers(alloc, node, facility, location)?).narrowed();
-    let fields = vec![in alloc; name, list]?;
-    shared(alloc, Tuple::new(fields).unwrap())
+    Tuple::of_two(alloc, [name, list])
 }
 
 /// The list of the node that puts the facility at the location too.
@@ -266,20 +260,9 @@ fn child_numbers(
 pub fn tuple_of_best(alloc: Global, cost: i128, perm: &Perm) -> Result<Tuple, AllocError>
     ensures { IfOk result (λ t. t ≡ best_tuple cost perm.now) }
 {
-    let name = word_field(alloc, "best")?;
+    let name = Field::word(alloc, "best")?;
     let list = Field::List(locations_of(alloc, perm)?);
-    let fields = vec![in alloc; name, Field::Int(cost), list]?;
-    shared(alloc, Tuple::new(fields).unwrap())
-}
-
-/// The tuple, shared with the copies that workers take of it while the space is locked.
-fn shared(alloc: Global, tuple: Tuple) -> Result<Tuple, AllocError>
-    ensures { IfOk result (λ t. t ≡ tuple) }
-{
-    match tuple.share(alloc) {
-        Ok(tuple) => Ok(tuple),
-        Err((error, _)) => Err(error),
-    }
+    Tuple::of_three(alloc, [name, Field::Int(cost), list])
 }
 
 /// The locations of the permutation, as numbers of a tuple.
@@ -292,13 +275,6 @@ fn locations_of(alloc: Global, perm: &Perm) -> Result<Vec<i128>, AllocError>
         numbers.push(i128::from(perm.at(i)))?;
     }
     Ok(numbers)
-}
-
-/// The word as a field.
-pub(crate) fn word_field(alloc: Global, name: &str) -> Result<Field, AllocError>
-    ensures { IfOk result (λ field. field_value field ≡ word name.now) }
-{
-    Ok(Field::Word(String::from_str(alloc, name)?))
 }
 
 /// The node as a list, with room for so many numbers more: facility and location by turns, in the order of placing.

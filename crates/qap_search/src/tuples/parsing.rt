@@ -314,8 +314,8 @@ fn is_only_word(name: &str, fields: &[Field]) -> bool
 pub(crate) fn is_word(name: &str, field: &Field) -> bool
     ensures { IsTrue result ↔ (field_value field.now ≡ word name.now) }
 {
-    match field {
-        Field::Word(found) => found.as_str() == name,
-        _ => false,
+    match field.as_word() {
+        Some(word) => *word == *name,
+        None => false,
     }
 }

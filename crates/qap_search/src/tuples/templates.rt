@@ -4,15 +4,14 @@ ghost use Rattle.std.specs.Prelude.{◌≡◌, IfOk};
 ghost use Rattle.qap_search.specs.Found.{best_template};
 ghost use Rattle.qap_search.specs.Piece.{node_template};
 
-use crate::tuples::composing::word_field;
 use std::alloc::{AllocError, Global};
-use tuple_match::{Pattern, Template};
+use tuple_match::{Field, Pattern, Template};
 
 /// Asks for any open node.
 pub fn node_template(alloc: Global) -> Result<Template, AllocError>
     ensures { IfOk result (λ template. template ≡ node_template) }
 {
-    let name = Pattern::Is(word_field(alloc, "node")?);
+    let name = Pattern::Is(Field::word(alloc, "node")?);
     let patterns = vec![in alloc; name, Pattern::AnyList]?;
     Ok(Template::new(patterns).unwrap())
 }
@@ -21,7 +20,7 @@ pub fn node_template(alloc: Global) -> Result<Template, AllocError>
 pub fn best_template(alloc: Global) -> Result<Template, AllocError>
     ensures { IfOk result (λ template. template ≡ best_template) }
 {
-    let name = Pattern::Is(word_field(alloc, "best")?);
+    let name = Pattern::Is(Field::word(alloc, "best")?);
     let patterns = vec![in alloc; name, Pattern::AnyInt, Pattern::AnyList]?;
     Ok(Template::new(patterns).unwrap())
 }

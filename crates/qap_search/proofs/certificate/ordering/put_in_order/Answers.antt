@@ -8,7 +8,9 @@ use Rattle.qap_search.specs.declared.tuples.parsing.DecidedNode.{DecidedNode}
 use Rattle.qap_search.proofs.certificate.ordering.put_in_order.Goals as goal
 
 pub returns-clause-moved : goal.returns-clause-moved
-returns-clause-moved c = IsPermutation-trans _ _ _ c.sort_unstable_by.ensures.permutation c.reverse.ensures.permutation
+returns-clause-moved c =
+    IsPermutation-trans _ _ _ c.sort_by_cached_key.ensures.permutation
+    (IsPermutation-trans _ _ _ c.sort_unstable_by.ensures.permutation c.reverse.ensures.permutation)
 
 pub returns-clause-ordered : goal.returns-clause-ordered
 returns-clause-ordered c =

@@ -1,16 +1,13 @@
-use Rattle.std.proofs.Common.{sym, ap, subst, arith, rules}
+use Rattle.std.proofs.Common.{sym, subst, arith, rules}
 use Rattle.std.specs.Prelude.{codes}
 use Rattle.tuple_match.specs.FieldValue.{IsField, word}
-use Rattle.tuple_match.specs.Field.{fields_value}
-use Rattle.tuple_match.specs.Tuple.{IsTuple}
 use Rattle.qap_search.proofs.Written.{four_fields}
 use Rattle.qap_search.proofs.tuples.composing.tuple_of_closed.Goals as goal
 
-pub unwrap-requires : goal.unwrap-requires
-unwrap-requires c =
-    let is = c.in_ok-fields.ensures.items in
+pub of_four-requires : goal.of_four-requires
+of_four-requires c =
     let name : IsField (word (codes "closed")) = search rules in
-    c.new.ensures.accepted.1 (subst IsTuple (sym (ap fields_value is)) (four_fields _ _ _ _ (subst IsField (sym c.in_ok-name.ensures) name)
+    four_fields _ _ _ _ (subst IsField (sym c.in_ok-name.ensures) name)
     (subst IsField (sym c.narrowed-list.ensures) (omega (arith, c.in_ok-node_numbers.ensures.short)))
     (subst IsField (sym c.narrowed-u.ensures) (omega (arith, c.requires.u_count)))
-    (subst IsField (sym c.narrowed-v.ensures) (omega (arith, c.requires.v_count)))))
+    (subst IsField (sym c.narrowed-v.ensures) (omega (arith, c.requires.v_count)))

@@ -1,11 +1,9 @@
-use Rattle.std.proofs.Common.{ap, ◌∙◌}
-use Rattle.std.specs.Str.{bytes_eq}
 use Rattle.tuple_match.specs.Field.{field_value}
-use Rattle.qap_search.proofs.Fields.{word_test}
+use Rattle.qap_search.proofs.Fields.{word_said, word_test}
 use Rattle.qap_search.proofs.tuples.parsing.is_word.Goals as goal
 
-pub returns-in-Word : goal.returns-in-Word
-returns-in-Word c =
-    word_test c.eq.result _ c.args.name.now (field_value c.args.field.now)
-    (c.eq.ensures ∙ ap (λ s. bytes_eq s c.args.name.now) c.as_str.ensures.value)
-    (ap field_value c.in-Word.is)
+pub returns-in-Some : goal.returns-in-Some
+returns-in-Some c =
+    let field = field_value c.args.field.now in
+    let said = rw c.in-Some.is at c.as_word.ensures in
+    word_test c.eq.result c.in-Some.word.now c.args.name.now field c.eq.ensures (word_said field c.in-Some.word.now said)

@@ -1,0 +1,133 @@
+use std::alloc::{AllocError, Global};
+use std::cmp::Ordering;
+use std::test::Fail;
+use tuple_match::{Field, Tuple};
+
+/// Words, and whether they are short enough to lie in place.
+static WORDS: [(&str, bool); 4] = [
+    ("", true),
+    ("job", true),
+    ("abcdefghijklmnopqrstuvwxyz_012", true),
+    ("abcdefghijklmnopqrstuvwxyz_0123", false),
+];
+
+fn long_word(alloc: Global, text: &str) -> Result<Field, AllocError> {
+    Ok(Field::Word(String::from_str(alloc, text)?))
+}
+
+fn is_in_place(field: &Field) -> bool {
+    matches!(field, Field::ShortWord(_))
+}
+
+#[test]
+fn puts_short_words_in_place(rt: HostRuntime) -> Result<(), Fail> {
+    for (text, in_place) in WORDS.iter() {
+        let word = Field::word(rt.alloc(), text)?;
+        assert_eq!(rt; is_in_place(&word), *in_place);
+        assert_eq!(rt; word.as_word(), Some(*text));
+        assert!(rt; long_word(rt.alloc(), text)? == word);
+        let narrowed = long_word(rt.alloc(), text)?.narrowed();
+        assert_eq!(rt; is_in_place(&narrowed), *in_place);
+        assert!(rt; narrowed == word.clone()?);
+    }
+    Ok(())
+}
+
+#[test]
+fn tells_short_words_apart(rt: HostRuntime) -> Result<(), Fail> {
+    let alloc = rt.alloc();
+    assert!(rt; Field::word(alloc, "job")? != Field::word(alloc, "jobs")?);
+    assert!(rt; Field::word(alloc, "job")? != long_word(alloc, "jab")?);
+    assert!(rt; Field::word(alloc, "job")? != Field::Int(3));
+    Ok(())
+}
+
+/// Lists, and how they stand to each other.
+static ORDERS: [(&[i128], &[i128], Ordering); 6] = [
+    (&[], &[], Ordering::Equal),
+    (&[1, 2], &[1, 2, 0], Ordering::Less),
+    (&[1, 200], &[1, 3, 9], Ordering::Greater),
+    (&[1, 2], &[1, -300], Ordering::Greater),
+    (&[1, 2], &[1, i128::MAX], Ordering::Less),
+    (&[-5, 7], &[-5, 7], Ordering::Equal),
+];
+
+/// How one list stands to another, both narrowed.
+fn compared(alloc: Global, list: &[i128], other: &[i128]) -> Result<Option<Ordering>, AllocError> {
+    let list = Field::List(list.to_vec(alloc)?).narrowed();
+    let other = Field::List(other.to_vec(alloc)?).narrowed();
+    match (list.as_list(), other.as_list()) {
+        (Some(list), Some(other)) => Ok(Some(list.compare(&other))),
+        (None, _) | (_, None) => Ok(None),
+    }
+}
+
+#[test]
+fn compares_lists(rt: HostRuntime) -> Result<(), Fail> {
+    for (row, (list, other, want)) in ORDERS.iter().enumerate() {
+        let told = compared(rt.alloc(), list, other)?;
+        assert_eq!(rt; told, Some(*want), "row {row}");
+    }
+    Ok(())
+}
+
+/// The numbers of a list of one width, taken out of its field.
+fn taken_out(alloc: Global, list: &[i128]) -> Result<Option<Vec<i128>>, AllocError> {
+    match Field::List(list.to_vec(alloc)?).narrowed().into_numbers() {
+        Some(numbers) => Ok(Some(numbers.into_vec(alloc)?)),
+        None => Ok(None),
+    }
+}
+
+#[test]
+fn takes_lists_out(rt: HostRuntime) -> Result<(), Fail> {
+    for (row, (list, _, _)) in ORDERS.iter().enumerate() {
+        let told = taken_out(rt.alloc(), list)?;
+        assert_eq!(rt; told.as_deref(), Some(*list), "row {row}");
+    }
+    assert!(rt; Field::Int(1).into_numbers().is_none());
+    Ok(())
+}
+
+/// Tuples of two, three, four and seven numbers, each in one block.
+fn in_blocks(alloc: Global) -> Result<[Tuple; 4], AllocError> {
+    let [a, b, c, d, e, f, g] = [1, 2, 3, 4, 5, 6, 7].map(Field::Int);
+    Ok([
+        Tuple::of_two(alloc, [Field::Int(1), Field::Int(2)])?,
+        Tuple::of_three(alloc, [Field::Int(1), Field::Int(2), Field::Int(3)])?,
+        Tuple::of_four(
+            alloc,
+            [Field::Int(1), Field::Int(2), Field::Int(3), Field::Int(4)],
+        )?,
+        Tuple::of_seven(alloc, [a, b, c, d, e, f, g])?,
+    ])
+}
+
+/// The first numbers from 1 on, as fields.
+fn numbers_up_to(alloc: Global, count: i128) -> Result<Vec<Field>, AllocError> {
+    let mut fields = Vec::new(alloc);
+    for number in 0..count {
+        fields.push(Field::Int(number + 1))?;
+    }
+    Ok(fields)
+}
+
+/// Whether the fields that come out of a tuple are as many numbers from 1 on.
+fn gives_back(alloc: Global, tuple: Tuple, count: i128) -> Result<bool, AllocError> {
+    Ok(tuple.into_fields()? == numbers_up_to(alloc, count)?)
+}
+
+#[test]
+fn shares_a_block(rt: HostRuntime) -> Result<(), Fail> {
+    let alloc = rt.alloc();
+    let [two, three, four, seven] = in_blocks(alloc)?;
+    let copy = four.copy()?;
+    assert!(rt; copy == four);
+    assert!(rt; copy != three);
+    assert!(rt; gives_back(alloc, four, 4)?);
+    assert!(rt; gives_back(alloc, copy, 4)?);
+    assert!(rt; gives_back(alloc, two, 2)?);
+    assert!(rt; gives_back(alloc, three, 3)?);
+    assert!(rt; gives_back(alloc, seven, 7)?);
+    Ok(())
+}
