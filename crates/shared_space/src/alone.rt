@@ -12,7 +12,7 @@ use crate::error::CommitError;
 use crate::law::Law;
 use crate::room::Room;
 use crate::share::{Share, gathered, handed_out};
-use space_txn::{Found, Spent, Txn, TxnError, TxnSpace, content_law};
+use space_txn::{Found, Spare, Spent, Txn, TxnError, TxnSpace, content_law};
 use std::alloc::{AllocError, Global};
 use std::marker::Model;
 use std::sync::ledger::{Blank, Book};
@@ -98,13 +98,6 @@ impl<L: Law> Alone<L> {
         self.closed = true;
     }
 
-    /// What the transaction held that was ended last, unless it has been taken before.
-    pub(crate) fn take_spent(&mut self) -> Option<Spent>
-        ensures { self.new ≡ self.old }
-    {
-        self.spent.take()
-    }
-
     /// Puts a tuple out, outside all transactions.
     pub(crate) fn out(&mut self, tuple: Tuple, lease: Lease) -> Result<EntryId, (SpaceError, Tuple)>
         requires { lease ≡ Lease.Forever → IsFree L.lawful L.allowed }
@@ -184,6 +177,15 @@ impl<L: Law> Room<L> for Alone<L> {
     fn begin(&mut self, asked: u64) -> Result<Txn, TxnError> {
         content_law();
         self.space.begin(asked)
+    }
+
+    fn begin_in(&mut self, asked: u64, spare: &mut Option<Spare>) -> Result<Txn, TxnError> {
+        content_law();
+        self.space.begin_in(asked, spare)
+    }
+
+    fn take_spent(&mut self) -> Option<Spent> {
+        self.spent.take()
     }
 
     fn inp_in(&mut self, txn: &mut Txn, template: &Template) -> Result<Option<Found>, TxnError> {

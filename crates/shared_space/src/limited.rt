@@ -16,7 +16,7 @@ use crate::error::CommitError;
 use crate::law::Law;
 use crate::room::Room;
 use crate::share::Share;
-use space_txn::{Found, Spent, Txn, TxnError, TxnSpace, content_law};
+use space_txn::{Found, Spare, Spent, Txn, TxnError, TxnSpace, content_law};
 use std::alloc::{AllocError, Global};
 use std::marker::Model;
 use std::sync::ledger::Blank;
@@ -84,13 +84,6 @@ impl<L: Law> Limited<L> {
         ensures { self.new ≡ record self.old { closed = true } }
     {
         self.alone.shut();
-    }
-
-    /// What the transaction held that was ended last, unless it has been taken before.
-    pub(crate) fn take_spent(&mut self) -> Option<Spent>
-        ensures { self.new ≡ self.old }
-    {
-        self.alone.take_spent()
     }
 
     /// Puts a tuple out, outside all transactions.
@@ -174,6 +167,15 @@ impl<L: Law> Room<L> for Limited<L> {
     fn begin(&mut self, asked: u64) -> Result<Txn, TxnError> {
         content_law();
         self.alone.begin(asked)
+    }
+
+    fn begin_in(&mut self, asked: u64, spare: &mut Option<Spare>) -> Result<Txn, TxnError> {
+        content_law();
+        self.alone.begin_in(asked, spare)
+    }
+
+    fn take_spent(&mut self) -> Option<Spent> {
+        self.alone.take_spent()
     }
 
     fn inp_in(&mut self, txn: &mut Txn, template: &Template) -> Result<Option<Found>, TxnError> {

@@ -10,7 +10,7 @@ ghost use Rattle.shared_space.specs.Law.{InLawful, MayCommit};
 use crate::error::CommitError;
 use crate::law::Law;
 use crate::share::Share;
-use space_txn::{Found, Txn, TxnError};
+use space_txn::{Found, Spare, Spent, Txn, TxnError};
 use tuple_match::Template;
 use tuple_space::SpaceError;
 
@@ -23,6 +23,16 @@ pub trait Room<L: Law> {
     fn begin(&mut self, asked: u64) -> Result<Txn, TxnError>
         ensures did { did self.old (begin asked) (begun result) self.new }
         ensures empty { IfOk result (λ txn. (txn.marks ≡ []) × (txn.writes ≡ [])) };
+
+    /// The same in spare memory, where there is some, so that none is taken for what the transaction is to hold. Refused, that
+    /// memory stays where it is.
+    fn begin_in(&mut self, asked: u64, spare: &mut Option<Spare>) -> Result<Txn, TxnError>
+        ensures did { did self.old (begin asked) (begun result) self.new }
+        ensures empty { IfOk result (λ txn. (txn.marks ≡ []) × (txn.writes ≡ [])) };
+
+    /// What the transaction held that was ended last, where the room has kept that and it hasn't been taken before. This is no step.
+    fn take_spent(&mut self) -> Option<Spent>
+        ensures { self.new ≡ self.old };
 
     /// Takes for a transaction a tuple that the template asks for, or answers `None` where none can be had now. A permanent
     /// entry's tuple is one that a lawful content holds. Refusals: 31, 32, 50.

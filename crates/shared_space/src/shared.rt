@@ -20,7 +20,7 @@ use crate::look::Look;
 use crate::room::Room;
 use crate::share::Share;
 use crate::steps::Steps;
-use space_txn::{Found, Txn, TxnError, TxnSpace};
+use space_txn::{Found, Spare, Txn, TxnError, TxnSpace};
 use std::alloc::{AllocError, Global};
 use std::sync::ledger::Blank;
 use std::sync::{Condvar, Mutex, Wait};
@@ -188,6 +188,20 @@ impl<L: Law> Shared<L> {
         ensures kind { IfErr result IsBeginError }
     {
         locked(rt, &self.limited).begin(asked)
+    }
+
+    /// The same in spare memory, where there is some, so that none is taken for what the transaction is to hold. Refused, that
+    /// memory stays where it is.
+    pub fn begin_in<R: Wait>(
+        &self,
+        rt: &R,
+        asked: u64,
+        spare: &mut Option<Spare>,
+    ) -> Result<Txn, TxnError>
+        ensures empty { IfOk result (λ txn. (txn.marks ≡ []) × (txn.writes ≡ [])) }
+        ensures kind { IfErr result IsBeginError }
+    {
+        locked(rt, &self.limited).begin_in(asked, spare)
     }
 
     /// Takes for a transaction a tuple that the template asks for, or answers `None` where none can be had now. Refusals: 31,

@@ -7,7 +7,7 @@ use crate::law::Law;
 use crate::room::Room;
 use crate::share::Share;
 use crate::shared::Shared;
-use space_txn::{Found, Txn, TxnError};
+use space_txn::{Found, Spare, Spent, Txn, TxnError};
 use std::sync::Wait;
 use tuple_match::Template;
 use tuple_space::SpaceError;
@@ -32,6 +32,14 @@ impl<'a, R: Wait, L: Law> Room<L> for Via<'a, R, L> {
 
     fn begin(&mut self, asked: u64) -> Result<Txn, TxnError> {
         self.shared.begin(self.rt, asked)
+    }
+
+    fn begin_in(&mut self, asked: u64, spare: &mut Option<Spare>) -> Result<Txn, TxnError> {
+        self.shared.begin_in(self.rt, asked, spare)
+    }
+
+    fn take_spent(&mut self) -> Option<Spent> {
+        None
     }
 
     fn inp_in(&mut self, txn: &mut Txn, template: &Template) -> Result<Option<Found>, TxnError> {

@@ -7,6 +7,7 @@
 mod error;
 mod finding;
 mod laws;
+mod lists;
 mod live;
 mod mark;
 mod marks;
@@ -19,6 +20,7 @@ pub use laws::{
     begun_law, content_law, ending_law, expired_law, finding_law, granting_law, holding_law,
     lease_law, leaving_law, moment_law, renewal_law,
 };
+pub use lists::{Spare, Spent};
 pub use mark::Mark;
-pub use txn::{Found, Spent, Txn};
+pub use txn::{Found, Txn};
 pub use world::TxnSpace;

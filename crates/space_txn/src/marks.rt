@@ -35,6 +35,18 @@ impl Marks {
         }
     }
 
+    /// Where the memory comes from.
+    pub(crate) fn allocator(&self) -> Global {
+        *self.places.allocator()
+    }
+
+    /// Drops all marks, and keeps their memory.
+    pub(crate) fn clear(&mut self)
+        ensures { self.new.items ≡ [] }
+    {
+        self.places.clear();
+    }
+
     /// How many marks there are.
     pub(crate) fn len(&self) -> usize
         ensures { result ≡ length self.now.items }

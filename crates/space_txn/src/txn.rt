@@ -6,10 +6,11 @@ ghost use Rattle.space_txn.specs.Txn.{TxnValue, found_tuple, is_open_write};
 ghost use Rattle.std.specs.List.{HoldsAt};
 
 use crate::error::TxnError;
+use crate::lists::Lists;
 use crate::mark::{Mark, mark_on};
-use crate::marks::Marks;
 use std::alloc::AllocError;
 use std::marker::Model;
+use std::mem::swap;
 use tuple_match::{Template, Tuple, matches};
 use tuple_space::{EntryId, Lease, Write, Writes};
 
@@ -26,8 +27,7 @@ pub enum Found {
 #[derive(Debug, Drop)]
 pub struct Txn {
     pub(crate) number: u64,
-    pub(crate) marks: Marks,
-    pub(crate) writes: Writes,
+    pub(crate) lists: Box<Lists>,
 }
 
 impl Model for Txn {
@@ -35,15 +35,7 @@ impl Model for Txn {
 
     ghost Value = { TxnValue };
 
-    ghost view = { λ t. txn_of t.number t.marks.items t.writes };
-}
-
-/// What a transaction held that has ended. Whoever ended it under a lock drops this when the lock is free again: a tuple that no
-/// entry has any more gives its memory back then.
-#[derive(Debug, Drop)]
-pub struct Spent {
-    pub(crate) marks: Marks,
-    pub(crate) writes: Option<Writes>,
+    ghost view = { λ t. txn_of t.number t.lists.value.marks.items t.lists.value.writes };
 }
 
 impl Txn {
@@ -59,24 +51,24 @@ impl Txn {
     pub fn mark(&self, place: usize) -> Option<&Mark>
         ensures { option_copied result ≡ slice_get self.now.marks place }
     {
-        if place >= self.marks.len() {
+        if place >= self.lists.marks.len() {
             return None;
         }
-        Some(self.marks.at(place))
+        Some(self.lists.marks.at(place))
     }
 
     /// What the transaction wrote, in order.
     pub fn writes(&self) -> &Writes
         ensures { result.now ≡ self.now.writes }
     {
-        &self.writes
+        &self.lists.writes
     }
 
     /// The tuple of an entry that the transaction took or read.
     pub fn tuple(&self, id: EntryId) -> Option<&Tuple>
         ensures { option_copied result ≡ option_map (λ m. m.tuple) (find (λ m. m.entry == id) self.now.marks) }
     {
-        match mark_on(&self.marks, id.number()) {
+        match mark_on(&self.lists.marks, id.number()) {
             Some(mark) => Some(&mark.tuple),
             None => None,
         }
@@ -86,7 +78,7 @@ impl Txn {
     pub fn permanent(&self, id: EntryId) -> Option<bool>
         ensures { result ≡ option_map (λ m. m.permanent) (find (λ m. m.entry == id) self.now.marks) }
     {
-        match mark_on(&self.marks, id.number()) {
+        match mark_on(&self.lists.marks, id.number()) {
             Some(mark) => Some(mark.permanent),
             None => None,
         }
@@ -98,7 +90,7 @@ impl Txn {
     {
         match found {
             Found::Entry(id) => self.tuple(*id),
-            Found::Own(place) => own_tuple(&self.writes, *place),
+            Found::Own(place) => own_tuple(&self.lists.writes, *place),
         }
     }
 
@@ -111,10 +103,19 @@ impl Txn {
         ensures kind { IfErr result (λ back. back.0 ≡ TxnError.OutOfMemory) }
         ensures ready { length self.old.writes < 4 → IsOk result }
     {
-        match self.writes.push(tuple, lease) {
+        match self.lists.writes.push(tuple, lease) {
             Ok(()) => Ok(()),
             Err((_, tuple)) => Err((TxnError::OutOfMemory, tuple)),
         }
+    }
+
+    /// Takes these writes in the place of what it wrote, which is handed back for them. This is no step on the space, and takes no
+    /// memory.
+    pub fn exchange_writes(&mut self, writes: &mut Writes)
+        ensures txn { self.new ≡ record self.old { writes = writes.old } }
+        ensures back { writes.new ≡ self.old.writes }
+    {
+        swap(&mut self.lists.writes, writes);
     }
 }
 

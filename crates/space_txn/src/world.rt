@@ -12,13 +12,14 @@ ghost use Rattle.space_txn.specs.Machine.{IsAccepted, IsRefused, Step, BeginStep
 
 use crate::error::{TxnError, refusal_of};
 use crate::finding::{find_own, mark_for, put_mark_on, take_marked, take_own};
+use crate::lists::{Spare, Spent};
 use crate::live::{Live, abort_ended};
 use crate::mark::{are_marks_in, has_mark_on};
-use crate::marks::Marks;
 use crate::transactions::Transactions;
-use crate::txn::{Found, Spent, Txn};
+use crate::txn::{Found, Txn};
 use std::alloc::{AllocError, Global};
 use std::marker::Model;
+use std::mem::replace;
 use tuple_match::{Template, Tuple};
 use tuple_space::{Claim, Entry, EntryId, Lease, MOST, Space, SpaceError, Writes, granted_end};
 
@@ -148,21 +149,30 @@ impl TxnSpace {
     pub fn begin(&mut self, asked: u64) -> Result<Txn, TxnError>
         ensures { BeginStep self.old asked result self.new }
     {
+        self.begin_in(asked, &mut None)
+    }
+
+    /// The same in spare memory, where there is some, so that none is taken for what the transaction is to hold. Refused, that
+    /// memory stays where it is.
+    pub fn begin_in(&mut self, asked: u64, spare: &mut Option<Spare>) -> Result<Txn, TxnError>
+        ensures { BeginStep self.old asked result self.new }
+    {
         if self.begun >= MOST {
             return Err(TxnError::Exhausted);
         }
         let number = self.begun + 1;
-        let alloc = self.live.allocator();
-        let marks = Marks::new(alloc);
-        let writes = Writes::new(alloc);
+        let memory = match spare.take() {
+            Some(memory) => memory,
+            None => Spare::new(self.live.allocator())?,
+        };
         let end = granted_end(self.space.now(), asked);
-        self.live.add(Live { number, end })?;
+        if let Err(error) = self.live.add(Live { number, end }) {
+            *spare = Some(memory);
+            return Err(error.into());
+        }
         self.begun = number;
-        Ok(Txn {
-            number,
-            marks,
-            writes,
-        })
+        let lists = memory.into_lists();
+        Ok(Txn { number, lists })
     }
 
     /// Whether this is the value of a live transaction of this space. Refusals: 31, 32.
@@ -173,7 +183,7 @@ impl TxnSpace {
         if !self.live.is_live(self.space.now(), txn.number) {
             return Err(TxnError::Expired);
         }
-        if !are_marks_in(&self.space, &txn.marks, txn.number) {
+        if !are_marks_in(&self.space, &txn.lists.marks, txn.number) {
             return Err(TxnError::Foreign);
         }
         Ok(())
@@ -190,16 +200,22 @@ impl TxnSpace {
     {
         self.accept(txn)?;
         let Some(entry) = self.space.search(Claim::TakeBy(txn.number), template) else {
-            return Ok(take_own(&mut txn.writes, template));
+            return Ok(take_own(&mut txn.lists.writes, template));
         };
         let id = entry.id();
-        if has_mark_on(&txn.marks, id.number()) {
+        if has_mark_on(&txn.lists.marks, id.number()) {
             let permanent = entry.end.is_permanent();
-            take_marked(&mut self.space, &mut txn.marks, txn.number, id, permanent);
+            take_marked(
+                &mut self.space,
+                &mut txn.lists.marks,
+                txn.number,
+                id,
+                permanent,
+            );
             return Ok(Some(Found::Entry(id)));
         }
         let mark = mark_for(entry, true)?;
-        put_mark_on(&mut self.space, &mut txn.marks, txn.number, id, mark)?;
+        put_mark_on(&mut self.space, &mut txn.lists.marks, txn.number, id, mark)?;
         Ok(Some(Found::Entry(id)))
     }
 
@@ -213,14 +229,14 @@ impl TxnSpace {
     {
         self.accept(txn)?;
         let Some(entry) = self.space.search(Claim::Read, template) else {
-            return Ok(find_own(&txn.writes, template));
+            return Ok(find_own(&txn.lists.writes, template));
         };
         let id = entry.id();
-        if has_mark_on(&txn.marks, id.number()) {
+        if has_mark_on(&txn.lists.marks, id.number()) {
             return Ok(Some(Found::Entry(id)));
         }
         let mark = mark_for(entry, false)?;
-        put_mark_on(&mut self.space, &mut txn.marks, txn.number, id, mark)?;
+        put_mark_on(&mut self.space, &mut txn.lists.marks, txn.number, id, mark)?;
         Ok(Some(Found::Entry(id)))
     }
 
@@ -263,15 +279,8 @@ impl TxnSpace {
         }
         self.space.unpin(txn.number);
         self.live.remove(txn.number);
-        let Txn {
-            number: _,
-            marks,
-            writes,
-        } = txn;
-        Ok(Spent {
-            marks,
-            writes: Some(writes),
-        })
+        let Txn { number: _, lists } = txn;
+        Ok(Spent { lists })
     }
 
     /// Ends a transaction and makes it count: what it wrote is put out, what it took is gone, its marks are dropped.
@@ -299,29 +308,17 @@ impl TxnSpace {
         if self.commits >= MOST {
             return Err((TxnError::Exhausted, txn));
         }
-        let Txn {
-            number,
-            marks,
-            writes,
-        } = txn;
+        let Txn { number, mut lists } = txn;
+        let writes = replace(&mut lists.writes, Writes::new(self.live.allocator()));
         if let Err((error, writes)) = self.space.put_all(writes) {
-            return Err((
-                refusal_of(error),
-                Txn {
-                    number,
-                    marks,
-                    writes,
-                },
-            ));
+            lists.writes = writes;
+            return Err((refusal_of(error), Txn { number, lists }));
         }
         self.space.remove_taken(number);
         self.space.unpin(number);
         self.live.remove(number);
         self.commits += 1;
-        Ok(Spent {
-            marks,
-            writes: None,
-        })
+        Ok(Spent { lists })
     }
 
     /// The entries, in order of number.

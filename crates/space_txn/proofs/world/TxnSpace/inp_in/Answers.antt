@@ -10,7 +10,7 @@ use Rattle.space_txn.proofs.world.TxnSpace.inp_in.Goals as goal
 pub invariant_of-self-2 : goal.invariant_of-self-2
 invariant_of-self-2 c =
     let old : World = world_of c.self.inside.space c.self.inside.live c.self.inside.begun c.self.inside.commits in
-    let after : TxnValue = txn_of c.txn.inside.number c.put_mark_on.new.marks.items c.txn.inside.writes in
+    let after : TxnValue = txn_of c.txn.inside.number c.put_mark_on.new.marks.items c.txn.inside.lists.value.writes in
     step_world old c.args.txn.now (inp_in c.args.template.now) (found (Stored c.id-id.result)) _ after (search rules) c.self.invariant
 
 pub returns-in_default-clause-found : goal.returns-in_default-clause-found
@@ -31,13 +31,13 @@ returns-clause-marks c =
 pub returns-clause-content : goal.returns-clause-content
 returns-clause-content c =
     let new : World = world_of c.put_mark_on.new.space c.self.inside.live c.self.inside.begun c.self.inside.commits in
-    let after : TxnValue = txn_of c.txn.inside.number c.put_mark_on.new.marks.items c.txn.inside.writes in
+    let after : TxnValue = txn_of c.txn.inside.number c.put_mark_on.new.marks.items c.txn.inside.lists.value.writes in
     taking_content c.args.self.now new c.args.txn.now after c.args.template.now (found (Stored c.id-id.result)) (search rules)
 
 pub invariant_of-self : goal.invariant_of-self
 invariant_of-self c =
     let old : World = world_of c.self.inside.space c.self.inside.live c.self.inside.begun c.self.inside.commits in
-    let after : TxnValue = txn_of c.txn.inside.number c.take_marked.new.marks.items c.txn.inside.writes in
+    let after : TxnValue = txn_of c.txn.inside.number c.take_marked.new.marks.items c.txn.inside.lists.value.writes in
     step_world old c.args.txn.now (inp_in c.args.template.now) (found (Stored c.id-id.result)) _ after (search rules) c.self.invariant
 
 pub returns-then-has_mark_on-clause-found : goal.returns-then-has_mark_on-clause-found
@@ -53,5 +53,5 @@ returns-then-has_mark_on-clause-marks c =
 pub returns-then-has_mark_on-clause-content : goal.returns-then-has_mark_on-clause-content
 returns-then-has_mark_on-clause-content c =
     let new : World = world_of c.take_marked.new.space c.self.inside.live c.self.inside.begun c.self.inside.commits in
-    let after : TxnValue = txn_of c.txn.inside.number c.take_marked.new.marks.items c.txn.inside.writes in
+    let after : TxnValue = txn_of c.txn.inside.number c.take_marked.new.marks.items c.txn.inside.lists.value.writes in
     taking_content c.args.self.now new c.args.txn.now after c.args.template.now (found (Stored c.id-id.result)) (search rules)

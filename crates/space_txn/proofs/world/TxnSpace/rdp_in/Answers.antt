@@ -10,7 +10,7 @@ use Rattle.space_txn.proofs.world.TxnSpace.rdp_in.Goals as goal
 pub invariant_of-self-2 : goal.invariant_of-self-2
 invariant_of-self-2 c =
     let old : World = world_of c.self.inside.space c.self.inside.live c.self.inside.begun c.self.inside.commits in
-    let after : TxnValue = txn_of c.txn.inside.number c.put_mark_on.new.marks.items c.txn.inside.writes in
+    let after : TxnValue = txn_of c.txn.inside.number c.put_mark_on.new.marks.items c.txn.inside.lists.value.writes in
     step_world old c.args.txn.now (rdp_in c.args.template.now) (found (Stored c.id-id.result)) _ after (search rules) c.self.invariant
 
 pub returns-in_default-clause-found : goal.returns-in_default-clause-found
@@ -44,5 +44,5 @@ returns-clause-marks c =
 pub returns-clause-content : goal.returns-clause-content
 returns-clause-content c =
     let new : World = world_of c.put_mark_on.new.space c.self.inside.live c.self.inside.begun c.self.inside.commits in
-    let after : TxnValue = txn_of c.txn.inside.number c.put_mark_on.new.marks.items c.txn.inside.writes in
+    let after : TxnValue = txn_of c.txn.inside.number c.put_mark_on.new.marks.items c.txn.inside.lists.value.writes in
     reading_content c.args.self.now new c.args.txn.now after c.args.template.now (found (Stored c.id-id.result)) (search rules)
