@@ -26,6 +26,7 @@ use Rattle.qap_search.specs.Decision.{DecidesBetter, DecidesBy, IsBetterOf}
 use Rattle.qap_search.specs.Found.{IsBestFound, best_template}
 use Rattle.qap_search.specs.Hand.{HandValue, hand_of, thought_of}
 use Rattle.qap_search.specs.Piece.{node_tuple}
+use Rattle.qap_search.specs.Prepared.{AreWritesFor}
 use Rattle.qap_search.specs.Replacement.{Best, IsAsGood, MayReplace, tuple_of}
 use Rattle.qap_search.specs.Search.{search_of}
 use Rattle.qap_search.specs.SearchLaw.{IsSearchLaw}
@@ -65,6 +66,20 @@ standing_cost candidate old new least (inl better) below under (inl is) = ap (λ
 standing_cost candidate old new least (inl better) below under (inr is) = let e = ap (λ (b : Best). b.cost) better.1 in let l = better.0 in omega (arith, ints)
 standing_cost candidate old new least (inr better) below under (inl is) = let e = ap (λ (b : Best). b.cost) better.1 in let l = better.0 in omega (arith, ints)
 standing_cost candidate old new least (inr better) below under (inr is) = ap (λ (b : Best). b.cost) better.1 ∙ sym is
+
+-- what was prepared for the cost of a best permutation that stays has been written
+pub written_prepared : (cutting : Bool) (I : Problem) (l : LastThought) (best : Best) (cost : ℤ) (writes : List Write) (t t' : TxnValue) → AreWritesFor cutting I (thought_of l) writes cost → best.cost ≡ cost → t.writes ≡ [] → t' ≡ record t { writes = writes } → WritesAll cutting false I (thought_of l) best t t' cost
+written_prepared cutting I l best cost writes t t' p costs none is = record {
+  standing = best;
+  stands = refl;
+  costs = costs;
+  tuples = p.tuples;
+  written = subst (λ (c : ℤ). DecidesBy cutting I c (thought_of l) p.tuples) (sym costs) p.written;
+  same = record { number = ap (λ (x : TxnValue). x.number) is; marks = ap (λ (x : TxnValue). x.marks) is };
+  added =
+      subst (λ (x : TxnValue). SameItems (added_of x.writes) (added_of t.writes ++ p.tuples)) (sym is)
+      (subst (λ (ws : List Write). SameItems (added_of writes) (added_of ws ++ p.tuples)) (sym none) p.added);
+}
 
 -- what was decided beside the one that stands has been written
 pub written_anew : (cutting : Bool) (I : Problem) (l : LastThought) (best old : Best) (least : ℤ) (tuples : List (List FieldValue)) (t t' : TxnValue) → best ≡ old → DecidesBetter cutting I (thought_of l) old tuples → ((new : Best) → IsBetterOf (candidate_of l.thought) old new → new.cost ≡ least) → HasMarksOf t t' → SameItems (added_of t'.writes) (added_of t.writes ++ tuples) → WritesAll cutting true I (thought_of l) best t t' least

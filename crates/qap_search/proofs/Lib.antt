@@ -25,6 +25,7 @@ pub mod OpenBounds
 pub mod OpenNodes
 pub mod Outcomes
 pub mod PlainTrees
+pub mod Preparing
 pub mod ProofFaults
 pub mod ProvedTrees
 pub mod Pruned

@@ -22,6 +22,7 @@ pub mod Opening
 pub mod Outcome
 pub mod Piece
 pub mod Pieces
+pub mod Prepared
 pub mod ProvedAnswer
 pub mod Putting
 pub mod Ran

@@ -2,7 +2,7 @@ ghost use Rattle.std.specs.Prelude.{◌≡◌, ◌+◌, IfOk, MatchOption, vec_l
 ghost use Rattle.shared_space.specs.Law.{IsFree};
 
 use shared_space::{Alone, CommitError, Law, Room, Share};
-use space_txn::{Txn, TxnError, TxnSpace};
+use space_txn::{Spare, Spent, Txn, TxnError, TxnSpace};
 use std::alloc::Global;
 use std::marker::Brand;
 use std::process::Abort;
@@ -45,7 +45,15 @@ pub(crate) fn count_jobs(alloc: Global, space: &TxnSpace) -> Result<u64, Fail> {
     Ok(space.count(&any_job(alloc)?))
 }
 
-/// Writes a job under a transaction of its own.
+/// Memory for a transaction, if one has left some.
+fn emptied(spent: Option<Spent>) -> Option<Spare> {
+    match spent {
+        Some(spent) => Some(spent.emptied()),
+        None => None,
+    }
+}
+
+/// Writes a job under a transaction of its own, in the memory of the one that was ended last, where the room has kept that.
 pub(crate) fn write<L: Law, M: Room<L>>(
     alloc: Global,
     room: &mut M,
@@ -54,7 +62,8 @@ pub(crate) fn write<L: Law, M: Room<L>>(
     requires { IsFree L.lawful L.allowed }
     ensures { MatchOption result (share.new ≡ share.old) (λ _. share.new ≡ share.old + 1) }
 {
-    let mut txn = room.begin(1000).ok()?;
+    let mut spare = emptied(room.take_spent());
+    let mut txn = room.begin_in(1000, &mut spare).ok()?;
     txn.out_in(job(alloc, 7)?, Lease::Forever).ok()?;
     room.commit(share, txn).ok()
 }

@@ -4,7 +4,7 @@ use std::alloc::Global;
 use std::process::Abort as Ending;
 use std::test::Fail;
 use tuple_match::{Field, Pattern, Template, Tuple};
-use tuple_space::{Lease, SpaceError};
+use tuple_space::{Lease, SpaceError, Writes};
 
 /// A call as a row of a table writes it: the number of a transaction, or 0 for none, and what is answered.
 #[derive(Clone, Copy, Debug)]
@@ -385,6 +385,35 @@ fn assert_renewals(rt: &impl Ending, space: &mut TxnSpace) -> Result<(), Fail> {
     assert_eq!(rt; (txn.writes().len(), txn.mark(0).is_some()), (0, false));
     let too_late = advance_in(space, (1 << 62) + 1);
     assert_eq!(rt; too_late, Err(SpaceError::Exhausted));
+    Ok(())
+}
+
+/// What is seen of a transaction that begins in the memory of one that has taken a job and committed, once it has got a write in
+/// exchange for none: whether it has a mark, its writes, those that came back, and whether its commit is accepted.
+fn begun_in_spare_memory(
+    alloc: Global,
+    space: &mut TxnSpace,
+) -> Result<(bool, usize, usize, bool), Fail> {
+    let taken = take_job(alloc, space, 1)?;
+    let Ok(spent) = space.commit_leaving(taken) else {
+        return Err(Fail::new("a commit is to be accepted"));
+    };
+    let mut writes = Writes::new(alloc);
+    if writes.push(job(alloc, 2)?, Lease::Forever).is_err() {
+        return Err(Fail::new("the first write takes no memory"));
+    }
+    let mut txn = space.begin_in(100, &mut Some(spent.emptied()))?;
+    txn.exchange_writes(&mut writes);
+    let seen = (txn.mark(0).is_some(), txn.writes().len());
+    Ok((seen.0, seen.1, writes.len(), commit_in(space, txn).is_ok()))
+}
+
+#[test]
+fn begins_in_spare_memory(rt: HostRuntime) -> Result<(), Fail> {
+    let mut space = TxnSpace::new(rt.alloc());
+    let seen = begun_in_spare_memory(rt.alloc(), &mut space)?;
+    assert_eq!(rt; seen, (false, 1, 0, true));
+    assert_eq!(rt; counts_of(rt.alloc(), &space)?, (2, 1));
     Ok(())
 }
 

@@ -30,6 +30,8 @@ pub(crate) struct Seat<L: Law> {
     share: Share<L>,
     /// How it ended, where it has.
     ended: Option<Ended>,
+    /// Whether it found no best permutation when it went on last.
+    lacks_best: bool,
 }
 
 impl<L: Law> Model for Seat<L> {
@@ -55,6 +57,7 @@ impl<L: Law> Seat<L> {
             hand,
             share,
             ended: None,
+            lacks_best: false,
         }
     }
 
@@ -65,10 +68,21 @@ impl<L: Law> Seat<L> {
                 return;
             }
             if place.gate.is_silent() && is_between(&self.hand) {
-                place.shared.together(place.rt, self);
+                self.go_on_at(place);
             } else {
                 self.ended = turn(place, self.worker, &mut self.hand, &mut self.share).err();
             }
+        }
+    }
+
+    /// Goes on under one taking of the space's lock, with what is to be written worked out before, and waits for a best permutation
+    /// where there was none.
+    fn go_on_at<R: Wait, G: Gate>(&mut self, place: &Workplace<'_, R, L, G>) {
+        self.hand.prepare();
+        self.lacks_best = false;
+        place.shared.together(place.rt, self);
+        if self.lacks_best {
+            self.ended = wait_for_best(place, self.worker, &mut self.hand, &mut self.share).err();
         }
     }
 
@@ -82,6 +96,7 @@ impl<L: Law> Seat<L> {
             hand,
             share,
             ended,
+            lacks_best: _,
         } = self;
         let report = Report {
             ended: ended.unwrap_or(Ended::Memory),
@@ -93,7 +108,10 @@ impl<L: Law> Seat<L> {
 
 impl<L: Law> Steps<L> for Seat<L> {
     fn make<M: Room<L>>(&mut self, room: &mut M) {
-        self.ended = go_on(room, &mut self.hand, &mut self.share).err();
+        match go_on(room, &mut self.hand, &mut self.share) {
+            Ok(found) => self.lacks_best = !found,
+            Err(ended) => self.ended = Some(ended),
+        }
     }
 }
 
@@ -106,14 +124,38 @@ fn next_of(hand: &Hand) -> Option<Kind> {
     }
 }
 
-/// Whether the worker is between two nodes: what it decided of one is ready, or it has none.
+/// Whether the worker is between two nodes: it has thought on one and is to read the best permutation, or what it decided of one is
+/// ready, or it has none.
 fn is_between(hand: &Hand) -> bool {
-    matches!(next_of(hand), Some(Kind::Begin | Kind::Commit))
+    matches!(
+        next_of(hand),
+        Some(Kind::ReadBest | Kind::Begin | Kind::Commit)
+    )
 }
 
-/// Goes on from one node to the next: commits what is ready, begins anew, unless the space is closed, and takes a node. The error
-/// tells how the worker ends.
+/// Goes on from one node to the next: reads the best permutation, commits what is ready, begins anew, unless the space is closed, and
+/// takes a node. It tells whether there was a best permutation where it looked for one; the error tells how the worker ends.
 fn go_on<L: Law, M: Room<L>>(
+    room: &mut M,
+    hand: &mut Hand,
+    share: &mut Share<L>,
+) -> Result<bool, Ended>
+    requires law { IsSearchLaw hand.old.cutting hand.old.instance L.lawful L.allowed }
+    requires before { hand.old.accepted ≡ share.old }
+    ensures counted { hand.new.accepted ≡ share.new }
+    ensures cutting { hand.new.cutting ≡ hand.old.cutting }
+    ensures instance { hand.new.instance ≡ hand.old.instance }
+{
+    step_if(room, hand, share, Kind::ReadBest)?;
+    if next_of(hand) == Some(Kind::Abort) {
+        return Ok(false);
+    }
+    go_to_next(room, hand, share)?;
+    Ok(true)
+}
+
+/// The same once the best permutation has been read.
+fn go_to_next<L: Law, M: Room<L>>(
     room: &mut M,
     hand: &mut Hand,
     share: &mut Share<L>,
@@ -125,6 +167,9 @@ fn go_on<L: Law, M: Room<L>>(
     ensures instance { hand.new.instance ≡ hand.old.instance }
 {
     step_if(room, hand, share, Kind::Commit)?;
+    if let Some(spent) = room.take_spent() {
+        hand.keep(spent);
+    }
     if next_of(hand) == Some(Kind::Begin) && room.closed() {
         return Err(Ended::Done);
     }
@@ -180,11 +225,27 @@ fn turn<R: Wait, L: Law, G: Gate>(
     match kind {
         Kind::Abort => wait_for(place, place.nodes),
         Kind::TakeBest | Kind::ReadBest if next_of(hand) == Some(Kind::Abort) => {
-            step(place, worker, Kind::Abort, hand, share)?;
-            wait_for(place, place.best)
+            wait_for_best(place, worker, hand, share)
         }
         _ => Ok(()),
     }
+}
+
+/// Gives the transaction up and waits for a best permutation, which somebody else has taken. The error tells how the worker ends.
+fn wait_for_best<R: Wait, L: Law, G: Gate>(
+    place: &Workplace<'_, R, L, G>,
+    worker: u16,
+    hand: &mut Hand,
+    share: &mut Share<L>,
+) -> Result<(), Ended>
+    requires law { IsSearchLaw hand.old.cutting hand.old.instance L.lawful L.allowed }
+    requires before { hand.old.accepted ≡ share.old }
+    ensures counted { hand.new.accepted ≡ share.new }
+    ensures cutting { hand.new.cutting ≡ hand.old.cutting }
+    ensures instance { hand.new.instance ≡ hand.old.instance }
+{
+    step(place, worker, Kind::Abort, hand, share)?;
+    wait_for(place, place.best)
 }
 
 /// Makes the next step, which is of this kind, where the gate lets it pass.

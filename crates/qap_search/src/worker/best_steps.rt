@@ -12,6 +12,7 @@ ghost use Rattle.qap_search.specs.DecidedTuples.{best_of};
 ghost use Rattle.qap_search.specs.Decision.{IsOn};
 ghost use Rattle.qap_search.specs.Found.{best_template};
 ghost use Rattle.qap_search.specs.Hand.{hand_of, is_hopeful, thought_of};
+ghost use Rattle.qap_search.specs.Prepared.{IsPrepared};
 ghost use Rattle.qap_search.specs.Replacement.{Best};
 ghost use Rattle.qap_search.specs.SearchLaw.{IsSearchLaw};
 ghost use Rattle.qap_search.specs.Standing.{HasNode, IsLastThought, IsStage};
@@ -23,6 +24,7 @@ use crate::certificate::assembling::permutation_of;
 use crate::node::decision::{decide, decide_anew};
 use crate::node::thought::Thought;
 use crate::tuples::parsing::is_word;
+use crate::worker::prepared::Prepared;
 use crate::worker::putting::{by_entries, put_forever};
 use crate::worker::stage::{LastThought, Outcome, Stage, Tally};
 use crate::worker::turn::{refused, went_on};
@@ -54,77 +56,175 @@ pub(crate) fn take_best<L: Law, M: Room<L>>(
 {
     does_match_law();
     let found = room.inp_in(&mut txn, template);
-    told_best(alloc, found, txn, last, true, tally)
+    told_taken(alloc, found, txn, last, tally)
 }
 
-/// Reads the tuple of the best permutation.
+/// Reads the tuple of the best permutation. What has been prepared for its cost is written as it is.
 pub(crate) fn read_best<L: Law, M: Room<L>>(
     alloc: Global,
     room: &mut M,
     template: &Template,
     mut txn: Txn,
     last: &LastThought,
+    prepared: &mut Prepared,
     tally: Tally,
 ) -> Outcome
     requires template { template.now ≡ best_template }
     requires thought { IsOn last.now.node last.now.thought }
     ensures turn { (cutting : Bool) (I : Problem) (lease : ℕ) → IsInstance I → IsSearchLaw cutting I L.lawful L.allowed → IsLastThought cutting I last.now →
-        HasNode last.now.node txn → is_hopeful tally.best (Some (thought_of last.now)) ≡ false →
+        IsPrepared cutting I (thought_of last.now) prepared.old → HasNode last.now.node txn → is_hopeful tally.best (Some (thought_of last.now)) ≡ false →
         Turn M.did (hand_of cutting I lease (Some (thought_of last.now)) (Considered txn) tally) room.old result.told
         (hand_of cutting I lease (Some (thought_of last.now)) result.stage result.tally) room.new }
     ensures stage { (cutting : Bool) (I : Problem) → IsInstance I → IsSearchLaw cutting I L.lawful L.allowed → IsLastThought cutting I last.now →
-        HasNode last.now.node txn → IsStage cutting I (Some (thought_of last.now)) result.stage }
+        IsPrepared cutting I (thought_of last.now) prepared.old → HasNode last.now.node txn → IsStage cutting I (Some (thought_of last.now)) result.stage }
     ensures accepted { result.tally.accepted ≡ tally.accepted }
 {
     does_match_law();
     let found = room.rdp_in(&mut txn, template);
-    told_best(alloc, found, txn, last, false, tally)
+    told_read(alloc, found, txn, last, prepared, tally)
 }
 
-fn told_best(
+fn told_read(
     alloc: Global,
     found: Result<Option<Found>, TxnError>,
     txn: Txn,
     last: &LastThought,
-    taking: bool,
+    prepared: &mut Prepared,
     tally: Tally,
 ) -> Outcome
     requires { IsOn last.now.node last.now.thought }
-    ensures turn { (cutting : Bool) (I : Problem) (lease : ℕ) (old : TxnValue) → IsLastThought cutting I last.now →
-        IsFoundBest I taking last.now.node (find_answer found) txn →
-        AfterBest taking (hand_of cutting I lease (Some (thought_of last.now)) (Considered old) tally) (find_answer found) txn result.told
+    ensures turn { (cutting : Bool) (I : Problem) (lease : ℕ) (old : TxnValue) → IsLastThought cutting I last.now → IsPrepared cutting I (thought_of last.now) prepared.old →
+        IsFoundBest I false last.now.node (find_answer found) txn →
+        AfterBest false (hand_of cutting I lease (Some (thought_of last.now)) (Considered old) tally) (find_answer found) txn result.told
         (hand_of cutting I lease (Some (thought_of last.now)) result.stage result.tally) }
-    ensures stage { (cutting : Bool) (I : Problem) → IsLastThought cutting I last.now → IsFoundBest I taking last.now.node (find_answer found) txn →
-        IsStage cutting I (Some (thought_of last.now)) result.stage }
+    ensures stage { (cutting : Bool) (I : Problem) → IsLastThought cutting I last.now → IsPrepared cutting I (thought_of last.now) prepared.old →
+        IsFoundBest I false last.now.node (find_answer found) txn → IsStage cutting I (Some (thought_of last.now)) result.stage }
     ensures accepted { result.tally.accepted ≡ tally.accepted }
 {
     match found {
-        Ok(Some(found)) => told_found(alloc, found, txn, last, taking, tally),
+        Ok(Some(found)) => told_read_found(alloc, found, txn, last, prepared, tally),
         Ok(None) => went_on(Stage::GivingUp(txn), tally),
         Err(error) => refused(error, Stage::Considered(txn), tally),
     }
 }
 
 /// A write of the transaction itself is none of a best permutation.
-fn told_found(
+fn told_read_found(
     alloc: Global,
     what: Found,
     txn: Txn,
     last: &LastThought,
-    taking: bool,
+    prepared: &mut Prepared,
+    tally: Tally,
+) -> Outcome
+    requires { IsOn last.now.node last.now.thought }
+    ensures turn { (cutting : Bool) (I : Problem) (lease : ℕ) (old : TxnValue) → IsLastThought cutting I last.now → IsPrepared cutting I (thought_of last.now) prepared.old →
+        IsFoundBest I false last.now.node (found what) txn →
+        AfterBest false (hand_of cutting I lease (Some (thought_of last.now)) (Considered old) tally) (found what) txn result.told
+        (hand_of cutting I lease (Some (thought_of last.now)) result.stage result.tally) }
+    ensures stage { (cutting : Bool) (I : Problem) → IsLastThought cutting I last.now → IsPrepared cutting I (thought_of last.now) prepared.old →
+        IsFoundBest I false last.now.node (found what) txn → IsStage cutting I (Some (thought_of last.now)) result.stage }
+    ensures accepted { result.tally.accepted ≡ tally.accepted }
+{
+    match what {
+        Found::Entry(id) => told_read_entry(alloc, id, txn, last, prepared, tally),
+        Found::Own(_) => went_on(Stage::GivingUp(txn), tally),
+    }
+}
+
+/// Writes what was prepared for the cost in the entry's tuple; else, what that leads to is worked out now.
+fn told_read_entry(
+    alloc: Global,
+    id: EntryId,
+    txn: Txn,
+    last: &LastThought,
+    prepared: &mut Prepared,
+    tally: Tally,
+) -> Outcome
+    requires { IsOn last.now.node last.now.thought }
+    ensures turn { (cutting : Bool) (I : Problem) (lease : ℕ) (old : TxnValue) → IsLastThought cutting I last.now → IsPrepared cutting I (thought_of last.now) prepared.old →
+        HasBestMark I false last.now.node id txn →
+        AfterBest false (hand_of cutting I lease (Some (thought_of last.now)) (Considered old) tally) (found (Stored id)) txn result.told
+        (hand_of cutting I lease (Some (thought_of last.now)) result.stage result.tally) }
+    ensures stage { (cutting : Bool) (I : Problem) → IsLastThought cutting I last.now → IsPrepared cutting I (thought_of last.now) prepared.old →
+        HasBestMark I false last.now.node id txn → IsStage cutting I (Some (thought_of last.now)) result.stage }
+    ensures accepted { result.tally.accepted ≡ tally.accepted }
+{
+    let Some(cost) = cost_at(&txn, id) else {
+        return told_entry(alloc, id, txn, last, false, tally);
+    };
+    if !prepared.is_for(cost) {
+        return told_entry(alloc, id, txn, last, false, tally);
+    }
+    told_prepared(id, txn, last, prepared, cost, tally)
+}
+
+/// Writes what was prepared for the cost in the entry's tuple, which is this, and remembers it.
+fn told_prepared(
+    id: EntryId,
+    mut txn: Txn,
+    last: &LastThought,
+    prepared: &mut Prepared,
+    cost: i128,
+    tally: Tally,
+) -> Outcome
+    requires cost { HasBestCost id txn cost }
+    requires prepared { prepared.old.cost ≡ Some cost }
+    ensures turn { (cutting : Bool) (I : Problem) (lease : ℕ) (old : TxnValue) → IsLastThought cutting I last.now → IsPrepared cutting I (thought_of last.now) prepared.old →
+        HasBestMark I false last.now.node id txn →
+        AfterBest false (hand_of cutting I lease (Some (thought_of last.now)) (Considered old) tally) (found (Stored id)) txn result.told
+        (hand_of cutting I lease (Some (thought_of last.now)) result.stage result.tally) }
+    ensures stage { (cutting : Bool) (I : Problem) → IsLastThought cutting I last.now → IsPrepared cutting I (thought_of last.now) prepared.old →
+        HasBestMark I false last.now.node id txn → IsStage cutting I (Some (thought_of last.now)) result.stage }
+    ensures accepted { result.tally.accepted ≡ tally.accepted }
+{
+    two_marks_law();
+    txn.exchange_writes(&mut prepared.writes);
+    told_written(Ok(Some(cost)), txn, tally.with_best(cost))
+}
+
+fn told_taken(
+    alloc: Global,
+    found: Result<Option<Found>, TxnError>,
+    txn: Txn,
+    last: &LastThought,
     tally: Tally,
 ) -> Outcome
     requires { IsOn last.now.node last.now.thought }
     ensures turn { (cutting : Bool) (I : Problem) (lease : ℕ) (old : TxnValue) → IsLastThought cutting I last.now →
-        IsFoundBest I taking last.now.node (found what) txn →
-        AfterBest taking (hand_of cutting I lease (Some (thought_of last.now)) (Considered old) tally) (found what) txn result.told
+        IsFoundBest I true last.now.node (find_answer found) txn →
+        AfterBest true (hand_of cutting I lease (Some (thought_of last.now)) (Considered old) tally) (find_answer found) txn result.told
         (hand_of cutting I lease (Some (thought_of last.now)) result.stage result.tally) }
-    ensures stage { (cutting : Bool) (I : Problem) → IsLastThought cutting I last.now → IsFoundBest I taking last.now.node (found what) txn →
+    ensures stage { (cutting : Bool) (I : Problem) → IsLastThought cutting I last.now → IsFoundBest I true last.now.node (find_answer found) txn →
+        IsStage cutting I (Some (thought_of last.now)) result.stage }
+    ensures accepted { result.tally.accepted ≡ tally.accepted }
+{
+    match found {
+        Ok(Some(found)) => told_taken_found(alloc, found, txn, last, tally),
+        Ok(None) => went_on(Stage::GivingUp(txn), tally),
+        Err(error) => refused(error, Stage::Considered(txn), tally),
+    }
+}
+
+/// A write of the transaction itself is none of a best permutation.
+fn told_taken_found(
+    alloc: Global,
+    what: Found,
+    txn: Txn,
+    last: &LastThought,
+    tally: Tally,
+) -> Outcome
+    requires { IsOn last.now.node last.now.thought }
+    ensures turn { (cutting : Bool) (I : Problem) (lease : ℕ) (old : TxnValue) → IsLastThought cutting I last.now →
+        IsFoundBest I true last.now.node (found what) txn →
+        AfterBest true (hand_of cutting I lease (Some (thought_of last.now)) (Considered old) tally) (found what) txn result.told
+        (hand_of cutting I lease (Some (thought_of last.now)) result.stage result.tally) }
+    ensures stage { (cutting : Bool) (I : Problem) → IsLastThought cutting I last.now → IsFoundBest I true last.now.node (found what) txn →
         IsStage cutting I (Some (thought_of last.now)) result.stage }
     ensures accepted { result.tally.accepted ≡ tally.accepted }
 {
     match what {
-        Found::Entry(id) => told_entry(alloc, id, txn, last, taking, tally),
+        Found::Entry(id) => told_entry(alloc, id, txn, last, true, tally),
         Found::Own(_) => went_on(Stage::GivingUp(txn), tally),
     }
 }
@@ -235,7 +335,11 @@ fn write_anew(
 }
 
 /// By what the open children of the thought's node are taken, the least first, where the best permutation costs so much.
-fn order_of(alloc: Global, thought: &Thought, best: i128) -> Result<Vec<i128>, AllocError> {
+pub(crate) fn order_of(
+    alloc: Global,
+    thought: &Thought,
+    best: i128,
+) -> Result<Vec<i128>, AllocError> {
     match &thought.branch {
         Some(branch) => branch.order(alloc, best),
         None => Ok(Vec::new(alloc)),

@@ -14,12 +14,14 @@ use crate::node::images::InstanceSymmetries;
 use crate::tuples::templates::{best_template, node_template};
 use crate::worker::gate::{Gate, Kind};
 use crate::worker::ground::Ground;
+use crate::worker::prepared::{Prepared, prepare_at};
 use crate::worker::report::{Ended, Report};
-use crate::worker::stage::{Desk, LastThought, Stage, Tally, Tools};
+use crate::worker::stage::{Desk, LastThought, Reserve, Stage, Tally, Tools};
 use crate::worker::thinking::{stage_thought, think_in};
 use crate::worker::turn::{is_hopeful, turn};
 use gilmore_lawler::RankedInstance;
 use shared_space::{Law, Room, Share};
+use space_txn::Spent;
 use std::alloc::{AllocError, Global};
 use std::marker::Model;
 use std::sync::Arc;
@@ -30,21 +32,24 @@ use std::sync::Arc;
 pub struct Hand {
     ground: Ground,
     desk: Desk,
+    reserve: Reserve,
     tools: Tools,
     last: Option<LastThought>,
+    prepared: Prepared,
     stage: Stage,
     tally: Tally,
 }
 
 impl Model for Hand {
     ghost use Rattle.qap_search.specs.Hand.{HandValue, cuts, hand_of, last_of};
+    ghost use Rattle.qap_search.specs.Prepared.{HasPrepared};
     ghost use Rattle.qap_search.specs.Standing.{IsHand};
 
     ghost Value = { HandValue };
 
     ghost view = { λ h. hand_of (cuts h.tools.branching) h.ground h.tools.lease_ms (last_of h.last) h.stage h.tally };
 
-    ghost invariant = { λ h. IsHand h.ground h.tools h.last h.stage };
+    ghost invariant = { λ h. IsHand h.ground h.tools h.last h.stage × HasPrepared (cuts h.tools.branching) h.ground h.last h.prepared };
 }
 
 impl Hand {
@@ -117,8 +122,10 @@ impl Hand {
         Ok(Hand {
             ground: Ground::new(alloc, instance, symmetries),
             desk,
+            reserve: Reserve::new(),
             tools,
             last: None,
+            prepared: Prepared::new(alloc),
             stage: Stage::Idle,
             tally: Tally::new(),
         })
@@ -169,7 +176,17 @@ impl Hand {
         ensures lease { self.new.lease ≡ self.old.lease }
     {
         let stage = std::mem::replace(&mut self.stage, Stage::Idle);
-        let outcome = turn(&self.tools, room, share, &self.last, stage, self.tally);
+        let outcome = turn(
+            &self.tools,
+            room,
+            share,
+            &self.last,
+            stage,
+            self.tally,
+            &mut self.prepared,
+            &mut self.reserve.spare,
+        );
+        self.prepared.forget();
         self.stage = outcome.stage;
         self.tally = outcome.tally;
         outcome.told
@@ -186,6 +203,8 @@ impl Hand {
         ensures cutting { self.new.cutting ≡ self.old.cutting }
         ensures instance { self.new.instance ≡ self.old.instance }
     {
+        self.reserve.restock(self.tools.alloc);
+        self.prepared.forget();
         let best = self.tally.best.or(self.tools.known);
         let considered = think_in(
             &self.tools,
@@ -199,6 +218,29 @@ impl Hand {
         let stage = std::mem::replace(&mut self.stage, Stage::Idle);
         self.stage = stage_thought(stage, considered);
         Ok(())
+    }
+
+    /// Works out what the next step is to write, where that reads the best permutation and finds the cost that the worker remembers; the
+    /// step writes it then as it is. Where there is no memory, and where the cost is another one, the step works it out.
+    pub fn prepare(&mut self)
+        ensures { self.new ≡ self.old }
+    {
+        if !matches!(self.stage, Stage::Considered(_)) || is_hopeful(&self.tally, &self.last) {
+            return;
+        }
+        prepare_at(
+            self.tools.alloc,
+            &mut self.prepared,
+            &self.last,
+            self.tally.best,
+        );
+    }
+
+    /// Keeps what a transaction held that has ended: the worker's next thought, which comes outside the space's lock, drops it.
+    pub fn keep(&mut self, spent: Spent)
+        ensures { self.new ≡ self.old }
+    {
+        self.reserve.keep(spent);
     }
 
     /// What it did so far.

@@ -9,7 +9,7 @@ use crate::certificate::ordering::turned_round;
 use space_txn::{Txn, TxnError};
 use std::alloc::{AllocError, Global};
 use tuple_match::Tuple;
-use tuple_space::Lease;
+use tuple_space::{Lease, Writes};
 
 /// Writes the tuples under the transaction, in order, each to stay forever. The only error is want of memory; some of them may have been
 /// written then.
@@ -24,6 +24,27 @@ pub fn put_forever(txn: &mut Txn, tuples: Vec<Tuple>) -> Result<(), TxnError>
         put_one(txn, tuple)?;
     }
     Ok(())
+}
+
+/// Adds writes of the tuples, in order, each to stay forever. At an error some of them may have been added.
+pub(crate) fn push_forever(writes: &mut Writes, tuples: Vec<Tuple>) -> Result<(), AllocError>
+    ensures { OnOk result (SameItems (added_of writes.new) (added_of writes.old ++ tuples.items)) }
+{
+    let mut rest = turned_round(tuples);
+    while let Some(tuple) = rest.pop() {
+        push_one(writes, tuple)?;
+    }
+    Ok(())
+}
+
+/// Adds a write of one tuple, to stay forever.
+fn push_one(writes: &mut Writes, tuple: Tuple) -> Result<(), AllocError>
+    ensures { OnOk result (WritesForever tuple writes.old writes.new) }
+{
+    match writes.push(tuple, Lease::Forever) {
+        Ok(()) => Ok(()),
+        Err((error, _)) => Err(error),
+    }
 }
 
 /// Writes one tuple under the transaction, to stay forever.

@@ -7,7 +7,7 @@ use crate::node::branching::Branching;
 use crate::node::scratch::Scratch;
 use crate::node::thought::Thought;
 use qap_cost::{Matrix, Partial};
-use space_txn::Txn;
+use space_txn::{Spare, Spent, Txn};
 use std::alloc::{AllocError, Global};
 use tuple_match::Template;
 use tuple_space::EntryId;
@@ -61,6 +61,43 @@ impl Desk {
         let LastThought { node, thought } = last;
         self.node = node;
         self.scratch.keep(thought);
+    }
+}
+
+/// Memory of a worker's transactions, kept from one to the next.
+#[derive(Drop)]
+pub(crate) struct Reserve {
+    /// What the transaction held that was ended last.
+    spent: Option<Spent>,
+    /// What the next one is to lie in.
+    pub(crate) spare: Option<Spare>,
+}
+
+impl Reserve {
+    /// No memory is taken.
+    pub(crate) fn new() -> Reserve {
+        Reserve {
+            spent: None,
+            spare: None,
+        }
+    }
+
+    /// Keeps what a transaction held that has ended.
+    pub(crate) fn keep(&mut self, spent: Spent) {
+        self.spent = Some(spent);
+    }
+
+    /// Sees to it that the next transaction has memory, where there is any, before the space's lock is taken for it. What the last
+    /// one held is dropped.
+    pub(crate) fn restock(&mut self, alloc: Global) {
+        let spent = self.spent.take();
+        if self.spare.is_some() {
+            return;
+        }
+        self.spare = match spent {
+            Some(spent) => Some(spent.emptied()),
+            None => Spare::new(alloc).ok(),
+        };
     }
 }
 

@@ -7,6 +7,7 @@ ghost use Rattle.space_txn.specs.Machine.{end_answer, find_answer, found, refuse
 ghost use Rattle.space_txn.specs.Txn.{TxnValue};
 ghost use Rattle.qap_search.specs.Hand.{cuts, hand_of, is_due, is_hopeful, last_of};
 ghost use Rattle.qap_search.specs.Piece.{node_template};
+ghost use Rattle.qap_search.specs.Prepared.{HasPrepared};
 ghost use Rattle.qap_search.specs.Replacement.{MayReplace};
 ghost use Rattle.qap_search.specs.SearchLaw.{IsSearchLaw};
 ghost use Rattle.qap_search.specs.Standing.{IsFoundNode, IsHand, IsSearchHand, IsStage};
@@ -16,13 +17,14 @@ ghost use Rattle.qap_search.specs.declared.worker.stage.Stage.{Stage};
 ghost use Rattle.qap_search.specs.declared.worker.stage.Stage.TheVariants.{Begun, Considered, GivingUp, Idle, Ready};
 
 use crate::worker::best_steps::{read_best, take_best};
+use crate::worker::prepared::Prepared;
 use crate::worker::stage::{LastThought, Outcome, Stage, Tally, Tools};
 use shared_space::{CommitError, Law, Room, Share};
-use space_txn::{Found, Txn, TxnError};
+use space_txn::{Found, Spare, Txn, TxnError};
 use std::alloc::AllocError;
 use tuple_match::{Template, does_match_law};
 
-/// Makes the next step of a worker that stands there.
+/// Makes the next step of a worker that stands there, and begins a transaction in spare memory, where there is some.
 pub(crate) fn turn<L: Law, M: Room<L>>(
     tools: &Tools,
     room: &mut M,
@@ -30,22 +32,24 @@ pub(crate) fn turn<L: Law, M: Room<L>>(
     last: &Option<LastThought>,
     stage: Stage,
     tally: Tally,
+    prepared: &mut Prepared,
+    spare: &mut Option<Spare>,
 ) -> Outcome
     requires hand { IsSearchHand L.lawful L.allowed tools.now last.now stage }
     requires not_due { is_due stage ≡ false }
     requires counted { tally.accepted ≤ share.old }
-    ensures turn { (I : Problem) → IsHand I tools.now last.now stage → IsSearchLaw (cuts tools.now.branching) I L.lawful L.allowed →
+    ensures turn { (I : Problem) → IsHand I tools.now last.now stage → HasPrepared (cuts tools.now.branching) I last.now prepared.old → IsSearchLaw (cuts tools.now.branching) I L.lawful L.allowed →
         Turn M.did (hand_of (cuts tools.now.branching) I tools.now.lease_ms (last_of last.now) stage tally) room.old result.told
         (hand_of (cuts tools.now.branching) I tools.now.lease_ms (last_of last.now) result.stage result.tally) room.new }
-    ensures stage { (I : Problem) → IsHand I tools.now last.now stage → IsSearchLaw (cuts tools.now.branching) I L.lawful L.allowed →
+    ensures stage { (I : Problem) → IsHand I tools.now last.now stage → HasPrepared (cuts tools.now.branching) I last.now prepared.old → IsSearchLaw (cuts tools.now.branching) I L.lawful L.allowed →
         IsStage (cuts tools.now.branching) I (last_of last.now) result.stage }
     ensures counted { share.new + tally.accepted ≡ share.old + result.tally.accepted }
 {
     match stage {
-        Stage::Idle => begin(room, tools.lease_ms, tally),
+        Stage::Idle => begin(room, tools.lease_ms, spare, tally),
         Stage::Begun(txn) => take_node(room, &tools.node, txn, tally),
         Stage::Taken(..) => unreachable!(),
-        Stage::Considered(txn) => find_best(tools, room, last, txn, tally),
+        Stage::Considered(txn) => find_best(tools, room, last, txn, prepared, tally),
         Stage::Ready(txn, cost) => commit(room, share, txn, cost, tally),
         Stage::GivingUp(txn) => abort(room, txn, tally),
     }
@@ -57,13 +61,14 @@ fn find_best<L: Law, M: Room<L>>(
     room: &mut M,
     last: &Option<LastThought>,
     txn: Txn,
+    prepared: &mut Prepared,
     tally: Tally,
 ) -> Outcome
     requires hand { IsSearchHand L.lawful L.allowed tools.now last.now (Considered txn) }
-    ensures turn { (I : Problem) → IsHand I tools.now last.now (Considered txn) → IsSearchLaw (cuts tools.now.branching) I L.lawful L.allowed →
+    ensures turn { (I : Problem) → IsHand I tools.now last.now (Considered txn) → HasPrepared (cuts tools.now.branching) I last.now prepared.old → IsSearchLaw (cuts tools.now.branching) I L.lawful L.allowed →
         Turn M.did (hand_of (cuts tools.now.branching) I tools.now.lease_ms (last_of last.now) (Considered txn) tally) room.old result.told
         (hand_of (cuts tools.now.branching) I tools.now.lease_ms (last_of last.now) result.stage result.tally) room.new }
-    ensures stage { (I : Problem) → IsHand I tools.now last.now (Considered txn) → IsSearchLaw (cuts tools.now.branching) I L.lawful L.allowed →
+    ensures stage { (I : Problem) → IsHand I tools.now last.now (Considered txn) → HasPrepared (cuts tools.now.branching) I last.now prepared.old → IsSearchLaw (cuts tools.now.branching) I L.lawful L.allowed →
         IsStage (cuts tools.now.branching) I (last_of last.now) result.stage }
     ensures accepted { result.tally.accepted ≡ tally.accepted }
 {
@@ -74,7 +79,7 @@ fn find_best<L: Law, M: Room<L>>(
     if hopeful {
         take_best(tools.alloc, room, &tools.best, txn, last, tally)
     } else {
-        read_best(tools.alloc, room, &tools.best, txn, last, tally)
+        read_best(tools.alloc, room, &tools.best, txn, last, prepared, tally)
     }
 }
 
@@ -92,13 +97,18 @@ pub(crate) fn is_hopeful(tally: &Tally, last: &Option<LastThought>) -> bool
 }
 
 /// Begins a transaction with a lease of so many milliseconds.
-pub(crate) fn begin<L: Law, M: Room<L>>(room: &mut M, lease_ms: u64, tally: Tally) -> Outcome
+pub(crate) fn begin<L: Law, M: Room<L>>(
+    room: &mut M,
+    lease_ms: u64,
+    spare: &mut Option<Spare>,
+    tally: Tally,
+) -> Outcome
     ensures turn { (cutting : Bool) (I : Problem) (last : Option ThoughtValue) →
         Turn M.did (hand_of cutting I lease_ms last Idle tally) room.old result.told (hand_of cutting I lease_ms last result.stage result.tally) room.new }
     ensures stage { (cutting : Bool) (I : Problem) (last : Option ThoughtValue) → IsStage cutting I last result.stage }
     ensures accepted { result.tally.accepted ≡ tally.accepted }
 {
-    let begun = room.begin(lease_ms);
+    let begun = room.begin_in(lease_ms, spare);
     told_begin(begun, tally)
 }
 

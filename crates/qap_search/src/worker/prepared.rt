@@ -1,0 +1,94 @@
+//! What a worker is to write, worked out before it has read what the best permutation costs.
+
+ghost use Rattle.std.specs.Prelude.{◌≡◌, ◌↔◌, Bool, IfSome, IsTrue, None, OnErr, Some};
+ghost use Rattle.qap_cost.specs.Instance.{Problem};
+ghost use Rattle.qap_search.specs.Decision.{IsOn};
+ghost use Rattle.qap_search.specs.Hand.{thought_of};
+ghost use Rattle.qap_search.specs.Prepared.{HasPrepared, IsPrepared};
+ghost use Rattle.qap_search.specs.Standing.{IsLastThought};
+ghost use Rattle.qap_search.specs.Thought.{IsThought};
+
+use crate::node::decision::decide;
+use crate::worker::best_steps::order_of;
+use crate::worker::putting::{by_entries, push_forever};
+use crate::worker::stage::LastThought;
+use std::alloc::{AllocError, Global};
+use tuple_space::Writes;
+
+/// What is to be written of the last thought where the best permutation stays and costs so much, if that has been worked out.
+#[derive(Drop)]
+pub(crate) struct Prepared {
+    cost: Option<i128>,
+    pub(crate) writes: Writes,
+}
+
+impl Prepared {
+    /// Nothing has been worked out. No memory is taken.
+    pub(crate) fn new(alloc: Global) -> Prepared
+        ensures { result.cost ≡ None }
+    {
+        Prepared {
+            cost: None,
+            writes: Writes::new(alloc),
+        }
+    }
+
+    /// Whether it is what is to be written where the best permutation costs so much.
+    pub(crate) fn is_for(&self, cost: i128) -> bool
+        ensures { IsTrue result ↔ (self.now.cost ≡ Some cost) }
+    {
+        self.cost == Some(cost)
+    }
+
+    /// Forgets what was worked out.
+    pub(crate) fn forget(&mut self)
+        ensures { self.new.cost ≡ None }
+    {
+        self.cost = None;
+    }
+
+    /// Works out what is to be written of the thought where the best permutation stays and costs so much. At an error, and where
+    /// nothing can be written, nothing has been worked out.
+    pub(crate) fn prepare(
+        &mut self,
+        alloc: Global,
+        last: &LastThought,
+        cost: i128,
+    ) -> Result<(), AllocError>
+        requires { IsOn last.now.node last.now.thought }
+        ensures right { (cutting : Bool) (I : Problem) → IsThought cutting I last.now.node last.now.thought → IsPrepared cutting I (thought_of last.now) self.new }
+        ensures err { OnErr result (self.new.cost ≡ None) }
+    {
+        self.cost = None;
+        let Some(tuples) = decide(alloc, &last.node, &last.thought, cost)? else {
+            return Ok(());
+        };
+        let order = order_of(alloc, &last.thought, cost)?;
+        let tuples = by_entries(alloc, tuples, &order)?;
+        self.writes = Writes::new(alloc);
+        push_forever(&mut self.writes, tuples)?;
+        self.cost = Some(cost);
+        Ok(())
+    }
+}
+
+/// The same for the cost that is remembered, where there is one and a last thought. Refused memory, nothing has been worked out.
+pub(crate) fn prepare_at(
+    alloc: Global,
+    prepared: &mut Prepared,
+    last: &Option<LastThought>,
+    best: Option<i128>,
+)
+    requires { (cutting : Bool) × (I : Problem) × IfSome last.now (IsLastThought cutting I) }
+    ensures { (cutting : Bool) (I : Problem) → IfSome last.now (IsLastThought cutting I) → HasPrepared cutting I last.now prepared.new }
+{
+    prepared.forget();
+    let Some(last) = last else {
+        return;
+    };
+    let Some(cost) = best else {
+        return;
+    };
+    // Without memory the step that reads works it out.
+    let _ = prepared.prepare(alloc, last, cost);
+}
