@@ -4,6 +4,8 @@
 #[cfg(test)]
 mod fault_tests;
 #[cfg(test)]
+mod hostile_tests;
+#[cfg(test)]
 mod part_tests;
 #[cfg(test)]
 mod proof_tests;

@@ -13,6 +13,11 @@ pub(crate) const TWO_HEAD: &[u8] = b"qapproof 1\nn 2\ncost 11\nperm 1 2\n";
 /// The same for three that cost 21.
 pub(crate) const THREE_HEAD: &[u8] = b"qapproof 1\nn 3\ncost 21\nperm 1 2 3\n";
 
+/// A split on a location whose first child is closed, whose second one is the image of that, and whose third one is cut, over three
+/// facilities with equal flows: each row of the reduced matrix of the whole is 3 7 11.
+pub(crate) const ALL_FORMS: &[u8] =
+    b"qapproof 1\nn 3\ncost 21\nperm 1 2 3\nt 1 0 0 0 3 7 11\nb 0 0 8 13\nm 1 2 1 3\nc\nend\n";
+
 const ONES: [i64; 9] = [0, 1, 1, 1, 0, 1, 1, 1, 0];
 
 const OTHERS: [i64; 9] = [0, 1, 2, 3, 0, 4, 5, 6, 0];
@@ -148,17 +153,29 @@ fn last_line(text: &[u8]) -> u64 {
     line
 }
 
+/// Asserts what is shown by a text, and that each proper beginning of it ends too early, in its last line.
+fn assert_beginnings(
+    rt: &impl Abort,
+    alloc: Global,
+    instance: &Instance,
+    text: &[u8],
+    verdict: Verdict,
+) -> Result<(), Fail> {
+    assert_judged(rt, alloc, instance, text, b"", Ok(verdict))?;
+    for end in 0..text.len() {
+        let want = Err(ProofError::Truncated(last_line(&text[..end])));
+        assert_judged(rt, alloc, instance, &text[..end], b"", want)?;
+    }
+    Ok(())
+}
+
 #[test]
 fn each_proper_beginning(rt: HostRuntime) -> Result<(), Fail> {
     let alloc = rt.alloc();
-    let Some(two) = two(alloc)? else {
+    let (Some(two), Some(level)) = (two(alloc)?, level(alloc)?) else {
         panic!(rt; "an instance is refused");
     };
-    let text: &[u8] = b"qapproof 1\nn 2\ncost 11\nperm 1 2\nnode 1 1\nbound 5\ns 2 11 0\nc\nend\n";
-    assert_judged(&rt, alloc, &two, text, b"", Ok(Verdict::Part(5)))?;
-    for end in 0..text.len() {
-        let want = Err(ProofError::Truncated(last_line(&text[..end])));
-        assert_judged(&rt, alloc, &two, &text[..end], b"", want)?;
-    }
-    Ok(())
+    let part: &[u8] = b"qapproof 1\nn 2\ncost 11\nperm 1 2\nnode 1 1\nbound 5\ns 2 11 0\nc\nend\n";
+    assert_beginnings(&rt, alloc, &two, part, Verdict::Part(5))?;
+    assert_beginnings(&rt, alloc, &level, ALL_FORMS, Verdict::Optimal(21))
 }
