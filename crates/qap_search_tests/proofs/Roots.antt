@@ -3,8 +3,11 @@ use Rattle.std.proofs.Common.{◌≡◌, ℕ, zero, suc, ◌<◌, List, [], ◌�
 use Rattle.qap_cost.specs.Placement.{Placement, IsPlacement, IsFreeFacility, IsFreeLocation, placing, root_of}
 use Rattle.qap_proof.specs.Claim.{IsRoot}
 
+pub any_root : (n : ℕ) → IsPlacement (root_of n) → IsRoot n (root_of n)
+any_root n placed = record { placement = placed; size = refl; ascending = λ i j less below. absurd (omega arith) }
+
 pub empty_root : IsPlacement (root_of 4) → IsRoot 4 (root_of 4)
-empty_root placed = record { placement = placed; size = refl; ascending = λ i j less below. absurd (omega arith) }
+empty_root = any_root 4
 
 abbrev two_placed : List ℕ
 two_placed = 0 ∷ 2 ∷ []

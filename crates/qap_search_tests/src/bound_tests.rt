@@ -3,11 +3,12 @@
 ghost use Rattle.std.specs.Prelude.{◌≡◌, IfOk, IfSome};
 ghost use Rattle.qap_cost.specs.Objective.{Permutes};
 
+use crate::examples::{SECOND, three};
 use crate::worker_tests::{LEASE_MS, Stopped};
 use qap_cost::{Instance, Partial, Perm, cost};
 use qap_search::{
-    Always, Branching, Gate, Kind, Never, Nobody, Observer, Plan, Progress, Stop, read_node,
-    solve_least_from,
+    Always, Branching, Gate, Kind, Never, Nobody, Observer, Plan, Progress, Stop, identity,
+    read_node, solve_least_from,
 };
 use std::alloc::{AllocError, Global};
 use std::process::Abort;
@@ -313,6 +314,105 @@ fn stops_while_a_lease_lasts(rt: HostRuntime) -> Result<(), Fail> {
     let least = least_below(alloc, &instance, 0)?;
     assert_eq!(rt; (found, open_nodes), (cost_in_order(alloc, &instance)?, 1));
     assert!(rt; bound <= least);
+    Ok(())
+}
+
+/// Lets no commit pass, and wants the search to stop in the round of this number, counted from 0.
+#[derive(Drop)]
+struct InRound {
+    round: u64,
+    asked: AtomicU64,
+}
+
+impl Gate for InRound {
+    fn pass(&self, _worker: u16, kind: Kind) -> bool {
+        kind != Kind::Commit
+    }
+
+    fn after(&self, _worker: u16, _kind: Kind, _accepted: bool) {}
+
+    fn thinking(&self, _worker: u16) {}
+}
+
+impl Stop for InRound {
+    fn is_wanted(&self) -> bool {
+        self.asked.fetch_add(1, Ordering::SeqCst) >= self.round
+    }
+}
+
+/// The clock stands, so that the search goes on until it is stopped: at once, and in the second round.
+#[test]
+fn stops_in_the_round_that_is_wanted(rt: HostRuntime) -> Result<(), Fail> {
+    let alloc = rt.alloc();
+    let instance = signed(alloc)?;
+    let rule = Branching::Cutting;
+    let first = cost_in_order(alloc, &instance)?;
+    for round in [0, 1] {
+        let gate = InRound {
+            round,
+            asked: AtomicU64::new(0),
+        };
+        let (found, bound, open_nodes) = told_from_order(
+            &rt, alloc, &instance, 0, rule, None, &gate, &gate,
+        )?;
+        assert_eq!(rt; (found, open_nodes), (first, 1));
+        assert!(rt; bound <= least_below(alloc, &instance, 0)?);
+        assert_eq!(rt; gate.asked.load(Ordering::SeqCst), round.wrapping_add(1));
+    }
+    Ok(())
+}
+
+/// Wants the search to stop once so many commits are accepted.
+#[derive(Drop)]
+struct AfterCommits {
+    commits: u64,
+    accepted: AtomicU64,
+}
+
+impl Gate for AfterCommits {
+    fn pass(&self, _worker: u16, _kind: Kind) -> bool {
+        true
+    }
+
+    fn after(&self, _worker: u16, kind: Kind, accepted: bool) {
+        if kind == Kind::Commit && accepted {
+            self.accepted.fetch_add(1, Ordering::SeqCst);
+        }
+    }
+
+    fn thinking(&self, _worker: u16) {}
+}
+
+impl Stop for AfterCommits {
+    fn is_wanted(&self) -> bool {
+        self.accepted.load(Ordering::SeqCst) >= self.commits
+    }
+}
+
+/// The search of this instance takes four commits, so that the stop is wanted when no node is open any more.
+#[test]
+fn a_stop_after_the_end_changes_nothing(rt: HostRuntime) -> Result<(), Fail> {
+    let alloc = rt.alloc();
+    let instance = three(alloc, &SECOND)?;
+    let root = Partial::root(alloc, 3)?;
+    let start = identity(alloc, &instance)?;
+    let plan = Plan {
+        workers: 2,
+        lease_ms: LEASE_MS,
+        limit: None,
+        root: &root,
+        start: &start,
+        branching: Branching::GreatestMatched,
+    };
+    let gate = AfterCommits {
+        commits: 4,
+        accepted: AtomicU64::new(0),
+    };
+    let answer = solve_least_from(
+        &rt, alloc, &instance, &plan, &Stopped, &gate, &gate, &Nobody,
+    )?;
+    assert_eq!(rt; (answer.cost, answer.bound, answer.open_nodes), (1, 1, 0));
+    assert_eq!(rt; gate.accepted.load(Ordering::SeqCst), 4);
     Ok(())
 }
 

@@ -31,7 +31,7 @@ const CLOSING: [Made; 4] = [
 ];
 
 /// One turn of a worker: the thought, where one is due, and a step.
-fn turn<L: Law, M: Room<L>>(
+pub(crate) fn turn<L: Law, M: Room<L>>(
     hand: &mut Hand,
     room: &mut M,
     share: &mut Share<L>,

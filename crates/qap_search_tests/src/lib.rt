@@ -4,6 +4,8 @@
 #[cfg(test)]
 mod bound_tests;
 #[cfg(test)]
+mod branching_tests;
+#[cfg(test)]
 mod examples;
 #[cfg(test)]
 mod hand_tests;

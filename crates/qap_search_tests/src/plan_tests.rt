@@ -1,12 +1,12 @@
 //! Searches that go by a plan, against the listing of all permutations.
 
-ghost use Rattle.std.specs.Prelude.{◌≡◌, ◌≤◌, false};
+ghost use Rattle.std.specs.Prelude.{◌≡◌, ◌≤◌, false, IfOk};
 ghost use Rattle.qap_cost.specs.Objective.{Permutes};
 ghost use Rattle.qap_search.specs.Hand.{cuts};
 
 use crate::examples::{patterned, told};
 use crate::worker_tests::{LEASE_MS, Stopped};
-use qap_cost::{Instance, Partial, Perm, least_by_listing};
+use qap_cost::{Instance, Partial, Perm, cost, least_by_listing};
 use qap_search::{
     Always, Answer, Branching, Never, Nobody, Plan, SolveError, identity, solve_from,
     solve_least_from,
@@ -90,23 +90,27 @@ fn either_rule_finds_the_least_cost(rt: HostRuntime) -> Result<(), Fail> {
     Ok(())
 }
 
-/// Asserts that a search which cuts children off, and begins with each facility at the location of its own number, finds the least
-/// cost.
-fn assert_cutting<R>(rt: &R, alloc: Global, instance: &Instance) -> Result<(), Fail>
+/// Asserts that a search by this rule, which begins with this permutation, finds the least cost.
+fn assert_finds<R>(
+    rt: &R,
+    alloc: Global,
+    instance: &Instance,
+    start: &Perm,
+    branching: Branching,
+    least: i128,
+) -> Result<(), Fail>
 where
     R: Threads + Wait + time::Clock + Sync + Abort,
-    requires { instance.now.size ≤ 6 }
+    requires { Permutes instance.now start.now }
 {
-    let (least, _) = least_by_listing(alloc, instance)?;
-    let start = identity(alloc, instance)?;
     let root = Partial::root(alloc, instance.size())?;
     let plan = Plan {
         workers: 2,
         lease_ms: LEASE_MS,
         limit: None,
         root: &root,
-        start: &start,
-        branching: Branching::Cutting,
+        start,
+        branching,
     };
     let answer = solve_least_from(
         rt, alloc, instance, &plan, &Stopped, &Always, &Never, &Nobody,
@@ -118,10 +122,65 @@ where
     Ok(())
 }
 
+/// Asserts that a search which cuts children off, and begins with each facility at the location of its own number, finds the least
+/// cost.
+fn assert_cutting<R>(rt: &R, alloc: Global, instance: &Instance) -> Result<(), Fail>
+where
+    R: Threads + Wait + time::Clock + Sync + Abort,
+    requires { instance.now.size ≤ 6 }
+{
+    let (least, _) = least_by_listing(alloc, instance)?;
+    let start = identity(alloc, instance)?;
+    assert_finds(rt, alloc, instance, &start, Branching::Cutting, least)
+}
+
 #[test]
 fn a_search_that_cuts_finds_the_least_cost(rt: HostRuntime) -> Result<(), Fail> {
     for n in 1..=6 {
         assert_cutting(&rt, rt.alloc(), &patterned(rt.alloc(), n)?)?;
+    }
+    Ok(())
+}
+
+/// The instance with each flow of the other sign: what is least there is dearest in the first one.
+fn with_signs_changed(alloc: Global, instance: &Instance) -> Result<Instance, Fail>
+    ensures { IfOk result (λ I. I.size ≡ instance.now.size) }
+{
+    let n = instance.size();
+    let mut a = Vec::new(alloc);
+    let mut b = Vec::new(alloc);
+    for i in 0..n {
+        for j in 0..n {
+            a.push(instance.a(i, j).wrapping_neg())?;
+            b.push(instance.b(i, j))?;
+        }
+    }
+    Ok(Instance::new(n, a, b)?)
+}
+
+/// Asserts that searches by each rule find the least cost from the dearest permutation.
+fn assert_from_the_dearest<R>(rt: &R, alloc: Global, instance: &Instance) -> Result<(), Fail>
+where
+    R: Threads + Wait + time::Clock + Sync + Abort,
+    requires { instance.now.size ≤ 6 }
+{
+    let (least, _) = least_by_listing(alloc, instance)?;
+    let (negated, dearest) = least_by_listing(alloc, &with_signs_changed(alloc, instance)?)?;
+    assert_eq!(rt; cost(instance, &dearest), negated.wrapping_neg());
+    for rule in [
+        Branching::GreatestMatched,
+        Branching::GreatestSum,
+        Branching::Cutting,
+    ] {
+        assert_finds(rt, alloc, instance, &dearest, rule, least)?;
+    }
+    Ok(())
+}
+
+#[test]
+fn the_dearest_start_is_left_behind(rt: HostRuntime) -> Result<(), Fail> {
+    for n in 1..=6 {
+        assert_from_the_dearest(&rt, rt.alloc(), &patterned(rt.alloc(), n)?)?;
     }
     Ok(())
 }

@@ -1,14 +1,15 @@
 //! Proofs that searches of either kind come to, judged by the checker of proofs, against all completions of the root.
 
-ghost use Rattle.std.specs.Prelude.{◌≡◌, IfOk};
+ghost use Rattle.std.specs.Prelude.{◌≡◌, ◌≤◌, IfOk};
 ghost use Rattle.qap_cost.specs.Objective.{Permutes};
 ghost use Rattle.qap_proof.specs.Claim.{IsRoot};
 
 use crate::bound_tests::{RULES, in_order, least_below, signed};
 use crate::worker_tests::{LEASE_MS, Stopped};
-use qap_cost::{Instance, Partial, Perm, cost};
-use qap_proof::{Tree, check};
-use qap_search::{Always, Branching, Never, Nobody, Plan, prove_from};
+use qap_cost::{Instance, Partial, Perm, cost, least_by_listing};
+use qap_io::Counted;
+use qap_proof::{Tree, Verdict, accept, check, write};
+use qap_search::{Always, Branching, Never, Nobody, Plan, identity, prove_from};
 use std::alloc::{AllocError, Global};
 use std::process::Abort;
 use std::sync::Wait;
@@ -214,5 +215,80 @@ fn of_the_places_of_a_square_one_is_searched(rt: HostRuntime) -> Result<(), Fail
     let start = in_order(alloc, &instance)?;
     // Each place of a square is the image of each other one.
     assert_eq!(rt; searched(&rt, alloc, &instance, &root, &start)?, Some(1));
+    Ok(())
+}
+
+/// So many numbers from -5 to 5, with no order in them.
+fn mixed(alloc: Global, count: usize, step: i64) -> Result<Vec<i64>, AllocError> {
+    let mut numbers = Vec::with_capacity(alloc, count)?;
+    let mut state = step;
+    for _ in 0..count {
+        state = state.wrapping_mul(step).wrapping_add(11).rem_euclid(101);
+        numbers.push(state.rem_euclid(11).wrapping_sub(5))?;
+    }
+    Ok(numbers)
+}
+
+/// An instance of such numbers.
+fn mixed_instance(alloc: Global, n: usize, step: i64) -> Result<Instance, Fail>
+    requires { n ≤ 4 }
+    ensures { IfOk result (λ I. I.size ≡ n) }
+{
+    let a = mixed(alloc, n * n, step)?;
+    let b = mixed(alloc, n * n, step.wrapping_add(29))?;
+    Ok(Instance::new(n, a, b)?)
+}
+
+/// What the text shows of a proof that a search of all permutations comes to by this rule, from each facility at the location of its own
+/// number.
+#[tactic(auto, using(crate::proofs::Roots::any_root))]
+fn shown<R>(
+    rt: &R,
+    alloc: Global,
+    instance: &Instance,
+    branching: Branching,
+) -> Result<Verdict, Fail>
+where
+    R: Threads + Wait + time::Clock + Sync,
+{
+    let root = Partial::root(alloc, instance.size())?;
+    let start = identity(alloc, instance)?;
+    let plan = Plan {
+        workers: 2,
+        lease_ms: LEASE_MS,
+        limit: None,
+        root: &root,
+        start: &start,
+        branching,
+    };
+    let answer = prove_from(
+        rt, alloc, instance, &plan, &Stopped, &Always, &Never, &Nobody,
+    )?;
+    let mut text = Counted::new(Vec::new(alloc));
+    write(alloc, &mut text, &answer.proof)?;
+    Ok(accept(alloc, instance, &text.into_inner())?)
+}
+
+/// Asserts that the texts of searches by either rule show the least cost of the listing.
+fn assert_shown<R>(rt: &R, alloc: Global, instance: &Instance) -> Result<(), Fail>
+where
+    R: Threads + Wait + time::Clock + Sync + Abort,
+    requires { instance.now.size ≤ 4 }
+{
+    let (least, _) = least_by_listing(alloc, instance)?;
+    for rule in RULES {
+        assert_eq!(rt; shown(rt, alloc, instance, rule)?, Verdict::Optimal(least));
+    }
+    Ok(())
+}
+
+#[test]
+fn mixed_instances_and_the_listing(rt: HostRuntime) -> Result<(), Fail> {
+    let alloc = rt.alloc();
+    for n in 1..=4 {
+        for step in [13, 18, 37, 58, 72] {
+            assert_shown(&rt, alloc, &mixed_instance(alloc, n, step)?)?;
+        }
+    }
     Ok(())
 }
