@@ -2,7 +2,7 @@ use std::alloc::{AllocError, Global};
 use std::process::Abort;
 use std::test::Fail;
 use tuple_match::{Field, Pattern, Template, Tuple};
-use tuple_space::{EntryId, Held, Lease, MOST, Space, SpaceError};
+use tuple_space::{EntryId, Held, Lease, Space, SpaceError};
 
 /// The tuple `job n`.
 fn job(alloc: Global, number: i128) -> Result<Tuple, Fail> {
