@@ -2,7 +2,11 @@
 use Rattle.std.specs.Prelude.{◌≡◌, ℕ, ◌+◌, Bool, nat_lt, List, length, map, take, ◌++◌, ℤ, int_lt, string_bytes}
 use Rattle.plan_table.specs.Spelling.{Spells}
 use Rattle.plan_file.specs.declared.tables.NamedProblem.{NamedProblem}
+use Rattle.plan_answer.specs.Gap.{IsApartText}
 use Rattle.plan_answer.specs.Lines.{empty_lines, kept_text, stands_lines, verdict_line}
+use Rattle.plan_answer.specs.Listing.{IsListing}
+use Rattle.plan_answer.specs.Pairs.{AreDearest}
+use Rattle.plan_answer.specs.declared.pairs.Pair.{Pair}
 
 -- how many places behind the point a cost has
 abbrev pub cost_scale : NamedProblem → ℕ
@@ -18,12 +22,30 @@ places_text P p =
 abbrev pub has_fixed : NamedProblem → Bool
 has_fixed P = nat_lt 0 (length P.fixed.facilities)
 
--- that, what is proved of the cost, in the plan's own units, and more behind it
-pub record IsAnswerText (P : NamedProblem) (p : List ℕ) (c g : ℤ) (text : List ℕ) : Type 0 where
+-- how many of the dearest pairs an answer tells
+abbrev pub told_pairs : ℕ
+told_pairs = 5
+
+-- what is proved of the cost, in the plan's own units
+pub record IsVerdictText (P : NamedProblem) (c g : ℤ) (text : List ℕ) : Type 0 where
   pub cost : List ℕ
   pub bound : List ℕ
   pub apart : List ℕ
-  pub more : List ℕ
   pub spelled_cost : Spells cost c (cost_scale P)
   pub spelled_bound : Spells bound g (cost_scale P)
-  pub is : text ≡ places_text P p ++ verdict_line (int_lt g c) cost bound (kept_text (has_fixed P)) apart ++ more
+  pub told_apart : IsApartText c g apart
+  pub is : text ≡ verdict_line (int_lt g c) cost bound (kept_text (has_fixed P)) apart
+
+-- the pairs that cost most
+pub record IsPairsText (P : NamedProblem) (p : List ℕ) (text : List ℕ) : Type 0 where
+  pub pairs : List Pair
+  pub dearest : AreDearest P.instance p told_pairs pairs
+  pub listed : IsListing (map string_bytes P.departments.items) (cost_scale P) pairs text
+
+-- where each department stands, what is proved of the cost, and the pairs that cost most
+pub record IsAnswerText (P : NamedProblem) (p : List ℕ) (c g : ℤ) (text : List ℕ) : Type 0 where
+  pub verdict : List ℕ
+  pub listing : List ℕ
+  pub proved : IsVerdictText P c g verdict
+  pub dearest : IsPairsText P p listing
+  pub is : text ≡ places_text P p ++ verdict ++ listing

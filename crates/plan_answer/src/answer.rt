@@ -1,15 +1,14 @@
 //! The text of an answer.
 
-ghost use Rattle.std.specs.Prelude.{◌≡◌, ◌≤◌, ◌+◌, ◌++◌, ℕ, List, IfOk, OnOk, length};
-ghost use Rattle.plan_table.specs.Spelling.{Spells};
+ghost use Rattle.std.specs.Prelude.{◌≡◌, IfOk, length};
 ghost use Rattle.plan_file.specs.Tables.{HasSizes};
-ghost use Rattle.plan_answer.specs.Answer.{IsAnswerText, cost_scale, places_text};
+ghost use Rattle.plan_answer.specs.Answer.{IsAnswerText, IsPairsText, IsVerdictText, places_text};
 
 use crate::gap::apart_text;
 use crate::lines::{kept_text, push_departments, push_empty_places, push_verdict};
-use crate::pairs::{dearest_pairs, pairs_text};
+use crate::listing::{cost_text, pairs_text};
+use crate::pairs::dearest_pairs;
 use plan_file::NamedProblem;
-use plan_table::decimal_text;
 use qap_cost::Perm;
 use std::alloc::{AllocError, Global};
 
@@ -30,10 +29,26 @@ pub fn answer_text(
     ensures { IfOk result (λ text. IsAnswerText problem.now permutation.now cost bound text.items) }
 {
     let mut text = places_text(alloc, problem, permutation)?;
+    text.extend_from_slice(&verdict_text(alloc, problem, cost, bound)?)?;
+    text.extend_from_slice(&dearest_text(alloc, problem, permutation)?)?;
+    Ok(text)
+}
+
+/// The line that tells what is proved of the cost, in the plan's own units: that it is optimal, or between which bounds the least cost lies.
+pub fn verdict_text(
+    alloc: Global,
+    problem: &NamedProblem,
+    cost: i128,
+    bound: i128,
+) -> Result<Vec<u8>, AllocError>
+    requires { HasSizes problem.now }
+    ensures { IfOk result (λ text. IsVerdictText problem.now cost bound text.items) }
+{
     let cost_words = cost_text(alloc, problem, cost)?;
     let bound_words = cost_text(alloc, problem, bound)?;
     let apart = apart_text(alloc, cost, bound)?;
     let kept = kept_text(problem.fixed.depth() > 0);
+    let mut text = Vec::new(alloc);
     push_verdict(
         &mut text,
         bound < cost,
@@ -42,13 +57,25 @@ pub fn answer_text(
         kept,
         &apart,
     )?;
-    let pairs = dearest_pairs(alloc, &problem.instance, permutation, PAIRS)?;
-    text.extend_from_slice(&pairs_text(alloc, problem, &pairs)?)?;
     Ok(text)
 }
 
+/// The lines of the pairs that cost most.
+pub(crate) fn dearest_text(
+    alloc: Global,
+    problem: &NamedProblem,
+    permutation: &Perm,
+) -> Result<Vec<u8>, AllocError>
+    requires sizes { HasSizes problem.now }
+    requires same_size { length permutation.now ≡ problem.now.instance.size }
+    ensures { IfOk result (λ text. IsPairsText problem.now permutation.now text.items) }
+{
+    let pairs = dearest_pairs(alloc, &problem.instance, permutation, PAIRS)?;
+    pairs_text(alloc, problem, &pairs)
+}
+
 /// The lines that tell where each department stands, and which places stay empty.
-fn places_text(
+pub(crate) fn places_text(
     alloc: Global,
     problem: &NamedProblem,
     permutation: &Perm,
@@ -69,12 +96,4 @@ fn places_text(
     let taken = &locations[..problem.departments.len()];
     push_empty_places(alloc, &mut text, &problem.places, taken)?;
     Ok(text)
-}
-
-/// A cost in the plan's own units, as a decimal number, exactly.
-pub fn cost_text(alloc: Global, problem: &NamedProblem, cost: i128) -> Result<Vec<u8>, AllocError>
-    requires { HasSizes problem.now }
-    ensures { IfOk result (λ text. Spells text.items cost (cost_scale problem.now)) }
-{
-    decimal_text(alloc, cost, problem.flow_scale + problem.distance_scale)
 }

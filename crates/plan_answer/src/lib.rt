@@ -4,7 +4,11 @@
 mod answer;
 mod gap;
 mod lines;
+mod listing;
 mod pairs;
+mod stated;
 
-pub use answer::{answer_text, cost_text};
+pub use answer::{answer_text, verdict_text};
+pub use listing::cost_text;
 pub use pairs::{Pair, dearest_pairs};
+pub use stated::{cost_line, stated_text};

@@ -1,13 +1,11 @@
 //! The pairs of facilities that cost most.
 
-ghost use Rattle.std.specs.Prelude.{◌≡◌, ◌<◌, ◌≤◌, All, ℕ, List, IfOk, length};
-ghost use Rattle.qap_cost.specs.Instance.{Problem};
+ghost use Rattle.std.specs.Prelude.{◌≡◌, ◌<◌, ◌≤◌, IfOk, OnOk, int_lt, length};
+ghost use Rattle.std.specs.List.{position_or_len};
 ghost use Rattle.qap_cost.specs.Objective.{pair_cost};
-ghost use Rattle.plan_file.specs.Tables.{HasSizes};
-ghost use Rattle.plan_answer.specs.Pairs.{IsPairOf};
+ghost use Rattle.plan_answer.specs.Pairs.{AreDearest};
+ghost use Rattle.plan_answer.specs.Putting.{kept_with};
 
-use plan_file::NamedProblem;
-use plan_table::decimal_text;
 use qap_cost::{Instance, Perm, product};
 use std::alloc::{AllocError, Global};
 
@@ -28,8 +26,7 @@ pub fn dearest_pairs(
     most: usize,
 ) -> Result<Vec<Pair>, AllocError>
     requires { length permutation.now ≡ instance.now.size }
-    ensures pairs { IfOk result (λ v. All (IsPairOf instance.now permutation.now) v.items) }
-    ensures few { IfOk result (λ v. length v.items ≤ most) }
+    ensures { IfOk result (λ v. AreDearest instance.now permutation.now most v.items) }
 {
     let mut pairs = Vec::new(alloc);
     for from in 0..instance.size() {
@@ -62,16 +59,12 @@ fn pair_cost(instance: &Instance, permutation: &Perm, from: usize, to: usize) ->
 /// Puts a pair that costs something where it belongs among the dearest, so that at most so many are left.
 fn put_pair(pairs: &mut Vec<Pair>, pair: Pair, most: usize) -> Result<(), AllocError>
     requires { length pairs.old.items ≤ most }
-    ensures few { length pairs.new.items ≤ most }
-    ensures kept { (I : Problem) (p : List ℕ) → All (IsPairOf I p) pairs.old.items → IsPairOf I p pair → All (IsPairOf I p) pairs.new.items }
+    ensures { OnOk result (pairs.new.items ≡ kept_with most pair pairs.old.items) }
 {
     if pair.cost <= 0 {
         return Ok(());
     }
-    let at = pairs
-        .iter()
-        .position(|other| other.cost < pair.cost)
-        .unwrap_or(pairs.len());
+    let at = place_of(pairs, &pair);
     if at < most {
         pairs.insert(at, pair)?;
         pairs.truncate(most);
@@ -79,51 +72,12 @@ fn put_pair(pairs: &mut Vec<Pair>, pair: Pair, most: usize) -> Result<(), AllocE
     Ok(())
 }
 
-/// A line for each pair, with its cost in the plan's own units, below a heading; an added facility has no flow, so that each is a department.
-pub fn pairs_text(
-    alloc: Global,
-    problem: &NamedProblem,
-    pairs: &[Pair],
-) -> Result<Vec<u8>, AllocError>
-    requires { HasSizes problem.now }
+/// The place of the first pair that costs less, or how many there are.
+fn place_of(pairs: &[Pair], pair: &Pair) -> usize
+    ensures { result ≡ position_or_len (λ other. int_lt other.cost pair.now.cost) pairs.now }
 {
-    let mut text = Vec::new(alloc);
-    if !pairs.is_empty() {
-        text.extend_from_slice(b"dearest pairs:\n")?;
-    }
-    for pair in pairs {
-        push_pair(alloc, &mut text, problem, pair)?;
-    }
-    Ok(text)
-}
-
-/// Puts the line of a pair at the end of the text.
-fn push_pair(
-    alloc: Global,
-    text: &mut Vec<u8>,
-    problem: &NamedProblem,
-    pair: &Pair,
-) -> Result<(), AllocError>
-    requires { HasSizes problem.now }
-{
-    let cost = decimal_text(
-        alloc,
-        i128::from(pair.cost),
-        problem.flow_scale + problem.distance_scale,
-    )?;
-    text.extend_from_slice(department_name(problem, pair.from).as_bytes())?;
-    text.extend_from_slice(b" to ")?;
-    text.extend_from_slice(department_name(problem, pair.to).as_bytes())?;
-    text.extend_from_slice(b": ")?;
-    text.extend_from_slice(&cost)?;
-    text.extend_from_slice(b"\n")?;
-    Ok(())
-}
-
-/// The name of a department; an added one has none.
-fn department_name(problem: &NamedProblem, i: usize) -> &str {
-    match problem.departments.get(i) {
-        Some(name) => name.as_str(),
-        None => "",
-    }
+    pairs
+        .iter()
+        .position(|other| other.cost < pair.cost)
+        .unwrap_or(pairs.len())
 }
