@@ -1,10 +1,12 @@
 -- What a command line asks for.
+use Rattle.std.specs.Prelude.{⊤}
 use Rattle.qap_plan.specs.Options.{AreLimited}
 use Rattle.qap_plan.specs.declared.command_line.Task.{Task}
-use Rattle.qap_plan.specs.declared.command_line.Task.TheVariants.{Solve, Split, Part}
+use Rattle.qap_plan.specs.declared.command_line.Task.TheVariants.{Solve, Split, Part, Convert}
 
--- the options are within their limits
+-- the options of a search are within their limits
 abbrev pub IsLimitedTask : Task → Type 0
 IsLimitedTask (Solve r) = AreLimited r.options
 IsLimitedTask (Split r) = AreLimited r.options
 IsLimitedTask (Part r) = AreLimited r.options
+IsLimitedTask (Convert r) = ⊤

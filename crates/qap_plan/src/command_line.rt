@@ -4,6 +4,7 @@ ghost use Rattle.std.specs.Prelude.{IfOk, IfSome};
 ghost use Rattle.qap_plan.specs.Asking.{IsLimitedTask};
 ghost use Rattle.qap_plan.specs.Options.{AreLimited};
 
+use crate::convert_command::{ConvertRequest, convert_command, convert_request};
 use crate::options::{MAX_NODES, MAX_WORKERS, Options};
 use crate::part_command::{PartRequest, part_command, part_request};
 use crate::split_command::{SplitRequest, split_command, split_request};
@@ -42,6 +43,8 @@ pub enum Task<'a> {
     Split(SplitRequest<'a>),
     /// To solve a part.
     Part(PartRequest<'a>),
+    /// To write the tables of a plan as a text of numbers.
+    Convert(ConvertRequest<'a>),
 }
 
 /// What the words of a command line ask for, the program's name being the first. That help or the version is asked for is an error
@@ -56,7 +59,8 @@ pub fn parse<'a>(alloc: Global, words: &'a [String]) -> Result<Task<'a>, Error>
         .subcommand_required(true)
         .subcommand(solve_command(alloc)?)?
         .subcommand(split_command(alloc)?)?
-        .subcommand(part_command(alloc)?)?;
+        .subcommand(part_command(alloc)?)?
+        .subcommand(convert_command(alloc)?)?;
     let matches = command.try_get_matches_from_mut(words)?;
     match asked(&matches) {
         Some(task) => Ok(task),
@@ -72,6 +76,7 @@ fn asked<'a>(matches: &ArgMatches<'a>) -> Option<Task<'a>>
         Some(("solve", found)) => Some(Task::Solve(request_of(found)?)),
         Some(("split", found)) => Some(Task::Split(split_request(found)?)),
         Some(("part", found)) => Some(Task::Part(part_request(found)?)),
+        Some(("convert", found)) => Some(Task::Convert(convert_request(found)?)),
         _ => None,
     }
 }

@@ -1,7 +1,7 @@
 //! The instance of a file.
 
 use crate::error::PlanError;
-use crate::loading::load_problem;
+use crate::loading::problem_of_plan;
 use crate::plan_run::is_plan;
 use crate::reading::read_problem;
 use crate::refuse;
@@ -27,13 +27,7 @@ pub fn instance_of(rt: &HostRuntime, file: &str, passes: bool) -> Result<Instanc
 
 /// The instance of a plan's tables, where the plan fixes nothing: parts are those of all arrangements.
 fn instance_of_plan(rt: &HostRuntime, file: &str) -> Result<Instance, ExitCode> {
-    let problem = match load_problem(rt, file) {
-        Ok(problem) => problem,
-        Err(error) => {
-            let _ = rt.eprintln(format_args!("error: {error}"));
-            return Err(ExitCode::from(error.status().code()));
-        }
-    };
+    let problem = problem_of_plan(rt, file)?;
     if problem.fixed.depth() > 0 {
         let _ = rt.eprintln(format_args!(
             "error: {file}: departments are fixed: take [fixed] out, since parts are those of all arrangements"

@@ -6,7 +6,7 @@ use crate::planning::Planned;
 use plan_answer::cost_text;
 use plan_file::NamedProblem;
 use qap_cost::Perm;
-use serde_json::{Value, json};
+use serde_json::{Map, Value, json};
 use std::alloc::{AllocError, Global};
 
 /// The answer, in one object: `status` is `optimal` or `bounded`; `cost` and `bound` are texts, since they may pass 64 bits;
@@ -53,6 +53,42 @@ pub fn named_json_text(
         "milliseconds": milliseconds,
     })?;
     value.to_string(alloc)
+}
+
+/// What a problem's instance only numbers: `departments` and `places` are the names, in the tables' order, `flow_scale` and `distance_scale` the powers of
+/// ten that made the tables whole, and `fixed`, where something is fixed, has the place of each department that is, by its name.
+pub fn names_text(alloc: Global, problem: &NamedProblem) -> Result<String, AllocError> {
+    let mut value = json!(in alloc; {
+        "version": "0.2.0",
+        "departments": names_value(alloc, &problem.departments)?,
+        "places": names_value(alloc, &problem.places)?,
+        "flow_scale": problem.flow_scale as u64,
+        "distance_scale": problem.distance_scale as u64,
+    })?;
+    if problem.fixed.depth() > 0 {
+        if let Some(fields) = value.as_object_mut() {
+            fields.insert(
+                String::from_str(alloc, "fixed")?,
+                fixed_places(alloc, problem)?,
+            )?;
+        }
+    }
+    value.to_string(alloc)
+}
+
+/// The place of each department that is fixed, by its name.
+fn fixed_places(alloc: Global, problem: &NamedProblem) -> Result<Value, AllocError> {
+    let mut fixed = Map::new(alloc);
+    for (i, department) in problem.departments.iter().enumerate() {
+        let place = problem
+            .fixed
+            .at(i)
+            .and_then(|location| problem.places.get(usize::from(location)));
+        if let Some(place) = place {
+            fixed.insert(department.clone()?, Value::String(place.clone()?))?;
+        }
+    }
+    Ok(Value::Object(fixed))
 }
 
 fn status_word(answer: &Planned) -> &'static str {

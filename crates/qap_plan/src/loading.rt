@@ -13,6 +13,7 @@ use qap_text::{MAX_INPUT, TextError, read_all};
 use std::alloc::{AllocError, Global};
 use std::fs::{self, Files};
 use std::path::Path;
+use std::process::ExitCode;
 use thiserror::Error;
 
 /// Why a plan has no problem, and which file is at fault.
@@ -74,7 +75,7 @@ impl From<AllocError> for LoadError {
 }
 
 /// The problem of a plan's file and of the tables' files that it names.
-pub fn load_problem<R: Files + AllocGlobal>(rt: &R, file: &str) -> Result<NamedProblem, LoadError>
+fn load_problem<R: Files + AllocGlobal>(rt: &R, file: &str) -> Result<NamedProblem, LoadError>
     ensures { IfOk result HasSizes }
 {
     let alloc = rt.alloc();
@@ -99,6 +100,19 @@ pub fn load_problem<R: Files + AllocGlobal>(rt: &R, file: &str) -> Result<NamedP
                 Fault::Plan => String::from_str(alloc, file)?,
             };
             Err(LoadError::Tables { file, error })
+        }
+    }
+}
+
+/// The problem of a plan for a run: why there is none is told on standard error, and the exit status comes back.
+pub fn problem_of_plan(rt: &HostRuntime, file: &str) -> Result<NamedProblem, ExitCode>
+    ensures { IfOk result HasSizes }
+{
+    match load_problem(rt, file) {
+        Ok(problem) => Ok(problem),
+        Err(error) => {
+            let _ = rt.eprintln(format_args!("error: {error}"));
+            Err(ExitCode::from(error.status().code()))
         }
     }
 }

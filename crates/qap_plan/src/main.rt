@@ -5,6 +5,9 @@ mod answer;
 mod answering;
 mod arranging;
 mod command_line;
+mod convert_command;
+mod convert_run;
+mod converting;
 mod elapsed;
 mod error;
 mod instance_file;
@@ -36,6 +39,7 @@ use answering::plan_stream;
 use clap::Error;
 use clap::error::ErrorKind;
 use command_line::{Request, Task, parse};
+use convert_run::run_convert;
 use elapsed::Elapsed;
 use error::PlanError;
 use json::json_text;
@@ -58,6 +62,8 @@ use std::time::Clock;
 use std::{env, fs, io};
 use whole_file::write_whole;
 
+#[cfg(test)]
+mod convert_tests;
 #[cfg(test)]
 mod part_tests;
 #[cfg(test)]
@@ -85,6 +91,7 @@ where
         Task::Solve(request) => solve(system, rt, request),
         Task::Split(request) => run_split(system, rt, request),
         Task::Part(request) => run_part(system, rt, request),
+        Task::Convert(request) => run_convert(rt, request),
     }
 }
 

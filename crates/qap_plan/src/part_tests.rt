@@ -13,6 +13,7 @@ use crate::reading::read_problem;
 use crate::split_command::SplitRequest;
 use crate::splitting::{Skeleton, split_up};
 use crate::standing::standing_proof;
+use crate::tests::command;
 use qap_cost::Instance;
 use qap_io::Counted;
 use qap_proof::{Cover, MissingPart, Stated, Verdict, read_node_text, text_of_node};
@@ -190,16 +191,6 @@ fn a_list_of_parts(rt: HostRuntime) -> Result<(), Fail> {
 /// What a command line asks for.
 fn asked<'a>(alloc: Global, words: &'a [String]) -> Option<Task<'a>> {
     parse(alloc, words).ok()
-}
-
-/// The words of a command line, behind the program's name.
-fn command(alloc: Global, words: &[&str]) -> Result<Vec<String>, AllocError> {
-    let mut line = Vec::new(alloc);
-    line.push(String::from_str(alloc, "qapplan")?)?;
-    for word in words {
-        line.push(String::from_str(alloc, word)?)?;
-    }
-    Ok(line)
 }
 
 #[test]

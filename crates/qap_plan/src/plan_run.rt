@@ -9,7 +9,7 @@ use crate::command_line::Request;
 use crate::elapsed::Elapsed;
 use crate::error::PlanError;
 use crate::json::named_json_text;
-use crate::loading::load_problem;
+use crate::loading::problem_of_plan;
 use crate::planning::Planned;
 use crate::progress::{Teller, telling_of};
 use crate::proof_file::write_proof;
@@ -36,12 +36,9 @@ where
     requires { AreLimited request.now.options }
 {
     let elapsed = Elapsed::new(system, request.options.seconds);
-    let problem = match load_problem(rt, request.file) {
+    let problem = match problem_of_plan(rt, request.file) {
         Ok(problem) => problem,
-        Err(error) => {
-            let _ = rt.eprintln(format_args!("error: {error}"));
-            return ExitCode::from(error.status().code());
-        }
+        Err(code) => return code,
     };
     let mut start = match start_of(rt, request) {
         Ok(start) => start,

@@ -332,7 +332,7 @@ where
 }
 
 /// The words of a command line, behind the program's name.
-fn command(alloc: Global, words: &[&str]) -> Result<Vec<String>, AllocError> {
+pub(crate) fn command(alloc: Global, words: &[&str]) -> Result<Vec<String>, AllocError> {
     let mut line = Vec::new(alloc);
     line.push(String::from_str(alloc, "qapplan")?)?;
     for word in words {

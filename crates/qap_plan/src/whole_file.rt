@@ -21,7 +21,7 @@ pub fn write_whole<R: Files + AllocGlobal>(rt: &R, name: &str, text: &[u8]) -> i
 }
 
 /// Whether something of this name is there that is no regular file.
-fn is_other<R: Files>(rt: &R, name: &str) -> bool {
+pub fn is_other<R: Files>(rt: &R, name: &str) -> bool {
     match fs::metadata(rt, name) {
         Ok(found) => !found.is_file(),
         Err(_) => false,

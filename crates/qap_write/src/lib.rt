@@ -1,0 +1,6 @@
+//! Instances written as QAPLIB texts.
+#![tactic(auto)]
+
+mod writing;
+
+pub use writing::instance_text;
