@@ -81,12 +81,7 @@ fn push_stated(
 }
 
 /// Puts the part behind the cost at the end of the text, where it isn't stated to be least.
-fn push_range(
-    text: &mut Vec<u8>,
-    cost: &[u8],
-    bound: &[u8],
-    kept: &[u8],
-) -> Result<(), AllocError>
+fn push_range(text: &mut Vec<u8>, cost: &[u8], bound: &[u8], kept: &[u8]) -> Result<(), AllocError>
     ensures { OnOk result (text.new.items ≡ text.old.items ++ stated_range cost.now bound.now kept.now) }
 {
     text.extend_from_slice(b", stated within ")?;

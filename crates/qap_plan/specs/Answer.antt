@@ -21,3 +21,18 @@ verdict_line c g =
 -- a line for each facility, and one for the cost
 abbrev pub answer_text : List ℕ → ℤ → ℤ → List ℕ
 answer_text p c g = place_lines 0 p ++ verdict_line c g
+
+-- what is stated of the cost
+abbrev pub stated_line : ℤ → ℤ → List ℕ
+stated_line c g =
+    if int_lt g c
+    then codes "cost " ++ signed_decimal c ++ codes ", stated within " ++ signed_decimal g ++ codes " to " ++ signed_decimal c ++ codes "\n"
+    else codes "cost " ++ signed_decimal c ++ codes ", stated as optimal\n"
+
+-- the same text where nothing shows the bound
+abbrev pub stated_text : List ℕ → ℤ → ℤ → List ℕ
+stated_text p c g = place_lines 0 p ++ stated_line c g
+
+-- the cost alone
+abbrev pub cost_line : ℤ → List ℕ
+cost_line c = codes "cost " ++ signed_decimal c ++ codes "\n"

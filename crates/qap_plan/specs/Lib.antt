@@ -2,6 +2,7 @@ pub mod Answer
 pub mod Answering
 pub mod Arranging
 pub mod Asking
+pub mod Checking
 pub mod Keeping
 pub mod NodeLines
 pub mod Options

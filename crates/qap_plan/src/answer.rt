@@ -1,7 +1,7 @@
 //! The text of an answer.
 
 ghost use Rattle.std.specs.Prelude.{◌≡◌, ◌++◌, IfOk, OnOk, string_bytes};
-ghost use Rattle.qap_plan.specs.Answer.{answer_text, place_line, place_lines, verdict_line};
+ghost use Rattle.qap_plan.specs.Answer.{answer_text, cost_line, place_line, place_lines, stated_line, stated_text, verdict_line};
 
 use qap_cost::Perm;
 use std::alloc::{AllocError, Global};
@@ -23,6 +23,29 @@ pub fn answer_text(
     Ok(text)
 }
 
+/// The same where nothing shows the bound: it is told as stated.
+pub fn stated_text(
+    alloc: Global,
+    permutation: &Perm,
+    cost: i128,
+    bound: i128,
+) -> Result<Vec<u8>, AllocError>
+    ensures { IfOk result (λ text. text.items ≡ stated_text permutation.now cost bound) }
+{
+    let mut text = Vec::new(alloc);
+    push_places(alloc, &mut text, permutation.locations())?;
+    let line = stated_line(alloc, cost, bound)?;
+    text.extend_from_slice(line.as_bytes())?;
+    Ok(text)
+}
+
+/// The line of the cost alone.
+pub fn cost_line(alloc: Global, cost: i128) -> Result<String, AllocError>
+    ensures { IfOk result (λ line. string_bytes line ≡ cost_line cost) }
+{
+    format!(in alloc; "cost {cost}\n")
+}
+
 /// Puts a line for each facility at the end of the text.
 fn push_places(alloc: Global, text: &mut Vec<u8>, locations: &[u16]) -> Result<(), AllocError>
     ensures { OnOk result (text.new.items ≡ text.old.items ++ place_lines 0 locations.now) }
@@ -42,12 +65,23 @@ fn place_line(alloc: Global, facility: usize, location: usize) -> Result<String,
 }
 
 /// What is proved of the cost.
-fn verdict_line(alloc: Global, cost: i128, bound: i128) -> Result<String, AllocError>
+pub fn verdict_line(alloc: Global, cost: i128, bound: i128) -> Result<String, AllocError>
     ensures { IfOk result (λ line. string_bytes line ≡ verdict_line cost bound) }
 {
     if bound < cost {
         format!(in alloc; "cost {cost}, within {bound} to {cost}, proved\n")
     } else {
         format!(in alloc; "cost {cost}, optimal, proved\n")
+    }
+}
+
+/// What is stated of the cost.
+fn stated_line(alloc: Global, cost: i128, bound: i128) -> Result<String, AllocError>
+    ensures { IfOk result (λ line. string_bytes line ≡ stated_line cost bound) }
+{
+    if bound < cost {
+        format!(in alloc; "cost {cost}, stated within {bound} to {cost}\n")
+    } else {
+        format!(in alloc; "cost {cost}, stated as optimal\n")
     }
 }

@@ -4,9 +4,11 @@ ghost use Rattle.std.specs.Prelude.{IfOk, IfSome};
 ghost use Rattle.qap_plan.specs.Asking.{IsLimitedTask};
 ghost use Rattle.qap_plan.specs.Options.{AreLimited};
 
+use crate::check_command::{CheckRequest, check_command, check_request};
 use crate::convert_command::{ConvertRequest, convert_command, convert_request};
 use crate::options::{MAX_NODES, MAX_WORKERS, Options};
 use crate::part_command::{PartRequest, part_command, part_request};
+use crate::show_command::{ShowRequest, show_command, show_request};
 use crate::split_command::{SplitRequest, split_command, split_request};
 use clap::error::ErrorKind;
 use clap::{Arg, ArgAction, ArgMatches, Command, Error, value_parser};
@@ -45,6 +47,10 @@ pub enum Task<'a> {
     Part(PartRequest<'a>),
     /// To write the tables of a plan as a text of numbers.
     Convert(ConvertRequest<'a>),
+    /// To show an answer again.
+    Show(ShowRequest<'a>),
+    /// To judge an answer.
+    Check(CheckRequest<'a>),
 }
 
 /// What the words of a command line ask for, the program's name being the first. That help or the version is asked for is an error
@@ -60,7 +66,9 @@ pub fn parse<'a>(alloc: Global, words: &'a [String]) -> Result<Task<'a>, Error>
         .subcommand(solve_command(alloc)?)?
         .subcommand(split_command(alloc)?)?
         .subcommand(part_command(alloc)?)?
-        .subcommand(convert_command(alloc)?)?;
+        .subcommand(convert_command(alloc)?)?
+        .subcommand(show_command(alloc)?)?
+        .subcommand(check_command(alloc)?)?;
     let matches = command.try_get_matches_from_mut(words)?;
     match asked(&matches) {
         Some(task) => Ok(task),
@@ -77,6 +85,8 @@ fn asked<'a>(matches: &ArgMatches<'a>) -> Option<Task<'a>>
         Some(("split", found)) => Some(Task::Split(split_request(found)?)),
         Some(("part", found)) => Some(Task::Part(part_request(found)?)),
         Some(("convert", found)) => Some(Task::Convert(convert_request(found)?)),
+        Some(("show", found)) => Some(Task::Show(show_request(found)?)),
+        Some(("check", found)) => Some(Task::Check(check_request(found)?)),
         _ => None,
     }
 }

@@ -4,6 +4,9 @@
 mod answer;
 mod answering;
 mod arranging;
+mod check_command;
+mod check_run;
+mod checking;
 mod command_line;
 mod convert_command;
 mod convert_run;
@@ -12,6 +15,7 @@ mod elapsed;
 mod error;
 mod instance_file;
 mod json;
+mod judged_files;
 mod keeping;
 mod loading;
 mod node_lines;
@@ -24,6 +28,8 @@ mod planning;
 mod progress;
 mod proof_file;
 mod reading;
+mod show_command;
+mod show_run;
 mod split_command;
 mod split_run;
 mod splitting;
@@ -36,6 +42,7 @@ ghost use Rattle.qap_plan.specs.Options.{AreLimited};
 
 use answer::answer_text;
 use answering::plan_stream;
+use check_run::run_check;
 use clap::Error;
 use clap::error::ErrorKind;
 use command_line::{Request, Task, parse};
@@ -50,6 +57,7 @@ use progress::{Teller, telling_of};
 use proof_file::write_proof;
 use qap_io::{Counted, Status};
 use qap_search::{Observer, Stop};
+use show_run::run_show;
 use split_run::run_split;
 use std::alloc::Global;
 use std::fs::Files;
@@ -64,6 +72,8 @@ use whole_file::write_whole;
 
 #[cfg(test)]
 mod convert_tests;
+#[cfg(test)]
+mod judging_tests;
 #[cfg(test)]
 mod part_tests;
 #[cfg(test)]
@@ -92,6 +102,8 @@ where
         Task::Split(request) => run_split(system, rt, request),
         Task::Part(request) => run_part(system, rt, request),
         Task::Convert(request) => run_convert(rt, request),
+        Task::Show(request) => run_show(rt, request),
+        Task::Check(request) => run_check(rt, request),
     }
 }
 
@@ -162,7 +174,7 @@ where
 }
 
 /// Tells that there is no picture of an instance without names.
-fn refuse_picture(rt: &HostRuntime, file: &str) -> ExitCode {
+pub(crate) fn refuse_picture(rt: &HostRuntime, file: &str) -> ExitCode {
     let _ = rt.eprintln(format_args!(
         "error: {file}: a picture wants a plan, whose file's name ends in .toml: take --svg away, or write one"
     ));

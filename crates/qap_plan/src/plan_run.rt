@@ -18,6 +18,7 @@ use crate::{end_of, faulty_file, refuse, start_of};
 use plan_answer::{answer_text, cost_text};
 use plan_file::NamedProblem;
 use plan_picture::picture;
+use qap_cost::Perm;
 use qap_io::Counted;
 use std::process::ExitCode;
 use std::sync::Wait;
@@ -87,7 +88,7 @@ fn finish(
         }
     }
     if let Some(file) = request.svg {
-        if let Err(error) = write_picture(rt, file, problem, answer) {
+        if let Err(error) = write_picture(rt, file, problem, &answer.permutation, answer.cost) {
             return refuse(rt, file, error);
         }
     }
@@ -135,20 +136,21 @@ fn write_json(
     write_whole(rt, file, text.as_bytes()).map_err(|_| PlanError::Device)
 }
 
-/// Writes a picture of the answer to a file.
-fn write_picture(
+/// Writes a picture of an arrangement of this cost to a file.
+pub(crate) fn write_picture(
     rt: &HostRuntime,
     file: &str,
     problem: &NamedProblem,
-    answer: &Planned,
+    permutation: &Perm,
+    cost: i128,
 ) -> Result<(), PlanError>
     requires sizes { HasSizes problem.now }
-    requires kept { Completes problem.now.fixed answer.now.permutation }
+    requires kept { Completes problem.now.fixed permutation.now }
 {
     let alloc = rt.alloc();
-    let cost = cost_text(alloc, problem, answer.cost)?;
+    let cost = cost_text(alloc, problem, cost)?;
     let cost = std::str::from_utf8(&cost).unwrap_or("");
     let title = format!(in alloc; "cost {cost}")?;
-    let text = picture(alloc, problem, &answer.permutation, title.as_str())?;
+    let text = picture(alloc, problem, permutation, title.as_str())?;
     write_whole(rt, file, &text).map_err(|_| PlanError::Device)
 }

@@ -1,0 +1,2 @@
+pub mod Provings
+pub mod Values

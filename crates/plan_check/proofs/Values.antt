@@ -1,0 +1,46 @@
+-- What a JSON value is, by what is found in it.
+use Rattle.std.proofs.Common.{◌≡◌, ◌∙◌, ℕ, ap, sym, Bor, List, Vec, Global, Option, Some, None, option_map}
+use Rattle.std.specs.Prelude.{IfSome, option_and_then}
+use Rattle.serde_json.specs.Data.{Data, Items, null, boolean, number, string, array, object, unsigned, negative, float}
+use Rattle.serde_json.specs.Find.{as_array, as_number, as_str, as_u64}
+use Rattle.serde_json.specs.View.{view}
+use Rattle.serde_json.specs.declared.value.Value.{Value}
+
+text_of : (d : Data) (s : List ℕ) → Some s ≡ as_str d → d ≡ string s
+text_of null s is = absurd (cc)
+text_of (boolean b) s is = absurd (cc)
+text_of (number n) s is = absurd (cc)
+text_of (string t) s is = cc
+text_of (array ds) s is = absurd (cc)
+text_of (object ms) s is = absurd (cc)
+
+whole_of : (d : Data) (n : ℕ) → Some n ≡ option_and_then as_u64 (as_number d) → d ≡ number (unsigned n)
+whole_of null n is = absurd (cc)
+whole_of (boolean b) n is = absurd (cc)
+whole_of (number (unsigned m)) n is = cc
+whole_of (number (negative z)) n is = absurd (cc)
+whole_of (number (float x)) n is = absurd (cc)
+whole_of (string t) n is = absurd (cc)
+whole_of (array ds) n is = absurd (cc)
+whole_of (object ms) n is = absurd (cc)
+
+pub list_of : (d : Data) (items : Items) → Some items ≡ as_array d → d ≡ array items
+list_of null items is = absurd (cc)
+list_of (boolean b) items is = absurd (cc)
+list_of (number n) items is = absurd (cc)
+list_of (string t) items is = absurd (cc)
+list_of (array ds) items is = cc
+list_of (object ms) items is = absurd (cc)
+
+-- the same of what a call finds
+pub text_found : (d : Data) (found : Option (Bor (List ℕ))) → option_map (λ s. s.now) found ≡ as_str d → IfSome found (λ s. d ≡ string s.now)
+text_found d None is = tt
+text_found d (Some s) is = text_of d s.now is
+
+pub whole_found : (d : Data) (found : Option ℕ) → found ≡ option_and_then as_u64 (as_number d) → IfSome found (λ n. d ≡ number (unsigned n))
+whole_found d None is = tt
+whole_found d (Some n) is = whole_of d n is
+
+pub value_found : (wanted : Option Data) (found : Option (Bor Value)) → option_map (λ v. view v.now) found ≡ wanted → IfSome found (λ v. wanted ≡ Some (view v.now))
+value_found wanted None is = tt
+value_found wanted (Some v) is = sym is

@@ -1,0 +1,4 @@
+pub mod Answer
+pub mod Proved
+pub mod Stated
+pub mod Telling

@@ -1,0 +1,19 @@
+//! Answers to plans and to instances, judged: what their JSON states, and what a proof shows of them.
+#![tactic(auto)]
+
+mod answer;
+mod error;
+mod fault;
+mod lookup;
+mod names;
+mod number;
+mod permutation;
+mod proving;
+mod stated;
+mod telling;
+
+pub use answer::{Answer, answer_to_instance, answer_to_plan};
+pub use error::AnswerError;
+pub use fault::ProofFault;
+pub use proving::proved_bound;
+pub use telling::checked_line;

@@ -1,0 +1,39 @@
+//! What a command line asks for that judges an answer.
+
+use crate::command_line::ignore_rest;
+use crate::show_command::with_answer;
+use clap::{Arg, ArgMatches, Command};
+use std::alloc::{AllocError, Global};
+
+/// To judge an answer that was written as JSON, with its proof where there is one.
+#[derive(Clone, Copy, Debug, PartialEq, Eq)]
+pub struct CheckRequest<'a> {
+    /// The file of the plan or of the instance.
+    pub file: &'a str,
+    /// The file of the answer's JSON.
+    pub answer: &'a str,
+    /// The file of the proof.
+    pub proof: Option<&'a str>,
+    /// Whether what follows an instance is passed over.
+    pub passes: bool,
+}
+
+/// The subcommand that judges an answer.
+pub fn check_command<'a>(alloc: Global) -> Result<Command<'a>, AllocError> {
+    let command = Command::new(alloc, "check").about(
+        "Says what an answer costs, and what a proof shows of it",
+    );
+    with_answer(alloc, command)?
+        .arg(Arg::new(alloc, "PROOF").help("the proof that `solve --proof` wrote with it"))?
+        .arg(ignore_rest(alloc))
+}
+
+/// The request that was found; `None` where something is missing.
+pub fn check_request<'a>(found: &ArgMatches<'a>) -> Option<CheckRequest<'a>> {
+    Some(CheckRequest {
+        file: found.get_str("PLAN")?,
+        answer: found.get_str("ANSWER")?,
+        proof: found.get_str("PROOF"),
+        passes: found.get_flag("ignore-rest"),
+    })
+}

@@ -1,0 +1,84 @@
+//! A run that judges an answer.
+
+use crate::check_command::CheckRequest;
+use crate::checking::checked_numbers;
+use crate::instance_file::instance_of;
+use crate::judged_files::{bytes_of, print, refuse_answer, refuse_proof};
+use crate::loading::problem_of_plan;
+use crate::plan_run::is_plan;
+use plan_check::{ProofFault, answer_to_instance, answer_to_plan, checked_line};
+use std::process::ExitCode;
+
+/// Says what the answer of a file costs, and where a proof is named, what that shows of it.
+pub fn run_check(rt: &HostRuntime, request: &CheckRequest<'_>) -> ExitCode {
+    let proof = match proof_of(rt, request) {
+        Ok(proof) => proof,
+        Err(code) => return code,
+    };
+    let proof = proof.as_deref();
+    if is_plan(request.file) {
+        check_plan(rt, request, proof)
+    } else {
+        check_instance(rt, request, proof)
+    }
+}
+
+/// The text of the proof that is named, where one is.
+fn proof_of(rt: &HostRuntime, request: &CheckRequest<'_>) -> Result<Option<Vec<u8>>, ExitCode> {
+    match request.proof {
+        Some(file) => Ok(Some(bytes_of(rt, file)?)),
+        None => Ok(None),
+    }
+}
+
+/// Judges an answer to a plan.
+fn check_plan(rt: &HostRuntime, request: &CheckRequest<'_>, proof: Option<&[u8]>) -> ExitCode {
+    let problem = match problem_of_plan(rt, request.file) {
+        Ok(problem) => problem,
+        Err(code) => return code,
+    };
+    let text = match bytes_of(rt, request.answer) {
+        Ok(text) => text,
+        Err(code) => return code,
+    };
+    let alloc = rt.alloc();
+    match answer_to_plan(alloc, &problem, &text) {
+        Ok(answer) => {
+            let line = checked_line(alloc, &problem, &answer.permutation, proof);
+            tell(rt, request, line)
+        }
+        Err(error) => refuse_answer(rt, request.answer, &error),
+    }
+}
+
+/// Judges an answer to an instance.
+fn check_instance(rt: &HostRuntime, request: &CheckRequest<'_>, proof: Option<&[u8]>) -> ExitCode {
+    let instance = match instance_of(rt, request.file, request.passes) {
+        Ok(instance) => instance,
+        Err(code) => return code,
+    };
+    let text = match bytes_of(rt, request.answer) {
+        Ok(text) => text,
+        Err(code) => return code,
+    };
+    let alloc = rt.alloc();
+    match answer_to_instance(alloc, &instance, &text) {
+        Ok(answer) => {
+            let line = checked_numbers(alloc, &instance, &answer.permutation, proof);
+            tell(rt, request, line)
+        }
+        Err(error) => refuse_answer(rt, request.answer, &error),
+    }
+}
+
+/// Prints the line, or tells why the proof is refused.
+fn tell(
+    rt: &HostRuntime,
+    request: &CheckRequest<'_>,
+    line: Result<Vec<u8>, ProofFault>,
+) -> ExitCode {
+    match line {
+        Ok(line) => print(rt, request.file, &line),
+        Err(fault) => refuse_proof(rt, request.proof.unwrap_or(request.file), &fault),
+    }
+}
