@@ -89,18 +89,24 @@ fn takes_lists_out(rt: HostRuntime) -> Result<(), Fail> {
     Ok(())
 }
 
-/// Tuples of two, three, four and seven numbers, each in one block.
-fn in_blocks(alloc: Global) -> Result<[Tuple; 4], AllocError> {
-    let [a, b, c, d, e, f, g] = [1, 2, 3, 4, 5, 6, 7].map(Field::Int);
-    Ok([
-        Tuple::of_two(alloc, [Field::Int(1), Field::Int(2)])?,
-        Tuple::of_three(alloc, [Field::Int(1), Field::Int(2), Field::Int(3)])?,
-        Tuple::of_four(
-            alloc,
-            [Field::Int(1), Field::Int(2), Field::Int(3), Field::Int(4)],
-        )?,
-        Tuple::of_seven(alloc, [a, b, c, d, e, f, g])?,
-    ])
+/// The tuple of the numbers from 1 to 4, in one block.
+fn four_in_a_block(alloc: Global) -> Result<Tuple, AllocError> {
+    let fields = [Field::Int(1), Field::Int(2), Field::Int(3), Field::Int(4)];
+    Tuple::of_four(alloc, fields)
+}
+
+/// The tuple of the numbers from 1 to 7, in one block.
+fn seven_in_a_block(alloc: Global) -> Result<Tuple, AllocError> {
+    let fields = [
+        Field::Int(1),
+        Field::Int(2),
+        Field::Int(3),
+        Field::Int(4),
+        Field::Int(5),
+        Field::Int(6),
+        Field::Int(7),
+    ];
+    Tuple::of_seven(alloc, fields)
 }
 
 /// The first numbers from 1 on, as fields.
@@ -120,7 +126,10 @@ fn gives_back(alloc: Global, tuple: Tuple, count: i128) -> Result<bool, AllocErr
 #[test]
 fn shares_a_block(rt: HostRuntime) -> Result<(), Fail> {
     let alloc = rt.alloc();
-    let [two, three, four, seven] = in_blocks(alloc)?;
+    let two = Tuple::of_two(alloc, [Field::Int(1), Field::Int(2)])?;
+    let three = Tuple::of_three(alloc, [Field::Int(1), Field::Int(2), Field::Int(3)])?;
+    let four = four_in_a_block(alloc)?;
+    let seven = seven_in_a_block(alloc)?;
     let copy = four.copy()?;
     assert!(rt; copy == four);
     assert!(rt; copy != three);
