@@ -78,8 +78,8 @@ pub(crate) fn least_of<K: Closers>(
 }
 
 /// The tuples and the reports of a run that has gone on until no node was open. Runs for a certificate, or for a least permutation
-/// alone, end here: one that has reached its limit
-/// of commits while nodes were open was stopped, and any other with open nodes is unfinished.
+/// alone, end here: one that has reached its limit of commits while nodes were open was stopped, and any other with open nodes is
+/// unfinished.
 fn finished_run<K: Closers>(
     closers: &K,
     alloc: Global,
