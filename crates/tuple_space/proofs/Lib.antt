@@ -5,7 +5,9 @@ pub mod HeldLemmas
 pub mod HoldLemmas
 pub mod IndexLemmas
 pub mod NumberLemmas
+pub mod OrderLemmas
 pub mod PartLemmas
+pub mod PermanentLemmas
 pub mod PlaceLemmas
 pub mod RowLemmas
 pub mod SpaceLemmas

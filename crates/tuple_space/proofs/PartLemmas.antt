@@ -11,13 +11,13 @@ use Rattle.std.proofs.lemmas.Map.Views.{any-filter_same}
 use Rattle.tuple_space.specs.Entry.{is_held_by, is_taken_by, unheld}
 use Rattle.tuple_space.specs.Held.{HasHeld, is_among, numbers_by}
 use Rattle.tuple_space.specs.Holds.{holds_without}
-use Rattle.tuple_space.specs.Rows.{IsRising, edited_at}
+use Rattle.tuple_space.specs.Rows.{IsRising, changed, edited_at, without}
 use Rattle.tuple_space.specs.Space.{released, stays_without, without_taken}
 use Rattle.tuple_space.specs.declared.entry.Entry.{Entry}
 use Rattle.tuple_space.specs.declared.held.Held.{Held}
 use Rattle.tuple_space.specs.declared.hold.Hold.{Hold}
 use Rattle.tuple_space.proofs.HeldLemmas.{held_each, numbers_mine, numbers_other}
-use Rattle.tuple_space.proofs.RowLemmas.{HasNone, IsOnlyAt, none_behind, none_head, none_tail, only_tail, other_head, rising_head, rising_tail, same_head}
+use Rattle.tuple_space.proofs.RowLemmas.{HasNone, IsOnlyAt, changed_place, none_behind, none_head, none_tail, only_tail, other_head, rising_head, rising_tail, same_head, without_place}
 
 pub remove_seam : (front : List Entry) (e : Entry) (behind : List Entry) → remove (front ++ e ∷ behind) (length front) ≡ front ++ behind
 remove_seam [] e behind = refl
@@ -121,6 +121,21 @@ pub record IsEditedAt (edit : List Entry → List Entry) (number : ℕ) (es : Li
   pub at : length front ≡ i
   pub edited : edited_at number edit es ≡ front ++ (edit (entry ∷ []) ++ behind)
 
+-- the entry at a place
+pub entry_at : (es front behind : List Entry) (e x : Entry) (place : ℕ) → es ≡ front ++ e ∷ behind → length front ≡ place → x ≡ get_or es place x → x ≡ e
+entry_at es front behind e x place is at here =
+    here ∙ ap (λ l. get_or l place x) is ∙ ap (λ k. get_or (front ++ e ∷ behind) k x) (sym at) ∙ get_or-append_seam front e behind x
+
+pub removed_at : (es new front behind : List Entry) (e : Entry) (place : ℕ) → es ≡ front ++ e ∷ behind → length front ≡ place → new ≡ remove es place
+    → new ≡ front ++ behind
+removed_at es new front behind e place is at gone =
+    gone ∙ ap (λ l. remove l place) is ∙ ap (λ k. remove (front ++ e ∷ behind) k) (sym at) ∙ remove_seam front e behind
+
+pub set_at : (es new front behind : List Entry) (e x : Entry) (place : ℕ) → es ≡ front ++ e ∷ behind → length front ≡ place → new ≡ set es place x
+    → new ≡ front ++ x ∷ behind
+set_at es new front behind e x place is at changed =
+    changed ∙ ap (λ l. set l place x) is ∙ ap (λ k. set (front ++ e ∷ behind) k x) (sym at) ∙ set-append_seam front e behind x
+
 -- an edit made at all entries but those of these numbers, which are still to come
 pub record IsEditedBut (edit : List Entry → List Entry) (rest : List ℕ) (old now : List Entry) : Type 0 where
   pub rising : IsRising now
@@ -167,13 +182,27 @@ module _ (holder : ℕ) (edit : List Entry → List Entry) (edits : IsEdit holde
             ∙ ap (λ l. x ∷ l) rest.edited;
       }
 
-  -- an edit at a place is one at the number of the entry there
-  pub edited_place : (number : ℕ) (es new : List Entry) (i : ℕ) → IsOnlyAt number es i
-      → ((front : List Entry) (e : Entry) (behind : List Entry) → es ≡ front ++ e ∷ behind → length front ≡ i → new ≡ front ++ (edit (e ∷ []) ++ behind))
-      → new ≡ edited_at number edit es
-  edited_place number es new i only one =
+  -- an edit at the number of an entry: of one that goes, of one that is changed, and of one that stays
+  pub edited_gone : (number : ℕ) (es : List Entry) (i : ℕ) (x : Entry) → IsOnlyAt number es i → x ≡ get_or es i x → edit (x ∷ []) ≡ [] → without number es ≡ edited_at number edit es
+  edited_gone number es i x only is gone =
       let s = edited_split number es i only in
-      one s.front s.entry s.behind s.is s.at ∙ sym s.edited
+      let same = entry_at es s.front s.behind s.entry x i s.is s.at is in
+      sym (without_place number es i only) ∙ removed_at es (remove es i) s.front s.behind s.entry i s.is s.at refl
+      ∙ ap (λ l. s.front ++ (l ++ s.behind)) (sym gone ∙ ap (λ y. edit (y ∷ [])) same) ∙ sym s.edited
+
+  pub edited_changed : (number : ℕ) (es : List Entry) (i : ℕ) (x : Entry) (change : Entry → Entry) → IsOnlyAt number es i → x ≡ get_or es i x → edit (x ∷ []) ≡ change x ∷ []
+      → changed number change es ≡ edited_at number edit es
+  edited_changed number es i x change only is one =
+      let s = edited_split number es i only in
+      let same = entry_at es s.front s.behind s.entry x i s.is s.at is in
+      sym (changed_place number change es i x only is) ∙ set_at es (set es i (change x)) s.front s.behind s.entry (change x) i s.is s.at refl
+      ∙ ap (λ l. s.front ++ (l ++ s.behind)) (sym one ∙ ap (λ y. edit (y ∷ [])) same) ∙ sym s.edited
+
+  pub edited_kept : (number : ℕ) (es : List Entry) (i : ℕ) (x : Entry) → IsOnlyAt number es i → x ≡ get_or es i x → edit (x ∷ []) ≡ x ∷ [] → es ≡ edited_at number edit es
+  edited_kept number es i x only is stays =
+      let s = edited_split number es i only in
+      let same = entry_at es s.front s.behind s.entry x i s.is s.at is in
+      s.is ∙ ap (λ l. s.front ++ (l ++ s.behind)) (ap (λ (y : Entry). y ∷ []) (sym same) ∙ sym stays ∙ ap (λ y. edit (y ∷ [])) same) ∙ sym s.edited
 
   -- and there is none where no entry has the number
   pub edited_nowhere : (number : ℕ) (es : List Entry) → HasNone number es → es ≡ edited_at number edit es
@@ -266,18 +295,3 @@ module _ (holder : ℕ) (edit : List Entry → List Entry) (edits : IsEdit holde
   -- and in the end the edit has been made
   pub edited_all : (old now : List Entry) → IsEditedBut edit [] old now → now ≡ edit old
   edited_all old now h = sym (edit_quiet now (λ k d lt. h.left k d lt refl)) ∙ h.same
-
--- the entry at a place
-pub entry_at : (es front behind : List Entry) (e x : Entry) (place : ℕ) → es ≡ front ++ e ∷ behind → length front ≡ place → x ≡ get_or es place x → x ≡ e
-entry_at es front behind e x place is at here =
-    here ∙ ap (λ l. get_or l place x) is ∙ ap (λ k. get_or (front ++ e ∷ behind) k x) (sym at) ∙ get_or-append_seam front e behind x
-
-pub removed_at : (es new front behind : List Entry) (e : Entry) (place : ℕ) → es ≡ front ++ e ∷ behind → length front ≡ place → new ≡ remove es place
-    → new ≡ front ++ behind
-removed_at es new front behind e place is at gone =
-    gone ∙ ap (λ l. remove l place) is ∙ ap (λ k. remove (front ++ e ∷ behind) k) (sym at) ∙ remove_seam front e behind
-
-pub set_at : (es new front behind : List Entry) (e x : Entry) (place : ℕ) → es ≡ front ++ e ∷ behind → length front ≡ place → new ≡ set es place x
-    → new ≡ front ++ x ∷ behind
-set_at es new front behind e x place is at changed =
-    changed ∙ ap (λ l. set l place x) is ∙ ap (λ k. set (front ++ e ∷ behind) k x) (sym at) ∙ set-append_seam front e behind x

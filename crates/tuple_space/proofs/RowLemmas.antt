@@ -1,12 +1,12 @@
 use Rattle.std.proofs.Common.{◌≡◌, ℕ, zero, suc, ◌<◌, Bool, true, false, List, [], ◌∷◌, length, get_or, ap, ◌∙◌, sym, refl, cond, eqb, Option, Some, None, ⊎_elim, arith}
-use Rattle.std.specs.Prelude.{not, ◌≢◌, ◌&&◌, ◌||◌, is_some, All, filter, find, map, remove}
+use Rattle.std.specs.Prelude.{not, ◌≢◌, ◌&&◌, ◌||◌, is_some, All, Contains, filter, find, map, remove}
 use Rattle.std.proofs.Math.ListN.{set}
 use Rattle.std.specs.List.{list_any, HoldsAt}
-use Rattle.std.proofs.lemmas.Bool.{cond-true, cond-false, cond_both, eq-eqb, ne_eqb, cases_lt, false≢true, or_from, or_left, or_right}
-use Rattle.std.proofs.lemmas.List.{get_or-map, length-map}
-use Rattle.std.proofs.lemmas.List.Elements.{All-head, All-tail}
+use Rattle.std.proofs.lemmas.Bool.{cases_Bool, cond-true, cond-false, cond_both, eq-eqb, eqb-false, eqb-true, ne_eqb, cases_lt, false≢true, or_from, or_left, or_right}
+use Rattle.std.proofs.lemmas.List.{get_or-map, get_or_default, length-map}
+use Rattle.std.proofs.lemmas.List.Elements.{All-cons, All-head, All-nil, All-tail}
 use Rattle.std.proofs.lemmas.List.Kept.{AllPairs-filter}
-use Rattle.std.proofs.lemmas.Option.{none-some}
+use Rattle.std.proofs.lemmas.Option.{none-some, same_Some}
 use Rattle.tuple_space.specs.Rows.{IsRising, without, changed}
 use Rattle.tuple_space.specs.declared.entry.Entry.{Entry}
 
@@ -169,3 +169,56 @@ either false x o rest h = h
 pub found_any : (test : Entry → Bool) (es : List Entry) → is_some (find test es) ≡ list_any test es
 found_any test [] = refl
 found_any test (x ∷ xs) = either (test x) x (find test xs) (list_any test xs) (found_any test xs)
+
+-- the entry that is found by a number, and where it stands
+pub record FoundAt (number : ℕ) (es : List Entry) (x : Entry) : Type 0 where
+  pub place : ℕ
+  pub only : IsOnlyAt number es place
+  pub is : x ≡ get_or es place x
+  pub own : x.number ≡ number
+
+pub found_at : (number : ℕ) (es : List Entry) (x : Entry) → IsRising es → Some x ≡ find (λ (e : Entry). eqb e.number number) es → FoundAt number es x
+found_at number [] x rising h = absurd (none-some x (sym h))
+found_at number (y ∷ ys) x rising h = ⊎_elim
+    (λ t.
+    let same = same_Some x y (h ∙ cond-true (eqb y.number number) (Some y) (find (λ (e : Entry). eqb e.number number) ys) t) in
+    record {
+      place = 0;
+      only = only_at number (y ∷ ys) 0 rising (omega arith) (λ d. eqb-true y.number number t);
+      is = same;
+      own = ap (λ (e : Entry). e.number) same ∙ eqb-true y.number number t;
+    })
+    (λ f.
+    let rest = found_at number ys x (rising_tail y ys rising) (h ∙ cond-false (eqb y.number number) (Some y) (find (λ (e : Entry). eqb e.number number) ys) f) in
+    let within = rest.only.within in
+    record {
+      place = suc rest.place;
+      only = only_at number (y ∷ ys) (suc rest.place) rising (omega arith) (λ d. rest.only.here d);
+      is = rest.is;
+      own = rest.own;
+    })
+    (cases_Bool (eqb y.number number))
+
+-- no entry has a number by which none is found
+pub none_found : (number : ℕ) (es : List Entry) → None ≡ find (λ (e : Entry). eqb e.number number) es → HasNone number es
+none_found number [] h = All-nil (λ (e : Entry). e.number ≢ number)
+none_found number (y ∷ ys) h = ⊎_elim
+    (λ t. absurd (none-some y (h ∙ cond-true (eqb y.number number) (Some y) (find (λ (e : Entry). eqb e.number number) ys) t)))
+    (λ f. All-cons (λ (e : Entry). e.number ≢ number) y ys (eqb-false y.number number f)
+    (none_found number ys (h ∙ cond-false (eqb y.number number) (Some y) (find (λ (e : Entry). eqb e.number number) ys) f)))
+    (cases_Bool (eqb y.number number))
+
+-- and it stands among them
+pub found_stands : (number : ℕ) (es : List Entry) (x : Entry) → FoundAt number es x → Contains es x
+found_stands number es x found = (found.place, found.only.within, sym found.is)
+
+-- two changes that are alike at the entry of a number
+pub changed_alike : (number : ℕ) (change other : Entry → Entry) (es : List Entry) (i : ℕ) (x : Entry) → IsOnlyAt number es i → x ≡ get_or es i x → change x ≡ other x → changed number change es ≡ changed number other es
+changed_alike number change other es i x only is same =
+    sym (changed_place number change es i x only is) ∙ ap (λ y. set es i y) same ∙ changed_place number other es i x only is
+
+-- an entry that stands among others is found by its number
+pub stands_found : (es : List Entry) (x : Entry) → IsRising es → Contains es x → Some x ≡ find (λ (e : Entry). eqb e.number x.number) es
+stands_found es x rising stands =
+    let only = only_at x.number es stands.0 rising stands.1 (λ d. ap (λ (e : Entry). e.number) (sym (get_or_default es stands.0 x d stands.1) ∙ stands.2)) in
+    find_place x.number es stands.0 x only (sym stands.2)

@@ -1,10 +1,12 @@
-//! Entries in order, each found by its number in one look.
+//! Entries, each found by its number in one look.
 
-ghost use Rattle.std.specs.Prelude.{◌≡◌, ◌≢◌, ◌<◌, ◌≤◌, ◌+◌, ◌++◌, ◌∷◌, [], All, IfNone, IfSome, OnErr, OnOk, filter, length, remove, slice_get, slice_index_or, slice_set, true, IsOk, Some};
-ghost use Rattle.std.specs.List.{HoldsAt};
+ghost use Rattle.std.specs.Prelude.{◌≡◌, ◌≢◌, ◌<◌, ◌≤◌, ◌+◌, ◌==◌, ◌&&◌, ◌++◌, ◌∷◌, [], true, All, IfNone, IfSome, IsOk, IsPermutation, OnErr, OnOk, filter, find, length};
+ghost use Rattle.std.specs.List.{HoldsAt, list_any};
+ghost use Rattle.std.specs.Option.{option_copied};
+ghost use Rattle.tuple_space.specs.Entries.{AreApart};
 ghost use Rattle.tuple_space.specs.Entry.{is_held_by, is_there, unheld};
-ghost use Rattle.tuple_space.specs.Holds.{holds_with};
-ghost use Rattle.tuple_space.specs.declared.entry.Entry.{Entry};
+ghost use Rattle.tuple_space.specs.Rows.{changed, without};
+ghost use Rattle.tuple_space.specs.Space.{held_by};
 
 use crate::admission::is_there;
 use crate::entry::Entry;
@@ -15,7 +17,8 @@ use indexmap::map::IntoValues;
 use std::alloc::{AllocError, Global};
 use std::marker::Model;
 
-/// Entries in the order in which they were put, each under its number.
+/// Entries, each under its number. A contract sees them in order of number; they lie in any order, since the last takes the place
+/// of one that leaves, so that none takes time for those behind it.
 #[derive(Debug, Drop)]
 pub(crate) struct Entries {
     by_number: IndexMap<u64, Entry>,
@@ -23,13 +26,13 @@ pub(crate) struct Entries {
 
 impl Model for Entries {
     ghost use Rattle.indexmap.specs.IndexMap.{spare, values};
-    ghost use Rattle.tuple_space.specs.Entries.{AreNumbered, EntriesValue};
+    ghost use Rattle.tuple_space.specs.Entries.{AreApart, AreNumbered, EntriesValue, in_order};
 
     ghost Value = { EntriesValue };
 
-    ghost view = { λ e. record { items = values e.by_number; room = spare e.by_number } };
+    ghost view = { λ e. record { items = in_order (values e.by_number); rows = values e.by_number; room = spare e.by_number } };
 
-    ghost invariant = { λ e. AreNumbered (λ x. x.number) e.by_number.entries };
+    ghost invariant = { λ e. AreNumbered (λ x. x.number) e.by_number.entries × AreApart (values e.by_number) };
 }
 
 impl Entries {
@@ -47,9 +50,11 @@ impl Entries {
         *self.by_number.allocator()
     }
 
-    /// The entries, in order.
-    pub(crate) fn as_slice(&self) -> &[Entry]
-        ensures { result.now ≡ self.now.items }
+    /// The entries as they lie.
+    pub(crate) fn rows(&self) -> &[Entry]
+        ensures rows { result.now ≡ self.now.rows }
+        ensures same { IsPermutation result.now self.now.items }
+        ensures apart { AreApart result.now }
     {
         self.by_number.values().as_slice()
     }
@@ -62,68 +67,90 @@ impl Entries {
         self.by_number.reserve(additional)
     }
 
-    /// Puts an entry behind the others, where there is room for it.
+    /// Puts an entry whose number is above those of the others, where there is room for it.
     pub(crate) fn push(&mut self, entry: Entry)
         requires room { 0 < self.old.room }
-        requires new { All (λ e. e.number ≢ entry.number) self.old.items }
+        requires new { All (λ e. e.number < entry.number) self.old.items }
         ensures items { self.new.items ≡ self.old.items ++ entry ∷ [] }
         ensures room { self.old.room ≤ self.new.room + 1 }
     {
         self.by_number.insert(entry.number, entry).unwrap();
     }
 
-    /// The place of the entry of a number.
-    pub(crate) fn place_of(&self, number: u64) -> Option<usize>
+    /// Where the entry of a number lies.
+    fn place_of(&self, number: u64) -> Option<usize>
         ensures none { IfNone result (All (λ e. e.number ≢ number) self.now.items) }
-        ensures place { IfSome result (λ i. i < length self.now.items) }
-        ensures found { IfSome result (HoldsAt (λ e. e.number ≡ number) self.now.items) }
+        ensures place { IfSome result (λ i. i < length self.now.rows) }
+        ensures found { IfSome result (HoldsAt (λ e. e.number ≡ number) self.now.rows) }
     {
         self.by_number.get_index_of(&number)
     }
 
-    /// Takes out the entry at a place; those behind it close up.
-    pub(crate) fn remove(&mut self, place: usize) -> Entry
-        requires { place < length self.old.items }
-        ensures value { result ≡ slice_index_or self.old.items place result }
-        ensures rest { self.new.items ≡ remove self.old.items place }
+    /// The entry of a number.
+    pub(crate) fn get(&self, number: u64) -> Option<&Entry>
+        ensures { option_copied result ≡ find (λ e. e.number == number) self.now.items }
     {
-        match self.by_number.shift_remove_index(place) {
-            Some((_, entry)) => entry,
+        match self.place_of(number) {
+            Some(place) => Some(&self.rows()[place]),
+            None => None,
+        }
+    }
+
+    /// Takes out the entry of a number.
+    pub(crate) fn remove(&mut self, number: u64) -> Option<Entry>
+        ensures value { result ≡ find (λ e. e.number == number) self.old.items }
+        ensures rest { self.new.items ≡ without number self.old.items }
+    {
+        let Some(place) = self.place_of(number) else {
+            return None;
+        };
+        match self.by_number.swap_remove_index(place) {
+            Some((_, entry)) => Some(entry),
             None => unreachable!(),
         }
     }
 
-    /// Sets the end of the lease of the entry at a place.
-    pub(crate) fn set_end(&mut self, place: usize, end: LeaseEnd)
-        requires { place < length self.old.items }
-        ensures { (e : Entry) → slice_get self.old.items place ≡ Some e → self.new.items ≡ slice_set self.old.items place (record e { end = end }) }
+    /// Sets the end of the lease of the entry of a number.
+    pub(crate) fn set_end(&mut self, number: u64, end: LeaseEnd)
+        ensures { self.new.items ≡ changed number (λ e. record e { end = end }) self.old.items }
     {
+        let Some(place) = self.place_of(number) else {
+            return;
+        };
         let Some(entry) = self.by_number.get_index_mut(place) else {
             unreachable!()
         };
         entry.end = end;
     }
 
-    /// Puts a hold among those of the entry at a place, in the place of its holder's older one, which takes no memory.
-    pub(crate) fn put_hold(&mut self, place: usize, hold: Hold) -> Result<(), AllocError>
-        requires { place < length self.old.items }
-        ensures ok { OnOk result ((e : Entry) → slice_get self.old.items place ≡ Some e
-            → self.new.items ≡ slice_set self.old.items place (record e { holds = holds_with hold e.holds })) }
+    /// Holds the entry of a number, in the place of the holder's older hold of it, which takes no memory.
+    pub(crate) fn hold(&mut self, number: u64, holder: u64, taken: bool) -> Result<(), AllocError>
+        ensures ok { OnOk result (self.new.items ≡ changed number (held_by holder taken) self.old.items) }
         ensures err { OnErr result (self.new.items ≡ self.old.items) }
-        ensures ready { (e : Entry) → slice_get self.old.items place ≡ Some e → is_held_by hold.by e ≡ true → IsOk result }
+        ensures ready { list_any (λ e. (e.number == number) && is_held_by holder e) self.old.items ≡ true → IsOk result }
     {
+        let Some(place) = self.place_of(number) else {
+            return Ok(());
+        };
         let Some(entry) = self.by_number.get_index_mut(place) else {
             unreachable!()
         };
-        entry.holds.put(hold)?;
+        let permanent = entry.end.is_permanent();
+        entry.holds.put(Hold {
+            by: holder,
+            taken,
+            permanent,
+        })?;
         Ok(())
     }
 
-    /// Ends a holder's holds of the entry at a place.
-    pub(crate) fn release(&mut self, place: usize, holder: u64)
-        requires { place < length self.old.items }
-        ensures { (e : Entry) → slice_get self.old.items place ≡ Some e → self.new.items ≡ slice_set self.old.items place (unheld holder e) }
+    /// Ends a holder's holds of the entry of a number.
+    pub(crate) fn release(&mut self, number: u64, holder: u64)
+        ensures { self.new.items ≡ changed number (unheld holder) self.old.items }
     {
+        let Some(place) = self.place_of(number) else {
+            return;
+        };
         let Some(entry) = self.by_number.get_index_mut(place) else {
             unreachable!()
         };
@@ -132,7 +159,8 @@ impl Entries {
 
     /// Keeps the entries that are there.
     pub(crate) fn keep_there(&mut self, moment: u64)
-        ensures { self.new.items ≡ filter (is_there moment) self.old.items }
+        ensures items { self.new.items ≡ filter (is_there moment) self.old.items }
+        ensures rows { self.new.rows ≡ filter (is_there moment) self.old.rows }
     {
         self.by_number.retain(
             |_number: &u64, entry: &mut Entry| -> bool
@@ -141,9 +169,11 @@ impl Entries {
         );
     }
 
-    /// The entries by value, in order.
+    /// The entries by value, as they lie.
     pub(crate) fn into_values(self) -> IntoValues<u64, Entry>
-        ensures { result ≡ self.items }
+        ensures rows { result ≡ self.rows }
+        ensures same { IsPermutation result self.items }
+        ensures apart { AreApart result }
     {
         let Entries { by_number } = self;
         by_number.into_values()

@@ -1,62 +1,32 @@
 //! What holding entries does to rows of them.
 
-ghost use Rattle.std.specs.Prelude.{◌≡◌, All, ◌+◌, ◌<◌, ◌≤◌, ◌==◌, ◌&&◌, true, false, IsOk, [], ◌∷◌, ◌++◌, List, length, OnErr, OnOk};
+ghost use Rattle.std.specs.Prelude.{◌≡◌, All, ◌+◌, ◌≤◌, ◌==◌, ◌&&◌, false, [], ◌∷◌};
 ghost use Rattle.std.specs.List.{list_any};
 ghost use Rattle.tuple_space.specs.Entry.{is_held_by, is_shared};
 ghost use Rattle.tuple_space.specs.Held.{HasHeld};
 ghost use Rattle.tuple_space.specs.Index.{AreIndexed};
-ghost use Rattle.tuple_space.specs.Rows.{IsRising, changed, edited_at};
-ghost use Rattle.tuple_space.specs.Space.{held_by, most, released, space_of, stays_without, without_taken};
+ghost use Rattle.tuple_space.specs.Rows.{IsRising, edited_at};
+ghost use Rattle.tuple_space.specs.Space.{most, released, space_of, stays_without, without_taken};
 ghost use Rattle.tuple_space.specs.Places.{items_in};
 ghost use Rattle.tuple_space.specs.Writes.{put_count, put_each};
 
 use crate::entries::Entries;
 use crate::entry::Entry;
 use crate::held::Held;
-use crate::hold::{Hold, Holds};
+use crate::hold::Holds;
 use crate::index::Bucket;
-use crate::rows::take_at;
+use crate::rows::take_number;
 use crate::write::{Rows, Write, Writes};
-use std::alloc::AllocError;
 
 /// Whether a holder holds the entry of a number.
 pub(crate) fn is_entry_held_by(entries: &Entries, number: u64, holder: u64) -> bool
     requires { IsRising entries.now.items }
     ensures { result ≡ list_any (λ e. (e.number == number) && is_held_by holder e) entries.now.items }
 {
-    match entries.place_of(number) {
-        Some(place) => entries.as_slice()[place].holds.is_held_by(holder),
+    match entries.get(number) {
+        Some(entry) => entry.holds.is_held_by(holder),
         None => false,
     }
-}
-
-/// Holds the entry of a number. Takes no memory where the holder holds it already.
-pub(crate) fn hold_entry(
-    entries: &mut Entries,
-    number: u64,
-    holder: u64,
-    taken: bool,
-) -> Result<(), AllocError>
-    requires rising { IsRising entries.old.items }
-    requires stands { list_any (λ e. e.number == number) entries.old.items ≡ true }
-    ensures ok { OnOk result (entries.new.items ≡ changed number (held_by holder taken) entries.old.items) }
-    ensures err { OnErr result (entries.new.items ≡ entries.old.items) }
-    ensures ready { list_any (λ e. (e.number == number) && is_held_by holder e) entries.old.items ≡ true → IsOk result }
-{
-    let Some(place) = entries.place_of(number) else {
-        unreachable!()
-    };
-    let entry = &entries.as_slice()[place];
-    let permanent = entry.end.is_permanent();
-    entries.put_hold(
-        place,
-        Hold {
-            by: holder,
-            taken,
-            permanent,
-        },
-    )?;
-    Ok(())
 }
 
 /// Whether an entry stays where a holder's hold of it ends.
@@ -103,31 +73,14 @@ fn release_number(
     ensures edited { entries.new.items ≡ edited_at number (released holder moment) entries.old.items }
     ensures indexed { AreIndexed buckets.new.items entries.new.items }
 {
-    if let Some(place) = entries.place_of(number) {
-        release_at(entries, buckets, place, holder, moment);
-    }
-}
-
-/// Ends a holder's hold of the entry at a place, and drops the entry where it goes with it.
-fn release_at(
-    entries: &mut Entries,
-    buckets: &mut Vec<Bucket>,
-    place: usize,
-    holder: u64,
-    moment: u64,
-)
-    requires rising { IsRising entries.old.items }
-    requires within { place < length entries.old.items }
-    requires indexed { AreIndexed buckets.old.items entries.old.items }
-    ensures released { (front : List Entry) (e : Entry) (behind : List Entry) → entries.old.items ≡ front ++ e ∷ behind → length front ≡ place
-        → entries.new.items ≡ front ++ (released holder moment (e ∷ []) ++ behind) }
-    ensures indexed { AreIndexed buckets.new.items entries.new.items }
-{
-    if !stays_without(&entries.as_slice()[place], holder, moment) {
-        take_at(entries, buckets, place);
+    let Some(entry) = entries.get(number) else {
         return;
+    };
+    if stays_without(entry, holder, moment) {
+        entries.release(number, holder);
+    } else {
+        take_number(entries, buckets, number);
     }
-    entries.release(place, holder);
 }
 
 /// Whether somebody else holds the entry of a number, which a holder took.
@@ -135,8 +88,8 @@ fn is_shared(entries: &Entries, number: u64, holder: u64) -> bool
     requires { IsRising entries.now.items }
     ensures { result ≡ list_any (λ e. (e.number == number) && is_shared holder e) entries.now.items }
 {
-    match entries.place_of(number) {
-        Some(place) => is_entry_shared(&entries.as_slice()[place], holder),
+    match entries.get(number) {
+        Some(entry) => is_entry_shared(entry, holder),
         None => false,
     }
 }
@@ -190,22 +143,11 @@ fn drop_taken_number(entries: &mut Entries, buckets: &mut Vec<Bucket>, number: u
     ensures edited { entries.new.items ≡ edited_at number (without_taken holder) entries.old.items }
     ensures indexed { AreIndexed buckets.new.items entries.new.items }
 {
-    if let Some(place) = entries.place_of(number) {
-        drop_taken_at(entries, buckets, place, holder);
-    }
-}
-
-/// Drops the entry at a place where a holder took it.
-fn drop_taken_at(entries: &mut Entries, buckets: &mut Vec<Bucket>, place: usize, holder: u64)
-    requires rising { IsRising entries.old.items }
-    requires within { place < length entries.old.items }
-    requires indexed { AreIndexed buckets.old.items entries.old.items }
-    ensures taken { (front : List Entry) (e : Entry) (behind : List Entry) → entries.old.items ≡ front ++ e ∷ behind → length front ≡ place
-        → entries.new.items ≡ front ++ (without_taken holder (e ∷ []) ++ behind) }
-    ensures indexed { AreIndexed buckets.new.items entries.new.items }
-{
-    if entries.as_slice()[place].holds.is_taken_by(holder) {
-        take_at(entries, buckets, place);
+    let Some(entry) = entries.get(number) else {
+        return;
+    };
+    if entry.holds.is_taken_by(holder) {
+        take_number(entries, buckets, number);
     }
 }
 

@@ -1,8 +1,7 @@
-//! Rows of entries in rising order of number.
+//! Entries in rising order of number.
 
-ghost use Rattle.std.specs.Prelude.{◌≡◌, ◌<◌, ◌==◌, ◌&&◌, true, false, MatchBool, count_by, filter, find, length, remove, slice_index_or};
+ghost use Rattle.std.specs.Prelude.{◌≡◌, ◌==◌, ◌&&◌, true, false, MatchBool, count_by, find};
 ghost use Rattle.std.specs.List.{list_any};
-ghost use Rattle.std.specs.Option.{option_copied};
 ghost use Rattle.tuple_space.specs.Lease.{is_live, later};
 ghost use Rattle.tuple_space.specs.Entry.{is_counted};
 ghost use Rattle.tuple_space.specs.Index.{AreIndexed};
@@ -15,40 +14,11 @@ use crate::index::{Bucket, drop_entry};
 use crate::lease::LeaseEnd;
 use tuple_match::Template;
 
-/// The entry of a number.
-pub(crate) fn entry_of(entries: &Entries, number: u64) -> Option<&Entry>
-    requires { IsRising entries.now.items }
-    ensures { option_copied result ≡ find (λ e. e.number == number) entries.now.items }
-{
-    match entries.place_of(number) {
-        Some(place) => Some(&entries.as_slice()[place]),
-        None => None,
-    }
-}
-
 /// Whether there is an entry of a number.
 pub(crate) fn has_number(entries: &Entries, number: u64) -> bool
     ensures { result ≡ has_number number entries.now.items }
 {
-    match entries.place_of(number) {
-        Some(_) => true,
-        None => false,
-    }
-}
-
-/// Takes out the entry at a place, and its number out of its bucket.
-pub(crate) fn take_at(entries: &mut Entries, buckets: &mut Vec<Bucket>, place: usize) -> Entry
-    requires rising { IsRising entries.old.items }
-    requires within { place < length entries.old.items }
-    requires indexed { AreIndexed buckets.old.items entries.old.items }
-    ensures value { result ≡ slice_index_or entries.old.items place result }
-    ensures removed { entries.new.items ≡ remove entries.old.items place }
-    ensures rest { entries.new.items ≡ without result.number entries.old.items }
-    ensures indexed { AreIndexed buckets.new.items entries.new.items }
-{
-    let entry = entries.remove(place);
-    drop_entry(buckets, &entry.tuple, entry.number);
-    entry
+    entries.get(number).is_some()
 }
 
 /// Takes out the entry of a number, and the number out of its bucket.
@@ -63,10 +33,9 @@ pub(crate) fn take_number(
     ensures rest { entries.new.items ≡ without number entries.old.items }
     ensures indexed { AreIndexed buckets.new.items entries.new.items }
 {
-    match entries.place_of(number) {
-        Some(place) => Some(take_at(entries, buckets, place)),
-        None => None,
-    }
+    let entry = entries.remove(number)?;
+    drop_entry(buckets, &entry.tuple, entry.number);
+    Some(entry)
 }
 
 /// Moves the end of a live entry's lease to a later one, and tells whether there is such an entry.
@@ -75,20 +44,26 @@ pub(crate) fn change_end(entries: &mut Entries, number: u64, moment: u64, end: L
     ensures is_live { result ≡ list_any (λ e. (e.number == number) && is_live moment e.end) entries.old.items }
     ensures changed { MatchBool result (entries.new.items ≡ changed number (with_end end) entries.old.items) (entries.new.items ≡ entries.old.items) }
 {
-    let Some(place) = entries.place_of(number) else {
+    let Some(entry) = entries.get(number) else {
         return false;
     };
-    let entry = &entries.as_slice()[place];
     if !entry.end.is_live(moment) {
         return false;
     }
     let later = entry.end.later(end);
-    entries.set_end(place, later);
+    entries.set_end(number, later);
     true
 }
 
 /// How many entries are there whose tuples the template asks for.
-pub(crate) fn count_of(entries: &[Entry], moment: u64, template: &Template) -> u64
+pub(crate) fn count_of(entries: &Entries, moment: u64, template: &Template) -> u64
+    ensures { result ≡ count_by (is_counted moment template.now) entries.now.items }
+{
+    count_among(entries.rows(), moment, template)
+}
+
+/// The same of entries in any order.
+fn count_among(entries: &[Entry], moment: u64, template: &Template) -> u64
     ensures { result ≡ count_by (is_counted moment template.now) entries.now }
 {
     let count = entries

@@ -1,7 +1,6 @@
 //! Which entry a template finds: the order in which entries are tried.
 
-ghost use Rattle.std.specs.Prelude.{◌≡◌, ◌<◌, ◌==◌, true, false, All, IfNone, IfSome, count_by, length};
-ghost use Rattle.std.specs.List.{HoldsAt};
+ghost use Rattle.std.specs.Prelude.{◌≡◌, ◌==◌, true, false, All, Contains, IfNone, IfSome, count_by};
 ghost use Rattle.tuple_space.specs.Entry.{is_counted};
 ghost use Rattle.tuple_space.specs.Index.{AreIndexed, HasNoneWanted, IsUnwanted};
 ghost use Rattle.tuple_space.specs.Wanted.{is_wanted};
@@ -32,150 +31,156 @@ fn is_wanted(entry: &Entry, wanted: Wanted, moment: u64, template: &Template) ->
     }
 }
 
-/// The place of the newest entry that is wanted.
-fn newest_place(
-    entries: &[Entry],
+/// An entry that is wanted: of several the one that lies last.
+fn last_lying_wanted<'a>(
+    entries: &'a [Entry],
     wanted: Wanted,
     moment: u64,
     template: &Template,
-) -> Option<usize>
+) -> Option<&'a Entry>
     ensures none { IfNone result (All (λ e. is_wanted wanted moment template.now e ≡ false) entries.now) }
-    ensures place { IfSome result (λ i. i < length entries.now) }
-    ensures can { IfSome result (HoldsAt (λ e. is_wanted wanted moment template.now e ≡ true) entries.now) }
+    ensures stands { IfSome result (λ e. Contains entries.now e.now) }
+    ensures can { IfSome result (λ e. is_wanted wanted moment template.now e.now ≡ true) }
 {
     for place in (0..entries.len()).rev() {
-        if is_wanted(&entries[place], wanted, moment, template) {
-            return Some(place);
+        let entry = &entries[place];
+        if is_wanted(entry, wanted, moment, template) {
+            return Some(entry);
         }
     }
     None
 }
 
-/// The place of the entry of a number, where it is wanted.
-fn place_if_wanted(
-    entries: &Entries,
+/// The entry of a number, where it is wanted.
+fn entry_if_wanted<'a>(
+    entries: &'a Entries,
     number: u64,
     wanted: Wanted,
     moment: u64,
     template: &Template,
-) -> Option<usize>
+) -> Option<&'a Entry>
     requires { IsRising entries.now.items }
     ensures none { IfNone result (IsUnwanted wanted moment template.now entries.now.items number) }
-    ensures place { IfSome result (λ i. i < length entries.now.items) }
-    ensures can { IfSome result (HoldsAt (λ e. is_wanted wanted moment template.now e ≡ true) entries.now.items) }
+    ensures stands { IfSome result (λ e. Contains entries.now.items e.now) }
+    ensures can { IfSome result (λ e. is_wanted wanted moment template.now e.now ≡ true) }
 {
-    let place = entries.place_of(number)?;
-    if !is_wanted(&entries.as_slice()[place], wanted, moment, template) {
+    let entry = entries.get(number)?;
+    if !is_wanted(entry, wanted, moment, template) {
         return None;
     }
-    Some(place)
+    Some(entry)
 }
 
-/// The place of the entry that is wanted whose number stands last among these.
-fn last_place(
-    entries: &Entries,
+/// The entry that is wanted whose number stands last among these.
+fn last_wanted<'a>(
+    entries: &'a Entries,
     numbers: &[u64],
     wanted: Wanted,
     moment: u64,
     template: &Template,
-) -> Option<usize>
+) -> Option<&'a Entry>
     requires { IsRising entries.now.items }
     ensures none { IfNone result (All (IsUnwanted wanted moment template.now entries.now.items) numbers.now) }
-    ensures place { IfSome result (λ i. i < length entries.now.items) }
-    ensures can { IfSome result (HoldsAt (λ e. is_wanted wanted moment template.now e ≡ true) entries.now.items) }
+    ensures stands { IfSome result (λ e. Contains entries.now.items e.now) }
+    ensures can { IfSome result (λ e. is_wanted wanted moment template.now e.now ≡ true) }
 {
     for i in (0..numbers.len()).rev() {
-        if let Some(place) = place_if_wanted(entries, numbers[i], wanted, moment, template) {
-            return Some(place);
+        if let Some(entry) = entry_if_wanted(entries, numbers[i], wanted, moment, template) {
+            return Some(entry);
         }
     }
     None
 }
 
-/// The place of the entry that is wanted whose number stands last in the last list that has one.
-fn longest_place(
-    entries: &Entries,
+/// The entry that is wanted whose number stands last in the last list that has one.
+fn longest_wanted<'a>(
+    entries: &'a Entries,
     lists: &[Vec<u64>],
     wanted: Wanted,
     moment: u64,
     template: &Template,
-) -> Option<usize>
+) -> Option<&'a Entry>
     requires { IsRising entries.now.items }
     ensures none { IfNone result (All (λ l. All (IsUnwanted wanted moment template.now entries.now.items) l.items) lists.now) }
-    ensures place { IfSome result (λ i. i < length entries.now.items) }
-    ensures can { IfSome result (HoldsAt (λ e. is_wanted wanted moment template.now e ≡ true) entries.now.items) }
+    ensures stands { IfSome result (λ e. Contains entries.now.items e.now) }
+    ensures can { IfSome result (λ e. is_wanted wanted moment template.now e.now ≡ true) }
 {
     for i in (0..lists.len()).rev() {
-        if let Some(place) = last_place(entries, &lists[i], wanted, moment, template) {
-            return Some(place);
+        if let Some(entry) = last_wanted(entries, &lists[i], wanted, moment, template) {
+            return Some(entry);
         }
     }
     None
 }
 
-/// The place of the entry that is wanted whose number stands so in a bucket, where the bucket is that of a word and of the
-/// template's length.
-fn place_in_bucket(
-    entries: &Entries,
+/// The entry that is wanted whose number stands so in a bucket, where the bucket is that of a word and of the template's length.
+fn wanted_in_bucket<'a>(
+    entries: &'a Entries,
     bucket: &Bucket,
     word: &str,
     wanted: Wanted,
     moment: u64,
     template: &Template,
-) -> Option<usize>
+) -> Option<&'a Entry>
     requires { IsRising entries.now.items }
     ensures none { IfNone result (HasNoneWanted word.now wanted moment template.now entries.now.items bucket.now) }
-    ensures place { IfSome result (λ i. i < length entries.now.items) }
-    ensures can { IfSome result (HoldsAt (λ e. is_wanted wanted moment template.now e ≡ true) entries.now.items) }
+    ensures stands { IfSome result (λ e. Contains entries.now.items e.now) }
+    ensures can { IfSome result (λ e. is_wanted wanted moment template.now e.now ≡ true) }
 {
     if !is_of(bucket, word, template.patterns().len()) {
         return None;
     }
-    longest_place(entries, &bucket.by_length, wanted, moment, template)
+    longest_wanted(entries, &bucket.by_length, wanted, moment, template)
 }
 
-/// The place of the entry that is wanted whose number stands so in the bucket of a word and of the template's length.
-fn place_of_word(
-    entries: &Entries,
+/// The entry that is wanted whose number stands so in the bucket of a word and of the template's length.
+fn wanted_of_word<'a>(
+    entries: &'a Entries,
     buckets: &[Bucket],
     word: &str,
     wanted: Wanted,
     moment: u64,
     template: &Template,
-) -> Option<usize>
+) -> Option<&'a Entry>
     requires { IsRising entries.now.items }
     ensures none { IfNone result (All (HasNoneWanted word.now wanted moment template.now entries.now.items) buckets.now) }
-    ensures place { IfSome result (λ i. i < length entries.now.items) }
-    ensures can { IfSome result (HoldsAt (λ e. is_wanted wanted moment template.now e ≡ true) entries.now.items) }
+    ensures stands { IfSome result (λ e. Contains entries.now.items e.now) }
+    ensures can { IfSome result (λ e. is_wanted wanted moment template.now e.now ≡ true) }
 {
     for i in 0..buckets.len() {
-        if let Some(place) = place_in_bucket(entries, &buckets[i], word, wanted, moment, template) {
-            return Some(place);
+        if let Some(entry) = wanted_in_bucket(
+            entries,
+            &buckets[i],
+            word,
+            wanted,
+            moment,
+            template,
+        ) {
+            return Some(entry);
         }
     }
     None
 }
 
-/// The place of an entry that is wanted. Where the template asks for a word first, that is one with the longest list as its
-/// second field, and the newest of these; else the newest.
-pub(crate) fn place_wanted(
-    entries: &Entries,
+/// An entry that is wanted. Where the template asks for a word first, that is one with the longest list as its second field, and
+/// the newest of these; else any.
+pub(crate) fn find_wanted<'a>(
+    entries: &'a Entries,
     buckets: &[Bucket],
     wanted: Wanted,
     moment: u64,
     template: &Template,
-) -> Option<usize>
+) -> Option<&'a Entry>
     requires rising { IsRising entries.now.items }
     requires indexed { AreIndexed buckets.now entries.now.items }
     ensures none { IfNone result (All (λ e. is_wanted wanted moment template.now e ≡ false) entries.now.items) }
-    ensures place { IfSome result (λ i. i < length entries.now.items) }
-    ensures can { IfSome result (HoldsAt (λ e. is_wanted wanted moment template.now e ≡ true) entries.now.items) }
+    ensures stands { IfSome result (λ e. Contains entries.now.items e.now) }
+    ensures can { IfSome result (λ e. is_wanted wanted moment template.now e.now ≡ true) }
 {
-    let Some(word) = sought_word(template) else {
-        return newest_place(entries.as_slice(), wanted, moment, template);
-    };
-    let place = place_of_word(entries, buckets, word, wanted, moment, template)?;
-    Some(place)
+    match sought_word(template) {
+        Some(word) => wanted_of_word(entries, buckets, word, wanted, moment, template),
+        None => last_lying_wanted(entries.rows(), wanted, moment, template),
+    }
 }
 
 /// Whether no entry is there whose tuple the template asks for.
@@ -189,7 +194,7 @@ pub(crate) fn is_lacking(
     requires indexed { AreIndexed buckets.now entries.now.items }
     ensures { result ≡ (count_by (is_counted moment template.now) entries.now.items == 0) }
 {
-    match place_wanted(entries, buckets, Wanted::There, moment, template) {
+    match find_wanted(entries, buckets, Wanted::There, moment, template) {
         Some(_) => false,
         None => true,
     }

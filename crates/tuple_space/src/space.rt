@@ -1,6 +1,6 @@
 //! The space and its calls.
 
-ghost use Rattle.std.specs.Prelude.{◌≡◌, ◌≤◌, ◌+◌, ◌^◌, ◌==◌, ◌&&◌, true, IsOk, IfErr, IfSome, IfNone, IfOk, OnErr, OnOk, count_by, find, option_map};
+ghost use Rattle.std.specs.Prelude.{◌≡◌, ◌≤◌, ◌+◌, ◌^◌, ◌==◌, ◌&&◌, true, IsOk, IfErr, IfSome, IfNone, IfOk, IsPermutation, OnErr, OnOk, count_by, find, option_map};
 ghost use Rattle.std.specs.Option.{option_copied};
 ghost use Rattle.tuple_space.specs.Entry.{is_counted, is_held_by};
 ghost use Rattle.tuple_space.specs.Space.{IsSpace, held_by, most, opening, released, with_entries, without_taken};
@@ -18,14 +18,14 @@ use crate::error::SpaceError;
 use crate::held::{Held, add_held, drop_rows_by, drop_rows_gone, drop_rows_of};
 use crate::hold::Holds;
 use crate::holding::{
-    count_puts, drop_taken, hold_entry, is_any_shared, is_entry_held_by, put_rows, release_all,
+    count_puts, drop_taken, is_any_shared, is_entry_held_by, put_rows, release_all,
 };
 use crate::index::{Bucket, add_entry, class_size};
 use crate::indexing::{add_writes, drop_gone, drop_writes};
 use crate::lease::Lease;
 use crate::permanent::permanent_of;
-use crate::rows::{change_end, count_of, entry_of, take_at, take_number};
-use crate::search::{Wanted, is_lacking, place_wanted};
+use crate::rows::{change_end, count_of, take_number};
+use crate::search::{Wanted, find_wanted, is_lacking};
 use crate::write::Writes;
 use std::alloc::{AllocError, Global};
 use std::marker::Model;
@@ -117,15 +117,9 @@ impl Space {
     pub fn inp(&mut self, template: &Template) -> Option<(EntryId, Tuple)>
         ensures step { Step self.old (inp template.now) (inp_reply result) self.new }
     {
-        let place = place_wanted(
-            &self.entries,
-            &self.buckets,
-            Wanted::Allowed(Claim::Take),
-            self.moment,
-            template,
-        )?;
-        let entry = take_at(&mut self.entries, &mut self.buckets, place);
-        Some((EntryId::new(entry.number), entry.tuple))
+        let number = self.search(Claim::Take, template)?.number;
+        let entry = take_number(&mut self.entries, &mut self.buckets, number)?;
+        Some((EntryId::new(number), entry.tuple))
     }
 
     /// Copies a tuple that the template asks for, or answers `None` where none can be had now. Refusal: 50.
@@ -165,9 +159,9 @@ impl Space {
         if moment < self.first_end {
             return Ok(());
         }
-        drop_gone(&mut self.buckets, self.entries.as_slice(), moment);
+        drop_gone(&mut self.buckets, self.entries.rows(), moment);
         self.entries.keep_there(moment);
-        self.first_end = first_end(self.entries.as_slice());
+        self.first_end = first_end(self.entries.rows());
         Ok(())
     }
 
@@ -175,7 +169,7 @@ impl Space {
     pub fn count(&self, template: &Template) -> u64
         ensures step { Step self.now (count template.now) (told result) self.now }
     {
-        count_of(self.entries.as_slice(), self.moment, template)
+        count_of(&self.entries, self.moment, template)
     }
 
     /// How many entries the space has whose tuples begin with this word, have so many fields, and have a list of so many numbers as
@@ -195,19 +189,18 @@ impl Space {
     }
 
     /// An entry that can be had under a claim. Where the template asks for a word first, it is one with the longest list as its
-    /// second field, and the newest of these; else the newest.
+    /// second field, and the newest of these; else any.
     pub fn search(&self, claim: Claim, template: &Template) -> Option<&Entry>
         ensures found { IfSome result (λ e. IsHad self.now claim template.now e.now) }
         ensures none { IfNone result (NothingHad self.now claim template.now) }
     {
-        let place = place_wanted(
+        find_wanted(
             &self.entries,
             &self.buckets,
             Wanted::Allowed(claim),
             self.moment,
             template,
-        )?;
-        Some(&self.entries.as_slice()[place])
+        )
     }
 
     /// The entry of a number.
@@ -217,11 +210,11 @@ impl Space {
         self.entry_numbered(id.number())
     }
 
-    /// The entries, in rising order of number.
-    pub fn entries(&self) -> &[Entry]
-        ensures { result.now ≡ self.now.entries }
+    /// The entries, in any order.
+    pub fn rows(&self) -> &[Entry]
+        ensures { IsPermutation result.now self.now.entries }
     {
-        self.entries.as_slice()
+        self.entries.rows()
     }
 
     /// Who holds which entries: beside each holder the numbers of all that it holds, in rising order, and no others.
@@ -236,7 +229,7 @@ impl Space {
     pub fn entry_numbered(&self, number: u64) -> Option<&Entry>
         ensures { option_copied result ≡ find (λ e. e.number == number) self.now.entries }
     {
-        entry_of(&self.entries, number)
+        self.entries.get(number)
     }
 
     /// The tuple of the entry of a number.
@@ -259,11 +252,11 @@ impl Space {
     {
         let number = id.number();
         if is_entry_held_by(&self.entries, number, holder) {
-            hold_entry(&mut self.entries, number, holder, taken)?;
+            self.entries.hold(number, holder, taken)?;
             return Ok(());
         }
         self.held.reserve(1)?;
-        hold_entry(&mut self.entries, number, holder, taken)?;
+        self.entries.hold(number, holder, taken)?;
         let new = Held {
             entry: number,
             by: holder,
@@ -347,7 +340,11 @@ impl Space {
         ensures handed_back { IfErr result (λ back. back.1 ≡ self) }
     {
         let alloc = self.entries.allocator();
-        let Ok(room) = Vec::with_capacity(alloc, self.entries.as_slice().len()) else {
+        let count = self.entries.rows().len();
+        let Ok(numbered) = Vec::with_capacity(alloc, count) else {
+            return Err((AllocError, self));
+        };
+        let Ok(room) = Vec::with_capacity(alloc, count) else {
             return Err((AllocError, self));
         };
         let Space {
@@ -358,6 +355,6 @@ impl Space {
             moment: _,
             last: _,
         } = self;
-        Ok(permanent_of(entries, room))
+        Ok(permanent_of(entries, numbered, room))
     }
 }

@@ -65,7 +65,7 @@ pub(crate) fn bounded_of<R: Threads + Sync>(
         locations,
     } = ending;
     let Run { space, reports } = run;
-    let entries = space.entries();
+    let entries = space.rows();
     let (permutation, cost) = best_among(entries, locations)?;
     let bound = bound_by(many, alloc, &ranked, &mut closing, entries, cost)?;
     let open_nodes = open_among(entries);

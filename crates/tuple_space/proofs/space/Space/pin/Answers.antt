@@ -18,7 +18,7 @@ invariant_of-self-2 c =
     let change = held_by c.args.holder c.args.taken in
     let n = c.number-number.result in
     let there : has_number n s.entries.items ≡ true = ap (has_number n) (ap (λ (v : SpaceValue). v.entries) c.self.view_is) ∙ ap (λ (m : ℕ). has_number m c.args.self.now.entries) c.number-number.ensures ∙ c.requires in
-    rw c.in_ok-hold_entry-2.ensures.ok (
+    rw c.in_ok-hold-2.ensures.ok (
       IsSpace-map (λ (e : Entry). cond (eqb e.number n) (change e) e) (changed_number n change (λ e. refl)) (IsEntry-changed n change (IsEntry-held c.args.holder c.args.taken)) s.entries.items s.moment s.last c.self.invariant.0,
       held_pinned c.args.holder c.args.taken n c.reserve.new.self.items _ s.entries.items there c.add_held.ensures.rising c.add_held.ensures.among
           (subst (λ (l : List Held). HasHeld l s.entries.items) (sym c.reserve.ensures.items) c.self.invariant.1),
@@ -33,7 +33,7 @@ invariant_of-self-then-is_entry_held_by c =
     let n = c.number-number.result in
     let there : has_number n s.entries.items ≡ true = ap (has_number n) (ap (λ (v : SpaceValue). v.entries) c.self.view_is) ∙ ap (λ (m : ℕ). has_number m c.args.self.now.entries) c.number-number.ensures ∙ c.requires in
     let held = sym c.is_entry_held_by.ensures ∙ c.if-is_entry_held_by.true in
-    rw c.in_ok-hold_entry.ensures.ok (
+    rw c.in_ok-hold.ensures.ok (
       IsSpace-map (λ (e : Entry). cond (eqb e.number n) (change e) e) (changed_number n change (λ e. refl)) (IsEntry-changed n change (IsEntry-held c.args.holder c.args.taken)) s.entries.items s.moment s.last c.self.invariant.0,
       held_again c.args.holder c.args.taken n s.held.items s.entries.items there held c.self.invariant.1,
       indexed_map (λ (e : Entry). cond (eqb e.number n) (change e) e) (changed_number n change (λ e. refl)) (changed_tuple n change (λ e. refl)) s.buckets.items s.entries.items c.self.invariant.2,
