@@ -1,5 +1,5 @@
 -- What a JSON value is, by what is found in it.
-use Rattle.std.proofs.Common.{◌≡◌, ◌∙◌, ℕ, ap, sym, Bor, List, Vec, Global, Option, Some, None, option_map}
+use Rattle.std.proofs.Common.{◌≡◌, ℕ, sym, Bor, List, Option, Some, None, option_map}
 use Rattle.std.specs.Prelude.{IfSome, option_and_then}
 use Rattle.serde_json.specs.Data.{Data, Items, null, boolean, number, string, array, object, unsigned, negative, float}
 use Rattle.serde_json.specs.Find.{as_array, as_number, as_str, as_u64}

@@ -1,9 +1,13 @@
 -- What a proof shows of the arrangements that keep what is fixed.
-use Rattle.std.specs.Prelude.{◌≡◌, ◌↔◌, ◌≤ℤ◌, ℕ, ℤ, List}
+use Rattle.std.specs.Prelude.{◌≡◌, ◌≢◌, ◌⊎◌, ◌↔◌, ℕ, ℤ, List}
 use Rattle.qap_cost.specs.Instance.{Problem}
 use Rattle.qap_cost.specs.Objective.{Permutes, cost_of}
 use Rattle.qap_cost.specs.Placement.{Completes, Placement}
-use Rattle.qap_proof.specs.Acceptance.{ProvesFor}
+use Rattle.qap_proof.specs.Acceptance.{IsRefused, ProvesFor}
+use Rattle.qap_proof.specs.OverRoot.{ProvesForAnother}
+use Rattle.qap_proof.specs.declared.error.ProofError.TheVariants as proof_error
+use Rattle.plan_check.specs.declared.fault.ProofFault.{ProofFault}
+use Rattle.plan_check.specs.declared.fault.ProofFault.TheVariants.{OtherCost, OtherRoot, OutOfMemory, Refused}
 use Rattle.qap_proof.specs.Claim.{NoneCompletesForLess}
 
 -- the text is that of a proof of this cost, over a node that the same permutations complete as what is fixed; so none of these costs less than g
@@ -12,6 +16,27 @@ pub record IsProvedBound (I : Problem) (x : Placement) (c : ℤ) (text : List �
   pub same : (p : List ℕ) → Completes x p ↔ Completes root p
   pub proves : ProvesFor I text root c g
   pub none_less : NoneCompletesForLess I x g
+
+-- why a text shows nothing of what completes a node: it is refused as a proof, or is one over another node
+abbrev pub IsUnprovedOver : Problem → Placement → List ℕ → ProofFault → Type 0
+IsUnprovedOver I root text (Refused e) = (e ≡ proof_error.OutOfMemory) ⊎ IsRefused I text e
+IsUnprovedOver I root text OtherRoot = ProvesForAnother I text root
+IsUnprovedOver I root text (OtherCost told) = ⊥
+IsUnprovedOver I root text OutOfMemory = Unit {0}
+
+-- the text is that of a proof over this node, of another cost
+pub record HasAnotherCost (I : Problem) (root : Placement) (c : ℤ) (text : List ℕ) : Type 0 where
+  pub cost : ℤ
+  pub bound : ℤ
+  pub proves : ProvesFor I text root cost bound
+  pub other : cost ≢ c
+
+-- why it shows nothing of a permutation of cost c that keeps what is fixed: so over a node that the same permutations complete, or it is a
+-- proof over that of another cost
+abbrev pub IsUnproved : Problem → Placement → ℤ → List ℕ → ProofFault → Type 0
+IsUnproved I x c text (OtherCost told) = (root : Placement) × ((p : List ℕ) → Completes x p ↔ Completes root p) × HasAnotherCost I root c text
+IsUnproved I x c text OutOfMemory = Unit {0}
+IsUnproved I x c text fault = (root : Placement) × ((p : List ℕ) → Completes x p ↔ Completes root p) × IsUnprovedOver I root text fault
 
 -- some permutation that keeps what is fixed costs c, and none that does costs less
 pub record IsLeastKept (I : Problem) (x : Placement) (c : ℤ) : Type 0 where

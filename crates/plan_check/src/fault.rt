@@ -31,12 +31,3 @@ impl From<AllocError> for ProofFault {
         ProofFault::OutOfMemory
     }
 }
-
-impl From<ProofError> for ProofFault {
-    fn from(error: ProofError) -> ProofFault {
-        match error {
-            ProofError::OutOfMemory => ProofFault::OutOfMemory,
-            _ => ProofFault::Refused(error),
-        }
-    }
-}

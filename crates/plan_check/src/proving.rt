@@ -1,7 +1,7 @@
 //! What a proof shows of an arrangement.
 
-ghost use Rattle.std.specs.Prelude.{◌≡◌, ◌<◌, ◌^◌, ◌≤ℤ◌, IfOk, length};
-ghost use Rattle.plan_check.specs.Proved.{IsLeastKept, IsProvedBound};
+ghost use Rattle.std.specs.Prelude.{◌≡◌, ◌<◌, ◌^◌, ◌≤ℤ◌, IfErr, IfOk, length};
+ghost use Rattle.plan_check.specs.Proved.{IsLeastKept, IsProvedBound, IsUnproved, IsUnprovedOver};
 ghost use Rattle.qap_cost.specs.Objective.{IsLeast, cost_of};
 ghost use Rattle.qap_cost.specs.Placement.{Completes};
 ghost use Rattle.qap_proof.specs.Acceptance.{ProvesFor};
@@ -11,11 +11,11 @@ use crate::fault::ProofFault;
 use plan_fixed::ascending;
 use plan_table::decimal_text;
 use qap_cost::{Instance, Partial, Perm, cost};
-use qap_proof::{Stated, accept_over};
+use qap_proof::{ProofError, Stated, accept_over};
 use std::alloc::{AllocError, Global};
 
 /// What no arrangement that keeps what is fixed costs less than, where a text is that of a proof which proves it for the instance, over just these
-/// arrangements, and with the cost of this permutation. That cost is told over so many places behind the point.
+/// arrangements, and with the cost of this permutation. Else why it isn't. The cost of another proof is told over so many places behind the point.
 pub fn proved_bound(
     alloc: Global,
     instance: &Instance,
@@ -28,13 +28,15 @@ pub fn proved_bound(
     requires scale { scale < 2 ^ 32 }
     requires kept { Completes fixed.now permutation.now }
     ensures proved { IfOk result (IsProvedBound instance.now fixed.now (cost_of instance.now permutation.now) text.now) }
+    ensures refused { IfErr result (IsUnproved instance.now fixed.now (cost_of instance.now permutation.now) text.now) }
     ensures least_kept { IfOk result (λ g. cost_of instance.now permutation.now ≤ℤ g → IsLeastKept instance.now fixed.now (cost_of instance.now permutation.now)) }
     ensures least { IfOk result (λ g. cost_of instance.now permutation.now ≤ℤ g → length fixed.now.facilities ≡ 0 → IsLeast instance.now (cost_of instance.now permutation.now)) }
 {
     let root = ascending(alloc, fixed)?;
     let stated = stated_over(alloc, instance, &root, text)?;
     if stated.cost != cost(instance, permutation) {
-        return Err(other_cost(alloc, stated.cost, scale)?);
+        let cost = cost_text(alloc, stated.cost, scale)?;
+        return Err(ProofFault::OtherCost { cost });
     }
     Ok(stated.bound)
 }
@@ -48,19 +50,20 @@ fn stated_over(
 ) -> Result<Stated, ProofFault>
     ensures proves { IfOk result (λ s. ProvesFor instance.now text.now root.now s.cost s.bound) }
     ensures none_less { IfOk result (λ s. NoneCompletesForLess instance.now root.now s.bound) }
+    ensures refused { IfErr result (IsUnprovedOver instance.now root.now text.now) }
 {
     match accept_over(alloc, instance, root, text) {
         Ok(Some(stated)) => Ok(stated),
         Ok(None) => Err(ProofFault::OtherRoot),
-        Err(error) => Err(ProofFault::from(error)),
+        Err(ProofError::OutOfMemory) => Err(ProofFault::OutOfMemory),
+        Err(error) => Err(ProofFault::Refused(error)),
     }
 }
 
-/// What is told of a proof whose own arrangement has this cost.
-fn other_cost(alloc: Global, cost: i128, scale: usize) -> Result<ProofFault, AllocError>
+/// A cost over so many places behind the point, as it is told.
+fn cost_text(alloc: Global, cost: i128, scale: usize) -> Result<String, AllocError>
     requires { scale < 2 ^ 32 }
 {
     let digits = decimal_text(alloc, cost, scale)?;
-    let cost = String::from_str(alloc, std::str::from_utf8(&digits).unwrap_or(""))?;
-    Ok(ProofFault::OtherCost { cost })
+    String::from_str(alloc, std::str::from_utf8(&digits).unwrap_or(""))
 }

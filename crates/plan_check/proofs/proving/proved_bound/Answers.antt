@@ -1,4 +1,4 @@
-use Rattle.std.proofs.Common.{◌≡◌, ◌∙◌, of_z, refl, rules, to_z}
+use Rattle.std.proofs.Common.{◌≡◌, ◌∙◌, ap, of_z, refl, rules, sym, to_z}
 use Rattle.std.specs.Int.{w128}
 use Rattle.qap_cost.specs.Objective.{Permutes, cost_of}
 use Rattle.plan_check.proofs.Provings.{least_kept, least_of_all, none_kept_for_less}
@@ -37,3 +37,15 @@ returns-clause-least c =
     let permutes : Permutes I p = record { bijection = c.requires.kept.bijection; same_size = c.requires.kept.same_size ∙ c.requires.same_size } in
     let none = none_kept_for_less I x c.in_ok-root.root stated.bound c.in_ok-root.ensures.same c.in_ok-stated.ensures.none_less in
     rw bound (λ reaches empty. least_of_all I x (cost_of I p) c.requires.same_size empty (least_kept I x p (cost_of I p) stated.bound permutes c.requires.kept refl none reaches))
+
+pub returns-then-stated-cost-clause-refused : goal.returns-then-stated-cost-clause-refused
+returns-then-stated-cost-clause-refused c = (
+  c.in_ok-root.root,
+  c.in_ok-root.ensures.same,
+  record {
+    cost = c.in_ok-stated.stated.cost;
+    bound = c.in_ok-stated.stated.bound;
+    proves = c.in_ok-stated.ensures.proves;
+    other = λ same. c.if-stated-cost.true (ap (of_z w128) (same ∙ sym c.cost.ensures.value));
+  },
+)
