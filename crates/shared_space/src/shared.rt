@@ -20,6 +20,7 @@ use crate::look::Look;
 use crate::room::Room;
 use crate::share::Share;
 use crate::steps::Steps;
+use crossbeam_utils::CachePadded;
 use space_txn::{Found, Spare, Txn, TxnError, TxnSpace};
 use std::alloc::{AllocError, Global};
 use std::sync::ledger::Blank;
@@ -27,14 +28,18 @@ use std::sync::{Condvar, Mutex, Wait};
 use tuple_match::{Template, Tuple};
 use tuple_space::{EntryId, Lease, SpaceError};
 
+/// What lies on lines of memory of its own. Processors fetch lines by two, so it has two lines before it and two behind.
+type Apart<T> = CachePadded<CachePadded<T>>;
+
 /// A space under a lock. Whenever the lock is free, its content is lawful, all shares that were made with it count its commits
 /// together, these are at most the limit of its law, where it sets one, and it stands at a place that its law says is reached.
 ///
 /// Each call takes the lock, makes one call on the space and lets the lock go. A call may wait for the lock; what it says holds
-/// if it returns.
+/// if it returns. The space lies on lines of memory of its own: those who ask for the lock take the line of its word from each other,
+/// and leave what the lock's owner works on near his processor.
 #[derive(Drop)]
 pub struct Shared<L: Law> {
-    limited: Mutex<Limited<L>>,
+    limited: Mutex<Apart<Limited<L>>>,
     changed: Condvar,
 }
 
@@ -101,7 +106,7 @@ impl<L: Law> Shared<L> {
     {
         let (limited, handed) = Limited::new(alloc, blank, space, shares, limit)?;
         let shared = Shared {
-            limited: Mutex::new(limited),
+            limited: Mutex::new(CachePadded::new(CachePadded::new(limited))),
             changed: Condvar::new(),
         };
         Ok((shared, handed))
@@ -307,7 +312,7 @@ impl<L: Law> Shared<L> {
     /// if it had been made by itself: only that other threads' calls come before or after all of them.
     pub fn together<R: Wait, S: Steps<L>>(&self, rt: &R, steps: &mut S) {
         let mut limited = locked(rt, &self.limited);
-        steps.make(&mut *limited);
+        steps.make(&mut ***limited);
         let spent = limited.take_spent();
         drop(limited);
         self.changed.notify_all();
@@ -316,7 +321,7 @@ impl<L: Law> Shared<L> {
 
     /// Lets the space be looked at under one taking of the lock.
     pub fn look<R: Wait, W: Look<L>>(&self, rt: &R, looks: &mut W) {
-        looks.look(&*locked(rt, &self.limited));
+        looks.look(&***locked(rt, &self.limited));
     }
 
     /// One worker more has left. Takes no memory.
@@ -340,6 +345,10 @@ impl<L: Law> Shared<L> {
             limited,
             changed: _,
         } = self;
-        limited.into_inner().into_inner(shares)
+        limited
+            .into_inner()
+            .into_inner()
+            .into_inner()
+            .into_inner(shares)
     }
 }
