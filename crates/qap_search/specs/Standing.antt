@@ -11,8 +11,10 @@ use Rattle.qap_search.specs.Found.{IsOpenNode, best_template}
 use Rattle.qap_search.specs.Hand.{cuts, last_of}
 use Rattle.qap_search.specs.Piece.{node_template, node_tuple}
 use Rattle.qap_search.specs.Replacement.{MayReplace}
+use Rattle.qap_search.specs.Prepared.{HasPrepared}
 use Rattle.qap_search.specs.SearchLaw.{IsSearchLaw}
 use Rattle.qap_search.specs.Thought.{IsThought, ThoughtValue}
+use Rattle.qap_search.specs.declared.worker.job.Job.{Job}
 use Rattle.qap_search.specs.declared.worker.stage.LastThought.{LastThought}
 use Rattle.qap_search.specs.declared.worker.stage.Stage.{Stage}
 use Rattle.qap_search.specs.declared.worker.stage.Tools.{Tools}
@@ -70,3 +72,13 @@ pub record IsHand (I : Problem) (tools : Tools) (last : Option LastThought) (sta
 -- such a worker, on a space that holds the search of its instance
 abbrev pub IsSearchHand : (Content → ℕ → Type 0) → (Content → Content → Content → Type 0) → Tools → Option LastThought → Stage → Type 0
 IsSearchHand lawful allowed tools last stage = (I : Problem) × IsHand I tools last stage × IsSearchLaw (cuts tools.branching) I lawful allowed
+
+-- what holds of each node that a worker has at hand
+pub record IsJob (I : Problem) (tools : Tools) (j : Job) : Type 0 where
+  pub hand : IsHand I tools j.last j.stage
+  pub prepared : HasPrepared (cuts tools.branching) I j.last j.prepared
+
+-- a worker has no node there yet
+pub record IsIdle (j : Job) : Type 0 where
+  pub stage : j.stage ≡ Idle
+  pub last : j.last ≡ None

@@ -4,6 +4,7 @@ pub(crate) mod best_steps;
 pub(crate) mod gate;
 pub(crate) mod ground;
 pub(crate) mod hand;
+pub(crate) mod job;
 pub(crate) mod prepared;
 pub(crate) mod putting;
 pub(crate) mod report;

@@ -22,6 +22,15 @@ pub(crate) struct Workplace<'a, R: Wait, L: Law, G: Gate> {
     pub(crate) gate: &'a G,
 }
 
+/// What a worker lacks that has no node at hand.
+#[derive(Clone, Copy, Debug, PartialEq, Eq)]
+enum Lack {
+    /// An open node: there is none that nobody has taken.
+    Node,
+    /// The best permutation: somebody has taken it.
+    Best,
+}
+
 /// A worker with its share of the commits: both have counted the same.
 #[derive(Drop)]
 pub(crate) struct Seat<L: Law> {
@@ -30,8 +39,8 @@ pub(crate) struct Seat<L: Law> {
     share: Share<L>,
     /// How it ended, where it has.
     ended: Option<Ended>,
-    /// Whether it found no best permutation when it went on last.
-    lacks_best: bool,
+    /// What it lacked when it went on last.
+    lack: Option<Lack>,
 }
 
 impl<L: Law> Model for Seat<L> {
@@ -57,7 +66,7 @@ impl<L: Law> Seat<L> {
             hand,
             share,
             ended: None,
-            lacks_best: false,
+            lack: None,
         }
     }
 
@@ -67,7 +76,7 @@ impl<L: Law> Seat<L> {
             if self.ended.is_some() {
                 return;
             }
-            if place.gate.is_silent() && is_between(&self.hand) {
+            if place.gate.is_silent() {
                 self.go_on_at(place);
             } else {
                 self.ended = turn(place, self.worker, &mut self.hand, &mut self.share).err();
@@ -75,15 +84,20 @@ impl<L: Law> Seat<L> {
         }
     }
 
-    /// Goes on under one taking of the space's lock, with what is to be written worked out before, and waits for a best permutation
-    /// where there was none.
+    /// Thinks on the nodes that it has at hand; then it goes on with all of them under one taking of the space's lock, and waits for
+    /// what it lacks.
     fn go_on_at<R: Wait, G: Gate>(&mut self, place: &Workplace<'_, R, L, G>) {
-        self.hand.prepare();
-        self.lacks_best = false;
-        place.shared.together(place.rt, self);
-        if self.lacks_best {
-            self.ended = wait_for_best(place, self.worker, &mut self.hand, &mut self.share).err();
+        self.ended = think_on_all(&mut self.hand, place.gate).err();
+        if self.ended.is_some() {
+            return;
         }
+        self.lack = None;
+        place.shared.together(place.rt, self);
+        self.ended = match (self.ended, self.lack) {
+            (None, Some(Lack::Node)) => wait_for(place, place.nodes).err(),
+            (None, Some(Lack::Best)) => wait_for(place, place.best).err(),
+            (ended, _) => ended,
+        };
     }
 
     /// The share, and what the worker tells; one that has never run counts as one that found no memory.
@@ -96,7 +110,7 @@ impl<L: Law> Seat<L> {
             hand,
             share,
             ended,
-            lacks_best: _,
+            lack: _,
         } = self;
         let report = Report {
             ended: ended.unwrap_or(Ended::Memory),
@@ -109,7 +123,7 @@ impl<L: Law> Seat<L> {
 impl<L: Law> Steps<L> for Seat<L> {
     fn make<M: Room<L>>(&mut self, room: &mut M) {
         match go_on(room, &mut self.hand, &mut self.share) {
-            Ok(found) => self.lacks_best = !found,
+            Ok(lack) => self.lack = lack,
             Err(ended) => self.ended = Some(ended),
         }
     }
@@ -124,18 +138,82 @@ fn next_of(hand: &Hand) -> Option<Kind> {
     }
 }
 
-/// Whether the worker is between two nodes: it has thought on one and is to read the best permutation, or what it decided of one is
-/// ready, or it has none.
-fn is_between(hand: &Hand) -> bool {
-    matches!(
-        next_of(hand),
-        Some(Kind::ReadBest | Kind::Begin | Kind::Commit)
-    )
+/// Thinks on each node at hand on which a thought is due, and works out what is to be written of it. The error tells how the worker
+/// ends.
+fn think_on_all<G: Gate>(hand: &mut Hand, gate: &G) -> Result<(), Ended>
+    ensures accepted { hand.new.accepted ≡ hand.old.accepted }
+    ensures cutting { hand.new.cutting ≡ hand.old.cutting }
+    ensures instance { hand.new.instance ≡ hand.old.instance }
+{
+    think(hand, gate)?;
+    for other in 0..hand.others() {
+        hand.turn_to(other);
+        think(hand, gate)?;
+    }
+    Ok(())
 }
 
-/// Goes on from one node to the next: reads the best permutation, commits what is ready, begins anew, unless the space is closed, and
-/// takes a node. It tells whether there was a best permutation where it looked for one; the error tells how the worker ends.
+fn think<G: Gate>(hand: &mut Hand, gate: &G) -> Result<(), Ended>
+    ensures accepted { hand.new.accepted ≡ hand.old.accepted }
+    ensures cutting { hand.new.cutting ≡ hand.old.cutting }
+    ensures instance { hand.new.instance ≡ hand.old.instance }
+{
+    if hand.thinks() && hand.think(gate).is_err() {
+        return Err(Ended::Memory);
+    }
+    hand.prepare();
+    Ok(())
+}
+
+/// Goes on from the nodes at hand to others: commits what was decided of them and then, unless the space is closed, takes as many
+/// others. It tells what is lacking where none can be taken; the error tells how the worker ends.
 fn go_on<L: Law, M: Room<L>>(
+    room: &mut M,
+    hand: &mut Hand,
+    share: &mut Share<L>,
+) -> Result<Option<Lack>, Ended>
+    requires law { IsSearchLaw hand.old.cutting hand.old.instance L.lawful L.allowed }
+    requires before { hand.old.accepted ≡ share.old }
+    ensures counted { hand.new.accepted ≡ share.new }
+    ensures cutting { hand.new.cutting ≡ hand.old.cutting }
+    ensures instance { hand.new.instance ≡ hand.old.instance }
+{
+    if !commit_all(room, hand, share)? {
+        return Ok(Some(Lack::Best));
+    }
+    if room.closed() {
+        return Err(Ended::Done);
+    }
+    if !take_all(room, hand, share)? {
+        return Ok(Some(Lack::Node));
+    }
+    Ok(None)
+}
+
+/// Commits what is decided of each node at hand, and tells whether there was a best permutation wherever one was looked for.
+fn commit_all<L: Law, M: Room<L>>(
+    room: &mut M,
+    hand: &mut Hand,
+    share: &mut Share<L>,
+) -> Result<bool, Ended>
+    requires law { IsSearchLaw hand.old.cutting hand.old.instance L.lawful L.allowed }
+    requires before { hand.old.accepted ≡ share.old }
+    ensures counted { hand.new.accepted ≡ share.new }
+    ensures cutting { hand.new.cutting ≡ hand.old.cutting }
+    ensures instance { hand.new.instance ≡ hand.old.instance }
+{
+    let mut found = commit(room, hand, share)?;
+    for other in 0..hand.others() {
+        hand.turn_to(other);
+        let found_here = commit(room, hand, share)?;
+        found = found && found_here;
+    }
+    Ok(found)
+}
+
+/// Reads or takes the best permutation for a node that was thought on and commits what it leads to; what can't be committed is given
+/// up.
+fn commit<L: Law, M: Room<L>>(
     room: &mut M,
     hand: &mut Hand,
     share: &mut Share<L>,
@@ -147,15 +225,59 @@ fn go_on<L: Law, M: Room<L>>(
     ensures instance { hand.new.instance ≡ hand.old.instance }
 {
     step_if(room, hand, share, Kind::ReadBest)?;
-    if next_of(hand) == Some(Kind::Abort) {
+    step_if(room, hand, share, Kind::TakeBest)?;
+    let found = next_of(hand) != Some(Kind::Abort);
+    step_if(room, hand, share, Kind::Commit)?;
+    give_up(room, hand, share)?;
+    Ok(found)
+}
+
+/// Takes an open node for each job, as far as there are any, and tells whether there was one at all.
+fn take_all<L: Law, M: Room<L>>(
+    room: &mut M,
+    hand: &mut Hand,
+    share: &mut Share<L>,
+) -> Result<bool, Ended>
+    requires law { IsSearchLaw hand.old.cutting hand.old.instance L.lawful L.allowed }
+    requires before { hand.old.accepted ≡ share.old }
+    ensures counted { hand.new.accepted ≡ share.new }
+    ensures cutting { hand.new.cutting ≡ hand.old.cutting }
+    ensures instance { hand.new.instance ≡ hand.old.instance }
+{
+    if !take(room, hand, share)? {
         return Ok(false);
     }
-    go_to_next(room, hand, share)?;
+    for other in 0..hand.others() {
+        hand.turn_to(other);
+        if !take(room, hand, share)? {
+            return Ok(true);
+        }
+    }
     Ok(true)
 }
 
-/// The same once the best permutation has been read.
-fn go_to_next<L: Law, M: Room<L>>(
+/// Takes an open node, in a transaction of its own, and tells whether there was one; where there was none the transaction is given
+/// up.
+fn take<L: Law, M: Room<L>>(
+    room: &mut M,
+    hand: &mut Hand,
+    share: &mut Share<L>,
+) -> Result<bool, Ended>
+    requires law { IsSearchLaw hand.old.cutting hand.old.instance L.lawful L.allowed }
+    requires before { hand.old.accepted ≡ share.old }
+    ensures counted { hand.new.accepted ≡ share.new }
+    ensures cutting { hand.new.cutting ≡ hand.old.cutting }
+    ensures instance { hand.new.instance ≡ hand.old.instance }
+{
+    step_if(room, hand, share, Kind::Begin)?;
+    step_if(room, hand, share, Kind::TakeNode)?;
+    let took = next_of(hand) != Some(Kind::Abort);
+    give_up(room, hand, share)?;
+    Ok(took)
+}
+
+/// Gives up what is to be given up. What the transaction held that has ended is kept, to be dropped outside the space's lock.
+fn give_up<L: Law, M: Room<L>>(
     room: &mut M,
     hand: &mut Hand,
     share: &mut Share<L>,
@@ -166,15 +288,11 @@ fn go_to_next<L: Law, M: Room<L>>(
     ensures cutting { hand.new.cutting ≡ hand.old.cutting }
     ensures instance { hand.new.instance ≡ hand.old.instance }
 {
-    step_if(room, hand, share, Kind::Commit)?;
+    step_if(room, hand, share, Kind::Abort)?;
     if let Some(spent) = room.take_spent() {
         hand.keep(spent);
     }
-    if next_of(hand) == Some(Kind::Begin) && room.closed() {
-        return Err(Ended::Done);
-    }
-    step_if(room, hand, share, Kind::Begin)?;
-    step_if(room, hand, share, Kind::TakeNode)
+    Ok(())
 }
 
 /// Makes the next step where it is of this kind.

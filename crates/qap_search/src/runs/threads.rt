@@ -40,6 +40,7 @@ use crate::runs::stop::{Never, Stop};
 use crate::tuples::templates::{best_template, node_template};
 use crate::worker::gate::Gate;
 use crate::worker::hand::Hand;
+use crate::worker::job::idle_jobs;
 use crate::worker::report::Report;
 use gilmore_lawler::RankedInstance;
 use qap_cost::{Instance, Partial, Perm, cost};
@@ -53,6 +54,15 @@ use std::thread::Threads;
 use std::time::Duration;
 use std::{thread, time};
 use tuple_match::Template;
+
+/// How many nodes the workers of a search have at hand together, where that is one each or more.
+const AT_HAND: usize = 16;
+
+/// How many nodes a worker has at hand at most.
+const AT_HAND_OF_ONE: usize = 4;
+
+/// Up to this size a node is so little work that a worker has several at hand, for one taking of the space's lock.
+const SMALL_SIZE: usize = 32;
 
 /// How many milliseconds the keeper pauses before it looks again.
 const PAUSE_MS: u64 = 1;
@@ -532,6 +542,7 @@ fn seats_for<L: Law>(
     ensures { IfOk result (λ seats. vec_len seats ≡ vec_len shares) }
 {
     let known = Some(cost(ranked.instance(), plan.start));
+    let others = jobs_beside(usize::from(plan.workers), ranked.instance().size());
     let mut seats = Vec::with_capacity(alloc, shares.len())?;
     let mut rest = shares;
     let mut worker = 0;
@@ -546,11 +557,21 @@ fn seats_for<L: Law>(
             worker,
             ranked,
             plan.lease_ms,
-        )?;
+        )?
+        .beside(idle_jobs(alloc, others)?);
         seats.push(Mutex::new(Seat::new(worker, hand, share)))?;
         worker += 1;
     }
     Ok(seats)
+}
+
+/// How many jobs each of so many workers has beside the one that it is at, in a search on an instance of this size. One worker alone
+/// takes node by node.
+fn jobs_beside(workers: usize, size: usize) -> usize {
+    if workers < 2 || size > SMALL_SIZE {
+        return 0;
+    }
+    (AT_HAND / workers).clamp(1, AT_HAND_OF_ONE) - 1
 }
 
 /// Lets each worker work in a thread of its own, and keeps the space until it is closed. A worker whose thread can't be started

@@ -1,10 +1,11 @@
 //! A worker of the search.
 
-ghost use Rattle.std.specs.Prelude.{◌≡◌, ◌+◌, ◌≤◌, true, false, IfOk, IfSome, OnErr, OnOk};
+ghost use Rattle.std.specs.Prelude.{◌≡◌, ◌+◌, ◌≤◌, true, false, All, IfOk, IfSome, OnErr, OnOk};
 ghost use Rattle.std.specs.Arc.{arc_value};
 ghost use Rattle.qap_search.specs.Hand.{cuts, is_due, kind_of, new_hand};
 ghost use Rattle.qap_search.specs.Images.{AreSymmetries};
 ghost use Rattle.qap_search.specs.SearchLaw.{IsSearchLaw};
+ghost use Rattle.qap_search.specs.Standing.{IsIdle};
 ghost use Rattle.qap_search.specs.Thinking.{Thinks};
 ghost use Rattle.qap_search.specs.Turn.{Turn};
 ghost use Rattle.qap_search.specs.declared.worker.report.Ended.TheVariants.{Done};
@@ -14,9 +15,10 @@ use crate::node::images::InstanceSymmetries;
 use crate::tuples::templates::{best_template, node_template};
 use crate::worker::gate::{Gate, Kind};
 use crate::worker::ground::Ground;
-use crate::worker::prepared::{Prepared, prepare_at};
+use crate::worker::job::Job;
+use crate::worker::prepared::prepare_at;
 use crate::worker::report::{Ended, Report};
-use crate::worker::stage::{Desk, LastThought, Reserve, Stage, Tally, Tools};
+use crate::worker::stage::{Desk, Stage, Tally, Tools};
 use crate::worker::thinking::{stage_thought, think_in};
 use crate::worker::turn::{is_hopeful, turn};
 use gilmore_lawler::RankedInstance;
@@ -24,6 +26,7 @@ use shared_space::{Law, Room, Share};
 use space_txn::Spent;
 use std::alloc::{AllocError, Global};
 use std::marker::Model;
+use std::mem::{replace, swap};
 use std::sync::Arc;
 
 /// A worker of the search: it takes an open node and the best permutation, and commits what it decides of them, one call on the
@@ -32,24 +35,24 @@ use std::sync::Arc;
 pub struct Hand {
     ground: Ground,
     desk: Desk,
-    reserve: Reserve,
     tools: Tools,
-    last: Option<LastThought>,
-    prepared: Prepared,
-    stage: Stage,
     tally: Tally,
+    /// The node that it is at.
+    job: Job,
+    /// Others that it has at hand.
+    others: Vec<Job>,
 }
 
 impl Model for Hand {
+    ghost use Rattle.std.specs.Prelude.{All};
     ghost use Rattle.qap_search.specs.Hand.{HandValue, cuts, hand_of, last_of};
-    ghost use Rattle.qap_search.specs.Prepared.{HasPrepared};
-    ghost use Rattle.qap_search.specs.Standing.{IsHand};
+    ghost use Rattle.qap_search.specs.Standing.{IsJob};
 
     ghost Value = { HandValue };
 
-    ghost view = { λ h. hand_of (cuts h.tools.branching) h.ground h.tools.lease_ms (last_of h.last) h.stage h.tally };
+    ghost view = { λ h. hand_of (cuts h.tools.branching) h.ground h.tools.lease_ms (last_of h.job.last) h.job.stage h.tally };
 
-    ghost invariant = { λ h. IsHand h.ground h.tools h.last h.stage × HasPrepared (cuts h.tools.branching) h.ground h.last h.prepared };
+    ghost invariant = { λ h. IsJob h.ground h.tools h.job × All (IsJob h.ground h.tools) h.others.items };
 }
 
 impl Hand {
@@ -122,20 +125,46 @@ impl Hand {
         Ok(Hand {
             ground: Ground::new(alloc, instance, symmetries),
             desk,
-            reserve: Reserve::new(),
             tools,
-            last: None,
-            prepared: Prepared::new(alloc),
-            stage: Stage::Idle,
             tally: Tally::new(),
+            job: Job::new(alloc),
+            others: Vec::new(alloc),
         })
+    }
+
+    /// Such a worker with these jobs beside the one that it is at.
+    pub(crate) fn beside(self, others: Vec<Job>) -> Hand
+        requires { All IsIdle others.items }
+        ensures { result ≡ self }
+    {
+        Hand { others, ..self }
+    }
+
+    /// How many jobs it has beside the one that it is at.
+    pub(crate) fn others(&self) -> usize {
+        self.others.len()
+    }
+
+    /// Turns to this other job, and leaves the one that it was at in its place.
+    pub(crate) fn turn_to(&mut self, other: usize)
+        ensures cutting { self.new.cutting ≡ self.old.cutting }
+        ensures instance { self.new.instance ≡ self.old.instance }
+        ensures lease { self.new.lease ≡ self.old.lease }
+        ensures accepted { self.new.accepted ≡ self.old.accepted }
+        ensures refused { self.new.refused ≡ self.old.refused }
+        ensures best { self.new.best ≡ self.old.best }
+    {
+        if other < self.others.len() {
+            let other = &mut self.others[other];
+            swap(&mut self.job, other);
+        }
     }
 
     /// Whether a thought is due: it comes before the next step.
     pub fn thinks(&self) -> bool
         ensures { result ≡ is_due self.now.stage }
     {
-        matches!(self.stage, Stage::Taken(..))
+        matches!(self.job.stage, Stage::Taken(..))
     }
 
     /// The kind of the next step.
@@ -143,11 +172,11 @@ impl Hand {
         requires { is_due self.now.stage ≡ false }
         ensures { result ≡ kind_of self.now }
     {
-        match &self.stage {
+        match &self.job.stage {
             Stage::Idle => Kind::Begin,
             Stage::Begun(_) | Stage::Taken(..) => Kind::TakeNode,
             Stage::Considered(_) => {
-                if is_hopeful(&self.tally, &self.last) {
+                if is_hopeful(&self.tally, &self.job.last) {
                     Kind::TakeBest
                 } else {
                     Kind::ReadBest
@@ -175,19 +204,19 @@ impl Hand {
         ensures instance { self.new.instance ≡ self.old.instance }
         ensures lease { self.new.lease ≡ self.old.lease }
     {
-        let stage = std::mem::replace(&mut self.stage, Stage::Idle);
+        let stage = replace(&mut self.job.stage, Stage::Idle);
         let outcome = turn(
             &self.tools,
             room,
             share,
-            &self.last,
+            &self.job.last,
             stage,
             self.tally,
-            &mut self.prepared,
-            &mut self.reserve.spare,
+            &mut self.job.prepared,
+            &mut self.job.reserve.spare,
         );
-        self.prepared.forget();
-        self.stage = outcome.stage;
+        self.job.prepared.forget();
+        self.job.stage = outcome.stage;
         self.tally = outcome.tally;
         outcome.told
     }
@@ -203,20 +232,20 @@ impl Hand {
         ensures cutting { self.new.cutting ≡ self.old.cutting }
         ensures instance { self.new.instance ≡ self.old.instance }
     {
-        self.reserve.restock(self.tools.alloc);
-        self.prepared.forget();
+        self.job.reserve.restock(self.tools.alloc);
+        self.job.prepared.forget();
         let best = self.tally.best.or(self.tools.known);
         let considered = think_in(
             &self.tools,
             gate,
             &mut self.ground,
             &mut self.desk,
-            &self.stage,
+            &self.job.stage,
             best,
-            &mut self.last,
+            &mut self.job.last,
         )?;
-        let stage = std::mem::replace(&mut self.stage, Stage::Idle);
-        self.stage = stage_thought(stage, considered);
+        let stage = replace(&mut self.job.stage, Stage::Idle);
+        self.job.stage = stage_thought(stage, considered);
         Ok(())
     }
 
@@ -225,13 +254,15 @@ impl Hand {
     pub fn prepare(&mut self)
         ensures { self.new ≡ self.old }
     {
-        if !matches!(self.stage, Stage::Considered(_)) || is_hopeful(&self.tally, &self.last) {
+        if !matches!(self.job.stage, Stage::Considered(_))
+            || is_hopeful(&self.tally, &self.job.last)
+        {
             return;
         }
         prepare_at(
             self.tools.alloc,
-            &mut self.prepared,
-            &self.last,
+            &mut self.job.prepared,
+            &self.job.last,
             self.tally.best,
         );
     }
@@ -240,7 +271,7 @@ impl Hand {
     pub fn keep(&mut self, spent: Spent)
         ensures { self.new ≡ self.old }
     {
-        self.reserve.keep(spent);
+        self.job.reserve.keep(spent);
     }
 
     /// What it did so far.

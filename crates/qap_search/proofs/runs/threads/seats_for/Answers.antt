@@ -1,4 +1,6 @@
-use Rattle.std.proofs.Common.{ℕ, ◌≡◌, arith}
+use Rattle.std.proofs.Common.{ℕ, Some, ◌≡◌, ◌∙◌, ap, arith, sym}
+use Rattle.std.proofs.lemmas.List.Elements.{All-pop}
+use Rattle.qap_search.specs.Hand.{HandValue}
 use Rattle.qap_search.proofs.Fronts.{All-front}
 use Rattle.qap_search.proofs.runs.threads.seats_for.Goals as goal
 
@@ -8,3 +10,8 @@ loop-share-preserved g c = record {
   fresh = All-front (λ (n : ℕ). n ≡ 0) c.pop.new.self.items c.loop-share.rest.items c.in-Some.share c.in-Some.ensures.items c.loop-share.invariant.fresh;
   worker = omega (arith, c.in_ok-push.ensures.len, c.loop-share.invariant.worker);
 }
+
+pub new-requires-clause-counted : goal.new-requires-clause-counted
+new-requires-clause-counted g c =
+    let zero = (All-pop (λ (n : ℕ). n ≡ 0) c.loop-share.rest.items c.pop.new.self.items (Some c.in-Some.share) c.in-Some.ensures.items c.loop-share.invariant.fresh).1 in
+    ap (λ (h : HandValue). h.accepted) c.beside-hand.ensures ∙ (c.in_ok-for_search.ensures.accepted ∙ sym zero)

@@ -7,10 +7,13 @@ pub invariant_of-self-2 : goal.invariant_of-self-2
 invariant_of-self-2 g c =
     let due = rw (← c.self.view_is) at c.requires in
     let h = c.self.inside in (
-      rw (c.think_in.ensures.same)
-          (hand_after h.ground h.tools h.last c.think_in.new.last h.stage c.stage_thought.result c.in_ok-considered.considered c.self.invariant.0 due (c.in_ok-considered.ensures.considers)
-          (λ t number is. c.stage_thought.ensures t number (c.replace-stage.ensures.value ∙ is))),
-      nothing_prepared _ _ _ c.forget.new.self c.forget.ensures,
+      record {
+        hand = rw (c.think_in.ensures.same)
+            (hand_after h.ground h.tools h.job.last c.think_in.new.last h.job.stage c.stage_thought.result c.in_ok-considered.considered c.self.invariant.0.hand due (c.in_ok-considered.ensures.considers)
+            (λ t number is. c.stage_thought.ensures t number (c.replace-stage.ensures.value ∙ is)));
+        prepared = nothing_prepared _ _ _ c.forget.new.self c.forget.ensures;
+      },
+      rw (c.think_in.ensures.same) c.self.invariant.1,
     )
 
 pub returns-clause-thought : goal.returns-clause-thought
@@ -18,10 +21,10 @@ returns-clause-thought g c =
     let due = rw (← c.self.view_is) at c.requires in
     let h = c.self.inside in
     rw (← c.self.view_is, c.think_in.ensures.same)
-    (thinks h.ground h.tools.lease_ms h.tools h.last c.think_in.new.last h.stage c.stage_thought.result h.tally c.in_ok-considered.considered c.self.invariant.0 due (c.in_ok-considered.ensures.considers)
+    (thinks h.ground h.tools.lease_ms h.tools h.job.last c.think_in.new.last h.job.stage c.stage_thought.result h.tally c.in_ok-considered.considered c.self.invariant.0.hand due (c.in_ok-considered.ensures.considers)
     (λ t number is. c.stage_thought.ensures t number (c.replace-stage.ensures.value ∙ is)))
 
 pub returns-clause-not_due : goal.returns-clause-not_due
 returns-clause-not_due g c =
     let due = rw (← c.self.view_is) at c.requires in
-    not_due_after c.self.inside.stage c.stage_thought.result c.in_ok-considered.considered due (λ t number is. c.stage_thought.ensures t number (c.replace-stage.ensures.value ∙ is))
+    not_due_after c.self.inside.job.stage c.stage_thought.result c.in_ok-considered.considered due (λ t number is. c.stage_thought.ensures t number (c.replace-stage.ensures.value ∙ is))
