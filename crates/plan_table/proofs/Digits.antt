@@ -6,7 +6,7 @@ use Rattle.std.specs.Int.Digits.{number_from_digits}
 use Rattle.std.proofs.lemmas.Bool.{ne_eqb}
 use Rattle.std.proofs.lemmas.List.{map-append, take_more}
 use Rattle.std.proofs.lemmas.Int.Digits.{number_push}
-use Rattle.plan_table.specs.Decimal.{before_kept, held_magnitude, held_unsigned, magnitude_of, max_entry, unsigned, with_sign, without_zeros, IsNumberFault}
+use Rattle.plan_table.specs.Decimal.{before_kept, held_magnitude, held_unsigned, magnitude_of, max_entry, max_number, unsigned, with_sign, without_zeros, IsNumberFault}
 use Rattle.plan_table.specs.declared.decimal.Unsigned.{Unsigned}
 use Rattle.plan_table.specs.declared.decimal.NumberFault.TheVariants.{TooLarge}
 
@@ -54,7 +54,7 @@ pub too_large : (negative : Bool) (spelled : Option Unsigned) (u : Unsigned) →
 too_large negative None u is large = cc
 too_large negative (Some v) u is large =
     let held : u ≡ held_unsigned v = cc in
-    let magnitude : u.magnitude ≡ min v.magnitude (max_entry + 1) = ap (λ (w : Unsigned). w.magnitude) held in
+    let magnitude : u.magnitude ≡ min v.magnitude (max_number + 1) = ap (λ (w : Unsigned). w.magnitude) held in
     let far = unsigned_abs-with_sign negative v in
     (with_sign negative v, refl, omega arith)
 

@@ -84,7 +84,7 @@ unsigned_at-reduced word None u spelled =
     ]
 unsigned_at-reduced word (Some point) u spelled = pointed-reduced (take point word) (drop (point + 1) word) u spelled
 
-signed-parts : (negative : Bool) (spelled : Option Unsigned) (d : Decimal) → option_map (with_sign negative) spelled ≡ Some d → (u : Unsigned) × (spelled ≡ Some u) × (with_sign negative u ≡ d)
+pub signed-parts : (negative : Bool) (spelled : Option Unsigned) (d : Decimal) → option_map (with_sign negative) spelled ≡ Some d → (u : Unsigned) × (spelled ≡ Some u) × (with_sign negative u ≡ d)
 signed-parts negative None d is = absurd (cc)
 signed-parts negative (Some u) d is = (u, refl, cc)
 
@@ -129,9 +129,9 @@ not_by_tens magnitude other t more tens last equal is some small =
     by_tens k same = absurd (omega arith)
 
 -- where a power of ten makes a number whole, the number has no more places
-pub places-least : (word : List ℕ) (d : Decimal) (power : ℕ) (z : ℤ) → decimal_of word ≡ Some d → IsWholeAt d power z → d.places ≤ power
-places-least word d power z spelled is_whole =
-    let (negative, u, made, reduced) = decimal-made word d spelled in
+made-least : (d : Decimal) (power : ℕ) (z : ℤ) → IsMade d → IsWholeAt d power z → d.places ≤ power
+made-least d power z is_made is_whole =
+    let (negative, u, made, reduced) = is_made in
     elim reduced [
       | inl none ↦ let same : d.places ≡ u.places = ap (λ (x : Decimal). x.places) (sym made) in omega arith
       | inr ends ↦ elim (cases_lt power d.places) [
@@ -145,3 +145,9 @@ places-least word d power z spelled is_whole =
             absurd (not_by_tens (unsigned_abs d.number) (unsigned_abs z) power more tens last (equal ∙ ap (λ k. unsigned_abs z * 10 ^ k) places) (size ∙ is) some small)
       ]
     ]
+
+pub signed-least : (negative : Bool) (word : List ℕ) (d : Decimal) (power : ℕ) (z : ℤ) → signed_of negative word ≡ Some d → IsWholeAt d power z → d.places ≤ power
+signed-least negative word d power z spelled is_whole = made-least d power z (signed-made negative word d spelled) is_whole
+
+pub places-least : (word : List ℕ) (d : Decimal) (power : ℕ) (z : ℤ) → decimal_of word ≡ Some d → IsWholeAt d power z → d.places ≤ power
+places-least word d power z spelled is_whole = made-least d power z (decimal-made word d spelled) is_whole

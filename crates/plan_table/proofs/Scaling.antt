@@ -10,7 +10,7 @@ use Rattle.plan_table.specs.Least.{IsWholeAt}
 use Rattle.plan_table.specs.Scale.{scaled, shifted, AreScaled, IsLeastScale}
 use Rattle.plan_table.specs.declared.decimal.Decimal.{Decimal}
 
-power_more : (i : ℕ) → 10 ^ (i + 1) ≡ 10 ^ i * 10
+pub power_more : (i : ℕ) → 10 ^ (i + 1) ≡ 10 ^ i * 10
 power_more i = ap (λ k. 10 ^ k) (add-one i) ∙ pow-suc 10 i
 
 pub neg_times : (k b : ℕ) → neg_ℤ (pos k) *ℤ pos b ≡ neg_ℤ (pos (k * b))

@@ -1,6 +1,6 @@
 -- Decimal numbers as the cells of a table spell them: a sign that may be left out, digits, and behind a point digits again,
 -- where there is a point.
-use Rattle.std.specs.Prelude.{◌≡◌, ℕ, ◌+◌, ◌-◌, ◌<◌, ◌++◌, ◌==◌, Bool, true, false, not, ◌&&◌, nat_le, if◌then◌else◌, List, [], ◌∷◌, length, map, take, drop, min, position, Option, Some, None, pos, neg_ℤ, unsigned_abs}
+use Rattle.std.specs.Prelude.{◌≡◌, ℕ, ◌+◌, ◌-◌, ◌^◌, ◌<◌, ◌++◌, ◌==◌, Bool, true, false, not, ◌&&◌, nat_le, if◌then◌else◌, List, [], ◌∷◌, length, map, take, drop, min, position, Option, Some, None, pos, neg_ℤ, unsigned_abs}
 use Rattle.std.specs.Option.{option_map}
 use Rattle.std.specs.List.{list_all}
 use Rattle.std.specs.Int.Digits.{number_from_digits}
@@ -13,6 +13,10 @@ use Rattle.plan_table.specs.declared.decimal.NumberFault.TheVariants.{NotANumber
 abbrev pub max_entry : ℕ
 max_entry = 1_000_000_000
 
+-- the largest number that is told from larger ones
+abbrev pub max_number : ℕ
+max_number = 10 ^ 36
+
 abbrev pub is_digit : ℕ → Bool
 is_digit b = nat_le 48 b && nat_le b 57
 
@@ -24,9 +28,9 @@ are_digits text = not (length text == 0) && list_all is_digit text
 abbrev pub magnitude_of : List ℕ → ℕ
 magnitude_of digits = number_from_digits 10 (map (λ b. b - 48) digits)
 
--- the same, held to one above the largest entry
+-- the same, held to one above the largest number
 abbrev pub held_magnitude : List ℕ → ℕ
-held_magnitude digits = min (magnitude_of digits) (max_entry + 1)
+held_magnitude digits = min (magnitude_of digits) (max_number + 1)
 
 -- a digit before others, which is left out where it is a zero and none follows
 abbrev pub before_kept : ℕ → List ℕ → List ℕ
@@ -43,7 +47,7 @@ abbrev pub unsigned : List ℕ → List ℕ → Unsigned
 unsigned whole fraction = record { magnitude = magnitude_of (whole ++ fraction); places = length fraction }
 
 abbrev pub held_unsigned : Unsigned → Unsigned
-held_unsigned u = record { magnitude = min u.magnitude (max_entry + 1); places = u.places }
+held_unsigned u = record { magnitude = min u.magnitude (max_number + 1); places = u.places }
 
 -- the digits before a point and those behind it, whose zeros at the end count for nothing
 abbrev pub pointed : List ℕ → List ℕ → Option Unsigned

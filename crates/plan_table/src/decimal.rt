@@ -6,15 +6,18 @@ ghost use Rattle.std.specs.List.{list_all};
 ghost use Rattle.plan_table.specs.Least.{IsWholeAt};
 ghost use Rattle.plan_table.specs.Scale.{scaled};
 ghost use Rattle.plan_table.specs.declared.decimal.Decimal.{Decimal};
-ghost use Rattle.plan_table.specs.Decimal.{are_digits as digits_of, decimal_of, held_magnitude, held_unsigned, is_digit as digit_of, is_point, max_entry, pointed as pointed_of, signed_of, unsigned, unsigned_of, whole as whole_of, without_zeros as zeros_cut, IsNumberFault};
+ghost use Rattle.plan_table.specs.Decimal.{are_digits as digits_of, decimal_of, held_magnitude, held_unsigned, is_digit as digit_of, is_point, max_entry, max_number, pointed as pointed_of, signed_of, unsigned, unsigned_of, whole as whole_of, without_zeros as zeros_cut, IsNumberFault};
 
 use thiserror::Error;
 
 /// The largest entry of an instance: each entry lies between its negative and it.
 pub const MAX_ENTRY: u64 = 1_000_000_000;
 
-/// Stands for each number that is larger than an entry may be.
-const BEYOND: u64 = MAX_ENTRY + 1;
+/// The largest number that is told from larger ones: no cost of an instance comes near it.
+pub const MAX_NUMBER: u128 = 1_000_000_000_000_000_000_000_000_000_000_000_000;
+
+/// Stands for each number that is larger.
+const BEYOND: u128 = MAX_NUMBER + 1;
 
 /// A decimal number, `number / 10^places`, with as few places as it can have.
 #[derive(Clone, Copy, Debug, PartialEq, Eq)]
@@ -25,9 +28,9 @@ pub struct Decimal {
 
 /// A decimal number without its sign.
 #[derive(Clone, Copy)]
-struct Unsigned {
-    magnitude: u64,
-    places: usize,
+pub struct Unsigned {
+    pub magnitude: u128,
+    pub places: usize,
 }
 
 /// Why a word is no entry, whatever the scale is.
@@ -70,7 +73,7 @@ fn signed(negative: bool, word: &[u8]) -> Result<Decimal, NumberFault>
     let Some(unsigned) = parse_unsigned(word) else {
         return Err(NumberFault::NotANumber);
     };
-    if unsigned.magnitude > MAX_ENTRY {
+    if unsigned.magnitude > u128::from(MAX_ENTRY) {
         return Err(NumberFault::TooLarge);
     }
     let magnitude = unsigned.magnitude as i64;
@@ -80,8 +83,8 @@ fn signed(negative: bool, word: &[u8]) -> Result<Decimal, NumberFault>
     })
 }
 
-/// The number that a word without a sign spells, held to one above 10^9.
-fn parse_unsigned(word: &[u8]) -> Option<Unsigned>
+/// The number that a word without a sign spells, held to one above 10^36.
+pub fn parse_unsigned(word: &[u8]) -> Option<Unsigned>
     ensures { result ≡ option_map held_unsigned (unsigned_of word.now) }
 {
     match first_point(word) {
@@ -153,7 +156,7 @@ pub fn without_zeros(digits: &[u8]) -> &[u8]
     kept
 }
 
-/// The number that digits and places stand for, held to one above 10^9.
+/// The number that digits and places stand for, held to one above 10^36.
 fn held(whole: &[u8], fraction: &[u8]) -> Unsigned
     ensures { result ≡ held_unsigned (unsigned whole.now fraction.now) }
 {
@@ -165,15 +168,15 @@ fn held(whole: &[u8], fraction: &[u8]) -> Unsigned
     }
 }
 
-/// What digits stand for that follow digits which stand for `before`, held to one above 10^9.
-fn followed_by(before: u64, digits: &[u8]) -> u64
-    requires { before ≤ max_entry + 1 }
-    ensures held { result ≤ max_entry + 1 }
+/// What digits stand for that follow digits which stand for `before`, held to one above 10^36.
+fn followed_by(before: u128, digits: &[u8]) -> u128
+    requires { before ≤ max_number + 1 }
+    ensures held { result ≤ max_number + 1 }
     ensures value { (front : List ℕ) → before ≡ held_magnitude front → result ≡ held_magnitude (front ++ digits.now) }
 {
     let mut magnitude = before;
     for digit in digits {
-        let value = u64::from(digit.saturating_sub(b'0'));
+        let value = u128::from(digit.saturating_sub(b'0'));
         magnitude = BEYOND.min(magnitude * 10 + value);
     }
     magnitude
