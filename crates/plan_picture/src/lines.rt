@@ -16,6 +16,17 @@ const WIDEST: u64 = 90;
 /// How wide the narrowest line is, in tenths of a pixel.
 const NARROWEST: u64 = 5;
 
+/// What the lines of a picture are drawn of.
+#[derive(Drop)]
+struct Arrangement<'a> {
+    instance: &'a Instance,
+    permutation: &'a Perm,
+    /// The point of each place.
+    centres: &'a [Centre],
+    /// The most that goes between two departments.
+    most: u64,
+}
+
 /// Puts a line between each two departments between which something goes at the end of the text.
 pub fn push_lines(
     alloc: Global,
@@ -28,10 +39,15 @@ pub fn push_lines(
     requires each { length centres.now ≡ instance.now.size }
     ensures { OnOk result (text.new.items ≡ text.old.items ++ flow_marks instance.now permutation.now centres.now) }
 {
-    let most = largest_flow(instance);
+    let arrangement = Arrangement {
+        instance,
+        permutation,
+        centres,
+        most: largest_flow(instance),
+    };
     text.extend_from_slice(b"<g fill=\"none\" stroke=\"#3b6ea5\" stroke-opacity=\"0.6\">\n")?;
     for i in 0..instance.size() {
-        push_lines_of(alloc, text, instance, permutation, centres, most, i)?;
+        push_lines_of(alloc, text, &arrangement, i)?;
     }
     text.extend_from_slice(b"</g>\n")?;
     Ok(())
@@ -41,20 +57,17 @@ pub fn push_lines(
 fn push_lines_of(
     alloc: Global,
     text: &mut Vec<u8>,
-    instance: &Instance,
-    permutation: &Perm,
-    centres: &[Centre],
-    most: u64,
+    arrangement: &Arrangement<'_>,
     i: usize,
 ) -> Result<(), AllocError>
-    requires same_size { length permutation.now ≡ instance.now.size }
-    requires each { length centres.now ≡ instance.now.size }
-    requires most { most ≡ largest_flow instance.now }
-    requires i { i < instance.now.size }
-    ensures { OnOk result (text.new.items ≡ text.old.items ++ joined_to (flow_mark instance.now permutation.now centres.now i) i) }
+    requires same_size { length arrangement.now.permutation.now ≡ arrangement.now.instance.now.size }
+    requires each { length arrangement.now.centres.now ≡ arrangement.now.instance.now.size }
+    requires most { arrangement.now.most ≡ largest_flow arrangement.now.instance.now }
+    requires i { i < arrangement.now.instance.now.size }
+    ensures { OnOk result (text.new.items ≡ text.old.items ++ joined_to (flow_mark arrangement.now.instance.now arrangement.now.permutation.now arrangement.now.centres.now i) i) }
 {
     for j in 0..i {
-        push_flow(alloc, text, instance, permutation, centres, most, i, j)?;
+        push_flow(alloc, text, arrangement, i, j)?;
     }
     Ok(())
 }
@@ -63,28 +76,25 @@ fn push_lines_of(
 fn push_flow(
     alloc: Global,
     text: &mut Vec<u8>,
-    instance: &Instance,
-    permutation: &Perm,
-    centres: &[Centre],
-    most: u64,
+    arrangement: &Arrangement<'_>,
     i: usize,
     j: usize,
 ) -> Result<(), AllocError>
-    requires same_size { length permutation.now ≡ instance.now.size }
-    requires each { length centres.now ≡ instance.now.size }
-    requires most { most ≡ largest_flow instance.now }
-    requires i { i < instance.now.size }
-    requires j { j < instance.now.size }
-    ensures { OnOk result (text.new.items ≡ text.old.items ++ flow_mark instance.now permutation.now centres.now i j) }
+    requires same_size { length arrangement.now.permutation.now ≡ arrangement.now.instance.now.size }
+    requires each { length arrangement.now.centres.now ≡ arrangement.now.instance.now.size }
+    requires most { arrangement.now.most ≡ largest_flow arrangement.now.instance.now }
+    requires i { i < arrangement.now.instance.now.size }
+    requires j { j < arrangement.now.instance.now.size }
+    ensures { OnOk result (text.new.items ≡ text.old.items ++ flow_mark arrangement.now.instance.now arrangement.now.permutation.now arrangement.now.centres.now i j) }
 {
-    let flow = flow_between(instance, i, j);
+    let flow = flow_between(arrangement.instance, i, j);
     if flow == 0 {
         return Ok(());
     }
-    let locations = permutation.locations();
-    let from = &centres[usize::from(locations[i])];
-    let to = &centres[usize::from(locations[j])];
-    let line = line(alloc, from, to, width_of(flow, most))?;
+    let locations = arrangement.permutation.locations();
+    let from = &arrangement.centres[usize::from(locations[i])];
+    let to = &arrangement.centres[usize::from(locations[j])];
+    let line = line(alloc, from, to, width_of(flow, arrangement.most))?;
     text.extend_from_slice(line.as_bytes())
 }
 

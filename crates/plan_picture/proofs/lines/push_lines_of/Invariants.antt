@@ -3,4 +3,4 @@ use Rattle.plan_picture.specs.Drawing.{flow_mark, joined_to}
 use Rattle.plan_picture.proofs.lines.push_lines_of.Given as goal
 
 abbrev pub invariant-loop-j : goal.invariant-loop-j
-invariant-loop-j l = (l.text.items ≡ l.fn.text.items ++ joined_to (flow_mark l.instance l.permutation l.centres l.i) l.j)
+invariant-loop-j l = (l.text.items ≡ l.fn.text.items ++ joined_to (flow_mark l.arrangement.instance.now l.arrangement.permutation.now l.arrangement.centres.now l.i) l.j)
