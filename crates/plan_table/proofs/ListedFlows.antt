@@ -1,6 +1,6 @@
 -- Flows that are listed pair by pair: the names that they have, and the matrix that they make.
 use Rattle.std.proofs.Common.{◌≡◌, ◌≢◌, ℕ, false, ◌+◌, ◌*◌, ◌<◌, ◌≤◌, List, [], ◌∷◌, ◌++◌, length, map, take, get_or, set, replicate, Option, Some, None, ℤ, pos, unsigned_abs, refl, sym, ap, ap₂, ◌∙◌, subst, inl, inr, arith, length-append, append_assoc, get_or-set_same, get_or-set_other, below_more}
-use Rattle.std.specs.Prelude.{◌⊎◌, All}
+use Rattle.std.specs.Prelude.{All}
 use Rattle.std.specs.Option.{is_some}
 use Rattle.std.proofs.lemmas.Bool.{cases_eq, cases_lt, cases_order, false≢true}
 use Rattle.std.proofs.lemmas.List.{get_or-map, get_or-replicate, get_or_at, get_or_append_left, get_or_past, length-map, length-set, length-replicate, take_all, take-append-le}
@@ -9,11 +9,11 @@ use Rattle.std.proofs.Math.Nat.{mul-le-mul_right}
 use Rattle.csv.specs.Records.{field_at}
 use Rattle.csv.proofs.RecordFacts.{field-get}
 use Rattle.plan_table.specs.Decimal.{max_entry}
-use Rattle.plan_table.specs.Listing.{AreInside, ArePlaced, AreTripsOf, IsTripOf, IsWith, cell_at, cell_of, filled, trip_at}
+use Rattle.plan_table.specs.Listing.{ArePlaced, AreTripsOf, IsTripOf, IsWith, cell_at, cell_of, filled, trip_at}
 use Rattle.plan_table.specs.Names.{AreDifferent, AreNames, HasName}
 use Rattle.plan_table.specs.Scale.{AreScaled, IsLeastScale}
 use Rattle.plan_table.specs.Shape.{IsNamedSquare}
-use Rattle.plan_table.specs.Trips.{AppearInOrder, AreTrips, IsTripsMatrix, TellsAmount, flow_at, name_at, pair_row, row_at, words_of}
+use Rattle.plan_table.specs.Trips.{AppearInOrder, AreTrips, IsTripsMatrix, name_at, pair_row, row_at, words_of}
 use Rattle.plan_table.specs.declared.decimal.Decimal.{Decimal}
 use Rattle.plan_table.specs.declared.trips.Trip.{Trip}
 use Rattle.plan_table.proofs.Fields.{field_inside}

@@ -7,7 +7,7 @@ use Rattle.std.proofs.lemmas.Nat.{pow-add}
 use Rattle.std.proofs.lemmas.Int.{unsigned_abs-mul}
 use Rattle.plan_table.specs.Decimal.{decimal_of, held_unsigned, max_number, signed_of, unsigned_of, with_sign}
 use Rattle.plan_table.specs.Least.{IsWholeAt}
-use Rattle.plan_table.specs.Spelling.{IsWorth, IsWorthNone, Spells, SpellsJust, SpellsNone}
+use Rattle.plan_table.specs.Spelling.{IsWorth, IsWorthNone, SpellsJust, SpellsNone}
 use Rattle.plan_table.specs.declared.decimal.Decimal.{Decimal}
 use Rattle.plan_table.specs.declared.decimal.Unsigned.{Unsigned}
 use Rattle.plan_table.proofs.Digits.{unsigned_abs-with_sign}

@@ -1,4 +1,4 @@
-use Rattle.std.proofs.Common.{arith, length, rules}
+use Rattle.std.proofs.Common.{arith, rules}
 use Rattle.std.specs.Prelude.{IsTrue}
 use Rattle.csv.specs.Records.{fields_of}
 use Rattle.plan_table.proofs.Fields.{three_fields}

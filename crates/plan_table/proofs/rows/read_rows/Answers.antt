@@ -1,4 +1,4 @@
-use Rattle.std.proofs.Common.{arith, length}
+use Rattle.std.proofs.Common.{arith}
 use Rattle.std.specs.String.{string_bytes}
 use Rattle.csv.specs.Records.{fields_of}
 use Rattle.plan_table.proofs.RowLists.{AreRows-more}

@@ -1,9 +1,8 @@
-use Rattle.std.proofs.Common.{◌≡◌, ◌<◌, ◌≤◌, arith, length, map}
+use Rattle.std.proofs.Common.{arith, map}
 use Rattle.std.specs.String.{string_bytes}
 use Rattle.std.proofs.lemmas.List.{length-map}
 use Rattle.csv.specs.Records.{fields_of}
 use Rattle.plan_table.proofs.Fields.{three_fields}
-use Rattle.plan_table.specs.Trips.{name_at}
 use Rattle.plan_table.proofs.trips.read_trip.Goals as goal
 
 pub returns : goal.returns

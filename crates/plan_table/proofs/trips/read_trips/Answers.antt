@@ -1,8 +1,8 @@
-use Rattle.std.proofs.Common.{◌≡◌, ◌∷◌, ◌∙◌, ap, map, subst, sym}
+use Rattle.std.proofs.Common.{◌∙◌, ap, map, subst, sym}
 use Rattle.std.specs.String.{string_bytes}
 use Rattle.csv.specs.Records.{fields_of}
 use Rattle.plan_table.specs.Table.{AreRecordsOf}
-use Rattle.plan_table.specs.Trips.{AppearInOrder, trips_head, words_of}
+use Rattle.plan_table.specs.Trips.{AppearInOrder, words_of}
 use Rattle.plan_table.proofs.trips.read_trips.Goals as goal
 
 pub returns-clause-text : goal.returns-clause-text
