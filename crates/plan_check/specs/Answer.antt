@@ -1,24 +1,56 @@
 -- An answer that was written as JSON.
-use Rattle.std.specs.Prelude.{◌≡◌, ℕ, ◌+◌, List, map, codes, Some, ℤ, ◌≤ℤ◌}
+use Rattle.std.specs.Prelude.{◌≡◌, ◌≤◌, ℕ, ◌+◌, List, map, codes, Some, ℤ, ◌≤ℤ◌, unsigned_abs}
+use Rattle.std.specs.Str.{IsUtf8}
 use Rattle.serde_json.specs.Data.{Data}
 use Rattle.serde_json.specs.Read.{read}
 use Rattle.qap_cost.specs.Instance.{Problem}
 use Rattle.qap_cost.specs.Objective.{Permutes, cost_of}
-use Rattle.qap_cost.specs.Placement.{Completes, Placement}
-use Rattle.plan_check.specs.Stated.{ListsNumbers, StatesNumber}
+use Rattle.qap_cost.specs.Placement.{Completes, Placement, root_of}
+use Rattle.plan_table.specs.Decimal.{max_number}
+use Rattle.plan_file.specs.declared.tables.NamedProblem.{NamedProblem}
+use Rattle.plan_answer.specs.Answer.{cost_scale}
+use Rattle.plan_check.specs.Names.{HasNamesOf, HasNoNames}
+use Rattle.plan_check.specs.Stated.{ListsNumbers, StatesNumber, StatesText, status_of}
 
--- it lists a permutation, counted from 1, that keeps what is fixed; it states the cost of this one, and no larger number as what none costs less than
-pub record IsStated (I : Problem) (x : Placement) (scale : ℕ) (d : Data) (p : List ℕ) (c g : ℤ) : Type 0 where
-  pub listed : ListsNumbers d (codes "permutation") (map (λ k. k + 1) p)
+-- the text is the JSON of a value
+pub record IsJsonOf (text : List ℕ) (d : Data) : Type 0 where
+  pub utf8 : IsUtf8 text
+  pub read : read text ≡ Some d
+
+-- it lists the locations of a permutation, counted from 1
+abbrev pub ListsLocations : Data → List ℕ → Type 0
+ListsLocations d p = ListsNumbers d (codes "permutation") (map (λ k. k + 1) p)
+
+-- it lists a permutation that keeps what is fixed
+pub record IsListed (I : Problem) (x : Placement) (d : Data) (p : List ℕ) : Type 0 where
+  pub locations : ListsLocations d p
   pub permutes : Permutes I p
   pub completes : Completes x p
+
+-- it states a number, from -10^36 on, that is no larger than this cost, and how the search ended
+pub record IsBoundStated (scale : ℕ) (d : Data) (c g : ℤ) : Type 0 where
+  pub number : StatesNumber d (codes "bound") g scale
+  pub small : unsigned_abs g ≤ max_number
+  pub at_most : g ≤ℤ c
+  pub status : StatesText d (codes "status") (status_of g c)
+
+-- it lists such a permutation, and states what it costs and such a bound
+pub record IsStated (I : Problem) (x : Placement) (scale : ℕ) (d : Data) (p : List ℕ) (c g : ℤ) : Type 0 where
+  pub listed : IsListed I x d p
   pub costs : cost_of I p ≡ c
   pub cost : StatesNumber d (codes "cost") c scale
-  pub bound : StatesNumber d (codes "bound") g scale
-  pub at_most : g ≤ℤ c
+  pub bound : IsBoundStated scale d c g
 
--- the text is the JSON of such a value
-pub record IsAnswerTo (I : Problem) (x : Placement) (scale : ℕ) (text : List ℕ) (p : List ℕ) (c g : ℤ) : Type 0 where
+-- the text is the JSON of an answer to a plan; names that are there are the plan's
+pub record IsAnswerToPlan (P : NamedProblem) (text p : List ℕ) (c g : ℤ) : Type 0 where
   pub value : Data
-  pub read : read text ≡ Some value
-  pub stated : IsStated I x scale value p c g
+  pub json : IsJsonOf text value
+  pub stated : IsStated P.instance P.fixed (cost_scale P) value p c g
+  pub named : HasNamesOf P p value
+
+-- the same of an instance, which has no names
+pub record IsAnswerToInstance (I : Problem) (text p : List ℕ) (c g : ℤ) : Type 0 where
+  pub value : Data
+  pub json : IsJsonOf text value
+  pub stated : IsStated I (root_of I.size) 0 value p c g
+  pub unnamed : HasNoNames value

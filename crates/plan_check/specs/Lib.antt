@@ -1,4 +1,7 @@
 pub mod Answer
+pub mod Apart
+pub mod Names
 pub mod Proved
+pub mod Refusal
 pub mod Stated
 pub mod Telling

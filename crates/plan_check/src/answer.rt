@@ -1,12 +1,11 @@
 //! Answers that are judged against what they are answers to.
 
-ghost use Rattle.std.specs.Prelude.{◌≡◌, ◌<◌, ◌^◌, ◌+◌, IfOk, codes, map};
+ghost use Rattle.std.specs.Prelude.{◌≡◌, ◌≢◌, ◌<◌, ◌^◌, MatchOption, MatchResult, length, slice_index};
 ghost use Rattle.serde_json.specs.View.{view};
-ghost use Rattle.plan_answer.specs.Answer.{cost_scale};
-ghost use Rattle.plan_check.specs.Answer.{IsAnswerTo, IsStated};
-ghost use Rattle.plan_check.specs.Stated.{ListsNumbers};
+ghost use Rattle.plan_check.specs.Answer.{IsAnswerToInstance, IsAnswerToPlan, IsStated, ListsLocations};
+ghost use Rattle.plan_check.specs.Refusal.{IsRefusedByInstance, IsRefusedByPlan, IsUnstated, ListsNoneKept};
 ghost use Rattle.plan_file.specs.Tables.{HasSizes};
-ghost use Rattle.qap_cost.specs.Placement.{Completes, root_of};
+ghost use Rattle.qap_cost.specs.Placement.{Completes, StandsAt};
 
 use crate::error::AnswerError;
 use crate::names::{check_arrangement, check_names, check_unnamed};
@@ -14,7 +13,6 @@ use crate::number::{stated_bound, stated_cost};
 use crate::permutation::permutation_of;
 use crate::stated::{json_of, locations_of};
 use plan_file::NamedProblem;
-use plan_fixed::completes;
 use qap_cost::{Instance, Partial, Perm, cost};
 use serde_json::Value;
 use std::alloc::Global;
@@ -31,14 +29,16 @@ pub struct Answer {
 }
 
 /// The answer to a plan whose JSON a text is: its permutation is one of the plan's that keeps what is fixed, and it states the cost of that one. Names
-/// that are there are the plan's.
+/// that are there are the plan's. Else why it is none.
 pub fn answer_to_plan(
     alloc: Global,
     problem: &NamedProblem,
     text: &[u8],
 ) -> Result<Answer, AnswerError>
     requires { HasSizes problem.now }
-    ensures { IfOk result (λ a. IsAnswerTo problem.now.instance problem.now.fixed (cost_scale problem.now) text.now a.permutation a.cost a.bound) }
+    ensures { MatchResult result
+        (λ a. IsAnswerToPlan problem.now text.now a.permutation a.cost a.bound)
+        (IsRefusedByPlan problem.now text.now) }
 {
     let value = json_of(alloc, text)?;
     check_names(problem, &value)?;
@@ -48,18 +48,21 @@ pub fn answer_to_plan(
     Ok(answer)
 }
 
-/// The answer to an instance whose JSON a text is.
+/// The answer to an instance whose JSON a text is. Else why it is none.
 pub fn answer_to_instance(
     alloc: Global,
     instance: &Instance,
     text: &[u8],
 ) -> Result<Answer, AnswerError>
-    ensures { IfOk result (λ a. IsAnswerTo instance.now (root_of instance.now.size) 0 text.now a.permutation a.cost a.bound) }
+    ensures { MatchResult result
+        (λ a. IsAnswerToInstance instance.now text.now a.permutation a.cost a.bound)
+        (IsRefusedByInstance instance.now text.now) }
 {
     let value = json_of(alloc, text)?;
     check_unnamed(&value)?;
     let root = Partial::root(alloc, instance.size())?;
-    stated_answer(alloc, instance, &root, 0, &value)
+    let answer = stated_answer(alloc, instance, &root, 0, &value)?;
+    Ok(answer)
 }
 
 /// The answer that a value states.
@@ -72,7 +75,9 @@ fn stated_answer(
 ) -> Result<Answer, AnswerError>
     requires same_size { fixed.now.size ≡ instance.now.size }
     requires scale { scale < 2 ^ 32 }
-    ensures { IfOk result (λ a. IsStated instance.now fixed.now scale (view value.now) a.permutation a.cost a.bound) }
+    ensures { MatchResult result
+        (λ a. IsStated instance.now fixed.now scale (view value.now) a.permutation a.cost a.bound)
+        (IsUnstated instance.now fixed.now scale (view value.now)) }
 {
     let permutation = kept_permutation(alloc, fixed, value)?;
     let cost = cost(instance, &permutation);
@@ -87,29 +92,36 @@ fn stated_answer(
 
 /// The permutation that a value lists, where it keeps what is fixed.
 fn kept_permutation(alloc: Global, fixed: &Partial, value: &Value) -> Result<Perm, AnswerError>
-    ensures listed { IfOk result (λ p. ListsNumbers (view value.now) (codes "permutation") (map (λ k. k + 1) p)) }
-    ensures completes { IfOk result (Completes fixed.now) }
+    ensures { MatchResult result
+        (λ p. ListsLocations (view value.now) p × Completes fixed.now p)
+        (ListsNoneKept fixed.now (view value.now)) }
 {
-    let numbers = locations_of(alloc, value, fixed.size())?;
-    let permutation = permutation_of(alloc, &numbers, fixed.size())?;
-    if completes(fixed, &permutation) {
-        Ok(permutation)
-    } else {
-        Err(moved(fixed, &permutation))
-    }
+    let size = fixed.size();
+    let numbers = locations_of(alloc, value, size)?;
+    let permutation = permutation_of(alloc, &numbers, size)?;
+    let Some((facility, location)) = moved(fixed, &permutation) else {
+        return Ok(permutation);
+    };
+    Err(AnswerError::Moved {
+        number: facility + 1,
+        location: usize::from(location) + 1,
+    })
 }
 
-/// The first facility that doesn't stand where it is fixed.
-fn moved(fixed: &Partial, permutation: &Perm) -> AnswerError {
-    for (i, &location) in permutation.locations().iter().enumerate() {
-        if let Some(place) = fixed.at(i) {
-            if place != location {
-                return AnswerError::Moved {
-                    number: i + 1,
-                    location: usize::from(place) + 1,
-                };
+/// The first facility that doesn't stand where it is fixed, and where that is.
+fn moved(fixed: &Partial, permutation: &Perm) -> Option<(usize, u16)>
+    requires { length permutation.now ≡ fixed.now.size }
+    ensures { MatchOption result
+        (Completes fixed.now permutation.now)
+        (λ m. StandsAt fixed.now m.0 m.1 × (slice_index permutation.now m.0 ≢ m.1)) }
+{
+    let locations = permutation.locations();
+    for facility in 0..fixed.size() {
+        if let Some(location) = fixed.at(facility) {
+            if locations[facility] != location {
+                return Some((facility, location));
             }
         }
     }
-    AnswerError::NoList
+    None
 }

@@ -4,6 +4,7 @@
 mod answer;
 mod error;
 mod fault;
+mod law;
 mod lookup;
 mod names;
 mod number;
@@ -15,5 +16,6 @@ mod telling;
 pub use answer::{Answer, answer_to_instance, answer_to_plan};
 pub use error::AnswerError;
 pub use fault::ProofFault;
+pub use law::refusal_law;
 pub use proving::proved_bound;
 pub use telling::checked_line;

@@ -1,12 +1,15 @@
 //! The numbers that an answer states: what its arrangement costs, and what none costs less than.
 
-ghost use Rattle.std.specs.Prelude.{◌≡◌, ◌<◌, ◌^◌, ◌≤ℤ◌, IfOk, OnOk, codes};
+ghost use Rattle.std.specs.Prelude.{◌≡◌, ◌⊎◌, ◌<◌, ◌≤◌, ◌^◌, MatchResult, codes, unsigned_abs};
 ghost use Rattle.serde_json.specs.View.{view};
-ghost use Rattle.plan_check.specs.Stated.{StatesNumber};
+ghost use Rattle.plan_check.specs.Answer.{IsBoundStated};
+ghost use Rattle.plan_check.specs.Refusal.{HasNoText, IsOtherStatus, StatesNoBound, StatesOtherCost};
+ghost use Rattle.plan_check.specs.Stated.{StatesNumber, StatesText, status_of as stated_status};
+ghost use Rattle.plan_table.specs.Decimal.{max_number};
 
 use crate::error::AnswerError;
 use crate::stated::text_of;
-use plan_table::decimal_text;
+use plan_table::{decimal_text, spelled_number};
 use serde_json::Value;
 use std::alloc::{AllocError, Global};
 
@@ -17,18 +20,22 @@ pub fn stated_cost(
     cost: i128,
     scale: usize,
 ) -> Result<(), AnswerError>
-    requires { scale < 2 ^ 32 }
-    ensures { OnOk result (StatesNumber (view value.now) (codes "cost") cost scale) }
+    requires scale { scale < 2 ^ 32 }
+    requires small { unsigned_abs cost ≤ max_number }
+    ensures { MatchResult result
+        (λ _. StatesNumber (view value.now) (codes "cost") cost scale)
+        (StatesOtherCost scale (view value.now) cost) }
 {
     let stated = text_of(value, "cost")?;
-    let own = decimal_text(alloc, cost, scale)?;
-    if *stated.as_bytes() == *own {
-        Ok(())
-    } else {
-        Err(AnswerError::OtherCost {
-            cost: text_from(alloc, &own)?,
-        })
+    let Some(number) = spelled_number(stated.as_bytes(), scale) else {
+        let cost = cost_text(alloc, cost, scale)?;
+        return Err(AnswerError::OtherCost { cost });
+    };
+    if number != cost {
+        let cost = cost_text(alloc, cost, scale)?;
+        return Err(AnswerError::OtherCost { cost });
     }
+    Ok(())
 }
 
 /// The bound that is stated, where it is no larger than the cost and fits the status.
@@ -38,52 +45,47 @@ pub fn stated_bound(
     cost: i128,
     scale: usize,
 ) -> Result<i128, AnswerError>
-    requires { scale < 2 ^ 32 }
-    ensures number { IfOk result (λ g. StatesNumber (view value.now) (codes "bound") g scale) }
-    ensures at_most { IfOk result (λ g. g ≤ℤ cost) }
+    requires scale { scale < 2 ^ 32 }
+    ensures { MatchResult result (IsBoundStated scale (view value.now) cost) (StatesNoBound scale (view value.now) cost) }
 {
     let stated = text_of(value, "bound")?;
-    let Some(bound) = number_of(alloc, stated, scale)? else {
-        return Err(other_bound(alloc, cost, scale)?);
+    let Some(bound) = spelled_number(stated.as_bytes(), scale) else {
+        let cost = cost_text(alloc, cost, scale)?;
+        return Err(AnswerError::OtherBound { cost });
     };
-    let own = decimal_text(alloc, bound, scale)?;
-    if *stated.as_bytes() != *own || bound > cost {
-        return Err(other_bound(alloc, cost, scale)?);
+    if bound > cost {
+        let cost = cost_text(alloc, cost, scale)?;
+        return Err(AnswerError::OtherBound { cost });
     }
-    check_status(value, bound < cost)?;
+    check_status(value, status_of(bound, cost))?;
     Ok(bound)
 }
 
-/// What is told of a bound that is none for this cost.
-fn other_bound(alloc: Global, cost: i128, scale: usize) -> Result<AnswerError, AllocError>
+/// A cost over so many places behind the point, as it is told.
+pub fn cost_text(alloc: Global, cost: i128, scale: usize) -> Result<String, AllocError>
     requires { scale < 2 ^ 32 }
 {
-    let cost = text_from(alloc, &decimal_text(alloc, cost, scale)?)?;
-    Ok(AnswerError::OtherBound { cost })
+    let digits = decimal_text(alloc, cost, scale)?;
+    String::from_str(alloc, std::str::from_utf8(&digits).unwrap_or(""))
 }
 
-/// Judges that the status is that of a search which was stopped, or of one that came to its end.
-fn check_status(value: &Value, is_open: bool) -> Result<(), AnswerError> {
-    let status = if is_open { "bounded" } else { "optimal" };
-    if text_of(value, "status")? == status {
+/// The status of a search which was stopped, or of one that came to its end.
+fn status_of(bound: i128, cost: i128) -> &'static str
+    ensures { result.now ≡ stated_status bound cost }
+{
+    if bound < cost { "bounded" } else { "optimal" }
+}
+
+/// Judges that this is the status that is stated.
+fn check_status(value: &Value, status: &'static str) -> Result<(), AnswerError>
+    ensures { MatchResult result
+        (λ _. StatesText (view value.now) (codes "status") status.now)
+        (λ e. HasNoText (view value.now) (codes "status") e ⊎ IsOtherStatus (view value.now) status.now e) }
+{
+    let stated = text_of(value, "status")?;
+    if *stated.as_bytes() == *status.as_bytes() {
         Ok(())
     } else {
         Err(AnswerError::OtherStatus { status })
     }
-}
-
-/// The number that a text spells, times this power of ten, where it is whole then; another text than the program's own may pass.
-fn number_of(alloc: Global, text: &str, scale: usize) -> Result<Option<i128>, AllocError> {
-    let (whole, fraction) = text.split_once('.').unwrap_or((text, ""));
-    if fraction.len() > scale {
-        return Ok(None);
-    }
-    let zeros = "0".repeat(alloc, scale - fraction.len())?;
-    let digits = format!(in alloc; "{whole}{fraction}{zeros}")?;
-    Ok(digits.parse::<i128>().ok())
-}
-
-/// A text of digits.
-fn text_from(alloc: Global, digits: &[u8]) -> Result<String, AllocError> {
-    String::from_str(alloc, std::str::from_utf8(digits).unwrap_or(""))
 }

@@ -1,6 +1,9 @@
 //! Locations as a permutation.
 
-ghost use Rattle.std.specs.Prelude.{◌≡◌, ◌+◌, ◌≤◌, IfOk, length, map};
+ghost use Rattle.std.specs.Prelude.{◌≡◌, ◌≢◌, ◌+◌, ◌<◌, ◌≤◌, ℕ, MatchOption, MatchResult, length, map, slice_index};
+ghost use Rattle.qap_cost.specs.Bijection.{IsPerm};
+ghost use Rattle.plan_check.specs.Apart.{AreApart};
+ghost use Rattle.plan_check.specs.Refusal.{AreNoLocations};
 
 use crate::error::AnswerError;
 use qap_cost::Perm;
@@ -8,9 +11,11 @@ use std::alloc::Global;
 
 /// The permutation of so many facilities whose locations are these, counted from 1.
 pub fn permutation_of(alloc: Global, numbers: &[u64], size: usize) -> Result<Perm, AnswerError>
-    requires { size ≤ 256 }
-    ensures numbers { IfOk result (λ p. numbers.now ≡ map (λ k. k + 1) p) }
-    ensures size { IfOk result (λ p. length p ≡ size) }
+    requires positive { 0 < size }
+    requires small { size ≤ 256 }
+    ensures { MatchResult result
+        (λ p. (numbers.now ≡ map (λ k. k + 1) p) × (length p ≡ size))
+        (AreNoLocations size numbers.now) }
 {
     if numbers.len() != size {
         return Err(AnswerError::OtherCount {
@@ -18,20 +23,40 @@ pub fn permutation_of(alloc: Global, numbers: &[u64], size: usize) -> Result<Per
             wanted: size,
         });
     }
-    match Perm::new(locations_of(alloc, numbers, size)?) {
-        Ok(permutation) => Ok(permutation),
-        Err(_) => Err(twice(numbers)),
+    let locations = locations_of(alloc, numbers, size)?;
+    match repeated(numbers) {
+        Some(j) => Err(AnswerError::LocationTwice {
+            number: j + 1,
+            location: numbers[j],
+        }),
+        None => Ok(perm_of(locations)),
     }
+}
+
+/// The permutation that these locations are.
+fn perm_of(locations: Vec<u16>) -> Perm
+    requires { IsPerm locations.items }
+    ensures { result ≡ locations.items }
+{
+    Perm::new(locations).unwrap()
 }
 
 /// The same locations, counted from 0.
 fn locations_of(alloc: Global, numbers: &[u64], size: usize) -> Result<Vec<u16>, AnswerError>
     requires { size ≤ 256 }
-    ensures { IfOk result (λ v. numbers.now ≡ map (λ k. k + 1) v.items) }
+    ensures { MatchResult result
+        (λ v. (numbers.now ≡ map (λ k. k + 1) v.items) × ((i : ℕ) → i < length numbers.now → slice_index numbers.now i ≤ size))
+        (AreNoLocations size numbers.now) }
 {
     let mut locations = Vec::new(alloc);
     for (i, &number) in numbers.iter().enumerate() {
-        if number == 0 || number > size as u64 {
+        if number == 0 {
+            return Err(AnswerError::NoLocation {
+                number: i + 1,
+                size,
+            });
+        }
+        if number > size as u64 {
             return Err(AnswerError::NoLocation {
                 number: i + 1,
                 size,
@@ -44,15 +69,31 @@ fn locations_of(alloc: Global, numbers: &[u64], size: usize) -> Result<Vec<u16>,
     Ok(locations)
 }
 
-/// The first location that stands before already.
-fn twice(numbers: &[u64]) -> AnswerError {
-    for (i, &location) in numbers.iter().enumerate() {
-        if numbers[..i].contains(&location) {
-            return AnswerError::LocationTwice {
-                number: i + 1,
-                location,
-            };
+/// The first place at which a number stands that stands before already.
+fn repeated(numbers: &[u64]) -> Option<usize>
+    ensures { MatchOption result
+        (AreApart numbers.now (length numbers.now))
+        (λ j. (j < length numbers.now) × (i : ℕ) × (i < j) × (slice_index numbers.now i ≡ slice_index numbers.now j)) }
+{
+    for j in 0..numbers.len() {
+        if let Some(_) = same_before(numbers, j) {
+            return Some(j);
         }
     }
-    AnswerError::NoList
+    None
+}
+
+/// The first place before this one at which the same number stands.
+fn same_before(numbers: &[u64], j: usize) -> Option<usize>
+    requires { j < length numbers.now }
+    ensures { MatchOption result
+        ((i : ℕ) → i < j → slice_index numbers.now i ≢ slice_index numbers.now j)
+        (λ i. (i < j) × (slice_index numbers.now i ≡ slice_index numbers.now j)) }
+{
+    for i in 0..j {
+        if numbers[i] == numbers[j] {
+            return Some(i);
+        }
+    }
+    None
 }

@@ -8,11 +8,11 @@ ghost use Rattle.qap_proof.specs.Acceptance.{ProvesFor};
 ghost use Rattle.qap_proof.specs.Claim.{NoneCompletesForLess};
 
 use crate::fault::ProofFault;
+use crate::number::cost_text;
 use plan_fixed::ascending;
-use plan_table::decimal_text;
 use qap_cost::{Instance, Partial, Perm, cost};
 use qap_proof::{ProofError, Stated, accept_over};
-use std::alloc::{AllocError, Global};
+use std::alloc::Global;
 
 /// What no arrangement that keeps what is fixed costs less than, where a text is that of a proof which proves it for the instance, over just these
 /// arrangements, and with the cost of this permutation. Else why it isn't. The cost of another proof is told over so many places behind the point.
@@ -58,12 +58,4 @@ fn stated_over(
         Err(ProofError::OutOfMemory) => Err(ProofFault::OutOfMemory),
         Err(error) => Err(ProofFault::Refused(error)),
     }
-}
-
-/// A cost over so many places behind the point, as it is told.
-fn cost_text(alloc: Global, cost: i128, scale: usize) -> Result<String, AllocError>
-    requires { scale < 2 ^ 32 }
-{
-    let digits = decimal_text(alloc, cost, scale)?;
-    String::from_str(alloc, std::str::from_utf8(&digits).unwrap_or(""))
 }

@@ -1,39 +1,39 @@
 //! What the JSON of an answer states.
 
-ghost use Rattle.std.specs.Prelude.{◌≡◌, IfOk, Some, codes, map};
-ghost use Rattle.serde_json.specs.Read.{read};
+ghost use Rattle.std.specs.Prelude.{◌≡◌, List, MatchResult, codes, map};
 ghost use Rattle.serde_json.specs.View.{view};
+ghost use Rattle.plan_check.specs.Answer.{IsJsonOf};
+ghost use Rattle.plan_check.specs.Refusal.{AreNoNumbers, HasNoText, IsNoJson, ListsNoNumbers};
 ghost use Rattle.plan_check.specs.Stated.{ListsNumbers, StatesText, whole};
 
 use crate::error::AnswerError;
 use crate::lookup::{items_in, text_in, value_at, whole_in};
-use serde_json::{Error, Value};
+use serde_json::Value;
 use std::alloc::Global;
 
 /// The value that a text of JSON has.
 pub fn json_of(alloc: Global, text: &[u8]) -> Result<Value, AnswerError>
-    ensures { IfOk result (λ value. read text.now ≡ Some (view value)) }
+    ensures { MatchResult result (λ value. IsJsonOf text.now (view value)) (IsNoJson text.now) }
 {
     match Value::from_slice(alloc, text) {
         Ok(value) => Ok(value),
-        Err(error) => Err(json_fault(&error)),
-    }
-}
-
-/// Why a text is no JSON.
-fn json_fault(error: &Error) -> AnswerError {
-    if error.is_memory() {
-        return AnswerError::OutOfMemory;
-    }
-    AnswerError::NoJson {
-        line: error.line(),
-        column: error.column(),
+        Err(error) => {
+            if error.is_memory() {
+                return Err(AnswerError::OutOfMemory);
+            }
+            Err(AnswerError::NoJson {
+                line: error.line(),
+                column: error.column(),
+            })
+        }
     }
 }
 
 /// The locations of an answer, counted from 1, where there are so many facilities.
 pub fn locations_of(alloc: Global, value: &Value, size: usize) -> Result<Vec<u64>, AnswerError>
-    ensures { IfOk result (λ v. ListsNumbers (view value.now) (codes "permutation") v.items) }
+    ensures { MatchResult result
+        (λ v. ListsNumbers (view value.now) (codes "permutation") v.items)
+        (ListsNoNumbers size (view value.now)) }
 {
     let Some(found) = value_at(value, "permutation") else {
         return Err(AnswerError::NoList);
@@ -46,7 +46,7 @@ pub fn locations_of(alloc: Global, value: &Value, size: usize) -> Result<Vec<u64
 
 /// The whole numbers of a list.
 fn numbers_of(alloc: Global, items: &[Value], size: usize) -> Result<Vec<u64>, AnswerError>
-    ensures { IfOk result (λ v. map view items.now ≡ map whole v.items) }
+    ensures { MatchResult result (λ v. map view items.now ≡ map whole v.items) (AreNoNumbers size (map view items.now)) }
 {
     let mut numbers = Vec::new(alloc);
     for (i, item) in items.iter().enumerate() {
@@ -65,7 +65,9 @@ fn numbers_of(alloc: Global, items: &[Value], size: usize) -> Result<Vec<u64>, A
 
 /// The text of a key.
 pub fn text_of<'a>(value: &'a Value, key: &'static str) -> Result<&'a str, AnswerError>
-    ensures { IfOk result (λ text. StatesText (view value.now) key.now text.now) }
+    ensures { MatchResult result
+        (λ text. StatesText (view value.now) key.now text.now)
+        (HasNoText (view value.now) key.now) }
 {
     let Some(found) = value_at(value, key) else {
         return Err(AnswerError::NoText { key });

@@ -52,7 +52,7 @@ fn shown(alloc: Global, plan: &[u8], text: &str) -> Result<String, Fail> {
 
 #[test]
 fn answers_are_shown(rt: HostRuntime) -> Result<(), Fail> {
-    let cases: [(&[u8], &str, &str); 3] = [
+    let cases: [(&[u8], &str, &str); 4] = [
         (
             FREE,
             "{\"permutation\":[1,2,3],\"cost\":\"3.75\",\"bound\":\"3.75\",\"status\":\"optimal\",\"departments\":[\"Saw\",\"Lathe\"],\"places\":[\"A\",\"B\",\"C\"],\"arrangement\":[\"A\",\"B\"]}",
@@ -62,6 +62,11 @@ fn answers_are_shown(rt: HostRuntime) -> Result<(), Fail> {
             FREE,
             "{\"permutation\":[2,1,3],\"cost\":\"5\",\"bound\":\"-0.5\",\"status\":\"bounded\"}",
             "Saw at B\nLathe at A\nC stays empty\ncost 5, stated within -0.5 to 5\ndearest pairs:\nSaw to Lathe: 5\n",
+        ),
+        (
+            FREE,
+            "{\"permutation\":[2,1,3],\"cost\":\"+5.00\",\"bound\":\"03.750\",\"status\":\"bounded\"}",
+            "Saw at B\nLathe at A\nC stays empty\ncost 5, stated within 3.75 to 5\ndearest pairs:\nSaw to Lathe: 5\n",
         ),
         (
             FIXED,
