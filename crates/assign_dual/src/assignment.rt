@@ -98,40 +98,37 @@ pub(crate) fn least<N: Number>(
         &mut numbers.zeros,
         &mut trees.row_of,
         &mut trees.indices,
-        &mut answer.matching,
-        &mut answer.u,
-        &mut answer.v,
+        answer,
     );
     Ok(())
 }
 
-/// Places every row of the matrix in these lists, and writes the columns that they take to `matching`, the duals to `u` and `v`.
+/// Places every row of the matrix in these lists, and writes the columns that they take and the duals to the answer.
 fn place_all<N: Number>(
     matrix: &Matrix,
     entries: &mut [N],
     zeros: &mut [N],
     row_of: &mut [Option<usize>],
     indices: &mut [usize],
-    matching: &mut [u16],
-    u: &mut [i128],
-    v: &mut [i128],
+    answer: &mut Assignment,
 )
     requires range { AllWithin N.most matrix.now.entries }
     requires entries_count { length entries.old ≡ matrix.now.size * matrix.now.size }
     requires zeros { map N.value zeros.old ≡ replicate (4 * matrix.now.size) (pos 0) }
     requires row_of { row_of.old ≡ replicate matrix.now.size None }
     requires indices_count { length indices.old ≡ 3 * matrix.now.size }
-    requires matching_count { length matching.old ≡ matrix.now.size }
-    requires u_count { length u.old ≡ matrix.now.size }
-    requires v_count { length v.old ≡ matrix.now.size }
-    ensures { IsPlacedWhole matrix.now matching.new u.new v.new }
+    requires matching_count { length answer.old.matching.items ≡ matrix.now.size }
+    requires u_count { length answer.old.u.items ≡ matrix.now.size }
+    requires v_count { length answer.old.v.items ≡ matrix.now.size }
+    ensures placed { IsPlacedWhole matrix.now answer.new.matching.items answer.new.u.items answer.new.v.items }
+    ensures room { (n : ℕ) → HasRoomFor n answer.old → HasRoomFor n answer.new }
 {
     let n = matrix.size();
     fill(entries, matrix.entries());
     let mut room = Room::new(row_of, indices, zeros);
-    place_rows(n, entries, matching, &mut room);
-    widen(room.u, u);
-    widen(room.v, v);
+    place_rows(n, entries, &mut answer.matching, &mut room);
+    widen(room.u, &mut answer.u);
+    widen(room.v, &mut answer.v);
 }
 
 /// Makes `target` the numbers, in its width.
