@@ -84,7 +84,6 @@ fn judge_to_end(
         bound: head.bound,
     };
     let judged = judge_tree(
-        alloc,
         &mut buffers,
         &task,
         &root,

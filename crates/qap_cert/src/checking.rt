@@ -20,6 +20,14 @@ use gilmore_lawler::{FlowRows, RankedInstance, SplitRows, Workspace, dual_sum};
 use qap_cost::{Instance, Partial, Perm, cost};
 use std::alloc::{AllocError, Global};
 
+/// A split whose children are judged: the node that it is of, its facility, and the locations that it has children for.
+#[derive(Clone, Copy)]
+pub(crate) struct Parent<'a> {
+    pub(crate) node: &'a Partial,
+    pub(crate) facility: u16,
+    pub(crate) locations: &'a [u16],
+}
+
 /// Whether the certificate shows, by what it says alone, that no permutation of the instance costs less than its bound. Where
 /// the bound is the cost, that is the least cost.
 ///
@@ -99,10 +107,13 @@ fn check_tree(
     match tree {
         Tree::Split { facility, children } => {
             let locations = node.free_locations()?;
+            let parent = Parent {
+                node,
+                facility: *facility,
+                locations: &locations,
+            };
             let first = line.saturating_add(1);
-            check_children(
-                workspace, ranked, bound, node, *facility, &locations, children, first,
-            )
+            check_children(workspace, ranked, bound, &parent, children, first)
         }
         Tree::Bound { u, v } => {
             check_bound(workspace, rows, bound, node, u, v, line)?;
@@ -111,53 +122,49 @@ fn check_tree(
     }
 }
 
-/// The same for the parts that arise where the facility is put at each of these locations.
+/// The same for the children of a split, the first of which begins at this line.
 #[cycle(check)]
 fn check_children(
     workspace: &mut Workspace,
     ranked: &RankedInstance,
     bound: i128,
-    node: &Partial,
-    facility: u16,
-    locations: &[u16],
+    parent: &Parent<'_>,
     children: &[Tree],
     line: u64,
 ) -> Result<u64, CertError>
-    requires same_size { ranked.now.size ≡ node.now.size }
-    requires facility { IsFreeFacility node.now facility }
-    requires free { (i : ℕ) → i < length locations.now → IsFreeLocation node.now (slice_index locations.now i) }
-    requires some { 0 < length locations.now }
-    requires one_each { length children.now ≡ length locations.now }
-    requires shape { AllHaveShape Second node.now.size (node.now.facilities ++ facility ∷ []) (nodes_of children.now) }
+    requires same_size { ranked.now.size ≡ parent.now.node.now.size }
+    requires facility { IsFreeFacility parent.now.node.now parent.now.facility }
+    requires free { (i : ℕ) → i < length parent.now.locations.now → IsFreeLocation parent.now.node.now (slice_index parent.now.locations.now i) }
+    requires some { 0 < length parent.now.locations.now }
+    requires one_each { length children.now ≡ length parent.now.locations.now }
+    requires shape { AllHaveShape Second parent.now.node.now.size (parent.now.node.now.facilities ++ parent.now.facility ∷ []) (nodes_of children.now) }
     ensures { MatchResult result
-        (λ next. AllValid ranked.now bound node.now facility locations.now (nodes_of children.now)
+        (λ next. AllValid ranked.now bound parent.now.node.now parent.now.facility parent.now.locations.now (nodes_of children.now)
         × (next ≡ line_after line (nodes_count (nodes_of children.now))))
         (λ e. (e ≡ OutOfMemory)
-        ⊎ IsTreeFaultAmong ranked.now bound node.now facility locations.now line (nodes_of children.now) e) }
+        ⊎ IsTreeFaultAmong ranked.now bound parent.now.node.now parent.now.facility parent.now.locations.now line (nodes_of children.now) e) }
 {
-    let rows = child_rows(ranked, node, facility, locations)?;
+    let rows = child_rows(ranked, parent)?;
     let mut next = line;
     for (i, child) in children.iter().enumerate() {
-        let part = node.place(facility, locations[i])?;
+        let part = parent.node.place(parent.facility, parent.locations[i])?;
         next = check_tree(workspace, ranked, &rows, bound, &part, child, next)?;
     }
     Ok(next)
 }
 
-/// The rows of the flows for the parts that arise where the facility is put at any of these locations.
+/// The rows of the flows for any child of the split.
 fn child_rows<'a>(
     ranked: &'a RankedInstance,
-    node: &Partial,
-    facility: u16,
-    locations: &[u16],
+    parent: &Parent<'_>,
 ) -> Result<FlowRows<'a>, AllocError>
-    requires same_size { ranked.now.size ≡ node.now.size }
-    requires facility { IsFreeFacility node.now facility }
-    requires some { 0 < length locations.now }
-    requires free { (i : ℕ) → i < length locations.now → IsFreeLocation node.now (slice_index locations.now i) }
-    ensures { IfOk result (λ r. r ≡ record { instance = ranked.now; facilities = node.now.facilities ++ facility ∷ [] }) }
+    requires same_size { ranked.now.size ≡ parent.now.node.now.size }
+    requires facility { IsFreeFacility parent.now.node.now parent.now.facility }
+    requires some { 0 < length parent.now.locations.now }
+    requires free { (i : ℕ) → i < length parent.now.locations.now → IsFreeLocation parent.now.node.now (slice_index parent.now.locations.now i) }
+    ensures { IfOk result (λ r. r ≡ record { instance = ranked.now; facilities = parent.now.node.now.facilities ++ parent.now.facility ∷ [] }) }
 {
-    let child = node.place(facility, locations[0])?;
+    let child = parent.node.place(parent.facility, parent.locations[0])?;
     FlowRows::new(ranked, &child)
 }
 

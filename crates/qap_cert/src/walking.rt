@@ -7,7 +7,7 @@ ghost use Rattle.qap_cert.specs.TextFault.{IsNodeFault, IsSplitLine, IsTreeTextF
 ghost use Rattle.qap_cert.specs.Tree.{bound};
 ghost use Rattle.qap_cert.specs.Walk.{ClosesOrTells, BeginsWithTree, BeginsWithTrees, IsFaultBefore, IsToldOf, IsToldOfAll};
 
-use crate::checking::{check_bound, check_child_bound};
+use crate::checking::{Parent, check_bound, check_child_bound};
 use crate::error::CertError;
 use crate::node_line::{Grammar, bound_numbers, node_line};
 use crate::placed::Placed;
@@ -32,9 +32,10 @@ pub(crate) struct Judged<'a> {
     pub(crate) fault: Option<CertError>,
 }
 
-/// Memory that is kept from one line to the next: for the rows of a node, and for the duals of a bound.
+/// Memory that is kept from one line to the next, for the rows of a node and for the duals of a bound; and where it comes from.
 #[derive(Drop)]
 pub(crate) struct Buffers {
+    alloc: Global,
     workspace: Workspace,
     duals: Vec<i128>,
 }
@@ -43,6 +44,7 @@ impl Buffers {
     /// No memory yet.
     pub(crate) fn new(alloc: Global) -> Buffers {
         Buffers {
+            alloc,
             workspace: Workspace::new(alloc),
             duals: Vec::new(alloc),
         }
@@ -53,7 +55,6 @@ impl Buffers {
 /// Behind the first bound that fails, lines are judged by the grammar alone.
 #[cycle(walking)]
 pub(crate) fn judge_tree<'a>(
-    alloc: Global,
     buffers: &mut Buffers,
     task: &Task<'_>,
     node: &Partial,
@@ -80,50 +81,51 @@ pub(crate) fn judge_tree<'a>(
     };
     let inner = placed.with(facility);
     let locations = node.free_locations()?;
-    judge_children(
-        alloc, buffers, task, node, facility, &locations, first.rest, &inner, next,
-    )
+    let parent = Parent {
+        node,
+        facility,
+        locations: &locations,
+    };
+    judge_children(buffers, task, &parent, first.rest, &inner, next)
 }
 
-/// The same for the children of a split on a facility, one for each of these locations.
+/// The same for the children of a split, behind which these facilities are placed.
 #[cycle(walking)]
 fn judge_children<'a>(
-    alloc: Global,
     buffers: &mut Buffers,
     task: &Task<'_>,
-    node: &Partial,
-    facility: u16,
-    locations: &[u16],
+    parent: &Parent<'_>,
     text: &'a [u8],
     placed: &Placed,
     line: u64,
 ) -> Result<Judged<'a>, CertError>
     requires small { task.now.grammar.size ≤ 256 }
     requires depth { length placed.now ≤ task.now.grammar.size }
-    requires same_size { task.now.ranked.now.size ≡ node.now.size }
-    requires size { task.now.grammar.size ≡ node.now.size }
-    requires placed { placed.now ≡ node.now.facilities ++ facility ∷ [] }
-    requires facility { IsFreeFacility node.now facility }
-    requires free { (i : ℕ) → i < length locations.now → IsFreeLocation node.now (slice_index locations.now i) }
-    requires some { 0 < length locations.now }
-    requires few { length locations.now + length node.now.facilities ≡ node.now.size }
+    requires same_size { task.now.ranked.now.size ≡ parent.now.node.now.size }
+    requires size { task.now.grammar.size ≡ parent.now.node.now.size }
+    requires placed { placed.now ≡ parent.now.node.now.facilities ++ parent.now.facility ∷ [] }
+    requires facility { IsFreeFacility parent.now.node.now parent.now.facility }
+    requires free { (i : ℕ) → i < length parent.now.locations.now → IsFreeLocation parent.now.node.now (slice_index parent.now.locations.now i) }
+    requires some { 0 < length parent.now.locations.now }
+    requires few { length parent.now.locations.now + length parent.now.node.now.facilities ≡ parent.now.node.now.size }
     ensures { MatchResult result
-        (λ r. BeginsWithTrees task.now.grammar.version task.now.grammar.size placed.now (length locations.now) line text.now r.rest.now r.next
-        (IsToldOfAll task.now.ranked.now task.now.bound node.now facility locations.now line r.fault))
+        (λ r. BeginsWithTrees task.now.grammar.version task.now.grammar.size placed.now (length parent.now.locations.now) line text.now r.rest.now r.next
+        (IsToldOfAll task.now.ranked.now task.now.bound parent.now.node.now parent.now.facility parent.now.locations.now line r.fault))
         (λ e. (e ≡ CertError.OutOfMemory)
-        ⊎ IsFaultBefore task.now.grammar.version task.now.grammar.size placed.now (length locations.now) line text.now e) }
+        ⊎ IsFaultBefore task.now.grammar.version task.now.grammar.size placed.now (length parent.now.locations.now) line text.now e) }
 {
-    let rows = SplitRows::new(task.ranked, node, facility)?;
+    let rows = SplitRows::new(task.ranked, parent.node, parent.facility)?;
+    let locations = parent.locations;
     let mut rest = text;
     let mut next = line;
     for i in 0..locations.len() {
         let location = locations[i];
-        let child = judge_child(alloc, buffers, task, &rows, location, rest, placed, next)?;
+        let child = judge_child(buffers, task, &rows, location, rest, placed, next)?;
         rest = child.rest;
         next = child.next;
         if let Some(fault) = child.fault {
             let others = locations.len() - i - 1;
-            let behind = skim_trees(alloc, rest, task.grammar, placed, next, others)?;
+            let behind = skim_trees(buffers.alloc, rest, task.grammar, placed, next, others)?;
             return Ok(Judged {
                 rest: behind.rest,
                 next: behind.next,
@@ -141,7 +143,6 @@ fn judge_children<'a>(
 /// The same for the child at this location. The node of one whose line is that of a bound isn't made.
 #[cycle(walking)]
 fn judge_child<'a>(
-    alloc: Global,
     buffers: &mut Buffers,
     task: &Task<'_>,
     rows: &SplitRows<'_>,
@@ -170,7 +171,7 @@ fn judge_child<'a>(
         return Ok(Judged { rest, next, fault });
     };
     let part = rows.child(location)?;
-    judge_tree(alloc, buffers, task, &part, text, placed, line)
+    judge_tree(buffers, task, &part, text, placed, line)
 }
 
 /// Judges the line of a bound, and tells what keeps its duals from closing the node, if something does.

@@ -26,7 +26,7 @@ use Rattle.qap_cert.proofs.walking.+walking.Goals as goal
 pub judge_children-loop-i-init : goal.judge_children-loop-i-init
 judge_children-loop-i-init t c =
     BeginsWithTrees-none c.args.task.now.grammar.version c.args.task.now.grammar.size c.args.placed.now c.args.line c.args.text.now
-    (AllValid c.args.task.now.ranked.now c.args.task.now.bound c.args.node.now c.args.facility []) (omega (arith, c.ranges.line.fits)) tt
+    (AllValid c.args.task.now.ranked.now c.args.task.now.bound c.args.parent.now.node.now c.args.parent.now.facility []) (omega (arith, c.ranges.line.fits)) tt
 
 -- what is told of a tree without a fault, and with one
 told_valid : (I : Problem) (g : ℤ) (x : Placement) (line : ℕ) (o : Option CertError) (t : Node) → o ≡ None → IsToldOf I g x line o t → Valid I g x t
@@ -43,9 +43,9 @@ pub judge_children-loop-i-preserved : goal.judge_children-loop-i-preserved
 judge_children-loop-i-preserved t c =
     let I = c.args.task.now.ranked.now in
     let g = c.args.task.now.bound in
-    let x = c.args.node.now in
-    let f = c.args.facility in
-    let ks = c.args.locations.now in
+    let x = c.args.parent.now.node.now in
+    let f = c.args.parent.now.facility in
+    let ks = c.args.parent.now.locations.now in
     let i = c.loop-i.i in
     let h = c.loop-i.invariant in
     let child = c.in_ok-child.ensures in
@@ -61,9 +61,9 @@ pub judge_children-returns-in-Some : goal.judge_children-returns-in-Some
 judge_children-returns-in-Some t c =
     let I = c.args.task.now.ranked.now in
     let g = c.args.task.now.bound in
-    let x = c.args.node.now in
-    let f = c.args.facility in
-    let ks = c.args.locations.now in
+    let x = c.args.parent.now.node.now in
+    let f = c.args.parent.now.facility in
+    let ks = c.args.parent.now.locations.now in
     let i = c.loop-i.i in
     let v = c.args.task.now.grammar.version in
     let n = c.args.task.now.grammar.size in
@@ -83,7 +83,7 @@ judge_children-returns-in-Some t c =
 
 pub judge_children-returns-in_err-behind : goal.judge_children-returns-in_err-behind
 judge_children-returns-in_err-behind t c =
-    let ks = c.args.locations.now in
+    let ks = c.args.parent.now.locations.now in
     let i = c.loop-i.i in
     let h = c.loop-i.invariant in
     let child = c.in_ok-child.ensures in
@@ -91,7 +91,7 @@ judge_children-returns-in_err-behind t c =
     let v = c.args.task.now.grammar.version in
     let n = c.args.task.now.grammar.size in
     let first = BeginsWithTrees-more v n c.args.placed.now i c.args.line c.args.text.now c.loop-i.rest.now c.loop-i.next
-    (AllValid c.args.task.now.ranked.now c.args.task.now.bound c.args.node.now c.args.facility (take i ks)) Any c.in_ok-child.child.rest.now c.in_ok-child.child.next
+    (AllValid c.args.task.now.ranked.now c.args.task.now.bound c.args.parent.now.node.now c.args.parent.now.facility (take i ks)) Any c.in_ok-child.child.rest.now c.in_ok-child.child.next
     (IsToldOf c.args.task.now.ranked.now c.args.task.now.bound (placing c.in_ok-rows.rows.node c.in_ok-rows.rows.facility (get_or ks i 0)) c.loop-i.next c.in_ok-child.child.fault) h child tt in
     let p = err_from_is_err_and c.from_residual-in_err-behind.result c.from_residual-in_err-behind.ensures.1 in
     rw (p.1, p.2) (⊎_elim inl (λ fault. inr (IsFaultBefore-joined v n c.args.placed.now (i + 1) (length ks - i - 1) (length ks) c.args.line c.args.text.now c.in_ok-child.child.rest.now

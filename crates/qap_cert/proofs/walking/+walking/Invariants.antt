@@ -15,4 +15,4 @@ decreases-judge_tree l = 3 * (l.task.now.grammar.size - length l.placed.now) + 1
 abbrev pub invariant-judge_children-loop-i : goal.invariant-judge_children-loop-i
 invariant-judge_children-loop-i l =
     BeginsWithTrees l.task.grammar.version l.task.grammar.size l.placed l.i l.line l.text l.rest l.next
-    (AllValid l.task.ranked.now l.task.bound l.node l.facility (take l.i l.locations))
+    (AllValid l.task.ranked.now l.task.bound l.parent.node.now l.parent.facility (take l.i l.parent.locations.now))
