@@ -97,12 +97,11 @@ fn walk_to_end(
     let ranked = RankedInstance::new(alloc, instance)?;
     let mut rows = NodeRows::new(alloc, &ranked);
     let judge = Judge {
+        alloc,
         instance,
         bound: head.bound,
     };
-    let walked = walk_root(
-        alloc, &mut rows, &judge, &head.root, head.rest, head.line, told,
-    )?;
+    let walked = walk_root(&mut rows, &judge, &head.root, head.rest, head.line, told)?;
     read_end(walked.rest, walked.next)?;
     Ok(walked.fault)
 }

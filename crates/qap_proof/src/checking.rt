@@ -49,11 +49,12 @@ pub fn check(alloc: Global, instance: &Instance, proof: &Proof) -> Result<(), Pr
     let ranked = RankedInstance::new(alloc, instance)?;
     let mut rows = NodeRows::new(alloc, &ranked);
     let judge = Judge {
+        alloc,
         instance,
         bound: proof.bound(),
     };
     let line = proof.tree_line();
-    check_root(alloc, &mut rows, &judge, proof.root(), proof.tree(), line)?;
+    check_root(&mut rows, &judge, proof.root(), proof.tree(), line)?;
     Ok(())
 }
 
@@ -72,7 +73,6 @@ fn check_stated(instance: &Instance, proof: &Proof) -> Result<(), ProofError>
 /// The line behind those of a tree over a root that begins at this line, where it shows that no permutation which completes the
 /// root costs less than the bound; and if not, the first fault of what its nodes say.
 fn check_root(
-    alloc: Global,
     rows: &mut NodeRows<'_>,
     judge: &Judge<'_>,
     node: &Partial,
@@ -91,9 +91,7 @@ fn check_root(
             check_closed(rows, judge, node, duals, line)?;
             Ok(line.saturating_add(1))
         }
-        Tree::Split { split, children } => {
-            check_split(alloc, rows, judge, node, split, children, line)
-        }
+        Tree::Split { split, children } => { check_split(rows, judge, node, split, children, line) }
         Tree::Cut => unreachable!(),
         Tree::Mirrored {
             earlier: _,
@@ -105,7 +103,6 @@ fn check_root(
 /// The same for the child of this number of a split.
 #[cycle(check)]
 fn check_child(
-    alloc: Global,
     rows: &mut NodeRows<'_>,
     judge: &Judge<'_>,
     parent: &Parent<'_>,
@@ -132,7 +129,7 @@ fn check_child(
     match tree {
         Tree::Closed { duals } => check_closed(rows, judge, node, duals, line)?,
         Tree::Split { split, children } => {
-            return check_split(alloc, rows, judge, node, split, children, line);
+            return check_split(rows, judge, node, split, children, line);
         }
         Tree::Cut => check_cut(judge, parent, child, line)?,
         Tree::Mirrored { earlier, image } => {
@@ -145,7 +142,6 @@ fn check_child(
 /// The same for a split, whose own line this is.
 #[cycle(check)]
 fn check_split(
-    alloc: Global,
     rows: &mut NodeRows<'_>,
     judge: &Judge<'_>,
     node: &Partial,
@@ -165,7 +161,7 @@ fn check_split(
         ⊎ IsTreeFault judge.now.instance.now judge.now.bound (whole node.now) line (split_into (split_of split.now) (nodes_of children.now)) e) }
     ensures same { rows.new ≡ rows.old }
 {
-    let values = check_duals(alloc, rows, judge, node, split, line)?;
+    let values = check_duals(rows, judge, node, split, line)?;
     let others = free_others(node, split.side)?;
     let parent = Parent {
         node,
@@ -174,13 +170,12 @@ fn check_split(
         values: &values,
     };
     let first = line.saturating_add(1);
-    check_children(alloc, rows, judge, &parent, children, first)
+    check_children(rows, judge, &parent, children, first)
 }
 
 /// The same for the children of a split, the first of which begins at this line.
 #[cycle(check)]
 fn check_children(
-    alloc: Global,
     rows: &mut NodeRows<'_>,
     judge: &Judge<'_>,
     parent: &Parent<'_>,
@@ -205,7 +200,7 @@ fn check_children(
     let mut next = line;
     for (child, tree) in children.iter().enumerate() {
         let node = child_node(parent.node, parent.split, parent.others, child)?;
-        next = check_child(alloc, rows, judge, parent, child, &node, tree, next)?;
+        next = check_child(rows, judge, parent, child, &node, tree, next)?;
     }
     Ok(next)
 }
@@ -234,7 +229,6 @@ fn check_closed(
 
 /// What the duals of a split, if it has any, come to for each child, where they fit the reduced matrix of the node.
 fn check_duals(
-    alloc: Global,
     rows: &mut NodeRows<'_>,
     judge: &Judge<'_>,
     node: &Partial,
@@ -249,7 +243,7 @@ fn check_duals(
         (λ e. (e ≡ OutOfMemory) ⊎ ((e ≡ Misfit line) × (MayFit judge.now.instance.now node.now (split_of split.now).duals → ⊥))) }
     ensures same { rows.new ≡ rows.old }
 {
-    let judged = judge_split(alloc, rows, judge, node, split, line, None)?;
+    let judged = judge_split(rows, judge, node, split, line, None)?;
     match judged.fault {
         Some(fault) => Err(fault),
         None => Ok(judged.values),

@@ -130,10 +130,11 @@ pub(crate) fn proof_leaves(
 {
     let mut rows = NodeRows::new(alloc, ranked);
     let judge = Judge {
+        alloc,
         instance: ranked.instance(),
         bound: proof.bound(),
     };
-    leaves_of(alloc, &mut rows, &judge, proof.root(), proof.tree())
+    leaves_of(&mut rows, &judge, proof.root(), proof.tree())
 }
 
 /// Raises what those leaves show whose placements have this root's among them, to this bound at least.

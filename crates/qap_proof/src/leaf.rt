@@ -19,7 +19,7 @@ use crate::tree::{Duals, Tree};
 use crate::walking::{Judge, JudgedSplit, Parent, judge_split};
 use gilmore_lawler::{NodeRows, dual_sum};
 use qap_cost::Partial;
-use std::alloc::{AllocError, Global};
+use std::alloc::AllocError;
 
 /// A leaf of a tree: a node that is closed, or a child that is cut. No permutation that completes the node costs less than the value.
 #[derive(Drop)]
@@ -31,7 +31,6 @@ pub struct Leaf {
 
 /// The leaves of a tree over a root which shows that no permutation which completes the root costs less than the bound.
 pub(crate) fn leaves_of(
-    alloc: Global,
     rows: &mut NodeRows<'_>,
     judge: &Judge<'_>,
     root: &Partial,
@@ -43,14 +42,13 @@ pub(crate) fn leaves_of(
     requires rows { rows.old ≡ judge.now.instance.now }
     ensures { IfOk result (λ v. AreLeaves judge.now.instance.now (whole root.now) (node_of tree.now) v.items) }
 {
-    let mut leaves = Vec::new(alloc);
-    push_root(alloc, rows, judge, root, tree, &mut leaves)?;
+    let mut leaves = Vec::new(judge.alloc);
+    push_root(rows, judge, root, tree, &mut leaves)?;
     Ok(leaves)
 }
 
 /// Adds the leaves of the tree over a root.
 fn push_root(
-    alloc: Global,
     rows: &mut NodeRows<'_>,
     judge: &Judge<'_>,
     node: &Partial,
@@ -67,7 +65,7 @@ fn push_root(
     match tree {
         Tree::Closed { duals } => push_closed(judge, node, duals, leaves),
         Tree::Split { split, children } => {
-            push_split(alloc, rows, judge, node, split, children, leaves)
+            push_split(rows, judge, node, split, children, leaves)
         }
         Tree::Cut => unreachable!(),
         Tree::Mirrored {
@@ -80,7 +78,6 @@ fn push_root(
 /// The same for the child of this number of a split.
 #[cycle(leaves)]
 fn push_child(
-    alloc: Global,
     rows: &mut NodeRows<'_>,
     judge: &Judge<'_>,
     parent: &Parent<'_>,
@@ -104,7 +101,7 @@ fn push_child(
     match tree {
         Tree::Closed { duals } => push_closed(judge, node, duals, leaves),
         Tree::Split { split, children } => {
-            push_split(alloc, rows, judge, node, split, children, leaves)
+            push_split(rows, judge, node, split, children, leaves)
         }
         Tree::Cut => push_cut(parent, child, node, leaves),
         Tree::Mirrored {
@@ -117,7 +114,6 @@ fn push_child(
 /// The same for a split.
 #[cycle(leaves)]
 fn push_split(
-    alloc: Global,
     rows: &mut NodeRows<'_>,
     judge: &Judge<'_>,
     node: &Partial,
@@ -135,7 +131,7 @@ fn push_split(
     ensures pushed { OnOk result (AreAllPushed judge.now.instance.now node.now (split_of split.now) (nodes_of children.now) leaves.old.items leaves.new.items) }
     ensures same { rows.new ≡ rows.old }
 {
-    let JudgedSplit { values, fault } = judge_split(alloc, rows, judge, node, split, 0, None)?;
+    let JudgedSplit { values, fault } = judge_split(rows, judge, node, split, 0, None)?;
     match fault {
         None => {
             let others = free_others(node, split.side)?;
@@ -145,7 +141,7 @@ fn push_split(
                 others: &others,
                 values: &values,
             };
-            push_children(alloc, rows, judge, &parent, children, leaves)
+            push_children(rows, judge, &parent, children, leaves)
         }
         Some(_) => unreachable!(),
     }
@@ -154,7 +150,6 @@ fn push_split(
 /// The same for the children of a split.
 #[cycle(leaves)]
 fn push_children(
-    alloc: Global,
     rows: &mut NodeRows<'_>,
     judge: &Judge<'_>,
     parent: &Parent<'_>,
@@ -175,7 +170,7 @@ fn push_children(
 {
     for (child, tree) in children.iter().enumerate() {
         let node = child_node(parent.node, parent.split, parent.others, child)?;
-        push_child(alloc, rows, judge, parent, child, &node, tree, leaves)?;
+        push_child(rows, judge, parent, child, &node, tree, leaves)?;
     }
     Ok(())
 }

@@ -24,9 +24,11 @@ use gilmore_lawler::{NodeRows, fits};
 use qap_cost::{Instance, Partial, Perm};
 use std::alloc::{AllocError, Global};
 
-/// What a tree is judged by: the instance, and the bound that it is to show, in the units of the costs.
+/// What a tree is judged by: the instance, and the bound that it is to show, in the units of the costs; and where the memory for
+/// that comes from.
 #[derive(Clone, Copy)]
 pub(crate) struct Judge<'a> {
+    pub(crate) alloc: Global,
     pub(crate) instance: &'a Instance,
     pub(crate) bound: i128,
 }
@@ -59,7 +61,6 @@ pub(crate) struct JudgedSplit {
 /// Judges the tree at the front of a text, whose first line has this number, for a root. Where a fault was told before, and behind the
 /// first fault of what the lines say, they are judged by how they are spelled alone.
 pub(crate) fn walk_root<'a>(
-    alloc: Global,
     rows: &mut NodeRows<'_>,
     judge: &Judge<'_>,
     node: &Partial,
@@ -73,7 +74,7 @@ pub(crate) fn walk_root<'a>(
         (λ w. BeginsWithTree node.now 0 false line text.now w.rest.now w.next (IsToldOf judge.now.instance.now judge.now.bound (whole node.now) line told w.fault))
         (λ e. (e ≡ ProofError.OutOfMemory) ⊎ IsTreeTextFault (free_count node.now) node.now 0 false line text.now e) }
 {
-    let read = read_node_line(alloc, text, node, 0, false, line)?;
+    let read = read_node_line(judge.alloc, text, node, 0, false, line)?;
     let rest = read.rest;
     let next = line.saturating_add(1);
     match read.line {
@@ -81,40 +82,40 @@ pub(crate) fn walk_root<'a>(
             let fault = judge_closed(rows, judge, node, &duals, line, told)?;
             Ok(Walked { rest, next, fault })
         }
-        NodeLine::Split(split) => { walk_split(alloc, rows, judge, node, &split, rest, line, told) }
+        NodeLine::Split(split) => { walk_split(rows, judge, node, &split, rest, line, told) }
         NodeLine::Cut => unreachable!(),
         NodeLine::Mirrored(_, _) => unreachable!(),
     }
 }
 
-/// The same for the child of this number of a split.
+/// The same for the child of this number of a split, behind the lines that were walked along.
 #[cycle(walking)]
 fn walk_child<'a>(
-    alloc: Global,
     rows: &mut NodeRows<'_>,
     judge: &Judge<'_>,
     parent: &Parent<'_>,
     child: usize,
     node: &Partial,
-    text: &'a [u8],
-    line: u64,
-    told: Option<ProofError>,
+    walked: Walked<'a>,
 ) -> Result<Walked<'a>, ProofError>
-    requires size { told ≡ None → judge.now.instance.now.size ≡ parent.now.node.now.size }
+    requires size { walked.fault ≡ None → judge.now.instance.now.size ≡ parent.now.node.now.size }
     requires split { IsSplit parent.now.node.now (split_of parent.now.split.now) }
     requires placement { IsPlacement parent.now.node.now }
     requires others { parent.now.others.now ≡ others_on parent.now.split.now.side parent.now.node.now }
-    requires reached { told ≡ None → AreReached judge.now.instance.now parent.now.node.now (split_of parent.now.split.now) parent.now.values.now }
+    requires reached { walked.fault ≡ None → AreReached judge.now.instance.now parent.now.node.now (split_of parent.now.split.now) parent.now.values.now }
     requires inside { child < length parent.now.others.now }
     requires node { node.now ≡ child_of parent.now.node.now (split_of parent.now.split.now) child }
     requires rows { rows.old ≡ judge.now.instance.now }
     ensures judged { MatchResult result
-        (λ w. BeginsWithTree node.now child (has (split_of parent.now.split.now).duals) line text.now w.rest.now w.next
-        (IsToldOf judge.now.instance.now judge.now.bound (child_place parent.now.node.now (split_of parent.now.split.now) child) line told w.fault))
-        (λ e. (e ≡ ProofError.OutOfMemory) ⊎ IsTreeTextFault (free_count node.now) node.now child (has (split_of parent.now.split.now).duals) line text.now e) }
+        (λ w. BeginsWithTree node.now child (has (split_of parent.now.split.now).duals) walked.entry.next walked.entry.rest.now w.rest.now w.next
+        (IsToldOf judge.now.instance.now judge.now.bound (child_place parent.now.node.now (split_of parent.now.split.now) child) walked.entry.next walked.entry.fault w.fault))
+        (λ e. (e ≡ ProofError.OutOfMemory) ⊎ IsTreeTextFault (free_count node.now) node.now child (has (split_of parent.now.split.now).duals) walked.entry.next walked.entry.rest.now e) }
     ensures same { rows.new ≡ rows.old }
 {
-    let read = read_node_line(alloc, text, node, child, has_duals(parent.split), line)?;
+    let line = walked.next;
+    let told = walked.fault;
+    let with_duals = has_duals(parent.split);
+    let read = read_node_line(judge.alloc, walked.rest, node, child, with_duals, line)?;
     let rest = read.rest;
     let next = line.saturating_add(1);
     match read.line {
@@ -122,7 +123,7 @@ fn walk_child<'a>(
             let fault = judge_closed(rows, judge, node, &duals, line, told)?;
             Ok(Walked { rest, next, fault })
         }
-        NodeLine::Split(split) => { walk_split(alloc, rows, judge, node, &split, rest, line, told) }
+        NodeLine::Split(split) => { walk_split(rows, judge, node, &split, rest, line, told) }
         NodeLine::Cut => {
             let fault = judge_cut(judge, parent, child, line, told);
             Ok(Walked { rest, next, fault })
@@ -137,7 +138,6 @@ fn walk_child<'a>(
 /// Judges a split, whose line has this number, and its children, the first of which is at the front of the text.
 #[cycle(walking)]
 fn walk_split<'a>(
-    alloc: Global,
     rows: &mut NodeRows<'_>,
     judge: &Judge<'_>,
     node: &Partial,
@@ -155,7 +155,7 @@ fn walk_split<'a>(
         (λ e. (e ≡ ProofError.OutOfMemory) ⊎ IsFaultBefore node.now (split_of split.now) (line_after line 1) text.now e) }
     ensures same { rows.new ≡ rows.old }
 {
-    let judged = judge_split(alloc, rows, judge, node, split, line, told)?;
+    let judged = judge_split(rows, judge, node, split, line, told)?;
     let others = free_others(node, split.side)?;
     let parent = Parent {
         node,
@@ -164,13 +164,12 @@ fn walk_split<'a>(
         values: &judged.values,
     };
     let next = line.saturating_add(1);
-    walk_children(alloc, rows, judge, &parent, text, next, judged.fault)
+    walk_children(rows, judge, &parent, text, next, judged.fault)
 }
 
 /// Judges the children of a split, the first of which is at the front of the text and begins at this line.
 #[cycle(walking)]
 fn walk_children<'a>(
-    alloc: Global,
     rows: &mut NodeRows<'_>,
     judge: &Judge<'_>,
     parent: &Parent<'_>,
@@ -190,17 +189,16 @@ fn walk_children<'a>(
         (λ e. (e ≡ ProofError.OutOfMemory) ⊎ IsFaultBefore parent.now.node.now (split_of parent.now.split.now) line text.now e) }
     ensures same { rows.new ≡ rows.old }
 {
-    let mut rest = text;
-    let mut next = line;
-    let mut fault = told;
+    let mut walked = Walked {
+        rest: text,
+        next: line,
+        fault: told,
+    };
     for child in 0..parent.others.len() {
         let node = child_node(parent.node, parent.split, parent.others, child)?;
-        let walked = walk_child(alloc, rows, judge, parent, child, &node, rest, next, fault)?;
-        rest = walked.rest;
-        next = walked.next;
-        fault = walked.fault;
+        walked = walk_child(rows, judge, parent, child, &node, walked)?;
     }
-    Ok(Walked { rest, next, fault })
+    Ok(walked)
 }
 
 /// The first fault that is told where a closed node follows what was told before, if there is one.
@@ -227,7 +225,6 @@ pub(crate) fn judge_closed(
 /// The first fault that is told where a split follows what was told before, if there is one; and where there is none, what its duals, if
 /// it has any, come to for each child.
 pub(crate) fn judge_split(
-    alloc: Global,
     rows: &mut NodeRows<'_>,
     judge: &Judge<'_>,
     node: &Partial,
@@ -242,7 +239,7 @@ pub(crate) fn judge_split(
     ensures reached { IfOk result (λ j. j.fault ≡ None → AreReached judge.now.instance.now node.now (split_of split.now) j.values.items) }
     ensures same { rows.new ≡ rows.old }
 {
-    let none = Vec::new(alloc);
+    let none = Vec::new(judge.alloc);
     if told.is_some() {
         return Ok(JudgedSplit {
             values: none,
@@ -263,7 +260,7 @@ pub(crate) fn judge_split(
                 });
             }
             let values = child_values(
-                alloc,
+                judge.alloc,
                 judge.instance,
                 &matrix,
                 node,

@@ -30,8 +30,8 @@ walk_child-returns-in_err-read t c =
     let p = err_from_is_err_and c.from_residual.result c.from_residual.ensures.1 in
     rw (p.1, p.2) (record {
       judged = ⊎_elim inl (λ fault. inr (
-          IsTreeTextFault-line (free_count x) x c.args.child (has_duals s.duals) c.args.line c.args.text.now e
-          (subst (λ (b : Bool). IsLineFault c.args.line c.args.text.now (IsNodeFault x c.args.child b c.args.line) e) c.has_duals.ensures fault)))
+          IsTreeTextFault-line (free_count x) x c.args.child (has_duals s.duals) c.args.walked.next c.args.walked.rest.now e
+          (subst (λ (b : Bool). IsLineFault c.args.walked.next c.args.walked.rest.now (IsNodeFault x c.args.child b c.args.walked.next) e) c.has_duals-with_duals.ensures fault)))
           (c.in_err-read.ensures {u = tt});
       same = refl;
     })
@@ -50,13 +50,13 @@ walk_child-returns-in_ok-fault-in-Closed t c =
     let y = c.args.node.now in
     let read = c.in_ok-read.ensures in
     let d = pair_of c.in-Closed.duals in
-    let said : IsNodeLine y c.args.child c.has_duals.result read.line (Closed c.in-Closed.duals) = subst (IsNodeLine y c.args.child c.has_duals.result read.line) c.in-Closed.is read.is_node in
-    let here = subst (λ (m : Duals). IsToldOfClosed I g y c.args.line c.args.told c.in_ok-fault-in-Closed.fault (pair_of m)) c.in-Closed.duals-is c.in_ok-fault-in-Closed.ensures.judged in
-    let told = subst (λ (z : Placement). IsToldOfClosed I g z c.args.line c.args.told c.in_ok-fault-in-Closed.fault d) c.requires.node here in
+    let said : IsNodeLine y c.args.child c.has_duals-with_duals.result read.line (Closed c.in-Closed.duals) = subst (IsNodeLine y c.args.child c.has_duals-with_duals.result read.line) c.in-Closed.is read.is_node in
+    let here = subst (λ (m : Duals). IsToldOfClosed I g y c.args.walked.next c.args.walked.fault c.in_ok-fault-in-Closed.fault (pair_of m)) c.in-Closed.duals-is c.in_ok-fault-in-Closed.ensures.judged in
+    let told = subst (λ (z : Placement). IsToldOfClosed I g z c.args.walked.next c.args.walked.fault c.in_ok-fault-in-Closed.fault d) c.requires.node here in
     record {
-      judged = BeginsWithTree-line y c.args.child (has_duals s.duals) c.args.line c.args.text.now read.line c.in_ok-read.read.rest.now (codes "b") (d.u ++ d.v) c.saturating_add-next.result
-          (IsToldOf I g (child x s c.args.child) c.args.line c.args.told c.in_ok-fault-in-Closed.fault) (closed d) said.0 refl refl read.is said.1 c.saturating_add-next.ensures
-          (IsToldOf-closed I g (child x s c.args.child) c.args.line c.args.told c.in_ok-fault-in-Closed.fault d told);
+      judged = BeginsWithTree-line y c.args.child (has_duals s.duals) c.args.walked.next c.args.walked.rest.now read.line c.in_ok-read.read.rest.now (codes "b") (d.u ++ d.v) c.saturating_add-next.result
+          (IsToldOf I g (child x s c.args.child) c.args.walked.next c.args.walked.fault c.in_ok-fault-in-Closed.fault) (closed d) said.0 refl refl read.is said.1 c.saturating_add-next.ensures
+          (IsToldOf-closed I g (child x s c.args.child) c.args.walked.next c.args.walked.fault c.in_ok-fault-in-Closed.fault d told);
       same = c.in_ok-fault-in-Closed.ensures.same;
     }
 
@@ -70,16 +70,16 @@ walk_child-returns-in-Split t c =
     let read = c.in_ok-read.ensures in
     let inner = split_of c.in-Split.split in
     let rest = c.in_ok-read.read.rest.now in
-    let said : IsNodeLine y c.args.child c.has_duals.result read.line (SplitsAt c.in-Split.split) = subst (IsNodeLine y c.args.child c.has_duals.result read.line) c.in-Split.is read.is_node in
+    let said : IsNodeLine y c.args.child c.has_duals-with_duals.result read.line (SplitsAt c.in-Split.split) = subst (IsNodeLine y c.args.child c.has_duals-with_duals.result read.line) c.in-Split.is read.is_node in
     record {
       judged = map_result _ _ _ _ c.walk_split.result
-          (λ w h. BeginsWithTree-split y c.args.child (has_duals s.duals) c.args.line c.args.text.now read.line rest w.rest.now w.next inner
-          (IsToldOf I g (child x s c.args.child) c.args.line c.args.told w.fault) (IsToldOfSplit I g y inner c.args.line c.args.told w.fault) said.0 read.is said.1 h
-          (IsToldOf-split_at I g (child x s c.args.child) y c.args.line c.args.told w.fault inner h.trees c.requires.node said.0 h.counted h.holds))
-          (λ e. ⊎_elim inl (λ fault. inr (IsTreeTextFault-among y c.args.child (has_duals s.duals) c.args.line c.args.text.now read.line rest inner e said.0 read.is said.1 fault)))
+          (λ w h. BeginsWithTree-split y c.args.child (has_duals s.duals) c.args.walked.next c.args.walked.rest.now read.line rest w.rest.now w.next inner
+          (IsToldOf I g (child x s c.args.child) c.args.walked.next c.args.walked.fault w.fault) (IsToldOfSplit I g y inner c.args.walked.next c.args.walked.fault w.fault) said.0 read.is said.1 h
+          (IsToldOf-split_at I g (child x s c.args.child) y c.args.walked.next c.args.walked.fault w.fault inner h.trees c.requires.node said.0 h.counted h.holds))
+          (λ e. ⊎_elim inl (λ fault. inr (IsTreeTextFault-among y c.args.child (has_duals s.duals) c.args.walked.next c.args.walked.rest.now read.line rest inner e said.0 read.is said.1 fault)))
           (subst (λ (m : SplitLine). MatchResult c.walk_split.result
-          (λ w. BeginsWithTrees y (split_of m) (free_count y) (line_after c.args.line 1) rest w.rest.now w.next (IsToldOfSplit I g y (split_of m) c.args.line c.args.told w.fault))
-          (λ e. (e ≡ OutOfMemory) ⊎ IsFaultBefore y (split_of m) (line_after c.args.line 1) rest e)) c.in-Split.split-is c.walk_split.ensures.judged);
+          (λ w. BeginsWithTrees y (split_of m) (free_count y) (line_after c.args.walked.next 1) rest w.rest.now w.next (IsToldOfSplit I g y (split_of m) c.args.walked.next c.args.walked.fault w.fault))
+          (λ e. (e ≡ OutOfMemory) ⊎ IsFaultBefore y (split_of m) (line_after c.args.walked.next 1) rest e)) c.in-Split.split-is c.walk_split.ensures.judged);
       same = c.walk_split.ensures.same;
     }
 
@@ -104,8 +104,8 @@ walk_children-returns-in_err-walked t c =
     let p = err_from_is_err_and c.from_residual-in_err-walked.result c.from_residual-in_err-walked.ensures.1 in
     rw (p.1, p.2) (record {
       judged = ⊎_elim inl (λ fault. inr (
-          IsFaultBefore-at x s i c.args.line c.args.text.now c.loop-child.rest.now c.loop-child.next (IsToldOfAll I g x s c.args.line c.args.told c.loop-child.fault) e c.loop-child.invariant.0 few
-          (subst (λ (y : Placement). IsTreeTextFault (free_count y) y i (has_duals s.duals) c.loop-child.next c.loop-child.rest.now e) c.in_ok-node.ensures fault)))
+          IsFaultBefore-at x s i c.args.line c.args.text.now c.loop-child.walked.rest.now c.loop-child.walked.next (IsToldOfAll I g x s c.args.line c.args.told c.loop-child.walked.fault) e c.loop-child.invariant.0 few
+          (subst (λ (y : Placement). IsTreeTextFault (free_count y) y i (has_duals s.duals) c.loop-child.walked.next c.loop-child.walked.rest.now e) c.in_ok-node.ensures fault)))
           (c.in_err-walked.ensures {u = tt}).judged;
       same = c.walk_child.ensures.same ∙ c.loop-child.invariant.1 ∙ sym c.requires.rows;
     })
@@ -119,12 +119,12 @@ walk_children-loop-child-preserved t c =
     let i = c.loop-child.child in
     let h = c.loop-child.invariant.0 in
     let walked = c.in_ok-walked.walked in
-    let told = IsToldOf I g (child x s i) c.loop-child.next c.loop-child.fault walked.fault in
-    let k : BeginsWithTree (child_of x s i) i (has_duals s.duals) c.loop-child.next c.loop-child.rest.now walked.rest.now walked.next told =
-    subst (λ (y : Placement). BeginsWithTree y i (has_duals s.duals) c.loop-child.next c.loop-child.rest.now walked.rest.now walked.next told) c.in_ok-node.ensures c.in_ok-walked.ensures.judged in (
-      BeginsWithTrees-more x s i c.args.line c.args.text.now c.loop-child.rest.now c.loop-child.next (IsToldOfAll I g x s c.args.line c.args.told c.loop-child.fault)
+    let told = IsToldOf I g (child x s i) c.loop-child.walked.next c.loop-child.walked.fault walked.fault in
+    let k : BeginsWithTree (child_of x s i) i (has_duals s.duals) c.loop-child.walked.next c.loop-child.walked.rest.now walked.rest.now walked.next told =
+    subst (λ (y : Placement). BeginsWithTree y i (has_duals s.duals) c.loop-child.walked.next c.loop-child.walked.rest.now walked.rest.now walked.next told) c.in_ok-node.ensures c.in_ok-walked.ensures.judged in (
+      BeginsWithTrees-more x s i c.args.line c.args.text.now c.loop-child.walked.rest.now c.loop-child.walked.next (IsToldOfAll I g x s c.args.line c.args.told c.loop-child.walked.fault)
           (IsToldOfAll I g x s c.args.line c.args.told walked.fault) walked.rest.now walked.next told h k
-          (IsToldOfAll-more I g x s c.args.line c.args.told c.loop-child.fault walked.fault i c.loop-child.next h.trees k.tree h.counted (omega (arith, c.ranges.line.fits)) h.next_is h.holds k.holds),
+          (IsToldOfAll-more I g x s c.args.line c.args.told c.loop-child.walked.fault walked.fault i c.loop-child.walked.next h.trees k.tree h.counted (omega (arith, c.ranges.line.fits)) h.next_is h.holds k.holds),
       c.in_ok-walked.ensures.same ∙ c.loop-child.invariant.1,
     )
 

@@ -15,5 +15,5 @@ decreases-walk_children l = 3 * free_count l.parent.now.node.now
 
 abbrev pub invariant-walk_children-loop-child : goal.invariant-walk_children-loop-child
 invariant-walk_children-loop-child l =
-    (BeginsWithTrees l.parent.node.now (split_of l.parent.split.now) l.child l.line l.text l.rest l.next
-    (IsToldOfAll l.judge.instance.now l.judge.bound l.parent.node.now (split_of l.parent.split.now) l.line l.fn.told l.fault)) × (l.rows ≡ l.judge.instance.now)
+    (BeginsWithTrees l.parent.node.now (split_of l.parent.split.now) l.child l.line l.text l.walked.rest.now l.walked.next
+    (IsToldOfAll l.judge.instance.now l.judge.bound l.parent.node.now (split_of l.parent.split.now) l.line l.fn.told l.walked.fault)) × (l.rows ≡ l.judge.instance.now)
