@@ -1,7 +1,6 @@
 -- When the first lease ends.
 use Rattle.std.proofs.Common.{◌≡◌, ℕ, ◌+◌, ◌<◌, ◌≤◌, Bool, true, List, [], ◌∷◌, get_or, refl, sym, ap, ◌∙◌, cond, eqb, ltb, arith}
 use Rattle.std.specs.Prelude.{All, filter, map}
-use Rattle.std.specs.List.{AllWithin}
 use Rattle.std.proofs.lemmas.Bool.{cond-false, cond-true, cond_both, le-ltb, lt-ltb, or_left}
 use Rattle.std.proofs.lemmas.List.Elements.{All-filter, All-head, All-map, All-push, All-tail}
 use Rattle.tuple_match.specs.FieldValue.{FieldValue}
@@ -22,9 +21,6 @@ live_before_less (At end) m n le h = omega arith
 
 pub live_less : (m n : ℕ) (es : List Entry) → m ≤ n → AreLiveBefore n es → AreLiveBefore m es
 live_less m n es le h = λ k d lt. live_before_less (get_or es k d).end m n le (h k d lt)
-
-pub live_within_less : (m n : ℕ) (es : List Entry) (i : ℕ) → m ≤ n → AllWithin (λ e. IsLiveBefore n e.end) es 0 i → AllWithin (λ e. IsLiveBefore m e.end) es 0 i
-live_within_less m n es i le h = λ k d from to. live_before_less (get_or es k d).end m n le (h k d from to)
 
 pub live_later : (n : ℕ) (end other : LeaseEnd) → IsLiveBefore n end → IsLiveBefore n (later end other)
 live_later n Never other h = tt

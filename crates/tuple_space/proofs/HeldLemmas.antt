@@ -34,13 +34,6 @@ numbers_mine holder r rs mine = ap (map (λ (x : Held). x.entry)) (cond-true (eq
 pub numbers_other : (holder : ℕ) (r : Held) (rs : List Held) → eqb r.by holder ≡ false → numbers_by holder (r ∷ rs) ≡ numbers_by holder rs
 numbers_other holder r rs other = ap (map (λ (x : Held). x.entry)) (cond-false (eqb r.by holder) (r ∷ filter (λ (x : Held). eqb x.by holder) rs) (filter (λ (x : Held). eqb x.by holder) rs) other)
 
--- behind the same row stand the same numbers where those behind it are the same
-numbers_same : (holder : ℕ) (r : Held) (rs qs : List Held) → numbers_by holder rs ≡ numbers_by holder qs → numbers_by holder (r ∷ rs) ≡ numbers_by holder (r ∷ qs)
-numbers_same holder r rs qs same = ⊎_elim
-    (λ mine. numbers_mine holder r rs mine ∙ ap (λ l. r.entry ∷ l) same ∙ sym (numbers_mine holder r qs mine))
-    (λ other. numbers_other holder r rs other ∙ same ∙ sym (numbers_other holder r qs other))
-    (cases_Bool (eqb r.by holder))
-
 -- what holds of a row's number and of those behind it
 numbers_all : (P : ℕ → Type 0) (holder : ℕ) (r : Held) (rs : List Held) → (eqb r.by holder ≡ true → P r.entry) → All P (numbers_by holder rs) → All P (numbers_by holder (r ∷ rs))
 numbers_all P holder r rs here rest = ⊎_elim

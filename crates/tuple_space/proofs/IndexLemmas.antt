@@ -273,14 +273,8 @@ classless k tuple none =
     ap (λ o. (eqb (length tuple) k.count && is_word o k.word) && eqb (second_length tuple) k.length) (sym none)
     ∙ ap (λ b. b && eqb (second_length tuple) k.length) (and_false (eqb (length tuple) k.count))
 
-added_other : (k : Class) (tuple : List FieldValue) (n : ℕ) (ns : List ℕ) → has_class k tuple ≡ false → ns ≡ ns ++ cond (has_class k tuple) (n ∷ []) []
-added_other k tuple n ns other = sym (ap (λ c. ns ++ cond c (n ∷ []) []) other ∙ append-nil ns)
-
 dropped_other : (k : Class) (tuple : List FieldValue) (n : ℕ) (ns : List ℕ) → has_class k tuple ≡ false → ns ≡ filter (λ m. not (has_class k tuple && eqb m n)) ns
 dropped_other k tuple n ns other = sym (ap (λ c. filter (λ m. not (c && eqb m n)) ns) other ∙ filter_all ns)
-
-pub added_classless : (bs : List Bucket) (tuple : List FieldValue) (n : ℕ) → None ≡ first_word tuple → IsAdded tuple n bs bs
-added_classless bs tuple n none = λ k. added_other k tuple n (numbers_of k bs) (classless k tuple none)
 
 pub dropped_classless : (bs : List Bucket) (tuple : List FieldValue) (n : ℕ) → None ≡ first_word tuple → IsDropped tuple n bs bs
 dropped_classless bs tuple n none = λ k. dropped_other k tuple n (numbers_of k bs) (classless k tuple none)
@@ -346,12 +340,6 @@ rising_there bs i b tuple bytes first h rising =
     let k : Class = record { word = bytes; count = length tuple; length = second_length tuple } in
     subst AreRising (numbers_there k bytes (length tuple) bs i b h h.of) (rising k)
 
-pub same_order : (old new : List Bucket) → AreSame old new → AreOrdered old → AreOrdered new
-same_order old new same rising = λ k. subst AreRising (sym (same k)) (rising k)
-
-pub same_put : (old new : List Bucket) → AreSame old new → (k : Class) (n : ℕ) → is_put k n new ≡ is_put k n old
-same_put old new same = λ k n. ap (is_among n) (same k)
-
 pub dropped_order : (tuple : List FieldValue) (n : ℕ) (old new : List Bucket) → IsDropped tuple n old new → AreOrdered old → AreOrdered new
 dropped_order tuple n old new gone rising = λ k.
     subst AreRising (sym (gone k)) (AllPairs-filter (λ (x y : ℕ). x < y) (λ m. not (has_class k tuple && eqb m n)) (numbers_of k old) (rising k))
@@ -387,12 +375,6 @@ added_up tuple last m old new less put h = record {
     ends true ns most = All-push (λ n. n ≤ m) ns m (λ k d lt. let up = most k d lt in omega arith) (omega arith)
     ends false ns most = subst (All (λ n. n ≤ m)) (sym (append-nil ns)) (λ k d lt. let up = most k d lt in omega arith)
 
-pub up_more : (last m : ℕ) (old new : List Bucket) → last ≤ m → AreSame old new → AreUpTo last old → AreUpTo m new
-up_more last m old new le same h = record {
-  rising = same_order old new same h.rising;
-  most = λ k. subst (All (λ n. n ≤ m)) (sym (same k)) (λ j d lt. let up = h.most k j d lt in omega arith);
-}
-
 -- no entry's number is above the one last given, and so none that stands under a class
 most_of : (last n : ℕ) (k : Class) (es : List Entry) → All (λ (e : Entry). (0 < e.number) × (e.number ≤ last)) es → is_numbered k n es ≡ true → n ≤ last
 most_of last n k [] h is = absurd (false≢true is)
@@ -407,13 +389,6 @@ pub indexed_up : (last : ℕ) (bs : List Bucket) (es : List Entry) → All (λ (
 indexed_up last bs es numbered h = record {
   rising = h.rising;
   most = λ k i d lt. most_of last (get_or (numbers_of k bs) i d) k es numbered (sym (h.exact k _) ∙ among_at (numbers_of k bs) i d lt);
-}
-
-pub indexed_same : (old new : List Bucket) (es : List Entry) → AreSame old new → AreOnce new → AreIndexed old es → AreIndexed new es
-indexed_same old new es same once h = record {
-  once = once;
-  rising = same_order old new same h.rising;
-  exact = λ k n. same_put old new same k n ∙ h.exact k n;
 }
 
 -- the entry at a place is taken out
@@ -450,20 +425,6 @@ indexed_map change same_number same_tuple buckets es h = record {
     by : (k : Class) (n : ℕ) (xs : List Entry) → is_numbered k n xs ≡ is_numbered k n (map change xs)
     by k n [] = refl
     by k n (x ∷ xs) = rw (same_number x, same_tuple x) (ap (λ b. (eqb x.number n && has_class k x.tuple) || b) (by k n xs))
-
--- the entry at a place does
-pub indexed_set : (buckets : List Bucket) (es : List Entry) (i : ℕ) (x y : Entry) → x ≡ get_or es i x → y.number ≡ x.number → y.tuple ≡ x.tuple → AreIndexed buckets es
-    → AreIndexed buckets (set es i y)
-indexed_set buckets es i x y is same_number same_tuple h = record {
-  once = h.once;
-  rising = h.rising;
-  exact = λ k n. h.exact k n ∙ by k n es i is;
-}
-  where
-    by : (k : Class) (n : ℕ) (xs : List Entry) (j : ℕ) → x ≡ get_or xs j x → is_numbered k n xs ≡ is_numbered k n (set xs j y)
-    by k n [] j at = refl
-    by k n (z ∷ zs) zero at = rw (same_number, same_tuple) (ap (λ (e : Entry). (eqb e.number n && has_class k e.tuple) || is_numbered k n zs) (sym at))
-    by k n (z ∷ zs) (suc j) at = ap (λ b. (eqb z.number n && has_class k z.tuple) || b) (by k n zs j at)
 
 -- an entry of a number is changed in other things
 pub changed_tuple : (n : ℕ) (change : Entry → Entry) → ((e : Entry) → (change e).tuple ≡ e.tuple) → (e : Entry) → (cond (eqb e.number n) (change e) e).tuple ≡ e.tuple

@@ -1,6 +1,7 @@
 pub mod Ends
 pub mod Entries
 pub mod Entry
+pub mod Hasher
 pub mod Held
 pub mod Holds
 pub mod Index

@@ -10,6 +10,7 @@ ghost use Rattle.tuple_space.specs.Space.{held_by};
 
 use crate::admission::is_there;
 use crate::entry::Entry;
+use crate::hasher::NumberHasher;
 use crate::hold::Hold;
 use crate::lease::LeaseEnd;
 use indexmap::IndexMap;
@@ -21,7 +22,7 @@ use std::marker::Model;
 /// of one that leaves, so that none takes time for those behind it.
 #[derive(Debug, Drop)]
 pub(crate) struct Entries {
-    by_number: IndexMap<u64, Entry>,
+    by_number: IndexMap<u64, Entry, NumberHasher>,
 }
 
 impl Model for Entries {
@@ -41,7 +42,7 @@ impl Entries {
         ensures { result.items ≡ [] }
     {
         Entries {
-            by_number: IndexMap::new(alloc),
+            by_number: IndexMap::with_hasher(alloc, NumberHasher::new()),
         }
     }
 

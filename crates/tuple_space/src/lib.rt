@@ -9,6 +9,7 @@ mod ends;
 mod entries;
 mod entry;
 mod error;
+mod hasher;
 mod held;
 mod hold;
 mod holding;

@@ -1,0 +1,58 @@
+//! Hashes of numbers, by which numbers that follow each other lie side by side.
+
+ghost use Rattle.std.specs.Prelude.{◌≡◌};
+ghost use Rattle.tuple_space.specs.Hasher as hashing;
+
+use std::hash::{BuildHasher, Hasher};
+
+/// How many numbers in a row have the same place in a table, whose place holds twelve.
+const IN_A_ROW: u64 = 4;
+
+/// The fraction of the golden ratio in 64 bits, which is odd: multiples of it are spread well (Knuth, The Art of Computer Programming,
+/// volume 3, section 6.4).
+const MULTIPLIER: u64 = 0x9e37_79b9_7f4a_7c15;
+
+/// Hashes a number so that a map finds it in the line of memory in which it finds the three beside it, and those in a line apart
+/// from other four. A space puts out and takes entries whose numbers follow each other, so these are found with fewer looks into
+/// memory that another processor wrote last. Which hash a number has is no matter of an answer.
+#[derive(Clone, Copy, Debug)]
+pub(crate) struct NumberHasher {
+    hash: u64,
+}
+
+impl NumberHasher {
+    /// One that has hashed nothing.
+    pub(crate) fn new() -> NumberHasher {
+        NumberHasher { hash: 0 }
+    }
+}
+
+impl BuildHasher for NumberHasher {
+    type Hasher = NumberHasher;
+
+    ghost build_hasher = { λ builder. builder };
+
+    fn build_hasher(&self) -> NumberHasher {
+        *self
+    }
+}
+
+impl Hasher for NumberHasher {
+    ghost write = { hashing.write };
+
+    ghost finish = { λ hasher. hasher.hash };
+
+    fn finish(&self) -> u64 {
+        self.hash
+    }
+
+    /// The hash of the number that the first eight bytes are, the lowest first.
+    fn write(&mut self, bytes: &[u8]) {
+        let Some(bytes) = bytes.first_chunk::<8>() else {
+            return;
+        };
+        let number = u64::from_le_bytes(*bytes);
+        let spread = (number / IN_A_ROW).wrapping_mul(MULTIPLIER) >> 32;
+        self.hash = spread ^ (number % IN_A_ROW) << 30;
+    }
+}
