@@ -8,12 +8,12 @@ ghost use Rattle.qap_plan.specs.Starting.{starting_of};
 
 use crate::answer::answer_text;
 use crate::error::PlanError;
+use crate::keeper::Keeper;
 use crate::options::Options;
 use crate::planning::{Planned, search};
 use crate::reading::read_problem;
 use crate::starting::read_start;
 use qap_io::{Counted, send};
-use qap_search::{Clock, Observer, Stop};
 use std::alloc::Global;
 use std::io::{Read, Write};
 use std::sync::Wait;
@@ -22,23 +22,21 @@ use std::time;
 
 /// Reads an instance, and a start where there is a reader of one, searches it, and writes the best permutation found, with what is proved of its cost; what the search has come
 /// to is answered too. Where there is no answer, nothing is written; where the writer fails, a beginning of the text has gone out.
-pub fn plan_stream<T, R, Q, W, C, S>(
+pub fn plan_stream<T, R, Q, W, K>(
     system: &T,
     alloc: Global,
     reader: &mut Counted<R>,
     start: &mut Option<Counted<Q>>,
     writer: &mut Counted<W>,
     options: &Options,
-    clock: &C,
-    stop: &S,
+    keeper: &K,
 ) -> Result<Planned, PlanError>
 where
     T: Threads + Wait + time::Clock + Sync,
     R: Read,
     Q: Read,
     W: Write,
-    C: Clock,
-    S: Stop + Observer,
+    K: Keeper,
     requires { AreLimited options.now }
     ensures { let i = input_of R.remaining reader.old reader.new in let s = starting_of Q.remaining start.old start.new in MatchResult result
         (HasAnswered i s options.now.passes W.contents writer.old writer.new)
@@ -46,7 +44,7 @@ where
 {
     let instance = read_problem(alloc, reader, options.passes)?;
     let start = read_start(alloc, start, &instance)?;
-    let found = search(system, alloc, &instance, start, options, clock, stop)?;
+    let found = search(system, alloc, &instance, start, options, keeper)?;
     let text = answer_text(alloc, &found.permutation, found.cost, found.bound)?;
     send(writer, &text)?;
     Ok(found)

@@ -7,6 +7,7 @@ ghost use Rattle.qap_plan.specs.Options.{AreLimited};
 ghost use Rattle.qap_plan.specs.Starting.{starting_of};
 
 use crate::error::PlanError;
+use crate::keeper::Keeper;
 use crate::keeping::search_keeping;
 use crate::options::Options;
 use crate::planning::Planned;
@@ -14,7 +15,6 @@ use crate::starting::read_start;
 use plan_answer::answer_text;
 use plan_file::NamedProblem;
 use qap_io::{Counted, send};
-use qap_search::{Clock, Observer, Stop};
 use std::alloc::Global;
 use std::io::{Read, Write};
 use std::sync::Wait;
@@ -24,22 +24,20 @@ use std::time;
 /// Searches the arrangements of a problem with names that keep what is fixed, from a start where there is a reader of one, and writes where each department stands and what is proved of
 /// the cost, in the plan's own units; what the search has come to is answered too. Where there is no answer, nothing is written; where the writer
 /// fails, a beginning of the text has gone out.
-pub fn plan_named<T, Q, W, C, S>(
+pub fn plan_named<T, Q, W, K>(
     system: &T,
     alloc: Global,
     problem: &NamedProblem,
     start: &mut Option<Counted<Q>>,
     writer: &mut Counted<W>,
     options: &Options,
-    clock: &C,
-    stop: &S,
+    keeper: &K,
 ) -> Result<Planned, PlanError>
 where
     T: Threads + Wait + time::Clock + Sync,
     Q: Read,
     W: Write,
-    C: Clock,
-    S: Stop + Observer,
+    K: Keeper,
     requires limited { AreLimited options.now }
     requires sizes { HasSizes problem.now }
     ensures { let s = starting_of Q.remaining start.old start.new in MatchResult result
@@ -54,8 +52,7 @@ where
         &problem.fixed,
         start,
         options,
-        clock,
-        stop,
+        keeper,
     )?;
     let text = answer_text(alloc, problem, &found.permutation, found.cost, found.bound)?;
     send(writer, &text)?;

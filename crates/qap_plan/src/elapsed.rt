@@ -1,5 +1,6 @@
 //! The time that a run has taken: the clock of its search, and what stops it.
 
+use crate::keeper::Keeper;
 use qap_search::{Clock, Observer, Progress, Stop};
 use std::time::{self, Instant};
 
@@ -56,4 +57,10 @@ impl<T: time::Clock> Observer for Elapsed<'_, T> {
     }
 
     fn see(&self, _progress: &Progress) {}
+}
+
+impl<T: time::Clock> Keeper for Elapsed<'_, T> {
+    fn resident_bytes(&self) -> Option<u64> {
+        None
+    }
 }

@@ -6,13 +6,13 @@ ghost use Rattle.qap_cost.specs.Placement.{Completes};
 ghost use Rattle.qap_plan.specs.Keeping.{IsKept, IsNoDearerKept, IsSearched, ProvesKept};
 ghost use Rattle.qap_plan.specs.Options.{AreLimited};
 
+use crate::keeper::Keeper;
+use crate::memory_limit::WithinMemory;
 use crate::options::Options;
-use crate::planning::{LEASE_MS, Planned, improved, planned_by, proved_by};
+use crate::planning::{Planned, improved, planned_by, proved_by};
 use plan_fixed::{ascending, completed, completes};
 use qap_cost::{Instance, Partial, Perm, cost};
-use qap_search::{
-    Always, Branching, Clock, Observer, Plan, Stop, identity, prove_from, solve_least_from,
-};
+use qap_search::{Always, Branching, Pace, Plan, Stop, identity, prove_from, solve_least_from};
 use std::alloc::{AllocError, Global};
 use std::sync::Wait;
 use std::thread::Threads;
@@ -20,20 +20,18 @@ use std::time;
 
 /// Searches the permutations that complete a node, from the start or any of them, until no node is open, or the limit of nodes is reached, or the stop is
 /// wanted, and where memory ends.
-pub fn search_keeping<T, C, S>(
+pub fn search_keeping<T, K>(
     system: &T,
     alloc: Global,
     instance: &Instance,
     fixed: &Partial,
     start: Option<Perm>,
     options: &Options,
-    clock: &C,
-    stop: &S,
+    keeper: &K,
 ) -> Result<Planned, AllocError>
 where
     T: Threads + Wait + time::Clock + Sync,
-    C: Clock,
-    S: Stop + Observer,
+    K: Keeper,
     requires limited { AreLimited options.now }
     requires start { IfSome start (Permutes instance.now) }
     requires size { fixed.now.size ≡ instance.now.size }
@@ -41,21 +39,24 @@ where
     ensures proof { IfOk result (λ x. IfSome x.proof (ProvesKept instance.now fixed.now x.permutation x.cost x.bound)) }
 {
     let root = ascending(alloc, fixed)?;
-    let first = kept_start(alloc, instance, fixed, start, options, stop)?;
+    let first = kept_start(alloc, instance, fixed, start, options, keeper)?;
+    let within = WithinMemory::new(keeper, options.allowed_bytes());
+    let pace = Pace {
+        clock: &within,
+        gate: &Always,
+    };
     let plan = Plan {
-        workers: options.workers,
-        lease_ms: LEASE_MS,
-        limit: options.limit(instance.size()),
+        crew: options.crew(instance.size()),
         root: &root,
         start: &first,
         branching: Branching::Cutting,
     };
     if options.proves {
-        let found = prove_from(system, alloc, instance, &plan, clock, &Always, stop, stop)?;
+        let found = prove_from(system, alloc, instance, &plan, &pace, &within, &within)?;
         let found = proved_by(found)?;
         return Ok(kept_or_first(instance, fixed, first, found));
     }
-    let found = solve_least_from(system, alloc, instance, &plan, clock, &Always, stop, stop)?;
+    let found = solve_least_from(system, alloc, instance, &plan, &pace, &within, &within)?;
     Ok(kept_or_first(instance, fixed, first, planned_by(found)))
 }
 

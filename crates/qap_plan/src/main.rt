@@ -16,8 +16,10 @@ mod error;
 mod instance_file;
 mod json;
 mod judged_files;
+mod keeper;
 mod keeping;
 mod loading;
+mod memory_limit;
 mod node_lines;
 mod options;
 mod part_command;
@@ -28,6 +30,7 @@ mod planning;
 mod progress;
 mod proof_file;
 mod reading;
+mod resident;
 mod show_command;
 mod show_run;
 mod split_command;
@@ -50,13 +53,13 @@ use convert_run::run_convert;
 use elapsed::Elapsed;
 use error::PlanError;
 use json::json_text;
+use keeper::Keeper;
 use part_run::run_part;
 use plan_run::{is_plan, solve_plan};
 use planning::Planned;
 use progress::{Teller, telling_of};
 use proof_file::write_proof;
 use qap_io::{Counted, Status};
-use qap_search::{Observer, Stop};
 use show_run::run_show;
 use split_run::run_split;
 use std::alloc::Global;
@@ -74,6 +77,8 @@ use whole_file::write_whole;
 mod convert_tests;
 #[cfg(test)]
 mod judging_tests;
+#[cfg(test)]
+mod memory_limit_tests;
 #[cfg(test)]
 mod part_tests;
 #[cfg(test)]
@@ -157,14 +162,10 @@ where
     let alloc = rt.alloc();
     let answer = if request.quiet {
         let output = Vec::new(alloc);
-        answer_to(
-            system, alloc, request, &elapsed, &teller, file, start, output,
-        )
+        answer_to(system, alloc, request, &teller, file, start, output)
     } else {
         let output = rt.stdout();
-        answer_to(
-            system, alloc, request, &elapsed, &teller, file, start, output,
-        )
+        answer_to(system, alloc, request, &teller, file, start, output)
     };
     teller.finish();
     match answer {
@@ -196,20 +197,18 @@ pub(crate) fn start_of<'a, R: Files>(
 }
 
 /// Solves the instance of a file, from the start of another one, and writes the answer.
-fn answer_to<T, C, S, R, W>(
+fn answer_to<T, K, R, W>(
     system: &T,
     alloc: Global,
     request: &Request<'_>,
-    clock: &C,
-    stop: &S,
+    keeper: &K,
     file: R,
     mut start: Option<Counted<R>>,
     output: W,
 ) -> Result<Planned, PlanError>
 where
     T: Threads + Wait + Clock + Sync,
-    C: qap_search::Clock,
-    S: Stop + Observer,
+    K: Keeper,
     R: Read + Drop,
     W: Write + Drop,
     requires { AreLimited request.now.options }
@@ -221,8 +220,7 @@ where
         &mut start,
         &mut Counted::new(output),
         &request.options,
-        clock,
-        stop,
+        keeper,
     )
 }
 

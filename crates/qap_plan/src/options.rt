@@ -1,12 +1,17 @@
 //! How an instance is to be searched.
 
-ghost use Rattle.std.specs.Prelude.{◌<◌};
+ghost use Rattle.std.specs.Prelude.{◌≡◌, ◌<◌};
+
+use qap_search::Crew;
 
 /// The most workers.
 pub const MAX_WORKERS: u16 = 64;
 
 /// The most nodes that a limit may allow.
 pub const MAX_NODES: u64 = 1 << 62;
+
+/// For how many milliseconds a worker's transaction is leased: ten minutes.
+const LEASE_MS: u64 = 600_000;
 
 /// What a decided node takes beside its numbers, in bytes.
 const NODE_BYTES: u64 = 300;
@@ -26,7 +31,7 @@ pub struct Options {
     pub nodes: Option<u64>,
     /// After how many seconds the search stops.
     pub seconds: Option<u64>,
-    /// How many megabytes the search may take.
+    /// How many megabytes the program may have while it searches.
     pub memory: Option<u64>,
     /// How many exchanges a tabu search makes before the search for a proof begins.
     pub improve: u64,
@@ -39,14 +44,30 @@ pub struct Options {
 }
 
 impl Options {
+    /// Who works on the search of an instance of this size, and how far.
+    pub fn crew(&self, size: usize) -> Crew
+        ensures { result.workers ≡ self.now.workers }
+    {
+        Crew {
+            workers: self.workers,
+            lease_ms: LEASE_MS,
+            limit: self.limit(size),
+        }
+    }
+
     /// After how many decided nodes the search of an instance of this size stops: where it may take so much memory, after as many as are
     /// expected to take it.
-    pub fn limit(&self, size: usize) -> Option<u64> {
+    fn limit(&self, size: usize) -> Option<u64> {
         let Some(megabytes) = self.memory else {
             return self.nodes;
         };
         let within = megabytes.saturating_mul(1 << 20) / self.bytes_of_node(size);
         Some(self.nodes.map_or(within, |nodes| nodes.min(within)))
+    }
+
+    /// How many bytes of memory the program may have while it searches.
+    pub fn allowed_bytes(&self) -> Option<u64> {
+        Some(self.memory?.saturating_mul(1 << 20))
     }
 
     /// How many bytes a decided node is expected to take.

@@ -91,9 +91,7 @@ where
     let elapsed = Elapsed::new(system, request.options.seconds);
     let teller = Teller::new(rt, &elapsed, telling_of(rt, request.progress));
     let options = &request.options;
-    let found = search_part(
-        system, alloc, instance, node, start, options, &elapsed, &teller, &teller,
-    );
+    let found = search_part(system, alloc, instance, node, start, options, &teller);
     teller.finish();
     match found {
         Ok(part) => finish(rt, request, &part.proof),

@@ -59,9 +59,7 @@ where
     T: Threads + Wait + Clock + Sync,
 {
     let elapsed = Elapsed::new(system, None);
-    split_up(
-        system, alloc, instance, None, &ONE, wanted, &elapsed, &elapsed,
-    )
+    split_up(system, alloc, instance, None, &ONE, wanted, &elapsed)
 }
 
 /// The text of the proof of the part that a text names, searched from the permutation that a short tabu search finds.
@@ -79,9 +77,7 @@ where
     };
     let elapsed = Elapsed::new(system, None);
     let start = improved(alloc, instance, None, &ONE, &elapsed)?;
-    let part = search_part(
-        system, alloc, instance, &node, &start, &ONE, &elapsed, &elapsed, &elapsed,
-    )?;
+    let part = search_part(system, alloc, instance, &node, &start, &ONE, &elapsed)?;
     text_of_proof(alloc, &part.proof)
 }
 

@@ -6,11 +6,13 @@ ghost use Rattle.qap_proof.specs.Claim.{IsRoot};
 ghost use Rattle.qap_plan.specs.Options.{AreLimited};
 ghost use Rattle.qap_plan.specs.Parts.{ProvesPart};
 
+use crate::keeper::Keeper;
+use crate::memory_limit::WithinMemory;
 use crate::options::Options;
-use crate::planning::{LEASE_MS, decided};
+use crate::planning::decided;
 use qap_cost::{Instance, Partial, Perm};
 use qap_proof::Proof;
-use qap_search::{Always, Branching, Clock, Observer, Plan, Stop, prove_from};
+use qap_search::{Always, Branching, Pace, Plan, prove_from};
 use std::alloc::{AllocError, Global};
 use std::sync::Wait;
 use std::thread::Threads;
@@ -27,38 +29,35 @@ pub struct Parted {
 
 /// Searches below the node, from a permutation of the instance, until no node is open, or a limit is reached, or the stop is wanted,
 /// and where memory ends.
-pub fn search_part<T, C, S, O>(
+pub fn search_part<T, K>(
     system: &T,
     alloc: Global,
     instance: &Instance,
     node: &Partial,
     start: &Perm,
     options: &Options,
-    clock: &C,
-    stop: &S,
-    observer: &O,
+    keeper: &K,
 ) -> Result<Parted, AllocError>
 where
     T: Threads + Wait + time::Clock + Sync,
-    C: Clock,
-    S: Stop,
-    O: Observer,
+    K: Keeper,
     requires limited { AreLimited options.now }
     requires root { IsRoot instance.now.size node.now }
     requires start { Permutes instance.now start.now }
     ensures { IfOk result (λ x. ProvesPart instance.now node.now start.now x.proof) }
 {
+    let within = WithinMemory::new(keeper, options.allowed_bytes());
+    let pace = Pace {
+        clock: &within,
+        gate: &Always,
+    };
     let plan = Plan {
-        workers: options.workers,
-        lease_ms: LEASE_MS,
-        limit: options.limit(instance.size()),
+        crew: options.crew(instance.size()),
         root: node,
         start,
         branching: Branching::Cutting,
     };
-    let found = prove_from(
-        system, alloc, instance, &plan, clock, &Always, stop, observer,
-    )?;
+    let found = prove_from(system, alloc, instance, &plan, &pace, &within, &within)?;
     Ok(Parted {
         nodes: decided(&found.reports),
         proof: found.proof,

@@ -51,12 +51,12 @@ where
     let answer = if request.quiet {
         let output = &mut Counted::new(Vec::new(alloc));
         plan_named(
-            system, alloc, &problem, &mut start, output, options, &elapsed, &teller,
+            system, alloc, &problem, &mut start, output, options, &teller,
         )
     } else {
         let output = &mut Counted::new(rt.stdout());
         plan_named(
-            system, alloc, &problem, &mut start, output, options, &elapsed, &teller,
+            system, alloc, &problem, &mut start, output, options, &teller,
         )
     };
     teller.finish();

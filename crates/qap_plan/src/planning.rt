@@ -6,21 +6,20 @@ ghost use Rattle.qap_cost.specs.Placement.{root_of};
 ghost use Rattle.qap_plan.specs.Options.{AreLimited};
 ghost use Rattle.qap_plan.specs.Planning.{IsNoDearer, IsPlanned, ProvesPlanned};
 
+use crate::keeper::Keeper;
+use crate::memory_limit::WithinMemory;
 use crate::options::Options;
 use qap_cost::{Instance, Partial, Perm};
 use qap_improve::{Hook, TabuPlan, tabu_search};
 use qap_proof::Proof;
 use qap_search::{
-    Always, Bounded, Branching, Clock, Observer, Plan, Proved, Report, Stop, identity, prove_from,
+    Always, Bounded, Branching, Pace, Plan, Proved, Report, Stop, identity, prove_from,
     solve_least_from,
 };
 use std::alloc::{AllocError, Global};
 use std::sync::Wait;
 use std::thread::Threads;
 use std::time;
-
-/// For how many milliseconds a worker's transaction is leased: ten minutes.
-pub(crate) const LEASE_MS: u64 = 600_000;
 
 /// What a search has come to.
 #[derive(Drop)]
@@ -48,39 +47,40 @@ impl Planned {
 }
 
 /// Searches, from the start or any permutation, until no node is open, or a limit is reached, or the stop is wanted, and where memory ends. Who may stop it is shown how far it has come.
-pub fn search<T, C, S>(
+pub fn search<T, K>(
     system: &T,
     alloc: Global,
     instance: &Instance,
     start: Option<Perm>,
     options: &Options,
-    clock: &C,
-    stop: &S,
+    keeper: &K,
 ) -> Result<Planned, AllocError>
 where
     T: Threads + Wait + time::Clock + Sync,
-    C: Clock,
-    S: Stop + Observer,
+    K: Keeper,
     requires limited { AreLimited options.now }
     requires start { IfSome start (Permutes instance.now) }
     ensures planned { IfOk result (λ x. IsPlanned instance.now start x.permutation x.cost x.bound) }
     ensures proof { IfOk result (λ x. IfSome x.proof (ProvesPlanned instance.now x.permutation x.cost x.bound)) }
 {
     let root = Partial::root(alloc, instance.size())?;
-    let start = improved(alloc, instance, start, options, stop)?;
+    let start = improved(alloc, instance, start, options, keeper)?;
+    let within = WithinMemory::new(keeper, options.allowed_bytes());
+    let pace = Pace {
+        clock: &within,
+        gate: &Always,
+    };
     let plan = Plan {
-        workers: options.workers,
-        lease_ms: LEASE_MS,
-        limit: options.limit(instance.size()),
+        crew: options.crew(instance.size()),
         root: &root,
         start: &start,
         branching: Branching::Cutting,
     };
     if options.proves {
-        let found = prove_from(system, alloc, instance, &plan, clock, &Always, stop, stop)?;
+        let found = prove_from(system, alloc, instance, &plan, &pace, &within, &within)?;
         return proved_by(found);
     }
-    let found = solve_least_from(system, alloc, instance, &plan, clock, &Always, stop, stop)?;
+    let found = solve_least_from(system, alloc, instance, &plan, &pace, &within, &within)?;
     Ok(planned_by(found))
 }
 

@@ -1,9 +1,12 @@
 //! Says how far a search has come, on standard error.
 
 use crate::elapsed::Elapsed;
-use qap_search::{Observer, Progress, Stop};
+use crate::keeper::Keeper;
+use crate::resident::resident_bytes;
+use qap_search::{Clock, Observer, Progress, Stop};
 use std::alloc::{AllocError, Global};
 use std::cell::Cell;
+use std::fs::Files;
 use std::io::IsTerminal;
 use std::time;
 
@@ -32,9 +35,9 @@ pub fn telling_of(rt: &HostRuntime, asked: bool) -> Telling {
     }
 }
 
-/// Watches a search, and may stop it where its time is over.
+/// Keeps the time of a search, watches it, tells what memory it takes, and may stop it where its time is over.
 #[derive(Drop)]
-pub struct Teller<'a, R: Eprint + AllocGlobal, T: time::Clock> {
+pub struct Teller<'a, R: Eprint + AllocGlobal + Files, T: time::Clock> {
     rt: &'a R,
     elapsed: &'a Elapsed<'a, T>,
     telling: Telling,
@@ -42,7 +45,7 @@ pub struct Teller<'a, R: Eprint + AllocGlobal, T: time::Clock> {
     told_ms: Cell<u64>,
 }
 
-impl<'a, R: Eprint + AllocGlobal, T: time::Clock> Teller<'a, R, T> {
+impl<'a, R: Eprint + AllocGlobal + Files, T: time::Clock> Teller<'a, R, T> {
     /// One that has told nothing yet.
     pub fn new(rt: &'a R, elapsed: &'a Elapsed<'a, T>, telling: Telling) -> Teller<'a, R, T> {
         Teller {
@@ -61,7 +64,7 @@ impl<'a, R: Eprint + AllocGlobal, T: time::Clock> Teller<'a, R, T> {
     }
 }
 
-impl<R: Eprint + AllocGlobal, T: time::Clock> Observer for Teller<'_, R, T> {
+impl<R: Eprint + AllocGlobal + Files, T: time::Clock> Observer for Teller<'_, R, T> {
     fn is_watching(&self) -> bool {
         self.telling != Telling::Never
     }
@@ -85,9 +88,21 @@ impl<R: Eprint + AllocGlobal, T: time::Clock> Observer for Teller<'_, R, T> {
     }
 }
 
-impl<R: Eprint + AllocGlobal, T: time::Clock> Stop for Teller<'_, R, T> {
+impl<R: Eprint + AllocGlobal + Files, T: time::Clock> Clock for Teller<'_, R, T> {
+    fn now(&self) -> u64 {
+        self.elapsed.now()
+    }
+}
+
+impl<R: Eprint + AllocGlobal + Files, T: time::Clock> Stop for Teller<'_, R, T> {
     fn is_wanted(&self) -> bool {
         self.elapsed.is_wanted()
+    }
+}
+
+impl<R: Eprint + AllocGlobal + Files, T: time::Clock> Keeper for Teller<'_, R, T> {
+    fn resident_bytes(&self) -> Option<u64> {
+        resident_bytes(self.rt)
     }
 }
 

@@ -43,9 +43,7 @@ where
     let alloc = rt.alloc();
     let options = &request.options;
     let wanted = request.parts as usize;
-    match split_up(
-        system, alloc, &instance, start, options, wanted, &elapsed, &elapsed,
-    ) {
+    match split_up(system, alloc, &instance, start, options, wanted, &elapsed) {
         Ok(skeleton) => finish(rt, request, &skeleton),
         Err(error) => refuse(rt, request.file, error),
     }

@@ -7,12 +7,12 @@ ghost use Rattle.qap_plan.specs.Parts.{IsSplitUp};
 ghost use Rattle.qap_plan.specs.Splitting.{IsSkeleton};
 
 use crate::error::PlanError;
+use crate::keeper::Keeper;
 use crate::options::{MAX_NODES, Options};
 use crate::parting::{Parted, search_part};
 use crate::planning::improved;
 use qap_cost::{Instance, Partial, Perm};
 use qap_proof::{MissingPart, Proof, missing_parts, refined};
-use qap_search::{Clock, Nobody, Stop};
 use std::alloc::Global;
 use std::sync::Wait;
 use std::thread::Threads;
@@ -30,46 +30,40 @@ pub struct Skeleton {
 
 /// Splits the hardest part again and again, from the start or any permutation, until so many parts are wanted no more, none is left, the
 /// limit of nodes is reached or the stop is wanted.
-pub fn split_up<T, C, S>(
+pub fn split_up<T, K>(
     system: &T,
     alloc: Global,
     instance: &Instance,
     start: Option<Perm>,
     options: &Options,
     wanted: usize,
-    clock: &C,
-    stop: &S,
+    keeper: &K,
 ) -> Result<Skeleton, PlanError>
 where
     T: Threads + Wait + time::Clock + Sync,
-    C: Clock,
-    S: Stop,
+    K: Keeper,
     requires limited { AreLimited options.now }
     requires start { IfSome start (Permutes instance.now) }
     ensures { IfOk result (IsSplitUp instance.now start) }
 {
-    let first = improved(alloc, instance, start, options, stop)?;
-    let skeleton = whole(system, alloc, instance, &first, clock, stop)?;
-    split_on(
-        system, alloc, instance, skeleton, options, wanted, clock, stop,
-    )
+    let first = improved(alloc, instance, start, options, keeper)?;
+    let skeleton = whole(system, alloc, instance, &first, keeper)?;
+    split_on(system, alloc, instance, skeleton, options, wanted, keeper)
 }
 
 /// The same from a skeleton on.
-fn split_on<T, C, S>(
+fn split_on<T, K>(
     system: &T,
     alloc: Global,
     instance: &Instance,
     skeleton: Skeleton,
     options: &Options,
     wanted: usize,
-    clock: &C,
-    stop: &S,
+    keeper: &K,
 ) -> Result<Skeleton, PlanError>
 where
     T: Threads + Wait + time::Clock + Sync,
-    C: Clock,
-    S: Stop,
+    K: Keeper,
     requires { IsSkeleton instance.now skeleton }
     ensures skeleton { IfOk result (IsSkeleton instance.now) }
     ensures no_dearer { IfOk result (λ s. s.proof.cost ≤ℤ skeleton.proof.cost) }
@@ -77,27 +71,25 @@ where
     let mut finer = skeleton;
     for _ in 0..options.nodes.unwrap_or(MAX_NODES) {
         let left = finer.parts.len();
-        if left == 0 || left >= wanted || stop.is_wanted() {
+        if left == 0 || left >= wanted || keeper.is_wanted() {
             break;
         }
-        finer = split_hardest(system, alloc, instance, finer, clock, stop)?;
+        finer = split_hardest(system, alloc, instance, finer, keeper)?;
     }
     Ok(finer)
 }
 
 /// The search that has decided nothing: its proof has one leaf.
-fn whole<T, C, S>(
+fn whole<T, K>(
     system: &T,
     alloc: Global,
     instance: &Instance,
     start: &Perm,
-    clock: &C,
-    stop: &S,
+    keeper: &K,
 ) -> Result<Skeleton, PlanError>
 where
     T: Threads + Wait + time::Clock + Sync,
-    C: Clock,
-    S: Stop,
+    K: Keeper,
     requires { Permutes instance.now start.now }
     ensures skeleton { IfOk result (IsSkeleton instance.now) }
     ensures no_dearer { IfOk result (λ s. s.proof.cost ≤ℤ cost_of instance.now start.now) }
@@ -110,9 +102,7 @@ where
         &root,
         start,
         &one_node(0),
-        clock,
-        stop,
-        &Nobody,
+        keeper,
     )?;
     let parts = missing_parts(alloc, instance, &proof)?;
     Ok(Skeleton {
@@ -123,18 +113,16 @@ where
 }
 
 /// Splits the hardest part, where there is one.
-fn split_hardest<T, C, S>(
+fn split_hardest<T, K>(
     system: &T,
     alloc: Global,
     instance: &Instance,
     skeleton: Skeleton,
-    clock: &C,
-    stop: &S,
+    keeper: &K,
 ) -> Result<Skeleton, PlanError>
 where
     T: Threads + Wait + time::Clock + Sync,
-    C: Clock,
-    S: Stop,
+    K: Keeper,
     requires { IsSkeleton instance.now skeleton }
     ensures skeleton { IfOk result (IsSkeleton instance.now) }
     ensures no_dearer { IfOk result (λ s. s.proof.cost ≤ℤ skeleton.proof.cost) }
@@ -158,9 +146,7 @@ where
         &hardest.node,
         proof.perm(),
         &one_node(1),
-        clock,
-        stop,
-        &Nobody,
+        keeper,
     )?;
     let bound = bound_of(&part.proof, others);
     let proof = refined(alloc, instance, proof, hardest.leaf, part.proof, bound)?;

@@ -82,7 +82,6 @@ where
         &mut output,
         options,
         &elapsed,
-        &elapsed,
     );
     (answer, output.into_inner())
 }
@@ -189,7 +188,6 @@ where
         &mut Counted::new(writer),
         &ONE,
         &elapsed,
-        &elapsed,
     );
     answer.err()
 }
@@ -281,7 +279,6 @@ where
         &mut start,
         &mut output,
         &ONE,
-        &elapsed,
         &elapsed,
     )?;
     Ok((answer, output.into_inner()))

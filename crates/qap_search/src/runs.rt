@@ -8,6 +8,7 @@ pub(crate) mod clock;
 pub(crate) mod observer;
 pub(crate) mod opening;
 pub(crate) mod outcome;
+pub(crate) mod pace;
 pub(crate) mod plan;
 pub(crate) mod proved;
 pub(crate) mod remaining;

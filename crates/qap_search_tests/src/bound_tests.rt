@@ -7,8 +7,8 @@ use crate::examples::{SECOND, three};
 use crate::worker_tests::{LEASE_MS, Stopped};
 use qap_cost::{Instance, Partial, Perm, cost};
 use qap_search::{
-    Always, Branching, Gate, Kind, Never, Nobody, Observer, Plan, Progress, Stop, identity,
-    read_node, solve_least_from,
+    Always, Branching, Crew, Gate, Kind, Never, Nobody, Observer, Pace, Plan, Progress, Stop,
+    identity, read_node, solve_least_from,
 };
 use std::alloc::{AllocError, Global};
 use std::process::Abort;
@@ -109,46 +109,20 @@ pub(crate) fn least_below(
     Ok(least)
 }
 
-/// What a search by two workers tells: the cost, the bound, and how many nodes it leaves open.
-fn told<R, G, S>(
-    rt: &R,
-    alloc: Global,
-    instance: &Instance,
+/// How a search goes: at which depth its root lies, by which rule nodes are split, and how many commits are accepted at most.
+#[derive(Clone, Copy)]
+struct Course {
     depth: usize,
-    start: &Perm,
     branching: Branching,
     limit: Option<u64>,
-    gate: &G,
-    stop: &S,
-) -> Result<(i128, i128, u64), Fail>
-where
-    R: Threads + Wait + time::Clock + Sync,
-    G: Gate + Sync,
-    S: Stop,
-    requires start { Permutes instance.now start.now }
-    requires four { instance.now.size ≡ 4 }
-{
-    let root = root_at(alloc, depth)?;
-    let plan = Plan {
-        workers: 2,
-        lease_ms: LEASE_MS,
-        limit,
-        root: &root,
-        start,
-        branching,
-    };
-    let answer = solve_least_from(rt, alloc, instance, &plan, &Stopped, gate, stop, &Nobody)?;
-    Ok((answer.cost, answer.bound, answer.open_nodes))
 }
 
-/// What a search that begins with the facilities in order tells.
+/// What a search by two workers tells that begins with the facilities in order: the cost, the bound, and how many nodes it leaves open.
 fn told_from_order<R, G, S>(
     rt: &R,
     alloc: Global,
     instance: &Instance,
-    depth: usize,
-    branching: Branching,
-    limit: Option<u64>,
+    course: Course,
     gate: &G,
     stop: &S,
 ) -> Result<(i128, i128, u64), Fail>
@@ -159,9 +133,23 @@ where
     requires { instance.now.size ≡ 4 }
 {
     let start = in_order(alloc, instance)?;
-    told(
-        rt, alloc, instance, depth, &start, branching, limit, gate, stop,
-    )
+    let root = root_at(alloc, course.depth)?;
+    let plan = Plan {
+        crew: Crew {
+            workers: 2,
+            lease_ms: LEASE_MS,
+            limit: course.limit,
+        },
+        root: &root,
+        start: &start,
+        branching: course.branching,
+    };
+    let pace = Pace {
+        clock: &Stopped,
+        gate,
+    };
+    let answer = solve_least_from(rt, alloc, instance, &plan, &pace, stop, &Nobody)?;
+    Ok((answer.cost, answer.bound, answer.open_nodes))
 }
 
 /// The cost of the facilities in order.
@@ -174,17 +162,13 @@ fn free_search<R>(
     rt: &R,
     alloc: Global,
     instance: &Instance,
-    depth: usize,
-    branching: Branching,
-    limit: Option<u64>,
+    course: Course,
 ) -> Result<(i128, i128, u64), Fail>
 where
     R: Threads + Wait + time::Clock + Sync,
     requires { instance.now.size ≡ 4 }
 {
-    told_from_order(
-        rt, alloc, instance, depth, branching, limit, &Always, &Never,
-    )
+    told_from_order(rt, alloc, instance, course, &Always, &Never)
 }
 
 /// Asserts that a search to its end finds the least cost below the root, or keeps its start where that costs less.
@@ -192,17 +176,16 @@ fn assert_finished<R>(
     rt: &R,
     alloc: Global,
     instance: &Instance,
-    depth: usize,
-    branching: Branching,
-    limit: Option<u64>,
+    course: Course,
 ) -> Result<(), Fail>
 where
     R: Threads + Wait + time::Clock + Sync + Abort,
     requires { instance.now.size ≡ 4 }
 {
+    let depth = course.depth;
     let below = least_below(alloc, instance, depth)?;
     let least = below.min(cost_in_order(alloc, instance)?);
-    let found = free_search(rt, alloc, instance, depth, branching, limit)?;
+    let found = free_search(rt, alloc, instance, course)?;
     assert_eq!(rt; found, (least, least, 0), "depth {depth}");
     Ok(())
 }
@@ -214,7 +197,12 @@ fn finds_the_least_below_each_root(rt: HostRuntime) -> Result<(), Fail> {
     for depth in 0..=4 {
         for branching in RULES {
             for limit in [None, Some(1000)] {
-                assert_finished(&rt, alloc, &instance, depth, branching, limit)?;
+                let course = Course {
+                    depth,
+                    branching,
+                    limit,
+                };
+                assert_finished(&rt, alloc, &instance, course)?;
             }
         }
     }
@@ -236,14 +224,12 @@ where
 {
     let least = least_below(alloc, instance, depth)?;
     let first = cost_in_order(alloc, instance)?;
-    let (cost, bound, open_nodes) = free_search(
-        rt,
-        alloc,
-        instance,
+    let course = Course {
         depth,
         branching,
-        Some(limit),
-    )?;
+        limit: Some(limit),
+    };
+    let (cost, bound, open_nodes) = free_search(rt, alloc, instance, course)?;
     assert!(rt; bound <= least && bound <= cost && least.min(first) <= cost && cost <= first);
     assert!(rt; open_nodes > 0 || bound == cost);
     assert!(rt; limit > 0 || (cost, open_nodes) == (first, 1));
@@ -301,16 +287,12 @@ fn stops_while_a_lease_lasts(rt: HostRuntime) -> Result<(), Fail> {
     let gate = AtTheFirstCommit {
         reached: AtomicBool::new(false),
     };
-    let (found, bound, open_nodes) = told_from_order(
-        &rt,
-        alloc,
-        &instance,
-        0,
-        Branching::GreatestMatched,
-        None,
-        &gate,
-        &gate,
-    )?;
+    let course = Course {
+        depth: 0,
+        branching: Branching::GreatestMatched,
+        limit: None,
+    };
+    let (found, bound, open_nodes) = told_from_order(&rt, alloc, &instance, course, &gate, &gate)?;
     let least = least_below(alloc, &instance, 0)?;
     assert_eq!(rt; (found, open_nodes), (cost_in_order(alloc, &instance)?, 1));
     assert!(rt; bound <= least);
@@ -345,7 +327,11 @@ impl Stop for InRound {
 fn stops_in_the_round_that_is_wanted(rt: HostRuntime) -> Result<(), Fail> {
     let alloc = rt.alloc();
     let instance = signed(alloc)?;
-    let rule = Branching::Cutting;
+    let course = Course {
+        depth: 0,
+        branching: Branching::Cutting,
+        limit: None,
+    };
     let first = cost_in_order(alloc, &instance)?;
     for round in [0, 1] {
         let gate = InRound {
@@ -353,7 +339,7 @@ fn stops_in_the_round_that_is_wanted(rt: HostRuntime) -> Result<(), Fail> {
             asked: AtomicU64::new(0),
         };
         let (found, bound, open_nodes) = told_from_order(
-            &rt, alloc, &instance, 0, rule, None, &gate, &gate,
+            &rt, alloc, &instance, course, &gate, &gate,
         )?;
         assert_eq!(rt; (found, open_nodes), (first, 1));
         assert!(rt; bound <= least_below(alloc, &instance, 0)?);
@@ -397,9 +383,11 @@ fn a_stop_after_the_end_changes_nothing(rt: HostRuntime) -> Result<(), Fail> {
     let root = Partial::root(alloc, 3)?;
     let start = identity(alloc, &instance)?;
     let plan = Plan {
-        workers: 2,
-        lease_ms: LEASE_MS,
-        limit: None,
+        crew: Crew {
+            workers: 2,
+            lease_ms: LEASE_MS,
+            limit: None,
+        },
         root: &root,
         start: &start,
         branching: Branching::GreatestMatched,
@@ -408,9 +396,11 @@ fn a_stop_after_the_end_changes_nothing(rt: HostRuntime) -> Result<(), Fail> {
         commits: 4,
         accepted: AtomicU64::new(0),
     };
-    let answer = solve_least_from(
-        &rt, alloc, &instance, &plan, &Stopped, &gate, &gate, &Nobody,
-    )?;
+    let pace = Pace {
+        clock: &Stopped,
+        gate: &gate,
+    };
+    let answer = solve_least_from(&rt, alloc, &instance, &plan, &pace, &gate, &Nobody)?;
     assert_eq!(rt; (answer.cost, answer.bound, answer.open_nodes), (1, 1, 0));
     assert_eq!(rt; gate.accepted.load(Ordering::SeqCst), 4);
     Ok(())
@@ -461,9 +451,11 @@ fn shows_the_open_root_once_while_the_clock_stands(rt: HostRuntime) -> Result<()
     let start = in_order(alloc, &instance)?;
     let root = root_at(alloc, 1)?;
     let plan = Plan {
-        workers: 2,
-        lease_ms: LEASE_MS,
-        limit: None,
+        crew: Crew {
+            workers: 2,
+            lease_ms: LEASE_MS,
+            limit: None,
+        },
         root: &root,
         start: &start,
         branching: Branching::GreatestSum,
@@ -480,9 +472,11 @@ fn shows_the_open_root_once_while_the_clock_stands(rt: HostRuntime) -> Result<()
         looks: AtomicU64::new(0),
         as_expected: AtomicBool::new(false),
     };
-    solve_least_from(
-        &rt, alloc, &instance, &plan, &Stopped, &watch, &Never, &watch,
-    )?;
+    let pace = Pace {
+        clock: &Stopped,
+        gate: &watch,
+    };
+    solve_least_from(&rt, alloc, &instance, &plan, &pace, &Never, &watch)?;
     assert!(rt; watch.as_expected.load(Ordering::SeqCst));
     assert_eq!(rt; watch.looks.load(Ordering::SeqCst), 1);
     Ok(())

@@ -8,7 +8,7 @@ use crate::examples::{patterned, told};
 use crate::worker_tests::{LEASE_MS, Stopped};
 use qap_cost::{Instance, Partial, Perm, cost, least_by_listing};
 use qap_search::{
-    Always, Answer, Branching, Never, Nobody, Plan, SolveError, identity, solve_from,
+    Always, Answer, Branching, Crew, Never, Nobody, Pace, Plan, SolveError, identity, solve_from,
     solve_least_from,
 };
 use std::alloc::Global;
@@ -34,14 +34,20 @@ where
 {
     let root = Partial::root(alloc, instance.size())?;
     let plan = Plan {
-        workers: 2,
-        lease_ms: LEASE_MS,
-        limit,
+        crew: Crew {
+            workers: 2,
+            lease_ms: LEASE_MS,
+            limit,
+        },
         root: &root,
         start,
         branching,
     };
-    solve_from(rt, alloc, instance, &plan, &Stopped, &Always)
+    let pace = Pace {
+        clock: &Stopped,
+        gate: &Always,
+    };
+    solve_from(rt, alloc, instance, &plan, &pace)
 }
 
 /// Asserts that a search by this rule finds the least cost, and that its certificate shows it.
@@ -105,16 +111,20 @@ where
 {
     let root = Partial::root(alloc, instance.size())?;
     let plan = Plan {
-        workers: 2,
-        lease_ms: LEASE_MS,
-        limit: None,
+        crew: Crew {
+            workers: 2,
+            lease_ms: LEASE_MS,
+            limit: None,
+        },
         root: &root,
         start,
         branching,
     };
-    let answer = solve_least_from(
-        rt, alloc, instance, &plan, &Stopped, &Always, &Never, &Nobody,
-    )?;
+    let pace = Pace {
+        clock: &Stopped,
+        gate: &Always,
+    };
+    let answer = solve_least_from(rt, alloc, instance, &plan, &pace, &Never, &Nobody)?;
     assert_eq!(rt;
         (answer.cost, answer.bound, answer.open_nodes),
         (least, least, 0)

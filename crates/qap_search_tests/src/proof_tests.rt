@@ -9,7 +9,7 @@ use crate::worker_tests::{LEASE_MS, Stopped};
 use qap_cost::{Instance, Partial, Perm, cost, least_by_listing};
 use qap_io::Counted;
 use qap_proof::{Tree, Verdict, accept, check, write};
-use qap_search::{Always, Branching, Never, Nobody, Plan, identity, prove_from};
+use qap_search::{Always, Branching, Crew, Never, Nobody, Pace, Plan, identity, prove_from};
 use std::alloc::{AllocError, Global};
 use std::process::Abort;
 use std::sync::Wait;
@@ -43,16 +43,20 @@ where
     requires start { Permutes instance.now start.now }
 {
     let plan = Plan {
-        workers: 2,
-        lease_ms: LEASE_MS,
-        limit,
+        crew: Crew {
+            workers: 2,
+            lease_ms: LEASE_MS,
+            limit,
+        },
         root,
         start,
         branching,
     };
-    let answer = prove_from(
-        rt, alloc, instance, &plan, &Stopped, &Always, &Never, &Nobody,
-    )?;
+    let pace = Pace {
+        clock: &Stopped,
+        gate: &Always,
+    };
+    let answer = prove_from(rt, alloc, instance, &plan, &pace, &Never, &Nobody)?;
     check(alloc, instance, &answer.proof)?;
     Ok((answer.proof.cost(), answer.proof.bound(), answer.open_nodes))
 }
@@ -193,16 +197,20 @@ where
     requires start { Permutes instance.now start.now }
 {
     let plan = Plan {
-        workers: 1,
-        lease_ms: LEASE_MS,
-        limit: None,
+        crew: Crew {
+            workers: 1,
+            lease_ms: LEASE_MS,
+            limit: None,
+        },
         root,
         start,
         branching: Branching::Cutting,
     };
-    let answer = prove_from(
-        rt, alloc, instance, &plan, &Stopped, &Always, &Never, &Nobody,
-    )?;
+    let pace = Pace {
+        clock: &Stopped,
+        gate: &Always,
+    };
+    let answer = prove_from(rt, alloc, instance, &plan, &pace, &Never, &Nobody)?;
     check(alloc, instance, &answer.proof)?;
     Ok(searched_children(answer.proof.tree()))
 }
@@ -254,16 +262,20 @@ where
     let root = Partial::root(alloc, instance.size())?;
     let start = identity(alloc, instance)?;
     let plan = Plan {
-        workers: 2,
-        lease_ms: LEASE_MS,
-        limit: None,
+        crew: Crew {
+            workers: 2,
+            lease_ms: LEASE_MS,
+            limit: None,
+        },
         root: &root,
         start: &start,
         branching,
     };
-    let answer = prove_from(
-        rt, alloc, instance, &plan, &Stopped, &Always, &Never, &Nobody,
-    )?;
+    let pace = Pace {
+        clock: &Stopped,
+        gate: &Always,
+    };
+    let answer = prove_from(rt, alloc, instance, &plan, &pace, &Never, &Nobody)?;
     let mut text = Counted::new(Vec::new(alloc));
     write(alloc, &mut text, &answer.proof)?;
     Ok(accept(alloc, instance, &text.into_inner())?)

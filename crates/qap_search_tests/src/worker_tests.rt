@@ -5,7 +5,9 @@
 
 use crate::examples::{FIRST, Matrices, SECOND, least_of, patterned, three, told};
 use qap_cost::Instance;
-use qap_search::{Always, Answer, Clock, Ended, Gate, Kind, SolveError, solve, solve_least};
+use qap_search::{
+    Always, Answer, Clock, Crew, Ended, Gate, Kind, Pace, SolveError, solve, solve_least,
+};
 use std::alloc::Global;
 use std::process::Abort;
 use std::sync::Wait;
@@ -110,8 +112,12 @@ where
     C: Clock,
     G: Gate + Sync,
 {
-    let workers = workers.clamp(1, 64);
-    solve(rt, alloc, instance, workers, LEASE_MS, limit, clock, gate)
+    let crew = Crew {
+        workers: workers.clamp(1, 64),
+        lease_ms: LEASE_MS,
+        limit,
+    };
+    solve(rt, alloc, instance, crew, &Pace { clock, gate })
 }
 
 /// How many commits of all workers were accepted, and how many came too late.
@@ -533,7 +539,16 @@ where
     R: Threads + Wait + time::Clock + Sync,
 {
     let instance = three(alloc, &SECOND)?;
-    match solve_least(rt, alloc, &instance, 2, LEASE_MS, limit, &Stopped, &Always) {
+    let crew = Crew {
+        workers: 2,
+        lease_ms: LEASE_MS,
+        limit,
+    };
+    let pace = Pace {
+        clock: &Stopped,
+        gate: &Always,
+    };
+    match solve_least(rt, alloc, &instance, crew, &pace) {
         Ok(found) => Ok(Some((
             found.cost,
             found.permutation.locations() == [0, 1, 2].as_slice(),

@@ -10,7 +10,7 @@ use crate::command_line::Request;
 use crate::refusal::{RunError, fault_line, status};
 use crate::solving::solve_stream;
 use qap_io::{Counted, Status};
-use qap_search::{Clock, Gate};
+use qap_search::{Clock, Gate, Pace};
 use space_script::run_script;
 use std::alloc::Global;
 use std::io::{Read, Write};
@@ -27,8 +27,7 @@ pub fn answered<T, R, W, E, C, G>(
     input: &mut Counted<R>,
     output: &mut Counted<W>,
     errors: &mut Counted<E>,
-    clock: &C,
-    gate: &G,
+    pace: &Pace<'_, C, G>,
 ) -> u8
 where
     T: Threads + Wait + time::Clock + Sync,
@@ -40,7 +39,7 @@ where
     requires { MayRun request }
     ensures { let s = streams_of R.remaining W.contents input.old input.new output.old output.new in HasRun s request E.contents errors.old errors.new result }
 {
-    match answer(system, alloc, request, input, output, clock, gate) {
+    match answer(system, alloc, request, input, output, pace) {
         Ok(()) => Status::Done.code(),
         Err(error) => refused(error, errors),
     }
@@ -53,8 +52,7 @@ fn answer<T, R, W, C, G>(
     request: Request,
     input: &mut Counted<R>,
     output: &mut Counted<W>,
-    clock: &C,
-    gate: &G,
+    pace: &Pace<'_, C, G>,
 ) -> Result<(), RunError>
 where
     T: Threads + Wait + time::Clock + Sync,
@@ -66,9 +64,7 @@ where
     ensures { let s = streams_of R.remaining W.contents input.old input.new output.old output.new in MatchResult result (λ _. HasAnswered s request) (HasNotAnswered s request) }
 {
     match request {
-        Request::Solve(options) => {
-            solve_stream(system, alloc, input, output, &options, clock, gate)
-        }
+        Request::Solve(options) => { solve_stream(system, alloc, input, output, &options, pace) }
         Request::Script => match run_script(alloc, input, output) {
             Ok(()) => Ok(()),
             Err(error) => Err(RunError::from(error)),

@@ -16,7 +16,7 @@ use command_line::{Request, USAGE, parse};
 use elapsed::Elapsed;
 use qap_command::CommandError;
 use qap_io::{Counted, Status};
-use qap_search::Always;
+use qap_search::{Always, Pace};
 use refusal::RunError;
 use std::env;
 use std::io::{self, BufWriter, Stdout};
@@ -67,6 +67,10 @@ where
     let Ok(output) = buffered(rt) else {
         return refuse(rt, RunError::OutOfMemory);
     };
+    let pace = Pace {
+        clock: &Elapsed::new(system),
+        gate: &Always,
+    };
     ExitCode::from(answered(
         system,
         rt.alloc(),
@@ -74,8 +78,7 @@ where
         &mut Counted::new(rt.stdin()),
         &mut Counted::new(output),
         &mut Counted::new(rt.stderr()),
-        &Elapsed::new(system),
-        &Always,
+        &pace,
     ))
 }
 

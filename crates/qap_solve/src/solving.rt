@@ -23,7 +23,7 @@ use crate::refusal::RunError;
 use qap_cert::{CertError, Certificate, certified_law, write};
 use qap_cost::{Instance, Perm};
 use qap_io::{Counted, put};
-use qap_search::{Clock, Gate, Least, SolveError, solve, solve_least};
+use qap_search::{Clock, Crew, Gate, Least, Pace, SolveError, solve, solve_least};
 use qap_text::{MAX_INPUT, TextError, gap_line, read_all, read_instance, write_solution};
 use std::alloc::{AllocError, Global};
 use std::io::{Read, Write};
@@ -55,8 +55,7 @@ pub fn solve_stream<T, R, W, C, G>(
     reader: &mut Counted<R>,
     writer: &mut Counted<W>,
     options: &Options,
-    clock: &C,
-    gate: &G,
+    pace: &Pace<'_, C, G>,
 ) -> Result<(), RunError>
 where
     T: Threads + Wait + time::Clock + Sync,
@@ -70,7 +69,7 @@ where
         (HasNotSolved s options.now.nodes options.now.cert W.contents writer.old writer.new) }
 {
     let instance = read_problem(alloc, reader)?;
-    match solved(rt, alloc, &instance, options, clock, gate)? {
+    match solved(rt, alloc, &instance, options, pace)? {
         Outcome::Permutation(found) => put_least(alloc, writer, &found),
         Outcome::Certificate(certificate) => put_proof(alloc, writer, &instance, &certificate),
         Outcome::Stopped(certificate) => {
@@ -96,8 +95,7 @@ fn solved<T, C, G>(
     alloc: Global,
     instance: &Instance,
     options: &Options,
-    clock: &C,
-    gate: &G,
+    pace: &Pace<'_, C, G>,
 ) -> Result<Outcome, RunError>
 where
     T: Threads + Wait + time::Clock + Sync,
@@ -108,7 +106,7 @@ where
         (IsOutcome instance.now options.now.nodes options.now.cert)
         (λ e. ((count : ℕ) × LeavesOpen (whole instance.now) options.now.nodes count × (e ≡ Unfinished count)) ⊎ (e ≡ OutOfMemory)) }
 {
-    match searched(rt, alloc, instance, options, clock, gate) {
+    match searched(rt, alloc, instance, options, pace) {
         Ok(outcome) => Ok(outcome),
         Err(SolveError::Stopped(answer)) => Ok(Outcome::Stopped(answer.certificate)),
         Err(error) => Err(RunError::from(error)),
@@ -121,8 +119,7 @@ fn searched<T, C, G>(
     alloc: Global,
     instance: &Instance,
     options: &Options,
-    clock: &C,
-    gate: &G,
+    pace: &Pace<'_, C, G>,
 ) -> Result<Outcome, SolveError>
 where
     T: Threads + Wait + time::Clock + Sync,
@@ -139,11 +136,16 @@ where
         nodes,
         cert,
     } = *options;
+    let crew = Crew {
+        workers,
+        lease_ms,
+        limit: nodes,
+    };
     if cert {
-        let answer = solve(rt, alloc, instance, workers, lease_ms, nodes, clock, gate)?;
+        let answer = solve(rt, alloc, instance, crew, pace)?;
         Ok(Outcome::Certificate(answer.certificate))
     } else {
-        let found = solve_least(rt, alloc, instance, workers, lease_ms, nodes, clock, gate)?;
+        let found = solve_least(rt, alloc, instance, crew, pace)?;
         Ok(Outcome::Permutation(found))
     }
 }
@@ -175,6 +177,7 @@ fn put_proof<W: Write>(
         (Stops W.contents writer.old writer.new text) }
 {
     certified_law();
+    // Its clause says that this is an instance.
     let _size = instance.size();
     put_certificate(alloc, writer, certificate)
 }
@@ -194,6 +197,7 @@ fn put_stopped<W: Write>(
         (Stops W.contents writer.old writer.new text) }
 {
     certified_law();
+    // Its clause says that this is an instance.
     let _size = instance.size();
     if cert {
         put_certificate(alloc, writer, certificate)

@@ -9,7 +9,7 @@ use crate::solving::solve_stream;
 use qap_cert::{Verdict, accept, read, write};
 use qap_command::CommandError;
 use qap_io::Counted;
-use qap_search::{Always, Clock};
+use qap_search::{Always, Clock, Pace};
 use qap_text::{TextError, read_instance};
 use space_script::ScriptError;
 use std::alloc::{AllocError, Global};
@@ -75,7 +75,11 @@ where
     W: Write,
     requires { AreLimited options.now }
 {
-    solve_stream(system, alloc, reader, writer, options, &Stopped, &Always)
+    let pace = Pace {
+        clock: &Stopped,
+        gate: &Always,
+    };
+    solve_stream(system, alloc, reader, writer, options, &pace)
 }
 
 /// A run on a text.

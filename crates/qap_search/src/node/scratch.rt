@@ -58,6 +58,7 @@ impl Scratch {
         requires symmetries { IfSome guide.now.symmetries (λ s. AreSymmetries instance.now s.now) }
         ensures { IfOk result (IsThought (cuts guide.now.branching) instance.now node.now) }
     {
+        // Its clause says that this is a matrix.
         let _size = matrix.size();
         let mut answer = replace(&mut self.answer, Assignment::with_room(alloc, 0)?);
         self.solver.solve_into(matrix, &mut answer)?;

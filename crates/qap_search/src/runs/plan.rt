@@ -3,15 +3,22 @@
 use crate::node::branching::Branching;
 use qap_cost::{Partial, Perm};
 
-/// How a search goes.
-#[derive(Clone, Copy)]
-pub struct Plan<'a> {
+/// Who works on a search, and how far.
+#[derive(Clone, Copy, Debug)]
+pub struct Crew {
     /// How many workers there are, each a thread: 1 to 64.
     pub workers: u16,
     /// For how many milliseconds their transactions ask.
     pub lease_ms: u64,
     /// How many commits are accepted at most.
     pub limit: Option<u64>,
+}
+
+/// How a search goes.
+#[derive(Clone, Copy)]
+pub struct Plan<'a> {
+    /// Who works on it, and how far.
+    pub crew: Crew,
     /// The node whose completions are searched; the empty one, for all permutations of the instance.
     pub root: &'a Partial,
     /// The permutation that the search begins with; it need not complete the root.

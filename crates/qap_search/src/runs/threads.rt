@@ -32,7 +32,8 @@ use crate::runs::clock::Clock;
 use crate::runs::observer::{Nobody, Observer, Survey};
 use crate::runs::opening::{identity, opening_from};
 use crate::runs::outcome::{answer_of, least_of};
-use crate::runs::plan::Plan;
+use crate::runs::pace::Pace;
+use crate::runs::plan::{Crew, Plan};
 use crate::runs::proved::proved_of;
 use crate::runs::run::Run;
 use crate::runs::seat::{Seat, Workplace};
@@ -82,32 +83,27 @@ pub fn solve<R, C, G>(
     rt: &R,
     alloc: Global,
     instance: &Instance,
-    workers: u16,
-    lease_ms: u64,
-    limit: Option<u64>,
-    clock: &C,
-    gate: &G,
+    crew: Crew,
+    pace: &Pace<'_, C, G>,
 ) -> Result<Answer, SolveError>
 where
     R: Threads + Wait + time::Clock + Sync,
     C: Clock,
     G: Gate + Sync,
-    requires some { 0 < workers }
-    requires few { workers ≤ 64 }
-    ensures answer { MatchResult result (IsAnswer instance.now workers limit) (IsSolveFault instance.now workers limit) }
-    ensures ran { MatchResult result (λ a. Ran (whole instance.now) workers limit (accepted_of a.reports.items) 0)
-        (RanToFault (whole instance.now) workers limit) }
+    requires some { 0 < crew.workers }
+    requires few { crew.workers ≤ 64 }
+    ensures answer { MatchResult result (IsAnswer instance.now crew.workers crew.limit) (IsSolveFault instance.now crew.workers crew.limit) }
+    ensures ran { MatchResult result (λ a. Ran (whole instance.now) crew.workers crew.limit (accepted_of a.reports.items) 0)
+        (RanToFault (whole instance.now) crew.workers crew.limit) }
 {
     let Beginning { root, start } = all_permutations(alloc, instance)?;
     let plan = Plan {
-        workers,
-        lease_ms,
-        limit,
+        crew,
         root: &root,
         start: &start,
         branching: Branching::GreatestMatched,
     };
-    solve_from(rt, alloc, instance, &plan, clock, gate)
+    solve_from(rt, alloc, instance, &plan, pace)
 }
 
 /// A permutation of an instance's least cost, by the same search: for whoever wants no certificate, which isn't put together
@@ -116,38 +112,39 @@ pub fn solve_least<R, C, G>(
     rt: &R,
     alloc: Global,
     instance: &Instance,
-    workers: u16,
-    lease_ms: u64,
-    limit: Option<u64>,
-    clock: &C,
-    gate: &G,
+    crew: Crew,
+    pace: &Pace<'_, C, G>,
 ) -> Result<Least, SolveError>
 where
     R: Threads + Wait + time::Clock + Sync,
     C: Clock,
     G: Gate + Sync,
-    requires some { 0 < workers }
-    requires few { workers ≤ 64 }
-    ensures answer { MatchResult result (IsLeastAnswer instance.now workers limit) (IsSolveFault instance.now workers limit) }
-    ensures ran { MatchResult result (λ a. Ran (whole instance.now) workers limit (accepted_of a.reports.items) 0)
-        (RanToFault (whole instance.now) workers limit) }
+    requires some { 0 < crew.workers }
+    requires few { crew.workers ≤ 64 }
+    ensures answer { MatchResult result (IsLeastAnswer instance.now crew.workers crew.limit) (IsSolveFault instance.now crew.workers crew.limit) }
+    ensures ran { MatchResult result (λ a. Ran (whole instance.now) crew.workers crew.limit (accepted_of a.reports.items) 0)
+        (RanToFault (whole instance.now) crew.workers crew.limit) }
 {
     let Beginning { root, start } = all_permutations(alloc, instance)?;
     let plan = Plan {
-        workers,
-        lease_ms,
-        limit,
+        crew,
         root: &root,
         start: &start,
         branching: Branching::GreatestMatched,
     };
     let keeper = Keeper {
-        clock,
+        pace,
         stop: &Never,
         observer: &Nobody,
     };
-    let run = run_of(rt, alloc, instance, &plan, &keeper, gate)?;
-    least_of(&Many::new(rt, workers), alloc, instance, limit, run)
+    let run = run_of(rt, alloc, instance, &plan, &keeper)?;
+    least_of(
+        &Many::new(rt, crew.workers),
+        alloc,
+        instance,
+        crew.limit,
+        run,
+    )
 }
 
 /// The certificate of an instance's least cost, as `solve` answers it, by a search that goes as the plan says, over all
@@ -158,35 +155,34 @@ pub fn solve_from<R, C, G>(
     alloc: Global,
     instance: &Instance,
     plan: &Plan<'_>,
-    clock: &C,
-    gate: &G,
+    pace: &Pace<'_, C, G>,
 ) -> Result<Answer, SolveError>
 where
     R: Threads + Wait + time::Clock + Sync,
     C: Clock,
     G: Gate + Sync,
-    requires some { 0 < plan.now.workers }
-    requires few { plan.now.workers ≤ 64 }
+    requires some { 0 < plan.now.crew.workers }
+    requires few { plan.now.crew.workers ≤ 64 }
     requires start { Permutes instance.now plan.now.start.now }
     requires whole { plan.now.root.now ≡ root_of instance.now.size }
     requires plain { cuts plan.now.branching ≡ false }
-    ensures answer { MatchResult result (IsAnswer instance.now plan.now.workers plan.now.limit)
-        (IsSearchFault (from_root instance.now (best_with instance.now plan.now.start.now)) plan.now.workers plan.now.limit) }
+    ensures answer { MatchResult result (IsAnswer instance.now plan.now.crew.workers plan.now.crew.limit)
+        (IsSearchFault (from_root instance.now (best_with instance.now plan.now.start.now)) plan.now.crew.workers plan.now.crew.limit) }
     ensures ran { MatchResult result
-        (λ a. Ran (from_root instance.now (best_with instance.now plan.now.start.now)) plan.now.workers plan.now.limit (accepted_of a.reports.items) 0)
-        (RanToFault (from_root instance.now (best_with instance.now plan.now.start.now)) plan.now.workers plan.now.limit) }
+        (λ a. Ran (from_root instance.now (best_with instance.now plan.now.start.now)) plan.now.crew.workers plan.now.crew.limit (accepted_of a.reports.items) 0)
+        (RanToFault (from_root instance.now (best_with instance.now plan.now.start.now)) plan.now.crew.workers plan.now.crew.limit) }
 {
     let keeper = Keeper {
-        clock,
+        pace,
         stop: &Never,
         observer: &Nobody,
     };
-    let run = run_of(rt, alloc, instance, plan, &keeper, gate)?;
+    let run = run_of(rt, alloc, instance, plan, &keeper)?;
     answer_of(
-        &Many::new(rt, plan.workers),
+        &Many::new(rt, plan.crew.workers),
         alloc,
         instance,
-        plan.limit,
+        plan.crew.limit,
         run,
     )
 }
@@ -205,8 +201,7 @@ pub fn solve_least_from<R, C, G, S, O>(
     alloc: Global,
     instance: &Instance,
     plan: &Plan<'_>,
-    clock: &C,
-    gate: &G,
+    pace: &Pace<'_, C, G>,
     stop: &S,
     observer: &O,
 ) -> Result<Bounded, AllocError>
@@ -216,23 +211,23 @@ where
     G: Gate + Sync,
     S: Stop,
     O: Observer,
-    requires some { 0 < plan.now.workers }
-    requires few { plan.now.workers ≤ 64 }
+    requires some { 0 < plan.now.crew.workers }
+    requires few { plan.now.crew.workers ≤ 64 }
     requires start { Permutes instance.now plan.now.start.now }
     requires same_size { plan.now.root.now.size ≡ instance.now.size }
     ensures answer { IfOk result
-        (IsBoundedFrom (search_of (cuts plan.now.branching) instance.now plan.now.root.now (best_with instance.now plan.now.start.now)) plan.now.workers plan.now.limit) }
-    ensures ran { IfOk result (λ a. Ran (search_of (cuts plan.now.branching) instance.now plan.now.root.now (best_with instance.now plan.now.start.now)) plan.now.workers plan.now.limit
+        (IsBoundedFrom (search_of (cuts plan.now.branching) instance.now plan.now.root.now (best_with instance.now plan.now.start.now)) plan.now.crew.workers plan.now.crew.limit) }
+    ensures ran { IfOk result (λ a. Ran (search_of (cuts plan.now.branching) instance.now plan.now.root.now (best_with instance.now plan.now.start.now)) plan.now.crew.workers plan.now.crew.limit
         (accepted_of a.reports.items) a.open_nodes) }
 {
     let keeper = Keeper {
-        clock,
+        pace,
         stop,
         observer,
     };
     let ending = Ending::with_room(alloc, instance)?;
-    let run = run_of(rt, alloc, instance, plan, &keeper, gate)?;
-    bounded_of(&Many::new(rt, plan.workers), alloc, ending, run)
+    let run = run_of(rt, alloc, instance, plan, &keeper)?;
+    bounded_of(&Many::new(rt, plan.crew.workers), alloc, ending, run)
 }
 
 /// The proof that a search below the plan's root comes to: that no permutation which completes the root costs less than the proof's bound.
@@ -248,8 +243,7 @@ pub fn prove_from<R, C, G, S, O>(
     alloc: Global,
     instance: &Instance,
     plan: &Plan<'_>,
-    clock: &C,
-    gate: &G,
+    pace: &Pace<'_, C, G>,
     stop: &S,
     observer: &O,
 ) -> Result<Proved, AllocError>
@@ -259,23 +253,23 @@ where
     G: Gate + Sync,
     S: Stop,
     O: Observer,
-    requires some { 0 < plan.now.workers }
-    requires few { plan.now.workers ≤ 64 }
+    requires some { 0 < plan.now.crew.workers }
+    requires few { plan.now.crew.workers ≤ 64 }
     requires start { Permutes instance.now plan.now.start.now }
     requires root { IsRoot instance.now.size plan.now.root.now }
     ensures answer { IfOk result
-        (IsProvedFrom (search_of (cuts plan.now.branching) instance.now plan.now.root.now (best_with instance.now plan.now.start.now)) plan.now.workers plan.now.limit) }
-    ensures ran { IfOk result (λ a. Ran (search_of (cuts plan.now.branching) instance.now plan.now.root.now (best_with instance.now plan.now.start.now)) plan.now.workers plan.now.limit
+        (IsProvedFrom (search_of (cuts plan.now.branching) instance.now plan.now.root.now (best_with instance.now plan.now.start.now)) plan.now.crew.workers plan.now.crew.limit) }
+    ensures ran { IfOk result (λ a. Ran (search_of (cuts plan.now.branching) instance.now plan.now.root.now (best_with instance.now plan.now.start.now)) plan.now.crew.workers plan.now.crew.limit
         (accepted_of a.reports.items) a.open_nodes) }
 {
     let keeper = Keeper {
-        clock,
+        pace,
         stop,
         observer,
     };
-    let run = run_of(rt, alloc, instance, plan, &keeper, gate)?;
+    let run = run_of(rt, alloc, instance, plan, &keeper)?;
     proved_of(
-        &Many::new(rt, plan.workers),
+        &Many::new(rt, plan.crew.workers),
         alloc,
         instance,
         plan.root,
@@ -308,8 +302,7 @@ fn run_of<R, C, G, S, O>(
     alloc: Global,
     instance: &Instance,
     plan: &Plan<'_>,
-    keeper: &Keeper<'_, C, S, O>,
-    gate: &G,
+    keeper: &Keeper<'_, C, G, S, O>,
 ) -> Result<Run, AllocError>
 where
     R: Threads + Wait + time::Clock + Sync,
@@ -317,18 +310,18 @@ where
     G: Gate + Sync,
     S: Stop,
     O: Observer,
-    requires some { 0 < plan.now.workers }
-    requires few { plan.now.workers ≤ 64 }
+    requires some { 0 < plan.now.crew.workers }
+    requires few { plan.now.crew.workers ≤ 64 }
     requires start { Permutes instance.now plan.now.start.now }
     requires same_size { plan.now.root.now.size ≡ instance.now.size }
-    ensures ended { IfOk result (IsEnded (search_of (cuts plan.now.branching) instance.now plan.now.root.now (best_with instance.now plan.now.start.now)) plan.now.limit) }
-    ensures one_each { IfOk result (λ run. length run.reports.items ≡ plan.now.workers) }
-    ensures ran { IfOk result (λ run. RanTo (search_of (cuts plan.now.branching) instance.now plan.now.root.now (best_with instance.now plan.now.start.now)) plan.now.workers plan.now.limit
+    ensures ended { IfOk result (IsEnded (search_of (cuts plan.now.branching) instance.now plan.now.root.now (best_with instance.now plan.now.start.now)) plan.now.crew.limit) }
+    ensures one_each { IfOk result (λ run. length run.reports.items ≡ plan.now.crew.workers) }
+    ensures ran { IfOk result (λ run. RanTo (search_of (cuts plan.now.branching) instance.now plan.now.root.now (best_with instance.now plan.now.start.now)) plan.now.crew.workers plan.now.crew.limit
         run.space) }
 {
     let space = opening_from(alloc, instance, plan.root, plan.start)?;
-    let blank = Blank::new(u64::from(plan.workers));
-    search::<Brand, R, C, G, S, O>(rt, alloc, instance, space, blank, plan, keeper, gate)
+    let blank = Blank::new(u64::from(plan.crew.workers));
+    search::<Brand, R, C, G, S, O>(rt, alloc, instance, space, blank, plan, keeper)
 }
 
 /// The same, on a space that stands at the opening, under a law that is the search's.
@@ -339,8 +332,7 @@ fn search<L, R, C, G, S, O>(
     space: TxnSpace,
     blank: Blank,
     plan: &Plan<'_>,
-    keeper: &Keeper<'_, C, S, O>,
-    gate: &G,
+    keeper: &Keeper<'_, C, G, S, O>,
 ) -> Result<Run, AllocError>
 where
     L: Law + Send + Sync,
@@ -349,21 +341,21 @@ where
     G: Gate + Sync,
     S: Stop,
     O: Observer,
-    requires some { 0 < plan.now.workers }
+    requires some { 0 < plan.now.crew.workers }
     requires name { blank.name ≡ L.name }
     requires parts { blank.parts ≡ L.parts }
-    requires one_each { blank.parts ≡ plan.now.workers }
-    requires few { plan.now.workers ≤ 64 }
+    requires one_each { blank.parts ≡ plan.now.crew.workers }
+    requires few { plan.now.crew.workers ≤ 64 }
     requires start { Permutes instance.now plan.now.start.now }
     requires law { IsLawOf (search_of (cuts plan.now.branching) instance.now plan.now.root.now (best_with instance.now plan.now.start.now)) L.lawful L.allowed }
-    requires limit { L.limit ≡ plan.now.limit }
+    requires limit { L.limit ≡ plan.now.crew.limit }
     requires opening { IsOpening (search_of (cuts plan.now.branching) instance.now plan.now.root.now (best_with instance.now plan.now.start.now)) space }
-    requires reached { L.reached (place_of space plan.now.workers 0 (is_reached plan.now.limit 0)) }
-    ensures ended { IfOk result (IsEnded (search_of (cuts plan.now.branching) instance.now plan.now.root.now (best_with instance.now plan.now.start.now)) plan.now.limit) }
-    ensures one_each { IfOk result (λ run. length run.reports.items ≡ plan.now.workers) }
+    requires reached { L.reached (place_of space plan.now.crew.workers 0 (is_reached plan.now.crew.limit 0)) }
+    ensures ended { IfOk result (IsEnded (search_of (cuts plan.now.branching) instance.now plan.now.root.now (best_with instance.now plan.now.start.now)) plan.now.crew.limit) }
+    ensures one_each { IfOk result (λ run. length run.reports.items ≡ plan.now.crew.workers) }
     ensures reached { IfOk result (λ run. IsReached L.reached run.space) }
 {
-    let count = usize::from(plan.workers);
+    let count = usize::from(plan.crew.workers);
     let room = Left::with_capacity(alloc, count)?;
     let templates = Templates::new(alloc)?;
     let watch = Watch {
@@ -372,13 +364,13 @@ where
         depth: plan.root.facilities().len(),
     };
     let staffed = staff::<L>(alloc, instance, space, blank, plan)?;
-    Ok(run_out(rt, staffed, room, &watch, keeper, gate))
+    Ok(run_out(rt, staffed, room, &watch, keeper))
 }
 
-/// By whom a space is kept: the clock, who may stop the search, and who watches it.
+/// By whom a space is kept: what its workers go by, who may stop the search, and who watches it.
 #[derive(Drop)]
-struct Keeper<'a, C, S, O> {
-    clock: &'a C,
+struct Keeper<'a, C, G, S, O> {
+    pace: &'a Pace<'a, C, G>,
     stop: &'a S,
     observer: &'a O,
 }
@@ -424,20 +416,20 @@ fn staff<L: Law>(
 ) -> Result<Staffed<L>, AllocError>
     requires name { blank.name ≡ L.name }
     requires parts { blank.parts ≡ L.parts }
-    requires one_each { plan.now.workers ≡ L.parts }
-    requires few { plan.now.workers ≤ 64 }
+    requires one_each { plan.now.crew.workers ≡ L.parts }
+    requires few { plan.now.crew.workers ≤ 64 }
     requires start { Permutes instance.now plan.now.start.now }
     requires law { IsSearchLaw (cuts plan.now.branching) instance.now L.lawful L.allowed }
-    requires limit { L.limit ≡ plan.now.limit }
+    requires limit { L.limit ≡ plan.now.crew.limit }
     requires lawful { L.lawful (content_of space) space.commits }
     requires fresh { space.commits ≡ 0 }
-    requires reached { L.reached (place_of space plan.now.workers 0 (is_reached plan.now.limit 0)) }
-    ensures { IfOk result (λ made. vec_len made.seats ≡ plan.now.workers) }
+    requires reached { L.reached (place_of space plan.now.crew.workers 0 (is_reached plan.now.crew.limit 0)) }
+    ensures { IfOk result (λ made. vec_len made.seats ≡ plan.now.crew.workers) }
 {
     let ranked = shared_rows(alloc, instance)?;
     let symmetries = shared_symmetries(alloc, instance, plan.branching)?;
-    let workers = usize::from(plan.workers);
-    let (shared, shares) = shared_under::<L>(alloc, blank, space, workers, plan.limit)?;
+    let workers = usize::from(plan.crew.workers);
+    let (shared, shares) = shared_under::<L>(alloc, blank, space, workers, plan.crew.limit)?;
     let seats = seats_for(alloc, &ranked, &symmetries, plan, shares)?;
     Ok(Staffed { shared, seats })
 }
@@ -448,8 +440,7 @@ fn run_out<L, R, C, G, S, O>(
     staffed: Staffed<L>,
     room: Left<L>,
     watch: &Watch<'_>,
-    keeper: &Keeper<'_, C, S, O>,
-    gate: &G,
+    keeper: &Keeper<'_, C, G, S, O>,
 ) -> Run
 where
     L: Law + Send + Sync,
@@ -474,7 +465,7 @@ where
         shared: &shared,
         nodes: &watch.templates.nodes,
         best: &watch.templates.best,
-        gate,
+        gate: keeper.pace.gate,
     };
     work_all(&place, &seats, watch, keeper);
     let Left { shares, reports } = left_by(room, seats);
@@ -542,7 +533,7 @@ fn seats_for<L: Law>(
     ensures { IfOk result (λ seats. vec_len seats ≡ vec_len shares) }
 {
     let known = Some(cost(ranked.instance(), plan.start));
-    let others = jobs_beside(usize::from(plan.workers), ranked.instance().size());
+    let others = jobs_beside(usize::from(plan.crew.workers), ranked.instance().size());
     let mut seats = Vec::with_capacity(alloc, shares.len())?;
     let mut rest = shares;
     let mut worker = 0;
@@ -556,7 +547,7 @@ fn seats_for<L: Law>(
             symmetries,
             worker,
             ranked,
-            plan.lease_ms,
+            plan.crew.lease_ms,
         )?
         .beside(idle_jobs(alloc, others)?);
         seats.push(Mutex::new(Seat::new(worker, hand, share)))?;
@@ -580,7 +571,7 @@ fn work_all<R, L, C, G, S, O>(
     place: &Workplace<'_, R, L, G>,
     seats: &[Mutex<Seat<L>>],
     watch: &Watch<'_>,
-    keeper: &Keeper<'_, C, S, O>,
+    keeper: &Keeper<'_, C, G, S, O>,
 )
 where
     R: Threads + Wait + time::Clock + Sync,
@@ -611,7 +602,7 @@ fn work<R: Wait, L: Law, G: Gate>(place: &Workplace<'_, R, L, G>, seat: &Mutex<S
 fn keep<R, L, C, G, S, O>(
     place: &Workplace<'_, R, L, G>,
     watch: &Watch<'_>,
-    keeper: &Keeper<'_, C, S, O>,
+    keeper: &Keeper<'_, C, G, S, O>,
 )
 where
     R: Wait + time::Clock,
@@ -630,7 +621,7 @@ where
         if place.shared.close(place.rt, place.nodes) {
             return;
         }
-        let now = keeper.clock.now();
+        let now = keeper.pace.clock.now();
         // A moment that is too late changes nothing.
         let _ = place.shared.advance(place.rt, now);
         if now >= due && keeper.observer.is_watching() {

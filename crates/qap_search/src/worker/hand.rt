@@ -18,7 +18,7 @@ use crate::worker::ground::Ground;
 use crate::worker::job::Job;
 use crate::worker::prepared::prepare_at;
 use crate::worker::report::{Ended, Report};
-use crate::worker::stage::{Desk, Stage, Tally, Tools};
+use crate::worker::stage::{Desk, Stage, Standing, Tally, Tools};
 use crate::worker::thinking::{stage_thought, think_in};
 use crate::worker::turn::{is_hopeful, turn};
 use gilmore_lawler::RankedInstance;
@@ -111,6 +111,7 @@ impl Hand {
         ensures accepted { IfOk result (λ hand. hand.accepted ≡ 0) }
         ensures value { IfOk result (λ hand. hand ≡ new_hand (cuts branching) (arc_value instance) lease_ms) }
     {
+        // Its clause says that this is an instance.
         let _instance = instance.instance();
         let desk = Desk::new(alloc)?;
         let tools = Tools {
@@ -210,8 +211,10 @@ impl Hand {
             room,
             share,
             &self.job.last,
-            stage,
-            self.tally,
+            Standing {
+                stage,
+                tally: self.tally,
+            },
             &mut self.job.prepared,
             &mut self.job.reserve.spare,
         );

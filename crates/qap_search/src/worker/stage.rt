@@ -129,6 +129,13 @@ pub(crate) struct Tally {
     pub(crate) refused: u64,
 }
 
+/// Where a worker stands in its turn, and what it remembers and counts.
+#[derive(Drop)]
+pub(crate) struct Standing {
+    pub(crate) stage: Stage,
+    pub(crate) tally: Tally,
+}
+
 /// Where a step leaves a worker, and whether it met no refusal.
 #[derive(Drop)]
 pub(crate) struct Outcome {

@@ -18,7 +18,7 @@ ghost use Rattle.qap_search.specs.declared.worker.stage.Stage.TheVariants.{Begun
 
 use crate::worker::best_steps::{read_best, take_best};
 use crate::worker::prepared::Prepared;
-use crate::worker::stage::{LastThought, Outcome, Stage, Tally, Tools};
+use crate::worker::stage::{LastThought, Outcome, Stage, Standing, Tally, Tools};
 use shared_space::{CommitError, Law, Room, Share};
 use space_txn::{Found, Spare, Txn, TxnError};
 use std::alloc::AllocError;
@@ -30,21 +30,21 @@ pub(crate) fn turn<L: Law, M: Room<L>>(
     room: &mut M,
     share: &mut Share<L>,
     last: &Option<LastThought>,
-    stage: Stage,
-    tally: Tally,
+    standing: Standing,
     prepared: &mut Prepared,
     spare: &mut Option<Spare>,
 ) -> Outcome
-    requires hand { IsSearchHand L.lawful L.allowed tools.now last.now stage }
-    requires not_due { is_due stage ≡ false }
-    requires counted { tally.accepted ≤ share.old }
-    ensures turn { (I : Problem) → IsHand I tools.now last.now stage → HasPrepared (cuts tools.now.branching) I last.now prepared.old → IsSearchLaw (cuts tools.now.branching) I L.lawful L.allowed →
-        Turn M.did (hand_of (cuts tools.now.branching) I tools.now.lease_ms (last_of last.now) stage tally) room.old result.told
+    requires hand { IsSearchHand L.lawful L.allowed tools.now last.now standing.stage }
+    requires not_due { is_due standing.stage ≡ false }
+    requires counted { standing.tally.accepted ≤ share.old }
+    ensures turn { (I : Problem) → IsHand I tools.now last.now standing.stage → HasPrepared (cuts tools.now.branching) I last.now prepared.old → IsSearchLaw (cuts tools.now.branching) I L.lawful L.allowed →
+        Turn M.did (hand_of (cuts tools.now.branching) I tools.now.lease_ms (last_of last.now) standing.stage standing.tally) room.old result.told
         (hand_of (cuts tools.now.branching) I tools.now.lease_ms (last_of last.now) result.stage result.tally) room.new }
-    ensures stage { (I : Problem) → IsHand I tools.now last.now stage → HasPrepared (cuts tools.now.branching) I last.now prepared.old → IsSearchLaw (cuts tools.now.branching) I L.lawful L.allowed →
+    ensures stage { (I : Problem) → IsHand I tools.now last.now standing.stage → HasPrepared (cuts tools.now.branching) I last.now prepared.old → IsSearchLaw (cuts tools.now.branching) I L.lawful L.allowed →
         IsStage (cuts tools.now.branching) I (last_of last.now) result.stage }
-    ensures counted { share.new + tally.accepted ≡ share.old + result.tally.accepted }
+    ensures counted { share.new + standing.tally.accepted ≡ share.old + result.tally.accepted }
 {
+    let Standing { stage, tally } = standing;
     match stage {
         Stage::Idle => begin(room, tools.lease_ms, spare, tally),
         Stage::Begun(txn) => take_node(room, &tools.node, txn, tally),

@@ -13,7 +13,7 @@ returns-clause-answer g c =
     let known = best_with I plan.start.now in
     let S : Search = search_of (cuts plan.branching) I plan.root.now known in
     IfOk-weaker c.proved_of.result _ _
-    (λ a h. subst (λ (n : ℕ). IsProvedFrom S n plan.limit a) c.in_ok-run.ensures.one_each (h (cuts plan.branching) known plan.limit c.in_ok-run.ensures.ended))
+    (λ a h. subst (λ (n : ℕ). IsProvedFrom S n plan.crew.limit a) c.in_ok-run.ensures.one_each (h (cuts plan.branching) known plan.crew.limit c.in_ok-run.ensures.ended))
     c.proved_of.ensures.proved
 
 pub returns-clause-ran : goal.returns-clause-ran
@@ -23,4 +23,4 @@ returns-clause-ran g c =
     let S : Search = search_of (cuts plan.branching) I plan.root.now (best_with I plan.start.now) in
     let ran = c.in_ok-run.ensures.ran in
     let ended = c.in_ok-run.ensures.ended in
-    IfOk-weaker c.proved_of.result _ _ (λ a told. ran_so S plan.workers plan.limit c.in_ok-run.run' a.open_nodes a.reports.items ran ended told) c.proved_of.ensures.tells
+    IfOk-weaker c.proved_of.result _ _ (λ a told. ran_so S plan.crew.workers plan.crew.limit c.in_ok-run.run' a.open_nodes a.reports.items ran ended told) c.proved_of.ensures.tells

@@ -20,4 +20,4 @@ pub search-requires-clause-reached : goal.search-requires-clause-reached
 search-requires-clause-reached g c =
     let I = c.args.instance.now in
     let S = search_of (cuts c.args.plan.now.branching) I c.args.plan.now.root.now (best_with I c.args.plan.now.start.now) in
-    λ κs alive. no_acts_yet (MayReplace S.cutting S.instance) c.args.plan.now.limit _
+    λ κs alive. no_acts_yet (MayReplace S.cutting S.instance) c.args.plan.now.crew.limit _

@@ -19,9 +19,9 @@ ghosts-search-L-Law g a =
     record {
       lawful = IsCutTree S;
       allowed = MayReplace S.cutting S.instance;
-      limit = a.plan.now.limit;
-      reached = Run (MayReplace S.cutting S.instance) a.plan.now.limit (place_of a.space a.plan.now.workers 0 (is_reached a.plan.now.limit 0));
+      limit = a.plan.now.crew.limit;
+      reached = Run (MayReplace S.cutting S.instance) a.plan.now.crew.limit (place_of a.space a.plan.now.crew.workers 0 (is_reached a.plan.now.crew.limit 0));
       unordered = cut_trees_unordered S;
       keeps = cut_trees_kept S;
-      goes_on = runs_go_on (MayReplace S.cutting S.instance) a.plan.now.limit (place_of a.space a.plan.now.workers 0 (is_reached a.plan.now.limit 0));
+      goes_on = runs_go_on (MayReplace S.cutting S.instance) a.plan.now.crew.limit (place_of a.space a.plan.now.crew.workers 0 (is_reached a.plan.now.crew.limit 0));
     }

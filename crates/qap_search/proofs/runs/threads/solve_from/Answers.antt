@@ -15,10 +15,10 @@ returns-clause-ran g c =
     let known = best_with I plan.start.now in
     let S : Search = from_root I known in
     let run = c.in_ok-run.run' in
-    let ended : IsEnded S plan.limit run = subst (λ (x : Placement). IsEnded (search_of false I x known) plan.limit run) c.requires.whole
-    (subst (λ (cutting : Bool). IsEnded (search_of cutting I plan.root.now known) plan.limit run) c.requires.plain c.in_ok-run.ensures.ended) in
-    let ran : RanTo S plan.workers plan.limit run.space =
-    subst (λ (x : Placement). RanTo (search_of false I x known) plan.workers plan.limit run.space) c.requires.whole
-    (subst (λ (cutting : Bool). RanTo (search_of cutting I plan.root.now known) plan.workers plan.limit run.space) c.requires.plain c.in_ok-run.ensures.ran) in
-    ran_behind (λ (a : Answer). a.reports.items) S plan.workers plan.limit run (λ (a : Answer). IsAnswer I (length run.reports.items) plan.limit a) c.answer_of.result ran ended
+    let ended : IsEnded S plan.crew.limit run = subst (λ (x : Placement). IsEnded (search_of false I x known) plan.crew.limit run) c.requires.whole
+    (subst (λ (cutting : Bool). IsEnded (search_of cutting I plan.root.now known) plan.crew.limit run) c.requires.plain c.in_ok-run.ensures.ended) in
+    let ran : RanTo S plan.crew.workers plan.crew.limit run.space =
+    subst (λ (x : Placement). RanTo (search_of false I x known) plan.crew.workers plan.crew.limit run.space) c.requires.whole
+    (subst (λ (cutting : Bool). RanTo (search_of cutting I plan.root.now known) plan.crew.workers plan.crew.limit run.space) c.requires.plain c.in_ok-run.ensures.ran) in
+    ran_behind (λ (a : Answer). a.reports.items) S plan.crew.workers plan.crew.limit run (λ (a : Answer). IsAnswer I (length run.reports.items) plan.crew.limit a) c.answer_of.result ran ended
     (c.answer_of.ensures.answer known ended) c.answer_of.ensures.tells

@@ -12,8 +12,8 @@ use Rattle.qap_search.proofs.runs.threads.solve_least.Goals as goal
 pub returns-clause-answer : goal.returns-clause-answer
 returns-clause-answer g c =
     let I = c.args.instance.now in
-    let workers = c.args.workers in
-    let limit = c.args.limit in
+    let workers = c.args.crew.workers in
+    let limit = c.args.crew.limit in
     let run = c.in_ok-run.run' in
     let start = c.in_ok-root.field-0.start in
     let ended : IsEnded (whole I) limit run =
@@ -25,8 +25,8 @@ returns-clause-answer g c =
 pub returns-clause-ran : goal.returns-clause-ran
 returns-clause-ran g c =
     let I = c.args.instance.now in
-    let workers = c.args.workers in
-    let limit = c.args.limit in
+    let workers = c.args.crew.workers in
+    let limit = c.args.crew.limit in
     let run = c.in_ok-run.run' in
     let start = c.in_ok-root.field-0.start in
     let S : Search = whole I in

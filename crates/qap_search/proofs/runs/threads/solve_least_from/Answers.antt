@@ -16,8 +16,8 @@ bounded_of-requires-clause-ended g c =
       cuts plan.branching,
       plan.root.now,
       known,
-      plan.limit,
-      subst (λ (J : Problem). IsEnded (search_of (cuts plan.branching) J plan.root.now known) plan.limit c.in_ok-run.run') (sym c.in_ok-ending.ensures.instance) c.in_ok-run.ensures.ended,
+      plan.crew.limit,
+      subst (λ (J : Problem). IsEnded (search_of (cuts plan.branching) J plan.root.now known) plan.crew.limit c.in_ok-run.run') (sym c.in_ok-ending.ensures.instance) c.in_ok-run.ensures.ended,
     )
 
 pub returns-clause-answer : goal.returns-clause-answer
@@ -27,10 +27,10 @@ returns-clause-answer g c =
     let known = best_with I plan.start.now in
     let S : Search = search_of (cuts plan.branching) I plan.root.now known in
     IfOk-weaker c.bounded_of.result _ _
-    (λ a h. subst (λ (n : ℕ). IsBoundedFrom S n plan.limit a) c.in_ok-run.ensures.one_each
-    (subst (λ (J : Problem). IsEnded (search_of (cuts plan.branching) J plan.root.now known) plan.limit c.in_ok-run.run'
-    → IsBoundedFrom (search_of (cuts plan.branching) J plan.root.now known) (length c.in_ok-run.run'.reports.items) plan.limit a)
-    c.in_ok-ending.ensures.instance (h (cuts plan.branching) plan.root.now known plan.limit) c.in_ok-run.ensures.ended))
+    (λ a h. subst (λ (n : ℕ). IsBoundedFrom S n plan.crew.limit a) c.in_ok-run.ensures.one_each
+    (subst (λ (J : Problem). IsEnded (search_of (cuts plan.branching) J plan.root.now known) plan.crew.limit c.in_ok-run.run'
+    → IsBoundedFrom (search_of (cuts plan.branching) J plan.root.now known) (length c.in_ok-run.run'.reports.items) plan.crew.limit a)
+    c.in_ok-ending.ensures.instance (h (cuts plan.branching) plan.root.now known plan.crew.limit) c.in_ok-run.ensures.ended))
     c.bounded_of.ensures.bounded
 
 pub returns-clause-ran : goal.returns-clause-ran
@@ -40,4 +40,4 @@ returns-clause-ran g c =
     let S : Search = search_of (cuts plan.branching) I plan.root.now (best_with I plan.start.now) in
     let ran = c.in_ok-run.ensures.ran in
     let ended = c.in_ok-run.ensures.ended in
-    IfOk-weaker c.bounded_of.result _ _ (λ a told. ran_so S plan.workers plan.limit c.in_ok-run.run' a.open_nodes a.reports.items ran ended told) c.bounded_of.ensures.tells
+    IfOk-weaker c.bounded_of.result _ _ (λ a told. ran_so S plan.crew.workers plan.crew.limit c.in_ok-run.run' a.open_nodes a.reports.items ran ended told) c.bounded_of.ensures.tells

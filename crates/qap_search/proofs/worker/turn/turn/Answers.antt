@@ -14,7 +14,7 @@ returns-in-Begun-clause-stage g c = λ I hand prepared law. c.take_node.ensures.
 
 pub returns-in-Considered-clause-turn : goal.returns-in-Considered-clause-turn
 returns-in-Considered-clause-turn g c = λ I hand prepared law.
-    let P : Stage → Type 0 = λ s. Turn g.M.Room.did (hand_of (cuts c.args.tools.now.branching) I c.args.tools.now.lease_ms (last_of c.args.last.now) s c.args.tally) c.args.room.now c.find_best.result.told (hand_of (cuts c.args.tools.now.branching) I c.args.tools.now.lease_ms (last_of c.args.last.now) c.find_best.result.stage c.find_best.result.tally) c.find_best.new.room in
+    let P : Stage → Type 0 = λ s. Turn g.M.Room.did (hand_of (cuts c.args.tools.now.branching) I c.args.tools.now.lease_ms (last_of c.args.last.now) s c.args.standing.tally) c.args.room.now c.find_best.result.told (hand_of (cuts c.args.tools.now.branching) I c.args.tools.now.lease_ms (last_of c.args.last.now) c.find_best.result.stage c.find_best.result.tally) c.find_best.new.room in
     subst P (sym c.in-Considered.is) (c.find_best.ensures.turn I (subst (IsHand I c.args.tools.now c.args.last.now) c.in-Considered.is hand) prepared law)
 
 pub returns-in-Ready-clause-turn : goal.returns-in-Ready-clause-turn

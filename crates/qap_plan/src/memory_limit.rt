@@ -1,0 +1,60 @@
+//! A limit of a run's memory.
+
+use crate::keeper::Keeper;
+use qap_search::{Clock, Observer, Progress, Stop};
+use std::cell::Cell;
+
+/// Stops a search once the program has more memory than it may. All else is asked of another keeper.
+#[derive(Drop)]
+pub struct WithinMemory<'a, K: Keeper> {
+    keeper: &'a K,
+    /// How many bytes of memory the program may have.
+    allowed: Option<u64>,
+    is_passed: Cell<bool>,
+}
+
+impl<'a, K: Keeper> WithinMemory<'a, K> {
+    /// For a search that has come nowhere yet.
+    pub fn new(keeper: &'a K, allowed: Option<u64>) -> WithinMemory<'a, K> {
+        WithinMemory {
+            keeper,
+            allowed,
+            is_passed: Cell::new(false),
+        }
+    }
+
+    /// Whether the program is known to have more memory than it may.
+    fn is_too_much(&self) -> bool {
+        match (self.allowed, self.keeper.resident_bytes()) {
+            (Some(allowed), Some(taken)) => taken > allowed,
+            _ => false,
+        }
+    }
+}
+
+impl<K: Keeper> Clock for WithinMemory<'_, K> {
+    fn now(&self) -> u64 {
+        self.keeper.now()
+    }
+}
+
+impl<K: Keeper> Stop for WithinMemory<'_, K> {
+    fn is_wanted(&self) -> bool {
+        self.is_passed.get() || self.keeper.is_wanted()
+    }
+}
+
+impl<K: Keeper> Observer for WithinMemory<'_, K> {
+    fn is_watching(&self) -> bool {
+        self.allowed.is_some() || self.keeper.is_watching()
+    }
+
+    fn see(&self, progress: &Progress) {
+        if self.is_too_much() {
+            self.is_passed.set(true);
+        }
+        if self.keeper.is_watching() {
+            self.keeper.see(progress);
+        }
+    }
+}
