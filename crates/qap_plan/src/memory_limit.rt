@@ -25,9 +25,12 @@ impl<'a, K: Keeper> WithinMemory<'a, K> {
 
     /// Whether the program is known to have more memory than it may.
     fn is_too_much(&self) -> bool {
-        match (self.allowed, self.keeper.resident_bytes()) {
-            (Some(allowed), Some(taken)) => taken > allowed,
-            _ => false,
+        let Some(allowed) = self.allowed else {
+            return false;
+        };
+        match self.keeper.resident_bytes() {
+            Some(taken) => taken > allowed,
+            None => false,
         }
     }
 }
