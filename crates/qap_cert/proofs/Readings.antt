@@ -1,6 +1,8 @@
 -- Trees read one after another.
 use Rattle.std.proofs.Common.{◌≡◌, ℕ, zero, suc, ◌+◌, ◌-◌, ◌<◌, ◌++◌, List, [], ◌∷◌, ℤ, refl, sym, ◌∙◌, ap, subst, inl, inr, arith, append_assoc, append-nil, length, length-append}
 use Rattle.std.specs.Prelude.{codes}
+use Rattle.number_list.specs.NumberList.{numbers_held}
+use Rattle.number_list.specs.declared.lists.NumberList.{NumberList}
 use Rattle.qap_cert.proofs.Trees.{line_after-more}
 use Rattle.qap_lines.specs.Line.{line_after, IsLine}
 use Rattle.qap_cert.specs.Shape.{HasShape, AllHaveShape, child_count}
@@ -17,8 +19,6 @@ use Rattle.qap_cert.specs.declared.tree.Tree.{Tree}
 use Rattle.qap_cert.specs.declared.tree.Tree.TheFolds.{fold-roll-Tree}
 use Rattle.qap_cert.specs.declared.tree.Tree.TheOpen.{Bound as Layer}
 use Rattle.qap_cert.specs.declared.tree.Tree.TheVariants.{Bound, rolls-Bound}
-use Rattle.std.specs.declared.vec.Vec.{Vec}
-use Rattle.std.specs.declared.alloc.Global.{Global}
 
 -- trees in a row, and one more behind them
 abbrev pub with_last : Nodes → Node → Nodes
@@ -96,5 +96,5 @@ IsTreeTextFault-among w n placed inner number next text rest f e some inner_is i
     subst (λ (k : ℕ). IsTreeTextFault w n k placed number text e) (sym fuel) (inr (f, rest, is, may, free, moved))
 
 -- what a bound says
-pub node_of-Bound : (t : Tree) (u v : Vec ℤ Global) → t ≡ Bound u v → node_of t ≡ bound u.items v.items
+pub node_of-Bound : (t : Tree) (u v : NumberList) → t ≡ Bound u v → node_of t ≡ bound (numbers_held u) (numbers_held v)
 node_of-Bound t u v is = ap node_of is ∙ ap node_of (sym (rolls-Bound u v)) ∙ fold-roll-Tree Node node_step (Layer u v)

@@ -1,6 +1,7 @@
 -- Search trees: how the permutations of an instance are split up, and what closes each part. Apart from where a tree lies
 -- in memory.
 use Rattle.std.specs.Prelude.{ℕ, ◌+◌, List, [], ◌∷◌, map, ℤ}
+use Rattle.number_list.specs.NumberList.{numbers_held}
 use Rattle.qap_cert.specs.declared.tree.Tree.{Tree}
 use Rattle.qap_cert.specs.declared.tree.Tree.TheOpen.{Tree-F, Split, Bound}
 use Rattle.qap_cert.specs.declared.tree.Tree.TheFolds.{fold-Tree}
@@ -23,7 +24,7 @@ in_row (t ∷ ts) = node t (in_row ts)
 -- what a tree says, once each child has said it
 abbrev pub node_step : Tree-F Node → Node
 node_step (Split facility children) = split facility (in_row children.items)
-node_step (Bound u v) = bound u.items v.items
+node_step (Bound u v) = bound (numbers_held u) (numbers_held v)
 
 -- what a tree says
 abbrev pub node_of : Tree → Node

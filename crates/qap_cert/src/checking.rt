@@ -20,6 +20,15 @@ use gilmore_lawler::{FlowRows, RankedInstance, SplitRows, Workspace, dual_sum};
 use qap_cost::{Instance, Partial, Perm, cost};
 use std::alloc::{AllocError, Global};
 
+/// What a tree is judged by: the instance, and the bound that it is to show, in the units of the costs; and where the memory for
+/// that comes from.
+#[derive(Clone, Copy)]
+struct Judge<'a> {
+    alloc: Global,
+    ranked: &'a RankedInstance,
+    bound: i128,
+}
+
 /// A split whose children are judged: the node that it is of, its facility, and the locations that it has children for.
 #[derive(Clone, Copy)]
 pub(crate) struct Parent<'a> {
@@ -47,13 +56,16 @@ pub fn check(alloc: Global, instance: &Instance, certificate: &Certificate) -> R
     let ranked = RankedInstance::new(alloc, instance)?;
     let rows = FlowRows::new(&ranked, &root)?;
     let mut workspace = Workspace::new(alloc);
+    let judge = Judge {
+        alloc,
+        ranked: &ranked,
+        bound: certificate.bound(),
+    };
     let line = certificate.tree_line();
-    let bound = certificate.bound();
     check_tree(
         &mut workspace,
-        &ranked,
+        &judge,
         &rows,
-        bound,
         &root,
         certificate.tree(),
         line,
@@ -90,19 +102,18 @@ pub(crate) fn judge_perm(instance: &Instance, perm: &Perm, stated: i128) -> Resu
 #[cycle(check)]
 fn check_tree(
     workspace: &mut Workspace,
-    ranked: &RankedInstance,
+    judge: &Judge<'_>,
     rows: &FlowRows<'_>,
-    bound: i128,
     node: &Partial,
     tree: &Tree,
     line: u64,
 ) -> Result<u64, CertError>
-    requires same_size { ranked.now.size ≡ node.now.size }
-    requires rows { rows.now ≡ record { instance = ranked.now; facilities = node.now.facilities } }
+    requires same_size { judge.now.ranked.now.size ≡ node.now.size }
+    requires rows { rows.now ≡ record { instance = judge.now.ranked.now; facilities = node.now.facilities } }
     requires shape { HasShape Second node.now.size node.now.facilities (node_of tree.now) }
     ensures { MatchResult result
-        (λ next. Valid ranked.now bound node.now (node_of tree.now) × (next ≡ line_after line (node_count (node_of tree.now))))
-        (λ e. (e ≡ OutOfMemory) ⊎ IsTreeFault ranked.now bound node.now line (node_of tree.now) e) }
+        (λ next. Valid judge.now.ranked.now judge.now.bound node.now (node_of tree.now) × (next ≡ line_after line (node_count (node_of tree.now))))
+        (λ e. (e ≡ OutOfMemory) ⊎ IsTreeFault judge.now.ranked.now judge.now.bound node.now line (node_of tree.now) e) }
 {
     match tree {
         Tree::Split { facility, children } => {
@@ -113,10 +124,12 @@ fn check_tree(
                 locations: &locations,
             };
             let first = line.saturating_add(1);
-            check_children(workspace, ranked, bound, &parent, children, first)
+            check_children(workspace, judge, &parent, children, first)
         }
         Tree::Bound { u, v } => {
-            check_bound(workspace, rows, bound, node, u, v, line)?;
+            let u = u.numbers().to_vec(judge.alloc)?;
+            let v = v.numbers().to_vec(judge.alloc)?;
+            check_bound(workspace, rows, judge.bound, node, &u, &v, line)?;
             Ok(line.saturating_add(1))
         }
     }
@@ -126,29 +139,28 @@ fn check_tree(
 #[cycle(check)]
 fn check_children(
     workspace: &mut Workspace,
-    ranked: &RankedInstance,
-    bound: i128,
+    judge: &Judge<'_>,
     parent: &Parent<'_>,
     children: &[Tree],
     line: u64,
 ) -> Result<u64, CertError>
-    requires same_size { ranked.now.size ≡ parent.now.node.now.size }
+    requires same_size { judge.now.ranked.now.size ≡ parent.now.node.now.size }
     requires facility { IsFreeFacility parent.now.node.now parent.now.facility }
     requires free { (i : ℕ) → i < length parent.now.locations.now → IsFreeLocation parent.now.node.now (slice_index parent.now.locations.now i) }
     requires some { 0 < length parent.now.locations.now }
     requires one_each { length children.now ≡ length parent.now.locations.now }
     requires shape { AllHaveShape Second parent.now.node.now.size (parent.now.node.now.facilities ++ parent.now.facility ∷ []) (nodes_of children.now) }
     ensures { MatchResult result
-        (λ next. AllValid ranked.now bound parent.now.node.now parent.now.facility parent.now.locations.now (nodes_of children.now)
+        (λ next. AllValid judge.now.ranked.now judge.now.bound parent.now.node.now parent.now.facility parent.now.locations.now (nodes_of children.now)
         × (next ≡ line_after line (nodes_count (nodes_of children.now))))
         (λ e. (e ≡ OutOfMemory)
-        ⊎ IsTreeFaultAmong ranked.now bound parent.now.node.now parent.now.facility parent.now.locations.now line (nodes_of children.now) e) }
+        ⊎ IsTreeFaultAmong judge.now.ranked.now judge.now.bound parent.now.node.now parent.now.facility parent.now.locations.now line (nodes_of children.now) e) }
 {
-    let rows = child_rows(ranked, parent)?;
+    let rows = child_rows(judge.ranked, parent)?;
     let mut next = line;
     for (i, child) in children.iter().enumerate() {
         let part = parent.node.place(parent.facility, parent.locations[i])?;
-        next = check_tree(workspace, ranked, &rows, bound, &part, child, next)?;
+        next = check_tree(workspace, judge, &rows, &part, child, next)?;
     }
     Ok(next)
 }

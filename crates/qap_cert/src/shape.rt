@@ -1,6 +1,7 @@
 //! Whether a tree has the shape that its size asks for.
 
 ghost use Rattle.std.specs.Prelude.{◌≡◌, ◌-◌, ◌<◌, ◌≤◌, ◌↔◌, IsTrue, length, MatchResult};
+ghost use Rattle.number_list.specs.Numbers.{numbers_in};
 ghost use Rattle.qap_cost.specs.Placement.{IsFree};
 ghost use Rattle.qap_cert.specs.Fault.{IsDualFault, IsFacilityFault, IsSplitFault, IsShapeFault, IsShapeFaultAmong};
 ghost use Rattle.qap_lines.specs.Line.{line_after};
@@ -12,6 +13,7 @@ ghost use Rattle.qap_cert.specs.declared.version.Version.TheVariants.{Second};
 use crate::CertError;
 use crate::placed::Placed;
 use crate::tree::Tree;
+use number_list::Numbers;
 use qap_lines::are_limited;
 
 /// The line behind those of a tree that begins at this line, in which these of so many facilities are placed; or what is
@@ -36,7 +38,7 @@ pub(crate) fn judge_tree(
             judge_trees(children, size, &inner, line.saturating_add(1))
         }
         Tree::Bound { u, v } => {
-            judge_duals(u, v, size - placed.count(), line)?;
+            judge_duals(&u.numbers(), &v.numbers(), size - placed.count(), line)?;
             Ok(line.saturating_add(1))
         }
     }
@@ -106,10 +108,10 @@ fn is_free(facility: u16, size: usize, placed: &Placed) -> bool
 }
 
 /// Whether there is a dual for each of so many facilities and locations, and all are within -10^24 to 10^24.
-fn judge_duals(u: &[i128], v: &[i128], free: usize, line: u64) -> Result<(), CertError>
+fn judge_duals(u: &Numbers<'_>, v: &Numbers<'_>, free: usize, line: u64) -> Result<(), CertError>
     ensures { MatchResult result
-        (λ done. AreDuals free u.now v.now)
-        (λ e. IsDualFault free line u.now v.now e) }
+        (λ done. AreDuals free (numbers_in u.now) (numbers_in v.now))
+        (λ e. IsDualFault free line (numbers_in u.now) (numbers_in v.now) e) }
 {
     if u.len() != free || v.len() != free {
         return Err(CertError::DualCount(line));

@@ -1,10 +1,12 @@
 //! Search trees.
 
+use number_list::NumberList;
+
 /// A part of the permutations of an instance: all that complete a node of the search.
 #[derive(Drop)]
 pub enum Tree {
     /// The facility is put at each free location in turn, the free locations ascending.
     Split { facility: u16, children: Vec<Tree> },
     /// The part is closed by duals of its reduced matrix.
-    Bound { u: Vec<i128>, v: Vec<i128> },
+    Bound { u: NumberList, v: NumberList },
 }

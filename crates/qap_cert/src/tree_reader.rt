@@ -13,6 +13,7 @@ use crate::error::CertError;
 use crate::node_line::{Grammar, bound_numbers, node_line};
 use crate::placed::Placed;
 use crate::tree::Tree;
+use number_list::NumberList;
 use std::alloc::Global;
 
 /// A tree, the text behind its lines, and the number of the line there.
@@ -59,8 +60,8 @@ pub(crate) fn read_tree<'a>(
     let Some(facility) = first.facility else {
         let duals = read_duals(alloc, first.bytes, grammar, placed, line)?;
         let tree = Tree::Bound {
-            u: duals.u,
-            v: duals.v,
+            u: NumberList::narrowed(duals.u),
+            v: NumberList::narrowed(duals.v),
         };
         return Ok(TreeRead {
             tree,

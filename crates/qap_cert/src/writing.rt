@@ -88,7 +88,7 @@ fn write_tree<W: Write>(
             write_split(writer, line, *facility)?;
             write_trees(writer, line, children)
         }
-        Tree::Bound { u, v } => write_both(writer, line, b"b", u, v),
+        Tree::Bound { u, v } => write_both(writer, line, b"b", &u.numbers(), &v.numbers()),
     }
 }
 

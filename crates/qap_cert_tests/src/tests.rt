@@ -1,5 +1,6 @@
 //! What no clause says: that calls succeed, and that the costs, the duals and the lines are those of worked examples.
 
+use number_list::NumberList;
 use qap_cert::{CertError, Certificate, Tree, check};
 use qap_cost::{Instance, Perm};
 use std::alloc::{AllocError, Global};
@@ -25,8 +26,8 @@ fn three(alloc: Global) -> Result<Option<Instance>, AllocError> {
 
 fn bound(alloc: Global, u: &[i128], v: &[i128]) -> Result<Tree, AllocError> {
     Ok(Tree::Bound {
-        u: Vec::from_slice(alloc, u)?,
-        v: Vec::from_slice(alloc, v)?,
+        u: NumberList::narrowed(Vec::from_slice(alloc, u)?),
+        v: NumberList::narrowed(Vec::from_slice(alloc, v)?),
     })
 }
 

@@ -1,10 +1,12 @@
 //! Numbers of a line.
 
 ghost use Rattle.std.specs.Prelude.{◌↔◌, IsTrue, ◌≡◌, ◌≢◌, ◌<◌, ◌≤◌, ◌+◌, ◌^◌, ◌++◌, ◌∷◌, [], ℕ, ℤ, pos, neg_ℤ, List, length, map, take, min, MatchOption, IfOk, slice_index};
+ghost use Rattle.number_list.specs.Numbers.{numbers_in};
 ghost use Rattle.qap_cost.specs.Range.{AllLimited, IsLimited};
 ghost use Rattle.qap_lines.specs.Number.{Spells, IsNamed, held};
 ghost use Rattle.qap_lines.specs.Numeral.{IsFrontDecimal, IsFrontNumber, HasNoFrontDecimal, HasNoFrontNumber};
 
+use number_list::Numbers;
 use qap_cost::MAX_VALUE;
 use qap_io::{Digits, MAX_READ, front_digits, negated};
 use std::alloc::AllocError;
@@ -112,7 +114,7 @@ pub fn one_number(name: &[u8], line: &[u8]) -> Option<i128>
 
 /// The numbers of a line: how many they are, and whether all are within -10^24 to 10^24.
 #[derive(Clone, Copy)]
-pub struct Numbers {
+pub struct LineNumbers {
     pub count: usize,
     pub limited: bool,
 }
@@ -126,7 +128,7 @@ pub fn read_numbers(
     line: &[u8],
     wanted: usize,
     first: &mut Vec<i128>,
-) -> Result<Option<Numbers>, AllocError>
+) -> Result<Option<LineNumbers>, AllocError>
     ensures { IfOk result (λ found. MatchOption found
         ((zs : List ℤ) → IsNamed name.now line.now zs → ⊥)
         (λ r. (zs : List ℤ) × IsNamed name.now line.now zs × (r.count ≡ length zs) × (IsTrue r.limited ↔ AllLimited zs) × (first.new.items ≡ map held (take wanted zs)))) }
@@ -153,7 +155,7 @@ pub fn read_numbers(
         count += 1;
         rest = &after[numeral.count..];
     }
-    Ok(Some(Numbers { count, limited }))
+    Ok(Some(LineNumbers { count, limited }))
 }
 
 /// Whether numbers are within -10^24 to 10^24, where those before were, or weren't, and one more comes.
@@ -164,11 +166,11 @@ fn still_limited(limited: bool, numeral: Numeral) -> bool
 }
 
 /// Whether the numbers are within -10^24 to 10^24.
-pub fn are_limited(numbers: &[i128]) -> bool
-    ensures { IsTrue result ↔ AllLimited numbers.now }
+pub fn are_limited(numbers: &Numbers<'_>) -> bool
+    ensures { IsTrue result ↔ AllLimited (numbers_in numbers.now) }
 {
-    for &number in numbers {
-        if number.unsigned_abs() > MAX_VALUE {
+    for place in 0..numbers.len() {
+        if numbers.at(place).unsigned_abs() > MAX_VALUE {
             return false;
         }
     }

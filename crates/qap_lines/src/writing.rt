@@ -2,11 +2,13 @@
 
 ghost use Rattle.std.specs.Prelude.{◌≡◌, ◌+◌, ◌++◌, ◌∷◌, [], pos, length, codes, OnOk};
 ghost use Rattle.std.specs.Fmt.{signed_decimal};
+ghost use Rattle.number_list.specs.Numbers.{numbers_in};
 ghost use Rattle.qap_io.specs.Number.{from_one as counted_from_one};
 ghost use Rattle.qap_lines.specs.LineText.{numbers_text, line_text, head_text};
 ghost use Rattle.qap_lines.specs.Writing.{Writes};
 
 use itoa::{Buffer, Integer};
+use number_list::Numbers;
 use qap_cost::Perm;
 use qap_io::{Counted, Device, put};
 use std::alloc::AllocError;
@@ -64,11 +66,11 @@ pub fn push_number(line: &mut Vec<u8>, number: i128) -> Result<(), AllocError>
 }
 
 /// Puts numbers at the end of a line.
-pub fn push_numbers(line: &mut Vec<u8>, numbers: &[i128]) -> Result<(), AllocError>
-    ensures { OnOk result (line.new.items ≡ line.old.items ++ numbers_text numbers.now) }
+pub fn push_numbers(line: &mut Vec<u8>, numbers: &Numbers<'_>) -> Result<(), AllocError>
+    ensures { OnOk result (line.new.items ≡ line.old.items ++ numbers_text (numbers_in numbers.now)) }
 {
-    for number in numbers {
-        push_number(line, *number)?;
+    for place in 0..numbers.len() {
+        push_number(line, numbers.at(place))?;
     }
     Ok(())
 }
@@ -111,8 +113,13 @@ fn make_from_one(line: &mut Vec<u8>, name: &[u8], numbers: &[u16]) -> Result<(),
 }
 
 /// The line of a name and the numbers of two lists.
-fn make_both(line: &mut Vec<u8>, name: &[u8], u: &[i128], v: &[i128]) -> Result<(), AllocError>
-    ensures { OnOk result (line.new.items ≡ line_text name.now (u.now ++ v.now)) }
+fn make_both(
+    line: &mut Vec<u8>,
+    name: &[u8],
+    u: &Numbers<'_>,
+    v: &Numbers<'_>,
+) -> Result<(), AllocError>
+    ensures { OnOk result (line.new.items ≡ line_text name.now (numbers_in u.now ++ numbers_in v.now)) }
 {
     begin_line(line, name)?;
     push_numbers(line, u)?;
@@ -160,10 +167,10 @@ pub fn write_both<W: Write>(
     writer: &mut Counted<W>,
     line: &mut Vec<u8>,
     name: &[u8],
-    u: &[i128],
-    v: &[i128],
+    u: &Numbers<'_>,
+    v: &Numbers<'_>,
 ) -> Result<(), WriteError>
-    ensures { Writes W.contents writer.old writer.new (line_text name.now (u.now ++ v.now)) result }
+    ensures { Writes W.contents writer.old writer.new (line_text name.now (numbers_in u.now ++ numbers_in v.now)) result }
 {
     make_both(line, name, u, v)?;
     write_text(writer, line)

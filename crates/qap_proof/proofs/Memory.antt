@@ -4,10 +4,10 @@ use Rattle.std.specs.declared.vec.Vec.{Vec}
 use Rattle.std.specs.declared.alloc.Global.{Global}
 use Rattle.qap_proof.proofs.Rows.{with_last}
 use Rattle.qap_proof.specs.Memory.{node_step, node_of, nodes_of}
-use Rattle.qap_proof.specs.NodeLine.{pair_of, split_of}
+use Rattle.qap_proof.specs.NodeLine.{kept_pair_of, split_of}
 use Rattle.qap_proof.specs.Tree.{Node, closed, split, cut, mirrored, node, node_count, nodes_count, child_count}
 use Rattle.qap_proof.specs.declared.node_line.SplitLine.{SplitLine}
-use Rattle.qap_proof.specs.declared.tree.Duals.{Duals}
+use Rattle.qap_proof.specs.declared.tree.KeptDuals.{KeptDuals}
 use Rattle.qap_proof.specs.declared.tree.Tree.{Tree}
 use Rattle.qap_proof.specs.declared.tree.Tree.TheViews.{Split as SplitTree}
 use Rattle.qap_proof.specs.declared.tree.Tree.TheVariants.{Closed as ClosedTree, Cut as CutTree, Mirrored as MirroredTree, rolls-Closed, rolls-Split, rolls-Cut, rolls-Mirrored}
@@ -15,7 +15,7 @@ use Rattle.qap_proof.specs.declared.tree.Tree.TheOpen.{Closed as ClosedLayer, Sp
 use Rattle.qap_proof.specs.declared.tree.Tree.TheFolds.{fold-roll-Tree}
 
 -- what a node of each form says
-pub node_of-Closed : (t : Tree) (d : Duals) → t ≡ ClosedTree d → node_of t ≡ closed (pair_of d)
+pub node_of-Closed : (t : Tree) (d : KeptDuals) → t ≡ ClosedTree d → node_of t ≡ closed (kept_pair_of d)
 node_of-Closed t d is = ap node_of is ∙ ap node_of (sym (rolls-Closed d)) ∙ fold-roll-Tree Node node_step (ClosedLayer d)
 
 pub node_of-Split : (t : Tree) (s : SplitLine) (children : Vec Tree Global) → t ≡ SplitTree s children → node_of t ≡ split (split_of s) (nodes_of children.items)

@@ -1,5 +1,6 @@
 -- What the line of a node says, in memory.
 use Rattle.std.specs.Prelude.{◌≡◌, ℕ, ◌+◌, ◌<◌, ◌++◌, ◌∷◌, List, length, ℤ, pos, codes, Bool, true, Option, Some, None}
+use Rattle.number_list.specs.NumberList.{numbers_held}
 use Rattle.qap_cost.specs.Placement.{Placement}
 use Rattle.qap_io.specs.Number.{from_one}
 use Rattle.qap_lines.specs.Number.{IsNamed}
@@ -10,6 +11,7 @@ use Rattle.qap_proof.specs.Text.{letter, split_numbers}
 use Rattle.qap_proof.specs.TextFault.{IsSayingFault, mirrors}
 use Rattle.qap_proof.specs.Tree.{Pair, Split}
 use Rattle.qap_proof.specs.declared.tree.Duals.{Duals}
+use Rattle.qap_proof.specs.declared.tree.KeptDuals.{KeptDuals}
 use Rattle.qap_proof.specs.declared.node_line.SplitLine.{SplitLine}
 use Rattle.qap_proof.specs.declared.node_line.NodeLine.{NodeLine}
 use Rattle.qap_proof.specs.declared.node_line.NodeLine.TheVariants.{Closed, Split as SplitsAt, Cut, Mirrored}
@@ -18,9 +20,12 @@ use Rattle.qap_proof.specs.declared.error.ProofError.{ProofError}
 abbrev pub pair_of : Duals → Pair
 pair_of d = record { u = d.u.items; v = d.v.items }
 
-abbrev pub may_pair_of : Option Duals → Option Pair
+abbrev pub kept_pair_of : KeptDuals → Pair
+kept_pair_of d = record { u = numbers_held d.u; v = numbers_held d.v }
+
+abbrev pub may_pair_of : Option KeptDuals → Option Pair
 may_pair_of None = None
-may_pair_of (Some d) = Some (pair_of d)
+may_pair_of (Some d) = Some (kept_pair_of d)
 
 abbrev pub split_of : SplitLine → Split
 split_of s = record { side = s.side; number = s.number; duals = may_pair_of s.duals }

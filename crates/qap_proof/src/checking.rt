@@ -1,6 +1,7 @@
 //! Whether a proof shows that no permutation which completes its root costs less than its bound.
 
 ghost use Rattle.std.specs.Prelude.{◌≡◌, ◌<◌, ◌⊎◌, length, true, false, MatchResult, None, OnOk};
+ghost use Rattle.number_list.specs.NumberList.{numbers_held};
 ghost use Rattle.qap_cost.specs.Objective.{IsLeast, cost_of};
 ghost use Rattle.qap_cost.specs.Placement.{IsPlacement};
 ghost use Rattle.qap_lines.specs.Line.{line_after};
@@ -8,7 +9,7 @@ ghost use Rattle.qap_proof.specs.Cell.{others_on};
 ghost use Rattle.qap_proof.specs.Claim.{NoneCompletesForLess, Proves};
 ghost use Rattle.qap_proof.specs.Fault.{IsClosedFault, IsFault, IsPermMisfit, IsTreeFault, IsTreeFaultAmong};
 ghost use Rattle.qap_proof.specs.Memory.{node_of, nodes_of};
-ghost use Rattle.qap_proof.specs.NodeLine.{pair_of, split_of};
+ghost use Rattle.qap_proof.specs.NodeLine.{kept_pair_of, split_of};
 ghost use Rattle.gilmore_lawler.specs.Closing.{AreDuals, Closes};
 ghost use Rattle.qap_proof.specs.Shape.{HasShape, AllHaveShape, IsSplit, free_count, has_duals as has};
 ghost use Rattle.qap_proof.specs.Tree.{child as child_place, child_of, cut, mirrored, node_count, nodes_count, split as split_into, whole};
@@ -21,7 +22,7 @@ use crate::children::{child_node, free_others};
 use crate::error::ProofError;
 use crate::node_line::SplitLine;
 use crate::proof::Proof;
-use crate::tree::{Duals, Tree};
+use crate::tree::{KeptDuals, Tree};
 use crate::walking::{Judge, Parent, judge_closed, judge_cut, judge_mirrored, judge_split};
 use gilmore_lawler::{NodeRows, RankedInstance};
 use qap_cost::{Instance, Partial, Perm};
@@ -210,18 +211,19 @@ fn check_closed(
     rows: &mut NodeRows<'_>,
     judge: &Judge<'_>,
     node: &Partial,
-    duals: &Duals,
+    duals: &KeptDuals,
     line: u64,
 ) -> Result<(), ProofError>
     requires size { judge.now.instance.now.size ≡ node.now.size }
-    requires duals { AreDuals (free_count node.now) duals.now.u.items duals.now.v.items }
+    requires duals { AreDuals (free_count node.now) (numbers_held duals.now.u) (numbers_held duals.now.v) }
     requires rows { rows.old ≡ judge.now.instance.now }
     ensures judged { MatchResult result
-        (λ done. Closes judge.now.instance.now judge.now.bound node.now duals.now.u.items duals.now.v.items)
-        (λ e. (e ≡ OutOfMemory) ⊎ IsClosedFault judge.now.instance.now judge.now.bound node.now line (pair_of duals.now) e) }
+        (λ done. Closes judge.now.instance.now judge.now.bound node.now (numbers_held duals.now.u) (numbers_held duals.now.v))
+        (λ e. (e ≡ OutOfMemory) ⊎ IsClosedFault judge.now.instance.now judge.now.bound node.now line (kept_pair_of duals.now) e) }
     ensures same { rows.new ≡ rows.old }
 {
-    match judge_closed(rows, judge, node, duals, line, None)? {
+    let duals = duals.widened(judge.alloc)?;
+    match judge_closed(rows, judge, node, &duals, line, None)? {
         Some(fault) => Err(fault),
         None => Ok(()),
     }

@@ -1,12 +1,13 @@
 //! The leaves of a tree, and what each of them shows.
 
 ghost use Rattle.std.specs.Prelude.{◌≡◌, ◌<◌, ◌++◌, ◌∷◌, [], length, pos, slice_index_or, IfOk, OnOk, false};
+ghost use Rattle.number_list.specs.NumberList.{numbers_held};
 ghost use Rattle.qap_cost.specs.Placement.{IsPlacement};
 ghost use Rattle.qap_proof.specs.Cell.{others_on};
 ghost use Rattle.qap_proof.specs.Cover.{AreLeaves, leaf};
 ghost use Rattle.qap_proof.specs.Leaves.{AreAllPushed, ArePushed};
 ghost use Rattle.qap_proof.specs.Memory.{node_of, nodes_of};
-ghost use Rattle.qap_proof.specs.NodeLine.{pair_of, split_of};
+ghost use Rattle.qap_proof.specs.NodeLine.{kept_pair_of, split_of};
 ghost use Rattle.gilmore_lawler.specs.Closing.{AreDuals};
 ghost use Rattle.qap_proof.specs.Shape.{HasShape, AllHaveShape, IsSplit, free_count, has_duals as has};
 ghost use Rattle.qap_proof.specs.Tree.{child as child_place, child_of, closed, whole};
@@ -15,7 +16,7 @@ ghost use Rattle.qap_proof.specs.Walk.{AreReached};
 
 use crate::children::{child_node, free_others};
 use crate::node_line::SplitLine;
-use crate::tree::{Duals, Tree};
+use crate::tree::{KeptDuals, Tree};
 use crate::walking::{Judge, JudgedSplit, Parent, judge_split};
 use gilmore_lawler::{NodeRows, dual_sum};
 use qap_cost::Partial;
@@ -179,13 +180,14 @@ fn push_children(
 fn push_closed(
     judge: &Judge<'_>,
     node: &Partial,
-    duals: &Duals,
+    duals: &KeptDuals,
     leaves: &mut Vec<Leaf>,
 ) -> Result<(), AllocError>
     requires size { judge.now.instance.now.size ≡ node.now.size }
-    requires duals { AreDuals (free_count node.now) duals.now.u.items duals.now.v.items }
-    ensures { OnOk result (ArePushed judge.now.instance.now (whole node.now) (closed (pair_of duals.now)) leaves.old.items leaves.new.items) }
+    requires duals { AreDuals (free_count node.now) (numbers_held duals.now.u) (numbers_held duals.now.v) }
+    ensures { OnOk result (ArePushed judge.now.instance.now (whole node.now) (closed (kept_pair_of duals.now)) leaves.old.items leaves.new.items) }
 {
+    let duals = duals.widened(judge.alloc)?;
     let fixed = node.fixed_cost(judge.instance);
     let node = node.copy()?;
     let value = fixed + dual_sum(&duals.u, &duals.v);

@@ -48,5 +48,5 @@ pub use reached::child_values;
 pub use reader::read;
 pub use refining::refined;
 pub use side::Side;
-pub use tree::{Duals, Tree};
+pub use tree::{Duals, KeptDuals, Tree};
 pub use writing::write;

@@ -14,10 +14,10 @@ ghost use Rattle.qap_proof.specs.Tree.{IsFreeOn};
 
 use crate::error::ProofError;
 use crate::side::Side;
-use crate::tree::Duals;
+use crate::tree::{Duals, KeptDuals};
 use qap_cost::{Partial, Perm};
 use qap_io::from_one;
-use qap_lines::{Numbers, first_line, permutation_from_one, read_numbers};
+use qap_lines::{LineNumbers, first_line, permutation_from_one, read_numbers};
 use std::alloc::Global;
 
 /// A split: what it is on, and its duals, if it has any.
@@ -25,7 +25,7 @@ use std::alloc::Global;
 pub struct SplitLine {
     pub side: Side,
     pub number: u16,
-    pub duals: Option<Duals>,
+    pub duals: Option<KeptDuals>,
 }
 
 /// What the line of a node says.
@@ -182,7 +182,7 @@ fn split_line(
     Ok(Some(SplitLine {
         side,
         number: split,
-        duals: Some(Duals { u, v }),
+        duals: Some(Duals { u, v }.kept()),
     }))
 }
 
@@ -208,7 +208,7 @@ fn others(numbers: &[i128]) -> &[i128]
 }
 
 /// Whether there are as many numbers as are wanted, all within -10^24 to 10^24.
-fn judge_count(numbers: Numbers, wanted: usize, number: u64) -> Result<(), ProofError>
+fn judge_count(numbers: LineNumbers, wanted: usize, number: u64) -> Result<(), ProofError>
     ensures { MatchResult result
         (λ done. (numbers.count ≡ wanted) × (numbers.limited ≡ true))
         (λ e. ((e ≡ ProofError.DualCount number) × (numbers.count ≢ wanted)) ⊎ ((e ≡ ProofError.DualRange number) × (numbers.count ≡ wanted) × (numbers.limited ≢ true))) }

@@ -1,10 +1,11 @@
 //! Whether a tree has the shape that its root asks for.
 
 ghost use Rattle.std.specs.Prelude.{◌≡◌, ◌<◌, ◌≤◌, ◌⊎◌, ◌↔◌, IsTrue, length, true, false, MatchResult};
+ghost use Rattle.number_list.specs.NumberList.{numbers_held};
 ghost use Rattle.qap_lines.specs.Line.{line_after};
 ghost use Rattle.qap_proof.specs.Fault.{IsPairFault, MayBePairFault, IsSplitFault, IsShapeFault, IsShapeFaultAmong};
 ghost use Rattle.qap_proof.specs.Memory.{node_of, nodes_of};
-ghost use Rattle.qap_proof.specs.NodeLine.{pair_of, may_pair_of, split_of};
+ghost use Rattle.qap_proof.specs.NodeLine.{kept_pair_of, may_pair_of, split_of};
 ghost use Rattle.gilmore_lawler.specs.Closing.{AreDuals};
 ghost use Rattle.qap_proof.specs.Shape.{MayBeDuals, IsSplit, IsPermOf, HasShape, AllHaveShape, free_count};
 ghost use Rattle.qap_proof.specs.Tree.{node_count, nodes_count};
@@ -13,7 +14,7 @@ ghost use Rattle.qap_proof.specs.declared.error.ProofError.TheVariants.{OutOfMem
 use crate::children::{child_node, free_others, has_duals};
 use crate::error::ProofError;
 use crate::node_line::{SplitLine, judge_number};
-use crate::tree::{Duals, Tree};
+use crate::tree::{KeptDuals, Tree};
 use qap_cost::{Partial, Perm};
 use qap_lines::are_limited;
 
@@ -90,7 +91,7 @@ fn judge_split(
 }
 
 /// Whether the duals of a split, if it has any, are such of so many facilities and locations.
-fn judge_split_duals(duals: &Option<Duals>, free: usize, line: u64) -> Result<(), ProofError>
+fn judge_split_duals(duals: &Option<KeptDuals>, free: usize, line: u64) -> Result<(), ProofError>
     ensures { MatchResult result
         (λ done. MayBeDuals free (may_pair_of duals.now))
         (λ e. MayBePairFault free line (may_pair_of duals.now) e) }
@@ -102,15 +103,16 @@ fn judge_split_duals(duals: &Option<Duals>, free: usize, line: u64) -> Result<()
 }
 
 /// Whether there is a dual for each of so many facilities and locations, and all are within -10^24 to 10^24.
-fn judge_duals(duals: &Duals, free: usize, line: u64) -> Result<(), ProofError>
+fn judge_duals(duals: &KeptDuals, free: usize, line: u64) -> Result<(), ProofError>
     ensures { MatchResult result
-        (λ done. AreDuals free duals.now.u.items duals.now.v.items)
-        (λ e. IsPairFault free line (pair_of duals.now) e) }
+        (λ done. AreDuals free (numbers_held duals.now.u) (numbers_held duals.now.v))
+        (λ e. IsPairFault free line (kept_pair_of duals.now) e) }
 {
-    if duals.u.len() != free || duals.v.len() != free {
+    let (u, v) = (duals.u.numbers(), duals.v.numbers());
+    if u.len() != free || v.len() != free {
         return Err(ProofError::DualCount(line));
     }
-    if !are_limited(&duals.u) || !are_limited(&duals.v) {
+    if !are_limited(&u) || !are_limited(&v) {
         return Err(ProofError::DualRange(line));
     }
     Ok(())

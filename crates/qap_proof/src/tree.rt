@@ -1,7 +1,12 @@
 //! Proof trees.
 
+ghost use Rattle.std.specs.Prelude.{◌≡◌, IfOk};
+ghost use Rattle.qap_proof.specs.NodeLine.{kept_pair_of, pair_of};
+
 use crate::node_line::SplitLine;
+use number_list::NumberList;
 use qap_cost::Perm;
+use std::alloc::{AllocError, Global};
 
 /// Duals of a node's reduced matrix: one for each free facility and one for each free location, both ascending.
 #[derive(Drop)]
@@ -10,13 +15,43 @@ pub struct Duals {
     pub v: Vec<i128>,
 }
 
+impl Duals {
+    /// The same duals, as a tree keeps them.
+    pub fn kept(self) -> KeptDuals
+        ensures { kept_pair_of result ≡ pair_of self }
+    {
+        KeptDuals {
+            u: NumberList::narrowed(self.u),
+            v: NumberList::narrowed(self.v),
+        }
+    }
+}
+
+/// The same in as few bits as they need, as a tree keeps them.
+#[derive(Drop)]
+pub struct KeptDuals {
+    pub u: NumberList,
+    pub v: NumberList,
+}
+
+impl KeptDuals {
+    /// The same duals in 128 bits each, for which there may be no memory.
+    pub fn widened(&self, alloc: Global) -> Result<Duals, AllocError>
+        ensures { IfOk result (λ duals. pair_of duals ≡ kept_pair_of self.now) }
+    {
+        let u = self.u.numbers().to_vec(alloc)?;
+        let v = self.v.numbers().to_vec(alloc)?;
+        Ok(Duals { u, v })
+    }
+}
+
 /// A part of the permutations of an instance, and what shows that none of it costs less than a bound. Facilities, locations
 /// and children are counted from 0.
 #[derive(Drop)]
 pub enum Tree {
     /// The part is closed by duals of its reduced matrix.
     Closed {
-        duals: Duals,
+        duals: KeptDuals,
     },
     /// The facility or the location that the split is on is put with each free one of the other side, these ascending.
     Split {

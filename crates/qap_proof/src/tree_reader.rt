@@ -52,7 +52,9 @@ pub(crate) fn read_tree<'a>(
     let next = line.saturating_add(1);
     match read.line {
         NodeLine::Closed(duals) => Ok(TreeRead {
-            tree: Tree::Closed { duals },
+            tree: Tree::Closed {
+                duals: duals.kept(),
+            },
             rest,
             next,
         }),

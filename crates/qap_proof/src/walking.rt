@@ -252,6 +252,7 @@ pub(crate) fn judge_split(
             fault: None,
         }),
         Some(duals) => {
+            let duals = duals.widened(judge.alloc)?;
             let matrix = rows.reduced(node)?;
             if !fits(&matrix, &duals.u, &duals.v) {
                 return Ok(JudgedSplit {
@@ -266,7 +267,7 @@ pub(crate) fn judge_split(
                 node,
                 split.side,
                 split.number,
-                duals,
+                &duals,
             )?;
             Ok(JudgedSplit {
                 values,

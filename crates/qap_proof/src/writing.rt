@@ -7,7 +7,7 @@ ghost use Rattle.qap_io.specs.Writing.{AppendsBeginning};
 ghost use Rattle.qap_lines.specs.LineText.{numbers_text, line_text, head_text};
 ghost use Rattle.qap_lines.specs.Writing.{Writes};
 ghost use Rattle.qap_proof.specs.Memory.{node_of, nodes_of};
-ghost use Rattle.qap_proof.specs.NodeLine.{pair_of, may_pair_of, split_of};
+ghost use Rattle.qap_proof.specs.NodeLine.{kept_pair_of, may_pair_of, split_of};
 ghost use Rattle.qap_proof.specs.Text.{letter as letter_of, numbers_of_duals, split_numbers, by_turns, root_text, bound_text, tree_text, trees_text, proof_text};
 ghost use Rattle.qap_proof.specs.Tree.{closed, mirrored};
 ghost use Rattle.qap_proof.specs.declared.error.ProofError.TheVariants.{OutOfMemory, Device as FailedDevice};
@@ -15,7 +15,7 @@ ghost use Rattle.qap_proof.specs.declared.error.ProofError.TheVariants.{OutOfMem
 use crate::error::ProofError;
 use crate::node_line::{SplitLine, letter};
 use crate::proof::Proof;
-use crate::tree::{Duals, Tree};
+use crate::tree::{KeptDuals, Tree};
 use qap_cost::{Partial, Perm};
 use qap_io::{Counted, finish};
 use qap_lines::{
@@ -42,14 +42,14 @@ pub(crate) fn push_by_turns(
 }
 
 /// Puts the duals of a split at the end of a line, if it has any.
-fn push_duals(line: &mut Vec<u8>, duals: &Option<Duals>) -> Result<(), AllocError>
+fn push_duals(line: &mut Vec<u8>, duals: &Option<KeptDuals>) -> Result<(), AllocError>
     ensures { OnOk result (line.new.items ≡ line.old.items ++ numbers_text (numbers_of_duals (may_pair_of duals.now))) }
 {
     let Some(duals) = duals else {
         return Ok(());
     };
-    push_numbers(line, &duals.u)?;
-    push_numbers(line, &duals.v)?;
+    push_numbers(line, &duals.u.numbers())?;
+    push_numbers(line, &duals.v.numbers())?;
     Ok(())
 }
 
@@ -144,11 +144,11 @@ fn write_front<W: Write>(
 fn write_closed<W: Write>(
     writer: &mut Counted<W>,
     line: &mut Vec<u8>,
-    duals: &Duals,
+    duals: &KeptDuals,
 ) -> Result<(), WriteError>
-    ensures { Writes W.contents writer.old writer.new (tree_text (closed (pair_of duals.now))) result }
+    ensures { Writes W.contents writer.old writer.new (tree_text (closed (kept_pair_of duals.now))) result }
 {
-    write_both(writer, line, b"b", &duals.u, &duals.v)
+    write_both(writer, line, b"b", &duals.u.numbers(), &duals.v.numbers())
 }
 
 /// Writes the line of a split.

@@ -4,7 +4,7 @@ ghost use Rattle.std.specs.Prelude.{◌<◌};
 
 use qap_cost::{Instance, Partial, Perm};
 use qap_io::{Counted, FailAt, OneByte};
-use qap_proof::{Duals, Proof, ProofError, Side, SplitLine, Tree, check, read, write};
+use qap_proof::{Duals, KeptDuals, Proof, ProofError, Side, SplitLine, Tree, check, read, write};
 use std::alloc::{AllocError, Global};
 use std::process::Abort;
 use std::test::Fail;
@@ -82,11 +82,10 @@ fn round_trips_and_writes_fail(rt: HostRuntime) -> Result<(), Fail> {
     Ok(())
 }
 
-pub(crate) fn duals(alloc: Global, u: &[i128], v: &[i128]) -> Result<Duals, AllocError> {
-    Ok(Duals {
-        u: Vec::from_slice(alloc, u)?,
-        v: Vec::from_slice(alloc, v)?,
-    })
+pub(crate) fn duals(alloc: Global, u: &[i128], v: &[i128]) -> Result<KeptDuals, AllocError> {
+    let u = Vec::from_slice(alloc, u)?;
+    let v = Vec::from_slice(alloc, v)?;
+    Ok(Duals { u, v }.kept())
 }
 
 fn closed(alloc: Global, u: &[i128], v: &[i128]) -> Result<Tree, AllocError> {
@@ -104,7 +103,11 @@ pub(crate) fn permutation(alloc: Global, locations: &[u16]) -> Result<Perm, Proo
 }
 
 /// A split of the empty root of size 2 on facility 0, whose first child is closed, and whose second one is this.
-pub(crate) fn pair(alloc: Global, duals: Option<Duals>, second: Tree) -> Result<Tree, AllocError> {
+pub(crate) fn pair(
+    alloc: Global,
+    duals: Option<KeptDuals>,
+    second: Tree,
+) -> Result<Tree, AllocError> {
     let first = closed(alloc, &[11], &[0])?;
     Ok(Tree::Split {
         split: SplitLine {
@@ -165,7 +168,7 @@ fn numbers(rt: HostRuntime) -> Result<(), Fail> {
 fn assert_second(
     rt: &impl Abort,
     alloc: Global,
-    duals: Option<Duals>,
+    duals: Option<KeptDuals>,
     second: Tree,
     want: Result<(), ProofError>,
 ) -> Result<(), Fail> {

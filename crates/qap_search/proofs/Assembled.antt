@@ -3,6 +3,7 @@ use Rattle.std.proofs.Common.{◌≡◌, ℕ, ◌≤◌, ◌⊎◌, inl, inr, co
 use Rattle.std.specs.List.{sum_by}
 use Rattle.std.proofs.lemmas.Bool.{false≢true}
 use Rattle.std.proofs.lemmas.List.Sums.{sum_by-append, sum_by-cons}
+use Rattle.number_list.specs.NumberList.{numbers_held}
 use Rattle.qap_cost.specs.Placement.{Placement, IsPlacement, IsFreeFacility, root_of}
 use Rattle.qap_cert.specs.Certificate.{Claim}
 use Rattle.qap_cert.specs.Shape.{AllHaveShape, HasShape, child_count}
@@ -130,7 +131,7 @@ decided_weight xs (Mirrored j ms) = refl
 none_decided : (nodes : List DecidedNode) → sum_by best_weight (decided_tuples nodes) ≡ 0
 none_decided [] = refl
 none_decided (d ∷ ds) =
-    let first = decided_weight d.node.items d.decision in
+    let first = decided_weight (numbers_held d.node) d.decision in
     let rest = none_decided ds in
     let parts = sum_by-cons best_weight (decided_tuple d) (decided_tuples ds) in
     omega arith

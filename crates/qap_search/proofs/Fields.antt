@@ -163,3 +163,12 @@ no_pruned_piece row v cuts some none =
       no_closed = λ xs w z e. let same = ap length e in absurd (omega arith);
       no_mirrored = λ xs j ms e. let same = ap length e in absurd (omega arith);
     }
+
+-- what stands before the last field of a row isn't what stands before the duals of a split's tuple, so the row doesn't end in those
+pub no_split_before : (row front : List FieldValue) (last : FieldValue) → row ≡ front ++ last ∷ [] → ((xs : List ℤ) (side : Side) (k : ℤ) → front ≢ word (codes "pruned") ∷ numbers xs ∷ word (side_word side) ∷ number k ∷ [])
+    → (xs : List ℤ) (side : Side) (k : ℤ) (u : List ℤ) → row ≢ word (codes "pruned") ∷ numbers xs ∷ word (side_word side) ∷ number k ∷ numbers u ∷ []
+no_split_before row front last is none xs side k u e =
+    let same = ap length (sym is ∙ e) in
+    let long = length-append front (last ∷ []) in
+    let four : length front ≡ 4 = omega arith in
+    none xs side k (sym (take-append_seam front (last ∷ [])) ∙ ap (λ (n : ℕ). take n (front ++ last ∷ [])) four ∙ ap (take 4) (sym is ∙ e))

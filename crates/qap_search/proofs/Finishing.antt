@@ -8,6 +8,7 @@ use Rattle.std.specs.Ordering.{int_cmp, is_lt, ordering_reverse}
 use Rattle.std.proofs.lemmas.Bool.{false≢true}
 use Rattle.std.proofs.lemmas.List.{get_or-map, length-map}
 use Rattle.std.proofs.lemmas.List.Sorted.{IsPermutation-map, IsPermutation-reverse, IsPermutation-trans, ranks_by, sorted_far, sum_by-IsPermutation}
+use Rattle.number_list.specs.NumberList.{numbers_held}
 use Rattle.qap_cost.specs.Bijection.{IsPerm}
 use Rattle.qap_cost.specs.Placement.{Placement, IsPlacement}
 use Rattle.qap_proof.specs.Tree.{Node, whole}
@@ -62,8 +63,8 @@ rises_by_index (x ∷ nodes) h = (
       let at = found_at y nodes x found in
       let less = at.1 in
       let n = get_or nodes at.0 x in
-      let key_y = sym (ap key at.2) ∙ key-decision n.node.items n.decision in
-      ap₂ (λ (a b : List ℤ). is_lt (slice_cmp int_cmp a b)) key_y (key-decision x.node.items x.decision)
+      let key_y = sym (ap key at.2) ∙ key-decision (numbers_held n.node) n.decision in
+      ap₂ (λ (a b : List ℤ). is_lt (slice_cmp int_cmp a b)) key_y (key-decision (numbers_held x.node) x.decision)
       ∙ h zero (suc at.0) x (omega arith) (omega arith)),
   rises_by_index nodes (λ i j d less within. h (suc i) (suc j) d (omega arith) (omega arith)),
 )
@@ -72,7 +73,7 @@ rises_by_index (x ∷ nodes) h = (
 rises : (nodes : List DecidedNode) → AreInOrder nodes → Rises NotAfter (decided_tuples nodes)
 rises nodes up =
     rises_by_index nodes (λ i j d less within.
-    sorted_far is_before (ranks_by (lists_total int_cmp_total) (λ (n : DecidedNode). n.node.items)) nodes up i j d (omega arith) within)
+    sorted_far is_before (ranks_by (lists_total int_cmp_total) (λ (n : DecidedNode). (numbers_held n.node))) nodes up i j d (omega arith) within)
 
 -- moving nodes moves their tuples
 same_moved : (old new : List DecidedNode) → IsPermutation old new → SameItems (decided_tuples old) (ahead new)

@@ -4,6 +4,7 @@ use Rattle.std.proofs.lemmas.Bool.{false≢true}
 use Rattle.std.proofs.lemmas.List.{reverse-append}
 use Rattle.std.proofs.Math.ListN.{drop_of_length-le}
 use Rattle.std.proofs.Math.Seq.{drop-cons}
+use Rattle.number_list.specs.NumberList.{numbers_held}
 use Rattle.qap_cost.specs.Bijection.{IsPerm}
 use Rattle.qap_cost.specs.Placement.{Placement, IsPlacement, IsFreeFacility}
 use Rattle.qap_proof.proofs.Rows.{with_last, child_count-with_last}
@@ -142,8 +143,8 @@ none_at_end p nodes is cut r b = absurd (zero_not_one (sym b.flagged))
 none_at_end p nodes is (mirrored j m) r b = let long : 0 ≡ length (pieces (node_at p) (of_proof (mirrored j m)) ++ r) = ap length (sym (ap ahead is) ∙ b.is) in absurd (omega arith)
 
 -- the list of the node that is taken next
-next_list : (old new : List DecidedNode) (d : DecidedNode) → old ≡ new ++ d ∷ [] → list_at 1 (first_tuple (ahead old)) ≡ d.node.items
-next_list old new d is = ap (λ (nodes : List DecidedNode). list_at 1 (first_tuple (decided_tuples nodes))) (ap reverse is ∙ reverse-append new (d ∷ [])) ∙ list_of_decision d.node.items d.decision
+next_list : (old new : List DecidedNode) (d : DecidedNode) → old ≡ new ++ d ∷ [] → list_at 1 (first_tuple (ahead old)) ≡ (numbers_held d.node)
+next_list old new d is = ap (λ (nodes : List DecidedNode). list_at 1 (first_tuple (decided_tuples nodes))) (ap reverse is ∙ reverse-append new (d ∷ [])) ∙ list_of_decision (numbers_held d.node) d.decision
 
 -- the tuples of a tree that isn't cut off begin with its node's
 first_list : (p : Place) (t : Node) (tuples r : List (List FieldValue)) → BeginWith p (pos 0) t tuples r → list_at 1 (first_tuple tuples) ≡ node_list (node_at p)
@@ -153,7 +154,7 @@ first_list p cut tuples r b = absurd (zero_not_one (sym b.flagged))
 first_list p (mirrored j m) tuples r b = ap (λ (l : List (List FieldValue)). list_at 1 (first_tuple l)) b.is
 
 -- nor is there one where that is another node's
-pub none_other_node : (p : Place) (old new : List DecidedNode) (d : DecidedNode) → old ≡ new ++ d ∷ [] → d.node.items ≢ node_list (node_at p) → BeginWithNone p (pos 0) (ahead old)
+pub none_other_node : (p : Place) (old new : List DecidedNode) (d : DecidedNode) → old ≡ new ++ d ∷ [] → (numbers_held d.node) ≢ node_list (node_at p) → BeginWithNone p (pos 0) (ahead old)
 none_other_node p old new d is other t r b = other (sym (next_list old new d is) ∙ first_list p t (ahead old) r b)
 
 -- what holds of each tree that begins with a split's tuple

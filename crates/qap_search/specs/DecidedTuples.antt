@@ -1,5 +1,6 @@
 -- Nodes that are decided and the best permutation found, as tuples say them.
 use Rattle.std.specs.Prelude.{◌≡◌, ◌≢◌, List, [], ◌∷◌, codes, ℕ, ℤ}
+use Rattle.number_list.specs.NumberList.{numbers_held}
 use Rattle.qap_proof.specs.declared.side.Side.{Side}
 use Rattle.tuple_match.specs.FieldValue.{FieldValue, number, word, numbers}
 use Rattle.qap_search.specs.Piece.{side_word}
@@ -35,15 +36,15 @@ best_of c ps = word (codes "best") ∷ number c ∷ numbers ps ∷ []
 
 abbrev pub decision_tuple : List ℤ → Decision → List FieldValue
 decision_tuple xs (Split f) = split_of xs f
-decision_tuple xs (Pruned s) = pruned_of xs s.side s.number s.duals.u.items s.duals.v.items s.cuts.items
-decision_tuple xs (Closed d) = closed_of xs d.u.items d.v.items
-decision_tuple xs (Mirrored j ms) = mirrored_of xs j ms.items
+decision_tuple xs (Pruned s) = pruned_of xs s.side s.number (numbers_held s.duals.u) (numbers_held s.duals.v) (numbers_held s.cuts)
+decision_tuple xs (Closed d) = closed_of xs (numbers_held d.u) (numbers_held d.v)
+decision_tuple xs (Mirrored j ms) = mirrored_of xs j (numbers_held ms)
 
 abbrev pub decided_tuple : DecidedNode → List FieldValue
-decided_tuple d = decision_tuple d.node.items d.decision
+decided_tuple d = decision_tuple (numbers_held d.node) d.decision
 
 abbrev pub found_tuple : BestFound → List FieldValue
-found_tuple b = best_of b.cost b.locations.items
+found_tuple b = best_of b.cost (numbers_held b.locations)
 
 abbrev pub piece_tuple : Piece → List FieldValue
 piece_tuple (Best b) = found_tuple b
@@ -52,7 +53,7 @@ piece_tuple (Decided d) = decided_tuple d
 -- a part is what the field says; of a word, that it is one
 abbrev pub IsPart : Part → FieldValue → Type 0
 IsPart (Number m) field = field ≡ number m
-IsPart (Numbers ms) field = field ≡ numbers ms.items
+IsPart (Numbers ms) field = field ≡ numbers (numbers_held ms)
 IsPart Word field = (bytes : List ℕ) × (field ≡ word bytes)
 
 -- no decided node and no best permutation is said so

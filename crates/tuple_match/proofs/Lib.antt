@@ -1,4 +1,3 @@
 pub mod Deciding
 pub mod FieldLemmas
 pub mod MatchingLemmas
-pub mod Orders

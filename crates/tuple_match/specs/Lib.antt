@@ -2,8 +2,6 @@ pub mod Equality
 pub mod Field
 pub mod FieldValue
 pub mod Matching
-pub mod NumberList
-pub mod Numbers
 pub mod Pattern
 pub mod PatternValue
 pub mod Row

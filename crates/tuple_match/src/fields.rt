@@ -1,6 +1,6 @@
 //! One field of a tuple, and its limits.
 
-ghost use Rattle.std.specs.Prelude.{◌≡◌, ◌↔◌, ℤ, IsTrue, IfOk, IfSome, string_bytes};
+ghost use Rattle.std.specs.Prelude.{◌≡◌, ◌↔◌, ℤ, IsTrue, IfOk, string_bytes};
 ghost use Rattle.std.specs.Global.{Vec};
 ghost use Rattle.std.specs.Option.{option_copied, option_map};
 ghost use Rattle.std.specs.Cmp.{on_equiv, on_per};
@@ -8,14 +8,11 @@ ghost use Rattle.tuple_match.specs.Equality.{field_eq, field_eq_equiv, field_eq_
 ghost use Rattle.tuple_match.specs.Field.{field_value};
 ghost use Rattle.tuple_match.specs.Word.{IsWord, IsWordByte};
 ghost use Rattle.tuple_match.specs.FieldValue.{IsField, number_of, numbers, numbers_of, word, word_of};
-ghost use Rattle.tuple_match.specs.NumberList.{numbers_held};
-ghost use Rattle.tuple_match.specs.Numbers.{numbers_in};
+ghost use Rattle.number_list.specs.NumberList.{numbers_held};
+ghost use Rattle.number_list.specs.Numbers.{numbers_in};
 
-use crate::few::{FewBytes, FewShorts};
-use crate::lists::NumberList;
-use crate::numbers::Numbers;
-use crate::widths::fill;
 use crate::words::ShortWord;
+use number_list::{FewBytes, FewShorts, NumberList, Numbers};
 use std::alloc::{AllocError, Global};
 
 /// The most bytes of a word.
@@ -51,6 +48,14 @@ impl Field {
             Some(short) => Ok(Field::ShortWord(short)),
             None => Ok(Field::Word(String::from_str(alloc, text)?)),
         }
+    }
+
+    /// The numbers as a field, in as few bits as they need: in place where they are few and small, and else in memory of their own, for
+    /// which there may be none.
+    pub fn list(alloc: Global, list: &[i128]) -> Result<Field, AllocError>
+        ensures { IfOk result (λ field. field_value field ≡ numbers list.now) }
+    {
+        Ok(Field::of_list(NumberList::of(alloc, list)?))
     }
 
     /// Whether a tuple may hold this field: any number, a word of 1 to 32 bytes that is spelled
@@ -128,6 +133,18 @@ impl Field {
         }
     }
 
+    /// The list as a field, as it lies. Takes no memory.
+    pub fn of_list(list: NumberList) -> Field
+        ensures { field_value result ≡ numbers (numbers_held list) }
+    {
+        match list {
+            NumberList::Bytes(few) => Field::Bytes(few),
+            NumberList::Shorts(few) => Field::Shorts(few),
+            NumberList::Narrow(numbers) => Field::Narrow(numbers),
+            NumberList::Wide(numbers) => Field::List(numbers),
+        }
+    }
+
     /// The list that this field is, as it lies, or `None` where it is none. Takes no memory.
     pub fn into_numbers(self) -> Option<NumberList>
         ensures { option_map numbers_held result ≡ numbers_of (field_value self) }
@@ -147,7 +164,7 @@ impl Field {
         ensures { field_value result ≡ field_value self }
     {
         match self {
-            Field::List(numbers) => narrow_list(numbers),
+            Field::List(numbers) => Field::of_list(NumberList::narrowed(numbers)),
             Field::Word(text) => narrow_word(text),
             field => field,
         }
@@ -164,34 +181,6 @@ fn narrow_word(text: String) -> Field
     }
 }
 
-/// The list with its numbers in fewer bits, where they fit and there is memory for them.
-fn narrow_list(list: Vec<i128>) -> Field
-    ensures { field_value result ≡ numbers list.items }
-{
-    if let Some(few) = FewBytes::of(&list) {
-        return Field::Bytes(few);
-    }
-    if let Some(few) = FewShorts::of(&list) {
-        return Field::Shorts(few);
-    }
-    match in_32_bits(&list) {
-        Ok(Some(narrow)) => Field::Narrow(narrow),
-        _ => Field::List(list),
-    }
-}
-
-/// The numbers in 32 bits each, or `None` where one of them takes more.
-fn in_32_bits(numbers: &Vec<i128>) -> Result<Option<Vec<i32>>, AllocError>
-    ensures { IfOk result (λ found. IfSome found (λ narrow. narrow.items ≡ numbers.now.items)) }
-{
-    let mut narrow = vec![in *numbers.allocator(); 0; numbers.len()]?;
-    if fill(&mut narrow, numbers) {
-        Ok(Some(narrow))
-    } else {
-        Ok(None)
-    }
-}
-
 // By hand, so that its contract speaks of what the fields say.
 impl PartialEq for Field {
     ghost eq = { λ field other. field_eq (field_value field) (field_value other) };
@@ -199,7 +188,7 @@ impl PartialEq for Field {
     ghost laws = { on_per field_value field_eq_per };
 
     /// Whether the two are of one type and hold equal numbers, texts or lists.
-    #[tactic(auto, using(crate::proofs::FieldLemmas::same_lists))]
+    #[tactic(auto, using(number_list::proofs::Equal::same_lists))]
     fn eq(&self, other: &Field) -> bool
         ensures test { result ≡ field_eq (field_value self.now) (field_value other.now) }
         ensures same { IsTrue result ↔ (field_value self.now ≡ field_value other.now) }

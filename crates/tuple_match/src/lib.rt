@@ -6,23 +6,16 @@
 #![tactic(auto)]
 
 mod block;
-mod few;
 mod fields;
-mod lists;
 mod matching;
-mod numbers;
 mod refusal;
 mod row;
 mod templates;
 mod tuples;
-mod widths;
 mod words;
 
-pub use few::{FewBytes, FewShorts};
 pub use fields::Field;
-pub use lists::NumberList;
 pub use matching::{does_match_law, matches};
-pub use numbers::Numbers;
 pub use refusal::MatchError;
 pub use templates::{Pattern, Template};
 pub use tuples::Tuple;

@@ -1,9 +1,10 @@
 use Part::{Int, List, Word};
 use Question::{AnyInt, AnyList, AnyWord, Is};
+use number_list::Numbers;
 use std::alloc::{AllocError, Global};
 use std::process::Abort;
 use std::test::Fail;
-use tuple_match::{Field, MatchError, Numbers, Pattern, Template, Tuple, matches};
+use tuple_match::{Field, MatchError, Pattern, Template, Tuple, matches};
 
 /// A field as a row of a table writes it.
 #[derive(Clone, Copy)]
@@ -283,6 +284,7 @@ fn narrows_lists(rt: HostRuntime) -> Result<(), Fail> {
     for (row, numbers) in LISTS.iter().enumerate() {
         let narrowed = narrow(rt.alloc(), numbers)?;
         assert_narrowed(&rt, rt.alloc(), numbers, &narrowed)?;
+        assert_narrowed(&rt, rt.alloc(), numbers, &Field::list(rt.alloc(), numbers)?)?;
         let told = numbers_of(rt.alloc(), &narrowed)?;
         assert_eq!(rt; told.as_deref(), Some(*numbers), "row {row}");
     }

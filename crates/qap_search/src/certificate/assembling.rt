@@ -12,7 +12,7 @@ ghost use Rattle.qap_search.specs.Piece.{is_open, open_count};
 ghost use Rattle.qap_search.specs.Pieces.{decided_tuples, pieces_tuples};
 ghost use Rattle.qap_search.specs.Told.{IsMadeOf, IsTellingFault, Tell};
 ghost use Rattle.qap_search.specs.declared.certificate.error.AssembleError.TheVariants.{NotATree, OutOfMemory};
-ghost use Rattle.tuple_match.specs.Numbers.{numbers_in};
+ghost use Rattle.number_list.specs.Numbers.{numbers_in};
 
 use crate::certificate::error::AssembleError;
 use crate::certificate::ordering::put_in_order;
@@ -20,11 +20,12 @@ use crate::certificate::plain_tree::plain_tree;
 use crate::certificate::tree_building::take_tree;
 use crate::tuples::parsing::{BestFound, DecidedNode, is_word};
 use crate::tuples::pieces::{Pieces, tell_apart};
+use number_list::Numbers;
 use qap_cert::Certificate;
 use qap_cost::{Partial, Perm};
 use qap_proof::Tree;
 use std::alloc::{AllocError, Global};
-use tuple_match::{Numbers, Tuple};
+use tuple_match::Tuple;
 
 /// The certificate of size `n` whose tuples these are, in any order: one of the best permutation and one for each node of its
 /// tree. Its bound is its cost.
@@ -116,7 +117,7 @@ fn assembled_of(alloc: Global, root: &Partial, pieces: Pieces) -> Result<Assembl
 {
     let Pieces { best, decided } = pieces;
     let BestFound { cost, locations } = best;
-    let Some(perm) = permutation_of(alloc, &locations)? else {
+    let Some(perm) = permutation_of(alloc, &locations.numbers())? else {
         return Err(AssembleError::NotATree);
     };
     let tree = tree_of(alloc, root, decided)?;
@@ -167,13 +168,16 @@ pub(crate) fn certificate_with(
 }
 
 /// The permutation of these locations; `None` where they are none.
-pub(crate) fn permutation_of(alloc: Global, locations: &[i128]) -> Result<Option<Perm>, AllocError>
+pub(crate) fn permutation_of(
+    alloc: Global,
+    locations: &Numbers<'_>,
+) -> Result<Option<Perm>, AllocError>
     ensures { IfOk result (λ found. MatchOption found
-        ((p : List ℕ) → IsPerm p → map pos p ≢ locations.now)
-        (λ p. IsPerm p × (map pos p ≡ locations.now))) }
+        ((p : List ℕ) → IsPerm p → map pos p ≢ numbers_in locations.now)
+        (λ p. IsPerm p × (map pos p ≡ numbers_in locations.now))) }
 {
     let room = Vec::with_capacity(alloc, locations.len())?;
-    permutation_in(&Numbers::Wide(locations), room)
+    permutation_in(locations, room)
 }
 
 /// The same of the numbers of a list, in an empty list that is there: where that has room for them, no memory is taken.

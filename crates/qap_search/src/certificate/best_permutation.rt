@@ -5,13 +5,14 @@ ghost use Rattle.qap_search.specs.CutTree.{IsCutTree};
 ghost use Rattle.qap_search.specs.DecidedTuples.{best_of};
 ghost use Rattle.qap_search.specs.Search.{Search};
 ghost use Rattle.tuple_match.specs.FieldValue.{FieldValue};
-ghost use Rattle.tuple_match.specs.Numbers.{numbers_in};
+ghost use Rattle.number_list.specs.Numbers.{numbers_in};
 
 use crate::certificate::assembling::permutation_in;
 use crate::worker::best_steps::best_fields;
+use number_list::Numbers;
 use qap_cost::Perm;
 use std::alloc::{AllocError, Global};
-use tuple_match::{Numbers, Tuple};
+use tuple_match::Tuple;
 
 /// The best permutation of tuples that are a cut tree, and its cost.
 pub(crate) fn best_of(alloc: Global, tuples: &[Tuple]) -> Result<(Perm, i128), AllocError>

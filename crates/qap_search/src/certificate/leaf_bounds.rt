@@ -15,15 +15,17 @@ ghost use Rattle.qap_search.specs.SearchTree.{AreTrees, IsTree, of_proof, of_pro
 use crate::certificate::tree_building::pair_with;
 use crate::tuples::composing::free_others;
 use gilmore_lawler::dual_sum;
+use number_list::Numbers;
 use qap_cost::{Instance, Partial};
 use qap_lines::are_limited;
 use qap_proof::{Duals, SplitLine, Tree};
-use std::alloc::AllocError;
+use std::alloc::{AllocError, Global};
 
 /// The least of this number and of what the leaves of the tree at the node show. It says nothing of a tree whose leaves haven't a dual
 /// within -10^24 to 10^24 for each free facility and each free location.
 #[cycle(showing)]
 pub(crate) fn least_shown(
+    alloc: Global,
     instance: &Instance,
     node: &Partial,
     tree: &Tree,
@@ -35,9 +37,9 @@ pub(crate) fn least_shown(
         IsLeastOf (least ∷ shown instance.now node.now (node_of tree.now)) g) }
 {
     match tree {
-        Tree::Closed { duals } => Ok(least_with(instance, node, duals, least)),
+        Tree::Closed { duals } => Ok(least_with(instance, node, &duals.widened(alloc)?, least)),
         Tree::Split { split, children } => {
-            least_shown_by_all(instance, node, split, children, least)
+            least_shown_by_all(alloc, instance, node, split, children, least)
         }
         Tree::Cut | Tree::Mirrored { .. } => Ok(least),
     }
@@ -46,6 +48,7 @@ pub(crate) fn least_shown(
 /// The same for the children of a split.
 #[cycle(showing)]
 fn least_shown_by_all(
+    alloc: Global,
     instance: &Instance,
     node: &Partial,
     split: &SplitLine,
@@ -64,7 +67,7 @@ fn least_shown_by_all(
     for (i, child) in children.iter().enumerate() {
         let (facility, location) = pair_with(split, others[i]);
         let part = node.place(facility, location)?;
-        found = least_shown(instance, &part, child, found)?;
+        found = least_shown(alloc, instance, &part, child, found)?;
     }
     Ok(found)
 }
@@ -89,6 +92,6 @@ fn are_duals(duals: &Duals, count: usize) -> bool
 {
     duals.u.len() == count
         && duals.v.len() == count
-        && are_limited(&duals.u)
-        && are_limited(&duals.v)
+        && are_limited(&Numbers::Wide(&duals.u))
+        && are_limited(&Numbers::Wide(&duals.v))
 }

@@ -111,7 +111,5 @@ fn close(
     ensures { IfOk result (IsClosedBy instance.now closing.old.node) }
 {
     closing.work_out(instance)?;
-    let u = Vec::from_slice(alloc, &closing.answer.u)?;
-    let v = Vec::from_slice(alloc, &closing.answer.v)?;
-    tuple_of_closed(alloc, &closing.node, u, v)
+    tuple_of_closed(alloc, &closing.node, &closing.answer.u, &closing.answer.v)
 }

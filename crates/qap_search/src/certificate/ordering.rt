@@ -6,6 +6,7 @@ ghost use Rattle.space_txn.specs.Content.{SameItems};
 ghost use Rattle.qap_search.specs.InOrder.{AreInOrder};
 
 use crate::tuples::parsing::DecidedNode;
+use number_list::Numbers;
 
 /// How many of a list's numbers its key has.
 const MOST_NUMBERS: usize = 25;
@@ -18,13 +19,13 @@ pub(crate) fn put_in_order(nodes: &mut Vec<DecidedNode>)
     ensures moved { IsPermutation nodes.old.items nodes.new.items }
     ensures ordered { AreInOrder (reverse nodes.new.items) }
 {
-    let _ = nodes.sort_by_cached_key(|node| path_key(&node.node));
-    nodes.sort_unstable_by(|a, b| a.node.cmp(&b.node));
+    let _ = nodes.sort_by_cached_key(|node| path_key(&node.node.numbers()));
+    nodes.sort_unstable_by(|a, b| a.node.numbers().compare(&b.node.numbers()));
     nodes.reverse();
 }
 
 /// The first 25 numbers of a list, each by its digit in 5 bits, from the highest bits down.
-fn path_key(list: &[i128]) -> u128 {
+fn path_key(list: &Numbers<'_>) -> u128 {
     let mut key = 0;
     for place in 0..MOST_NUMBERS {
         key = (key << 5) | path_digit(list, place);
@@ -33,13 +34,13 @@ fn path_key(list: &[i128]) -> u128 {
 }
 
 /// A number from 0 to 30 as one more than it is, any other as 31, and 0 where the list has none at this place.
-fn path_digit(list: &[i128], place: usize) -> u128 {
-    match list.get(place) {
-        Some(number) => match u8::try_from(*number) {
-            Ok(number) => u128::from(number.min(30)) + 1,
-            Err(_) => 31,
-        },
-        None => 0,
+fn path_digit(list: &Numbers<'_>, place: usize) -> u128 {
+    if place >= list.len() {
+        return 0;
+    }
+    match u8::try_from(list.at(place)) {
+        Ok(number) => u128::from(number.min(30)) + 1,
+        Err(_) => 31,
     }
 }
 

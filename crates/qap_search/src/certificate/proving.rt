@@ -37,7 +37,7 @@ pub(crate) fn proof_of<K: Closers>(
     // Its clause says that this is an instance.
     let _size = instance.size();
     let closed = closed_together(closers, alloc, instance, root, tuples)?;
-    let bound = least_shown(instance, root, &closed.tree, closed.cost)?;
+    let bound = least_shown(alloc, instance, root, &closed.tree, closed.cost)?;
     let root = root.copy()?;
     let Assembled { cost, perm, tree } = closed;
     match Proof::new(cost, bound, root, perm, tree) {

@@ -48,7 +48,7 @@ pub(crate) fn assemble_stopped_by<K: Closers>(
     let size = instance.size();
     let root = Partial::root(alloc, size)?;
     let closed = put_together_closed(closers, alloc, instance, &root, tuples)?;
-    let bound = least_shown(instance, &root, &closed.tree, closed.cost)?;
+    let bound = least_shown(alloc, instance, &root, &closed.tree, closed.cost)?;
     certificate_with(alloc, size, closed, bound)
 }
 

@@ -1,6 +1,8 @@
 //! Builds a tree of decided nodes that stand in the order of their lists.
 
 ghost use Rattle.std.specs.Prelude.{◌≡◌, ◌≢◌, ◌↔◌, ◌⊎◌, ◌*◌, ◌<◌, ◌≤◌, ◌∷◌, ℕ, ℤ, List, IsTrue, MatchOption, MatchResult, length, map, pos, slice_index, slice_index_or};
+ghost use Rattle.number_list.specs.NumberList.{numbers_held};
+ghost use Rattle.number_list.specs.Numbers.{numbers_in};
 ghost use Rattle.qap_cost.specs.Bijection.{IsPerm};
 ghost use Rattle.qap_cost.specs.Placement.{IsFreeFacility, IsPlacement, Placement, placing};
 ghost use Rattle.qap_proof.specs.Cell.{others_on};
@@ -19,6 +21,7 @@ use crate::certificate::error::AssembleError;
 use crate::node::node_list::free_location;
 use crate::tuples::composing::free_others;
 use crate::tuples::parsing::{DecidedNode, Decision, PrunedSplit};
+use number_list::Numbers;
 use qap_cost::Partial;
 use qap_proof::{Side, SplitLine, Tree};
 use std::alloc::Global;
@@ -76,7 +79,7 @@ fn take_child(
             take_pruned(alloc, &node, pruned, nodes)
         }
         Some(Decision::Mirrored { earlier, image }) => {
-            mirrored_tree(alloc, number, earlier, &image)
+            mirrored_tree(alloc, number, earlier, &image.numbers())
         }
         None => Err(AssembleError::NotATree),
     }
@@ -116,10 +119,10 @@ fn take_pruned(
 ) -> Result<Tree, AssembleError>
     ensures { MatchResult result
         (λ t. BeginWith (whole node.now) (pos 0) (node_of t)
-        (pruned_of (node_list node.now) pruned.side pruned.number pruned.duals.u.items pruned.duals.v.items pruned.cuts.items ∷ ahead nodes.old.items)
+        (pruned_of (node_list node.now) pruned.side pruned.number (numbers_held pruned.duals.u) (numbers_held pruned.duals.v) (numbers_held pruned.cuts) ∷ ahead nodes.old.items)
         (ahead nodes.new.items))
         (λ e. IsBuildFault (whole node.now) (pos 0)
-        (pruned_of (node_list node.now) pruned.side pruned.number pruned.duals.u.items pruned.duals.v.items pruned.cuts.items ∷ ahead nodes.old.items) e) }
+        (pruned_of (node_list node.now) pruned.side pruned.number (numbers_held pruned.duals.u) (numbers_held pruned.duals.v) (numbers_held pruned.cuts) ∷ ahead nodes.old.items) e) }
 {
     let PrunedSplit {
         side,
@@ -130,6 +133,7 @@ fn take_pruned(
     let Some(number) = free_on(node, side, number) else {
         return Err(AssembleError::NotATree);
     };
+    let cuts = cuts.into_vec(alloc)?;
     if !are_flags(&cuts, node.size() - node.depth()) {
         return Err(AssembleError::NotATree);
     }
@@ -184,12 +188,12 @@ fn mirrored_tree(
     alloc: Global,
     number: usize,
     earlier: i128,
-    image: &[i128],
+    image: &Numbers<'_>,
 ) -> Result<Tree, AssembleError>
     requires { number ≤ 256 }
     ensures { MatchResult result
-        (λ t. (j : ℕ) × (m : List ℕ) × (node_of t ≡ mirrored j m) × (j < number) × IsPerm m × (earlier ≡ pos j) × (image.now ≡ map pos m))
-        (λ e. (e ≡ OutOfMemory) ⊎ ((e ≡ NotATree) × ((j : ℕ) (m : List ℕ) → j < number → IsPerm m → earlier ≡ pos j → image.now ≢ map pos m))) }
+        (λ t. (j : ℕ) × (m : List ℕ) × (node_of t ≡ mirrored j m) × (j < number) × IsPerm m × (earlier ≡ pos j) × (numbers_in image.now ≡ map pos m))
+        (λ e. (e ≡ OutOfMemory) ⊎ ((e ≡ NotATree) × ((j : ℕ) (m : List ℕ) → j < number → IsPerm m → earlier ≡ pos j → numbers_in image.now ≢ map pos m))) }
 {
     let Some(earlier) = number_below(earlier, number) else {
         return Err(AssembleError::NotATree);
@@ -225,7 +229,7 @@ fn decision_at_root(root: &Partial, nodes: &mut Vec<DecidedNode>) -> Option<Deci
         (λ d. ahead nodes.old.items ≡ decision_tuple (node_list root.now) d ∷ ahead nodes.new.items) }
 {
     let DecidedNode { node, decision } = nodes.pop()?;
-    if is_list_of(root, &node) {
+    if is_list_of(root, &node.numbers()) {
         Some(decision)
     } else {
         None
@@ -248,7 +252,7 @@ fn decision_at_child(
     // Its clause says that this is a node.
     let _size = parent.size();
     let DecidedNode { node, decision } = nodes.pop()?;
-    if is_child(parent, facility, location, &node) {
+    if is_child(parent, facility, location, &node.numbers()) {
         Some(decision)
     } else {
         None
@@ -292,8 +296,8 @@ pub(crate) fn free_facility(node: &Partial, number: i128) -> Option<u16>
 }
 
 /// Whether the list is the node's.
-fn is_list_of(node: &Partial, list: &[i128]) -> bool
-    ensures { IsTrue result ↔ (list.now ≡ node_list node.now) }
+fn is_list_of(node: &Partial, list: &Numbers<'_>) -> bool
+    ensures { IsTrue result ↔ (numbers_in list.now ≡ node_list node.now) }
 {
     let (facilities, places) = (node.facilities(), node.places());
     if list.len() != 2 * facilities.len() {
@@ -303,8 +307,8 @@ fn is_list_of(node: &Partial, list: &[i128]) -> bool
 }
 
 /// Whether the list is that of the node that puts the facility at the location too.
-fn is_child(parent: &Partial, facility: u16, location: u16, list: &[i128]) -> bool
-    ensures { IsTrue result ↔ (list.now ≡ node_list (placing parent.now facility location)) }
+fn is_child(parent: &Partial, facility: u16, location: u16, list: &Numbers<'_>) -> bool
+    ensures { IsTrue result ↔ (numbers_in list.now ≡ node_list (placing parent.now facility location)) }
 {
     let (facilities, places) = (parent.facilities(), parent.places());
     if list.len() != 2 * facilities.len() + 2 {
@@ -317,22 +321,23 @@ fn is_child(parent: &Partial, facility: u16, location: u16, list: &[i128]) -> bo
 }
 
 /// Whether the last two numbers of the list are these.
-fn ends_with(list: &[i128], facility: u16, location: u16) -> bool
-    requires { 2 ≤ length list.now }
-    ensures { IsTrue result ↔ EndsWith facility location list.now }
+fn ends_with(list: &Numbers<'_>, facility: u16, location: u16) -> bool
+    requires { 2 ≤ length (numbers_in list.now) }
+    ensures { IsTrue result ↔ EndsWith facility location (numbers_in list.now) }
 {
     let last = list.len() - 1;
-    list[last - 1] == i128::from(facility) && list[last] == i128::from(location)
+    list.at(last - 1) == i128::from(facility) && list.at(last) == i128::from(location)
 }
 
 /// Whether the list begins with these facilities and locations by turns.
-fn are_by_turns(facilities: &[u16], places: &[u16], list: &[i128]) -> bool
+fn are_by_turns(facilities: &[u16], places: &[u16], list: &Numbers<'_>) -> bool
     requires paired { length places.now ≡ length facilities.now }
-    requires long { 2 * length facilities.now ≤ length list.now }
-    ensures { IsTrue result ↔ BeginsByTurns facilities.now places.now list.now }
+    requires long { 2 * length facilities.now ≤ length (numbers_in list.now) }
+    ensures { IsTrue result ↔ BeginsByTurns facilities.now places.now (numbers_in list.now) }
 {
     for t in 0..facilities.len() {
-        if list[2 * t] != i128::from(facilities[t]) || list[2 * t + 1] != i128::from(places[t]) {
+        let (facility, place) = (i128::from(facilities[t]), i128::from(places[t]));
+        if list.at(2 * t) != facility || list.at(2 * t + 1) != place {
             return false;
         }
     }

@@ -33,9 +33,7 @@ pub fn decide(
         (λ tuples. (cutting : Bool) (I : Problem) → IsThought cutting I node.now thought.now → DecidesBy cutting I best (thought_on node.now thought.now) tuples.items)) }
 {
     if thought.value >= best {
-        let u = Vec::from_slice(alloc, &thought.u)?;
-        let v = Vec::from_slice(alloc, &thought.v)?;
-        let tuple = tuple_of_closed(alloc, node, u, v)?;
+        let tuple = tuple_of_closed(alloc, node, &thought.u, &thought.v)?;
         return Ok(Some(vec![in alloc; tuple]?));
     }
     let Some(branch) = &thought.branch else {

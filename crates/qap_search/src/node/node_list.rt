@@ -1,15 +1,15 @@
 //! Reads a node from its list.
 
 ghost use Rattle.std.specs.Prelude.{◌≡◌, ◌≢◌, ◌<◌, ◌≤◌, ℕ, IfOk, MatchBool, MatchOption, pos};
-ghost use Rattle.tuple_match.specs.Numbers.{numbers_in};
+ghost use Rattle.number_list.specs.Numbers.{numbers_in};
 ghost use Rattle.qap_cost.specs.Placement.{IsFreeFacility, IsFreeLocation, IsPlacement, Placement};
 ghost use Rattle.qap_search.specs.NodeList.{IsNextOf, IsReadFrom};
 ghost use Rattle.qap_search.specs.Piece.{node_list};
 
 use crate::certificate::tree_building::free_facility;
+use number_list::Numbers;
 use qap_cost::Partial;
 use std::alloc::{AllocError, Global};
-use tuple_match::Numbers;
 
 /// The node of size `n` whose list this is: facility and location by turns, in the order of placing. `None` where the list
 /// is that of no node of this size.

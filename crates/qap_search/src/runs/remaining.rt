@@ -8,7 +8,7 @@ ghost use Rattle.qap_search.specs.Piece.{open_count};
 ghost use Rattle.qap_search.specs.Remaining.{is_open_entry};
 ghost use Rattle.qap_search.specs.Search.{Search};
 ghost use Rattle.tuple_match.specs.FieldValue.{FieldValue};
-ghost use Rattle.tuple_match.specs.Numbers.{numbers_in};
+ghost use Rattle.number_list.specs.Numbers.{numbers_in};
 ghost use Rattle.tuple_space.specs.Lease.{is_permanent};
 ghost use Rattle.tuple_space.specs.Rows.{permanent_tuples};
 
@@ -17,9 +17,9 @@ use crate::certificate::open_nodes::Closing;
 use crate::runs::bound::bound_with;
 use crate::worker::best_steps::best_fields;
 use gilmore_lawler::RankedInstance;
+use number_list::Numbers;
 use qap_cost::Perm;
 use std::alloc::AllocError;
-use tuple_match::Numbers;
 use tuple_space::Entry;
 
 /// The best permutation that entries tell whose permanent tuples are a cut tree, and its cost. The list for its locations is empty;

@@ -174,8 +174,7 @@ fn tuple_of_pruned(
     let list = Field::List(node_numbers(alloc, node, 0)?).narrowed();
     let on = side_field(alloc, split.side)?;
     let number = Field::Int(i128::from(split.number));
-    let u = Field::List(Vec::from_slice(alloc, split.u)?).narrowed();
-    let v = Field::List(Vec::from_slice(alloc, split.v)?).narrowed();
+    let (u, v) = (Field::list(alloc, split.u)?, Field::list(alloc, split.v)?);
     let cuts = Field::List(cuts).narrowed();
     Tuple::of_seven(alloc, [name, list, on, number, u, v, cuts])
 }
@@ -194,16 +193,16 @@ fn side_field(alloc: Global, side: Side) -> Result<Field, AllocError>
 pub(crate) fn tuple_of_closed(
     alloc: Global,
     node: &Partial,
-    u: Vec<i128>,
-    v: Vec<i128>,
+    u: &[i128],
+    v: &[i128],
 ) -> Result<Tuple, AllocError>
-    requires u_count { length u.items ≤ 256 }
-    requires v_count { length v.items ≤ 256 }
-    ensures { IfOk result (λ t. t ≡ closed_tuple node.now u.items v.items) }
+    requires u_count { length u.now ≤ 256 }
+    requires v_count { length v.now ≤ 256 }
+    ensures { IfOk result (λ t. t ≡ closed_tuple node.now u.now v.now) }
 {
     let name = Field::word(alloc, "closed")?;
     let list = Field::List(node_numbers(alloc, node, 0)?).narrowed();
-    let (u, v) = (Field::List(u).narrowed(), Field::List(v).narrowed());
+    let (u, v) = (Field::list(alloc, u)?, Field::list(alloc, v)?);
     Tuple::of_four(alloc, [name, list, u, v])
 }
 

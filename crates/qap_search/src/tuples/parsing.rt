@@ -1,14 +1,16 @@
 //! Tuples of decided nodes and of the best permutation found, taken apart.
 
 ghost use Rattle.std.specs.Prelude.{◌≡◌, ◌≢◌, ◌↔◌, ◌++◌, ◌∷◌, [], List, ℤ, IfOk, IsTrue, MatchOption, codes, length, ◌<◌, string_bytes};
+ghost use Rattle.number_list.specs.NumberList.{numbers_held};
 ghost use Rattle.qap_proof.specs.declared.side.Side.{Side as Sides};
 ghost use Rattle.tuple_match.specs.Field.{field_value, fields_value};
 ghost use Rattle.tuple_match.specs.FieldValue.{number, numbers, word};
 ghost use Rattle.qap_search.specs.DecidedTuples.{IsNoPiece, IsPart, best_of, closed_of, piece_tuple};
 ghost use Rattle.qap_search.specs.Piece.{side_word};
 
-use qap_proof::{Duals, Side};
-use std::alloc::{AllocError, Global};
+use number_list::NumberList;
+use qap_proof::{KeptDuals, Side};
+use std::alloc::AllocError;
 use tuple_match::{Field, Tuple};
 
 /// What was decided at a node.
@@ -19,9 +21,9 @@ pub(crate) enum Decision {
     /// It is split with duals.
     Pruned(PrunedSplit),
     /// It is closed by these duals.
-    Closed(Duals),
+    Closed(KeptDuals),
     /// It is the image of the earlier child of this number under a permutation.
-    Mirrored { earlier: i128, image: Vec<i128> },
+    Mirrored { earlier: i128, image: NumberList },
 }
 
 /// A split on the facility or the location of this number, with duals.
@@ -29,15 +31,15 @@ pub(crate) enum Decision {
 pub(crate) struct PrunedSplit {
     pub(crate) side: Side,
     pub(crate) number: i128,
-    pub(crate) duals: Duals,
+    pub(crate) duals: KeptDuals,
     /// Of each child a 1 where the duals cut it off, and else a 0.
-    pub(crate) cuts: Vec<i128>,
+    pub(crate) cuts: NumberList,
 }
 
 /// A node that is decided: facility and location by turns, in the order of placing.
 #[derive(Drop)]
 pub(crate) struct DecidedNode {
-    pub(crate) node: Vec<i128>,
+    pub(crate) node: NumberList,
     pub(crate) decision: Decision,
 }
 
@@ -45,7 +47,7 @@ pub(crate) struct DecidedNode {
 #[derive(Drop)]
 pub(crate) struct BestFound {
     pub(crate) cost: i128,
-    pub(crate) locations: Vec<i128>,
+    pub(crate) locations: NumberList,
 }
 
 /// What a tuple of a search without open nodes says.
@@ -55,152 +57,115 @@ pub(crate) enum Piece {
     Decided(DecidedNode),
 }
 
-/// What the tuple says; `None` where it is no tuple of a best permutation or a decided node. No list in 128 bits is copied unless
-/// another tuple shares it.
-pub(crate) fn piece_of(alloc: Global, tuple: Tuple) -> Result<Option<Piece>, AllocError>
+/// What the tuple says; `None` where it is no tuple of a best permutation or a decided node. Its lists are moved as they lie, unless
+/// another tuple shares them.
+pub(crate) fn piece_of(tuple: Tuple) -> Result<Option<Piece>, AllocError>
     ensures { IfOk result (λ told. MatchOption told (IsNoPiece tuple) (λ piece. piece_tuple piece ≡ tuple)) }
 {
-    piece_in(alloc, tuple.into_fields()?)
+    Ok(piece_in(tuple.into_fields()?))
 }
 
 /// The same of a tuple of these fields.
-fn piece_in(alloc: Global, mut fields: Vec<Field>) -> Result<Option<Piece>, AllocError>
-    ensures { IfOk result (λ told. MatchOption told
+fn piece_in(mut fields: Vec<Field>) -> Option<Piece>
+    ensures { MatchOption result
         (IsNoPiece (fields_value fields.items))
-        (λ piece. piece_tuple piece ≡ fields_value fields.items)) }
+        (λ piece. piece_tuple piece ≡ fields_value fields.items) }
 {
-    let Some(last) = fields.pop() else {
-        return Ok(None);
-    };
-    match part_of(alloc, last)? {
-        Part::Number(facility) => match node_behind(alloc, "split", fields)? {
-            Some(node) => Ok(Some(Piece::Decided(DecidedNode {
+    match part_of(fields.pop()?) {
+        Part::Number(facility) => {
+            let node = node_behind("split", fields)?;
+            Some(Piece::Decided(DecidedNode {
                 node,
                 decision: Decision::Split(facility),
-            }))),
-            None => Ok(None),
-        },
-        Part::Numbers(last) => piece_before(alloc, fields, last),
-        Part::Word => Ok(None),
+            }))
+        }
+        Part::Numbers(last) => piece_before(fields, last),
+        Part::Word => None,
     }
 }
 
 /// The same for a tuple that ends in this list, behind these fields.
-fn piece_before(
-    alloc: Global,
-    mut fields: Vec<Field>,
-    last: Vec<i128>,
-) -> Result<Option<Piece>, AllocError>
-    ensures { IfOk result (λ told. MatchOption told
-        (IsNoPiece (fields_value fields.items ++ numbers last.items ∷ []))
-        (λ piece. piece_tuple piece ≡ fields_value fields.items ++ numbers last.items ∷ [])) }
+fn piece_before(mut fields: Vec<Field>, last: NumberList) -> Option<Piece>
+    ensures { MatchOption result
+        (IsNoPiece (fields_value fields.items ++ numbers (numbers_held last) ∷ []))
+        (λ piece. piece_tuple piece ≡ fields_value fields.items ++ numbers (numbers_held last) ∷ []) }
 {
-    let Some(field) = fields.pop() else {
-        return Ok(None);
-    };
-    match part_of(alloc, field)? {
-        Part::Number(number) => piece_by_number(alloc, fields, number, last),
-        Part::Numbers(before) => piece_by_lists(alloc, fields, before, last),
-        Part::Word => Ok(None),
+    match part_of(fields.pop()?) {
+        Part::Number(number) => piece_by_number(fields, number, last),
+        Part::Numbers(before) => piece_by_lists(fields, before, last),
+        Part::Word => None,
     }
 }
 
 /// The same for a tuple that ends in a number and a list.
-fn piece_by_number(
-    alloc: Global,
-    fields: Vec<Field>,
-    value: i128,
-    last: Vec<i128>,
-) -> Result<Option<Piece>, AllocError>
-    ensures { IfOk result (λ told. MatchOption told
-        (IsNoPiece (fields_value fields.items ++ number value ∷ numbers last.items ∷ []))
-        (λ piece. piece_tuple piece ≡ fields_value fields.items ++ number value ∷ numbers last.items ∷ [])) }
+fn piece_by_number(fields: Vec<Field>, value: i128, last: NumberList) -> Option<Piece>
+    ensures { MatchOption result
+        (IsNoPiece (fields_value fields.items ++ number value ∷ numbers (numbers_held last) ∷ []))
+        (λ piece. piece_tuple piece ≡ fields_value fields.items ++ number value ∷ numbers (numbers_held last) ∷ []) }
 {
     if is_only_word("best", &fields) {
-        return Ok(Some(Piece::Best(BestFound {
+        return Some(Piece::Best(BestFound {
             cost: value,
             locations: last,
-        })));
+        }));
     }
-    match node_behind(alloc, "mirrored", fields)? {
-        Some(node) => Ok(Some(Piece::Decided(DecidedNode {
-            node,
-            decision: Decision::Mirrored {
-                earlier: value,
-                image: last,
-            },
-        }))),
-        None => Ok(None),
-    }
+    let node = node_behind("mirrored", fields)?;
+    Some(Piece::Decided(DecidedNode {
+        node,
+        decision: Decision::Mirrored {
+            earlier: value,
+            image: last,
+        },
+    }))
 }
 
 /// The same for a tuple that ends in two lists.
-fn piece_by_lists(
-    alloc: Global,
-    fields: Vec<Field>,
-    before: Vec<i128>,
-    last: Vec<i128>,
-) -> Result<Option<Piece>, AllocError>
-    ensures { IfOk result (λ told. MatchOption told
-        (IsNoPiece (fields_value fields.items ++ numbers before.items ∷ numbers last.items ∷ []))
-        (λ piece. piece_tuple piece ≡ fields_value fields.items ++ numbers before.items ∷ numbers last.items ∷ [])) }
+fn piece_by_lists(fields: Vec<Field>, before: NumberList, last: NumberList) -> Option<Piece>
+    ensures { MatchOption result
+        (IsNoPiece (fields_value fields.items ++ numbers (numbers_held before) ∷ numbers (numbers_held last) ∷ []))
+        (λ piece. piece_tuple piece ≡ fields_value fields.items ++ numbers (numbers_held before) ∷ numbers (numbers_held last) ∷ []) }
 {
     if fields.len() > 2 {
-        return pruned_piece(alloc, fields, before, last);
+        return pruned_piece(fields, before, last);
     }
-    match node_behind(alloc, "closed", fields)? {
-        Some(node) => Ok(Some(Piece::Decided(DecidedNode {
-            node,
-            decision: Decision::Closed(Duals { u: before, v: last }),
-        }))),
-        None => Ok(None),
-    }
+    let node = node_behind("closed", fields)?;
+    Some(Piece::Decided(DecidedNode {
+        node,
+        decision: Decision::Closed(KeptDuals { u: before, v: last }),
+    }))
 }
 
 /// The same for a tuple that ends in two lists behind more than two fields: that of a split with duals, or none.
-fn pruned_piece(
-    alloc: Global,
-    fields: Vec<Field>,
-    v: Vec<i128>,
-    cuts: Vec<i128>,
-) -> Result<Option<Piece>, AllocError>
+fn pruned_piece(fields: Vec<Field>, v: NumberList, cuts: NumberList) -> Option<Piece>
     requires { 2 < length fields.items }
-    ensures { IfOk result (λ told. MatchOption told
-        (IsNoPiece (fields_value fields.items ++ numbers v.items ∷ numbers cuts.items ∷ []))
-        (λ piece. piece_tuple piece ≡ fields_value fields.items ++ numbers v.items ∷ numbers cuts.items ∷ [])) }
+    ensures { MatchOption result
+        (IsNoPiece (fields_value fields.items ++ numbers (numbers_held v) ∷ numbers (numbers_held cuts) ∷ []))
+        (λ piece. piece_tuple piece ≡ fields_value fields.items ++ numbers (numbers_held v) ∷ numbers (numbers_held cuts) ∷ []) }
 {
-    match pruned_behind(alloc, fields, v, cuts)? {
-        Some((node, split)) => Ok(Some(Piece::Decided(DecidedNode {
-            node,
-            decision: Decision::Pruned(split),
-        }))),
-        None => Ok(None),
-    }
+    let (node, split) = pruned_behind(fields, v, cuts)?;
+    Some(Piece::Decided(DecidedNode {
+        node,
+        decision: Decision::Pruned(split),
+    }))
 }
 
 /// The node and the split of a row that ends in the number of what a split is on and the duals of its free facilities.
 fn pruned_behind(
-    alloc: Global,
     mut fields: Vec<Field>,
-    v: Vec<i128>,
-    cuts: Vec<i128>,
-) -> Result<Option<(Vec<i128>, PrunedSplit)>, AllocError>
-    ensures { IfOk result (λ told. MatchOption told
+    v: NumberList,
+    cuts: NumberList,
+) -> Option<(NumberList, PrunedSplit)>
+    ensures { MatchOption result
         ((xs : List ℤ) (side : Sides) (k : ℤ) (u : List ℤ) → fields_value fields.items ≢ word (codes "pruned") ∷ numbers xs ∷ word (side_word side) ∷ number k ∷ numbers u ∷ [])
-        (λ found. (fields_value fields.items ≡ word (codes "pruned") ∷ numbers found.0.items ∷ word (side_word found.1.side) ∷ number found.1.number ∷ numbers found.1.duals.u.items ∷ [])
-        × (found.1.duals.v ≡ v) × (found.1.cuts ≡ cuts))) }
+        (λ found. (fields_value fields.items ≡ word (codes "pruned") ∷ numbers (numbers_held found.0) ∷ word (side_word found.1.side) ∷ number found.1.number ∷ numbers (numbers_held found.1.duals.u) ∷ [])
+        × (found.1.duals.v ≡ v) × (found.1.cuts ≡ cuts)) }
 {
-    let Some(last) = fields.pop() else {
-        return Ok(None);
+    let Part::Numbers(u) = part_of(fields.pop()?) else {
+        return None;
     };
-    let Part::Numbers(u) = part_of(alloc, last)? else {
-        return Ok(None);
-    };
-    let Some((node, side, number)) = split_behind(alloc, fields)? else {
-        return Ok(None);
-    };
-    let duals = Duals { u, v };
-    Ok(Some((
+    let (node, side, number) = split_behind(fields)?;
+    let duals = KeptDuals { u, v };
+    Some((
         node,
         PrunedSplit {
             side,
@@ -208,34 +173,21 @@ fn pruned_behind(
             duals,
             cuts,
         },
-    )))
+    ))
 }
 
 /// The node, the side and the number of a row that ends in the number of what a split is on.
-fn split_behind(
-    alloc: Global,
-    mut fields: Vec<Field>,
-) -> Result<Option<(Vec<i128>, Side, i128)>, AllocError>
-    ensures { IfOk result (λ told. MatchOption told
+fn split_behind(mut fields: Vec<Field>) -> Option<(NumberList, Side, i128)>
+    ensures { MatchOption result
         ((xs : List ℤ) (side : Sides) (k : ℤ) → fields_value fields.items ≢ word (codes "pruned") ∷ numbers xs ∷ word (side_word side) ∷ number k ∷ [])
-        (λ found. fields_value fields.items ≡ word (codes "pruned") ∷ numbers found.0.items ∷ word (side_word found.1) ∷ number found.2 ∷ [])) }
+        (λ found. fields_value fields.items ≡ word (codes "pruned") ∷ numbers (numbers_held found.0) ∷ word (side_word found.1) ∷ number found.2 ∷ []) }
 {
-    let Some(last) = fields.pop() else {
-        return Ok(None);
+    let Part::Number(number) = part_of(fields.pop()?) else {
+        return None;
     };
-    let Part::Number(number) = part_of(alloc, last)? else {
-        return Ok(None);
-    };
-    let Some(field) = fields.pop() else {
-        return Ok(None);
-    };
-    let Some(side) = side_of(&field) else {
-        return Ok(None);
-    };
-    match node_behind(alloc, "pruned", fields)? {
-        Some(node) => Ok(Some((node, side, number))),
-        None => Ok(None),
-    }
+    let side = side_of(&fields.pop()?)?;
+    let node = node_behind("pruned", fields)?;
+    Some((node, side, number))
 }
 
 /// The side whose word the field is.
@@ -253,50 +205,37 @@ fn side_of(field: &Field) -> Option<Side>
     None
 }
 
-/// What a field is, with its numbers in 128 bits each.
+/// What a field is, with its list as it lies.
 #[derive(Drop)]
 enum Part {
     Number(i128),
-    Numbers(Vec<i128>),
+    Numbers(NumberList),
     Word,
 }
 
 /// What the field is.
 #[tactic(auto, using(crate::proofs::Fields::number_from, crate::proofs::Fields::numbers_from, crate::proofs::Fields::word_from))]
-fn part_of(alloc: Global, field: Field) -> Result<Part, AllocError>
-    ensures { IfOk result (λ part. IsPart part (field_value field)) }
+fn part_of(field: Field) -> Part
+    ensures { IsPart result (field_value field) }
 {
     if let Some(number) = field.as_int() {
-        return Ok(Part::Number(number));
+        return Part::Number(number);
     }
-    match field.into_list(alloc)? {
-        Some(list) => Ok(Part::Numbers(list)),
-        None => Ok(Part::Word),
+    match field.into_numbers() {
+        Some(list) => Part::Numbers(list),
+        None => Part::Word,
     }
 }
 
 /// The list of a row that is this word and a list.
-fn node_behind(
-    alloc: Global,
-    name: &str,
-    mut fields: Vec<Field>,
-) -> Result<Option<Vec<i128>>, AllocError>
-    ensures { IfOk result (λ told. MatchOption told
+fn node_behind(name: &str, mut fields: Vec<Field>) -> Option<NumberList>
+    ensures { MatchOption result
         ((xs : List ℤ) → fields_value fields.items ≢ word name.now ∷ numbers xs ∷ [])
-        (λ node. fields_value fields.items ≡ word name.now ∷ numbers node.items ∷ [])) }
+        (λ node. fields_value fields.items ≡ word name.now ∷ numbers (numbers_held node) ∷ []) }
 {
-    let Some(field) = fields.pop() else {
-        return Ok(None);
-    };
-    match part_of(alloc, field)? {
-        Part::Numbers(node) => {
-            if is_only_word(name, &fields) {
-                Ok(Some(node))
-            } else {
-                Ok(None)
-            }
-        }
-        Part::Number(_) | Part::Word => Ok(None),
+    match part_of(fields.pop()?) {
+        Part::Numbers(node) if is_only_word(name, &fields) => Some(node),
+        _ => None,
     }
 }
 

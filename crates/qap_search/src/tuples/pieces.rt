@@ -31,7 +31,7 @@ pub(crate) fn tell_apart(alloc: Global, mut tuples: Vec<Tuple>) -> Result<Pieces
     let mut best = None;
     let mut decided = Vec::with_capacity(alloc, tuples.len())?;
     while let Some(tuple) = tuples.pop() {
-        let told = piece_of(alloc, tuple)?;
+        let told = piece_of(tuple)?;
         let Some(piece) = told else {
             return Err(AssembleError::NotATree);
         };

@@ -2,7 +2,7 @@
 
 ghost use Rattle.std.specs.Prelude.{◌≡◌, ◌≢◌, ◌==◌, ℕ, ℤ, Bool, true, false, ◌++◌, Some, IfOk, MatchOption, OnOk, List};
 ghost use Rattle.qap_cost.specs.Instance.{IsInstance, Problem};
-ghost use Rattle.tuple_match.specs.Numbers.{numbers_in};
+ghost use Rattle.number_list.specs.Numbers.{numbers_in};
 ghost use Rattle.space_txn.specs.Content.{SameItems, added_of};
 ghost use Rattle.space_txn.specs.Machine.{find_answer, found};
 ghost use Rattle.space_txn.specs.Txn.{TxnValue};
@@ -28,11 +28,12 @@ use crate::worker::prepared::Prepared;
 use crate::worker::putting::{by_entries, put_forever};
 use crate::worker::stage::{LastThought, Outcome, Stage, Tally};
 use crate::worker::turn::{refused, went_on};
+use number_list::Numbers;
 use qap_cost::Perm;
 use shared_space::{Law, Room, two_marks_law};
 use space_txn::{Found, Txn, TxnError};
 use std::alloc::{AllocError, Global};
-use tuple_match::{Field, Numbers, Template, Tuple, does_match_law};
+use tuple_match::{Field, Template, Tuple, does_match_law};
 use tuple_space::EntryId;
 
 /// Takes the tuple of the best permutation.
@@ -381,7 +382,6 @@ fn perm_at(alloc: Global, txn: &Txn, id: EntryId) -> Result<Option<Perm>, AllocE
     let Some((_, locations)) = best_fields(tuple) else {
         return Ok(None);
     };
-    let locations = locations.to_vec(alloc)?;
     permutation_of(alloc, &locations)
 }
 

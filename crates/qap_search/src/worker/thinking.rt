@@ -3,7 +3,7 @@
 ghost use Rattle.std.specs.Prelude.{◌≡◌, ◌≢◌, ◌↔◌, ◌<◌, ◌≤◌, ◌∷◌, [], ℕ, ℤ, List, codes, IfOk, IsTrue, MatchBool, MatchOption, OnErr, OnOk, Some};
 ghost use Rattle.qap_cost.specs.Placement.{IsPlacement};
 ghost use Rattle.tuple_match.specs.FieldValue.{numbers, word};
-ghost use Rattle.tuple_match.specs.Numbers.{numbers_in};
+ghost use Rattle.number_list.specs.Numbers.{numbers_in};
 ghost use Rattle.space_txn.specs.Txn.{TxnValue};
 ghost use Rattle.qap_search.specs.Considering.{Considers, HasNoNode, IsNodeAt, IsOnNode, IsThoughtOn, stage_after};
 ghost use Rattle.qap_search.specs.Hand.{cuts};
@@ -16,11 +16,12 @@ use crate::tuples::parsing::is_word;
 use crate::worker::gate::Gate;
 use crate::worker::ground::Ground;
 use crate::worker::stage::{Desk, LastThought, Stage, Tools};
+use number_list::Numbers;
 use qap_cost::Partial;
 use space_txn::Txn;
 use std::alloc::{AllocError, Global};
 use std::mem::replace;
-use tuple_match::{Numbers, Tuple};
+use tuple_match::Tuple;
 use tuple_space::EntryId;
 
 /// Thinks on the node that was taken, where this best cost is known; `false` where its entry's lease ends. At an error nothing changed.

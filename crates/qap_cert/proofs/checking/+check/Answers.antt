@@ -1,9 +1,7 @@
-use Rattle.std.proofs.Common.{◌≡◌, ◌+◌, ◌*◌, ◌<◌, ◌≤◌, ◌++◌, ◌∷◌, [], ℕ, List, length, get_or, drop, sym, ◌∙◌, ap, subst, inl, inr, arith, to_z, of_z}
+use Rattle.std.proofs.Common.{◌≡◌, ◌+◌, ◌*◌, ◌<◌, ◌≤◌, ◌++◌, ◌∷◌, [], ℕ, List, length, get_or, drop, sym, ◌∙◌, ap, subst, inl, inr, arith}
 use Rattle.std.proofs.lemmas.Result.{err_from_is_err_and}
-use Rattle.std.specs.Int.{w128}
 use Rattle.qap_cost.specs.Placement.{Placement, IsFreeLocation, placing}
-use Rattle.std.proofs.lemmas.Int.{to_z-of_z}
-use Rattle.qap_cert.specs.Fault.{IsTreeFault, IsTreeFaultAmong}
+use Rattle.qap_cert.specs.Fault.{IsTreeFault}
 use Rattle.qap_cert.specs.Shape.{HasShape, AllHaveShape}
 use Rattle.qap_cert.specs.Tree.{split, node_of, nodes_of, node_count, nodes_count}
 use Rattle.qap_cert.specs.declared.tree.Tree.{Tree}
@@ -47,14 +45,14 @@ check_tree-check_children-requires t c =
 
 pub check_children-loop-i-preserved : goal.check_children-loop-i-preserved
 check_children-loop-i-preserved t c =
-    let I = c.args.ranked.now in
+    let I = c.args.judge.now.ranked.now in
     let x = c.args.parent.now.node.now in
     let f = c.args.parent.now.facility in
     let ks = c.args.parent.now.locations.now in
     let ts = c.args.children.now in
     let i = c.loop-i.i in
     let child = c.index-children-i.result in
-    let g = to_z w128 (of_z w128 c.args.bound) in
+    let g = c.args.judge.now.bound in
     let below : i < length ts = omega (arith, c.loop-i-test.true) in
     let at = Checked-at I g x f c.args.line c.loop-i.next ks ts i child below (omega (arith, below, c.requires.one_each)) c.index-children-i.is c.loop-i.invariant in
     let valid = subst (λ (y : Placement). Valid I g y (node_of child)) c.in_ok-part.ensures.value c.in_ok-next.ensures.0 in
@@ -62,7 +60,7 @@ check_children-loop-i-preserved t c =
 
 pub check_children-check_tree-requires : goal.check_children-check_tree-requires
 check_children-check_tree-requires t c =
-    let I = c.args.ranked.now in
+    let I = c.args.judge.now.ranked.now in
     let x = c.args.parent.now.node.now in
     let f = c.args.parent.now.facility in
     let ks = c.args.parent.now.locations.now in
@@ -70,7 +68,7 @@ check_children-check_tree-requires t c =
     let i = c.loop-i.i in
     let child = c.index-children-i.result in
     let part = c.in_ok-part.part in
-    let g = to_z w128 (of_z w128 c.args.bound) in
+    let g = c.args.judge.now.bound in
     let below : i < length ts = omega (arith, c.loop-i-test.true) in
     let at = Checked-at I g x f c.args.line c.loop-i.next ks ts i child below (omega (arith, below, c.requires.one_each)) c.index-children-i.is c.loop-i.invariant in
     let part_is : part ≡ placing x f (get_or ks i 0) = c.in_ok-part.ensures.value in
@@ -83,21 +81,19 @@ check_children-check_tree-requires t c =
 
 pub check_children-returns-in_err-next : goal.check_children-returns-in_err-next
 check_children-returns-in_err-next t c =
-    let I = c.args.ranked.now in
+    let I = c.args.judge.now.ranked.now in
     let x = c.args.parent.now.node.now in
     let f = c.args.parent.now.facility in
     let ks = c.args.parent.now.locations.now in
     let ts = c.args.children.now in
     let i = c.loop-i.i in
     let child = c.index-children-i.result in
-    let g = to_z w128 (of_z w128 c.args.bound) in
+    let g = c.args.judge.now.bound in
     let below : i < length ts = omega (arith, c.loop-i-test.true) in
     let at = Checked-at I g x f c.args.line c.loop-i.next ks ts i child below (omega (arith, below, c.requires.one_each)) c.index-children-i.is c.loop-i.invariant in
     let p = err_from_is_err_and c.from_residual-in_err-next.result c.from_residual-in_err-next.ensures.1 in
-    let same : g ≡ c.args.bound = to_z-of_z w128 c.args.bound c.ranges.bound in
     rw (p.1, p.2) (elim (c.in_err-next.ensures {u = tt}) [
       | inl memory ↦ inl memory
-      | inr fault ↦ inr (subst (λ z. IsTreeFaultAmong I z x f ks c.args.line (nodes_of ts) c.in_err-next.field-0.0) same
-          (Checked-fault I g x f c.args.line c.loop-i.next ks (nodes_of ts) (get_or ks i 0) (drop (i + 1) ks) (node_of child) (nodes_of (drop (i + 1) ts)) c.in_err-next.field-0.0 at
-          (subst (λ (y : Placement). IsTreeFault I g y c.loop-i.next (node_of child) c.in_err-next.field-0.0) c.in_ok-part.ensures.value fault)))
+      | inr fault ↦ inr (Checked-fault I g x f c.args.line c.loop-i.next ks (nodes_of ts) (get_or ks i 0) (drop (i + 1) ks) (node_of child) (nodes_of (drop (i + 1) ts)) c.in_err-next.field-0.0 at
+          (subst (λ (y : Placement). IsTreeFault I g y c.loop-i.next (node_of child) c.in_err-next.field-0.0) c.in_ok-part.ensures.value fault))
     ])

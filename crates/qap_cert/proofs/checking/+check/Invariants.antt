@@ -11,4 +11,4 @@ decreases-check_children l = 2 * nodes_count (nodes_of l.children.now) + 1
 
 abbrev pub invariant-check_children-loop-i : goal.invariant-check_children-loop-i
 invariant-check_children-loop-i l =
-    Checked l.ranked l.bound l.parent.node.now l.parent.facility l.line l.next l.parent.locations.now (nodes_of l.children) (drop l.i l.parent.locations.now) (nodes_of (drop l.i l.children))
+    Checked l.judge.ranked.now l.judge.bound l.parent.node.now l.parent.facility l.line l.next l.parent.locations.now (nodes_of l.children) (drop l.i l.parent.locations.now) (nodes_of (drop l.i l.children))

@@ -16,9 +16,9 @@ pub returns-clause-bound : goal.returns-clause-bound
 returns-clause-bound c =
     let I = c.args.instance.now in
     let C = c.args.certificate.now in
-    let within : unsigned_abs c.bound-bound.result ≤ 10 ^ 24 = subst (λ (z : ℤ). unsigned_abs z ≤ 10 ^ 24) (sym c.bound-bound.ensures.value) c.bound-bound.ensures.certificate.bound.limited in
-    let g = to_z w128 (of_z w128 c.bound-bound.result) in
-    let bound : g ≡ C.bound = to_z-of_z w128 c.bound-bound.result (fits_signed_from_abs w128 c.bound-bound.result (omega (arith, within))) ∙ c.bound-bound.ensures.value in
+    let within : unsigned_abs c.bound.result ≤ 10 ^ 24 = subst (λ (z : ℤ). unsigned_abs z ≤ 10 ^ 24) (sym c.bound.ensures.value) c.bound.ensures.certificate.bound.limited in
+    let g = to_z w128 (of_z w128 c.bound.result) in
+    let bound : g ≡ C.bound = to_z-of_z w128 c.bound.result (fits_signed_from_abs w128 c.bound.result (omega (arith, within))) ∙ c.bound.ensures.value in
     let root : c.in_ok-root.root ≡ root_of I.size = c.in_ok-root.ensures.value ∙ ap root_of c.size.ensures.value in
     let valid : Valid I C.bound (root_of I.size) C.tree =
     subst (λ (z : ℤ). Valid I z (root_of I.size) C.tree) bound
@@ -32,9 +32,9 @@ pub returns-clause-least : goal.returns-clause-least
 returns-clause-least c =
     let I = c.args.instance.now in
     let C = c.args.certificate.now in
-    let within : unsigned_abs c.bound-bound.result ≤ 10 ^ 24 = subst (λ (z : ℤ). unsigned_abs z ≤ 10 ^ 24) (sym c.bound-bound.ensures.value) c.bound-bound.ensures.certificate.bound.limited in
-    let g = to_z w128 (of_z w128 c.bound-bound.result) in
-    let bound : g ≡ C.bound = to_z-of_z w128 c.bound-bound.result (fits_signed_from_abs w128 c.bound-bound.result (omega (arith, within))) ∙ c.bound-bound.ensures.value in
+    let within : unsigned_abs c.bound.result ≤ 10 ^ 24 = subst (λ (z : ℤ). unsigned_abs z ≤ 10 ^ 24) (sym c.bound.ensures.value) c.bound.ensures.certificate.bound.limited in
+    let g = to_z w128 (of_z w128 c.bound.result) in
+    let bound : g ≡ C.bound = to_z-of_z w128 c.bound.result (fits_signed_from_abs w128 c.bound.result (omega (arith, within))) ∙ c.bound.ensures.value in
     let root : c.in_ok-root.root ≡ root_of I.size = c.in_ok-root.ensures.value ∙ ap root_of c.size.ensures.value in
     let valid : Valid I C.bound (root_of I.size) C.tree =
     subst (λ (z : ℤ). Valid I z (root_of I.size) C.tree) bound
@@ -42,16 +42,16 @@ returns-clause-least c =
     (subst (λ (t : Node). Valid I g c.in_ok-root.root t) c.tree.ensures.value
     (subst (λ (J : Problem). Valid J g c.in_ok-root.root (node_of c.tree.result.now)) c.in_ok-ranked.ensures.value c.in_ok-check_tree.ensures.0))) in
     let certified : Certifies I C = record { same_size = c.in_ok-judge_stated.ensures.0; cost = c.in_ok-judge_stated.ensures.1; tree = valid } in
-    Certifies-IsLeast I C c.size.ensures.instance c.bound-bound.ensures.certificate certified
+    Certifies-IsLeast I C c.size.ensures.instance c.bound.ensures.certificate certified
 
 pub returns-in_err-check_tree-clause-verdict : goal.returns-in_err-check_tree-clause-verdict
 returns-in_err-check_tree-clause-verdict c =
     let I = c.args.instance.now in
     let C = c.args.certificate.now in
     let e = c.in_err-check_tree.field-0.0 in
-    let within : unsigned_abs c.bound-bound.result ≤ 10 ^ 24 = subst (λ (z : ℤ). unsigned_abs z ≤ 10 ^ 24) (sym c.bound-bound.ensures.value) c.bound-bound.ensures.certificate.bound.limited in
-    let g = to_z w128 (of_z w128 c.bound-bound.result) in
-    let bound : g ≡ C.bound = to_z-of_z w128 c.bound-bound.result (fits_signed_from_abs w128 c.bound-bound.result (omega (arith, within))) ∙ c.bound-bound.ensures.value in
+    let within : unsigned_abs c.bound.result ≤ 10 ^ 24 = subst (λ (z : ℤ). unsigned_abs z ≤ 10 ^ 24) (sym c.bound.ensures.value) c.bound.ensures.certificate.bound.limited in
+    let g = to_z w128 (of_z w128 c.bound.result) in
+    let bound : g ≡ C.bound = to_z-of_z w128 c.bound.result (fits_signed_from_abs w128 c.bound.result (omega (arith, within))) ∙ c.bound.ensures.value in
     let root : c.in_ok-root.root ≡ root_of I.size = c.in_ok-root.ensures.value ∙ ap root_of c.size.ensures.value in
     let line = c.tree_line-line.result in
     let p = err_from_is_err_and c.from_residual-in_err-check_tree.result c.from_residual-in_err-check_tree.ensures.1 in

@@ -1,9 +1,14 @@
-use Rattle.std.proofs.Common.{rules, ◌≡◌, ◌+◌, ◌-◌, ◌*◌, ◌<◌, ◌∷◌, [], ℕ, List, pos, length, get_or, refl, ◌^◌, inl, inr, sym, ◌∙◌, ap, subst, arith}
+use Rattle.std.proofs.Common.{rules, ◌≡◌, ◌+◌, ◌-◌, ◌*◌, ◌<◌, ◌++◌, ◌∷◌, [], ℕ, List, pos, length, get_or, refl, ◌^◌, inl, inr, sym, ◌∙◌, ap, subst, arith}
 use Rattle.std.proofs.lemmas.Result.{err_from_is_err_and}
+use Rattle.number_list.specs.NumberList.{numbers_held}
+use Rattle.gilmore_lawler.specs.Closing.{AreDuals}
+use Rattle.qap_lines.specs.LineText.{numbers_text}
 use Rattle.qap_lines.specs.Number.{IsNamed}
 use Rattle.qap_cost.specs.Range.{AllLimited}
 use Rattle.qap_lines.proofs.NumberLists.{IsNamed-unique, AllLimited-one}
+use Rattle.qap_proof.specs.NodeLine.{kept_pair_of}
 use Rattle.qap_proof.specs.Text.{letter as letter_of}
+use Rattle.qap_proof.specs.Tree.{Pair, pair}
 use Rattle.qap_proof.proofs.NodeLines.{not_there, first_number, held_first, only_number, split_duals, split_duals_fault, spelled}
 use Rattle.qap_proof.proofs.node_line.split_line.Goals as goal
 
@@ -104,4 +109,7 @@ returns c =
     let free : c.size.result - c.depth.result ≡ m = omega (arith, c.size.ensures.value, c.depth.ensures.value) in
     let wide : w ≡ 2 * m = omega (arith, free) in
     let parts = split_duals m w i (letter_of c.args.side) c.args.line.now some.0 first front.0 c.split_off-2.new.self.items c.in_ok-v.v.items wide small named (sym some.2 ∙ counted.0) (some.3.0 counted.1) some.4 front.1 (rw (← free) (search rules)) (rw (← free) (search rules)) in
-    (refl, record { some = judged.0; free = judged.1; duals = parts.0 }, parts.1)
+    let kept : kept_pair_of c.kept.result ≡ pair c.split_off-2.new.self.items c.in_ok-v.v.items = c.kept.ensures in
+    let duals : AreDuals m (numbers_held c.kept.result.u) (numbers_held c.kept.result.v) = subst (λ (d : Pair). AreDuals m d.u d.v) (sym kept) parts.0 in
+    let text = subst (λ (d : Pair). c.args.line.now ≡ letter_of c.args.side ++ numbers_text (pos (i + 1) ∷ d.u ++ d.v)) (sym kept) parts.1 in
+    (refl, record { some = judged.0; free = judged.1; duals = duals }, text)

@@ -1,4 +1,4 @@
-use Rattle.tuple_match.specs.Numbers.{numbers_in}
+use Rattle.number_list.specs.Numbers.{numbers_in}
 use Rattle.qap_search.proofs.Finishing.{no_other-permutation, no_small-no_permutation}
 use Rattle.qap_search.proofs.certificate.assembling.permutation_in.Goals as goal
 

@@ -1,5 +1,5 @@
 use Rattle.std.specs.Prelude.{◌≡◌, map, pos, take}
-use Rattle.tuple_match.specs.Numbers.{numbers_in}
+use Rattle.number_list.specs.Numbers.{numbers_in}
 use Rattle.qap_search.proofs.certificate.assembling.small_numbers.Given as goal
 
 abbrev pub invariant-loop-place : goal.invariant-loop-place

@@ -10,12 +10,12 @@ pub returns : goal.returns
 returns c =
     let I = c.args.instance.now in
     let x = c.args.closing.now.node in
-    let u = c.in_ok-u.u.items in
-    let v = c.in_ok-v.v.items in
+    let u = c.deref.result.now in
+    let v = c.deref-2.result.now in
     let answer = c.work_out.new.self.answer in
     let least : AreLeastDuals I x u v =
-    subst (λ (xs : List ℤ). AreLeastDuals I x xs v) (sym (c.in_ok-u.ensures.items ∙ c.deref.ensures.value))
-    (subst (λ (ys : List ℤ). AreLeastDuals I x answer.u.items ys) (sym (c.in_ok-v.ensures.items ∙ c.deref-2.ensures.value)) c.in_ok-work_out.ensures.duals) in
+    subst (λ (xs : List ℤ). AreLeastDuals I x xs v) (sym c.deref.ensures.value)
+    (subst (λ (ys : List ℤ). AreLeastDuals I x answer.u.items ys) (sym c.deref-2.ensures.value) c.in_ok-work_out.ensures.duals) in
     IfOk-weaker c.tuple_of_closed.result _ _
     (λ t is. record { u = u; v = v; least = least; is = is ∙ ap (λ (y : Placement). closed_tuple y u v) c.in_ok-work_out.ensures.node })
     c.tuple_of_closed.ensures

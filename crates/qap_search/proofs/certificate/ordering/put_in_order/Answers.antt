@@ -3,6 +3,7 @@ use Rattle.std.proofs.lemmas.List.{reverse-reverse}
 use Rattle.std.proofs.lemmas.List.Sorted.{IsPermutation-trans, answers_always, ranks_by}
 use Rattle.std.specs.Cmp.{int_cmp_total}
 use Rattle.std.specs.Cmp.Lexicographic.{lists_total}
+use Rattle.number_list.specs.NumberList.{numbers_held}
 use Rattle.qap_search.specs.InOrder.{AreInOrder, is_before}
 use Rattle.qap_search.specs.declared.tuples.parsing.DecidedNode.{DecidedNode}
 use Rattle.qap_search.proofs.certificate.ordering.put_in_order.Goals as goal
@@ -15,5 +16,5 @@ returns-clause-moved c =
 pub returns-clause-ordered : goal.returns-clause-ordered
 returns-clause-ordered c =
     let sorted : AreInOrder c.sort_unstable_by.new.self.items =
-    c.sort_unstable_by.ensures.sorted is_before (ranks_by (lists_total int_cmp_total) (λ (d : DecidedNode). d.node.items)) (answers_always _ _ _ (λ f a r g h. search rules)) in
+    c.sort_unstable_by.ensures.sorted is_before (ranks_by (lists_total int_cmp_total) (λ (d : DecidedNode). numbers_held d.node)) (answers_always _ _ _ (λ f a r g h. search rules)) in
     subst AreInOrder (sym (ap reverse c.reverse.ensures.items ∙ reverse-reverse c.sort_unstable_by.new.self.items)) sorted

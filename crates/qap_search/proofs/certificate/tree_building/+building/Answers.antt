@@ -1,4 +1,5 @@
 use Rattle.std.proofs.Common.{◌≡◌, ◌+◌, ◌-◌, ◌*◌, ◌<◌, ◌≤◌, ◌∷◌, ◌++◌, [], ℕ, ℤ, pos, List, length, get_or, ap, ap₂, sym, ◌∙◌, subst, refl, inl, inr, ⊎_elim, arith, rules, length-append, to_z, of_z}
+use Rattle.number_list.specs.NumberList.{numbers_held}
 use Rattle.qap_cost.proofs.Placements.{IsPlacement-depth}
 use Rattle.qap_cost.specs.Placement.{Placement, IsFreeFacility, IsFreeLocation, placing}
 use Rattle.qap_proof.specs.NodeLine.{split_of}
@@ -189,6 +190,6 @@ take_pruned-returns-then-not-are_flags t c =
     let depth = c.depth.ensures.value in
     inr (
       refl,
-      none_flagged x s.side s.number s.duals.u.items s.duals.v.items s.cuts.items (ahead c.args.nodes.now.items) (λ h.
-          false≢true ((c.if-not-are_flags.ensures {u = tt}).1 (subst (λ (zs : List ℤ). (length zs ≡ c.size.result - c.depth.result) × ZerosAndOnes zs) (sym c.deref.ensures.value) (h.0 ∙ (let same : free_count x ≡ c.size.result - c.depth.result = omega arith in same), h.1)))),
+      none_flagged x s.side s.number (numbers_held s.duals.u) (numbers_held s.duals.v) (numbers_held s.cuts) (ahead c.args.nodes.now.items) (λ h.
+          false≢true ((c.if-not-are_flags.ensures {u = tt}).1 (subst (λ (zs : List ℤ). (length zs ≡ c.size.result - c.depth.result) × ZerosAndOnes zs) (sym (c.deref.ensures.value ∙ c.in_ok-cuts.ensures)) (h.0 ∙ (let same : free_count x ≡ c.size.result - c.depth.result = omega arith in same), h.1)))),
     )

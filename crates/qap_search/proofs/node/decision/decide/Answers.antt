@@ -1,4 +1,4 @@
-use Rattle.std.proofs.Common.{◌≡◌, ℤ, subst, ◌≤ℤ◌, ◌<ℤ◌, ◌∷◌, [], ap, ap₂, ◌∙◌, arith, rules, to_z, of_z}
+use Rattle.std.proofs.Common.{◌≡◌, ℤ, subst, ◌≤ℤ◌, ◌<ℤ◌, ◌∷◌, [], ap, ap₂, ◌∙◌, arith, to_z, of_z}
 use Rattle.std.specs.Int.{w128}
 use Rattle.std.proofs.lemmas.Int.{ints, to_z-of_z}
 use Rattle.qap_search.specs.Decision.{split_by}
@@ -11,8 +11,8 @@ pub returns-then-thought-best : goal.returns-then-thought-best
 returns-then-thought-best c = λ cutting I h.
     let x = c.args.node.now in
     let t = c.args.thought.now in
-    let u : c.in_ok-u.u.items ≡ t.u.items = search rules in
-    let v : c.in_ok-v.v.items ≡ t.v.items = search rules in
+    let u : c.deref.result.now ≡ t.u.items = c.deref.ensures.value in
+    let v : c.deref-then-thought-best.result.now ≡ t.v.items = c.deref-then-thought-best.ensures.value in
     let enough : c.args.best ≤ℤ t.value = omega (arith, ints, c.ranges.best, c.if-thought-best.true) in
     decides_closed cutting I c.args.best x t _ h enough
     (c.in_ok-vec.ensures.items ∙ ap (λ tuple. tuple ∷ []) (c.in_ok-tuple.ensures ∙ ap₂ (closed_tuple x) u v))

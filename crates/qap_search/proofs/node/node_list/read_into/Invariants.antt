@@ -1,4 +1,4 @@
-use Rattle.tuple_match.specs.Numbers.{numbers_in}
+use Rattle.number_list.specs.Numbers.{numbers_in}
 use Rattle.qap_search.proofs.NodeLists.{HasPlaced}
 use Rattle.qap_search.proofs.node.node_list.read_into.Given as goal
 

@@ -3,7 +3,7 @@ use Rattle.std.specs.Int.{w128}
 use Rattle.std.specs.Prelude.{ℤ}
 use Rattle.std.proofs.lemmas.Int.{to_z-of_z}
 use Rattle.qap_cost.specs.Instance.{Problem}
-use Rattle.tuple_match.specs.Numbers.{numbers_in}
+use Rattle.number_list.specs.Numbers.{numbers_in}
 use Rattle.qap_search.specs.OpenBound.{IsOpenBound}
 use Rattle.qap_search.proofs.OpenBounds.{open_bound_read}
 use Rattle.qap_search.proofs.runs.bound.bound_with.Goals as goal

@@ -1,11 +1,12 @@
 use Rattle.std.proofs.lemmas.Bool.{false≢true}
 use Rattle.std.proofs.Common.{sym, ◌∙◌}
+use Rattle.number_list.specs.NumberList.{numbers_held}
 use Rattle.tuple_match.specs.Field.{fields_value}
 use Rattle.qap_search.proofs.Fields.{no_numbered_piece}
 use Rattle.qap_search.proofs.tuples.parsing.piece_by_number.Goals as goal
 
-pub returns-in-None : goal.returns-in-None
-returns-in-None c =
-    no_numbered_piece (fields_value c.args.fields.items) c.args.value c.args.last.items
+pub returns-in_err-node : goal.returns-in_err-node
+returns-in_err-node c =
+    rw c.from_residual.ensures (no_numbered_piece (fields_value c.args.fields.items) c.args.value (numbers_held c.args.last)
     (λ e. false≢true (sym c.if-is_only_word.false ∙ c.is_only_word.ensures.1 (rw c.deref.ensures.value e)))
-    (rw c.in-None.is at c.in_ok-node.ensures)
+    (c.in_err-node.ensures {u = tt}))

@@ -1,0 +1,2 @@
+pub mod NumberList
+pub mod Numbers

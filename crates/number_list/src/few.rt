@@ -1,0 +1,115 @@
+//! Short lists of small numbers, in place.
+
+ghost use Rattle.std.specs.Prelude.{◌≡◌, IfSome, map, pos};
+
+use crate::widths::fill;
+use std::marker::Model;
+
+/// The most numbers of 8 bits in place, by which a list stays at 32 bytes.
+const MOST_BYTES: usize = 30;
+/// The most numbers of 16 bits in place, by which a list stays at 32 bytes.
+const MOST_SHORTS: usize = 14;
+
+/// At most 30 numbers from 0 to 255, in place.
+#[derive(Debug, Drop)]
+pub struct FewBytes {
+    count: u8,
+    numbers: [u8; MOST_BYTES],
+}
+
+impl Model for FewBytes {
+    ghost use Rattle.std.specs.Prelude.{◌≡◌, ◌≤◌, List, ℕ, length, take};
+
+    ghost Value = { List ℕ };
+
+    ghost view = { λ f. take f.count f.numbers };
+
+    ghost invariant = { λ f. (length f.numbers ≡ 30) × (f.count ≤ 30) };
+}
+
+impl FewBytes {
+    /// These numbers in place, or `None` where there are too many or one of them is not from 0 to 255.
+    pub(crate) fn of(numbers: &[i128]) -> Option<FewBytes>
+        ensures { IfSome result (λ few. map pos few ≡ numbers.now) }
+    {
+        let mut room = [0; MOST_BYTES];
+        let count = u8::try_from(numbers.len()).ok()?;
+        if numbers.len() <= MOST_BYTES && fill(&mut room, numbers) {
+            Some(FewBytes {
+                count,
+                numbers: room,
+            })
+        } else {
+            None
+        }
+    }
+
+    /// The numbers, first to last.
+    pub fn as_slice(&self) -> &[u8]
+        ensures { result.now ≡ self.now }
+    {
+        &self.numbers[..usize::from(self.count)]
+    }
+
+    /// The same numbers once more.
+    pub fn copy(&self) -> FewBytes
+        ensures { result ≡ self.now }
+    {
+        FewBytes {
+            count: self.count,
+            numbers: self.numbers,
+        }
+    }
+}
+
+/// At most 14 numbers of 16 bits, in place.
+#[derive(Debug, Drop)]
+pub struct FewShorts {
+    count: u8,
+    numbers: [i16; MOST_SHORTS],
+}
+
+impl Model for FewShorts {
+    ghost use Rattle.std.specs.Prelude.{◌≡◌, ◌≤◌, List, ℤ, length, take};
+
+    ghost Value = { List ℤ };
+
+    ghost view = { λ f. take f.count f.numbers };
+
+    ghost invariant = { λ f. (length f.numbers ≡ 14) × (f.count ≤ 14) };
+}
+
+impl FewShorts {
+    /// These numbers in place, or `None` where there are too many or one of them takes more than 16 bits.
+    pub(crate) fn of(numbers: &[i128]) -> Option<FewShorts>
+        ensures { IfSome result (λ few. few ≡ numbers.now) }
+    {
+        let mut room = [0; MOST_SHORTS];
+        let count = u8::try_from(numbers.len()).ok()?;
+        if numbers.len() <= MOST_SHORTS && fill(&mut room, numbers) {
+            Some(FewShorts {
+                count,
+                numbers: room,
+            })
+        } else {
+            None
+        }
+    }
+
+    /// The numbers, first to last.
+    pub fn as_slice(&self) -> &[i16]
+        ensures { result.now ≡ self.now }
+    {
+        &self.numbers[..usize::from(self.count)]
+    }
+
+    /// The same numbers once more.
+    pub fn copy(&self) -> FewShorts
+        ensures { result ≡ self.now }
+    {
+        FewShorts {
+            count: self.count,
+            numbers: self.numbers,
+        }
+    }
+}

@@ -1,6 +1,0 @@
-use Rattle.std.proofs.Common.{◌≡◌, take}
-use Rattle.tuple_match.specs.Numbers.{numbers_in}
-use Rattle.tuple_match.proofs.numbers.compare_each.Given as goal
-
-abbrev pub invariant-loop-place : goal.invariant-loop-place
-invariant-loop-place l = take l.place (numbers_in l.numbers) ≡ take l.place (numbers_in l.other)
