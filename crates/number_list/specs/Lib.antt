@@ -1,2 +1,3 @@
 pub mod NumberList
 pub mod Numbers
+pub mod Turns

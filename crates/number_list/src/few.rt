@@ -1,6 +1,7 @@
 //! Short lists of small numbers, in place.
 
-ghost use Rattle.std.specs.Prelude.{◌≡◌, IfSome, map, pos};
+ghost use Rattle.std.specs.Prelude.{◌≡◌, ◌∷◌, ◌++◌, [], IfSome, length, map, pos};
+ghost use Rattle.number_list.specs.Turns.{by_turns};
 
 use crate::widths::fill;
 use std::marker::Model;
@@ -42,6 +43,47 @@ impl FewBytes {
         } else {
             None
         }
+    }
+
+    /// The numbers of both rows by turns in place, or `None` where there are too many or one of them is above 255.
+    pub(crate) fn by_turns(first: &[u16], second: &[u16]) -> Option<FewBytes>
+        requires { length second.now ≡ length first.now }
+        ensures { IfSome result (λ few. map pos few ≡ by_turns first.now second.now) }
+    {
+        let mut few = FewBytes::none();
+        for t in 0..first.len() {
+            few = few.with_two(first[t], second[t])?;
+        }
+        Some(few)
+    }
+
+    /// No numbers.
+    fn none() -> FewBytes
+        ensures { result ≡ [] }
+    {
+        FewBytes {
+            count: 0,
+            numbers: [0; MOST_BYTES],
+        }
+    }
+
+    /// These numbers and two more behind them, or `None` where there are too many or one of the two is above 255.
+    pub(crate) fn with_two(&self, first: u16, second: u16) -> Option<FewBytes>
+        ensures { IfSome result (λ few. few ≡ self.now ++ first ∷ second ∷ []) }
+    {
+        let first = u8::try_from(first).ok()?;
+        let second = u8::try_from(second).ok()?;
+        let count = usize::from(self.count);
+        if count + 2 > MOST_BYTES {
+            return None;
+        }
+        let mut numbers = self.numbers;
+        numbers[count] = first;
+        numbers[count + 1] = second;
+        Some(FewBytes {
+            count: self.count + 2,
+            numbers,
+        })
     }
 
     /// The numbers, first to last.

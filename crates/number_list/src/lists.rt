@@ -1,7 +1,8 @@
 //! Lists of numbers, in whatever width they lie.
 
-ghost use Rattle.std.specs.Prelude.{◌≡◌, IfOk, IfSome};
+ghost use Rattle.std.specs.Prelude.{◌≡◌, ◌∷◌, ◌++◌, [], IfOk, IfSome, length, pos};
 ghost use Rattle.number_list.specs.NumberList.{numbers_held};
+ghost use Rattle.number_list.specs.Turns.{by_turns};
 ghost use Rattle.number_list.specs.Numbers.{numbers_in};
 
 use crate::few::{FewBytes, FewShorts};
@@ -43,6 +44,40 @@ impl NumberList {
         }
     }
 
+    /// The numbers of both rows by turns, or `AllocError` where they don't lie in place and there is no memory for them.
+    pub fn by_turns(alloc: Global, first: &[u16], second: &[u16]) -> Result<NumberList, AllocError>
+        requires { length second.now ≡ length first.now }
+        ensures { IfOk result (λ list. numbers_held list ≡ by_turns first.now second.now) }
+    {
+        match FewBytes::by_turns(first, second) {
+            Some(few) => Ok(NumberList::Bytes(few)),
+            None => Ok(NumberList::Narrow(narrow_by_turns(alloc, first, second)?)),
+        }
+    }
+
+    /// Another list of these numbers and two more behind them, or `AllocError` where they don't lie in place and there is no memory for
+    /// them.
+    pub fn with_two(&self, alloc: Global, first: u16, second: u16) -> Result<NumberList, AllocError>
+        ensures { IfOk result (λ list. numbers_held list ≡ numbers_held self.now ++ pos first ∷ pos second ∷ []) }
+    {
+        match self {
+            NumberList::Bytes(few) => {
+                if let Some(few) = few.with_two(first, second) {
+                    return Ok(NumberList::Bytes(few));
+                }
+            }
+            NumberList::Narrow(numbers) => {
+                let numbers = narrow_with_two(alloc, numbers, first, second)?;
+                return Ok(NumberList::Narrow(numbers));
+            }
+            NumberList::Shorts(_) | NumberList::Wide(_) => {}
+        }
+        let mut numbers = self.numbers().to_vec(alloc)?;
+        numbers.push(i128::from(first))?;
+        numbers.push(i128::from(second))?;
+        Ok(NumberList::narrowed(numbers))
+    }
+
     /// The numbers, as they lie.
     pub fn numbers(&self) -> Numbers<'_>
         ensures { numbers_in result ≡ numbers_held self.now }
@@ -82,4 +117,33 @@ fn narrow(alloc: Global, numbers: &[i128]) -> Result<Option<NumberList>, AllocEr
     } else {
         Ok(None)
     }
+}
+
+/// The numbers of both rows by turns.
+fn narrow_by_turns(alloc: Global, first: &[u16], second: &[u16]) -> Result<Vec<i32>, AllocError>
+    requires { length second.now ≡ length first.now }
+    ensures { IfOk result (λ numbers. numbers.items ≡ by_turns first.now second.now) }
+{
+    let mut numbers = Vec::with_capacity(alloc, first.len().saturating_add(second.len()))?;
+    for t in 0..first.len() {
+        numbers.push(i32::from(first[t]))?;
+        numbers.push(i32::from(second[t]))?;
+    }
+    Ok(numbers)
+}
+
+/// The numbers and two more behind them.
+fn narrow_with_two(
+    alloc: Global,
+    numbers: &[i32],
+    first: u16,
+    second: u16,
+) -> Result<Vec<i32>, AllocError>
+    ensures { IfOk result (λ more. more.items ≡ numbers.now ++ pos first ∷ pos second ∷ []) }
+{
+    let mut more = Vec::with_capacity(alloc, numbers.len().saturating_add(2))?;
+    more.extend_from_slice(numbers)?;
+    more.push(i32::from(first))?;
+    more.push(i32::from(second))?;
+    Ok(more)
 }

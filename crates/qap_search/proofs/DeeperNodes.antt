@@ -3,7 +3,8 @@ use Rattle.std.proofs.Common.{◌≡◌, ◌≢◌, ◌↔◌, ℕ, zero, suc, �
 use Rattle.std.proofs.lemmas.Bool.{false≢true}
 use Rattle.qap_cost.specs.Placement.{Placement, placing}
 use Rattle.qap_search.specs.TreeBuilding.{BeginsByTurns, EndsWith}
-use Rattle.qap_search.specs.Piece.{by_turns, node_list}
+use Rattle.number_list.specs.Turns.{by_turns}
+use Rattle.qap_search.specs.Piece.{node_list}
 use Rattle.qap_search.proofs.Keys.{node_list-placing}
 use Rattle.qap_search.proofs.NodeLists.{begins-by_turns, length-by_turns}
 

@@ -14,7 +14,8 @@ use Rattle.qap_proof.specs.declared.side.Side.{Side}
 use Rattle.qap_proof.specs.declared.side.Side.TheVariants.{Facility, Location}
 use Rattle.space_txn.specs.Content.{SameItems}
 use Rattle.tuple_match.specs.FieldValue.{FieldValue}
-use Rattle.qap_search.specs.Piece.{by_turns, node_list, closed_tuple, mirrored_tuple, cut_numbers, split_cutting, split_said, pieces, pieces_of_all}
+use Rattle.number_list.proofs.Turns.{by_turns-push}
+use Rattle.qap_search.specs.Piece.{node_list, closed_tuple, mirrored_tuple, cut_numbers, split_cutting, split_said, pieces, pieces_of_all}
 use Rattle.qap_search.specs.SearchTree.{IsTree, AreTrees, readable, of_proof, of_proofs, tree_count}
 use Rattle.qap_search.proofs.Certificates.{child_placed, free_facility_count, free_location_count}
 use Rattle.qap_search.proofs.TupleReadings.{found_in, is_it, is_it-found, is_it-itself, list_at}
@@ -133,12 +134,6 @@ facility_before p r q f g less =
     ap is_lt (same_begin p (pos f ∷ r) (pos g ∷ q) ∙ ap (λ (o : Ordering). ordering_then o (slice_cmp int_cmp r q)) (int_less f g less))
 
 -- a child's list is its parent's, with facility and location behind it
-pub by_turns-push : (fs ks : List ℕ) (f k : ℕ) → length ks ≡ length fs → by_turns (fs ++ f ∷ []) (ks ++ k ∷ []) ≡ by_turns fs ks ++ (pos f ∷ pos k ∷ [])
-by_turns-push [] [] f k h = refl
-by_turns-push [] (l ∷ ks) f k h = absurd (omega arith)
-by_turns-push (g ∷ fs) [] f k h = absurd (omega arith)
-by_turns-push (g ∷ fs) (l ∷ ks) f k h = ap (λ (xs : List ℤ). pos g ∷ pos l ∷ xs) (by_turns-push fs ks f k (omega arith))
-
 pub node_list-placing : (x : Placement) (f k : ℕ) → length x.places ≡ length x.facilities → node_list (placing x f k) ≡ node_list x ++ (pos f ∷ pos k ∷ [])
 node_list-placing x f k h = by_turns-push x.facilities x.places f k h
 

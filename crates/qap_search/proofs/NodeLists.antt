@@ -1,10 +1,12 @@
 -- A node that is read from its list, pair by pair.
-use Rattle.std.proofs.Common.{◌≡◌, ◌≢◌, ℕ, zero, suc, ◌+◌, ◌*◌, ◌<◌, List, [], ◌∷◌, ◌++◌, length, get_or, take, ℤ, pos, refl, sym, ap, ap₂, subst, ◌∙◌, arith, append_assoc, length-append, length-take-le, get_or-take, take_all}
+use Rattle.std.proofs.Common.{◌≡◌, ◌≢◌, ℕ, zero, suc, ◌+◌, ◌*◌, ◌<◌, ◌≤◌, List, [], ◌∷◌, ◌++◌, length, get_or, take, ℤ, pos, refl, sym, ap, ap₂, subst, ◌∙◌, arith, append_assoc, length-append, length-take-le, get_or-take, take_all}
 use Rattle.std.proofs.lemmas.List.{take_more}
 use Rattle.qap_cost.specs.Placement.{Placement, IsPlacement, IsFreeFacility, IsFreeLocation, placing, root_of}
 use Rattle.qap_search.specs.TreeBuilding.{BeginsByTurns}
-use Rattle.qap_search.specs.Piece.{by_turns, node_list}
-use Rattle.qap_search.specs.NodeList.{IsNextOf, IsReadFrom}
+use Rattle.number_list.specs.Turns.{by_turns}
+use Rattle.qap_search.specs.Piece.{node_list}
+use Rattle.qap_cost.proofs.Placements.{IsPlacement-depth}
+use Rattle.qap_search.specs.NodeList.{IsListOf, IsNextOf, IsReadFrom}
 use Rattle.qap_search.proofs.Keys.{node_list-placing}
 use Rattle.qap_search.proofs.TupleReadings.{natural}
 
@@ -108,3 +110,21 @@ none_odd n list odd x placed size is = odd (length x.facilities) (list_long x li
 
 pub all_placed : (n : ℕ) (list : List ℤ) (node : Placement) (t : ℕ) → HasPlaced n list node t → length list ≡ 2 * t → IsReadFrom n list node
 all_placed n list node t h long = record { placement = h.placed; size = h.size; is = h.is ∙ take_all (2 * t) list (omega arith) }
+
+-- the list of a node is short, and so is that of its child, which begins with it
+pub short_list : (x : Placement) (list : List ℤ) → IsListOf x list → length list ≤ 512
+short_list x list h =
+    let long = list_long x list h.placement h.is in
+    let depth = IsPlacement-depth x h.placement in
+    let small = h.placement.small in
+    omega arith
+
+pub child_list : (x : Placement) (list child : List ℤ) (f k : ℕ) → IsListOf x list → child ≡ list ++ (pos f ∷ pos k ∷ []) → child ≡ node_list (placing x f k)
+child_list x list child f k h is = is ∙ ap (λ (xs : List ℤ). xs ++ (pos f ∷ pos k ∷ [])) (sym h.is) ∙ sym (node_list-placing x f k h.placement.paired)
+
+pub short_child : (x : Placement) (list child : List ℤ) (f k : ℕ) → IsListOf x list → child ≡ list ++ (pos f ∷ pos k ∷ []) → length child ≤ 514
+short_child x list child f k h is =
+    let count = ap length is in
+    let both = length-append list (pos f ∷ pos k ∷ []) in
+    let short = short_list x list h in
+    omega arith

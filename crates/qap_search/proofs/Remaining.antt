@@ -1,5 +1,5 @@
 -- The permanent tuples of entries, one entry after another.
-use Rattle.std.proofs.Common.{◌≡◌, ◌≢◌, ℕ, zero, suc, ◌+◌, ◌<◌, ◌≤◌, ◌++◌, ◌∷◌, [], List, length, take, drop, get_or, map, filter, Bool, true, false, ℤ, inl, refl, sym, ◌∙◌, ap, subst, arith}
+use Rattle.std.proofs.Common.{◌≡◌, ℕ, zero, suc, ◌+◌, ◌<◌, ◌++◌, ◌∷◌, [], List, length, take, drop, get_or, map, filter, Bool, true, false, ℤ, inl, refl, sym, ◌∙◌, ap, subst, arith}
 use Rattle.std.proofs.lemmas.Bool.{false≢true}
 use Rattle.std.specs.Option.{is_some}
 use Rattle.std.specs.Prelude.{All, Contains, MatchOption, Option, None, Some, count_by, cond, ◌&&◌, if◌then◌else◌}

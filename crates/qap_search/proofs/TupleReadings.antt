@@ -6,7 +6,8 @@ use Rattle.std.proofs.lemmas.List.Sums.{sum_by-append}
 use Rattle.qap_cost.specs.Placement.{Placement, placing}
 use Rattle.tuple_match.specs.Equality.{tuple_eq, Decides-tuple_eq}
 use Rattle.tuple_match.specs.FieldValue.{FieldValue, number, word, numbers}
-use Rattle.qap_search.specs.Piece.{by_turns, node_list}
+use Rattle.number_list.specs.Turns.{by_turns}
+use Rattle.qap_search.specs.Piece.{node_list}
 
 -- the first byte of the word that a tuple begins with
 abbrev pub tag : List FieldValue → ℕ

@@ -1,26 +1,13 @@
 -- Lists of nodes and tuples of open nodes, as they are written one after another.
-use Rattle.std.proofs.Common.{◌≡◌, ℕ, suc, ◌+◌, ◌*◌, ◌≤◌, ◌<◌, List, [], ◌∷◌, ◌++◌, length, get_or, take, map, ℤ, pos, refl, sym, ap, ap₂, ◌∙◌, arith, append_assoc, length-append, length-take-le}
-use Rattle.std.proofs.lemmas.List.{take_all, take_more}
+use Rattle.std.proofs.Common.{◌≡◌, ℕ, suc, ◌+◌, ◌≤◌, ◌<◌, List, [], ◌∷◌, length, get_or, take, map, refl, ap, ap₂, ◌∙◌, arith}
+use Rattle.std.proofs.lemmas.List.{take_all}
 use Rattle.std.proofs.lemmas.List.Elements.{All-from_recursion}
 use Rattle.qap_cost.specs.Placement.{Placement, IsPlacement, free_locations, placing}
 use Rattle.tuple_match.specs.FieldValue.{FieldValue, IsField}
 use Rattle.tuple_match.specs.Tuple.{IsTuple}
-use Rattle.qap_search.specs.Piece.{by_turns, node_tuple, pieces, pieces_of_all, split_tuple}
+use Rattle.qap_search.specs.Piece.{node_tuple, pieces, pieces_of_all, split_tuple}
 use Rattle.qap_search.specs.SearchTree.{on_facility, open_row, split_open}
 use Rattle.qap_search.proofs.Certificates.{free_location_count}
-use Rattle.qap_search.proofs.Keys.{by_turns-push}
-
--- one facility and one location more
-pub by_turns-more : (fs ks : List ℕ) (t : ℕ) → t < length fs → length ks ≡ length fs → by_turns (take (t + 1) fs) (take (t + 1) ks) ≡ by_turns (take t fs) (take t ks) ++ (pos (get_or fs t 0) ∷ pos (get_or ks t 0) ∷ [])
-by_turns-more fs ks t less paired =
-    let left : length (take t fs) ≡ t = length-take-le t fs (omega arith) in
-    let right : length (take t ks) ≡ t = length-take-le t ks (omega arith) in
-    ap₂ by_turns (take_more fs t 0 less) (take_more ks t 0 (omega arith))
-    ∙ by_turns-push (take t fs) (take t ks) (get_or fs t 0) (get_or ks t 0) (right ∙ sym left)
-
--- two numbers behind a list
-pub two_pushed : (old one two : List ℤ) (a b : ℤ) → one ≡ old ++ a ∷ [] → two ≡ one ++ b ∷ [] → two ≡ old ++ (a ∷ b ∷ [])
-two_pushed old one two a b first second = second ∙ ap (λ (xs : List ℤ). xs ++ b ∷ []) first ∙ append_assoc old (a ∷ []) (b ∷ [])
 
 -- the tuples of a row of open nodes, at the locations from number i on
 pub open_row-pieces : (x : Placement) (f i : ℕ) (js : List ℕ) → ((t : ℕ) → t < length js → get_or js t 0 ≡ get_or (free_locations x) (i + t) 0) → map (λ (k : ℕ). node_tuple (placing x f k)) js ≡ pieces_of_all x (on_facility f) i (open_row (length js))
@@ -32,12 +19,6 @@ open_row-pieces x f i (j ∷ js) at =
     (open_row-pieces x f (i + 1) js (λ t less.
     let next : i + suc t ≡ i + 1 + t = omega arith in
     at (suc t) (omega arith) ∙ ap (λ (k : ℕ). get_or (free_locations x) k 0) next))
-
-pub two_more : (old new : List ℤ) (a b : ℤ) (t : ℕ) → new ≡ old ++ (a ∷ b ∷ []) → length old ≡ 2 * t → length new ≡ 2 * (t + 1)
-two_more old new a b t is long =
-    let count = ap length is in
-    let both = length-append old (a ∷ b ∷ []) in
-    omega arith
 
 -- all of a row of open nodes has been written behind the split
 pub all_open : (x : Placement) (f n : ℕ) (tuples : List (List FieldValue)) (ks : List ℕ) → IsPlacement x → tuples ≡ split_tuple x f ∷ map (λ (k : ℕ). node_tuple (placing x f k)) (take n ks) → length ks ≤ n → ks ≡ free_locations x → tuples ≡ pieces x (split_open x f)

@@ -9,6 +9,10 @@ pub record IsReadFrom (n : ℕ) (list : List ℤ) (x : Placement) : Type 0 where
   pub size : x.size ≡ n
   pub is : node_list x ≡ list
 
+-- the list is that of the node x
+abbrev pub IsListOf : Placement → List ℤ → Type 0
+IsListOf x list = IsReadFrom x.size list x
+
 -- y has the facility and the location of these numbers too, which are free in x
 pub record IsNextOf (x : Placement) (facility location : ℤ) (y : Placement) : Type 0 where
   pub f : ℕ

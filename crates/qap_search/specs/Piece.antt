@@ -2,6 +2,7 @@
 use Rattle.std.specs.Prelude.{ℕ, ◌+◌, Bool, List, [], ◌∷◌, ◌++◌, map, codes, ℤ, pos, Option, Some, None}
 use Rattle.std.specs.List.{count_by}
 use Rattle.qap_cost.specs.Placement.{Placement}
+use Rattle.number_list.specs.Turns.{by_turns}
 use Rattle.qap_proof.specs.Tree.{Pair, Split, child_of}
 use Rattle.qap_proof.specs.declared.side.Side.{Side}
 use Rattle.qap_proof.specs.declared.side.Side.TheVariants.{Facility, Location}
@@ -9,11 +10,6 @@ use Rattle.tuple_match.specs.FieldValue.{FieldValue, number, word, numbers}
 use Rattle.tuple_match.specs.Matching.{does_match}
 use Rattle.tuple_match.specs.PatternValue.{PatternValue, actual, any_numbers}
 use Rattle.qap_search.specs.SearchTree.{SearchTree, open_node, split_node, closed_node, cut_node, mirrored_node, SearchTrees, no_trees, tree}
-
--- facility and location by turns
-abbrev pub by_turns : List ℕ → List ℕ → List ℤ
-by_turns (f ∷ fs) (k ∷ ks) = pos f ∷ pos k ∷ by_turns fs ks
-by_turns _ _ = []
 
 -- a node as a list: the facilities that are placed and their locations by turns, in the order of placing
 abbrev pub node_list : Placement → List ℤ

@@ -96,7 +96,7 @@ impl Field {
     }
 
     /// The bytes of the word that this field is, or `None` where it is none.
-    fn as_word_bytes(&self) -> Option<&[u8]>
+    pub fn as_word_bytes(&self) -> Option<&[u8]>
         ensures { option_copied result ≡ word_of (field_value self.now) }
     {
         match self {

@@ -1,6 +1,6 @@
 -- The buckets in which the numbers of entries stand.
 use Rattle.std.proofs.Common.{◌≡◌, ℕ, zero, suc, ◌+◌, ◌<◌, ◌≤◌, Bool, true, false, List, [], ◌∷◌, ◌++◌, length, get_or, refl, sym, ap, subst, ◌∙◌, cond, eqb, ⊎_elim, arith}
-use Rattle.std.specs.Prelude.{◌≢◌, ◌&&◌, ◌||◌, not, All, AllPairs, Contains, IfNone, IfSome, IsPermutation, Option, count_by, Some, None, OnErr, OnOk, Result, Ok, Err, filter, find, map, remove, string_bytes}
+use Rattle.std.specs.Prelude.{◌≢◌, ◌&&◌, ◌||◌, not, All, AllPairs, Contains, IfNone, IfSome, IsPermutation, Option, count_by, Some, None, OnErr, OnOk, Result, Ok, Err, filter, find, map, remove}
 use Rattle.std.specs.Global.{Vec}
 use Rattle.std.specs.Result.{is_err}
 use Rattle.std.specs.List.{AllWithin, AllZip, HoldsAt, list_any}
@@ -155,15 +155,15 @@ list_at_past (x ∷ xs) zero le = absurd (omega arith)
 list_at_past (x ∷ xs) (suc l) le = list_at_past xs l (omega arith)
 
 -- what a bucket is of
-of_parts : (bytes : List ℕ) (count : ℕ) (b : Bucket) → is_of bytes count b ≡ true → (b.count ≡ count) × (string_bytes b.word ≡ bytes)
+of_parts : (bytes : List ℕ) (count : ℕ) (b : Bucket) → is_of bytes count b ≡ true → (b.count ≡ count) × (b.word.items ≡ bytes)
 of_parts bytes count b is = (
-  eqb-true b.count count (both_left (eqb b.count count) (bytes_eq (string_bytes b.word) bytes) is),
-  (bytes_eq-Decides (string_bytes b.word) bytes).0 (both_right (eqb b.count count) (bytes_eq (string_bytes b.word) bytes) is),
+  eqb-true b.count count (both_left (eqb b.count count) (bytes_eq (b.word.items) bytes) is),
+  (bytes_eq-Decides (b.word.items) bytes).0 (both_right (eqb b.count count) (bytes_eq (b.word.items) bytes) is),
 )
 
-of_from : (bytes : List ℕ) (count : ℕ) (b : Bucket) → b.count ≡ count → string_bytes b.word ≡ bytes → is_of bytes count b ≡ true
+of_from : (bytes : List ℕ) (count : ℕ) (b : Bucket) → b.count ≡ count → b.word.items ≡ bytes → is_of bytes count b ≡ true
 of_from bytes count b counted spelled =
-    both (eqb b.count count) (bytes_eq (string_bytes b.word) bytes) (eq-eqb b.count count counted) ((bytes_eq-Decides (string_bytes b.word) bytes).1 spelled)
+    both (eqb b.count count) (bytes_eq (b.word.items) bytes) (eq-eqb b.count count counted) ((bytes_eq-Decides (b.word.items) bytes).1 spelled)
 
 -- a bucket with other numbers
 abbrev pub with_lists : Bucket → Vec (Vec ℕ) → Bucket
@@ -178,7 +178,7 @@ keys_push : (bs : List Bucket) (b : Bucket) → map key (bs ++ b ∷ []) ≡ map
 keys_push [] b = refl
 keys_push (x ∷ xs) b = ap (λ l. key x ∷ l) (keys_push xs b)
 
-pub once_push : (bs : List Bucket) (b : Bucket) (bytes : List ℕ) (count : ℕ) → string_bytes b.word ≡ bytes → b.count ≡ count → All (λ (x : Bucket). is_of bytes count x ≡ false) bs
+pub once_push : (bs : List Bucket) (b : Bucket) (bytes : List ℕ) (count : ℕ) → b.word.items ≡ bytes → b.count ≡ count → All (λ (x : Bucket). is_of bytes count x ≡ false) bs
     → AreOnce bs → AreOnce (bs ++ b ∷ [])
 once_push bs b bytes count spelled counted none once =
     let R : List ℕ × ℕ → List ℕ × ℕ → Type 0 = λ k j. k ≢ j in

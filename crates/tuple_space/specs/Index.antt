@@ -1,5 +1,5 @@
 -- Where the numbers of entries stand: by the word that a tuple begins with, and how many fields it has.
-use Rattle.std.specs.Prelude.{◌≡◌, ◌≢◌, ◌≤◌, ℕ, zero, suc, ◌+◌, ◌==◌, ◌&&◌, ◌||◌, not, if◌then◌else◌, Bool, true, false, List, [], ◌∷◌, ◌++◌, All, AllPairs, Option, Some, None, filter, length, map, string_bytes}
+use Rattle.std.specs.Prelude.{◌≡◌, ◌≢◌, ◌≤◌, ℕ, zero, suc, ◌+◌, ◌==◌, ◌&&◌, ◌||◌, not, if◌then◌else◌, Bool, true, false, List, [], ◌∷◌, ◌++◌, All, AllPairs, Option, Some, None, filter, length, map}
 use Rattle.std.specs.Global.{Vec}
 use Rattle.std.specs.List.{list_any}
 use Rattle.std.specs.Str.{bytes_eq}
@@ -29,7 +29,7 @@ sought_word _ = None
 
 -- a bucket of tuples that begin with a word and have so many fields
 abbrev pub is_of : List ℕ → ℕ → Bucket → Bool
-is_of bytes count bucket = (bucket.count == count) && bytes_eq (string_bytes bucket.word) bytes
+is_of bytes count bucket = (bucket.count == count) && bytes_eq (bucket.word.items) bytes
 
 -- the numbers under a length, among lists of which each stands at its length
 abbrev pub list_at : ℕ → List (Vec ℕ) → List ℕ
@@ -65,7 +65,7 @@ is_put class number buckets = is_among number (numbers_of class buckets)
 
 -- what a bucket is found by
 abbrev pub key : Bucket → List ℕ × ℕ
-key bucket = (string_bytes bucket.word, bucket.count)
+key bucket = (bucket.word.items, bucket.count)
 
 -- no two buckets are of the same word and count
 abbrev pub AreOnce : List Bucket → Type 0

@@ -12,8 +12,8 @@ use tuple_match::{Pattern, Template, Tuple};
 /// The numbers of the entries whose tuples begin with one word and have one count of fields.
 #[derive(Debug, Drop)]
 pub(crate) struct Bucket {
-    /// The word.
-    pub(crate) word: String,
+    /// The bytes of the word.
+    pub(crate) word: Vec<u8>,
     /// How many fields the tuples have.
     pub(crate) count: usize,
     /// The numbers in rising order, by the length of the second field where that is a list; 0 for all others.
@@ -21,11 +21,11 @@ pub(crate) struct Bucket {
 }
 
 /// The word that a tuple begins with.
-fn first_word(tuple: &Tuple) -> Option<&str>
+fn first_word(tuple: &Tuple) -> Option<&[u8]>
     ensures { option_copied result ≡ first_word tuple.now }
 {
     match tuple.fields() {
-        [first, ..] => first.as_word(),
+        [first, ..] => first.as_word_bytes(),
         [] => None,
     }
 }
@@ -44,24 +44,24 @@ fn second_length(tuple: &Tuple) -> usize
 }
 
 /// The word that a template asks for first.
-pub(crate) fn sought_word(template: &Template) -> Option<&str>
+pub(crate) fn sought_word(template: &Template) -> Option<&[u8]>
     ensures { option_copied result ≡ sought_word template.now }
 {
     match template.patterns() {
-        [Pattern::Is(field), ..] => field.as_word(),
+        [Pattern::Is(field), ..] => field.as_word_bytes(),
         _ => None,
     }
 }
 
 /// Whether a bucket is that of a word and a count of fields.
-pub(crate) fn is_of(bucket: &Bucket, word: &str, count: usize) -> bool
+pub(crate) fn is_of(bucket: &Bucket, word: &[u8], count: usize) -> bool
     ensures { result ≡ is_of word.now count bucket.now }
 {
-    bucket.count == count && *bucket.word.as_str() == *word
+    bucket.count == count && *bucket.word.as_slice() == *word
 }
 
 /// The place of the bucket of a word and a count of fields.
-fn place_of_bucket(buckets: &[Bucket], word: &str, count: usize) -> Option<usize>
+fn place_of_bucket(buckets: &[Bucket], word: &[u8], count: usize) -> Option<usize>
     ensures none { IfNone result (All (λ b. is_of word.now count b ≡ false) buckets.now) }
     ensures place { IfSome result (λ i. i < length buckets.now) }
     ensures is { IfSome result (HoldsAt (λ b. is_of word.now count b ≡ true) buckets.now) }
@@ -76,7 +76,7 @@ fn place_of_bucket(buckets: &[Bucket], word: &str, count: usize) -> Option<usize
 }
 
 /// The place of the bucket of a word and a count of fields, which is made where there is none.
-fn place_for(buckets: &mut Vec<Bucket>, word: &str, count: usize) -> Result<usize, AllocError>
+fn place_for(buckets: &mut Vec<Bucket>, word: &[u8], count: usize) -> Result<usize, AllocError>
     ensures place { IfOk result (λ i. i < length buckets.new.items) }
     ensures is { IfOk result (HoldsAt (λ b. is_of word.now count b ≡ true) buckets.new.items) }
     ensures before { IfOk result (AllWithin (λ b. is_of word.now count b ≡ false) buckets.new.items 0) }
@@ -88,7 +88,7 @@ fn place_for(buckets: &mut Vec<Bucket>, word: &str, count: usize) -> Result<usiz
     }
     let place = buckets.len();
     let alloc = *buckets.allocator();
-    let word = String::from_str(alloc, word)?;
+    let word = Vec::from_slice(alloc, word)?;
     let by_length = Vec::new(alloc);
     buckets.push(Bucket {
         word,
@@ -122,7 +122,7 @@ fn put_number(lists: &mut Vec<Vec<u64>>, length: usize, number: u64) -> Result<(
 }
 
 /// How many numbers stand under a class: under a word and a count of fields, those of a length.
-pub(crate) fn class_size(buckets: &[Bucket], word: &str, count: usize, numbers: usize) -> usize
+pub(crate) fn class_size(buckets: &[Bucket], word: &[u8], count: usize, numbers: usize) -> usize
     ensures { result ≡ length (numbers_of (class_of word.now count numbers) buckets.now) }
 {
     let Some(place) = place_of_bucket(buckets, word, count) else {

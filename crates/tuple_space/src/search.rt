@@ -117,7 +117,7 @@ fn longest_wanted<'a>(
 fn wanted_in_bucket<'a>(
     entries: &'a Entries,
     bucket: &Bucket,
-    word: &str,
+    word: &[u8],
     wanted: Wanted,
     moment: u64,
     template: &Template,
@@ -137,7 +137,7 @@ fn wanted_in_bucket<'a>(
 fn wanted_of_word<'a>(
     entries: &'a Entries,
     buckets: &[Bucket],
-    word: &str,
+    word: &[u8],
     wanted: Wanted,
     moment: u64,
     template: &Template,

@@ -178,7 +178,7 @@ impl Space {
     pub fn count_of_class(&self, word: &str, fields: usize, numbers: usize) -> usize
         ensures { result ≡ count_by (λ e. has_class (class_of word.now fields numbers) e.tuple) self.now.entries }
     {
-        class_size(&self.buckets, word, fields, numbers)
+        class_size(&self.buckets, word.as_bytes(), fields, numbers)
     }
 
     /// Whether no entry is there whose tuple the template asks for, held ones included. Takes no memory.

@@ -24,21 +24,19 @@ pub(crate) fn put_in_order(nodes: &mut Vec<DecidedNode>)
     nodes.reverse();
 }
 
-/// The first 25 numbers of a list, each by its digit in 5 bits, from the highest bits down.
+/// The first 25 numbers of a list, each by its digit in 5 bits, from the highest bits down; the digit 0 where the list has ended.
 fn path_key(list: &Numbers<'_>) -> u128 {
+    let count = list.len().min(MOST_NUMBERS);
     let mut key = 0;
-    for place in 0..MOST_NUMBERS {
-        key = (key << 5) | path_digit(list, place);
+    for place in 0..count {
+        key = (key << 5) | path_digit(list.at(place));
     }
-    key
+    key << (5 * (MOST_NUMBERS - count))
 }
 
-/// A number from 0 to 30 as one more than it is, any other as 31, and 0 where the list has none at this place.
-fn path_digit(list: &Numbers<'_>, place: usize) -> u128 {
-    if place >= list.len() {
-        return 0;
-    }
-    match u8::try_from(list.at(place)) {
+/// A number from 0 to 30 as one more than it is, and any other as 31.
+fn path_digit(number: i128) -> u128 {
+    match u8::try_from(number) {
         Ok(number) => u128::from(number.min(30)) + 1,
         Err(_) => 31,
     }

@@ -130,7 +130,7 @@ pub(crate) fn branch_of(
             on_facility(alloc, free, row, Vec::new(alloc))
         }
         Branching::GreatestSum => {
-            let row = widest_lines(alloc, assigned, gap, &[], &[])?.row;
+            let row = widest_row(assigned, gap);
             on_facility(alloc, free, row, reduced_row(alloc, matrix, u, v, row)?)
         }
         Branching::Cutting => widest_branch(alloc, guide.symmetries, assigned, gap)?,
@@ -210,6 +210,32 @@ fn greatest_row(matching: &[u16], u: &[i128], v: &[i128]) -> usize
         }
     }
     row
+}
+
+/// The row whose reduced entries have the greatest sum, each counted at most up to the gap; of equal ones the first.
+fn widest_row(assigned: &Assigned<'_>, gap: Option<i128>) -> usize
+    requires some { 0 < assigned.now.matrix.now.size }
+    requires u_count { length assigned.now.duals.now.u.items ≡ assigned.now.matrix.now.size }
+    requires v_count { length assigned.now.duals.now.v.items ≡ assigned.now.matrix.now.size }
+    ensures { result < assigned.now.matrix.now.size }
+{
+    let (matrix, u, v) = (assigned.matrix, &assigned.duals.u, &assigned.duals.v);
+    let size = matrix.size();
+    let most = gap.unwrap_or(i128::MAX);
+    let mut widest = 0;
+    let mut greatest = i128::MIN;
+    for row in 0..size {
+        let mut width = 0i128;
+        for column in 0..size {
+            let entry = reduced_entry(matrix, u, v, row, column);
+            width = width.wrapping_add(entry.min(most));
+        }
+        if width > greatest {
+            widest = row;
+            greatest = width;
+        }
+    }
+    widest
 }
 
 /// The row and the column whose reduced entries have the greatest sum, of equal ones the first, and that sum.

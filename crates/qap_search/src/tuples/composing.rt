@@ -7,11 +7,14 @@ ghost use Rattle.qap_proof.specs.Shape.{free_count};
 ghost use Rattle.qap_proof.specs.Tree.{facility_on, location_on, pair};
 ghost use Rattle.tuple_match.specs.Field.{field_value};
 ghost use Rattle.tuple_match.specs.FieldValue.{word};
+ghost use Rattle.number_list.specs.NumberList.{numbers_held};
 ghost use Rattle.qap_search.specs.Decision.{children_by, pruned_split, uncut};
-ghost use Rattle.qap_search.specs.Piece.{best_tuple, by_turns, closed_tuple, cut_numbers, mirrored_tuple, node_list, node_tuple, pieces, pruned_tuple, side_word, split_tuple};
+ghost use Rattle.qap_search.specs.NodeList.{IsListOf};
+ghost use Rattle.qap_search.specs.Piece.{best_tuple, closed_tuple, cut_numbers, mirrored_tuple, node_list, node_tuple, pieces, pruned_tuple, side_word, split_tuple};
 ghost use Rattle.qap_search.specs.SearchTree.{split_node, split_open};
 
 use crate::node::images::{Image, image_at};
+use number_list::NumberList;
 use qap_cost::{Partial, Perm};
 use qap_proof::Side;
 use std::alloc::{AllocError, Global};
@@ -28,12 +31,37 @@ pub(crate) fn split_tuples(
     ensures placement { IfOk result (λ _. IsPlacement node.now) }
 {
     let locations = node.free_locations()?;
+    let list = list_of(alloc, node)?;
+    let parent = Parent { node, list };
     let mut tuples = Vec::with_capacity(alloc, locations.len() + 1)?;
     tuples.push(tuple_of_split(alloc, node, facility)?)?;
     for location in &locations {
-        tuples.push(tuple_of_child(alloc, node, facility, *location)?)?;
+        tuples.push(tuple_of_child(alloc, &parent, facility, *location)?)?;
     }
     Ok(tuples)
+}
+
+/// A node that is split, with its list, with which those of its children begin.
+#[derive(Drop)]
+struct Parent<'a> {
+    node: &'a Partial,
+    list: NumberList,
+}
+
+impl Parent<'_> {
+    /// The list of the child that puts the facility at the location too.
+    fn child_list(
+        &self,
+        alloc: Global,
+        facility: u16,
+        location: u16,
+    ) -> Result<NumberList, AllocError>
+        requires { IsListOf self.now.node.now (numbers_held self.now.list) }
+        ensures list { IfOk result (λ list. numbers_held list ≡ node_list (placing self.now.node.now facility location)) }
+        ensures short { IfOk result (λ list. length (numbers_held list) ≤ 514) }
+    {
+        self.list.with_two(alloc, facility, location)
+    }
 }
 
 /// A split with duals: on the facility or the location of this number.
@@ -65,12 +93,14 @@ pub(crate) fn pruned_tuples(
     let DualSplit { side, number, .. } = *split;
     let others = free_others(node, side)?;
     let cuts = cut_flags(alloc, reached, best)?;
+    let list = list_of(alloc, node)?;
+    let parent = Parent { node, list };
     let mut tuples = Vec::with_capacity(alloc, others.len() + 1)?;
     tuples.push(tuple_of_pruned(alloc, node, split, cuts)?)?;
     for child in 0..reached.len() {
         if reached[child] < best {
             let image = image_at(images, child);
-            tuples.push(tuple_at(alloc, node, side, number, &others, child, image)?)?;
+            tuples.push(tuple_at(alloc, &parent, side, number, &others, child, image)?)?;
         }
     }
     Ok(tuples)
@@ -107,52 +137,55 @@ fn cut_flags(alloc: Global, reached: &[i128], best: i128) -> Result<Vec<i128>, A
 /// is one, and else that of an open node.
 fn tuple_at(
     alloc: Global,
-    node: &Partial,
+    parent: &Parent<'_>,
     side: Side,
     number: u16,
     others: &[u16],
     child: usize,
     image: Option<&Image>,
 ) -> Result<Tuple, AllocError>
-    requires others { others.now ≡ others_on side node.now }
+    requires listed { IsListOf parent.now.node.now (numbers_held parent.now.list) }
+    requires others { others.now ≡ others_on side parent.now.node.now }
     requires inside { child < length others.now }
-    ensures { IfOk result (λ t. pieces (placing node.now (facility_on side node.now number child) (location_on side node.now number child)) (uncut (option_map (λ m. m.now) image.entry)) ≡ t ∷ []) }
+    ensures { IfOk result (λ t. pieces (placing parent.now.node.now (facility_on side parent.now.node.now number child) (location_on side parent.now.node.now number child)) (uncut (option_map (λ m. m.now) image.entry)) ≡ t ∷ []) }
 {
     let other = others[child];
     match side {
-        Side::Facility => tuple_of_uncut(alloc, node, number, other, image),
-        Side::Location => tuple_of_uncut(alloc, node, other, number, image),
+        Side::Facility => tuple_of_uncut(alloc, parent, number, other, image),
+        Side::Location => tuple_of_uncut(alloc, parent, other, number, image),
     }
 }
 
 /// The tuple of the node that puts the facility at the location too: that of the image, if it is one, and else that of an open node.
 fn tuple_of_uncut(
     alloc: Global,
-    node: &Partial,
+    parent: &Parent<'_>,
     facility: u16,
     location: u16,
     image: Option<&Image>,
 ) -> Result<Tuple, AllocError>
-    ensures { IfOk result (λ t. pieces (placing node.now facility location) (uncut (option_map (λ m. m.now) image.entry)) ≡ t ∷ []) }
+    requires { IsListOf parent.now.node.now (numbers_held parent.now.list) }
+    ensures { IfOk result (λ t. pieces (placing parent.now.node.now facility location) (uncut (option_map (λ m. m.now) image.entry)) ≡ t ∷ []) }
 {
     match image {
-        Some(image) => tuple_of_mirrored(alloc, node, facility, location, image),
-        None => tuple_of_child(alloc, node, facility, location),
+        Some(image) => tuple_of_mirrored(alloc, parent, facility, location, image),
+        None => tuple_of_child(alloc, parent, facility, location),
     }
 }
 
 /// The tuple of the node that puts the facility at the location too and is such an image.
 fn tuple_of_mirrored(
     alloc: Global,
-    node: &Partial,
+    parent: &Parent<'_>,
     facility: u16,
     location: u16,
     image: &Image,
 ) -> Result<Tuple, AllocError>
-    ensures { IfOk result (λ t. t ≡ mirrored_tuple (placing node.now facility location) image.now.earlier image.now.by) }
+    requires { IsListOf parent.now.node.now (numbers_held parent.now.list) }
+    ensures { IfOk result (λ t. t ≡ mirrored_tuple (placing parent.now.node.now facility location) image.now.earlier image.now.by) }
 {
     let name = Field::word(alloc, "mirrored")?;
-    let list = Field::List(child_numbers(alloc, node, facility, location)?).narrowed();
+    let list = Field::of_list(parent.child_list(alloc, facility, location)?);
     let earlier = Field::Int(i128::from(image.earlier));
     let by = Field::List(locations_of(alloc, &image.by)?).narrowed();
     Tuple::of_four(alloc, [name, list, earlier, by])
@@ -171,7 +204,7 @@ fn tuple_of_pruned(
     ensures { IfOk result (λ t. t ≡ pruned_tuple node.now (pruned_split split.now.side split.now.number split.now.u.now split.now.v.now) (pair split.now.u.now split.now.v.now) cuts.items) }
 {
     let name = Field::word(alloc, "pruned")?;
-    let list = Field::List(node_numbers(alloc, node, 0)?).narrowed();
+    let list = Field::of_list(list_of(alloc, node)?);
     let on = side_field(alloc, split.side)?;
     let number = Field::Int(i128::from(split.number));
     let (u, v) = (Field::list(alloc, split.u)?, Field::list(alloc, split.v)?);
@@ -201,7 +234,7 @@ pub(crate) fn tuple_of_closed(
     ensures { IfOk result (λ t. t ≡ closed_tuple node.now u.now v.now) }
 {
     let name = Field::word(alloc, "closed")?;
-    let list = Field::List(node_numbers(alloc, node, 0)?).narrowed();
+    let list = Field::of_list(list_of(alloc, node)?);
     let (u, v) = (Field::list(alloc, u)?, Field::list(alloc, v)?);
     Tuple::of_four(alloc, [name, list, u, v])
 }
@@ -211,7 +244,7 @@ fn tuple_of_split(alloc: Global, node: &Partial, facility: u16) -> Result<Tuple,
     ensures { IfOk result (λ t. t ≡ split_tuple node.now facility) }
 {
     let name = Field::word(alloc, "split")?;
-    let list = Field::List(node_numbers(alloc, node, 0)?).narrowed();
+    let list = Field::of_list(list_of(alloc, node)?);
     Tuple::of_three(alloc, [name, list, Field::Int(i128::from(facility))])
 }
 
@@ -221,38 +254,23 @@ pub(crate) fn tuple_of_node(alloc: Global, node: &Partial) -> Result<Tuple, Allo
     ensures placement { IfOk result (λ _. IsPlacement node.now) }
 {
     let name = Field::word(alloc, "node")?;
-    let list = Field::List(node_numbers(alloc, node, 0)?).narrowed();
+    let list = Field::of_list(list_of(alloc, node)?);
     Tuple::of_two(alloc, [name, list])
 }
 
 /// The tuple of the open node that puts the facility at the location too.
 fn tuple_of_child(
     alloc: Global,
-    node: &Partial,
+    parent: &Parent<'_>,
     facility: u16,
     location: u16,
 ) -> Result<Tuple, AllocError>
-    ensures { IfOk result (λ t. t ≡ node_tuple (placing node.now facility location)) }
+    requires { IsListOf parent.now.node.now (numbers_held parent.now.list) }
+    ensures { IfOk result (λ t. t ≡ node_tuple (placing parent.now.node.now facility location)) }
 {
     let name = Field::word(alloc, "node")?;
-    let list = Field::List(child_numbers(alloc, node, facility, location)?).narrowed();
+    let list = Field::of_list(parent.child_list(alloc, facility, location)?);
     Tuple::of_two(alloc, [name, list])
-}
-
-/// The list of the node that puts the facility at the location too.
-fn child_numbers(
-    alloc: Global,
-    node: &Partial,
-    facility: u16,
-    location: u16,
-) -> Result<Vec<i128>, AllocError>
-    ensures list { IfOk result (λ v. v.items ≡ node_list (placing node.now facility location)) }
-    ensures short { IfOk result (λ v. length v.items ≤ 514) }
-{
-    let mut numbers = node_numbers(alloc, node, 2)?;
-    numbers.push(i128::from(facility))?;
-    numbers.push(i128::from(location))?;
-    Ok(numbers)
 }
 
 /// The tuple of the best permutation found, with its cost.
@@ -276,34 +294,10 @@ fn locations_of(alloc: Global, perm: &Perm) -> Result<Vec<i128>, AllocError>
     Ok(numbers)
 }
 
-/// The node as a list, with room for so many numbers more: facility and location by turns, in the order of placing.
-fn node_numbers(alloc: Global, node: &Partial, room: usize) -> Result<Vec<i128>, AllocError>
-    requires small { room ≤ 2 }
-    ensures list { IfOk result (λ v. v.items ≡ node_list node.now) }
-    ensures short { IfOk result (λ v. length v.items ≤ 512) }
-    ensures placement { IsPlacement node.now }
+/// The node as a list: facility and location by turns, in the order of placing.
+fn list_of(alloc: Global, node: &Partial) -> Result<NumberList, AllocError>
+    ensures list { IfOk result (λ list. IsListOf node.now (numbers_held list)) }
+    ensures short { IfOk result (λ list. length (numbers_held list) ≤ 512) }
 {
-    let (facilities, places) = (node.facilities(), node.places());
-    by_turns(alloc, facilities, places, room)
-}
-
-/// The numbers of both rows by turns, with room for so many more.
-fn by_turns(
-    alloc: Global,
-    facilities: &[u16],
-    places: &[u16],
-    room: usize,
-) -> Result<Vec<i128>, AllocError>
-    requires room { room ≤ 2 }
-    requires paired { length places.now ≡ length facilities.now }
-    requires small { length facilities.now ≤ 256 }
-    ensures list { IfOk result (λ v. v.items ≡ by_turns facilities.now places.now) }
-    ensures short { IfOk result (λ v. length v.items ≤ 512) }
-{
-    let mut numbers = Vec::with_capacity(alloc, 2 * facilities.len() + room)?;
-    for t in 0..facilities.len() {
-        numbers.push(i128::from(facilities[t]))?;
-        numbers.push(i128::from(places[t]))?;
-    }
-    Ok(numbers)
+    NumberList::by_turns(alloc, node.facilities(), node.places())
 }

@@ -253,8 +253,8 @@ fn is_only_word(name: &str, fields: &[Field]) -> bool
 pub(crate) fn is_word(name: &str, field: &Field) -> bool
     ensures { IsTrue result ↔ (field_value field.now ≡ word name.now) }
 {
-    match field.as_word() {
-        Some(word) => *word == *name,
+    match field.as_word_bytes() {
+        Some(word) => *word == *name.as_bytes(),
         None => false,
     }
 }

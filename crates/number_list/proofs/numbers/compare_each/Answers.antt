@@ -1,4 +1,4 @@
-use Rattle.std.proofs.Common.{◌≡◌, ◌≢◌, ◌≤◌, ◌⊎◌, false, length, get_or, pos, ap, ap₂, sym, ◌∙◌, rules, arith, to_z, of_z}
+use Rattle.std.proofs.Common.{◌≡◌, ◌≢◌, ◌≤◌, ◌⊎◌, length, get_or, pos, ap, ap₂, sym, ◌∙◌, rules, arith, to_z, of_z}
 use Rattle.std.specs.Int.{w128}
 use Rattle.std.specs.Bool.{◌==◌}
 use Rattle.std.specs.Prelude.{not}

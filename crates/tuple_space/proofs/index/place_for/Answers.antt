@@ -13,4 +13,4 @@ pub returns-clause-once : goal.returns-clause-once
 returns-clause-once c = λ once.
     let b : Bucket = record { word = c.in_ok-word.word; count = c.args.count; by_length = c.new-by_length.result } in
     let none = rw c.deref.ensures.value at c.in_default.ensures.none in
-    subst AreOnce (sym c.in_ok-push.ensures.items) (once_push c.args.buckets.now.items b c.args.word.now c.args.count c.in_ok-word.ensures.ok refl none once)
+    subst AreOnce (sym c.in_ok-push.ensures.items) (once_push c.args.buckets.now.items b c.args.word.now c.args.count c.in_ok-word.ensures.items refl none once)

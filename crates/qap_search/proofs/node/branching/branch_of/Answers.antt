@@ -2,7 +2,7 @@ use Rattle.std.proofs.Common.{arith}
 use Rattle.qap_cost.proofs.Placements.{IsPlacement-depth}
 use Rattle.qap_search.proofs.Certificates.{free_facility_count}
 use Rattle.qap_proof.specs.NodeLine.{pair_of}
-use Rattle.qap_search.proofs.node.branching.branch_of.Goals.{in-GreatestMatched, in-GreatestSum+in_ok-row-in-GreatestSum+in_ok-reduced_row-in-GreatestSum, in-Cutting+in_ok-branch-in-Cutting}
+use Rattle.qap_search.proofs.node.branching.branch_of.Goals.{in-GreatestMatched, in-GreatestSum+in_ok-reduced_row-in-GreatestSum, in-Cutting+in_ok-branch-in-Cutting}
 use Rattle.qap_search.proofs.node.branching.branch_of.Goals as goal
 
 pub returns-then-size-eq0 : goal.returns-then-size-eq0
@@ -21,6 +21,6 @@ returns c =
     let placed = c.size-size.ensures.placement in
     elim c.match-guide.branch [
       | in-GreatestMatched w ↦ rw (w.in-GreatestMatched.is, w.branch'-is) (w.on_facility-branch.ensures I x d placed c.requires.free)
-      | in-GreatestSum+in_ok-row-in-GreatestSum+in_ok-reduced_row-in-GreatestSum w ↦ rw (w.in-GreatestSum.is, w.branch'-is) (w.on_facility-branch-in-GreatestSum.ensures I x d placed c.requires.free)
+      | in-GreatestSum+in_ok-reduced_row-in-GreatestSum w ↦ rw (w.in-GreatestSum.is, w.branch'-is) (w.on_facility-branch-in-GreatestSum.ensures I x d placed c.requires.free)
       | in-Cutting+in_ok-branch-in-Cutting w ↦ rw (w.in-Cutting.is, w.branch'-is) w.in_ok-branch-in-Cutting.ensures
     ]

@@ -1,11 +1,9 @@
-use Rattle.std.proofs.Common.{◌≡◌, ◌∙◌, ap, refl, subst, sym, rules, to_z, of_z}
+use Rattle.std.proofs.Common.{◌≡◌, ◌∙◌, refl, subst, sym, rules, to_z, of_z}
 use Rattle.std.specs.Int.{w128}
-use Rattle.std.specs.Prelude.{ℤ, All}
+use Rattle.std.specs.Prelude.{ℤ}
 use Rattle.tuple_space.specs.Rows.{permanent_tuples}
 use Rattle.space_txn.specs.Content.{content_of}
-use Rattle.qap_search.specs.CutTree.{IsCutTree}
-use Rattle.qap_search.specs.OpenBound.{IsOpenBound, IsSoundTuple}
-use Rattle.qap_search.specs.Piece.{open_count}
+use Rattle.qap_search.specs.OpenBound.{IsOpenBound}
 use Rattle.qap_search.specs.Search.{Search, search_of}
 use Rattle.qap_search.proofs.Certificates.{open_weight}
 use Rattle.qap_search.proofs.OpenBounds.{bounded_left, sound_tuples}

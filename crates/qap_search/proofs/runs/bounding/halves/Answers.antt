@@ -1,4 +1,4 @@
-use Rattle.std.proofs.Common.{◌≡◌, ◌∙◌, List, ap, ap₂, sym, subst}
+use Rattle.std.proofs.Common.{◌∙◌, List, ap₂, sym, subst}
 use Rattle.std.specs.Prelude.{All, ◌++◌}
 use Rattle.tuple_space.specs.Rows.{permanent_tuples}
 use Rattle.tuple_space.specs.declared.entry.Entry.{Entry}

@@ -8,6 +8,6 @@ pub of_four-requires : goal.of_four-requires
 of_four-requires c =
     let name : IsField (word (codes "closed")) = search rules in
     four_fields _ _ _ _ (subst IsField (sym c.in_ok-name.ensures) name)
-    (subst IsField (sym c.narrowed-list.ensures) (omega (arith, c.in_ok-node_numbers.ensures.short)))
+    (subst IsField (sym c.of_list-list.ensures) (omega (arith, c.in_ok-list_of.ensures.short)))
     (subst IsField (sym c.in_ok-u.ensures) (omega (arith, c.requires.u_count)))
     (subst IsField (sym c.in_ok-v.ensures) (omega (arith, c.requires.v_count)))

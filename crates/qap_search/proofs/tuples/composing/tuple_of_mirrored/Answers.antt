@@ -8,6 +8,6 @@ pub of_four-requires : goal.of_four-requires
 of_four-requires c =
     let name : IsField (word (codes "mirrored")) = search rules in
     four_fields _ _ _ _ (subst IsField (sym c.in_ok-name.ensures) name)
-    (subst IsField (sym c.narrowed-list.ensures) (omega (arith, c.in_ok-child_numbers.ensures.short)))
+    (subst IsField (sym c.of_list-list.ensures) (omega (arith, c.in_ok-child_list.ensures.short)))
     tt
     (subst IsField (sym c.narrowed-by.ensures) (omega (arith, c.in_ok-locations_of.ensures.short)))

@@ -8,7 +8,7 @@ pub of_seven-requires : goal.of_seven-requires
 of_seven-requires c =
     let name : IsField (word (codes "pruned")) = search rules in
     seven_fields _ _ _ _ _ _ _ (subst IsField (sym c.in_ok-name.ensures) name)
-    (subst IsField (sym c.narrowed-list.ensures) (omega (arith, c.in_ok-node_numbers.ensures.short)))
+    (subst IsField (sym c.of_list-list.ensures) (omega (arith, c.in_ok-list_of.ensures.short)))
     (subst IsField (sym c.in_ok-on.ensures) (side_is_field c.args.split.now.side))
     tt
     (subst IsField (sym c.in_ok-u.ensures) (omega (arith, c.requires.u_count)))

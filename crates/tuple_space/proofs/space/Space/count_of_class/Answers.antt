@@ -9,6 +9,7 @@ pub returns : goal.returns
 returns c =
     let s = c.self.inside in
     let class = class_of c.args.word.now c.args.fields c.args.numbers in
-    let stands = rw c.deref.ensures.value at c.class_size.ensures in
+    let spelled = rw c.as_bytes.ensures.value at c.class_size.ensures in
+    let stands = rw c.deref.ensures.value at spelled in
     stands ∙ class_counted class s.buckets.items s.entries.items c.self.invariant.2 c.self.invariant.0.rising
     ∙ ap (λ (w : SpaceValue). count_by (λ (e : Entry). has_class class e.tuple) w.entries) c.self.view_is

@@ -1,4 +1,4 @@
-use Rattle.std.proofs.Common.{◌≡◌, ◌<◌, ◌∙◌, length, rules, subst, sym}
+use Rattle.std.proofs.Common.{◌<◌, ◌∙◌, length, rules, subst, sym}
 use Rattle.std.proofs.lemmas.List.Elements.{All-set}
 use Rattle.qap_search.specs.Standing.{IsJob}
 use Rattle.qap_search.specs.declared.worker.job.Job.{Job}
