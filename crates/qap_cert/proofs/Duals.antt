@@ -1,8 +1,6 @@
 -- Numbers that were read, and the duals that they are.
-use Rattle.std.proofs.Common.{◌≡◌, ℕ, ◌+◌, ◌*◌, ◌-◌, ◌^◌, ◌≤◌, ◌++◌, List, length, map, take, drop, get_or, ℤ, pos, refl, sym, ◌∙◌, ap, ap₂, subst, inl, inr, arith, length-append, length-take, length-drop, take-append-drop, take_all}
-use Rattle.std.proofs.lemmas.Bool.{cases_lt}
-use Rattle.std.proofs.lemmas.List.{get_or_append_left, get_or-append_right}
-use Rattle.std.specs.Prelude.{codes, unsigned_abs}
+use Rattle.std.proofs.Common.{◌≡◌, ℕ, ◌*◌, ◌-◌, ◌++◌, List, length, map, take, drop, ℤ, refl, sym, ◌∙◌, ap, ap₂, subst, arith, length-take, length-drop, take-append-drop, take_all}
+use Rattle.std.specs.Prelude.{codes}
 use Rattle.qap_cost.specs.Placement.{Placement}
 use Rattle.qap_cost.specs.Range.{AllLimited}
 use Rattle.qap_lines.proofs.Held.{held-all_within}

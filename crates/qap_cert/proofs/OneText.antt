@@ -8,7 +8,7 @@ use Rattle.qap_cost.specs.Placement.{IsFree}
 use Rattle.qap_cost.specs.Range.{AllLimited}
 use Rattle.qap_lines.proofs.Fronts.{no_line-nil, line_front, line_fault, named_fault}
 use Rattle.qap_lines.proofs.Limits.{AllLimited-append, same_halves}
-use Rattle.qap_lines.proofs.Lines.{HasNoLine-cons, IsLine-unique, no_line-line}
+use Rattle.qap_lines.proofs.Lines.{HasNoLine-cons, IsLine-unique}
 use Rattle.qap_lines.proofs.Locations.{AllLimited-permutation, from_one-injective}
 use Rattle.qap_lines.proofs.NumberLists.{AllLimited-one, IsLine-line_text, IsNamed-unique, IsNamed-numbers_text}
 use Rattle.qap_cert.proofs.Versions.{AllLimited-split_numbers, same_facility, same_number, one_version, version_small, version_limited, bound_text-below, bound_text-equal}

@@ -9,11 +9,12 @@ ghost use Rattle.qap_cert.specs.NodeLine.{IsNodeLine, HasDuals};
 ghost use Rattle.qap_cert.specs.TextFault.{IsLineFault, IsNodeFault, IsSplitLine};
 
 use crate::error::CertError;
+use crate::line::line_at;
 use crate::placed::Placed;
 use crate::shape::judge_facility;
 use crate::version::Version;
 use qap_io::from_one;
-use qap_lines::{first_line, one_number, read_numbers};
+use qap_lines::{one_number, read_numbers};
 
 /// How the lines of a tree are read: in this version, for a certificate of this size.
 #[derive(Clone, Copy)]
@@ -43,9 +44,7 @@ pub(crate) fn node_line<'a>(
         (λ l. IsLine text.now l.bytes.now l.rest.now × IsNodeLine grammar.version grammar.size placed.now l.bytes.now l.facility)
         (IsLineFault number text.now (IsNodeFault grammar.version grammar.size placed.now number)) }
 {
-    let Some(line) = first_line(text) else {
-        return Err(CertError::Truncated(number));
-    };
+    let line = line_at(text, number)?;
     let facility = judge_split_line(line.bytes, grammar, placed, number)?;
     Ok(NodeLine {
         facility,

@@ -15,6 +15,7 @@ use crate::bound::stated_bound;
 use crate::certificate::Certificate;
 use crate::error::CertError;
 use crate::head::{read_cost, read_header, read_permutation, read_size};
+use crate::line::line_at;
 use crate::line_number::{BOUND_LINE, TREE_LINE_BEHIND_BOUND};
 use crate::node_line::Grammar;
 use crate::placed::Placed;
@@ -22,7 +23,6 @@ use crate::tree::Tree;
 use crate::tree_reader::read_tree;
 use crate::version::Version;
 use qap_cost::Perm;
-use qap_lines::first_line;
 use std::alloc::Global;
 
 /// What stands before the tree of a certificate, the number of the tree's first line, and the text from there on.
@@ -135,9 +135,7 @@ fn read_to_end(alloc: Global, text: &[u8], grammar: Grammar, line: u64) -> Resul
 pub(crate) fn read_end(text: &[u8], line: u64) -> Result<(), CertError>
     ensures { MatchResult result (λ _. text.now ≡ codes "end\n") (IsEndFault line text.now) }
 {
-    let Some(last) = first_line(text) else {
-        return Err(CertError::Truncated(line));
-    };
+    let last = line_at(text, line)?;
     if last.bytes != b"end".as_slice() {
         return Err(CertError::BadLine(line));
     }

@@ -1,9 +1,7 @@
 //! Certificates as texts.
 
-ghost use Rattle.std.specs.Prelude.{◌≡◌, ◌⊎◌, ◌++◌, ◌∷◌, [], codes, true, OnOk, OnErr, IfErr};
-ghost use Rattle.std.specs.Io.KnownBytes.{Appends};
-ghost use Rattle.qap_io.specs.Counting.{FailedBetween};
-ghost use Rattle.qap_io.specs.Writing.{AppendsBeginning};
+ghost use Rattle.std.specs.Prelude.{◌++◌, ◌∷◌, [], codes, OnOk, IfErr};
+ghost use Rattle.qap_io.specs.Writing.{Sends, StopsBy};
 ghost use Rattle.qap_lines.specs.LineText.{line_text};
 ghost use Rattle.qap_lines.specs.Writing.{Writes};
 ghost use Rattle.qap_cert.specs.Text.{head_text, bound_text, tree_text, trees_text, certificate_text};
@@ -129,12 +127,8 @@ pub fn write<W: Write>(
     writer: &mut Counted<W>,
     certificate: &Certificate,
 ) -> Result<(), CertError>
-    ensures whole { OnOk result (Appends (W.contents writer.old.inner) (W.contents writer.new.inner) (certificate_text Second certificate.now)) }
-    ensures flushed { OnOk result (writer.new.flushed ≡ true) }
-    ensures count { OnOk result (writer.new.failures ≡ writer.old.failures) }
-    ensures beginning { OnErr result (AppendsBeginning (W.contents writer.old.inner) (W.contents writer.new.inner) (certificate_text Second certificate.now)) }
-    ensures failed { IfErr result (λ e. ((e ≡ OutOfMemory) × (writer.new.failures ≡ writer.old.failures))
-        ⊎ ((e ≡ FailedDevice) × FailedBetween writer.old writer.new)) }
+    ensures sent { OnOk result (Sends W.contents writer.old writer.new (certificate_text Second certificate.now)) }
+    ensures stopped { IfErr result (StopsBy OutOfMemory FailedDevice W.contents writer.old writer.new (certificate_text Second certificate.now)) }
 {
     let mut line = Vec::new(alloc);
     write_lines(writer, &mut line, certificate)?;

@@ -1,5 +1,5 @@
 -- What a write that may stop in mid-text does to a writer and the bytes that it holds.
-use Rattle.std.specs.Prelude.{ℕ, ◌+◌, ◌≡◌, true, List, ◌++◌, length, take, drop}
+use Rattle.std.specs.Prelude.{ℕ, ◌+◌, ◌≡◌, ◌⊎◌, true, List, ◌++◌, length, take, drop}
 use Rattle.std.specs.declared.option.Option.{Option}
 use Rattle.std.specs.Io.KnownBytes.{Appends, Keeps}
 use Rattle.qap_io.specs.Counting.{CountedDevice, FailedBetween}
@@ -21,6 +21,12 @@ pub record Sends {W : Type 0} (contents : W → Option (List ℕ)) (old new : Co
 pub record BreaksOff {W : Type 0} (contents : W → Option (List ℕ)) (old new : CountedDevice W) (text : List ℕ) : Type 0 where
   pub bytes : AppendsBeginning (contents old.inner) (contents new.inner) text
   pub failed : FailedBetween old new
+
+-- a beginning of the text has gone out, and this error tells why no more has: for want of memory no call has failed, and a failed
+-- device has failed a call
+pub record StopsBy {W E : Type 0} (memory device : E) (contents : W → Option (List ℕ)) (old new : CountedDevice W) (text : List ℕ) (e : E) : Type 0 where
+  pub bytes : AppendsBeginning (contents old.inner) (contents new.inner) text
+  pub fault : ((e ≡ memory) × (new.failures ≡ old.failures)) ⊎ ((e ≡ device) × FailedBetween old new)
 
 -- nothing is a beginning of each text
 pub AppendsBeginning-kept : (old new : Option (List ℕ)) (text : List ℕ) → Keeps old new → AppendsBeginning old new text

@@ -3,7 +3,7 @@ ghost use Rattle.std.specs.Prelude.{◌≡◌, ◌++◌, OnOk, OnErr, MatchResul
 ghost use Rattle.std.specs.List.{concat};
 ghost use Rattle.std.specs.Io.KnownBytes.{Appends};
 ghost use Rattle.qap_io.specs.Counting.{FailedBetween};
-ghost use Rattle.qap_io.specs.Refusal.{refusal_line, memory_refusal, device_refusal};
+ghost use Rattle.qap_io.specs.Refusal.{refused, refused_at, refusal_line, memory_refusal, device_refusal};
 ghost use Rattle.qap_io.specs.Writing.{AppendsBeginning, Sends, BreaksOff};
 
 use crate::writing::put_all;
@@ -31,7 +31,7 @@ impl Model for Refusal {
 impl Refusal {
     /// A refusal of this number and name, which carries nothing.
     pub fn new(number: u16, name: &'static str) -> Refusal
-        ensures { result ≡ record { number = number; name = name.now; at = None } }
+        ensures { result ≡ refused number name.now }
     {
         Refusal {
             number,
@@ -42,7 +42,7 @@ impl Refusal {
 
     /// A refusal of this number and name, which carries a place, a line or a count.
     pub fn at(number: u16, name: &'static str, at: u64) -> Refusal
-        ensures { result ≡ record { number = number; name = name.now; at = Some at } }
+        ensures { result ≡ refused_at number name.now at }
     {
         Refusal {
             number,

@@ -2,7 +2,7 @@
 use Rattle.std.proofs.Common.{◌≡◌, ℕ, ◌<◌, List, [], ◌∷◌, ◌++◌, ℤ, refl, sym, ap, subst, ◌∙◌, inl, inr, append_assoc}
 use Rattle.std.specs.Fmt.{signed_decimal}
 use Rattle.std.proofs.lemmas.List.{append-nil}
-use Rattle.std.specs.Prelude.{OnErr, Option, Result, Ok, Err, IsErrAnd}
+use Rattle.std.specs.Prelude.{Option, Result, Ok, Err, IsErrAnd}
 use Rattle.std.proofs.KnownBytes.{Appends-nil, Appends-trans}
 use Rattle.qap_io.specs.Counting.{CountedDevice, last_count}
 use Rattle.qap_io.specs.Writing.{AppendsBeginning-longer, AppendsBeginning-after}
@@ -85,7 +85,3 @@ pub stops_in : {T S : Type 0} (contents : T → Option (List ℕ)) (old middle n
 stops_in contents old middle new front piece more r e is first second =
     fails_with contents old new (front ++ piece ++ more) r e is
     (HasStopped-longer contents old new (front ++ piece) more e (HasStopped-then contents old middle new front piece e first second))
-
-pub OnErr-from : {S E : Type 0} (r : Result S E) (P : Type 0) → P → OnErr r P
-OnErr-from (Ok x) P h = tt
-OnErr-from (Err e) P h = h

@@ -1,15 +1,10 @@
 -- What writing a text comes to.
-use Rattle.std.specs.Prelude.{◌≡◌, ◌⊎◌, ℕ, List, Option, Result, MatchResult}
+use Rattle.std.specs.Prelude.{◌≡◌, ℕ, List, Option, Result, MatchResult}
 use Rattle.std.specs.Io.KnownBytes.{Appends}
-use Rattle.qap_io.specs.Counting.{CountedDevice, FailedBetween}
-use Rattle.qap_io.specs.Writing.{AppendsBeginning}
+use Rattle.qap_io.specs.Counting.{CountedDevice}
+use Rattle.qap_io.specs.Writing.{StopsBy}
 use Rattle.qap_lines.specs.declared.writing.WriteError.{WriteError}
 use Rattle.qap_lines.specs.declared.writing.WriteError.TheVariants.{OutOfMemory, Device}
-
--- for want of memory no call has failed, and a failed device has failed a call
-abbrev pub IsWriteFault : {T : Type 0} → CountedDevice T → CountedDevice T → WriteError → Type 0
-IsWriteFault old new e =
-    ((e ≡ OutOfMemory) × (new.failures ≡ old.failures)) ⊎ ((e ≡ Device) × FailedBetween old new)
 
 -- the text has gone out, and no call has failed
 pub record HasWritten {T : Type 0} (contents : T → Option (List ℕ)) (old new : CountedDevice T) (text : List ℕ) : Type 0 where
@@ -17,9 +12,8 @@ pub record HasWritten {T : Type 0} (contents : T → Option (List ℕ)) (old new
   pub count : new.failures ≡ old.failures
 
 -- a beginning of the text has gone out, and this is why no more has
-pub record HasStopped {T : Type 0} (contents : T → Option (List ℕ)) (old new : CountedDevice T) (text : List ℕ) (e : WriteError) : Type 0 where
-  pub bytes : AppendsBeginning (contents old.inner) (contents new.inner) text
-  pub fault : IsWriteFault old new e
+abbrev pub HasStopped : {T : Type 0} → (T → Option (List ℕ)) → CountedDevice T → CountedDevice T → List ℕ → WriteError → Type 0
+HasStopped contents old new text e = StopsBy OutOfMemory Device contents old new text e
 
 -- what a call comes to that is to write the text
 abbrev pub Writes : {T S : Type 0} → (T → Option (List ℕ)) → CountedDevice T → CountedDevice T → List ℕ → Result S WriteError → Type 0

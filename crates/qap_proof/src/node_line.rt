@@ -13,11 +13,12 @@ ghost use Rattle.qap_proof.specs.TextFault.{IsDualsFault, IsLineFault, IsNodeFau
 ghost use Rattle.qap_proof.specs.Tree.{IsFreeOn};
 
 use crate::error::ProofError;
+use crate::line::line_at;
 use crate::side::Side;
 use crate::tree::{Duals, KeptDuals};
 use qap_cost::{Partial, Perm};
 use qap_io::from_one;
-use qap_lines::{LineNumbers, first_line, permutation_from_one, read_numbers};
+use qap_lines::{LineNumbers, permutation_from_one, read_numbers};
 use std::alloc::Global;
 
 /// A split: what it is on, and its duals, if it has any.
@@ -59,9 +60,7 @@ pub fn read_node_line<'a>(
         (λ r. HasLine node.now earlier has_duals text.now r.line r.rest.now)
         (λ e. (e ≡ ProofError.OutOfMemory) ⊎ IsLineFault number text.now (IsNodeFault node.now earlier has_duals number) e) }
 {
-    let Some(line) = first_line(text) else {
-        return Err(ProofError::Truncated(number));
-    };
+    let line = line_at(text, number)?;
     let said = judge_line(alloc, line.bytes, node, earlier, has_duals, number)?;
     Ok(LineRead {
         line: said,

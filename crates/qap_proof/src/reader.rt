@@ -10,12 +10,12 @@ ghost use Rattle.qap_proof.specs.TextFault.{IsTextFault, IsFaultFromTree, IsEndF
 use crate::bound::read_bound;
 use crate::error::ProofError;
 use crate::head::{read_cost, read_header, read_permutation, read_size};
+use crate::line::line_at;
 use crate::proof::Proof;
 use crate::root::read_root;
 use crate::tree::Tree;
 use crate::tree_reader::read_tree;
 use qap_cost::{Partial, Perm};
-use qap_lines::first_line;
 use std::alloc::Global;
 
 /// What stands before the tree of a proof, the number of the tree's first line, and the text from there on.
@@ -87,9 +87,7 @@ pub(crate) fn read_head(alloc: Global, text: &[u8]) -> Result<Head<'_>, ProofErr
 pub(crate) fn read_end(text: &[u8], line: u64) -> Result<(), ProofError>
     ensures { MatchResult result (λ _. text.now ≡ codes "end\n") (IsEndFault line text.now) }
 {
-    let Some(last) = first_line(text) else {
-        return Err(ProofError::Truncated(line));
-    };
+    let last = line_at(text, line)?;
     if last.bytes != b"end".as_slice() {
         return Err(ProofError::BadLine(line));
     }

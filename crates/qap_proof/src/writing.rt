@@ -1,9 +1,7 @@
 //! Proofs as texts.
 
-ghost use Rattle.std.specs.Prelude.{◌≡◌, ◌⊎◌, ◌++◌, length, codes, true, OnOk, OnErr, IfErr};
-ghost use Rattle.std.specs.Io.KnownBytes.{Appends};
-ghost use Rattle.qap_io.specs.Counting.{FailedBetween};
-ghost use Rattle.qap_io.specs.Writing.{AppendsBeginning};
+ghost use Rattle.std.specs.Prelude.{◌≡◌, ◌++◌, length, codes, OnOk, IfErr};
+ghost use Rattle.qap_io.specs.Writing.{Sends, StopsBy};
 ghost use Rattle.qap_lines.specs.LineText.{numbers_text, line_text, head_text};
 ghost use Rattle.qap_lines.specs.Writing.{Writes};
 ghost use Rattle.qap_proof.specs.Memory.{node_of, nodes_of};
@@ -233,12 +231,8 @@ pub fn write<W: Write>(
     writer: &mut Counted<W>,
     proof: &Proof,
 ) -> Result<(), ProofError>
-    ensures whole { OnOk result (Appends (W.contents writer.old.inner) (W.contents writer.new.inner) (proof_text proof.now)) }
-    ensures flushed { OnOk result (writer.new.flushed ≡ true) }
-    ensures count { OnOk result (writer.new.failures ≡ writer.old.failures) }
-    ensures beginning { OnErr result (AppendsBeginning (W.contents writer.old.inner) (W.contents writer.new.inner) (proof_text proof.now)) }
-    ensures failed { IfErr result (λ e. ((e ≡ OutOfMemory) × (writer.new.failures ≡ writer.old.failures))
-        ⊎ ((e ≡ FailedDevice) × FailedBetween writer.old writer.new)) }
+    ensures sent { OnOk result (Sends W.contents writer.old writer.new (proof_text proof.now)) }
+    ensures stopped { IfErr result (StopsBy OutOfMemory FailedDevice W.contents writer.old writer.new (proof_text proof.now)) }
 {
     let mut line = Vec::new(alloc);
     write_lines(writer, &mut line, proof)?;

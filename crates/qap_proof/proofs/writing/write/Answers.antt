@@ -1,15 +1,13 @@
-use Rattle.std.proofs.KnownBytes.{Appends-kept}
-use Rattle.qap_io.specs.Writing.{AppendsBeginning-whole}
-use Rattle.qap_lines.proofs.WrittenTexts.{OnErr-from}
+use Rattle.std.proofs.lemmas.Result.{err_from_is_err_and}
+use Rattle.qap_io.proofs.Sending.{stops_at_flush}
 use Rattle.qap_proof.specs.Text.{proof_text}
+use Rattle.qap_proof.specs.declared.error.ProofError.TheVariants.{OutOfMemory, Device}
 use Rattle.qap_proof.proofs.writing.write.Goals as goal
 
-pub returns-in_err-finish-clause-beginning : goal.returns-in_err-finish-clause-beginning
-returns-in_err-finish-clause-beginning g c =
-    let text = proof_text c.args.proof.now in
-    let contents = g.W.Write.contents in
-    let old = contents c.args.writer.now.inner in
-    let middle = contents c.write_lines.new.writer.inner in
-    let new = contents c.finish.new.writer.inner in
-    let kept = Appends-kept old middle new text c.in_ok-write_lines.ensures.bytes c.in_err-finish.ensures.bytes in
-    OnErr-from c.from_residual-in_err-finish.result _ (AppendsBeginning-whole old new text kept)
+pub returns-in_err-finish-clause-stopped : goal.returns-in_err-finish-clause-stopped
+returns-in_err-finish-clause-stopped g c =
+    let wrote = c.in_ok-write_lines.ensures in
+    let flush = c.in_err-finish.ensures in
+    let p = err_from_is_err_and c.from_residual-in_err-finish.result c.from_residual-in_err-finish.ensures.1 in
+    rw (p.1, p.2) (stops_at_flush OutOfMemory Device g.W.Write.contents c.args.writer.now c.write_lines.new.writer c.finish.new.writer (proof_text c.args.proof.now)
+    wrote.bytes wrote.count flush.bytes flush.failed)
