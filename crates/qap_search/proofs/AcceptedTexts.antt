@@ -13,10 +13,10 @@ use Rattle.qap_cert.specs.declared.acceptance.Verdict.TheVariants.{Optimal, Gap}
 use Rattle.qap_cert.specs.declared.error.CertError.{CertError}
 use Rattle.qap_cert.specs.declared.version.Version.TheVariants.{Second}
 use Rattle.tuple_match.specs.FieldValue.{FieldValue}
-use Rattle.qap_search.specs.CutTree.{IsCutTree}
-use Rattle.qap_search.specs.Finished.{IsAssembled}
-use Rattle.qap_search.specs.Replacement.{Best}
-use Rattle.qap_search.specs.Search.{from_root}
+use Rattle.qap_search.specs.Law.CutTree.{IsCutTree}
+use Rattle.qap_search.specs.Certificate.Finished.{IsAssembled}
+use Rattle.qap_search.specs.Law.Replacement.{Best}
+use Rattle.qap_search.specs.Law.Search.{from_root}
 use Rattle.qap_search.proofs.Certificates.{certificate_certifies}
 
 -- the text of what was assembled, in version 2

@@ -13,13 +13,13 @@ use Rattle.qap_cert.specs.declared.version.Version.TheVariants.{Second}
 use Rattle.qap_proof.specs.Tree.{Pair, Split, Place, child, child_of, node_at, whole}
 use Rattle.space_txn.specs.Content.{SameItems}
 use Rattle.tuple_match.specs.FieldValue.{FieldValue}
-use Rattle.qap_search.specs.DecidedTuples.{IsNoPiece, decided_tuple, decision_tuple, found_tuple}
-use Rattle.qap_search.specs.Finished.{IsAssembled}
-use Rattle.qap_search.specs.Piece.{node_list, closed_tuple, mirrored_tuple, best_tuple, cut_numbers, split_cutting, split_said, pieces, pieces_of_all}
-use Rattle.qap_search.specs.Pieces.{decided_tuples, told_tuples}
-use Rattle.qap_search.specs.SearchTree.{IsTree, AreTrees, plain, readable, on_facility, of_proof, of_proofs, searched, searched_all}
-use Rattle.qap_search.specs.Stopped.{HasDuals}
-use Rattle.qap_search.specs.Told.{IsTellingFault, Tell, TellNone}
+use Rattle.qap_search.specs.Tuples.DecidedTuples.{IsNoPiece, decided_tuple, decision_tuple, found_tuple}
+use Rattle.qap_search.specs.Certificate.Finished.{IsAssembled}
+use Rattle.qap_search.specs.Tuples.Piece.{node_list, closed_tuple, mirrored_tuple, best_tuple, cut_numbers, split_cutting, split_said, pieces, pieces_of_all}
+use Rattle.qap_search.specs.Tuples.Pieces.{decided_tuples, told_tuples}
+use Rattle.qap_search.specs.Law.SearchTree.{IsTree, AreTrees, plain, readable, on_facility, of_proof, of_proofs, searched, searched_all}
+use Rattle.qap_search.specs.Certificate.Stopped.{HasDuals}
+use Rattle.qap_search.specs.Certificate.Told.{IsTellingFault, Tell, TellNone}
 use Rattle.qap_search.specs.declared.tuples.parsing.BestFound.{BestFound}
 use Rattle.qap_search.specs.declared.tuples.parsing.DecidedNode.{DecidedNode}
 use Rattle.qap_search.specs.declared.tuples.parsing.Decision.{Decision}

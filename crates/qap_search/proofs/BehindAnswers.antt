@@ -5,10 +5,10 @@ use Rattle.shared_space.specs.Place.{place_of}
 use Rattle.shared_space.specs.Run.{is_accepted}
 use Rattle.shared_space.proofs.RunLemmas.{acts_counted}
 use Rattle.space_txn.specs.World.{World}
-use Rattle.qap_search.specs.Answer.{accepted_of}
-use Rattle.qap_search.specs.Outcome.{IsEndFault, IsEnded}
-use Rattle.qap_search.specs.Ran.{FaultTells, Ran, RanTo, RanToFault, Tells}
-use Rattle.qap_search.specs.Search.{Search}
+use Rattle.qap_search.specs.Runs.Answer.{accepted_of}
+use Rattle.qap_search.specs.Runs.Outcome.{IsEndFault, IsEnded}
+use Rattle.qap_search.specs.Runs.Ran.{FaultTells, Ran, RanTo, RanToFault, Tells}
+use Rattle.qap_search.specs.Law.Search.{Search}
 use Rattle.qap_search.specs.declared.runs.answer.SolveError.{SolveError}
 use Rattle.qap_search.specs.declared.runs.answer.SolveError.TheVariants.{Unfinished, Stopped, OutOfMemory}
 use Rattle.qap_search.specs.declared.runs.run.Run.{Run}

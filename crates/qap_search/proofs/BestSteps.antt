@@ -20,19 +20,19 @@ use Rattle.tuple_match.specs.FieldValue.{FieldValue}
 use Rattle.tuple_match.specs.Matching.{does_match}
 use Rattle.tuple_match.specs.PatternValue.{Matches, PatternValue}
 use Rattle.tuple_space.specs.declared.write.Write.{Write}
-use Rattle.qap_search.specs.BestSteps.{AfterWrites, HasBestCost, HasBestMark, HasNoBest, IsBestAt, IsFoundBest, Writes, WritesAll}
-use Rattle.qap_search.specs.DecidedTuples.{best_of}
-use Rattle.qap_search.specs.Decision.{DecidesBetter, DecidesBy, IsBetterOf}
-use Rattle.qap_search.specs.Found.{IsBestFound, best_template}
-use Rattle.qap_search.specs.Hand.{HandValue, hand_of, thought_of}
-use Rattle.qap_search.specs.Piece.{node_tuple}
-use Rattle.qap_search.specs.Prepared.{AreWritesFor}
-use Rattle.qap_search.specs.Replacement.{Best, IsAsGood, MayReplace, tuple_of}
-use Rattle.qap_search.specs.Search.{search_of}
-use Rattle.qap_search.specs.SearchLaw.{IsSearchLaw}
-use Rattle.qap_search.specs.Standing.{HasNode, IsLastThought, IsStage}
-use Rattle.qap_search.specs.Thought.{IsThought, ThoughtValue, candidate_of}
-use Rattle.qap_search.specs.Turn.{HasBest, HasLeased, HasMarksOf, IsReady, IsShort, IsStuck, Told}
+use Rattle.qap_search.specs.Worker.BestSteps.{AfterWrites, HasBestCost, HasBestMark, HasNoBest, IsBestAt, IsFoundBest, Writes, WritesAll}
+use Rattle.qap_search.specs.Tuples.DecidedTuples.{best_of}
+use Rattle.qap_search.specs.Node.Decision.{DecidesBetter, DecidesBy, IsBetterOf}
+use Rattle.qap_search.specs.Tuples.Found.{IsBestFound, best_template}
+use Rattle.qap_search.specs.Worker.Hand.{HandValue, hand_of, thought_of}
+use Rattle.qap_search.specs.Tuples.Piece.{node_tuple}
+use Rattle.qap_search.specs.Worker.Prepared.{AreWritesFor}
+use Rattle.qap_search.specs.Law.Replacement.{Best, IsAsGood, MayReplace, tuple_of}
+use Rattle.qap_search.specs.Law.Search.{search_of}
+use Rattle.qap_search.specs.Law.SearchLaw.{IsSearchLaw}
+use Rattle.qap_search.specs.Worker.Standing.{HasNode, IsLastThought, IsStage}
+use Rattle.qap_search.specs.Node.Thought.{IsThought, ThoughtValue, candidate_of}
+use Rattle.qap_search.specs.Worker.Turn.{HasBest, HasLeased, HasMarksOf, IsReady, IsShort, IsStuck, Told}
 use Rattle.qap_search.specs.declared.worker.stage.LastThought.{LastThought}
 use Rattle.qap_search.specs.declared.worker.stage.Stage.{Stage}
 use Rattle.qap_search.specs.declared.worker.stage.Stage.TheVariants.{Considered, Ready, GivingUp}

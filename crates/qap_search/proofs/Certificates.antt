@@ -23,13 +23,13 @@ use Rattle.qap_proof.specs.declared.side.Side.{Side}
 use Rattle.qap_proof.specs.declared.side.Side.TheVariants.{Facility, Location}
 use Rattle.space_txn.specs.Content.{SameItems}
 use Rattle.tuple_match.specs.FieldValue.{FieldValue}
-use Rattle.qap_search.specs.CutTree.{IsCutTree}
-use Rattle.qap_search.specs.Finished.{IsAssembled}
-use Rattle.qap_search.specs.Piece.{node_tuple, split_tuple, closed_tuple, mirrored_tuple, best_tuple, is_open, open_count, pieces, pieces_of_all, split_said}
-use Rattle.qap_search.specs.Replacement.{Best, tuple_of}
-use Rattle.qap_search.specs.Search.{from_root}
-use Rattle.qap_search.specs.SearchTree.{SearchTree, open_node, split_node, closed_node, cut_node, mirrored_node, SearchTrees, no_trees, tree, tree_count, Judge, IsPlain, IsTree, AreTrees, plain, decided_count, decided_counts, on_facility, searched, searched_all}
-use Rattle.qap_search.specs.Stopped.{HasDuals}
+use Rattle.qap_search.specs.Law.CutTree.{IsCutTree}
+use Rattle.qap_search.specs.Certificate.Finished.{IsAssembled}
+use Rattle.qap_search.specs.Tuples.Piece.{node_tuple, split_tuple, closed_tuple, mirrored_tuple, best_tuple, is_open, open_count, pieces, pieces_of_all, split_said}
+use Rattle.qap_search.specs.Law.Replacement.{Best, tuple_of}
+use Rattle.qap_search.specs.Law.Search.{from_root}
+use Rattle.qap_search.specs.Law.SearchTree.{SearchTree, open_node, split_node, closed_node, cut_node, mirrored_node, SearchTrees, no_trees, tree, tree_count, Judge, IsPlain, IsTree, AreTrees, plain, decided_count, decided_counts, on_facility, searched, searched_all}
+use Rattle.qap_search.specs.Certificate.Stopped.{HasDuals}
 use Rattle.qap_search.proofs.Replacing.{IsNode-child, WeighsDecided, best_found, plain_by, said_other, trees_by, weighed}
 use Rattle.qap_search.proofs.TupleReadings.{IsNode, found_in, is_it, is_it-found, is_it-itself, is_it-other, list_at, same_node, tag}
 

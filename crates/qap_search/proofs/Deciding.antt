@@ -16,11 +16,11 @@ use Rattle.qap_proof.specs.declared.side.Side.{Side}
 use Rattle.qap_proof.specs.declared.side.Side.TheVariants.{Facility}
 use Rattle.space_txn.specs.Content.{SameItems}
 use Rattle.tuple_match.specs.FieldValue.{FieldValue}
-use Rattle.qap_search.specs.Decision.{Decides, DecidesBeside, DecidesBetter, DecidesBy, children_by, pruned_split, split_by, split_with, uncut}
-use Rattle.qap_search.specs.Piece.{best_tuple, closed_tuple, node_tuple, pieces}
-use Rattle.qap_search.specs.Replacement.{Best, IsAsGood, IsOneNode, MayReplace, tuple_of}
-use Rattle.qap_search.specs.SearchTree.{SearchTree, cut_node, closed_node, SearchTrees, tree_count, tree, Judge, IsTree, AreTrees, AreUndecided, judge_of, plain, proving, open_row}
-use Rattle.qap_search.specs.Thought.{AreImages, BranchValue, IsBranch, IsImage, IsThought, ThoughtValue, branch_in, branch_value, candidate_of, image_at, thought_on}
+use Rattle.qap_search.specs.Node.Decision.{Decides, DecidesBeside, DecidesBetter, DecidesBy, children_by, pruned_split, split_by, split_with, uncut}
+use Rattle.qap_search.specs.Tuples.Piece.{best_tuple, closed_tuple, node_tuple, pieces}
+use Rattle.qap_search.specs.Law.Replacement.{Best, IsAsGood, IsOneNode, MayReplace, tuple_of}
+use Rattle.qap_search.specs.Law.SearchTree.{SearchTree, cut_node, closed_node, SearchTrees, tree_count, tree, Judge, IsTree, AreTrees, AreUndecided, judge_of, plain, proving, open_row}
+use Rattle.qap_search.specs.Node.Thought.{AreImages, BranchValue, IsBranch, IsImage, IsThought, ThoughtValue, branch_in, branch_value, candidate_of, image_at, thought_on}
 use Rattle.qap_search.specs.declared.node.branching.Branch.{Branch}
 use Rattle.qap_search.specs.declared.node.images.Image.{Image}
 use Rattle.qap_search.specs.declared.node.thought.Thought.{Thought}

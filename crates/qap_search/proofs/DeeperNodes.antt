@@ -2,9 +2,9 @@
 use Rattle.std.proofs.Common.{◌≡◌, ◌≢◌, ◌↔◌, ℕ, zero, suc, ◌+◌, ◌-◌, ◌*◌, Bool, false, IsTrue, List, [], ◌∷◌, ◌++◌, length, get_or, ℤ, pos, refl, sym, ap, ap₂, subst, ◌∙◌, arith}
 use Rattle.std.proofs.lemmas.Bool.{false≢true}
 use Rattle.qap_cost.specs.Placement.{Placement, placing}
-use Rattle.qap_search.specs.TreeBuilding.{BeginsByTurns, EndsWith}
+use Rattle.qap_search.specs.Certificate.TreeBuilding.{BeginsByTurns, EndsWith}
 use Rattle.number_list.specs.Turns.{by_turns}
-use Rattle.qap_search.specs.Piece.{node_list}
+use Rattle.qap_search.specs.Tuples.Piece.{node_list}
 use Rattle.qap_search.proofs.Keys.{node_list-placing}
 use Rattle.qap_search.proofs.NodeLists.{begins-by_turns, length-by_turns}
 

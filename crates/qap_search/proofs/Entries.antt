@@ -6,7 +6,7 @@ use Rattle.std.proofs.lemmas.List.Sorted.{IsPermutation-map, sum_by-IsPermutatio
 use Rattle.std.proofs.lemmas.List.Sums.{sum_by-append, sum_by-cons}
 use Rattle.space_txn.specs.Content.{SameItems}
 use Rattle.tuple_match.specs.FieldValue.{FieldValue}
-use Rattle.qap_search.specs.declared.worker.putting.WithEntry.{WithEntry}
+use Rattle.qap_search.specs.declared.worker.forever_writes.WithEntry.{WithEntry}
 
 abbrev pub tuple_in : WithEntry → List FieldValue
 tuple_in w = w.tuple

@@ -9,8 +9,8 @@ use Rattle.tuple_match.specs.Field.{field_value, fields_value}
 use Rattle.tuple_match.specs.FieldValue.{FieldValue, number, number_of, numbers, numbers_of, word, word_of}
 use Rattle.tuple_match.specs.declared.fields.Field.{Field}
 use Rattle.qap_proof.specs.declared.side.Side.{Side}
-use Rattle.qap_search.specs.DecidedTuples.{IsNoPiece}
-use Rattle.qap_search.specs.Piece.{side_word}
+use Rattle.qap_search.specs.Tuples.DecidedTuples.{IsNoPiece}
+use Rattle.qap_search.specs.Tuples.Piece.{side_word}
 
 abbrev word_in : Option (List ℕ) → List ℕ
 word_in (Some bytes) = bytes

@@ -14,12 +14,12 @@ use Rattle.qap_cost.specs.Placement.{Placement, IsPlacement}
 use Rattle.qap_proof.specs.Tree.{Node, whole}
 use Rattle.space_txn.specs.Content.{SameItems}
 use Rattle.tuple_match.specs.FieldValue.{FieldValue}
-use Rattle.qap_search.specs.TreeBuilding.{AreTuplesOf, BeginWith, ahead}
-use Rattle.qap_search.specs.DecidedTuples.{decided_tuple, decision_tuple}
-use Rattle.qap_search.specs.InOrder.{AreInOrder, is_before}
-use Rattle.qap_search.specs.Piece.{pieces}
-use Rattle.qap_search.specs.Pieces.{decided_tuples}
-use Rattle.qap_search.specs.SearchTree.{of_proof}
+use Rattle.qap_search.specs.Certificate.TreeBuilding.{AreTuplesOf, BeginWith, ahead}
+use Rattle.qap_search.specs.Tuples.DecidedTuples.{decided_tuple, decision_tuple}
+use Rattle.qap_search.specs.Certificate.InOrder.{AreInOrder, is_before}
+use Rattle.qap_search.specs.Tuples.Piece.{pieces}
+use Rattle.qap_search.specs.Tuples.Pieces.{decided_tuples}
+use Rattle.qap_search.specs.Law.SearchTree.{of_proof}
 use Rattle.qap_search.specs.declared.tuples.parsing.DecidedNode.{DecidedNode}
 use Rattle.qap_search.specs.declared.tuples.parsing.Decision.{Decision}
 use Rattle.qap_search.specs.declared.tuples.parsing.Decision.TheVariants.{Split, Pruned, Closed, Mirrored}

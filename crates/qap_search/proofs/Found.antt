@@ -7,11 +7,11 @@ use Rattle.std.proofs.lemmas.List.Sums.{sum_by-cons}
 use Rattle.qap_cost.specs.Placement.{Placement, IsPlacement}
 use Rattle.qap_proof.specs.Tree.{Pair, Split, IsFreeOn, child_of, Place, whole, child, node_at}
 use Rattle.tuple_match.specs.FieldValue.{FieldValue}
-use Rattle.qap_search.specs.CutTree.{IsCutTree}
-use Rattle.qap_search.specs.Found.{IsBestFound, IsOpenNode, is_best}
-use Rattle.qap_search.specs.Piece.{best_tuple, closed_tuple, is_open, mirrored_tuple, node_tuple, pieces, pieces_of_all, split_said}
-use Rattle.qap_search.specs.Search.{Search}
-use Rattle.qap_search.specs.SearchTree.{SearchTree, open_node, split_node, closed_node, cut_node, mirrored_node, SearchTrees, no_trees, tree, tree_count, Judge, IsTree, AreTrees, judge_of}
+use Rattle.qap_search.specs.Law.CutTree.{IsCutTree}
+use Rattle.qap_search.specs.Tuples.Found.{IsBestFound, IsOpenNode, is_best}
+use Rattle.qap_search.specs.Tuples.Piece.{best_tuple, closed_tuple, is_open, mirrored_tuple, node_tuple, pieces, pieces_of_all, split_said}
+use Rattle.qap_search.specs.Law.Search.{Search}
+use Rattle.qap_search.specs.Law.SearchTree.{SearchTree, open_node, split_node, closed_node, cut_node, mirrored_node, SearchTrees, no_trees, tree, tree_count, Judge, IsTree, AreTrees, judge_of}
 use Rattle.qap_search.proofs.Certificates.{child_placed}
 use Rattle.qap_search.proofs.TupleReadings.{found_in, is_it, is_it-found, is_it-itself, tag}
 

@@ -5,7 +5,7 @@ use Rattle.std.proofs.lemmas.List.Sums.{sum_by-append, sum_by-cons}
 use Rattle.qap_cost.specs.Instance.{Problem}
 use Rattle.space_txn.specs.Content.{SameItems}
 use Rattle.tuple_match.specs.FieldValue.{FieldValue}
-use Rattle.qap_search.specs.ClosedTuples.{AreClosed, HasNoNode, IsClosedTuple}
+use Rattle.qap_search.specs.Certificate.ClosedTuples.{AreClosed, HasNoNode, IsClosedTuple}
 
 module _ {X Y : Type 0} (R : X → Y → Type 0) where
   all_zip-append : (xs zs : List X) (ys ws : List Y) → AllZip R xs ys → AllZip R zs ws → AllZip R (xs ++ zs) (ys ++ ws)

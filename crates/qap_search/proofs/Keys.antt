@@ -15,8 +15,8 @@ use Rattle.qap_proof.specs.declared.side.Side.TheVariants.{Facility, Location}
 use Rattle.space_txn.specs.Content.{SameItems}
 use Rattle.tuple_match.specs.FieldValue.{FieldValue}
 use Rattle.number_list.proofs.Turns.{by_turns-push}
-use Rattle.qap_search.specs.Piece.{node_list, closed_tuple, mirrored_tuple, cut_numbers, split_cutting, split_said, pieces, pieces_of_all}
-use Rattle.qap_search.specs.SearchTree.{IsTree, AreTrees, readable, of_proof, of_proofs, tree_count}
+use Rattle.qap_search.specs.Tuples.Piece.{node_list, closed_tuple, mirrored_tuple, cut_numbers, split_cutting, split_said, pieces, pieces_of_all}
+use Rattle.qap_search.specs.Law.SearchTree.{IsTree, AreTrees, readable, of_proof, of_proofs, tree_count}
 use Rattle.qap_search.proofs.Certificates.{child_placed, free_facility_count, free_location_count}
 use Rattle.qap_search.proofs.TupleReadings.{found_in, is_it, is_it-found, is_it-itself, list_at}
 

@@ -11,8 +11,8 @@ use Rattle.qap_proof.specs.Memory.{node_of, nodes_of}
 use Rattle.qap_proof.specs.Shape.{AllHaveShape, HasShape, free_count, has_duals}
 use Rattle.qap_proof.specs.Tree.{Split, Node, split, Nodes, node, child_count, IsFreeOn, Place, child_of, node_at}
 use Rattle.qap_proof.specs.declared.tree.Tree.{Tree}
-use Rattle.qap_search.specs.LeafBounds.{shown, shown_by_all}
-use Rattle.qap_search.specs.SearchTree.{IsTree, AreTrees, of_proof, of_proofs, readable}
+use Rattle.qap_search.specs.Certificate.LeafBounds.{shown, shown_by_all}
+use Rattle.qap_search.specs.Law.SearchTree.{IsTree, AreTrees, of_proof, of_proofs, readable}
 use Rattle.qap_search.proofs.Keys.{tree_count-of_proofs}
 
 -- the least of one number, and of two

@@ -16,7 +16,7 @@ use Rattle.qap_cost.specs.Row.{product_at}
 use Rattle.qap_cost.specs.Sum.{sum_to}
 use Rattle.gilmore_lawler.specs.LeastProduct.{IsLeastProduct}
 use Rattle.gilmore_lawler.specs.ReducedMatrix.{IsReducedEntry, cost_with, linear_cost, others}
-use Rattle.qap_search.specs.OpenNodes.{AreLeastDuals}
+use Rattle.qap_search.specs.Certificate.OpenNodes.{AreLeastDuals}
 
 -- where each number of a list is within a limit, so is what is read at any place
 at_any : (m : ℕ) (xs : List ℤ) → ((k : ℕ) → k < length xs → unsigned_abs (get_or xs k (pos 0)) ≤ m) → (k : ℕ) → unsigned_abs (get_or xs k (pos 0)) ≤ m

@@ -2,11 +2,11 @@
 use Rattle.std.proofs.Common.{◌≡◌, ◌≢◌, ℕ, zero, suc, ◌+◌, ◌*◌, ◌<◌, ◌≤◌, List, [], ◌∷◌, ◌++◌, length, get_or, take, ℤ, pos, refl, sym, ap, ap₂, subst, ◌∙◌, arith, append_assoc, length-append, length-take-le, get_or-take, take_all}
 use Rattle.std.proofs.lemmas.List.{take_more}
 use Rattle.qap_cost.specs.Placement.{Placement, IsPlacement, IsFreeFacility, IsFreeLocation, placing, root_of}
-use Rattle.qap_search.specs.TreeBuilding.{BeginsByTurns}
+use Rattle.qap_search.specs.Certificate.TreeBuilding.{BeginsByTurns}
 use Rattle.number_list.specs.Turns.{by_turns}
-use Rattle.qap_search.specs.Piece.{node_list}
+use Rattle.qap_search.specs.Tuples.Piece.{node_list}
 use Rattle.qap_cost.proofs.Placements.{IsPlacement-depth}
-use Rattle.qap_search.specs.NodeList.{IsListOf, IsNextOf, IsReadFrom}
+use Rattle.qap_search.specs.Node.NodeList.{IsListOf, IsNextOf, IsReadFrom}
 use Rattle.qap_search.proofs.Keys.{node_list-placing}
 use Rattle.qap_search.proofs.TupleReadings.{natural}
 

@@ -8,8 +8,8 @@ use Rattle.qap_proof.specs.Tree.{Pair, pair, Node, closed, split, cut, mirrored,
 use Rattle.qap_proof.specs.declared.side.Side.{Side}
 use Rattle.qap_proof.specs.declared.side.Side.TheVariants.{Facility, Location}
 use Rattle.tuple_match.specs.FieldValue.{FieldValue, word, number}
-use Rattle.qap_search.specs.Piece.{cut_number, cut_numbers, pieces, pieces_of_all, side_word, split_cutting}
-use Rattle.qap_search.specs.SearchTree.{IsTree, AreTrees, IsReadableSplit, readable, of_proof, of_proofs}
+use Rattle.qap_search.specs.Tuples.Piece.{cut_number, cut_numbers, pieces, pieces_of_all, side_word, split_cutting}
+use Rattle.qap_search.specs.Law.SearchTree.{IsTree, AreTrees, IsReadableSplit, readable, of_proof, of_proofs}
 use Rattle.qap_search.proofs.Keys.{tree_count-of_proofs}
 use Rattle.qap_search.proofs.Replacing.{pruned_tag, split_tag}
 use Rattle.qap_search.proofs.TupleReadings.{list_at, map_pos-same, natural, number_at, tag}

@@ -18,16 +18,16 @@ use Rattle.gilmore_lawler.specs.Closing.{Closes}
 use Rattle.tuple_match.specs.FieldValue.{FieldValue}
 use Rattle.qap_cost.specs.Objective.{Permutes, cost_of}
 use Rattle.shared_space.specs.Limit.{IsWithin}
-use Rattle.qap_search.specs.Answer.{accepted_of}
-use Rattle.qap_search.specs.BoundedAnswer.{IsBoundedFrom, LeavesBound}
-use Rattle.qap_search.specs.ClosedTuples.{named_node}
-use Rattle.qap_search.specs.CutTree.{IsCutTree}
-use Rattle.qap_search.specs.Outcome.{IsEnded}
-use Rattle.qap_search.specs.OpenBound.{IsNodeAbove, IsNodeValue, IsOpenBound, IsOpenValue, IsSoundTuple, IsTupleAbove}
-use Rattle.qap_search.specs.Piece.{best_tuple, is_open, node_list, node_tuple, open_count, pieces, pieces_of_all, split_said}
-use Rattle.qap_search.specs.NodeList.{IsReadFrom}
-use Rattle.qap_search.specs.Search.{Search, NoneBelow}
-use Rattle.qap_search.specs.SearchTree.{SearchTree, open_node, split_node, closed_node, cut_node, mirrored_node, SearchTrees, no_trees, tree, tree_count, HasFit, IsPlain, IsTree, AreTrees, judge_of, proving}
+use Rattle.qap_search.specs.Runs.Answer.{accepted_of}
+use Rattle.qap_search.specs.Runs.BoundedAnswer.{IsBoundedFrom, LeavesBound}
+use Rattle.qap_search.specs.Certificate.ClosedTuples.{named_node}
+use Rattle.qap_search.specs.Law.CutTree.{IsCutTree}
+use Rattle.qap_search.specs.Runs.Outcome.{IsEnded}
+use Rattle.qap_search.specs.Runs.OpenBound.{IsNodeAbove, IsNodeValue, IsOpenBound, IsOpenValue, IsSoundTuple, IsTupleAbove}
+use Rattle.qap_search.specs.Tuples.Piece.{best_tuple, is_open, node_list, node_tuple, open_count, pieces, pieces_of_all, split_said}
+use Rattle.qap_search.specs.Node.NodeList.{IsReadFrom}
+use Rattle.qap_search.specs.Law.Search.{Search, NoneBelow}
+use Rattle.qap_search.specs.Law.SearchTree.{SearchTree, open_node, split_node, closed_node, cut_node, mirrored_node, SearchTrees, no_trees, tree, tree_count, HasFit, IsPlain, IsTree, AreTrees, judge_of, proving}
 use Rattle.qap_search.specs.declared.runs.answer.Bounded.{Bounded}
 use Rattle.qap_search.specs.declared.runs.run.Run.{Run}
 use Rattle.qap_search.proofs.Certificates.{child_placed, open_weight}

@@ -6,10 +6,10 @@ use Rattle.qap_cost.specs.Instance.{Problem}
 use Rattle.qap_cost.specs.Placement.{Placement}
 use Rattle.qap_proof.specs.Tree.{Pair, pair, Split, Node, closed, split, cut, mirrored, Nodes, no_nodes, node, child_count, child_of, Place, child, node_at}
 use Rattle.tuple_match.specs.FieldValue.{FieldValue}
-use Rattle.qap_search.specs.ClosedTuples.{IsClosedTuple}
-use Rattle.qap_search.specs.OpenNodes.{AreLeastDuals, AllClosedTo, ClosedTo, undecided_count, undecided_counts}
-use Rattle.qap_search.specs.Piece.{closed_tuple, cut_number, cut_numbers, mirrored_tuple, node_list, node_tuple, pieces, pieces_of_all, split_cutting, split_said}
-use Rattle.qap_search.specs.SearchTree.{SearchTree, open_node, split_node, closed_node, cut_node, mirrored_node, SearchTrees, no_trees, tree, tree_count, Judge, IsTree, AreTrees, decided_count, decided_counts, of_proof, of_proofs}
+use Rattle.qap_search.specs.Certificate.ClosedTuples.{IsClosedTuple}
+use Rattle.qap_search.specs.Certificate.OpenNodes.{AreLeastDuals, AllClosedTo, ClosedTo, undecided_count, undecided_counts}
+use Rattle.qap_search.specs.Tuples.Piece.{closed_tuple, cut_number, cut_numbers, mirrored_tuple, node_list, node_tuple, pieces, pieces_of_all, split_cutting, split_said}
+use Rattle.qap_search.specs.Law.SearchTree.{SearchTree, open_node, split_node, closed_node, cut_node, mirrored_node, SearchTrees, no_trees, tree, tree_count, Judge, IsTree, AreTrees, decided_count, decided_counts, of_proof, of_proofs}
 use Rattle.qap_search.proofs.Keys.{tree_count-of_proofs}
 use Rattle.qap_search.proofs.OneTree.{closed_tag, said_tag}
 use Rattle.qap_search.proofs.Replacing.{IsNode-child}

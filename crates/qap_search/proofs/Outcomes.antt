@@ -9,19 +9,19 @@ use Rattle.qap_cost.specs.Objective.{Permutes, cost_of}
 use Rattle.shared_space.specs.Limit.{IsWithin}
 use Rattle.space_txn.specs.Content.{content_of}
 use Rattle.tuple_match.specs.FieldValue.{FieldValue}
-use Rattle.qap_search.specs.Answer.{IsLeastAnswer, IsLeastFrom, IsSearchFault, IsSolveFault, LeavesBest, accepted_of}
-use Rattle.qap_search.specs.Assembling.{IsNoCertificate, IsTreeFault}
-use Rattle.qap_search.specs.CutTree.{IsCutTree}
-use Rattle.qap_search.specs.DecidedTuples.{best_of}
-use Rattle.qap_search.specs.Outcome.{IsEndFault, IsEnded, IsFinished}
-use Rattle.qap_search.specs.Piece.{best_tuple, open_count, pieces}
-use Rattle.qap_search.specs.Replacement.{Best, tuple_of}
-use Rattle.qap_search.specs.Search.{Search, NoneBelow, whole}
+use Rattle.qap_search.specs.Runs.Answer.{IsLeastAnswer, IsLeastFrom, IsSearchFault, IsSolveFault, LeavesBest, accepted_of}
+use Rattle.qap_search.specs.Certificate.Assembling.{IsNoCertificate, IsTreeFault}
+use Rattle.qap_search.specs.Law.CutTree.{IsCutTree}
+use Rattle.qap_search.specs.Tuples.DecidedTuples.{best_of}
+use Rattle.qap_search.specs.Runs.Outcome.{IsEndFault, IsEnded, IsFinished}
+use Rattle.qap_search.specs.Tuples.Piece.{best_tuple, open_count, pieces}
+use Rattle.qap_search.specs.Law.Replacement.{Best, tuple_of}
+use Rattle.qap_search.specs.Law.Search.{Search, NoneBelow, whole}
 use Rattle.qap_search.specs.declared.runs.answer.Least.{Least}
 use Rattle.qap_search.specs.declared.runs.answer.SolveError.{SolveError}
 use Rattle.qap_search.specs.declared.runs.answer.SolveError.TheVariants.{Unfinished, Stopped, OutOfMemory}
 use Rattle.qap_search.specs.declared.certificate.error.AssembleError.TheVariants.{NotATree, Unfinished as Open}
-use Rattle.qap_search.specs.declared.runs.outcome.Finished.{Finished}
+use Rattle.qap_search.specs.declared.runs.run_ending.Finished.{Finished}
 use Rattle.qap_search.specs.declared.runs.run.Run.{Run}
 use Rattle.qap_search.proofs.Found.{best_found_there, contained, found_from_Contains}
 use Rattle.qap_search.proofs.OpenBounds.{none_less}

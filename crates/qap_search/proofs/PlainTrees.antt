@@ -14,8 +14,8 @@ use Rattle.qap_proof.specs.Shape.{HasShape, AllHaveShape, has_duals}
 use Rattle.qap_proof.specs.Tree.{Node, closed, split, cut, mirrored, Nodes, no_nodes, node, child_count, node_count, nodes_count, Split, pair, child_of, Place, whole, child, node_at}
 use Rattle.qap_proof.specs.declared.tree.Tree.{Tree}
 use Rattle.qap_proof.specs.declared.tree.Tree.TheVariants.{Cut as CutTree, Mirrored as MirroredTree}
-use Rattle.qap_search.specs.OpenNodes.{AllClosedTo, ClosedTo}
-use Rattle.qap_search.specs.SearchTree.{SearchTree, open_node, split_node, closed_node, cut_node, mirrored_node, SearchTrees, no_trees, tree, IsTree, AreTrees, plain, on_facility, as_proof, as_proofs}
+use Rattle.qap_search.specs.Certificate.OpenNodes.{AllClosedTo, ClosedTo}
+use Rattle.qap_search.specs.Law.SearchTree.{SearchTree, open_node, split_node, closed_node, cut_node, mirrored_node, SearchTrees, no_trees, tree, IsTree, AreTrees, plain, on_facility, as_proof, as_proofs}
 use Rattle.qap_search.proofs.Certificates.{plain_split}
 
 -- a certificate's tree from what a proof's says

@@ -2,8 +2,8 @@
 use Rattle.std.proofs.Common.{◌≡◌, ℤ, Bool, Option, Some, None, sym, subst}
 use Rattle.std.specs.Prelude.{IfSome}
 use Rattle.qap_cost.specs.Instance.{Problem}
-use Rattle.qap_search.specs.Hand.{thought_of}
-use Rattle.qap_search.specs.Prepared.{AreWritesFor, HasPrepared}
+use Rattle.qap_search.specs.Worker.Hand.{thought_of}
+use Rattle.qap_search.specs.Worker.Prepared.{AreWritesFor, HasPrepared}
 use Rattle.qap_search.specs.declared.worker.prepared.Prepared.{Prepared}
 use Rattle.qap_search.specs.declared.worker.stage.LastThought.{LastThought}
 

@@ -19,16 +19,16 @@ use Rattle.qap_proof.specs.declared.side.Side.{Side}
 use Rattle.qap_proof.specs.declared.side.Side.TheVariants.{Facility, Location}
 use Rattle.shared_space.specs.Limit.{IsWithin}
 use Rattle.tuple_match.specs.FieldValue.{FieldValue}
-use Rattle.qap_search.specs.Answer.{accepted_of}
-use Rattle.qap_search.specs.CutTree.{IsCutTree}
-use Rattle.qap_search.specs.LeafBounds.{IsBoundOf, shown, shown_by_all}
-use Rattle.qap_search.specs.OpenNodes.{AllClosedTo, ClosedTo, undecided_count, undecided_counts}
-use Rattle.qap_search.specs.Outcome.{IsEnded}
-use Rattle.qap_search.specs.Piece.{best_tuple, open_count, pieces}
-use Rattle.qap_search.specs.ProvedAnswer.{IsProofOf, IsProvedFrom, LeavesProof}
-use Rattle.qap_search.specs.Search.{Search}
-use Rattle.qap_search.specs.SearchTree.{SearchTree, open_node, split_node, closed_node, cut_node, mirrored_node, SearchTrees, no_trees, tree, HasFit, IsPlain, IsReadableSplit, Judge, IsTree, AreTrees, judge_of, of_proof, of_proofs, proving, readable}
-use Rattle.qap_search.specs.Told.{IsClosingFault, TellClosed, TellSearch}
+use Rattle.qap_search.specs.Runs.Answer.{accepted_of}
+use Rattle.qap_search.specs.Law.CutTree.{IsCutTree}
+use Rattle.qap_search.specs.Certificate.LeafBounds.{IsBoundOf, shown, shown_by_all}
+use Rattle.qap_search.specs.Certificate.OpenNodes.{AllClosedTo, ClosedTo, undecided_count, undecided_counts}
+use Rattle.qap_search.specs.Runs.Outcome.{IsEnded}
+use Rattle.qap_search.specs.Tuples.Piece.{best_tuple, open_count, pieces}
+use Rattle.qap_search.specs.Runs.ProvedAnswer.{IsProofOf, IsProvedFrom, LeavesProof}
+use Rattle.qap_search.specs.Law.Search.{Search}
+use Rattle.qap_search.specs.Law.SearchTree.{SearchTree, open_node, split_node, closed_node, cut_node, mirrored_node, SearchTrees, no_trees, tree, HasFit, IsPlain, IsReadableSplit, Judge, IsTree, AreTrees, judge_of, of_proof, of_proofs, proving, readable}
+use Rattle.qap_search.specs.Certificate.Told.{IsClosingFault, TellClosed, TellSearch}
 use Rattle.qap_search.specs.declared.certificate.error.AssembleError.TheVariants.{NotATree, Unfinished as Open}
 use Rattle.qap_search.specs.declared.runs.answer.Proved.{Proved}
 use Rattle.qap_search.specs.declared.runs.run.Run.{Run}

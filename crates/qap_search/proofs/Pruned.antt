@@ -10,10 +10,10 @@ use Rattle.qap_proof.specs.declared.side.Side.{Side}
 use Rattle.qap_proof.specs.declared.side.Side.TheVariants.{Facility, Location}
 use Rattle.tuple_match.specs.FieldValue.{FieldValue, IsField, word}
 use Rattle.tuple_match.specs.Tuple.{IsTuple}
-use Rattle.qap_search.specs.Decision.{child_by, children_by, uncut}
-use Rattle.qap_search.specs.Piece.{cut_number, cut_numbers, pieces, pieces_of_all, side_word}
-use Rattle.qap_search.specs.SearchTree.{SearchTree, cut_node}
-use Rattle.qap_search.specs.Thought.{image_at}
+use Rattle.qap_search.specs.Node.Decision.{child_by, children_by, uncut}
+use Rattle.qap_search.specs.Tuples.Piece.{cut_number, cut_numbers, pieces, pieces_of_all, side_word}
+use Rattle.qap_search.specs.Law.SearchTree.{SearchTree, cut_node}
+use Rattle.qap_search.specs.Node.Thought.{image_at}
 use Rattle.qap_search.specs.declared.node.images.Image.{Image}
 
 less_true : (z c : ℤ) → z <ℤ c → int_lt z c ≡ true

@@ -15,9 +15,9 @@ use Rattle.tuple_space.specs.Rows.{permanent_tuples}
 use Rattle.tuple_space.specs.declared.entry.Entry.{Entry}
 use Rattle.qap_search.proofs.Certificates.{open_weight}
 use Rattle.qap_search.proofs.OpenBounds.{open_bound_append}
-use Rattle.qap_search.specs.OpenBound.{IsOpenBound, IsTupleAbove}
-use Rattle.qap_search.specs.Remaining.{is_open_entry}
-use Rattle.qap_search.specs.Piece.{is_open, open_count}
+use Rattle.qap_search.specs.Runs.OpenBound.{IsOpenBound, IsTupleAbove}
+use Rattle.qap_search.specs.Runs.Remaining.{is_open_entry}
+use Rattle.qap_search.specs.Tuples.Piece.{is_open, open_count}
 
 permanent_tuples-append : (xs ys : List Entry) → permanent_tuples (xs ++ ys) ≡ permanent_tuples xs ++ permanent_tuples ys
 permanent_tuples-append xs ys =

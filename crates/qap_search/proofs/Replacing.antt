@@ -12,11 +12,11 @@ use Rattle.qap_proof.specs.Tree.{Pair, Split, IsFreeOn, facility_on, location_on
 use Rattle.qap_proof.specs.Valid.{IsCut}
 use Rattle.space_txn.specs.Content.{SameItems}
 use Rattle.tuple_match.specs.FieldValue.{FieldValue}
-use Rattle.qap_search.specs.CutTree.{IsCutTree}
-use Rattle.qap_search.specs.Piece.{node_tuple, split_tuple, pruned_tuple, mirrored_tuple, closed_tuple, split_said, cut_number, cut_numbers, pieces, pieces_of_all}
-use Rattle.qap_search.specs.Replacement.{Best, tuple_of, IsAsGood, IsOneNode, ReadsBest, TakesBest, MayReplace}
-use Rattle.qap_search.specs.Search.{Search, IsSearch}
-use Rattle.qap_search.specs.SearchTree.{SearchTree, open_node, split_node, closed_node, cut_node, mirrored_node, SearchTrees, no_trees, tree, tree_count, Judge, IsTree, AreTrees, AreUndecided, plain, proving, judge_of, decided_count, decided_counts}
+use Rattle.qap_search.specs.Law.CutTree.{IsCutTree}
+use Rattle.qap_search.specs.Tuples.Piece.{node_tuple, split_tuple, pruned_tuple, mirrored_tuple, closed_tuple, split_said, cut_number, cut_numbers, pieces, pieces_of_all}
+use Rattle.qap_search.specs.Law.Replacement.{Best, tuple_of, IsAsGood, IsOneNode, ReadsBest, TakesBest, MayReplace}
+use Rattle.qap_search.specs.Law.Search.{Search, IsSearch}
+use Rattle.qap_search.specs.Law.SearchTree.{SearchTree, open_node, split_node, closed_node, cut_node, mirrored_node, SearchTrees, no_trees, tree, tree_count, Judge, IsTree, AreTrees, AreUndecided, plain, proving, judge_of, decided_count, decided_counts}
 use Rattle.qap_search.proofs.TupleReadings.{tag, IsNode, IsNode-placing, found_in, is_it, is_it-found, is_it-itself, is_it-other, list_at, map_pos-same, number_at, same_node}
 
 -- what satisfies the first judge satisfies the second

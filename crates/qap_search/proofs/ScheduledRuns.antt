@@ -2,7 +2,7 @@
 use Rattle.std.proofs.Common.{ℕ, ◌+◌, ◌<◌, ◌≤◌, List, [], ◌∷◌, ◌++◌, refl, sym, subst, length, get_or, take, take_all}
 use Rattle.std.proofs.lemmas.List.{take_more}
 use Rattle.qap_cost.specs.Instance.{Problem}
-use Rattle.qap_search.specs.Interleaving.{Moment, Moves, Runs}
+use Rattle.qap_search.specs.Runs.Interleaving.{Moment, Moves, Runs}
 use Rattle.qap_search.specs.declared.runs.schedule.Step.{Step}
 
 Runs-more : (I : Problem) (lease : ℕ) (old : Moment) (steps : List Step) (now : Moment) (s : Step) (new : Moment) →

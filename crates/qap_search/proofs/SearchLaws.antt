@@ -1,10 +1,10 @@
 -- Cut trees as the law of a space.
 use Rattle.std.proofs.Common.{refl, sym, ◌∙◌}
 use Rattle.shared_space.specs.Law.{IsKept, IsUnordered}
-use Rattle.qap_search.specs.CutTree.{IsCutTree}
-use Rattle.qap_search.specs.Replacement.{MayReplace}
-use Rattle.qap_search.specs.Search.{Search}
-use Rattle.qap_search.specs.SearchLaw.{IsLawOf}
+use Rattle.qap_search.specs.Law.CutTree.{IsCutTree}
+use Rattle.qap_search.specs.Law.Replacement.{MayReplace}
+use Rattle.qap_search.specs.Law.Search.{Search}
+use Rattle.qap_search.specs.Law.SearchLaw.{IsLawOf}
 use Rattle.qap_search.proofs.Replacing.{replacement}
 
 pub cut_trees_unordered : (S : Search) → IsUnordered (IsCutTree S)

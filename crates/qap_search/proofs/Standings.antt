@@ -10,13 +10,13 @@ use Rattle.space_txn.specs.Machine.{Answer, found, nothing, done, refused}
 use Rattle.space_txn.specs.Marks.{with_mark}
 use Rattle.space_txn.specs.Txn.{TxnValue}
 use Rattle.space_txn.specs.declared.txn.Found.TheVariants.{Entry as Stored, Own}
-use Rattle.qap_search.specs.Piece.{is_open, node_template}
-use Rattle.qap_search.specs.Replacement.{MayReplace}
-use Rattle.qap_search.specs.Search.{search_of}
-use Rattle.qap_search.specs.SearchLaw.{IsSearchLaw}
-use Rattle.qap_search.specs.Standing.{IsFoundNode}
-use Rattle.qap_search.specs.Hand.{HandValue}
-use Rattle.qap_search.specs.Turn.{AfterNoCommit, AfterRefusal, Committed, Told}
+use Rattle.qap_search.specs.Tuples.Piece.{is_open, node_template}
+use Rattle.qap_search.specs.Law.Replacement.{MayReplace}
+use Rattle.qap_search.specs.Law.Search.{search_of}
+use Rattle.qap_search.specs.Law.SearchLaw.{IsSearchLaw}
+use Rattle.qap_search.specs.Worker.Standing.{IsFoundNode}
+use Rattle.qap_search.specs.Worker.Hand.{HandValue}
+use Rattle.qap_search.specs.Worker.Turn.{AfterNoCommit, AfterRefusal, Committed, Told}
 use Rattle.shared_space.specs.declared.error.CommitError.TheVariants.{Txn}
 use Rattle.space_txn.specs.declared.error.TxnError.{TxnError}
 use Rattle.space_txn.specs.declared.error.TxnError.TheVariants.{Expired, Foreign, Exhausted, OutOfMemory}

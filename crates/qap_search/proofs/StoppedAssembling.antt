@@ -14,14 +14,14 @@ use Rattle.qap_proof.specs.Shape.{HasShape}
 use Rattle.qap_proof.specs.Tree.{Node, whole}
 use Rattle.space_txn.specs.Content.{SameItems}
 use Rattle.tuple_match.specs.FieldValue.{FieldValue}
-use Rattle.qap_search.specs.Assembling.{IsAssembleFault, IsTreeFault}
-use Rattle.qap_search.specs.Finished.{IsAssembled}
-use Rattle.qap_search.specs.LeafBounds.{IsBoundOf}
-use Rattle.qap_search.specs.OpenNodes.{ClosedTo}
-use Rattle.qap_search.specs.Piece.{best_tuple, open_count, pieces}
-use Rattle.qap_search.specs.SearchTree.{SearchTree, IsTree, as_proof, of_proof, plain, readable, searched}
-use Rattle.qap_search.specs.Stopped.{HasDuals, IsNotStopped, IsStopped, IsStoppedFault, IsUnfinished}
-use Rattle.qap_search.specs.Told.{IsClosingFault, IsMadeOf, IsTellingFault, Tell, TellClosed, TellSearch}
+use Rattle.qap_search.specs.Certificate.Assembling.{IsAssembleFault, IsTreeFault}
+use Rattle.qap_search.specs.Certificate.Finished.{IsAssembled}
+use Rattle.qap_search.specs.Certificate.LeafBounds.{IsBoundOf}
+use Rattle.qap_search.specs.Certificate.OpenNodes.{ClosedTo}
+use Rattle.qap_search.specs.Tuples.Piece.{best_tuple, open_count, pieces}
+use Rattle.qap_search.specs.Law.SearchTree.{SearchTree, IsTree, as_proof, of_proof, plain, readable, searched}
+use Rattle.qap_search.specs.Certificate.Stopped.{HasDuals, IsNotStopped, IsStopped, IsStoppedFault, IsUnfinished}
+use Rattle.qap_search.specs.Certificate.Told.{IsClosingFault, IsMadeOf, IsTellingFault, Tell, TellClosed, TellSearch}
 use Rattle.qap_search.specs.declared.certificate.error.AssembleError.{AssembleError}
 use Rattle.qap_search.specs.declared.certificate.error.AssembleError.TheVariants.{NotATree, OutOfMemory}
 use Rattle.qap_search.proofs.Assembled.{assembled_tree, plain_readable}

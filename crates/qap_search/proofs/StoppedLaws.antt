@@ -19,14 +19,14 @@ use Rattle.qap_proof.specs.Cover.{IsLeastOf}
 use Rattle.qap_proof.specs.Tree.{Pair, Split, Node, Nodes, child_count, IsFreeOn, Place, whole, child, child_of, node_at}
 use Rattle.qap_proof.specs.Valid.{AllValid, Valid}
 use Rattle.tuple_match.specs.FieldValue.{FieldValue}
-use Rattle.qap_search.specs.CutTree.{IsCutTree}
-use Rattle.qap_search.specs.LeafBounds.{shown, shown_by_all}
-use Rattle.qap_search.specs.OpenNodes.{AllClosedTo, ClosedTo, undecided_count, undecided_counts}
-use Rattle.qap_search.specs.Piece.{best_tuple, closed_tuple, open_count, pieces, pieces_of_all, split_said}
-use Rattle.qap_search.specs.Replacement.{Best}
-use Rattle.qap_search.specs.Search.{from_root}
-use Rattle.qap_search.specs.SearchTree.{SearchTree, open_node, split_node, closed_node, cut_node, mirrored_node, SearchTrees, no_trees, tree, IsTree, AreTrees, plain, proving, decided_count, on_facility, as_proof, as_proofs}
-use Rattle.qap_search.specs.Stopped.{HasDuals, IsNotStopped, IsStopped, IsUnfinished}
+use Rattle.qap_search.specs.Law.CutTree.{IsCutTree}
+use Rattle.qap_search.specs.Certificate.LeafBounds.{shown, shown_by_all}
+use Rattle.qap_search.specs.Certificate.OpenNodes.{AllClosedTo, ClosedTo, undecided_count, undecided_counts}
+use Rattle.qap_search.specs.Tuples.Piece.{best_tuple, closed_tuple, open_count, pieces, pieces_of_all, split_said}
+use Rattle.qap_search.specs.Law.Replacement.{Best}
+use Rattle.qap_search.specs.Law.Search.{from_root}
+use Rattle.qap_search.specs.Law.SearchTree.{SearchTree, open_node, split_node, closed_node, cut_node, mirrored_node, SearchTrees, no_trees, tree, IsTree, AreTrees, plain, proving, decided_count, on_facility, as_proof, as_proofs}
+use Rattle.qap_search.specs.Certificate.Stopped.{HasDuals, IsNotStopped, IsStopped, IsUnfinished}
 use Rattle.qap_search.proofs.Assembled.{shaped_tree}
 use Rattle.qap_search.proofs.Certificates.{FoundClose, best_is, best_of, child_placed, closed_in_both, cost_limited, decided_weight, drop_at, drop_end, free_location_count, node_count-searched, open_weight, root_placement, weighs_decided}
 use Rattle.qap_search.proofs.OpenBounds.{duals_fit}

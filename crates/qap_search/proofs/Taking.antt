@@ -13,14 +13,14 @@ use Rattle.qap_proof.specs.Shape.{free_count, has_duals}
 use Rattle.qap_proof.specs.Tree.{Pair, Split, Node, closed, split, cut, mirrored, Nodes, no_nodes, node, child_count, IsFreeOn, Place, whole, child, child_of, node_at}
 use Rattle.qap_proof.specs.declared.side.Side.{Side}
 use Rattle.tuple_match.specs.FieldValue.{FieldValue}
-use Rattle.qap_search.specs.TreeBuilding.{AreFlags, BeginWith, BeginWithNone, IsFlag, ahead}
-use Rattle.qap_search.specs.DecidedTuples.{decision_tuple, mirrored_of, pruned_of, split_of}
-use Rattle.qap_search.specs.Pieces.{decided_tuples}
+use Rattle.qap_search.specs.Certificate.TreeBuilding.{AreFlags, BeginWith, BeginWithNone, IsFlag, ahead}
+use Rattle.qap_search.specs.Tuples.DecidedTuples.{decision_tuple, mirrored_of, pruned_of, split_of}
+use Rattle.qap_search.specs.Tuples.Pieces.{decided_tuples}
 use Rattle.qap_search.specs.declared.tuples.parsing.DecidedNode.{DecidedNode}
 use Rattle.qap_search.specs.declared.tuples.parsing.Decision.{Decision}
 use Rattle.qap_search.specs.declared.tuples.parsing.Decision.TheVariants.{Split as SplitOn, Pruned, Closed, Mirrored}
-use Rattle.qap_search.specs.Piece.{cut_number, cut_numbers, node_list, pieces, pieces_of_all, split_cutting}
-use Rattle.qap_search.specs.SearchTree.{IsTree, AreTrees, IsReadableSplit, readable, of_proof, of_proofs}
+use Rattle.qap_search.specs.Tuples.Piece.{cut_number, cut_numbers, node_list, pieces, pieces_of_all, split_cutting}
+use Rattle.qap_search.specs.Law.SearchTree.{IsTree, AreTrees, IsReadableSplit, readable, of_proof, of_proofs}
 use Rattle.qap_search.proofs.Certificates.{free_depth}
 use Rattle.qap_search.proofs.Keys.{said_key, tree_count-of_proofs}
 use Rattle.qap_search.proofs.OneTree.{closed_tag, first_flag, first_tuple, later_flags, later_tuples, mirrored_tag, one_split, one_tree, one_side, plain_side, said_tag, same_flags, side_byte, zero_not_one}

@@ -9,15 +9,15 @@ use Rattle.qap_cost.specs.Placement.{Placement, IsPlacement}
 use Rattle.qap_proof.specs.Tree.{Node, whole}
 use Rattle.space_txn.specs.Content.{SameItems}
 use Rattle.tuple_match.specs.FieldValue.{FieldValue}
-use Rattle.qap_search.specs.ClosedTuples.{AreClosed, HasNoNode, IsClosedTuple}
-use Rattle.qap_search.specs.DecidedTuples.{best_of}
-use Rattle.qap_search.specs.Found.{IsOpenNode}
-use Rattle.qap_search.specs.OpenNodes.{ClosedTo}
-use Rattle.qap_search.specs.Piece.{best_tuple, pieces}
-use Rattle.qap_search.specs.Replacement.{Best}
-use Rattle.qap_search.specs.SearchTree.{SearchTree, readable, of_proof}
-use Rattle.qap_search.specs.Told.{IsClosingFault, IsTellingFault, Tell, TellClosed, TellNone, TellSearch}
-use Rattle.qap_search.specs.TreeBuilding.{AreTuplesOf}
+use Rattle.qap_search.specs.Certificate.ClosedTuples.{AreClosed, HasNoNode, IsClosedTuple}
+use Rattle.qap_search.specs.Tuples.DecidedTuples.{best_of}
+use Rattle.qap_search.specs.Tuples.Found.{IsOpenNode}
+use Rattle.qap_search.specs.Certificate.OpenNodes.{ClosedTo}
+use Rattle.qap_search.specs.Tuples.Piece.{best_tuple, pieces}
+use Rattle.qap_search.specs.Law.Replacement.{Best}
+use Rattle.qap_search.specs.Law.SearchTree.{SearchTree, readable, of_proof}
+use Rattle.qap_search.specs.Certificate.Told.{IsClosingFault, IsTellingFault, Tell, TellClosed, TellNone, TellSearch}
+use Rattle.qap_search.specs.Certificate.TreeBuilding.{AreTuplesOf}
 use Rattle.qap_search.specs.declared.certificate.error.AssembleError.{AssembleError}
 use Rattle.qap_search.specs.declared.certificate.error.AssembleError.TheVariants.{NotATree, OutOfMemory}
 use Rattle.qap_search.proofs.Finishing.{only_tree}

@@ -7,12 +7,12 @@ use Rattle.qap_cost.specs.Instance.{Problem}
 use Rattle.qap_cost.specs.Placement.{IsPlacement, Placement}
 use Rattle.space_txn.specs.Txn.{TxnValue}
 use Rattle.space_txn.specs.declared.mark.Mark.{Mark}
-use Rattle.qap_search.specs.Considering.{Considers, IsNodeAt, IsOnNode, IsThoughtOn, stage_after}
-use Rattle.qap_search.specs.Hand.{HandValue, cuts, hand_of, is_due, last_of, thought_of}
-use Rattle.qap_search.specs.Piece.{node_tuple}
-use Rattle.qap_search.specs.Standing.{HasNode, HasTaken, IsHand, IsLastThought, IsStage}
-use Rattle.qap_search.specs.Thought.{IsThought, ThoughtValue}
-use Rattle.qap_search.specs.Thinking.{Thinks}
+use Rattle.qap_search.specs.Worker.Considering.{Considers, IsNodeAt, IsOnNode, IsThoughtOn, stage_after}
+use Rattle.qap_search.specs.Worker.Hand.{HandValue, cuts, hand_of, is_due, last_of, thought_of}
+use Rattle.qap_search.specs.Tuples.Piece.{node_tuple}
+use Rattle.qap_search.specs.Worker.Standing.{HasNode, HasTaken, IsHand, IsLastThought, IsStage}
+use Rattle.qap_search.specs.Node.Thought.{IsThought, ThoughtValue}
+use Rattle.qap_search.specs.Worker.Thinking.{Thinks}
 use Rattle.qap_search.specs.declared.worker.stage.LastThought.{LastThought}
 use Rattle.qap_search.specs.declared.worker.stage.Stage.{Stage}
 use Rattle.qap_search.specs.declared.worker.stage.Stage.TheVariants.{Idle, Begun, Taken, Considered, Ready, GivingUp}

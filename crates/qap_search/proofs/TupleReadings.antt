@@ -7,7 +7,7 @@ use Rattle.qap_cost.specs.Placement.{Placement, placing}
 use Rattle.tuple_match.specs.Equality.{tuple_eq, Decides-tuple_eq}
 use Rattle.tuple_match.specs.FieldValue.{FieldValue, number, word, numbers}
 use Rattle.number_list.specs.Turns.{by_turns}
-use Rattle.qap_search.specs.Piece.{node_list}
+use Rattle.qap_search.specs.Tuples.Piece.{node_list}
 
 -- the first byte of the word that a tuple begins with
 abbrev pub tag : List FieldValue → ℕ

@@ -5,8 +5,8 @@ use Rattle.std.proofs.lemmas.List.Elements.{All-from_recursion}
 use Rattle.qap_cost.specs.Placement.{Placement, IsPlacement, free_locations, placing}
 use Rattle.tuple_match.specs.FieldValue.{FieldValue, IsField}
 use Rattle.tuple_match.specs.Tuple.{IsTuple}
-use Rattle.qap_search.specs.Piece.{node_tuple, pieces, pieces_of_all, split_tuple}
-use Rattle.qap_search.specs.SearchTree.{on_facility, open_row, split_open}
+use Rattle.qap_search.specs.Tuples.Piece.{node_tuple, pieces, pieces_of_all, split_tuple}
+use Rattle.qap_search.specs.Law.SearchTree.{on_facility, open_row, split_open}
 use Rattle.qap_search.proofs.Certificates.{free_location_count}
 
 -- the tuples of a row of open nodes, at the locations from number i on

@@ -2,12 +2,12 @@
 
 pub(crate) mod assembling;
 pub(crate) mod best_permutation;
-pub(crate) mod closers;
+pub(crate) mod closing_open_nodes;
+pub(crate) mod closing_threads;
 pub(crate) mod error;
 pub(crate) mod leaf_bounds;
-pub(crate) mod open_nodes;
-pub(crate) mod ordering;
 pub(crate) mod plain_tree;
-pub(crate) mod proving;
-pub(crate) mod stopped;
+pub(crate) mod proof_assembling;
+pub(crate) mod reordering;
+pub(crate) mod stopped_assembling;
 pub(crate) mod tree_building;

@@ -15,17 +15,17 @@ ghost use Rattle.qap_cert.specs.declared.version.Version.TheVariants.{Second};
 ghost use Rattle.qap_proof.specs.Tree.{whole};
 ghost use Rattle.space_txn.specs.Content.{SameItems};
 ghost use Rattle.tuple_match.specs.FieldValue.{FieldValue};
-ghost use Rattle.qap_search.specs.OpenNodes.{undecided_count};
-ghost use Rattle.qap_search.specs.CutTree.{IsCutTree};
-ghost use Rattle.qap_search.specs.Decision.{Decides};
-ghost use Rattle.qap_search.specs.Finished.{IsAssembled};
-ghost use Rattle.qap_search.specs.Found.{IsBestFound, IsOpenNode, is_best};
-ghost use Rattle.qap_search.specs.OpenBound.{IsOpenBound};
-ghost use Rattle.qap_search.specs.Piece.{node_tuple, is_open, open_count};
-ghost use Rattle.qap_search.specs.Replacement.{Best, IsAsGood, MayReplace, tuple_of};
-ghost use Rattle.qap_search.specs.Search.{Search, IsSearch, NoneBelow, from_root};
-ghost use Rattle.qap_search.specs.SearchTree.{IsTree, plain, decided_count};
-ghost use Rattle.qap_search.specs.Stopped.{IsNotStopped, IsStopped};
+ghost use Rattle.qap_search.specs.Certificate.OpenNodes.{undecided_count};
+ghost use Rattle.qap_search.specs.Law.CutTree.{IsCutTree};
+ghost use Rattle.qap_search.specs.Node.Decision.{Decides};
+ghost use Rattle.qap_search.specs.Certificate.Finished.{IsAssembled};
+ghost use Rattle.qap_search.specs.Tuples.Found.{IsBestFound, IsOpenNode, is_best};
+ghost use Rattle.qap_search.specs.Runs.OpenBound.{IsOpenBound};
+ghost use Rattle.qap_search.specs.Tuples.Piece.{node_tuple, is_open, open_count};
+ghost use Rattle.qap_search.specs.Law.Replacement.{Best, IsAsGood, MayReplace, tuple_of};
+ghost use Rattle.qap_search.specs.Law.Search.{Search, IsSearch, NoneBelow, from_root};
+ghost use Rattle.qap_search.specs.Law.SearchTree.{IsTree, plain, decided_count};
+ghost use Rattle.qap_search.specs.Certificate.Stopped.{IsNotStopped, IsStopped};
 
 /// The open root and the permutation that is known are a cut tree, before any commit.
 pub fn opening_law()

@@ -10,7 +10,7 @@ mod worker;
 
 pub use certificate::assembling::assemble;
 pub use certificate::error::AssembleError;
-pub use certificate::stopped::assemble_stopped;
+pub use certificate::stopped_assembling::assemble_stopped;
 pub use law::{
     accepted_law, certificate_law, found_law, open_bound_law, opening_law, order_law,
     replacement_law, replacing_law, stopped_law,
@@ -32,7 +32,7 @@ pub use runs::stop::{Never, Stop};
 pub use runs::threads::{prove_from, solve, solve_from, solve_least, solve_least_from};
 pub use tuples::composing::tuple_of_best;
 pub use tuples::templates::{best_template, node_template};
+pub use worker::forever_writes::put_forever;
 pub use worker::gate::{Always, Gate, Kind};
 pub use worker::hand::Hand;
-pub use worker::putting::put_forever;
 pub use worker::report::{Ended, Report};

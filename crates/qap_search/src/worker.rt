@@ -1,12 +1,12 @@
 //! A worker: the steps of its turns, and what it tells of them.
 
 pub(crate) mod best_steps;
+pub(crate) mod forever_writes;
 pub(crate) mod gate;
 pub(crate) mod ground;
 pub(crate) mod hand;
 pub(crate) mod job;
 pub(crate) mod prepared;
-pub(crate) mod putting;
 pub(crate) mod report;
 pub(crate) mod stage;
 pub(crate) mod thinking;

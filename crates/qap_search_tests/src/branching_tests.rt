@@ -1,9 +1,9 @@
 //! What a node is split on by the rules that add reduced entries up, and which child is taken first, on an instance worked by hand.
 
 ghost use Rattle.std.specs.Prelude.{◌≡◌, ◌≤◌, IfOk};
-ghost use Rattle.qap_search.specs.Opening.{IsOpening};
-ghost use Rattle.qap_search.specs.Search.{whole};
-ghost use Rattle.qap_search.specs.SearchLaw.{IsLawOf};
+ghost use Rattle.qap_search.specs.Runs.Opening.{IsOpening};
+ghost use Rattle.qap_search.specs.Law.Search.{whole};
+ghost use Rattle.qap_search.specs.Law.SearchLaw.{IsLawOf};
 
 use crate::examples::{room_for_one, shared_rows};
 use crate::hand_tests::turn;

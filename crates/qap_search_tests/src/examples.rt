@@ -3,10 +3,10 @@
 
 ghost use Rattle.std.specs.Prelude.{◌≡◌, ◌≤◌, IfOk};
 ghost use Rattle.std.specs.Arc.{arc_value};
-ghost use Rattle.qap_search.specs.Decision.{IsOn};
-ghost use Rattle.qap_search.specs.Opening.{IsOpening};
-ghost use Rattle.qap_search.specs.Search.{whole};
-ghost use Rattle.qap_search.specs.SearchLaw.{IsLawOf};
+ghost use Rattle.qap_search.specs.Node.Decision.{IsOn};
+ghost use Rattle.qap_search.specs.Runs.Opening.{IsOpening};
+ghost use Rattle.qap_search.specs.Law.Search.{whole};
+ghost use Rattle.qap_search.specs.Law.SearchLaw.{IsLawOf};
 
 use gilmore_lawler::RankedInstance;
 use qap_cert::{Certificate, check};

@@ -1,9 +1,9 @@
 //! What workers do on a space of one thread, step by step.
 
 ghost use Rattle.std.specs.Prelude.{◌≡◌, ◌≤◌};
-ghost use Rattle.qap_search.specs.Opening.{IsOpening};
-ghost use Rattle.qap_search.specs.Search.{whole};
-ghost use Rattle.qap_search.specs.SearchLaw.{IsLawOf, IsSearchLaw};
+ghost use Rattle.qap_search.specs.Runs.Opening.{IsOpening};
+ghost use Rattle.qap_search.specs.Law.Search.{whole};
+ghost use Rattle.qap_search.specs.Law.SearchLaw.{IsLawOf, IsSearchLaw};
 
 use crate::examples::{FIRST, room_for_one, shared_rows, three, told, tuples_of};
 use qap_cost::Instance;

@@ -2,7 +2,7 @@
 
 ghost use Rattle.std.specs.Prelude.{◌≡◌, ◌≤◌, false, IfOk};
 ghost use Rattle.qap_cost.specs.Objective.{Permutes};
-ghost use Rattle.qap_search.specs.Hand.{cuts};
+ghost use Rattle.qap_search.specs.Worker.Hand.{cuts};
 
 use crate::examples::{patterned, told};
 use crate::worker_tests::{LEASE_MS, Stopped};

@@ -1,7 +1,7 @@
 //! What no clause says: that tuples are put together, with the certificates of worked examples, and each kind of refusal.
 
 ghost use Rattle.std.specs.Prelude.{◌≡◌, IfOk};
-ghost use Rattle.qap_search.specs.Decision.{IsOn};
+ghost use Rattle.qap_search.specs.Node.Decision.{IsOn};
 
 use crate::examples::{FIRST, Matrices, SECOND, decided, three, told};
 use Part::{Int, List, Word};

@@ -6,9 +6,9 @@ use Rattle.qap_cert.specs.Certificate.{Claim, Certifies, IsCertificate}
 use Rattle.qap_cert.specs.Text.{IsCertificateText, certificate_text}
 use Rattle.qap_cert.specs.declared.version.Version.TheVariants.{Second}
 use Rattle.shared_space.specs.Limit.{IsWithin}
-use Rattle.qap_search.specs.Answer.{CertifiesLeast, IsLeastAnswer, LeavesBest, accepted_of}
-use Rattle.qap_search.specs.Search.{whole}
-use Rattle.qap_search.specs.Stopped.{CertifiesStopped}
+use Rattle.qap_search.specs.Runs.Answer.{CertifiesLeast, IsLeastAnswer, LeavesBest, accepted_of}
+use Rattle.qap_search.specs.Law.Search.{whole}
+use Rattle.qap_search.specs.Certificate.Stopped.{CertifiesStopped}
 use Rattle.qap_search.specs.declared.runs.answer.Least.{Least}
 use Rattle.qap_text.specs.Input.{HasInstance, Input}
 use Rattle.qap_text.specs.Gap.{gap_line}

@@ -3,9 +3,9 @@ use Rattle.std.specs.Prelude.{◌≡◌, ℕ, Bool, true, false, List, ℤ, Opti
 use Rattle.qap_cost.specs.Instance.{Problem}
 use Rattle.qap_cost.specs.Objective.{NoneCostsLess, Permutes, cost_of}
 use Rattle.qap_cert.specs.Certificate.{IsCertificate}
-use Rattle.qap_search.specs.Answer.{LeavesBest}
-use Rattle.qap_search.specs.Search.{whole}
-use Rattle.qap_search.specs.Stopped.{CertifiesStopped}
+use Rattle.qap_search.specs.Runs.Answer.{LeavesBest}
+use Rattle.qap_search.specs.Law.Search.{whole}
+use Rattle.qap_search.specs.Certificate.Stopped.{CertifiesStopped}
 use Rattle.qap_solve.specs.Solution.{ShowsLeast}
 use Rattle.shared_space.specs.Limit.{IsWithin}
 use Rattle.qap_solve.specs.declared.solving.Outcome.{Outcome}

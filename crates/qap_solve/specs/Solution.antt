@@ -8,9 +8,9 @@ use Rattle.qap_cert.specs.Text.{IsCertificateText, certificate_text}
 use Rattle.qap_cert.specs.Tree.{node_count}
 use Rattle.qap_cert.specs.declared.acceptance.Verdict.TheVariants.{Optimal}
 use Rattle.qap_cert.specs.declared.version.Version.TheVariants.{Second}
-use Rattle.qap_search.specs.Answer.{LeavesBest}
-use Rattle.qap_search.specs.Search.{whole}
-use Rattle.qap_search.specs.Stopped.{CertifiesStopped}
+use Rattle.qap_search.specs.Runs.Answer.{LeavesBest}
+use Rattle.qap_search.specs.Law.Search.{whole}
+use Rattle.qap_search.specs.Certificate.Stopped.{CertifiesStopped}
 use Rattle.qap_text.specs.Gap.{gap_line}
 use Rattle.qap_text.specs.WrittenSolution.{solution_text}
 use Rattle.shared_space.specs.Limit.{IsWithin}

@@ -1,10 +1,10 @@
 -- A run of the solver, from bytes to bytes.
 use Rattle.std.specs.Prelude.{◌≡◌, ℕ, ◌⊎◌, Bool, List, Option, Some}
 use Rattle.qap_cost.specs.Instance.{Problem}
-use Rattle.qap_io.specs.Counting.{CountedDevice, FailedBetween}
-use Rattle.qap_io.specs.Writing.{AppendsBeginning, Sends}
-use Rattle.qap_search.specs.Answer.{LeavesOpen}
-use Rattle.qap_search.specs.Search.{whole}
+use Rattle.qap_io.specs.Counting.{CountedDevice}
+use Rattle.qap_io.specs.Writing.{Sends, StopsBy}
+use Rattle.qap_search.specs.Runs.Answer.{LeavesOpen}
+use Rattle.qap_search.specs.Law.Search.{whole}
 use Rattle.qap_text.specs.Input.{HasInstance, HasNoInstance, Input}
 use Rattle.qap_text.specs.declared.error.TextError.{TextError}
 use Rattle.qap_solve.specs.Refusal.{of_text}
@@ -56,10 +56,9 @@ IsUnread s e = NoInstance s e ⊎ WantsMemory s e
 abbrev pub IsUnsolved : {R : Type 0} → Input R → Option ℕ → RunError → Type 0
 IsUnsolved s nodes e = IsUnread s e ⊎ IsUnfinished s nodes e
 
--- a beginning of the text has gone out: for want of memory no call has failed, and else one has
-pub record Stops {W : Type 0} (contents : W → Option (List ℕ)) (old new : CountedDevice W) (text : List ℕ) (e : RunError) : Type 0 where
-  pub bytes : AppendsBeginning (contents old.inner) (contents new.inner) text
-  pub fault : ((e ≡ OutOfMemory) × (new.failures ≡ old.failures)) ⊎ ((e ≡ Device) × FailedBetween old new)
+-- a beginning of the text has gone out, and this is why no more has
+abbrev pub Stops : {W : Type 0} → (W → Option (List ℕ)) → CountedDevice W → CountedDevice W → List ℕ → RunError → Type 0
+Stops contents old new text e = StopsBy OutOfMemory Device contents old new text e
 
 -- all of the answer has gone out
 abbrev pub HasSolved : {R W : Type 0} → Input R → Option ℕ → Bool → (W → Option (List ℕ)) → CountedDevice W → CountedDevice W → Type 0

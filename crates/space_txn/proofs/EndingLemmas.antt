@@ -1,9 +1,9 @@
 -- A transaction that was just begun, and what is left of those that have ended.
-use Rattle.std.proofs.Common.{◌≡◌, ℕ, zero, suc, ◌+◌, ◌<◌, ◌≤◌, Bool, true, false, List, [], ◌∷◌, length, get_or, Option, None, ap, ◌∙◌, sym, subst, refl, cond, eqb, ltb, ⊎_elim, arith}
+use Rattle.std.proofs.Common.{◌≡◌, ℕ, zero, suc, ◌+◌, ◌<◌, ◌≤◌, Bool, true, false, List, [], ◌∷◌, length, get_or, Option, None, ap, ◌∙◌, sym, subst, refl, cond, eqb, ltb, arith}
 use Rattle.std.specs.Prelude.{◌≢◌, not, ◌&&◌, ◌||◌, All, Contains, filter, find, min, Ok}
 use Rattle.std.specs.List.{cons_option}
 use Rattle.std.specs.Option.{option_map}
-use Rattle.std.proofs.lemmas.Bool.{cases_Bool, cond-true, cond-false, cond_both, eq-eqb, false≢true, le-ltb, lt-ltb, ltb-true, ne_eqb, or_cases, or_from, or_left, or_right, or_parts}
+use Rattle.std.proofs.lemmas.Bool.{and_parts, cond-true, cond-false, cond_both, eq-eqb, false≢true, le-ltb, lt-ltb, ltb-true, ne_eqb, or_left, or_right, or_parts}
 use Rattle.std.proofs.lemmas.List.Elements.{All-cons, All-contains, All-filter, All-head, All-nil, All-tail}
 use Rattle.std.proofs.lemmas.List.Folds.{list_any-append, list_any_none}
 use Rattle.tuple_space.specs.Entry.{is_held, is_held_by, is_open, is_there, unheld}
@@ -15,23 +15,16 @@ use Rattle.tuple_space.specs.declared.entry.Entry.{Entry}
 use Rattle.tuple_space.specs.declared.hold.Hold.{Hold}
 use Rattle.tuple_space.specs.declared.lease.LeaseEnd.{LeaseEnd}
 use Rattle.tuple_space.specs.declared.lease.LeaseEnd.TheVariants.{Never, At}
-use Rattle.space_txn.specs.Live.{AreHeldBy, abort_each, ended_at, going_at, is_listed, is_live_in, unmarked}
+use Rattle.space_txn.specs.Live.{abort_each, ended_at, going_at, is_live_in, unmarked}
 use Rattle.space_txn.specs.Machine.{BeginStep, IsAccepted}
 use Rattle.space_txn.specs.Marks.{mark_from, marks_of}
 use Rattle.space_txn.specs.Txn.{TxnValue, txn_of}
 use Rattle.space_txn.specs.World.{IsWorld, World, advance_at, begin_at, is_live_transaction, world_of}
 use Rattle.space_txn.specs.declared.live.Live.{Live}
 use Rattle.space_txn.proofs.FindingLemmas.{contains_behind, contains_kept}
+use Rattle.space_txn.proofs.LiveLemmas.{live_none}
 use Rattle.space_txn.proofs.RuleLemmas.{aborts_moment}
-use Rattle.space_txn.proofs.WorldLemmas.{OfHolds, any_kept, held_advanced, holds_aborted, holds_left}
-
--- a number above those of all live transactions has no hold
-none_listed : (n : ℕ) (live : List Live) → All (λ (t : Live). t.number < n) live → is_listed n live ≡ false
-none_listed n [] low = refl
-none_listed n (t ∷ ts) low =
-    let P : Live → Type 0 = λ u. u.number < n in
-    let less : t.number < n = All-head P t ts low in
-    or_from (eqb t.number n) (is_listed n ts) (ne_eqb _ _ (λ same. omega arith)) (none_listed n ts (All-tail P t ts low))
+use Rattle.space_txn.proofs.WorldLemmas.{OfHolds, any_kept, holds_aborted, holds_left, world_advanced}
 
 none_held : (n : ℕ) (hs : List Hold) → All (λ (h : Hold). h.by ≢ n) hs → find (λ (h : Hold). eqb h.by n) hs ≡ None
 none_held n [] none = refl
@@ -52,13 +45,13 @@ begun_accepted old asked t new valid s more =
     let n = old.begun + 1 in
     let moment = old.space.moment in
     let row : Live = record { number = n; end = granted_end moment asked } in
-    let none = none_listed n old.live (λ k d lt. (let le = valid.given k d lt in omega arith)) in
+    let none = live_none moment n old.live (λ k d lt same. (let le = valid.given k d lt in omega arith)) in
     let later : ltb moment (moment + min asked 86400000) ≡ true = lt-ltb moment (moment + min asked 86400000) (omega arith) in
     let here : (eqb n n && ltb moment (granted_end moment asked)) ≡ true = ap (λ b. b && ltb moment (granted_end moment asked)) (eq-eqb n n refl) ∙ later in
     let accepted : IsAccepted (begin_at old asked) (txn_of n [] []) = record {
       live = list_any-append (λ (u : Live). eqb u.number n && ltb moment u.end) old.live (row ∷ [])
           ∙ or_right (is_live_in moment n old.live) _ (or_left (eqb n n && ltb moment (granted_end moment asked)) false here);
-      own = none_marked n old.space.entries (λ k d lt j c within same. false≢true (sym none ∙ ap (λ m. is_listed m old.live) (sym same) ∙ valid.held k d lt j c within));
+      own = none_marked n old.space.entries (λ k d lt j c within same. false≢true (sym none ∙ ap (λ m. is_live_in moment m old.live) (sym same) ∙ valid.held k d lt j c within));
     } in
     subst (λ (w : World). IsAccepted w t) (sym s.2) (subst (λ (v : TxnValue). IsAccepted (begin_at old asked) v) (sym s.1) accepted)
 
@@ -108,43 +101,25 @@ ended_unmarked old moment t le at over =
     (ne_eqb _ _ (λ same. All-contains (λ (u : Live). u.number ≢ (get_or hs j c).by) ts t (none k d lt j c within).1 gone (sym same))))) in
     subst (λ (w : World). All P w.space.entries) (sym (advanced_world old moment le)) (All-filter (is_there moment) P s.entries left)
 
--- a transaction that goes on is live
-going_live : (moment n : ℕ) (live : List Live) → is_listed n (going_at moment live) ≡ true → is_live_in moment n (going_at moment live) ≡ true
-going_live moment n [] listed = listed
-going_live moment n (t ∷ ts) listed =
-    let going = going_at moment ts in
-    let P : List Live → Type 0 = λ l. is_listed n l ≡ true → is_live_in moment n l ≡ true in
-    ⊎_elim
-    (λ goes. subst P (sym (cond-true (ltb moment t.end) (t ∷ going) going goes))
-    (λ is. ⊎_elim
-    (λ here. or_left (eqb t.number n && ltb moment t.end) (is_live_in moment n going) (ap (λ b. b && ltb moment t.end) here ∙ goes))
-    (λ behind. or_right (eqb t.number n && ltb moment t.end) (is_live_in moment n going) (going_live moment n ts behind))
-    (or_cases (eqb t.number n) (is_listed n going) is)) listed)
-    (λ ends. subst P (sym (cond-false (ltb moment t.end) (t ∷ going) going ends)) (going_live moment n ts) listed)
-    (cases_Bool (ltb moment t.end))
-
 -- each mark that is left is that of a live transaction
 pub left_live : (old : World) (moment : ℕ) → IsWorld old → old.space.moment ≤ moment
     → All (λ (e : Entry). All (λ h. is_live_transaction (advance_at old moment) h.by ≡ true) e.holds) (advance_at old moment).space.entries
-left_live old moment valid le =
-    let Q : World → Type 0 = λ w. All (λ (e : Entry). All (λ h. is_live_transaction w h.by ≡ true) e.holds) w.space.entries in
-    let held = subst (λ (s : SpaceValue). AreHeldBy (going_at moment old.live) s.entries) (advanced_to old moment le) (held_advanced old moment valid.held) in
-    subst Q (sym (advanced_world old moment le)) (λ k d lt j c within. going_live moment _ old.live (held k d lt j c within))
+left_live old moment valid le = (world_advanced old moment valid).held
 
 -- the holds of an entry without those of several transactions
 abbrev drop_each : List Live → List Hold → List Hold
 drop_each [] hs = hs
 drop_each (t ∷ ts) hs = drop_each ts (holds_without t.number hs)
 
-dropped_all : (ts : List Live) (hs : List Hold) → All (λ (h : Hold). is_listed h.by ts ≡ true) hs → drop_each ts hs ≡ []
-dropped_all [] [] all = refl
-dropped_all [] (h ∷ hs) all = absurd (false≢true (All-head (λ (x : Hold). is_listed x.by [] ≡ true) h hs all))
-dropped_all (t ∷ ts) hs all =
-    let left = holds_left (λ (h : Hold). is_listed h.by (t ∷ ts) ≡ true) t.number hs all in
-    dropped_all ts (holds_without t.number hs) (λ k d lt.
+dropped_all : (moment : ℕ) (ts : List Live) (hs : List Hold) → All (λ (h : Hold). is_live_in moment h.by ts ≡ true) hs → drop_each ts hs ≡ []
+dropped_all moment [] [] all = refl
+dropped_all moment [] (h ∷ hs) all = absurd (false≢true (All-head (λ (x : Hold). is_live_in moment x.by [] ≡ true) h hs all))
+dropped_all moment (t ∷ ts) hs all =
+    let left = holds_left (λ (h : Hold). is_live_in moment h.by (t ∷ ts) ≡ true) t.number hs all in
+    dropped_all moment ts (holds_without t.number hs) (λ k d lt.
     (let here = left k d lt in
     let n = (get_or (holds_without t.number hs) k d).by in
-    sym (ap (λ b. b || is_listed n ts) (ne_eqb t.number n here.1)) ∙ here.0))
+    sym (ap (λ b. (b && ltb moment t.end) || is_live_in moment n ts) (ne_eqb t.number n here.1)) ∙ here.0))
 
 contains_aborted : (ts : List Live) (s : SpaceValue) (e : Entry) → Contains s.entries e → is_live s.moment e.end ≡ true
     → Contains (abort_each ts s).entries (record e { holds = drop_each ts e.holds })
@@ -174,12 +149,14 @@ open_again old moment e valid le at live dead =
     let ts = ended_at moment old.live in
     let s = abort_each ts old.space in
     let free : Entry = record e { holds = [] } in
-    let held = All-contains (λ (x : Entry). All (λ (h : Hold). is_listed h.by old.live ≡ true) x.holds) old.space.entries e valid.held at in
-    let over : All (λ (h : Hold). is_listed h.by ts ≡ true) e.holds = λ k d lt.
+    let before = old.space.moment in
+    let held = All-contains (λ (x : Entry). All (λ (h : Hold). is_live_in before h.by old.live ≡ true) x.holds) old.space.entries e valid.held at in
+    let over : All (λ (h : Hold). is_live_in before h.by ts ≡ true) e.holds = λ k d lt.
     (let n = (get_or e.holds k d).by in
-    any_kept (λ (t : Live). eqb t.number n) (λ (t : Live). not (ltb moment t.end)) old.live (not_live moment n old.live (dead k d lt)) (held k d lt)) in
+    let ended = not_live moment n old.live (dead k d lt) in
+    any_kept (λ (t : Live). eqb t.number n && ltb before t.end) (λ (t : Live). not (ltb moment t.end)) old.live (λ i c less is. ended i c less (and_parts _ _ is).0) (held k d lt)) in
     let there = contains_aborted ts old.space e at (earlier_live old.space.moment moment e.end le live) in
-    let left : Contains s.entries free = subst (λ (hs : List Hold). Contains s.entries (record e { holds = hs })) (dropped_all ts e.holds over) there in
+    let left : Contains s.entries free = subst (λ (hs : List Hold). Contains s.entries (record e { holds = hs })) (dropped_all before ts e.holds over) there in
     let kept = contains_filtered (is_there moment) s.entries left.0 free left.1 left.2 (or_left (is_live moment e.end) false live) in (
       subst (λ (w : World). Contains w.space.entries free) (sym (advanced_world old moment le)) kept,
       ap (λ b. (b && true) && true) live,

@@ -1,9 +1,9 @@
 -- Live transactions in rising order of number.
-use Rattle.std.proofs.Common.{◌≡◌, Bool, true, false, ℕ, zero, suc, ◌<◌, List, [], ◌∷◌, length, get_or, slice_get, Some, ap, ◌∙◌, sym, subst, refl, cond, eqb, ltb, arith}
+use Rattle.std.proofs.Common.{◌≡◌, Bool, true, false, ℕ, zero, suc, ◌<◌, ◌≤◌, List, [], ◌∷◌, length, get_or, slice_get, Some, ap, ◌∙◌, sym, subst, refl, cond, eqb, ltb, ⊎_elim, arith}
 use Rattle.std.specs.Prelude.{◌≢◌, ◌&&◌, ◌||◌, not, max, All, filter, remove}
 use Rattle.std.specs.List.{AllPairs, HoldsAt, list_any}
 use Rattle.std.proofs.Math.ListN.{set}
-use Rattle.std.proofs.lemmas.Bool.{cond-true, cond-false, eq-eqb, false≢true, ne_eqb, or_from}
+use Rattle.std.proofs.lemmas.Bool.{and_from, and_parts, cond-true, cond-false, cond_both, eq-eqb, false≢true, lt-ltb, ltb-true, ne_eqb, or_cases, or_from, or_left, or_right}
 use Rattle.std.proofs.lemmas.List.Elements.{All-cons, All-head, All-tail}
 use Rattle.std.proofs.lemmas.List.Kept.{AllPairs-cons}
 use Rattle.std.proofs.lemmas.Option.{none-some, same_Some}
@@ -104,6 +104,26 @@ number_stays n end t = by (eqb t.number n)
     by : (b : Bool) → (cond b (record t { end = max t.end end }) t).number ≡ t.number
     by true = refl
     by false = refl
+
+-- a renewed transaction ends no earlier
+end_later : (n end : ℕ) (t : Live) → t.end ≤ (renewed_row n end t).end
+end_later n end t = cond_both (eqb t.number n) (record t { end = max t.end end }) t (λ (u : Live). t.end ≤ u.end) (λ is. omega arith) (λ other. omega arith)
+
+-- a live transaction stays live where one of them is renewed
+pub live_renewed : (moment number n end : ℕ) (ts : List Live) → is_live_in moment number ts ≡ true → is_live_in moment number (renewed_rows n end ts) ≡ true
+live_renewed moment number n end [] e = e
+live_renewed moment number n end (t ∷ ts) e =
+    let u = renewed_row n end t in
+    let rest = renewed_rows n end ts in
+    ⊎_elim
+    (λ here.
+    let parts = and_parts (eqb t.number number) (ltb moment t.end) here in
+    let before : moment < t.end = ltb-true moment t.end parts.1 in
+    let later = end_later n end t in
+    let same : eqb u.number number ≡ true = ap (λ k. eqb k number) (number_stays n end t) ∙ parts.0 in
+    or_left (eqb u.number number && ltb moment u.end) (is_live_in moment number rest) (and_from _ _ same (lt-ltb moment u.end (omega arith))))
+    (λ behind. or_right (eqb u.number number && ltb moment u.end) (is_live_in moment number rest) (live_renewed moment number n end ts behind))
+    (or_cases (eqb t.number number && ltb moment t.end) (is_live_in moment number ts) e)
 
 pub all_renewed : (P : ℕ → Type 0) (n end : ℕ) (ts : List Live) → All (λ (t : Live). P t.number) ts → All (λ (t : Live). P t.number) (renewed_rows n end ts)
 all_renewed P n end [] h = h

@@ -47,7 +47,7 @@ expired_changes_nothing old t abort done new t' dead s = not_live old new t dead
 expired_changes_nothing old t abort (refused error) new t' dead s = s.1
 expired_changes_nothing old t _ _ new t' dead s = absurd s
 
-put_each_moment : (s : SpaceValue) (writes : List Write) → (put_each s writes).moment ≡ s.moment
+pub put_each_moment : (s : SpaceValue) (writes : List Write) → (put_each s writes).moment ≡ s.moment
 put_each_moment s [] = refl
 put_each_moment s (x ∷ xs) =
     put_each_moment (cond x.taken s (put s x.tuple x.lease)) xs

@@ -1,8 +1,8 @@
 -- What holds of every world stays so at each step.
-use Rattle.std.proofs.Common.{◌≡◌, ℕ, ◌+◌, ◌<◌, ◌≤◌, Bool, true, false, List, [], ◌∷◌, ◌++◌, get_or, ap, ◌∙◌, sym, subst, refl, cond, eqb, ltb, ⊎_elim, arith}
-use Rattle.std.specs.Prelude.{◌≢◌, not, ◌&&◌, ◌||◌, All, filter, find, is_some, Option, Some, None, Result, Ok, Err}
+use Rattle.std.proofs.Common.{◌≡◌, ℕ, ◌+◌, ◌<◌, ◌≤◌, Bool, true, false, List, [], ◌∷◌, ◌++◌, get_or, ap, ◌∙◌, sym, subst, cond, eqb, ltb, ⊎_elim, arith}
+use Rattle.std.specs.Prelude.{◌≢◌, not, ◌&&◌, All, filter, find, is_some, Option, Some, None, Result, Ok, Err}
 use Rattle.std.specs.List.{list_any}
-use Rattle.std.proofs.lemmas.Bool.{cases_Bool, cond-true, cond-false, cond_both, eq-eqb, eqb-true, false≢true, ne_eqb, or_cases, or_left, or_right}
+use Rattle.std.proofs.lemmas.Bool.{and_from, and_parts, cases_Bool, cond-true, cond-false, cond_both, eq-eqb, eqb-true, false≢true, ltb-false, ltb-true, ne_eqb, or_cases, or_left, or_right}
 use Rattle.std.proofs.lemmas.List.Elements.{All-cons, All-filter, All-head, All-map, All-nil, All-push, All-tail}
 use Rattle.std.proofs.lemmas.List.Folds.{list_any-append}
 use Rattle.std.proofs.lemmas.List.Kept.{AllPairs-filter}
@@ -23,7 +23,7 @@ use Rattle.tuple_space.specs.declared.error.SpaceError.TheVariants.{Exhausted as
 use Rattle.tuple_space.specs.declared.hold.Hold.{Hold}
 use Rattle.tuple_space.specs.declared.lease.Lease.{Lease}
 use Rattle.tuple_space.specs.declared.write.Write.{Write}
-use Rattle.space_txn.specs.Live.{AreHeldBy, abort_each, ended_at, going_at, is_listed, is_live_in, others, renewed_rows, unmarked}
+use Rattle.space_txn.specs.Live.{AreHeldBy, abort_each, ended_at, going_at, is_live_in, others, unmarked}
 use Rattle.space_txn.specs.Machine.{Step, BeginStep, AdvanceStep, Call, inp_in, rdp_in, renew_txn, commit, abort, Answer, found, nothing, done, refused, commit_at, read_space, taken_space}
 use Rattle.space_txn.specs.Txn.{TxnValue}
 use Rattle.space_txn.specs.World.{IsWorld, World, abort_at, advance_at, begin_at, is_live_transaction, renew_at, with_space, world_of}
@@ -32,14 +32,16 @@ use Rattle.space_txn.specs.declared.error.TxnError.TheVariants.{Expired, Foreign
 use Rattle.space_txn.specs.declared.live.Live.{Live}
 use Rattle.space_txn.specs.declared.mark.Mark.{Mark}
 use Rattle.space_txn.specs.declared.txn.Found.TheVariants.{Entry as Stored, Own}
-use Rattle.space_txn.proofs.LiveLemmas.{all_renewed, number_stays, rising_renewed}
+use Rattle.space_txn.proofs.LiveLemmas.{all_renewed, live_renewed, rising_renewed}
+use Rattle.space_txn.proofs.RuleLemmas.{aborts_moment, put_each_moment}
 
 -- something holds of each hold of each entry
 abbrev pub OfHolds : (Hold → Type 0) → List Entry → Type 0
 OfHolds P es = All (λ (e : Entry). All P e.holds) es
 
-abbrev Listed : List Live → Hold → Type 0
-Listed live h = is_listed h.by live ≡ true
+-- a hold is that of a transaction which is live at a moment
+abbrev OfLive : ℕ → List Live → Hold → Type 0
+OfLive moment live h = is_live_in moment h.by live ≡ true
 
 holds_put : (P : Hold → Type 0) (s : SpaceValue) (tuple : List FieldValue) (lease : Lease) → OfHolds P s.entries → OfHolds P (put s tuple lease).entries
 holds_put P s tuple lease all =
@@ -107,54 +109,41 @@ any_kept {X} p q (x ∷ xs) all e =
     (λ t. or_right (p x) (list_any p left) (any_kept p q xs (All-tail Q x xs all) behind)) (λ f. any_kept p q xs (All-tail Q x xs all) behind))
     (or_cases (p x) (list_any p xs) e)
 
-listed_others : (n number : ℕ) (live : List Live) → number ≢ n → is_listed n live ≡ true → is_listed n (others number live) ≡ true
-listed_others n number live other listed =
-    any_kept (λ (t : Live). eqb t.number n) (λ (t : Live). not (eqb t.number number)) live
-    (λ k d lt is. ap not (ne_eqb _ _ (λ same. other (sym same ∙ eqb-true _ _ is)))) listed
+-- a transaction that is live stays so where another one's row is dropped
+live_others : (moment n number : ℕ) (live : List Live) → number ≢ n → is_live_in moment n live ≡ true → is_live_in moment n (others number live) ≡ true
+live_others moment n number live other lives =
+    any_kept (λ (t : Live). eqb t.number n && ltb moment t.end) (λ (t : Live). not (eqb t.number number)) live
+    (λ k d lt is. ap not (ne_eqb _ _ (λ same. other (sym same ∙ eqb-true _ _ (and_parts _ _ is).0)))) lives
 
--- a number that no ended transaction has is that of one that goes on
-going_told : (n moment : ℕ) (live : List Live) → All (λ (t : Live). t.number ≢ n) (ended_at moment live)
-    → All (λ (t : Live). eqb t.number n ≡ true → ltb moment t.end ≡ true) live
-going_told n moment [] none = All-nil (λ (t : Live). eqb t.number n ≡ true → ltb moment t.end ≡ true)
-going_told n moment (t ∷ ts) none =
+-- a number that was live and is that of no ended transaction is live at the later moment too
+live_going : (before moment n : ℕ) (live : List Live) → All (λ (t : Live). t.number ≢ n) (ended_at moment live)
+    → is_live_in before n live ≡ true → is_live_in moment n (going_at moment live) ≡ true
+live_going before moment n [] none lives = lives
+live_going before moment n (t ∷ ts) none lives =
     let N : Live → Type 0 = λ u. u.number ≢ n in
-    let Q : Live → Type 0 = λ u. eqb u.number n ≡ true → ltb moment u.end ≡ true in
+    let P : List Live → Type 0 = λ l. is_live_in moment n l ≡ true in
     let ended = ended_at moment ts in
+    let going = going_at moment ts in
+    let cases = or_cases (eqb t.number n && ltb before t.end) (is_live_in before n ts) lives in
     ⊎_elim
-    (λ goes. All-cons Q t ts (λ is. goes) (going_told n moment ts (subst (All N) (cond-false (not (ltb moment t.end)) (t ∷ ended) ended (ap not goes)) none)))
+    (λ goes.
+    let rest : All N ended = subst (All N) (cond-false (not (ltb moment t.end)) (t ∷ ended) ended (ap not goes)) none in
+    subst P (sym (cond-true (ltb moment t.end) (t ∷ going) going goes)) (⊎_elim
+    (λ here. or_left (eqb t.number n && ltb moment t.end) (is_live_in moment n going) (and_from _ _ (and_parts _ _ here).0 goes))
+    (λ behind. or_right (eqb t.number n && ltb moment t.end) (is_live_in moment n going) (live_going before moment n ts rest behind)) cases))
     (λ ends.
     let all : All N (t ∷ ended) = subst (All N) (cond-true (not (ltb moment t.end)) (t ∷ ended) ended (ap not ends)) none in
-    All-cons Q t ts (λ is. absurd (All-head N t ended all (eqb-true _ _ is))) (going_told n moment ts (All-tail N t ended all)))
+    subst P (sym (cond-false (ltb moment t.end) (t ∷ going) going ends)) (⊎_elim
+    (λ here. absurd (All-head N t ended all (eqb-true _ _ (and_parts _ _ here).0)))
+    (λ behind. live_going before moment n ts (All-tail N t ended all) behind) cases))
     (cases_Bool (ltb moment t.end))
 
-pub listed_going : (n moment : ℕ) (live : List Live) → All (λ (t : Live). t.number ≢ n) (ended_at moment live) → is_listed n live ≡ true
-    → is_listed n (going_at moment live) ≡ true
-listed_going n moment live none listed =
-    any_kept (λ (t : Live). eqb t.number n) (λ (t : Live). ltb moment t.end) live (going_told n moment live none) listed
-
-listed_renewed : (n number end : ℕ) (live : List Live) → is_listed n (renewed_rows number end live) ≡ is_listed n live
-listed_renewed n number end [] = refl
-listed_renewed n number end (t ∷ ts) =
-    ap (λ k. eqb k n || is_listed n (renewed_rows number end ts)) (number_stays number end t) ∙ ap (λ b. eqb t.number n || b) (listed_renewed n number end ts)
-
-listed_push : (n : ℕ) (live : List Live) (t : Live) → is_listed n live ≡ true → is_listed n (live ++ t ∷ []) ≡ true
-listed_push n live t listed =
-    list_any-append (λ (u : Live). eqb u.number n) live (t ∷ []) ∙ or_left (is_listed n live) (is_listed n (t ∷ [])) listed
-
--- a live transaction is listed
-listed_live : (moment n : ℕ) (live : List Live) → is_live_in moment n live ≡ true → is_listed n live ≡ true
-listed_live moment n [] e = e
-listed_live moment n (t ∷ ts) e = ⊎_elim
-    (λ here. or_left (eqb t.number n) (is_listed n ts) (first (eqb t.number n) here))
-    (λ behind. or_right (eqb t.number n) (is_listed n ts) (listed_live moment n ts behind))
-    (or_cases (eqb t.number n && ltb moment t.end) (is_live_in moment n ts) e)
-  where
-    first : (b : Bool) → (b && ltb moment t.end) ≡ true → b ≡ true
-    first true is = refl
-    first false is = is
+live_push : (moment n : ℕ) (live : List Live) (t : Live) → is_live_in moment n live ≡ true → is_live_in moment n (live ++ t ∷ []) ≡ true
+live_push moment n live t lives =
+    list_any-append (λ (u : Live). eqb u.number n && ltb moment u.end) live (t ∷ []) ∙ or_left (is_live_in moment n live) (is_live_in moment n (t ∷ [])) lives
 
 -- a world whose live transactions stay, with other entries
-with_held : (w : World) (s : SpaceValue) → IsWorld w → AreHeldBy w.live s.entries → IsWorld (with_space w s)
+with_held : (w : World) (s : SpaceValue) → IsWorld w → AreHeldBy s.moment w.live s.entries → IsWorld (with_space w s)
 with_held w s valid held = record {
   few_begun = valid.few_begun;
   few_commits = valid.few_commits;
@@ -165,7 +154,7 @@ with_held w s valid held = record {
 }
 
 -- a world in which some transactions ended
-with_fewer : (w : World) (s : SpaceValue) (commits : ℕ) (p : Live → Bool) → IsWorld w → commits ≤ most → AreHeldBy (filter p w.live) s.entries
+with_fewer : (w : World) (s : SpaceValue) (commits : ℕ) (p : Live → Bool) → IsWorld w → commits ≤ most → AreHeldBy s.moment (filter p w.live) s.entries
     → IsWorld (world_of s (filter p w.live) w.begun commits)
 with_fewer w s commits p valid few held = record {
   few_begun = valid.few_begun;
@@ -177,29 +166,31 @@ with_fewer w s commits p valid few held = record {
 }
 
 held_taken : (w : World) (number entry : ℕ) (taken : Bool) → IsWorld w → is_live_transaction w number ≡ true
-    → AreHeldBy w.live (changed entry (held_by number taken) w.space.entries)
+    → AreHeldBy w.space.moment w.live (changed entry (held_by number taken) w.space.entries)
 held_taken w number entry taken valid live =
-    holds_changed (Listed w.live) entry (held_by number taken)
-    (λ e all. one_more (Listed w.live) (record { by = number; taken = taken; permanent = is_permanent e.end }) (listed_live w.space.moment number w.live live) e.holds all)
+    let P = OfLive w.space.moment w.live in
+    holds_changed P entry (held_by number taken) (λ e all. one_more P (record { by = number; taken = taken; permanent = is_permanent e.end }) live e.holds all)
     w.space.entries valid.held
 
-held_read : (w : World) (number entry : ℕ) (marks : List Mark) → IsWorld w → is_live_transaction w number ≡ true → AreHeldBy w.live (read_space w.space number marks entry).entries
+held_read : (w : World) (number entry : ℕ) (marks : List Mark) → IsWorld w → is_live_transaction w number ≡ true
+    → AreHeldBy (read_space w.space number marks entry).moment w.live (read_space w.space number marks entry).entries
 held_read w number entry marks valid live =
     cond_both (is_some (find (λ (m : Mark). eqb m.entry entry) marks)) w.space (with_entries w.space (changed entry (held_by number false) w.space.entries))
-    (λ (s : SpaceValue). AreHeldBy w.live s.entries) (λ t. valid.held) (λ f. held_taken w number entry false valid live)
+    (λ (s : SpaceValue). AreHeldBy s.moment w.live s.entries) (λ t. valid.held) (λ f. held_taken w number entry false valid live)
 
-held_others : (w : World) (number : ℕ) (s : SpaceValue) → AreHeldBy w.live s.entries → AreHeldBy (others number w.live) (unmarked number s).entries
+held_others : (w : World) (number : ℕ) (s : SpaceValue) → AreHeldBy s.moment w.live s.entries → AreHeldBy s.moment (others number w.live) (unmarked number s).entries
 held_others w number s held =
-    let left = holds_unmarked (Listed w.live) number s held in
-    λ k d lt j c within. (let here = left k d lt j c within in listed_others _ number w.live here.1 here.0)
+    let left = holds_unmarked (OfLive s.moment w.live) number s held in
+    λ k d lt j c within. (let here = left k d lt j c within in live_others s.moment _ number w.live here.1 here.0)
 
 pub world_committed : (w : World) (t : TxnValue) → w.commits < most → IsWorld w → IsWorld (commit_at w t)
 world_committed w t few valid =
     let s = put_each w.space t.writes in
     let left = with_entries s (without_taken t.number s.entries) in
-    let all = holds_put_each (Listed w.live) w.space t.writes valid.held in
+    let before = holds_put_each (OfLive w.space.moment w.live) w.space t.writes valid.held in
+    let all : AreHeldBy s.moment w.live s.entries = subst (λ m. AreHeldBy m w.live s.entries) (sym (put_each_moment w.space t.writes)) before in
     with_fewer w (unmarked t.number left) (w.commits + 1) (λ (u : Live). not (eqb u.number t.number)) valid (omega arith)
-    (held_others w t.number left (All-filter (λ (e : Entry). not (is_taken_by t.number e)) (λ (e : Entry). All (Listed w.live) e.holds) s.entries all))
+    (held_others w t.number left (All-filter (λ (e : Entry). not (is_taken_by t.number e)) (λ (e : Entry). All (OfLive s.moment w.live) e.holds) s.entries all))
 
 pub world_aborted : (w : World) (number : ℕ) → IsWorld w → IsWorld (abort_at w number)
 world_aborted w number valid =
@@ -214,7 +205,7 @@ world_renewed w number asked valid =
       from_1 = all_renewed (λ n. 0 < n) number end w.live valid.from_1;
       given = all_renewed (λ n. n ≤ w.begun) number end w.live valid.given;
       rising = rising_renewed number end w.live valid.rising;
-      held = λ k d lt j c within. listed_renewed _ number end w.live ∙ valid.held k d lt j c within;
+      held = λ k d lt j c within. live_renewed w.space.moment _ number end w.live (valid.held k d lt j c within);
     }
 
 world_begun : (w : World) (asked : ℕ) → w.begun < most → IsWorld w → IsWorld (begin_at w asked)
@@ -226,24 +217,29 @@ world_begun w asked few valid =
       from_1 = All-push (λ (u : Live). 0 < u.number) w.live t valid.from_1 (omega arith);
       given = All-push (λ (u : Live). u.number ≤ w.begun + 1) w.live t (λ k d lt. (let le = valid.given k d lt in omega arith)) (omega arith);
       rising = all_pairs_push (λ (u : Live) (v : Live). u.number < v.number) w.live t valid.rising (λ k d lt. (let le = valid.given k d lt in omega arith));
-      held = λ k d lt j c within. listed_push _ w.live t (valid.held k d lt j c within);
+      held = λ k d lt j c within. live_push w.space.moment _ w.live t (valid.held k d lt j c within);
     }
 
--- the holds that are left where the moment moved on are of transactions that go on
-pub held_advanced : (w : World) (moment : ℕ) → AreHeldBy w.live w.space.entries → AreHeldBy (going_at moment w.live) (advanced moment (abort_each (ended_at moment w.live) w.space)).entries
-held_advanced w moment held =
+-- the holds that are left where the moment moved on are of transactions that are live then
+held_advanced : (w : World) (moment : ℕ) → w.space.moment ≤ moment → AreHeldBy w.space.moment w.live w.space.entries
+    → AreHeldBy (advanced moment (abort_each (ended_at moment w.live) w.space)).moment (going_at moment w.live) (advanced moment (abort_each (ended_at moment w.live) w.space)).entries
+held_advanced w moment le held =
     let s = abort_each (ended_at moment w.live) w.space in
-    let left = holds_aborted (Listed w.live) (ended_at moment w.live) w.space held in
-    let going : AreHeldBy (going_at moment w.live) s.entries = λ k d lt j c within. (let here = left k d lt j c within in listed_going _ moment w.live here.1 here.0) in
+    let same = aborts_moment (ended_at moment w.live) w.space in
+    let left = holds_aborted (OfLive w.space.moment w.live) (ended_at moment w.live) w.space held in
+    let going : AreHeldBy moment (going_at moment w.live) s.entries = λ k d lt j c within.
+    (let here = left k d lt j c within in live_going w.space.moment moment _ w.live here.1 here.0) in
     cond_both (ltb moment s.moment) s (record { entries = filter (is_there moment) s.entries; moment = moment; last = s.last })
-    (λ (v : SpaceValue). AreHeldBy (going_at moment w.live) v.entries)
-    (λ t. going) (λ f. All-filter (is_there moment) (λ (e : Entry). All (Listed (going_at moment w.live)) e.holds) s.entries going)
+    (λ (v : SpaceValue). AreHeldBy v.moment (going_at moment w.live) v.entries)
+    (λ t. let less : moment < s.moment = ltb-true moment s.moment t in absurd (omega arith))
+    (λ f. All-filter (is_there moment) (λ (e : Entry). All (OfLive moment (going_at moment w.live)) e.holds) s.entries going)
 
-world_advanced : (w : World) (moment : ℕ) → IsWorld w → IsWorld (advance_at w moment)
+pub world_advanced : (w : World) (moment : ℕ) → IsWorld w → IsWorld (advance_at w moment)
 world_advanced w moment valid =
     let s = advanced moment (abort_each (ended_at moment w.live) w.space) in
     cond_both (ltb moment w.space.moment) w (world_of s (going_at moment w.live) w.begun w.commits) IsWorld
-    (λ t. valid) (λ f. with_fewer w s w.commits (λ (u : Live). ltb moment u.end) valid valid.few_commits (held_advanced w moment valid.held))
+    (λ t. valid)
+    (λ f. with_fewer w s w.commits (λ (u : Live). ltb moment u.end) valid valid.few_commits (held_advanced w moment (ltb-false moment w.space.moment f) valid.held))
 
 -- each step of a transaction leads from a world to a world
 same_world : (old new : World) → new ≡ old → IsWorld old → IsWorld new
@@ -282,12 +278,12 @@ advance_world old moment (Err NotThere) new s valid = absurd s
 advance_world old moment (Err memory_used_up) new s valid = absurd s
 
 -- and so do the calls outside transactions
-to_space : (old : World) (s v : SpaceValue) → s ≡ v → IsWorld old → AreHeldBy old.live v.entries → IsWorld (with_space old s)
+to_space : (old : World) (s v : SpaceValue) → s ≡ v → IsWorld old → AreHeldBy v.moment old.live v.entries → IsWorld (with_space old s)
 to_space old s v is valid held = subst (λ (u : SpaceValue). IsWorld (with_space old u)) (sym is) (with_held old v valid held)
 
 pub out_world : (old : World) (tuple : List FieldValue) (lease : Lease) (result : Result ℕ (SpaceError × List FieldValue)) (s : SpaceValue)
     → space.Step old.space (space.out tuple lease) (space.out_reply result) s → IsWorld old → IsWorld (with_space old s)
-out_world old tuple lease (Ok number) s h valid = to_space old s _ h.2 valid (holds_put (Listed old.live) old.space tuple lease valid.held)
+out_world old tuple lease (Ok number) s h valid = to_space old s _ h.2 valid (holds_put (OfLive old.space.moment old.live) old.space tuple lease valid.held)
 out_world old tuple lease (Err back) s h valid = by back.0 h
   where
     by : (error : SpaceError) → space.Step old.space (space.out tuple lease) (space.refused error) s → IsWorld (with_space old s)
@@ -298,13 +294,13 @@ out_world old tuple lease (Err back) s h valid = by back.0 h
 pub inp_world : (old : World) (template : List PatternValue) (result : Option (ℕ × List FieldValue)) (s : SpaceValue)
     → space.Step old.space (space.inp template) (space.inp_reply result) s → IsWorld old → IsWorld (with_space old s)
 inp_world old template (Some what) s h valid =
-    to_space old s _ h.4 valid (All-filter (λ (e : Entry). not (eqb e.number h.0.number)) (λ (e : Entry). All (Listed old.live) e.holds) old.space.entries valid.held)
+    to_space old s _ h.4 valid (All-filter (λ (e : Entry). not (eqb e.number h.0.number)) (λ (e : Entry). All (OfLive old.space.moment old.live) e.holds) old.space.entries valid.held)
 inp_world old template None s h valid = to_space old s old.space h.1 valid valid.held
 
 pub renewal_world : (old : World) (number : ℕ) (lease : Lease) (result : Result (Unit {0}) SpaceError) (s : SpaceValue)
     → space.Step old.space (space.renew number lease) (space.done_reply result) s → IsWorld old → IsWorld (with_space old s)
 renewal_world old number lease (Ok u) s h valid =
-    to_space old s _ h.1 valid (holds_changed (Listed old.live) number (with_end (granted old.space.moment lease)) (λ e all. all) old.space.entries valid.held)
+    to_space old s _ h.1 valid (holds_changed (OfLive old.space.moment old.live) number (with_end (granted old.space.moment lease)) (λ e all. all) old.space.entries valid.held)
 renewal_world old number lease (Err NotThere) s h valid = to_space old s old.space h.1 valid valid.held
 renewal_world old number lease (Err numbers_used_up) s h valid = absurd h
 renewal_world old number lease (Err memory_used_up) s h valid = absurd h

@@ -16,13 +16,9 @@ pub record AreInOrder (rows : List (ℕ × Live)) : Type 0 where
 abbrev pub is_live_in : ℕ → ℕ → List Live → Bool
 is_live_in moment number live = list_any (λ t. (t.number == number) && nat_lt moment t.end) live
 
--- one of the live transactions has this number
-abbrev pub is_listed : ℕ → List Live → Bool
-is_listed number live = list_any (λ t. t.number == number) live
-
--- each hold of each entry is that of one of them
-abbrev pub AreHeldBy : List Live → List Entry → Type 0
-AreHeldBy live entries = All (λ e. All (λ h. is_listed h.by live ≡ true) e.holds) entries
+-- each hold of each entry is that of one of them which is live at the moment
+abbrev pub AreHeldBy : ℕ → List Live → List Entry → Type 0
+AreHeldBy moment live entries = All (λ e. All (λ h. is_live_in moment h.by live ≡ true) e.holds) entries
 
 -- a transaction's end moved to another one where that is later
 abbrev pub renewed_row : ℕ → ℕ → Live → Live

@@ -17,15 +17,15 @@ pub record World : Type 0 where
 abbrev pub world_of : SpaceValue → List Live → ℕ → ℕ → World
 world_of s live begun commits = record { space = s; live = live; begun = begun; commits = commits }
 
--- What holds of every world: the numbers of the live transactions rise, from 1 to the one given last, and only they hold
--- entries.
+-- What holds of every world: the numbers of the live transactions rise, from 1 to the one given last, and each hold
+-- of an entry is that of a transaction which is live at the space's moment.
 pub record IsWorld (w : World) : Type 0 where
   pub few_begun : w.begun ≤ most
   pub few_commits : w.commits ≤ most
   pub from_1 : All (λ t. 0 < t.number) w.live
   pub given : All (λ t. t.number ≤ w.begun) w.live
   pub rising : AllPairs (λ t u. t.number < u.number) w.live
-  pub held : AreHeldBy w.live w.space.entries
+  pub held : AreHeldBy w.space.moment w.live w.space.entries
 
 -- nothing has happened yet
 abbrev pub opening : World

@@ -1,12 +1,11 @@
 //! The space with transactions, and its calls.
 
-ghost use Rattle.std.specs.Prelude.{◌≡◌, ◌≤◌, ◌==◌, count_by, true, false, Contains, IfErr, IfOk, IfSome, IsPermutation, OnOk, MatchResult};
+ghost use Rattle.std.specs.Prelude.{◌≡◌, ◌≤◌, ◌==◌, count_by, true, false, Contains, IfErr, IfOk, IfSome, OnOk, MatchResult};
 ghost use Rattle.tuple_space.specs.Entry.{is_counted};
 ghost use Rattle.tuple_space.specs.Index.{class_of, has_class};
 ghost use Rattle.tuple_space.specs.Step as space;
 ghost use Rattle.tuple_space.specs.Space.{IsSpace, most};
-ghost use Rattle.tuple_space.specs.Rows.{permanent_tuples};
-ghost use Rattle.space_txn.specs.Content.{ChangesContent, SameItems, content_of};
+ghost use Rattle.space_txn.specs.Content.{ChangesContent, content_of};
 ghost use Rattle.space_txn.specs.Finding.{Finds, Shows};
 ghost use Rattle.space_txn.specs.World.{IsWorld, is_live_transaction, opening, with_space};
 ghost use Rattle.space_txn.specs.Machine.{IsAccepted, IsRefused, Step, BeginStep, AdvanceStep, abort, commit, end_answer, find_answer, inp_in, rdp_in, renew_answer, renew_txn};
@@ -34,8 +33,7 @@ pub struct TxnSpace {
 }
 
 impl Model for TxnSpace {
-    ghost use Rattle.tuple_space.specs.Rows.{permanent_tuples};
-    ghost use Rattle.space_txn.specs.Content.{ChangesContent, SameItems, content_of};
+    ghost use Rattle.space_txn.specs.Content.{ChangesContent, content_of};
     ghost use Rattle.space_txn.specs.World.{IsWorld, World, world_of};
 
     ghost Value = { World };
@@ -323,12 +321,11 @@ impl TxnSpace {
         Ok(Spent { lists })
     }
 
-    /// The entries, in any order.
-    pub fn rows(&self) -> &[Entry]
-        ensures entries { IsPermutation result.now self.now.space.entries }
-        ensures content { SameItems (permanent_tuples result.now) (content_of self.now) }
+    /// The entries, in order of number.
+    pub fn entries(&self) -> &[Entry]
+        ensures { result.now ≡ self.now.space.entries }
     {
-        self.space.rows()
+        self.space.entries()
     }
 
     /// Takes the permanent tuples out, in the order in which they were put out, held ones included. Refused memory, the
@@ -357,3 +354,6 @@ impl TxnSpace {
         }
     }
 }
+
+#[cfg(test)]
+mod tests;

@@ -1,6 +1,8 @@
-use Rattle.std.proofs.Common.{Bool, ◌≡◌, ℕ, zero, suc, ◌<◌, true, false, List, [], ◌∷◌, ◌++◌, length, ap, ◌∙◌, sym, refl, cond, eqb, arith}
-use Rattle.std.specs.Prelude.{not, ◌||◌, ◌≢◌, All}
+use Rattle.std.proofs.Common.{Bool, ◌≡◌, ℕ, zero, suc, ◌<◌, true, false, List, [], ◌∷◌, ◌++◌, length, ap, ◌∙◌, sym, refl, subst, cond, eqb, append-nil, drop_of_length-le, take, take_all, arith}
+use Rattle.std.specs.Prelude.{not, ◌||◌, ◌≢◌, All, filter}
+use Rattle.std.specs.List.Retain.{RetainsInTurn}
 use Rattle.std.proofs.Math.ListN.{set}
+use Rattle.std.specs.List.{refill}
 use Rattle.std.specs.List.{list_any, HoldsAt, AllWithin}
 use Rattle.std.proofs.lemmas.Bool.{cond-true, cond-false, eq-eqb, ne_eqb, false≢true}
 use Rattle.std.proofs.lemmas.List.Elements.{All-head, All-tail}
@@ -43,3 +45,18 @@ pub last_part : (held live left besides : Bool) → held ≡ true → live ≡ f
 last_part true true left besides e f g = absurd (false≢true (sym f))
 last_part true false left besides e f g = sym g
 last_part false live left besides e f g = absurd (false≢true e)
+
+-- what stays of a list where each call answers by a test, and leaves what it is shown and itself as they are
+pub kept_in_turn : {S X : Type 0} (R : S → X → Bool → S → X → Type 0) (test : X → Bool) (s : S) → ((x : X) (b : Bool) (t : S) (y : X) → R s x b t y → (b ≡ test x) × (t ≡ s) × (y ≡ x))
+    → (xs ys : List X) → RetainsInTurn R s xs ys → ys ≡ filter test xs
+kept_in_turn R test s answers [] ys h = h
+kept_in_turn R test s answers (x ∷ xs) ys h =
+    let told = answers x h.0 h.1 h.2 h.3 in
+    let behind = subst (λ t. RetainsInTurn R t xs h.4) told.1 h.5 in
+    h.6 ∙ ap (λ b. cond b (h.2 ∷ h.4) h.4) told.0 ∙ ap (λ y. cond (test x) (y ∷ h.4) h.4) told.2
+    ∙ ap (λ l. cond (test x) (x ∷ l) l) (kept_in_turn R test s answers xs h.4 behind)
+
+-- a list of the same length that was written back stands there
+pub written_back : {X : Type 0} (xs ws : List X) → length ws ≡ length xs → refill (length xs) xs ws ≡ ws
+written_back xs ws long =
+    ap (λ l. take (length xs) (ws ++ l)) (drop_of_length-le xs (omega arith)) ∙ ap (take (length xs)) (append-nil ws) ∙ take_all (length xs) ws (omega arith)

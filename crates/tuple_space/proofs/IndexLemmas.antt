@@ -1,6 +1,6 @@
 -- The buckets in which the numbers of entries stand.
 use Rattle.std.proofs.Common.{◌≡◌, ℕ, zero, suc, ◌+◌, ◌<◌, ◌≤◌, Bool, true, false, List, [], ◌∷◌, ◌++◌, length, get_or, refl, sym, ap, subst, ◌∙◌, cond, eqb, ⊎_elim, arith}
-use Rattle.std.specs.Prelude.{◌≢◌, ◌&&◌, ◌||◌, not, All, AllPairs, Contains, IfNone, IfSome, IsPermutation, Option, count_by, Some, None, OnErr, OnOk, Result, Ok, Err, filter, find, map, remove}
+use Rattle.std.specs.Prelude.{◌≢◌, ◌&&◌, ◌||◌, not, All, AllPairs, Contains, IfNone, Option, count_by, Some, None, OnErr, OnOk, Result, Ok, Err, filter, find, map, remove}
 use Rattle.std.specs.Global.{Vec}
 use Rattle.std.specs.Result.{is_err}
 use Rattle.std.specs.List.{AllWithin, AllZip, HoldsAt, list_any}
@@ -12,7 +12,6 @@ use Rattle.std.proofs.lemmas.List.Elements.{All-head, All-push, All-tail}
 use Rattle.std.proofs.lemmas.List.Folds.{list_any-append}
 use Rattle.std.proofs.lemmas.List.Kept.{AllPairs-filter}
 use Rattle.std.proofs.lemmas.List.Quantifiers.{all_pairs_push}
-use Rattle.std.proofs.lemmas.List.Sorted.{list_any-IsPermutation}
 use Rattle.std.proofs.lemmas.List.Sums.{sum_by-cons}
 use Rattle.std.proofs.lemmas.Map.Views.{any-filter_same}
 use Rattle.std.proofs.lemmas.Slice.Eq.{bytes_eq-Decides}
@@ -24,9 +23,7 @@ use Rattle.tuple_space.specs.Entry.{is_open, is_there}
 use Rattle.tuple_space.specs.Wanted.{is_wanted}
 use Rattle.tuple_space.specs.Held.{AreRising, is_among}
 use Rattle.tuple_space.specs.Index.{AreIndexed, AreOnce, AreOrdered, AreSame, AreUpTo, Class, HasNoneWanted, IsAdded, IsDropped, IsUnwanted, first_word, has_class, is_next, is_numbered, is_of, is_put, is_to_be, is_word, key, last_after, list_at, numbers_of, second_length, sought_word}
-use Rattle.tuple_space.specs.Entries.{AreApart}
-use Rattle.tuple_space.proofs.OrderLemmas.{apart_pairs, pairs_head, pairs_tail}
-use Rattle.tuple_space.proofs.RowLemmas.{HasNone, any_place, found_at, none_head, none_tail, only_at}
+use Rattle.tuple_space.proofs.RowLemmas.{HasNone, any_place, found_at, none_head, none_tail, only_at, rising_head, rising_tail}
 use Rattle.tuple_space.specs.Lease.{granted}
 use Rattle.tuple_space.specs.Rows.{IsRising, without}
 use Rattle.tuple_space.specs.Space.{SpaceValue, put}
@@ -564,15 +561,15 @@ none_numbered k n test (e ∷ es) none =
       ap (λ b. (not (test e) && b) || is_dropped test k n es) here ∙ ap (λ b. b || is_dropped test k n es) (and_false (not (test e))) ∙ rest.2,
     )
 
-kept_numbered : (k : Class) (n : ℕ) (test : Entry → Bool) (es : List Entry) → AllPairs (λ (x y : Entry). x.number ≢ y.number) es
+kept_numbered : (k : Class) (n : ℕ) (test : Entry → Bool) (es : List Entry) → IsRising es
     → (is_numbered k n es && not (is_dropped test k n es)) ≡ is_numbered k n (filter test es)
-kept_numbered k n test [] apart = refl
-kept_numbered k n test (e ∷ es) apart =
-    let rest = kept_numbered k n test es (pairs_tail e es apart) in
-    let others = pairs_head e es apart in
+kept_numbered k n test [] rising = refl
+kept_numbered k n test (e ∷ es) rising =
+    let rest = kept_numbered k n test es (rising_tail e es rising) in
+    let above = rising_head e es rising in
     ⊎_elim
     (λ same.
-    let none = none_numbered k n test es (λ i d lt is. others i d lt (eqb-true e.number n same ∙ sym is)) in
+    let none = none_numbered k n test es (λ i d lt is. (let less = above i d lt in let at = eqb-true e.number n same in omega arith)) in
     (tail_case (test e) (eqb e.number n && has_class k e.tuple) (is_numbered k n es) (is_numbered k n (filter test es)) (is_dropped test k n es) none.0 none.1 none.2)
     ∙ sym (kept_head (test e)))
     (λ other.
@@ -596,12 +593,12 @@ kept_numbered k n test (e ∷ es) apart =
     tail_case false false here kept gone h k g = rw (h, k) refl
 
 -- the entries that a test drops leave their buckets, where all others stay
-pub indexed_kept : (test : Entry → Bool) (es : List Entry) (old new : List Bucket) → AreApart es → AreOrdered new → AreOnce new
+pub indexed_kept : (test : Entry → Bool) (es : List Entry) (old new : List Bucket) → IsRising es → AreOrdered new → AreOnce new
     → ((k : Class) (n : ℕ) → is_put k n new ≡ (is_put k n old && not (is_dropped test k n es))) → AreIndexed old es → AreIndexed new (filter test es)
-indexed_kept test es old new apart ordered once gone h = record {
+indexed_kept test es old new rising ordered once gone h = record {
   once = once;
   rising = ordered;
-  exact = λ k n. gone k n ∙ ap (λ b. b && not (is_dropped test k n es)) (h.exact k n) ∙ kept_numbered k n test es (apart_pairs es apart);
+  exact = λ k n. gone k n ∙ ap (λ b. b && not (is_dropped test k n es)) (h.exact k n) ∙ kept_numbered k n test es rising;
 }
 
 -- one entry's number is taken out where the entry isn't kept
@@ -770,19 +767,7 @@ count_some test (x ∷ xs) (suc i) lt here =
 pub count_stands : (test : Entry → Bool) (es : List Entry) (x : Entry) → Contains es x → test x ≡ true → eqb (count_by test es) 0 ≡ false
 count_stands test es x stands passes = count_some test es stands.0 stands.1 (λ d. ap test (get_or_default es stands.0 d x stands.1 ∙ stands.2) ∙ passes)
 
--- the same entries in another order are under the same numbers
-pub indexed_moved : (buckets : List Bucket) (xs ys : List Entry) → IsPermutation xs ys → AreIndexed buckets xs → AreIndexed buckets ys
-indexed_moved buckets xs ys moves h = record {
-  once = h.once;
-  rising = h.rising;
-  exact = λ k n. h.exact k n ∙ list_any-IsPermutation (λ (e : Entry). eqb e.number n && has_class k e.tuple) xs ys moves;
-}
-
--- what follows where there is none, and where there is one
+-- what follows where there is none
 pub none_then : {A : Type 0} (P Q : Type 0) (o : Option A) → (P → Q) → IfNone o P → IfNone o Q
 none_then P Q None f h = f h
 none_then P Q (Some x) f h = tt
-
-pub some_then : {A : Type 0} (P Q : A → Type 0) (o : Option A) → ((x : A) → P x → Q x) → IfSome o P → IfSome o Q
-some_then P Q None f h = tt
-some_then P Q (Some x) f h = f x h

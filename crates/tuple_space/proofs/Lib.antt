@@ -7,7 +7,6 @@ pub mod IndexLemmas
 pub mod NumberLemmas
 pub mod OrderLemmas
 pub mod PartLemmas
-pub mod PermanentLemmas
 pub mod PlaceLemmas
 pub mod RowLemmas
 pub mod SpaceLemmas

@@ -6,7 +6,6 @@ pub mod Held
 pub mod Holds
 pub mod Index
 pub mod Lease
-pub mod Permanent
 pub mod Places
 pub mod Rows
 pub mod Space

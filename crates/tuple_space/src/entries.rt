@@ -1,11 +1,10 @@
-//! Entries, each found by its number in one look.
+//! Entries in order of number, each found by its number in one look.
 
-ghost use Rattle.std.specs.Prelude.{◌≡◌, ◌≢◌, ◌<◌, ◌≤◌, ◌+◌, ◌==◌, ◌&&◌, ◌++◌, ◌∷◌, [], true, All, IfNone, IfSome, IsOk, IsPermutation, OnErr, OnOk, filter, find, length};
+ghost use Rattle.std.specs.Prelude.{◌≡◌, ◌≢◌, ◌<◌, ◌≤◌, ◌+◌, ◌==◌, ◌&&◌, ◌++◌, ◌∷◌, [], true, All, IfNone, IfSome, IsOk, OnErr, OnOk, filter, find, length};
 ghost use Rattle.std.specs.List.{HoldsAt, list_any};
 ghost use Rattle.std.specs.Option.{option_copied};
-ghost use Rattle.tuple_space.specs.Entries.{AreApart};
 ghost use Rattle.tuple_space.specs.Entry.{is_held_by, is_there, unheld};
-ghost use Rattle.tuple_space.specs.Rows.{changed, without};
+ghost use Rattle.tuple_space.specs.Rows.{IsRising, changed, without};
 ghost use Rattle.tuple_space.specs.Space.{held_by};
 
 use crate::admission::is_there;
@@ -18,8 +17,7 @@ use indexmap::map::IntoValues;
 use std::alloc::{AllocError, Global};
 use std::marker::Model;
 
-/// Entries, each under its number. A contract sees them in order of number; they lie in any order, since the last takes the place
-/// of one that leaves, so that none takes time for those behind it.
+/// Entries in order of number, each under its own. Where one leaves, those behind it close up.
 #[derive(Debug, Drop)]
 pub(crate) struct Entries {
     by_number: IndexMap<u64, Entry, NumberHasher>,
@@ -27,13 +25,14 @@ pub(crate) struct Entries {
 
 impl Model for Entries {
     ghost use Rattle.indexmap.specs.IndexMap.{spare, values};
-    ghost use Rattle.tuple_space.specs.Entries.{AreApart, AreNumbered, EntriesValue, in_order};
+    ghost use Rattle.tuple_space.specs.Entries.{AreNumbered, EntriesValue};
+    ghost use Rattle.tuple_space.specs.Rows.{IsRising};
 
     ghost Value = { EntriesValue };
 
-    ghost view = { λ e. record { items = in_order (values e.by_number); rows = values e.by_number; room = spare e.by_number } };
+    ghost view = { λ e. record { items = values e.by_number; room = spare e.by_number } };
 
-    ghost invariant = { λ e. AreNumbered (λ x. x.number) e.by_number.entries × AreApart (values e.by_number) };
+    ghost invariant = { λ e. AreNumbered (λ x. x.number) e.by_number.entries × IsRising (values e.by_number) };
 }
 
 impl Entries {
@@ -51,11 +50,10 @@ impl Entries {
         *self.by_number.allocator()
     }
 
-    /// The entries as they lie.
-    pub(crate) fn rows(&self) -> &[Entry]
-        ensures rows { result.now ≡ self.now.rows }
-        ensures same { IsPermutation result.now self.now.items }
-        ensures apart { AreApart result.now }
+    /// The entries, in order of number.
+    pub(crate) fn as_slice(&self) -> &[Entry]
+        ensures items { result.now ≡ self.now.items }
+        ensures rising { IsRising result.now }
     {
         self.by_number.values().as_slice()
     }
@@ -78,11 +76,11 @@ impl Entries {
         self.by_number.insert(entry.number, entry).unwrap();
     }
 
-    /// Where the entry of a number lies.
+    /// The place of the entry of a number.
     fn place_of(&self, number: u64) -> Option<usize>
         ensures none { IfNone result (All (λ e. e.number ≢ number) self.now.items) }
-        ensures place { IfSome result (λ i. i < length self.now.rows) }
-        ensures found { IfSome result (HoldsAt (λ e. e.number ≡ number) self.now.rows) }
+        ensures place { IfSome result (λ i. i < length self.now.items) }
+        ensures found { IfSome result (HoldsAt (λ e. e.number ≡ number) self.now.items) }
     {
         self.by_number.get_index_of(&number)
     }
@@ -92,12 +90,12 @@ impl Entries {
         ensures { option_copied result ≡ find (λ e. e.number == number) self.now.items }
     {
         match self.place_of(number) {
-            Some(place) => Some(&self.rows()[place]),
+            Some(place) => Some(&self.as_slice()[place]),
             None => None,
         }
     }
 
-    /// Takes out the entry of a number.
+    /// Takes out the entry of a number; those behind it close up.
     pub(crate) fn remove(&mut self, number: u64) -> Option<Entry>
         ensures value { result ≡ find (λ e. e.number == number) self.old.items }
         ensures rest { self.new.items ≡ without number self.old.items }
@@ -105,7 +103,7 @@ impl Entries {
         let Some(place) = self.place_of(number) else {
             return None;
         };
-        match self.by_number.swap_remove_index(place) {
+        match self.by_number.shift_remove_index(place) {
             Some((_, entry)) => Some(entry),
             None => unreachable!(),
         }
@@ -160,8 +158,7 @@ impl Entries {
 
     /// Keeps the entries that are there.
     pub(crate) fn keep_there(&mut self, moment: u64)
-        ensures items { self.new.items ≡ filter (is_there moment) self.old.items }
-        ensures rows { self.new.rows ≡ filter (is_there moment) self.old.rows }
+        ensures { self.new.items ≡ filter (is_there moment) self.old.items }
     {
         self.by_number.retain(
             |_number: &u64, entry: &mut Entry| -> bool
@@ -170,11 +167,9 @@ impl Entries {
         );
     }
 
-    /// The entries by value, as they lie.
+    /// The entries by value, in order of number.
     pub(crate) fn into_values(self) -> IntoValues<u64, Entry>
-        ensures rows { result ≡ self.rows }
-        ensures same { IsPermutation result self.items }
-        ensures apart { AreApart result }
+        ensures { result ≡ self.items }
     {
         let Entries { by_number } = self;
         by_number.into_values()

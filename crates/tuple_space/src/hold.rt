@@ -1,15 +1,16 @@
 //! Those who hold an entry.
 
-ghost use Rattle.std.specs.Prelude.{◌≡◌, ◌≢◌, ◌<◌, ◌==◌, ◌&&◌, [], true, not, length, MatchOption, OnOk, OnErr, IsOk};
+ghost use Rattle.std.specs.Prelude.{◌≡◌, ◌≢◌, ◌<◌, ◌≤◌, ◌==◌, ◌&&◌, [], true, not, length, MatchOption, OnOk, OnErr, IsOk};
 ghost use Rattle.std.specs.List.{list_any, list_all, find, AllWithin, HoldsAt};
 ghost use Rattle.std.specs.Option.{option_copied};
 ghost use Rattle.tuple_space.specs.Holds.{holds_with, holds_without};
 
+use smallvec::SmallVec;
 use std::alloc::{AllocError, Global};
 use std::marker::Model;
 
 /// One holder's hold of an entry.
-#[derive(Clone, Copy, Debug, PartialEq, Eq)]
+#[derive(Clone, Copy, Debug, Default, PartialEq, Eq)]
 pub struct Hold {
     /// The number of the holder.
     pub by: u64,
@@ -19,19 +20,21 @@ pub struct Hold {
     pub permanent: bool,
 }
 
-/// The holds of one entry.
+/// The holds of one entry, the first of which takes no memory: most entries that are held have one holder.
 #[derive(Debug, Drop)]
 pub struct Holds {
-    rows: Vec<Hold>,
+    rows: SmallVec<Hold, 1>,
 }
 
 impl Model for Holds {
-    ghost use Rattle.std.specs.Prelude.{List};
+    ghost use Rattle.std.specs.Prelude.{◌≤◌, List};
     ghost use Rattle.tuple_space.specs.declared.hold.Hold.{Hold};
 
     ghost Value = { List Hold };
 
     ghost view = { λ h. h.rows.items };
+
+    ghost invariant = { λ h. 1 ≤ h.rows.capacity };
 }
 
 impl Holds {
@@ -40,7 +43,7 @@ impl Holds {
         ensures { result ≡ [] }
     {
         Holds {
-            rows: Vec::new(alloc),
+            rows: SmallVec::new(alloc),
         }
     }
 
@@ -100,11 +103,13 @@ impl Holds {
         &self.rows
     }
 
-    /// Puts a hold in the place of its holder's older one, which takes no memory, or behind all others.
+    /// Puts a hold in the place of its holder's older one, or behind all others. It takes no memory in the place of an older one,
+    /// nor where nobody holds the entry.
     pub fn put(&mut self, hold: Hold) -> Result<(), AllocError>
         ensures ok { OnOk result (self.new ≡ holds_with hold self.old) }
         ensures err { OnErr result (self.new ≡ self.old) }
         ensures ready { list_any (λ h. h.by == hold.by) self.old ≡ true → IsOk result }
+        ensures first { self.old ≡ [] → IsOk result }
     {
         put_hold(&mut self.rows, hold)
     }
@@ -166,10 +171,13 @@ fn place_by(rows: &[Hold], holder: u64) -> Option<usize>
     rows.iter().position(|hold| hold.by == holder)
 }
 
-fn put_hold(rows: &mut Vec<Hold>, hold: Hold) -> Result<(), AllocError>
+fn put_hold(rows: &mut SmallVec<Hold, 1>, hold: Hold) -> Result<(), AllocError>
+    requires { 1 ≤ rows.old.capacity }
     ensures ok { OnOk result (rows.new.items ≡ holds_with hold rows.old.items) }
     ensures err { OnErr result (rows.new.items ≡ rows.old.items) }
     ensures ready { list_any (λ h. h.by == hold.by) rows.old.items ≡ true → IsOk result }
+    ensures first { rows.old.items ≡ [] → IsOk result }
+    ensures capacity { 1 ≤ rows.new.capacity }
 {
     match place_by(rows, hold.by) {
         Some(place) => rows[place] = hold,
@@ -178,8 +186,13 @@ fn put_hold(rows: &mut Vec<Hold>, hold: Hold) -> Result<(), AllocError>
     Ok(())
 }
 
-fn drop_by(rows: &mut Vec<Hold>, holder: u64)
-    ensures { rows.new.items ≡ holds_without holder rows.old.items }
+fn drop_by(rows: &mut SmallVec<Hold, 1>, holder: u64)
+    ensures items { rows.new.items ≡ holds_without holder rows.old.items }
+    ensures capacity { rows.new.capacity ≡ rows.old.capacity }
 {
-    rows.retain(|hold| hold.by != holder);
+    rows.retain(
+        |hold: &mut Hold| -> bool
+            ensures { (result ≡ not (hold.old.by == holder)) × (hold.new ≡ hold.old) }
+        { hold.by != holder },
+    );
 }

@@ -1,9 +1,9 @@
 //! What the calls of the space do to the buckets.
 
 ghost use Rattle.std.specs.Prelude.{ℕ, ◌≡◌, ◌+◌, ◌≤◌, ◌==◌, ◌&&◌, ◌||◌, true, not, IfOk, OnErr, OnOk, filter};
-ghost use Rattle.tuple_space.specs.Entries.{AreApart};
 ghost use Rattle.tuple_space.specs.Entry.{is_there};
 ghost use Rattle.tuple_space.specs.Index.{AreIndexed, AreOnce, AreOrdered, AreUpTo, Class, has_class, is_next, is_put, is_to_be, last_after};
+ghost use Rattle.tuple_space.specs.Rows.{IsRising};
 ghost use Rattle.tuple_space.specs.Writes.{put_count};
 ghost use Rattle.tuple_space.specs.Space.{most};
 
@@ -28,7 +28,7 @@ fn drop_if_gone(buckets: &mut Vec<Bucket>, entry: &Entry, moment: u64)
 
 /// Takes the numbers of the entries that aren't there out of their buckets.
 pub(crate) fn drop_gone(buckets: &mut Vec<Bucket>, entries: &[Entry], moment: u64)
-    requires apart { AreApart entries.now }
+    requires rising { IsRising entries.now }
     requires indexed { AreIndexed buckets.old.items entries.now }
     ensures { AreIndexed buckets.new.items (filter (is_there moment) entries.now) }
 {

@@ -59,14 +59,8 @@ pub(crate) fn change_end(entries: &mut Entries, number: u64, moment: u64, end: L
 pub(crate) fn count_of(entries: &Entries, moment: u64, template: &Template) -> u64
     ensures { result ≡ count_by (is_counted moment template.now) entries.now.items }
 {
-    count_among(entries.rows(), moment, template)
-}
-
-/// The same of entries in any order.
-fn count_among(entries: &[Entry], moment: u64, template: &Template) -> u64
-    ensures { result ≡ count_by (is_counted moment template.now) entries.now }
-{
     let count = entries
+        .as_slice()
         .iter()
         .filter(|entry| is_counted(entry, moment, template))
         .count();

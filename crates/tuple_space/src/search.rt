@@ -31,8 +31,8 @@ fn is_wanted(entry: &Entry, wanted: Wanted, moment: u64, template: &Template) ->
     }
 }
 
-/// An entry that is wanted: of several the one that lies last.
-fn last_lying_wanted<'a>(
+/// The newest entry that is wanted.
+fn newest_wanted<'a>(
     entries: &'a [Entry],
     wanted: Wanted,
     moment: u64,
@@ -163,7 +163,7 @@ fn wanted_of_word<'a>(
 }
 
 /// An entry that is wanted. Where the template asks for a word first, that is one with the longest list as its second field, and
-/// the newest of these; else any.
+/// the newest of these; else the newest.
 pub(crate) fn find_wanted<'a>(
     entries: &'a Entries,
     buckets: &[Bucket],
@@ -179,7 +179,7 @@ pub(crate) fn find_wanted<'a>(
 {
     match sought_word(template) {
         Some(word) => wanted_of_word(entries, buckets, word, wanted, moment, template),
-        None => last_lying_wanted(entries.rows(), wanted, moment, template),
+        None => newest_wanted(entries.as_slice(), wanted, moment, template),
     }
 }
 

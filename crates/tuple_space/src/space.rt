@@ -1,6 +1,6 @@
 //! The space and its calls.
 
-ghost use Rattle.std.specs.Prelude.{◌≡◌, ◌≤◌, ◌+◌, ◌^◌, ◌==◌, ◌&&◌, true, IsOk, IfErr, IfSome, IfNone, IfOk, IsPermutation, OnErr, OnOk, count_by, find, option_map};
+ghost use Rattle.std.specs.Prelude.{◌≡◌, ◌≤◌, ◌+◌, ◌^◌, ◌==◌, ◌&&◌, true, IsOk, IfErr, IfSome, IfNone, IfOk, OnErr, OnOk, count_by, find, option_map};
 ghost use Rattle.std.specs.Option.{option_copied};
 ghost use Rattle.tuple_space.specs.Entry.{is_counted, is_held_by};
 ghost use Rattle.tuple_space.specs.Space.{IsSpace, held_by, most, opening, released, with_entries, without_taken};
@@ -159,9 +159,9 @@ impl Space {
         if moment < self.first_end {
             return Ok(());
         }
-        drop_gone(&mut self.buckets, self.entries.rows(), moment);
+        drop_gone(&mut self.buckets, self.entries.as_slice(), moment);
         self.entries.keep_there(moment);
-        self.first_end = first_end(self.entries.rows());
+        self.first_end = first_end(self.entries.as_slice());
         Ok(())
     }
 
@@ -189,7 +189,7 @@ impl Space {
     }
 
     /// An entry that can be had under a claim. Where the template asks for a word first, it is one with the longest list as its
-    /// second field, and the newest of these; else any.
+    /// second field, and the newest of these; else the newest.
     pub fn search(&self, claim: Claim, template: &Template) -> Option<&Entry>
         ensures found { IfSome result (λ e. IsHad self.now claim template.now e.now) }
         ensures none { IfNone result (NothingHad self.now claim template.now) }
@@ -210,11 +210,11 @@ impl Space {
         self.entry_numbered(id.number())
     }
 
-    /// The entries, in any order.
-    pub fn rows(&self) -> &[Entry]
-        ensures { IsPermutation result.now self.now.entries }
+    /// The entries, in rising order of number.
+    pub fn entries(&self) -> &[Entry]
+        ensures { result.now ≡ self.now.entries }
     {
-        self.entries.rows()
+        self.entries.as_slice()
     }
 
     /// Who holds which entries: beside each holder the numbers of all that it holds, in rising order, and no others.
@@ -340,11 +340,7 @@ impl Space {
         ensures handed_back { IfErr result (λ back. back.1 ≡ self) }
     {
         let alloc = self.entries.allocator();
-        let count = self.entries.rows().len();
-        let Ok(numbered) = Vec::with_capacity(alloc, count) else {
-            return Err((AllocError, self));
-        };
-        let Ok(room) = Vec::with_capacity(alloc, count) else {
+        let Ok(room) = Vec::with_capacity(alloc, self.entries.as_slice().len()) else {
             return Err((AllocError, self));
         };
         let Space {
@@ -355,6 +351,9 @@ impl Space {
             moment: _,
             last: _,
         } = self;
-        Ok(permanent_of(entries, numbered, room))
+        Ok(permanent_of(entries, room))
     }
 }
+
+#[cfg(test)]
+mod tests;

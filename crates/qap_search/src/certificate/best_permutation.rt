@@ -1,9 +1,9 @@
 //! The best permutation among the tuples of a search.
 
 ghost use Rattle.std.specs.Prelude.{◌≡◌, ◌≢◌, All, Contains, IfOk, List, MatchOption, ℕ, ℤ};
-ghost use Rattle.qap_search.specs.CutTree.{IsCutTree};
-ghost use Rattle.qap_search.specs.DecidedTuples.{best_of};
-ghost use Rattle.qap_search.specs.Search.{Search};
+ghost use Rattle.qap_search.specs.Law.CutTree.{IsCutTree};
+ghost use Rattle.qap_search.specs.Tuples.DecidedTuples.{best_of};
+ghost use Rattle.qap_search.specs.Law.Search.{Search};
 ghost use Rattle.tuple_match.specs.FieldValue.{FieldValue};
 ghost use Rattle.number_list.specs.Numbers.{numbers_in};
 

@@ -9,8 +9,8 @@ ghost use Rattle.qap_proof.specs.NodeLine.{split_of};
 ghost use Rattle.gilmore_lawler.specs.Closing.{AreDuals};
 ghost use Rattle.qap_proof.specs.Shape.{AllHaveShape, HasShape, free_count};
 ghost use Rattle.qap_proof.specs.Tree.{IsFreeOn, Place, node_at};
-ghost use Rattle.qap_search.specs.LeafBounds.{shown, shown_by_all};
-ghost use Rattle.qap_search.specs.SearchTree.{AreTrees, IsTree, of_proof, of_proofs, readable};
+ghost use Rattle.qap_search.specs.Certificate.LeafBounds.{shown, shown_by_all};
+ghost use Rattle.qap_search.specs.Law.SearchTree.{AreTrees, IsTree, of_proof, of_proofs, readable};
 
 use crate::certificate::tree_building::pair_with;
 use crate::tuples::composing::free_others;

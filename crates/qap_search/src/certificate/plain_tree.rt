@@ -4,7 +4,7 @@ ghost use Rattle.std.specs.Prelude.{◌≡◌, ◌≢◌, ◌⊎◌, ℕ, MatchO
 ghost use Rattle.qap_cert.specs.Tree.{Node as CertNode, Nodes as CertNodes, node_of as cert_node_of, nodes_of as cert_nodes_of};
 ghost use Rattle.qap_proof.specs.Memory.{node_of, nodes_of};
 ghost use Rattle.qap_proof.specs.NodeLine.{split_of};
-ghost use Rattle.qap_search.specs.SearchTree.{as_proof, as_proofs, on_facility};
+ghost use Rattle.qap_search.specs.Law.SearchTree.{as_proof, as_proofs, on_facility};
 ghost use Rattle.qap_search.specs.declared.certificate.error.AssembleError.TheVariants.{NotATree, OutOfMemory};
 
 use crate::certificate::error::AssembleError;

@@ -10,10 +10,10 @@ ghost use Rattle.qap_proof.specs.Memory.{node_of};
 ghost use Rattle.qap_proof.specs.NodeLine.{split_of as said_of};
 ghost use Rattle.qap_proof.specs.Shape.{free_count};
 ghost use Rattle.qap_proof.specs.Tree.{IsFreeOn, Place, child as child_place, facility_on, location_on, mirrored, node_at, whole};
-ghost use Rattle.qap_search.specs.TreeBuilding.{AreFlags, BeginWith, BeginWithNone, BeginsByTurns, EndsWith, IsBuildFault, IsFlag, ahead};
-ghost use Rattle.qap_search.specs.DecidedTuples.{decision_tuple, pruned_of, split_of};
-ghost use Rattle.qap_search.specs.Piece.{node_list, split_cutting};
-ghost use Rattle.qap_search.specs.SearchTree.{IsReadableSplit};
+ghost use Rattle.qap_search.specs.Certificate.TreeBuilding.{AreFlags, BeginWith, BeginWithNone, BeginsByTurns, EndsWith, IsBuildFault, IsFlag, ahead};
+ghost use Rattle.qap_search.specs.Tuples.DecidedTuples.{decision_tuple, pruned_of, split_of};
+ghost use Rattle.qap_search.specs.Tuples.Piece.{node_list, split_cutting};
+ghost use Rattle.qap_search.specs.Law.SearchTree.{IsReadableSplit};
 ghost use Rattle.qap_search.specs.declared.certificate.error.AssembleError.TheVariants.{NotATree, OutOfMemory};
 
 use crate::certificate::assembling::permutation_of;

@@ -10,10 +10,10 @@ ghost use Rattle.qap_proof.specs.NodeLine.{pair_of};
 ghost use Rattle.gilmore_lawler.specs.Closing.{AreDuals};
 ghost use Rattle.qap_proof.specs.Shape.{free_count};
 ghost use Rattle.qap_proof.specs.Tree.{IsFreeOn, Pair};
-ghost use Rattle.qap_search.specs.Completion.{IsFreeOf, IsMatching};
-ghost use Rattle.qap_search.specs.Hand.{cuts};
-ghost use Rattle.qap_search.specs.Images.{AreSymmetries};
-ghost use Rattle.qap_search.specs.Thought.{IsBranch, branch_value};
+ghost use Rattle.qap_search.specs.Node.Completion.{IsFreeOf, IsMatching};
+ghost use Rattle.qap_search.specs.Worker.Hand.{cuts};
+ghost use Rattle.qap_search.specs.Node.Images.{AreSymmetries};
+ghost use Rattle.qap_search.specs.Node.Thought.{IsBranch, branch_value};
 
 use crate::node::images::{Image, InstanceSymmetries, image_at, images_on};
 use qap_cost::{Instance, Matrix, Partial};

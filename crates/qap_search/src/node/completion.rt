@@ -3,7 +3,7 @@
 ghost use Rattle.std.specs.Prelude.{◌≡◌, ◌<◌, ℕ, IfOk, OnOk, length, map, slice_index, vec_len};
 ghost use Rattle.qap_cost.specs.Bijection.{AreDifferent, IsPerm};
 ghost use Rattle.qap_cost.specs.Placement.{IsPlacement};
-ghost use Rattle.qap_search.specs.Completion.{IsCompletion, IsFreeOf, IsMatching, Puts};
+ghost use Rattle.qap_search.specs.Node.Completion.{IsCompletion, IsFreeOf, IsMatching, Puts};
 
 use crate::node::branching::Free;
 use qap_cost::{Partial, Perm};

@@ -3,10 +3,10 @@
 ghost use Rattle.std.specs.Prelude.{◌≡◌, ◌<ℤ◌, Bool, Some, IfOk, MatchOption, length};
 ghost use Rattle.qap_cost.specs.Instance.{Problem};
 ghost use Rattle.qap_cost.specs.Placement.{IsPlacement};
-ghost use Rattle.qap_search.specs.Decision.{DecidesBeside, DecidesBetter, DecidesBy, IsBetterOf, IsOn, split_by};
-ghost use Rattle.qap_search.specs.Piece.{pieces};
-ghost use Rattle.qap_search.specs.Replacement.{Best};
-ghost use Rattle.qap_search.specs.Thought.{IsThought, branch_value, candidate_of, thought_on};
+ghost use Rattle.qap_search.specs.Node.Decision.{DecidesBeside, DecidesBetter, DecidesBy, IsBetterOf, IsOn, split_by};
+ghost use Rattle.qap_search.specs.Tuples.Piece.{pieces};
+ghost use Rattle.qap_search.specs.Law.Replacement.{Best};
+ghost use Rattle.qap_search.specs.Node.Thought.{IsThought, branch_value, candidate_of, thought_on};
 
 use crate::node::branching::Branch;
 use crate::node::thought::Thought;

@@ -3,8 +3,8 @@
 ghost use Rattle.std.specs.Prelude.{◌≡◌, ◌≢◌, ◌<◌, ◌≤◌, ℕ, IfOk, MatchBool, MatchOption, pos};
 ghost use Rattle.number_list.specs.Numbers.{numbers_in};
 ghost use Rattle.qap_cost.specs.Placement.{IsFreeFacility, IsFreeLocation, IsPlacement, Placement};
-ghost use Rattle.qap_search.specs.NodeList.{IsNextOf, IsReadFrom};
-ghost use Rattle.qap_search.specs.Piece.{node_list};
+ghost use Rattle.qap_search.specs.Node.NodeList.{IsNextOf, IsReadFrom};
+ghost use Rattle.qap_search.specs.Tuples.Piece.{node_list};
 
 use crate::certificate::tree_building::free_facility;
 use number_list::Numbers;

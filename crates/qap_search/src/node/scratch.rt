@@ -3,9 +3,9 @@
 ghost use Rattle.std.specs.Prelude.{◌≡◌, ◌*◌, ◌^◌, IfOk, IfSome};
 ghost use Rattle.qap_cost.specs.Range.{AllWithin};
 ghost use Rattle.gilmore_lawler.specs.ReducedMatrix.{IsReduced};
-ghost use Rattle.qap_search.specs.Hand.{cuts};
-ghost use Rattle.qap_search.specs.Images.{AreSymmetries};
-ghost use Rattle.qap_search.specs.Thought.{IsThought};
+ghost use Rattle.qap_search.specs.Worker.Hand.{cuts};
+ghost use Rattle.qap_search.specs.Node.Images.{AreSymmetries};
+ghost use Rattle.qap_search.specs.Node.Thought.{IsThought};
 
 use crate::node::branching::{Assigned, Free, Guide, branch_of};
 use crate::node::completion::completed;

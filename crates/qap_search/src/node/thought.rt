@@ -28,8 +28,8 @@ pub struct Thought {
 
 impl Thought {
     ghost use Rattle.std.specs.Prelude.{false};
-    ghost use Rattle.qap_search.specs.Hand.{cuts};
-    ghost use Rattle.qap_search.specs.Thought.{IsThought};
+    ghost use Rattle.qap_search.specs.Worker.Hand.{cuts};
+    ghost use Rattle.qap_search.specs.Node.Thought.{IsThought};
 
     /// What is worked out about the node from its reduced matrix; it is to be split by the greatest matched entry.
     pub fn new(

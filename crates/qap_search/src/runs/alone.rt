@@ -2,18 +2,18 @@
 
 ghost use Rattle.std.specs.Prelude.{◌≡◌, ◌∷◌, [], IfOk, MatchResult, None, length};
 ghost use Rattle.std.specs.Arc.{arc_value};
-ghost use Rattle.qap_search.specs.Answer.{IsAnswer, IsSolveFault};
-ghost use Rattle.qap_search.specs.Outcome.{IsEnded};
-ghost use Rattle.qap_search.specs.Opening.{IsOpening};
-ghost use Rattle.qap_search.specs.Search.{Search, whole};
-ghost use Rattle.qap_search.specs.SearchLaw.{IsLawOf, IsSearchLaw};
+ghost use Rattle.qap_search.specs.Runs.Answer.{IsAnswer, IsSolveFault};
+ghost use Rattle.qap_search.specs.Runs.Outcome.{IsEnded};
+ghost use Rattle.qap_search.specs.Runs.Opening.{IsOpening};
+ghost use Rattle.qap_search.specs.Law.Search.{Search, whole};
+ghost use Rattle.qap_search.specs.Law.SearchLaw.{IsLawOf, IsSearchLaw};
 ghost use Rattle.space_txn.specs.Content.{content_of};
 
-use crate::certificate::closers::One;
+use crate::certificate::closing_threads::One;
 use crate::runs::answer::{Answer, SolveError};
 use crate::runs::opening::opening_space;
-use crate::runs::outcome::answer_of;
 use crate::runs::run::Run;
+use crate::runs::run_ending::answer_of;
 use crate::tuples::templates::node_template;
 use crate::worker::gate::{Always, Kind};
 use crate::worker::hand::Hand;

@@ -6,8 +6,8 @@ ghost use Rattle.qap_cost.specs.Objective.{Permutes};
 ghost use Rattle.tuple_space.specs.Space.{most, put};
 ghost use Rattle.space_txn.specs.World.{with_space};
 ghost use Rattle.tuple_space.specs.declared.lease.Lease.TheVariants.{Forever};
-ghost use Rattle.qap_search.specs.Opening.{IsOpening};
-ghost use Rattle.qap_search.specs.Search.{best_with, search_of, whole};
+ghost use Rattle.qap_search.specs.Runs.Opening.{IsOpening};
+ghost use Rattle.qap_search.specs.Law.Search.{best_with, search_of, whole};
 
 use crate::law::opening_law;
 use crate::tuples::composing::{tuple_of_best, tuple_of_node};

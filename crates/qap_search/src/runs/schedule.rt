@@ -2,12 +2,12 @@
 
 ghost use Rattle.std.specs.Prelude.{◌≡◌, ◌<◌, ◌≤◌, false, All, IfOk, OnOk, ℕ, map, replicate, slice_get, vec_len};
 ghost use Rattle.std.specs.Arc.{arc_value};
-ghost use Rattle.qap_search.specs.Hand.{is_due};
-ghost use Rattle.qap_search.specs.Interleaving.{IsRun, Moment, Moves, PostValue, TurnOf, beginner, report_of, without_worker};
+ghost use Rattle.qap_search.specs.Worker.Hand.{is_due};
+ghost use Rattle.qap_search.specs.Runs.Interleaving.{IsRun, Moment, Moves, PostValue, TurnOf, beginner, report_of, without_worker};
 ghost use Rattle.shared_space.specs.Place.{Place};
-ghost use Rattle.qap_search.specs.Opening.{IsOpening};
-ghost use Rattle.qap_search.specs.Search.{whole};
-ghost use Rattle.qap_search.specs.SearchLaw.{IsLawOf, IsSearchLaw};
+ghost use Rattle.qap_search.specs.Runs.Opening.{IsOpening};
+ghost use Rattle.qap_search.specs.Law.Search.{whole};
+ghost use Rattle.qap_search.specs.Law.SearchLaw.{IsLawOf, IsSearchLaw};
 
 use crate::runs::alone::shared_rows;
 use crate::runs::opening::opening_space;

@@ -2,9 +2,9 @@
 
 ghost use Rattle.std.specs.Prelude.{◌≡◌, ◌+◌, ◌≤◌, false, IfOk, OnOk};
 ghost use Rattle.std.specs.Arc.{arc_value};
-ghost use Rattle.qap_search.specs.Hand.{is_due};
-ghost use Rattle.qap_search.specs.Interleaving.{TakesTurn, after_loss, beginner, report_of};
-ghost use Rattle.qap_search.specs.SearchLaw.{IsSearchLaw};
+ghost use Rattle.qap_search.specs.Worker.Hand.{is_due};
+ghost use Rattle.qap_search.specs.Runs.Interleaving.{TakesTurn, after_loss, beginner, report_of};
+ghost use Rattle.qap_search.specs.Law.SearchLaw.{IsSearchLaw};
 
 use crate::worker::gate::Always;
 use crate::worker::hand::Hand;
@@ -27,8 +27,8 @@ pub(crate) struct Post<L: Law> {
 
 impl<L: Law> Model for Post<L> {
     ghost use Rattle.std.specs.Prelude.{◌≡◌, ◌+◌};
-    ghost use Rattle.qap_search.specs.Interleaving.{PostValue};
-    ghost use Rattle.qap_search.specs.SearchLaw.{IsSearchLaw};
+    ghost use Rattle.qap_search.specs.Runs.Interleaving.{PostValue};
+    ghost use Rattle.qap_search.specs.Law.SearchLaw.{IsSearchLaw};
 
     ghost Value = { PostValue };
 

@@ -1,7 +1,7 @@
 //! A worker with its share, and its run on a shared space.
 
 ghost use Rattle.std.specs.Prelude.{◌≡◌};
-ghost use Rattle.qap_search.specs.SearchLaw.{IsSearchLaw};
+ghost use Rattle.qap_search.specs.Law.SearchLaw.{IsSearchLaw};
 
 use crate::worker::gate::{Gate, Kind};
 use crate::worker::hand::Hand;
@@ -45,7 +45,7 @@ pub(crate) struct Seat<L: Law> {
 
 impl<L: Law> Model for Seat<L> {
     ghost use Rattle.std.specs.Prelude.{◌≡◌, ℕ};
-    ghost use Rattle.qap_search.specs.SearchLaw.{IsSearchLaw};
+    ghost use Rattle.qap_search.specs.Law.SearchLaw.{IsSearchLaw};
 
     ghost Value = { ℕ };
 

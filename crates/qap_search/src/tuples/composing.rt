@@ -8,10 +8,10 @@ ghost use Rattle.qap_proof.specs.Tree.{facility_on, location_on, pair};
 ghost use Rattle.tuple_match.specs.Field.{field_value};
 ghost use Rattle.tuple_match.specs.FieldValue.{word};
 ghost use Rattle.number_list.specs.NumberList.{numbers_held};
-ghost use Rattle.qap_search.specs.Decision.{children_by, pruned_split, uncut};
-ghost use Rattle.qap_search.specs.NodeList.{IsListOf};
-ghost use Rattle.qap_search.specs.Piece.{best_tuple, closed_tuple, cut_numbers, mirrored_tuple, node_list, node_tuple, pieces, pruned_tuple, side_word, split_tuple};
-ghost use Rattle.qap_search.specs.SearchTree.{split_node, split_open};
+ghost use Rattle.qap_search.specs.Node.Decision.{children_by, pruned_split, uncut};
+ghost use Rattle.qap_search.specs.Node.NodeList.{IsListOf};
+ghost use Rattle.qap_search.specs.Tuples.Piece.{best_tuple, closed_tuple, cut_numbers, mirrored_tuple, node_list, node_tuple, pieces, pruned_tuple, side_word, split_tuple};
+ghost use Rattle.qap_search.specs.Law.SearchTree.{split_node, split_open};
 
 use crate::node::images::{Image, image_at};
 use number_list::NumberList;
@@ -278,7 +278,7 @@ pub fn tuple_of_best(alloc: Global, cost: i128, perm: &Perm) -> Result<Tuple, Al
     ensures { IfOk result (λ t. t ≡ best_tuple cost perm.now) }
 {
     let name = Field::word(alloc, "best")?;
-    let list = Field::List(locations_of(alloc, perm)?);
+    let list = Field::List(locations_of(alloc, perm)?).narrowed();
     Tuple::of_three(alloc, [name, Field::Int(cost), list])
 }
 

@@ -5,8 +5,8 @@ ghost use Rattle.number_list.specs.NumberList.{numbers_held};
 ghost use Rattle.qap_proof.specs.declared.side.Side.{Side as Sides};
 ghost use Rattle.tuple_match.specs.Field.{field_value, fields_value};
 ghost use Rattle.tuple_match.specs.FieldValue.{number, numbers, word};
-ghost use Rattle.qap_search.specs.DecidedTuples.{IsNoPiece, IsPart, best_of, closed_of, piece_tuple};
-ghost use Rattle.qap_search.specs.Piece.{side_word};
+ghost use Rattle.qap_search.specs.Tuples.DecidedTuples.{IsNoPiece, IsPart, best_of, closed_of, piece_tuple};
+ghost use Rattle.qap_search.specs.Tuples.Piece.{side_word};
 
 use number_list::NumberList;
 use qap_proof::{KeptDuals, Side};

@@ -3,9 +3,9 @@
 ghost use Rattle.std.specs.Prelude.{◌≡◌, ◌⊎◌, ◌∷◌, MatchResult, Some};
 ghost use Rattle.qap_cost.specs.Placement.{Placement};
 ghost use Rattle.space_txn.specs.Content.{SameItems};
-ghost use Rattle.qap_search.specs.DecidedTuples.{found_tuple, piece_tuple};
-ghost use Rattle.qap_search.specs.Pieces.{pieces_tuples, told_tuples};
-ghost use Rattle.qap_search.specs.Told.{IsTellingFault};
+ghost use Rattle.qap_search.specs.Tuples.DecidedTuples.{found_tuple, piece_tuple};
+ghost use Rattle.qap_search.specs.Tuples.Pieces.{pieces_tuples, told_tuples};
+ghost use Rattle.qap_search.specs.Certificate.Told.{IsTellingFault};
 ghost use Rattle.qap_search.specs.declared.tuples.parsing.BestFound.{BestFound as Found};
 ghost use Rattle.qap_search.specs.declared.certificate.error.AssembleError.TheVariants.{NotATree, OutOfMemory};
 

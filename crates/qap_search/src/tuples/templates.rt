@@ -1,8 +1,8 @@
 //! The templates by which the tuples of a search are asked for.
 
 ghost use Rattle.std.specs.Prelude.{◌≡◌, IfOk};
-ghost use Rattle.qap_search.specs.Found.{best_template};
-ghost use Rattle.qap_search.specs.Piece.{node_template};
+ghost use Rattle.qap_search.specs.Tuples.Found.{best_template};
+ghost use Rattle.qap_search.specs.Tuples.Piece.{node_template};
 
 use std::alloc::{AllocError, Global};
 use tuple_match::{Field, Pattern, Template};

@@ -7,25 +7,25 @@ ghost use Rattle.space_txn.specs.Content.{SameItems, added_of};
 ghost use Rattle.space_txn.specs.Machine.{find_answer, found};
 ghost use Rattle.space_txn.specs.Txn.{TxnValue};
 ghost use Rattle.space_txn.specs.declared.txn.Found.TheVariants.{Entry as Stored};
-ghost use Rattle.qap_search.specs.BestSteps.{AfterWrites, HasBestCost, HasBestMark, HasNoBest, IsBestAt, IsFoundBest, Writes};
-ghost use Rattle.qap_search.specs.DecidedTuples.{best_of};
-ghost use Rattle.qap_search.specs.Decision.{IsOn};
-ghost use Rattle.qap_search.specs.Found.{best_template};
-ghost use Rattle.qap_search.specs.Hand.{hand_of, is_hopeful, thought_of};
-ghost use Rattle.qap_search.specs.Prepared.{IsPrepared};
-ghost use Rattle.qap_search.specs.Replacement.{Best};
-ghost use Rattle.qap_search.specs.SearchLaw.{IsSearchLaw};
-ghost use Rattle.qap_search.specs.Standing.{HasNode, IsLastThought, IsStage};
-ghost use Rattle.qap_search.specs.Thought.{IsThought};
-ghost use Rattle.qap_search.specs.Turn.{AfterBest, HasMarksOf, Turn};
+ghost use Rattle.qap_search.specs.Worker.BestSteps.{AfterWrites, HasBestCost, HasBestMark, HasNoBest, IsBestAt, IsFoundBest, Writes};
+ghost use Rattle.qap_search.specs.Tuples.DecidedTuples.{best_of};
+ghost use Rattle.qap_search.specs.Node.Decision.{IsOn};
+ghost use Rattle.qap_search.specs.Tuples.Found.{best_template};
+ghost use Rattle.qap_search.specs.Worker.Hand.{hand_of, is_hopeful, thought_of};
+ghost use Rattle.qap_search.specs.Worker.Prepared.{IsPrepared};
+ghost use Rattle.qap_search.specs.Law.Replacement.{Best};
+ghost use Rattle.qap_search.specs.Law.SearchLaw.{IsSearchLaw};
+ghost use Rattle.qap_search.specs.Worker.Standing.{HasNode, IsLastThought, IsStage};
+ghost use Rattle.qap_search.specs.Node.Thought.{IsThought};
+ghost use Rattle.qap_search.specs.Worker.Turn.{AfterBest, HasMarksOf, Turn};
 ghost use Rattle.qap_search.specs.declared.worker.stage.Stage.TheVariants.{Considered};
 
 use crate::certificate::assembling::permutation_of;
 use crate::node::decision::{decide, decide_anew};
 use crate::node::thought::Thought;
 use crate::tuples::parsing::is_word;
+use crate::worker::forever_writes::{by_entries, put_forever};
 use crate::worker::prepared::Prepared;
-use crate::worker::putting::{by_entries, put_forever};
 use crate::worker::stage::{LastThought, Outcome, Stage, Tally};
 use crate::worker::turn::{refused, went_on};
 use number_list::Numbers;
@@ -36,32 +36,9 @@ use std::alloc::{AllocError, Global};
 use tuple_match::{Field, Template, Tuple, does_match_law};
 use tuple_space::EntryId;
 
-/// Takes the tuple of the best permutation.
-pub(crate) fn take_best<L: Law, M: Room<L>>(
-    alloc: Global,
-    room: &mut M,
-    template: &Template,
-    mut txn: Txn,
-    last: &LastThought,
-    tally: Tally,
-) -> Outcome
-    requires template { template.now ≡ best_template }
-    requires thought { IsOn last.now.node last.now.thought }
-    ensures turn { (cutting : Bool) (I : Problem) (lease : ℕ) → IsInstance I → IsSearchLaw cutting I L.lawful L.allowed → IsLastThought cutting I last.now →
-        HasNode last.now.node txn → is_hopeful tally.best (Some (thought_of last.now)) ≡ true →
-        Turn M.did (hand_of cutting I lease (Some (thought_of last.now)) (Considered txn) tally) room.old result.told
-        (hand_of cutting I lease (Some (thought_of last.now)) result.stage result.tally) room.new }
-    ensures stage { (cutting : Bool) (I : Problem) → IsInstance I → IsSearchLaw cutting I L.lawful L.allowed → IsLastThought cutting I last.now →
-        HasNode last.now.node txn → IsStage cutting I (Some (thought_of last.now)) result.stage }
-    ensures accepted { result.tally.accepted ≡ tally.accepted }
-{
-    does_match_law();
-    let found = room.inp_in(&mut txn, template);
-    told_taken(alloc, found, txn, last, tally)
-}
-
-/// Reads the tuple of the best permutation. What has been prepared for its cost is written as it is.
-pub(crate) fn read_best<L: Law, M: Room<L>>(
+/// Takes the tuple of the best permutation, where none is known of or the last thought's candidate costs less than that; else reads
+/// it, and then what has been prepared for its cost is written as it is.
+pub(crate) fn seek_best<L: Law, M: Room<L>>(
     alloc: Global,
     room: &mut M,
     template: &Template,
@@ -73,7 +50,7 @@ pub(crate) fn read_best<L: Law, M: Room<L>>(
     requires template { template.now ≡ best_template }
     requires thought { IsOn last.now.node last.now.thought }
     ensures turn { (cutting : Bool) (I : Problem) (lease : ℕ) → IsInstance I → IsSearchLaw cutting I L.lawful L.allowed → IsLastThought cutting I last.now →
-        IsPrepared cutting I (thought_of last.now) prepared.old → HasNode last.now.node txn → is_hopeful tally.best (Some (thought_of last.now)) ≡ false →
+        IsPrepared cutting I (thought_of last.now) prepared.old → HasNode last.now.node txn →
         Turn M.did (hand_of cutting I lease (Some (thought_of last.now)) (Considered txn) tally) room.old result.told
         (hand_of cutting I lease (Some (thought_of last.now)) result.stage result.tally) room.new }
     ensures stage { (cutting : Bool) (I : Problem) → IsInstance I → IsSearchLaw cutting I L.lawful L.allowed → IsLastThought cutting I last.now →
@@ -81,60 +58,73 @@ pub(crate) fn read_best<L: Law, M: Room<L>>(
     ensures accepted { result.tally.accepted ≡ tally.accepted }
 {
     does_match_law();
-    let found = room.rdp_in(&mut txn, template);
-    told_read(alloc, found, txn, last, prepared, tally)
+    if tally.is_hopeful(last) {
+        let found = room.inp_in(&mut txn, template);
+        told_best(alloc, found, txn, last, true, prepared, tally)
+    } else {
+        let found = room.rdp_in(&mut txn, template);
+        told_best(alloc, found, txn, last, false, prepared, tally)
+    }
 }
 
-fn told_read(
+fn told_best(
     alloc: Global,
     found: Result<Option<Found>, TxnError>,
     txn: Txn,
     last: &LastThought,
+    taking: bool,
     prepared: &mut Prepared,
     tally: Tally,
 ) -> Outcome
     requires { IsOn last.now.node last.now.thought }
     ensures turn { (cutting : Bool) (I : Problem) (lease : ℕ) (old : TxnValue) → IsLastThought cutting I last.now → IsPrepared cutting I (thought_of last.now) prepared.old →
-        IsFoundBest I false last.now.node (find_answer found) txn →
-        AfterBest false (hand_of cutting I lease (Some (thought_of last.now)) (Considered old) tally) (find_answer found) txn result.told
+        IsFoundBest I taking last.now.node (find_answer found) txn →
+        AfterBest taking (hand_of cutting I lease (Some (thought_of last.now)) (Considered old) tally) (find_answer found) txn result.told
         (hand_of cutting I lease (Some (thought_of last.now)) result.stage result.tally) }
     ensures stage { (cutting : Bool) (I : Problem) → IsLastThought cutting I last.now → IsPrepared cutting I (thought_of last.now) prepared.old →
-        IsFoundBest I false last.now.node (find_answer found) txn → IsStage cutting I (Some (thought_of last.now)) result.stage }
+        IsFoundBest I taking last.now.node (find_answer found) txn → IsStage cutting I (Some (thought_of last.now)) result.stage }
     ensures accepted { result.tally.accepted ≡ tally.accepted }
 {
     match found {
-        Ok(Some(found)) => told_read_found(alloc, found, txn, last, prepared, tally),
+        Ok(Some(found)) => told_found(alloc, found, txn, last, taking, prepared, tally),
         Ok(None) => went_on(Stage::GivingUp(txn), tally),
         Err(error) => refused(error, Stage::Considered(txn), tally),
     }
 }
 
 /// A write of the transaction itself is none of a best permutation.
-fn told_read_found(
+fn told_found(
     alloc: Global,
     what: Found,
     txn: Txn,
     last: &LastThought,
+    taking: bool,
     prepared: &mut Prepared,
     tally: Tally,
 ) -> Outcome
     requires { IsOn last.now.node last.now.thought }
     ensures turn { (cutting : Bool) (I : Problem) (lease : ℕ) (old : TxnValue) → IsLastThought cutting I last.now → IsPrepared cutting I (thought_of last.now) prepared.old →
-        IsFoundBest I false last.now.node (found what) txn →
-        AfterBest false (hand_of cutting I lease (Some (thought_of last.now)) (Considered old) tally) (found what) txn result.told
+        IsFoundBest I taking last.now.node (found what) txn →
+        AfterBest taking (hand_of cutting I lease (Some (thought_of last.now)) (Considered old) tally) (found what) txn result.told
         (hand_of cutting I lease (Some (thought_of last.now)) result.stage result.tally) }
     ensures stage { (cutting : Bool) (I : Problem) → IsLastThought cutting I last.now → IsPrepared cutting I (thought_of last.now) prepared.old →
-        IsFoundBest I false last.now.node (found what) txn → IsStage cutting I (Some (thought_of last.now)) result.stage }
+        IsFoundBest I taking last.now.node (found what) txn → IsStage cutting I (Some (thought_of last.now)) result.stage }
     ensures accepted { result.tally.accepted ≡ tally.accepted }
 {
     match what {
-        Found::Entry(id) => told_read_entry(alloc, id, txn, last, prepared, tally),
+        Found::Entry(id) => {
+            if taking {
+                told_entry(alloc, id, txn, last, taking, tally)
+            } else {
+                told_read(alloc, id, txn, last, prepared, tally)
+            }
+        }
         Found::Own(_) => went_on(Stage::GivingUp(txn), tally),
     }
 }
 
-/// Writes what was prepared for the cost in the entry's tuple; else, what that leads to is worked out now.
-fn told_read_entry(
+/// Writes what was prepared for the cost in the tuple of the entry that was read; else, what that leads to is worked out now.
+fn told_read(
     alloc: Global,
     id: EntryId,
     txn: Txn,
@@ -182,52 +172,6 @@ fn told_prepared(
     two_marks_law();
     txn.exchange_writes(&mut prepared.writes);
     told_written(Ok(Some(cost)), txn, tally.with_best(cost))
-}
-
-fn told_taken(
-    alloc: Global,
-    found: Result<Option<Found>, TxnError>,
-    txn: Txn,
-    last: &LastThought,
-    tally: Tally,
-) -> Outcome
-    requires { IsOn last.now.node last.now.thought }
-    ensures turn { (cutting : Bool) (I : Problem) (lease : ℕ) (old : TxnValue) → IsLastThought cutting I last.now →
-        IsFoundBest I true last.now.node (find_answer found) txn →
-        AfterBest true (hand_of cutting I lease (Some (thought_of last.now)) (Considered old) tally) (find_answer found) txn result.told
-        (hand_of cutting I lease (Some (thought_of last.now)) result.stage result.tally) }
-    ensures stage { (cutting : Bool) (I : Problem) → IsLastThought cutting I last.now → IsFoundBest I true last.now.node (find_answer found) txn →
-        IsStage cutting I (Some (thought_of last.now)) result.stage }
-    ensures accepted { result.tally.accepted ≡ tally.accepted }
-{
-    match found {
-        Ok(Some(found)) => told_taken_found(alloc, found, txn, last, tally),
-        Ok(None) => went_on(Stage::GivingUp(txn), tally),
-        Err(error) => refused(error, Stage::Considered(txn), tally),
-    }
-}
-
-/// A write of the transaction itself is none of a best permutation.
-fn told_taken_found(
-    alloc: Global,
-    what: Found,
-    txn: Txn,
-    last: &LastThought,
-    tally: Tally,
-) -> Outcome
-    requires { IsOn last.now.node last.now.thought }
-    ensures turn { (cutting : Bool) (I : Problem) (lease : ℕ) (old : TxnValue) → IsLastThought cutting I last.now →
-        IsFoundBest I true last.now.node (found what) txn →
-        AfterBest true (hand_of cutting I lease (Some (thought_of last.now)) (Considered old) tally) (found what) txn result.told
-        (hand_of cutting I lease (Some (thought_of last.now)) result.stage result.tally) }
-    ensures stage { (cutting : Bool) (I : Problem) → IsLastThought cutting I last.now → IsFoundBest I true last.now.node (found what) txn →
-        IsStage cutting I (Some (thought_of last.now)) result.stage }
-    ensures accepted { result.tally.accepted ≡ tally.accepted }
-{
-    match what {
-        Found::Entry(id) => told_entry(alloc, id, txn, last, true, tally),
-        Found::Own(_) => went_on(Stage::GivingUp(txn), tally),
-    }
 }
 
 /// Where the entry that was found is there to stay, what it leads to is written, and its cost is remembered.

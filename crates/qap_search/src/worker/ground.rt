@@ -5,7 +5,7 @@ ghost use Rattle.std.specs.Arc.{arc_value};
 ghost use Rattle.qap_cost.specs.Instance.{IsInstance};
 ghost use Rattle.qap_cost.specs.Range.{AllWithin};
 ghost use Rattle.gilmore_lawler.specs.ReducedMatrix.{IsReduced};
-ghost use Rattle.qap_search.specs.Images.{AreSymmetries};
+ghost use Rattle.qap_search.specs.Node.Images.{AreSymmetries};
 
 use crate::node::images::InstanceSymmetries;
 use gilmore_lawler::{KeptRows, RankedInstance};
@@ -26,7 +26,7 @@ impl Model for Ground {
     ghost use Rattle.std.specs.Arc.{arc_value};
     ghost use Rattle.std.specs.Option.{IfSome};
     ghost use Rattle.qap_cost.specs.Instance.{Problem};
-    ghost use Rattle.qap_search.specs.Images.{AreSymmetries};
+    ghost use Rattle.qap_search.specs.Node.Images.{AreSymmetries};
 
     ghost Value = { Problem };
 

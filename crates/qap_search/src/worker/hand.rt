@@ -2,12 +2,12 @@
 
 ghost use Rattle.std.specs.Prelude.{◌≡◌, ◌+◌, ◌≤◌, true, false, All, IfOk, IfSome, OnErr, OnOk};
 ghost use Rattle.std.specs.Arc.{arc_value};
-ghost use Rattle.qap_search.specs.Hand.{cuts, is_due, kind_of, new_hand};
-ghost use Rattle.qap_search.specs.Images.{AreSymmetries};
-ghost use Rattle.qap_search.specs.SearchLaw.{IsSearchLaw};
-ghost use Rattle.qap_search.specs.Standing.{IsIdle};
-ghost use Rattle.qap_search.specs.Thinking.{Thinks};
-ghost use Rattle.qap_search.specs.Turn.{Turn};
+ghost use Rattle.qap_search.specs.Worker.Hand.{cuts, is_due, kind_of, new_hand};
+ghost use Rattle.qap_search.specs.Node.Images.{AreSymmetries};
+ghost use Rattle.qap_search.specs.Law.SearchLaw.{IsSearchLaw};
+ghost use Rattle.qap_search.specs.Worker.Standing.{IsIdle};
+ghost use Rattle.qap_search.specs.Worker.Thinking.{Thinks};
+ghost use Rattle.qap_search.specs.Worker.Turn.{Turn};
 ghost use Rattle.qap_search.specs.declared.worker.report.Ended.TheVariants.{Done};
 
 use crate::node::branching::Branching;
@@ -45,8 +45,8 @@ pub struct Hand {
 
 impl Model for Hand {
     ghost use Rattle.std.specs.Prelude.{All};
-    ghost use Rattle.qap_search.specs.Hand.{HandValue, cuts, hand_of, last_of};
-    ghost use Rattle.qap_search.specs.Standing.{IsJob};
+    ghost use Rattle.qap_search.specs.Worker.Hand.{HandValue, cuts, hand_of, last_of};
+    ghost use Rattle.qap_search.specs.Worker.Standing.{IsJob};
 
     ghost Value = { HandValue };
 

@@ -1,7 +1,7 @@
 //! A node that a worker has at hand, with its transaction.
 
 ghost use Rattle.std.specs.Prelude.{All, IfOk};
-ghost use Rattle.qap_search.specs.Standing.{IsIdle};
+ghost use Rattle.qap_search.specs.Worker.Standing.{IsIdle};
 
 use crate::worker::prepared::Prepared;
 use crate::worker::stage::{LastThought, Reserve, Stage};

@@ -2,15 +2,15 @@
 
 ghost use Rattle.std.specs.Prelude.{◌≡◌, ◌↔◌, Bool, IfSome, IsTrue, None, OnErr, Some};
 ghost use Rattle.qap_cost.specs.Instance.{Problem};
-ghost use Rattle.qap_search.specs.Decision.{IsOn};
-ghost use Rattle.qap_search.specs.Hand.{thought_of};
-ghost use Rattle.qap_search.specs.Prepared.{HasPrepared, IsPrepared};
-ghost use Rattle.qap_search.specs.Standing.{IsLastThought};
-ghost use Rattle.qap_search.specs.Thought.{IsThought};
+ghost use Rattle.qap_search.specs.Node.Decision.{IsOn};
+ghost use Rattle.qap_search.specs.Worker.Hand.{thought_of};
+ghost use Rattle.qap_search.specs.Worker.Prepared.{HasPrepared, IsPrepared};
+ghost use Rattle.qap_search.specs.Worker.Standing.{IsLastThought};
+ghost use Rattle.qap_search.specs.Node.Thought.{IsThought};
 
 use crate::node::decision::decide;
 use crate::worker::best_steps::order_of;
-use crate::worker::putting::{by_entries, push_forever};
+use crate::worker::forever_writes::{by_entries, push_forever};
 use crate::worker::stage::LastThought;
 use std::alloc::{AllocError, Global};
 use tuple_space::Writes;

@@ -1,7 +1,8 @@
 //! Where a worker stands in its turn.
 
 ghost use Rattle.std.specs.Prelude.{◌≡◌, ◌+◌, ◌<◌, ◌-◌, ◌^◌, None, Some};
-ghost use Rattle.qap_search.specs.Turn.{one_more};
+ghost use Rattle.qap_search.specs.Worker.Hand.{is_hopeful, thought_of};
+ghost use Rattle.qap_search.specs.Worker.Turn.{one_more};
 
 use crate::node::branching::Branching;
 use crate::node::scratch::Scratch;
@@ -165,6 +166,16 @@ impl Tally {
             best: Some(cost),
             accepted: self.accepted + 1,
             refused: self.refused,
+        }
+    }
+
+    /// Whether no best permutation is known of, or the thought's candidate costs less than that.
+    pub(crate) fn is_hopeful(&self, last: &LastThought) -> bool
+        ensures { result ≡ is_hopeful self.now.best (Some (thought_of last.now)) }
+    {
+        match self.best {
+            Some(best) => last.thought.cost < best,
+            None => true,
         }
     }
 

@@ -5,8 +5,8 @@ ghost use Rattle.qap_cost.specs.Placement.{IsPlacement};
 ghost use Rattle.tuple_match.specs.FieldValue.{numbers, word};
 ghost use Rattle.number_list.specs.Numbers.{numbers_in};
 ghost use Rattle.space_txn.specs.Txn.{TxnValue};
-ghost use Rattle.qap_search.specs.Considering.{Considers, HasNoNode, IsNodeAt, IsOnNode, IsThoughtOn, stage_after};
-ghost use Rattle.qap_search.specs.Hand.{cuts};
+ghost use Rattle.qap_search.specs.Worker.Considering.{Considers, HasNoNode, IsNodeAt, IsOnNode, IsThoughtOn, stage_after};
+ghost use Rattle.qap_search.specs.Worker.Hand.{cuts};
 ghost use Rattle.qap_search.specs.declared.worker.stage.Stage.TheVariants.{Taken};
 
 use crate::node::branching::Guide;

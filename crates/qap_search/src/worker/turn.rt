@@ -5,18 +5,18 @@ ghost use Rattle.qap_cost.specs.Instance.{IsInstance, Problem};
 ghost use Rattle.shared_space.specs.Law.{MayCommit};
 ghost use Rattle.space_txn.specs.Machine.{end_answer, find_answer, found, refused};
 ghost use Rattle.space_txn.specs.Txn.{TxnValue};
-ghost use Rattle.qap_search.specs.Hand.{cuts, hand_of, is_due, is_hopeful, last_of};
-ghost use Rattle.qap_search.specs.Piece.{node_template};
-ghost use Rattle.qap_search.specs.Prepared.{HasPrepared};
-ghost use Rattle.qap_search.specs.Replacement.{MayReplace};
-ghost use Rattle.qap_search.specs.SearchLaw.{IsSearchLaw};
-ghost use Rattle.qap_search.specs.Standing.{IsFoundNode, IsHand, IsSearchHand, IsStage};
-ghost use Rattle.qap_search.specs.Thought.{ThoughtValue};
-ghost use Rattle.qap_search.specs.Turn.{AfterAbort, AfterBegin, AfterCommit, AfterNoCommit, AfterNode, AfterRefusal, Turn};
+ghost use Rattle.qap_search.specs.Worker.Hand.{cuts, hand_of, is_due, is_hopeful, last_of};
+ghost use Rattle.qap_search.specs.Tuples.Piece.{node_template};
+ghost use Rattle.qap_search.specs.Worker.Prepared.{HasPrepared};
+ghost use Rattle.qap_search.specs.Law.Replacement.{MayReplace};
+ghost use Rattle.qap_search.specs.Law.SearchLaw.{IsSearchLaw};
+ghost use Rattle.qap_search.specs.Worker.Standing.{IsFoundNode, IsHand, IsSearchHand, IsStage};
+ghost use Rattle.qap_search.specs.Node.Thought.{ThoughtValue};
+ghost use Rattle.qap_search.specs.Worker.Turn.{AfterAbort, AfterBegin, AfterCommit, AfterNoCommit, AfterNode, AfterRefusal, Turn};
 ghost use Rattle.qap_search.specs.declared.worker.stage.Stage.{Stage};
 ghost use Rattle.qap_search.specs.declared.worker.stage.Stage.TheVariants.{Begun, Considered, GivingUp, Idle, Ready};
 
-use crate::worker::best_steps::{read_best, take_best};
+use crate::worker::best_steps::seek_best;
 use crate::worker::prepared::Prepared;
 use crate::worker::stage::{LastThought, Outcome, Stage, Standing, Tally, Tools};
 use shared_space::{CommitError, Law, Room, Share};
@@ -72,27 +72,19 @@ fn find_best<L: Law, M: Room<L>>(
         IsStage (cuts tools.now.branching) I (last_of last.now) result.stage }
     ensures accepted { result.tally.accepted ≡ tally.accepted }
 {
-    let hopeful = is_hopeful(&tally, last);
     let Some(last) = last else {
         unreachable!();
     };
-    if hopeful {
-        take_best(tools.alloc, room, &tools.best, txn, last, tally)
-    } else {
-        read_best(tools.alloc, room, &tools.best, txn, last, prepared, tally)
-    }
+    seek_best(tools.alloc, room, &tools.best, txn, last, prepared, tally)
 }
 
 /// Whether no best permutation is known of, or the last thought's candidate costs less than that.
 pub(crate) fn is_hopeful(tally: &Tally, last: &Option<LastThought>) -> bool
     ensures { result ≡ is_hopeful tally.now.best (last_of last.now) }
 {
-    let Some(best) = tally.best else {
-        return true;
-    };
     match last {
-        Some(last) => last.thought.cost < best,
-        None => false,
+        Some(last) => tally.is_hopeful(last),
+        None => tally.best.is_none(),
     }
 }
 

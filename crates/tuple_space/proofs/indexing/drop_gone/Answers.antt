@@ -32,6 +32,6 @@ pub returns : goal.returns
 returns c =
     let es = c.args.entries.now in
     let at : c.loop-place.place ≡ 0 = omega arith in
-    indexed_kept (is_there c.args.moment) es c.args.buckets.now.items c.loop-place.buckets.items c.requires.apart c.loop-place.invariant.ordered c.loop-place.invariant.once
+    indexed_kept (is_there c.args.moment) es c.args.buckets.now.items c.loop-place.buckets.items c.requires.rising c.loop-place.invariant.ordered c.loop-place.invariant.once
     (λ k n. c.loop-place.invariant.dropped k n ∙ ap (λ j. is_put k n c.args.buckets.now.items && not (is_dropped (is_there c.args.moment) k n (drop j es))) at)
     c.requires.indexed

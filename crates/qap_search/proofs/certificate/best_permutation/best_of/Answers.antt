@@ -2,7 +2,7 @@ use Rattle.std.proofs.Common.{◌≡◌, ◌∙◌, List, sym, subst, rules, to_
 use Rattle.std.specs.Int.{w128}
 use Rattle.std.specs.Prelude.{Contains, ℤ}
 use Rattle.number_list.specs.Numbers.{numbers_in}
-use Rattle.qap_search.specs.DecidedTuples.{best_of}
+use Rattle.qap_search.specs.Tuples.DecidedTuples.{best_of}
 use Rattle.qap_search.proofs.Outcomes.{best_contained, best_permutes, best_stands}
 use Rattle.qap_search.proofs.certificate.best_permutation.best_of.Goals as goal
 

@@ -12,7 +12,7 @@ use Rattle.qap_proof.proofs.Memory.{node_of-Split, nodes_of-push}
 use Rattle.qap_proof.specs.Memory.{node_of, nodes_of}
 use Rattle.qap_proof.specs.Shape.{free_count}
 use Rattle.qap_proof.specs.declared.tree.Tree.TheViews.{Split}
-use Rattle.qap_search.specs.TreeBuilding.{BeginWith, BeginWithNone, IsFlag, ahead}
+use Rattle.qap_search.specs.Certificate.TreeBuilding.{BeginWith, BeginWithNone, IsFlag, ahead}
 use Rattle.qap_search.proofs.Children.{free_pair, get_or-any, others_count}
 use Rattle.qap_search.proofs.Taking.{HaveTaken, HaveTaken-all, HaveTaken-fault, HaveTaken-more, ZerosAndOnes, none_flagged, zero_flag}
 use Rattle.qap_search.proofs.certificate.tree_building.+building.Goals as goal

@@ -1,9 +1,9 @@
 use Rattle.std.proofs.Common.{◌≡◌, ℤ, subst, ◌≤ℤ◌, ◌<ℤ◌, ◌∷◌, [], ap, ap₂, ◌∙◌, arith, to_z, of_z}
 use Rattle.std.specs.Int.{w128}
 use Rattle.std.proofs.lemmas.Int.{ints, to_z-of_z}
-use Rattle.qap_search.specs.Decision.{split_by}
-use Rattle.qap_search.specs.Piece.{closed_tuple, pieces}
-use Rattle.qap_search.specs.Thought.{branch_value, thought_on}
+use Rattle.qap_search.specs.Node.Decision.{split_by}
+use Rattle.qap_search.specs.Tuples.Piece.{closed_tuple, pieces}
+use Rattle.qap_search.specs.Node.Thought.{branch_value, thought_on}
 use Rattle.qap_search.proofs.Deciding.{decides_closed, decides_split}
 use Rattle.qap_search.proofs.node.decision.decide.Goals as goal
 

@@ -1,8 +1,8 @@
 use Rattle.std.proofs.Common.{◌≡◌, ◌<ℤ◌, ◌≤ℤ◌, inl, inr, ℤ, refl, subst, arith, rules, to_z, of_z}
 use Rattle.std.specs.Int.{w128}
 use Rattle.std.proofs.lemmas.Int.{ints, to_z-of_z}
-use Rattle.qap_search.specs.Replacement.{Best}
-use Rattle.qap_search.specs.Thought.{candidate_of, thought_on}
+use Rattle.qap_search.specs.Law.Replacement.{Best}
+use Rattle.qap_search.specs.Node.Thought.{candidate_of, thought_on}
 use Rattle.qap_search.proofs.Deciding.{better_candidate, better_old, made_then}
 use Rattle.qap_search.proofs.node.decision.decide_anew.Goals as goal
 

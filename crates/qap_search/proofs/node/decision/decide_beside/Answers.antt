@@ -1,9 +1,9 @@
 use Rattle.std.proofs.Common.{◌≡◌, ◌∷◌, ◌++◌, [], ℤ, ap, subst, ◌∙◌, rules, to_z, of_z}
 use Rattle.std.specs.Int.{w128}
 use Rattle.std.proofs.lemmas.Int.{to_z-of_z}
-use Rattle.qap_search.specs.Decision.{DecidesBy}
-use Rattle.qap_search.specs.Piece.{best_tuple}
-use Rattle.qap_search.specs.Thought.{thought_on}
+use Rattle.qap_search.specs.Node.Decision.{DecidesBy}
+use Rattle.qap_search.specs.Tuples.Piece.{best_tuple}
+use Rattle.qap_search.specs.Node.Thought.{thought_on}
 use Rattle.qap_search.proofs.Deciding.{decides_beside}
 use Rattle.qap_search.proofs.node.decision.decide_beside.Goals as goal
 

@@ -2,7 +2,7 @@ use Rattle.std.proofs.Common.{◌≡◌, length, sym, ap, subst, rules}
 use Rattle.std.proofs.lemmas.Result.{IfOk-weaker}
 use Rattle.space_txn.specs.Content.{content_of}
 use Rattle.space_txn.specs.World.{World}
-use Rattle.qap_search.specs.CutTree.{IsCutTree}
+use Rattle.qap_search.specs.Law.CutTree.{IsCutTree}
 use Rattle.qap_search.proofs.runs.alone.worked.Goals as goal
 
 pub returns-clause-ended : goal.returns-clause-ended

@@ -3,7 +3,7 @@ use Rattle.std.specs.Int.{w128}
 use Rattle.std.specs.Prelude.{FitsSigned, unsigned_abs}
 use Rattle.std.proofs.lemmas.Int.{to_z-of_z, fits_signed_from_abs}
 use Rattle.qap_cost.specs.Objective.{cost_of}
-use Rattle.qap_search.specs.Search.{best_with, search_of}
+use Rattle.qap_search.specs.Law.Search.{best_with, search_of}
 use Rattle.qap_search.proofs.runs.opening.opening_from.Goals as goal
 
 pub returns : goal.returns

@@ -1,8 +1,8 @@
 use Rattle.std.proofs.Common.{List, ℕ, false, subst, ap, ◌∙◌}
 use Rattle.std.proofs.lemmas.Result.{IfOk-weaker}
 use Rattle.qap_cost.specs.Placement.{Placement, root_of}
-use Rattle.qap_search.specs.Opening.{IsOpening}
-use Rattle.qap_search.specs.Search.{best_with, search_of}
+use Rattle.qap_search.specs.Runs.Opening.{IsOpening}
+use Rattle.qap_search.specs.Law.Search.{best_with, search_of}
 use Rattle.qap_search.proofs.runs.opening.opening_space.Goals as goal
 
 pub returns : goal.returns

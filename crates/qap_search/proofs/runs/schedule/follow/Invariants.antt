@@ -1,6 +1,6 @@
 use Rattle.std.specs.Prelude.{◌≡◌, All, false, take}
-use Rattle.qap_search.specs.Hand.{is_due}
-use Rattle.qap_search.specs.Interleaving.{PostValue, Runs, start_of}
+use Rattle.qap_search.specs.Worker.Hand.{is_due}
+use Rattle.qap_search.specs.Runs.Interleaving.{PostValue, Runs, start_of}
 use Rattle.qap_search.proofs.runs.schedule.follow.Given as goal
 
 abbrev pub invariant-loop-i : goal.invariant-loop-i

@@ -1,4 +1,4 @@
-use Rattle.qap_search.specs.Search.{whole}
+use Rattle.qap_search.specs.Law.Search.{whole}
 use Rattle.qap_search.proofs.SearchLaws.{cut_trees_are_law}
 use Rattle.qap_search.proofs.runs.schedule.play.Goals as goal
 

@@ -1,7 +1,7 @@
 use Rattle.std.proofs.Common.{◌≡◌, ◌+◌, ◌++◌, ◌∷◌, [], ap, sym, ◌∙◌, arith, replicate}
 use Rattle.std.specs.Prelude.{ℕ, List, vec_len}
 use Rattle.std.proofs.lemmas.List.{replicate-append-replicate}
-use Rattle.qap_search.specs.Interleaving.{PostValue}
+use Rattle.qap_search.specs.Runs.Interleaving.{PostValue}
 use Rattle.qap_search.proofs.Fronts.{All-front}
 use Rattle.qap_search.proofs.runs.schedule.posts_for.Goals as goal
 

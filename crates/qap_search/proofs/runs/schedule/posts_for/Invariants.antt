@@ -1,7 +1,7 @@
 use Rattle.std.proofs.Common.{◌≡◌, ◌+◌}
 use Rattle.std.specs.Prelude.{ℕ, All, replicate, vec_len}
 use Rattle.std.specs.Arc.{arc_value}
-use Rattle.qap_search.specs.Interleaving.{beginner}
+use Rattle.qap_search.specs.Runs.Interleaving.{beginner}
 use Rattle.qap_search.proofs.runs.schedule.posts_for.Given as goal
 
 abbrev pub invariant-loop-share : goal.invariant-loop-share

@@ -1,6 +1,6 @@
 use Rattle.std.proofs.Common.{◌≡◌}
 use Rattle.std.specs.Prelude.{map, take}
-use Rattle.qap_search.specs.Interleaving.{report_of}
+use Rattle.qap_search.specs.Runs.Interleaving.{report_of}
 use Rattle.qap_search.proofs.runs.schedule.reports_of.Given as goal
 
 abbrev pub invariant-loop-post : goal.invariant-loop-post

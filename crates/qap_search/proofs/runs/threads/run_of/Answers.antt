@@ -1,8 +1,8 @@
 use Rattle.std.proofs.lemmas.Result.{IfOk-weaker}
 use Rattle.shared_space.proofs.RunLemmas.{no_acts_yet}
-use Rattle.qap_search.specs.Hand.{cuts}
-use Rattle.qap_search.specs.Replacement.{MayReplace}
-use Rattle.qap_search.specs.Search.{best_with, search_of}
+use Rattle.qap_search.specs.Worker.Hand.{cuts}
+use Rattle.qap_search.specs.Law.Replacement.{MayReplace}
+use Rattle.qap_search.specs.Law.Search.{best_with, search_of}
 use Rattle.qap_search.proofs.SearchLaws.{cut_trees_are_law}
 use Rattle.qap_search.proofs.runs.threads.run_of.Goals as goal
 

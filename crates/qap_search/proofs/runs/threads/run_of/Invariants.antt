@@ -2,10 +2,10 @@ use Rattle.shared_space.specs.Limit.{is_reached}
 use Rattle.shared_space.specs.Place.{place_of}
 use Rattle.shared_space.specs.Run.{Run}
 use Rattle.shared_space.proofs.RunLemmas.{runs_go_on}
-use Rattle.qap_search.specs.CutTree.{IsCutTree}
-use Rattle.qap_search.specs.Hand.{cuts}
-use Rattle.qap_search.specs.Replacement.{MayReplace}
-use Rattle.qap_search.specs.Search.{best_with, search_of}
+use Rattle.qap_search.specs.Law.CutTree.{IsCutTree}
+use Rattle.qap_search.specs.Worker.Hand.{cuts}
+use Rattle.qap_search.specs.Law.Replacement.{MayReplace}
+use Rattle.qap_search.specs.Law.Search.{best_with, search_of}
 use Rattle.qap_search.proofs.SearchLaws.{cut_trees_kept, cut_trees_unordered}
 use Rattle.qap_search.proofs.runs.threads.run_of.Given as goal
 

@@ -1,9 +1,9 @@
 use Rattle.std.proofs.Common.{Bool, false, length, subst}
 use Rattle.qap_cost.specs.Placement.{Placement}
-use Rattle.qap_search.specs.Answer.{IsAnswer}
-use Rattle.qap_search.specs.Outcome.{IsEnded}
-use Rattle.qap_search.specs.Ran.{RanTo}
-use Rattle.qap_search.specs.Search.{Search, best_with, from_root, search_of}
+use Rattle.qap_search.specs.Runs.Answer.{IsAnswer}
+use Rattle.qap_search.specs.Runs.Outcome.{IsEnded}
+use Rattle.qap_search.specs.Runs.Ran.{RanTo}
+use Rattle.qap_search.specs.Law.Search.{Search, best_with, from_root, search_of}
 use Rattle.qap_search.specs.declared.runs.answer.Answer.{Answer}
 use Rattle.qap_search.proofs.BehindAnswers.{ran_behind}
 use Rattle.qap_search.proofs.runs.threads.solve_from.Goals as goal

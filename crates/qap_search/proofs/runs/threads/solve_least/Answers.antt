@@ -1,9 +1,9 @@
 use Rattle.std.proofs.Common.{ℕ, false, List, length, subst}
 use Rattle.qap_cost.specs.Placement.{Placement, root_of}
-use Rattle.qap_search.specs.Answer.{IsLeastFrom}
-use Rattle.qap_search.specs.Outcome.{IsEnded}
-use Rattle.qap_search.specs.Search.{Search, best_with, search_of, whole}
-use Rattle.qap_search.specs.Ran.{RanTo}
+use Rattle.qap_search.specs.Runs.Answer.{IsLeastFrom}
+use Rattle.qap_search.specs.Runs.Outcome.{IsEnded}
+use Rattle.qap_search.specs.Law.Search.{Search, best_with, search_of, whole}
+use Rattle.qap_search.specs.Runs.Ran.{RanTo}
 use Rattle.qap_search.specs.declared.runs.answer.Least.{Least}
 use Rattle.qap_search.proofs.BehindAnswers.{ran_behind}
 use Rattle.qap_search.proofs.Outcomes.{least_told, told_of}

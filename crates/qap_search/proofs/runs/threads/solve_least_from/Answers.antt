@@ -1,10 +1,10 @@
 use Rattle.std.proofs.Common.{ℕ, length, sym, subst}
 use Rattle.std.proofs.lemmas.Result.{IfOk-weaker}
 use Rattle.qap_cost.specs.Instance.{Problem}
-use Rattle.qap_search.specs.BoundedAnswer.{IsBoundedFrom}
-use Rattle.qap_search.specs.Hand.{cuts}
-use Rattle.qap_search.specs.Outcome.{IsEnded}
-use Rattle.qap_search.specs.Search.{Search, best_with, search_of}
+use Rattle.qap_search.specs.Runs.BoundedAnswer.{IsBoundedFrom}
+use Rattle.qap_search.specs.Worker.Hand.{cuts}
+use Rattle.qap_search.specs.Runs.Outcome.{IsEnded}
+use Rattle.qap_search.specs.Law.Search.{Search, best_with, search_of}
 use Rattle.qap_search.proofs.BehindAnswers.{ran_so}
 use Rattle.qap_search.proofs.runs.threads.solve_least_from.Goals as goal
 

@@ -1,6 +1,6 @@
 use Rattle.std.specs.Prelude.{◌≡◌, [], length, take}
-use Rattle.qap_search.specs.Decision.{children_by}
-use Rattle.qap_search.specs.Piece.{cut_numbers}
+use Rattle.qap_search.specs.Node.Decision.{children_by}
+use Rattle.qap_search.specs.Tuples.Piece.{cut_numbers}
 use Rattle.qap_search.proofs.tuples.composing.cut_flags.Given as goal
 
 abbrev pub invariant-loop-child : goal.invariant-loop-child

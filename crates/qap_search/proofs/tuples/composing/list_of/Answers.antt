@@ -2,7 +2,7 @@ use Rattle.std.proofs.Common.{refl, sym, ap₂, ◌∙◌}
 use Rattle.std.proofs.lemmas.Result.{IfOk-weaker}
 use Rattle.number_list.specs.NumberList.{numbers_held}
 use Rattle.number_list.specs.Turns.{by_turns}
-use Rattle.qap_search.specs.NodeList.{IsListOf}
+use Rattle.qap_search.specs.Node.NodeList.{IsListOf}
 use Rattle.qap_search.proofs.NodeLists.{short_list}
 use Rattle.qap_search.proofs.tuples.composing.list_of.Goals as goal
 

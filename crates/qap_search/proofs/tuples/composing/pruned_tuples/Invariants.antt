@@ -1,7 +1,7 @@
 use Rattle.std.specs.Prelude.{◌≡◌, ◌∷◌, take}
 use Rattle.qap_proof.specs.Tree.{pair}
-use Rattle.qap_search.specs.Decision.{children_by, pruned_split}
-use Rattle.qap_search.specs.Piece.{cut_numbers, pieces_of_all, pruned_tuple}
+use Rattle.qap_search.specs.Node.Decision.{children_by, pruned_split}
+use Rattle.qap_search.specs.Tuples.Piece.{cut_numbers, pieces_of_all, pruned_tuple}
 use Rattle.qap_search.proofs.tuples.composing.pruned_tuples.Given as goal
 
 abbrev pub invariant-loop-child : goal.invariant-loop-child

@@ -2,9 +2,9 @@ use Rattle.std.proofs.Common.{◌≡◌, inr, refl, subst, List, arith}
 use Rattle.std.specs.Prelude.{MatchOption, None, Option, Some}
 use Rattle.std.proofs.lemmas.Result.{err_from_is_err_and}
 use Rattle.tuple_match.specs.FieldValue.{FieldValue}
-use Rattle.qap_search.specs.DecidedTuples.{IsNoPiece, piece_tuple}
+use Rattle.qap_search.specs.Tuples.DecidedTuples.{IsNoPiece, piece_tuple}
 use Rattle.qap_search.specs.declared.tuples.parsing.Piece.{Piece}
-use Rattle.qap_search.specs.Pieces.{told_tuples}
+use Rattle.qap_search.specs.Tuples.Pieces.{told_tuples}
 use Rattle.qap_search.proofs.Assembled.{keep_fault, none_with, none_without_best, told_all}
 use Rattle.qap_search.proofs.tuples.pieces.tell_apart.Goals as goal
 

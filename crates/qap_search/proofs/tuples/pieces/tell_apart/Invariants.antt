@@ -1,6 +1,6 @@
 use Rattle.std.specs.Prelude.{◌++◌, vec_len}
 use Rattle.space_txn.specs.Content.{SameItems}
-use Rattle.qap_search.specs.Pieces.{told_tuples}
+use Rattle.qap_search.specs.Tuples.Pieces.{told_tuples}
 use Rattle.qap_search.proofs.tuples.pieces.tell_apart.Given as goal
 
 -- what is left and what has been told are the tuples

@@ -1,8 +1,8 @@
 use Rattle.std.proofs.Common.{◌≡◌, ℕ, ℤ, List, ap₂, to_z, of_z, ◌∙◌, sym, rules}
 use Rattle.std.specs.Int.{w128}
 use Rattle.std.proofs.lemmas.Int.{to_z-of_z}
-use Rattle.qap_search.specs.Replacement.{Best}
-use Rattle.qap_search.specs.Thought.{candidate_of}
+use Rattle.qap_search.specs.Law.Replacement.{Best}
+use Rattle.qap_search.specs.Node.Thought.{candidate_of}
 use Rattle.qap_search.proofs.BestSteps.{least_either, standing_cost, written_anew}
 use Rattle.qap_search.proofs.worker.best_steps.write_anew.Goals as goal
 

@@ -1,5 +1,5 @@
 use Rattle.std.specs.Prelude.{All}
-use Rattle.qap_search.specs.Standing.{IsIdle}
+use Rattle.qap_search.specs.Worker.Standing.{IsIdle}
 use Rattle.qap_search.proofs.worker.job.idle_jobs.Given as goal
 
 abbrev pub invariant-loop : goal.invariant-loop

@@ -1,6 +1,6 @@
 use Rattle.std.proofs.Common.{ℕ, ap, ◌∙◌, refl, subst}
 use Rattle.qap_cost.specs.Instance.{Problem}
-use Rattle.qap_search.specs.Considering.{HasNoNode}
+use Rattle.qap_search.specs.Worker.Considering.{HasNoNode}
 use Rattle.qap_search.proofs.worker.thinking.think_in.Goals as goal
 
 pub returns-then-not-branch-clause-considers : goal.returns-then-not-branch-clause-considers

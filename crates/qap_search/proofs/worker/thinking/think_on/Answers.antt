@@ -1,8 +1,8 @@
 use Rattle.std.proofs.Common.{◌∙◌, Option, subst, sym}
 use Rattle.qap_cost.specs.Instance.{Problem}
-use Rattle.qap_search.specs.Considering.{IsThoughtOn}
-use Rattle.qap_search.specs.Hand.{cuts}
-use Rattle.qap_search.specs.Thought.{IsThought}
+use Rattle.qap_search.specs.Worker.Considering.{IsThoughtOn}
+use Rattle.qap_search.specs.Worker.Hand.{cuts}
+use Rattle.qap_search.specs.Node.Thought.{IsThought}
 use Rattle.qap_search.specs.declared.worker.stage.LastThought.{LastThought}
 use Rattle.qap_search.proofs.Thinkings.{anew_on, kept_on}
 use Rattle.qap_search.proofs.worker.thinking.think_on.Goals as goal

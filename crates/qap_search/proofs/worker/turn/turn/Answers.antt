@@ -1,8 +1,8 @@
 use Rattle.std.proofs.Common.{◌≡◌, to_z, of_z, rules, subst, sym}
 use Rattle.std.specs.Int.{w128}
-use Rattle.qap_search.specs.Hand.{cuts, hand_of, last_of}
-use Rattle.qap_search.specs.Standing.{IsHand}
-use Rattle.qap_search.specs.Turn.{Turn}
+use Rattle.qap_search.specs.Worker.Hand.{cuts, hand_of, last_of}
+use Rattle.qap_search.specs.Worker.Standing.{IsHand}
+use Rattle.qap_search.specs.Worker.Turn.{Turn}
 use Rattle.qap_search.specs.declared.worker.stage.Stage.{Stage}
 use Rattle.qap_search.proofs.worker.turn.turn.Goals as goal
 

@@ -12,14 +12,14 @@ returns-in_default c =
 
 pub invariant_of-self : goal.invariant_of-self
 invariant_of-self c =
-    let w = written c.self.inside.by_number.entries c.args.self.now.rows c.args.self.now.items c.args.number c.in-Some.place c.in-Some-get_index_mut.entry.now c.self.invariant.0 c.self.invariant.1
-    (ap (λ (v : EntriesValue). v.rows) c.self.view_is) (ap (λ (v : EntriesValue). v.items) c.self.view_is) c.in-Some.ensures.place c.in-Some.ensures.found (sym c.in-Some-get_index_mut.ensures.value)
+    let w = written c.self.inside.by_number.entries c.args.self.now.items c.args.number c.in-Some.place c.self.invariant.0 c.self.invariant.1
+    (ap (λ (v : EntriesValue). v.items) c.self.view_is) c.in-Some.ensures.place c.in-Some.ensures.found c.in-Some-get_index_mut.entry.now (sym c.in-Some-get_index_mut.ensures.value)
     (λ (e : Entry). record e { end = c.args.end }) (λ e. refl) in
-    (w.numbered, w.apart)
+    (w.numbered, w.rising)
 
 pub returns : goal.returns
 returns c =
-    let w = written c.self.inside.by_number.entries c.args.self.now.rows c.args.self.now.items c.args.number c.in-Some.place c.in-Some-get_index_mut.entry.now c.self.invariant.0 c.self.invariant.1
-    (ap (λ (v : EntriesValue). v.rows) c.self.view_is) (ap (λ (v : EntriesValue). v.items) c.self.view_is) c.in-Some.ensures.place c.in-Some.ensures.found (sym c.in-Some-get_index_mut.ensures.value)
+    let w = written c.self.inside.by_number.entries c.args.self.now.items c.args.number c.in-Some.place c.self.invariant.0 c.self.invariant.1
+    (ap (λ (v : EntriesValue). v.items) c.self.view_is) c.in-Some.ensures.place c.in-Some.ensures.found c.in-Some-get_index_mut.entry.now (sym c.in-Some-get_index_mut.ensures.value)
     (λ (e : Entry). record e { end = c.args.end }) (λ e. refl) in
-    w.order
+    w.are

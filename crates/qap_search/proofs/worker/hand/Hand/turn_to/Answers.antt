@@ -1,6 +1,6 @@
 use Rattle.std.proofs.Common.{◌<◌, ◌∙◌, length, rules, subst, sym}
 use Rattle.std.proofs.lemmas.List.Elements.{All-set}
-use Rattle.qap_search.specs.Standing.{IsJob}
+use Rattle.qap_search.specs.Worker.Standing.{IsJob}
 use Rattle.qap_search.specs.declared.worker.job.Job.{Job}
 use Rattle.qap_search.proofs.worker.hand.Hand.turn_to.Goals as goal
 

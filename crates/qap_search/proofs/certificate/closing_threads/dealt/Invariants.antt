@@ -1,0 +1,10 @@
+use Rattle.std.specs.Prelude.{◌++◌, vec_len}
+use Rattle.space_txn.specs.Content.{SameItems}
+use Rattle.qap_search.proofs.certificate.closing_threads.dealt.Given as goal
+
+-- what is left and what has been dealt out are the tuples
+abbrev pub invariant-loop-tuple : goal.invariant-loop-tuple
+invariant-loop-tuple l = SameItems l.fn.tuples.items (l.tuples.items ++ (l.first.items ++ l.second.items))
+
+abbrev pub decreases-loop-tuple : goal.decreases-loop-tuple
+decreases-loop-tuple l = vec_len l.tuples

@@ -1,6 +1,0 @@
-use Rattle.std.proofs.Common.{Some}
-use Rattle.qap_search.specs.Hand.{thought_of}
-use Rattle.qap_search.proofs.worker.best_steps.told_taken.Goals as goal
-
-pub returns-in-Err-clause-stage : goal.returns-in-Err-clause-stage
-returns-in-Err-clause-stage c = λ cutting I l h. c.refused.ensures.stage cutting I (Some (thought_of c.args.last.now)) (rw c.in-Err.is at h)

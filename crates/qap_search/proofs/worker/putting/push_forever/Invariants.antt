@@ -1,9 +1,0 @@
-use Rattle.std.specs.Prelude.{◌++◌, vec_len}
-use Rattle.space_txn.specs.Content.{SameItems, added_of}
-use Rattle.qap_search.proofs.worker.putting.push_forever.Given as goal
-
-abbrev pub invariant-loop-tuple : goal.invariant-loop-tuple
-invariant-loop-tuple l = SameItems (added_of l.writes ++ l.rest.items) (added_of l.fn.writes ++ l.fn.tuples.items)
-
-abbrev pub decreases-loop-tuple : goal.decreases-loop-tuple
-decreases-loop-tuple l = vec_len l.rest

@@ -1,0 +1,10 @@
+-- The certificate that the tuples of a search make.
+pub mod Assembling
+pub mod ClosedTuples
+pub mod Finished
+pub mod InOrder
+pub mod LeafBounds
+pub mod OpenNodes
+pub mod Stopped
+pub mod Told
+pub mod TreeBuilding

@@ -1,0 +1,6 @@
+-- What holds of the tuples of a search at any moment.
+pub mod CutTree
+pub mod Replacement
+pub mod Search
+pub mod SearchLaw
+pub mod SearchTree

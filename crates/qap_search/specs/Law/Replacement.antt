@@ -1,0 +1,55 @@
+-- What one commit may put in the place of an open node.
+use Rattle.std.specs.Prelude.{◌≡◌, ◌⊎◌, ℕ, Bool, List, [], ◌∷◌, ℤ, ◌<ℤ◌}
+use Rattle.qap_cost.specs.Instance.{Problem}
+use Rattle.qap_cost.specs.Objective.{Permutes, cost_of}
+use Rattle.qap_cost.specs.Placement.{Placement, IsPlacement}
+use Rattle.qap_proof.specs.Tree.{whole}
+use Rattle.space_txn.specs.Content.{SameItems}
+use Rattle.tuple_match.specs.FieldValue.{FieldValue}
+use Rattle.qap_search.specs.Tuples.Piece.{node_tuple, best_tuple, pieces}
+use Rattle.qap_search.specs.Law.SearchTree.{SearchTree, split_node, closed_node, IsTree, AreUndecided, judge_of}
+
+-- a permutation, and what it is to cost
+pub record Best : Type 0 where
+  pub cost : ℤ
+  pub permutation : List ℕ
+
+abbrev pub tuple_of : Best → List FieldValue
+tuple_of b = best_tuple b.cost b.permutation
+
+-- the same, or a permutation that costs less
+abbrev pub IsAsGood : Problem → Best → Best → Type 0
+IsAsGood I old new =
+    (new ≡ old) ⊎ (Permutes I new.permutation × (cost_of I new.permutation ≡ new.cost) × (new.cost <ℤ old.cost))
+
+-- one node that is decided: duals close it, or it is split, and each of its children is open, cut or mirrored
+abbrev pub IsOneNode : SearchTree → Type 0
+IsOneNode (split_node s children) = AreUndecided children
+IsOneNode (closed_node u v) = Unit {0}
+IsOneNode _ = ⊥
+
+-- the best permutation was read, and stays
+pub record ReadsBest (x : Placement) (old new : Best) (decided : SearchTree) (gone kept added : List (List FieldValue)) : Type 0 where
+  pub same : new ≡ old
+  pub takes : SameItems gone (node_tuple x ∷ [])
+  pub reads : SameItems kept (tuple_of old ∷ [])
+  pub adds : SameItems added (pieces x decided)
+
+-- the best permutation was taken, and one that is as good is put in its place
+pub record TakesBest (I : Problem) (x : Placement) (old new : Best) (decided : SearchTree) (gone kept added : List (List FieldValue)) : Type 0 where
+  pub as_good : IsAsGood I old new
+  pub takes : SameItems gone (node_tuple x ∷ tuple_of old ∷ [])
+  pub reads : SameItems kept []
+  pub adds : SameItems added (tuple_of new ∷ pieces x decided)
+
+-- an open node gives way to one that is decided, by the best permutation that stands then; whether children may be cut off is told
+pub record MayReplace (cutting : Bool) (I : Problem) (gone kept added : List (List FieldValue)) : Type 0 where
+  pub at : Placement
+  pub placement : IsPlacement at
+  pub same_size : at.size ≡ I.size
+  pub old : Best
+  pub new : Best
+  pub decided : SearchTree
+  pub one : IsOneNode decided
+  pub valid : IsTree (judge_of cutting I new.cost) (whole at) decided
+  pub tuples : ReadsBest at old new decided gone kept added ⊎ TakesBest I at old new decided gone kept added

@@ -1,0 +1,97 @@
+-- Schedules of workers' turns, and the runs of a search that follow them.
+use Rattle.std.specs.Prelude.{◌≡◌, ℕ, ◌+◌, ◌-◌, ◌^◌, min, Bool, true, false, List, [], ◌∷◌, map, replicate, set, slice_get, Option, Some, None, Ok}
+use Rattle.tuple_space.specs.Step.{Reply}
+use Rattle.shared_space.specs.Event.{Did, advance, moved}
+use Rattle.shared_space.specs.Place.{Place, place_of}
+use Rattle.qap_cost.specs.Instance.{Problem}
+use Rattle.qap_search.specs.Worker.Hand.{HandValue, is_due, new_hand}
+use Rattle.qap_search.specs.Runs.Opening.{opening_of}
+use Rattle.qap_search.specs.Law.Search.{whole}
+use Rattle.qap_search.specs.Worker.Thinking.{Thinks}
+use Rattle.qap_search.specs.Worker.Turn.{Turn}
+use Rattle.space_txn.specs.Content.{content_of}
+use Rattle.qap_search.specs.Law.CutTree.{IsCutTree}
+use Rattle.qap_search.specs.declared.worker.report.Report.{Report}
+use Rattle.qap_search.specs.declared.worker.report.Ended.TheVariants.{Done}
+use Rattle.qap_search.specs.declared.runs.run.Run.{Run}
+use Rattle.qap_search.specs.declared.runs.schedule.Step.{Step}
+use Rattle.qap_search.specs.declared.runs.schedule.Step.TheVariants as steps
+
+-- where one worker stands, and what those had counted who were lost at its place
+pub record PostValue : Type 0 where
+  pub hand : HandValue
+  pub accepted : ℕ
+  pub refused : ℕ
+
+-- a run at one moment: the workers' places in their order, and the space
+pub record Moment : Type 0 where
+  pub posts : List PostValue
+  pub place : Place
+
+-- the thought that a step calls for, where it calls for one
+abbrev pub ThinksIf : Bool → HandValue → HandValue → Type 0
+ThinksIf true stepped new = Thinks stepped new
+ThinksIf false stepped new = new ≡ stepped
+
+-- a worker's turn: one step that found memory, and the thought that it calls for
+pub record TakesTurn (old : HandValue) (before : Place) (new : HandValue) (after : Place) : Type 0 where
+  pub stepped : HandValue
+  pub told : Bool
+  pub step : Turn Did old before (Ok told) stepped after
+  pub thought : ThinksIf (is_due stepped.stage) stepped new
+
+-- counts are kept as far as 64 bits count
+abbrev pub together : ℕ → ℕ → ℕ
+together x y = min (x + y) (2 ^ 64 - 1)
+
+-- a worker who has done nothing yet in the place of one that is lost with its transaction, which isn't ended; what that one
+-- counted is kept
+abbrev pub after_loss : Problem → ℕ → PostValue → PostValue
+after_loss I lease p = record {
+  hand = new_hand false I lease;
+  accepted = p.accepted + p.hand.accepted;
+  refused = together p.refused p.hand.refused;
+}
+
+-- the turn of the worker who stands there; where nobody does, nothing changes
+abbrev pub TurnOf : Option PostValue → ℕ → Moment → Moment → Type 0
+TurnOf None w old new = new ≡ old
+TurnOf (Some post) w old new =
+    (hand : HandValue) × TakesTurn post.hand old.place hand new.place × (new.posts ≡ set old.posts w (record post { hand = hand }))
+
+-- the moment after the worker who stands there is lost
+abbrev pub without_worker : Problem → ℕ → Option PostValue → ℕ → Moment → Moment
+without_worker I lease None w old = old
+without_worker I lease (Some post) w old = record old { posts = set old.posts w (after_loss I lease post) }
+
+-- what one step of a schedule does: a turn is one event of the space, the moment's moving on is one, and a loss is none
+abbrev pub Moves : Problem → ℕ → Moment → Step → Moment → Type 0
+Moves I lease old (steps.Turn w) new = TurnOf (slice_get old.posts w) w old new
+Moves I lease old (steps.Advance moment) new =
+    (reply : Reply) × Did old.place (advance moment) (moved reply) new.place × (new.posts ≡ old.posts)
+Moves I lease old (steps.Lose w) new = new ≡ without_worker I lease (slice_get old.posts w) w old
+
+-- what a schedule does, step by step
+abbrev pub Runs : Problem → ℕ → Moment → List Step → Moment → Type 0
+Runs I lease old [] new = new ≡ old
+Runs I lease old (s ∷ rest) new = (next : Moment) × Moves I lease old s next × Runs I lease next rest new
+
+-- the beginning: the space as a search finds it, and so many workers who have done nothing yet
+abbrev pub beginner : Problem → ℕ → PostValue
+beginner I lease = record { hand = new_hand false I lease; accepted = 0; refused = 0 }
+
+abbrev pub start_of : Problem → ℕ → ℕ → Moment
+start_of I lease workers =
+    record { posts = replicate workers (beginner I lease); place = place_of (opening_of (whole I)) workers 0 false }
+
+-- what is told of the workers at one place
+abbrev pub report_of : PostValue → Report
+report_of p = record { accepted = p.accepted + p.hand.accepted; refused = together p.refused p.hand.refused; ended = Done }
+
+-- The run is one of the schedule, by workers whose transactions may take 1000 ms, and its tuples are a cut tree of the instance.
+pub record IsRun (I : Problem) (workers : ℕ) (schedule : List Step) (r : Run) : Type 0 where
+  pub end : Moment
+  pub runs : Runs I 1000 (start_of I 1000 workers) schedule end
+  pub space : r.space ≡ end.place.world
+  pub reports : r.reports.items ≡ map report_of end.posts
+  pub cut_tree : IsCutTree (whole I) (content_of r.space) r.space.commits

@@ -1,0 +1,44 @@
+-- The proof that a search over any node comes to, where nodes may be left open.
+use Rattle.std.specs.Prelude.{◌≡◌, ◌≤ℤ◌, ℕ, List, length, Option}
+use Rattle.qap_proof.specs.Claim.{Claim, IsProof, Proves}
+use Rattle.shared_space.specs.Limit.{IsWithin}
+use Rattle.tuple_match.specs.FieldValue.{FieldValue}
+use Rattle.qap_search.specs.Runs.Answer.{accepted_of}
+use Rattle.qap_search.specs.Law.CutTree.{IsCutTree}
+use Rattle.qap_search.specs.Certificate.LeafBounds.{IsBoundOf}
+use Rattle.qap_search.specs.Certificate.OpenNodes.{ClosedTo}
+use Rattle.qap_search.specs.Tuples.Piece.{open_count}
+use Rattle.qap_search.specs.Law.Search.{Search, NoneBelow}
+use Rattle.qap_search.specs.declared.runs.answer.Proved.{Proved}
+
+-- the proof shows its bound for the search's root, by the best permutation and the tree of this cut tree, with each open node closed by
+-- the duals of a least assignment; the bound is the least of the cost and of what the closed nodes show
+pub record IsProofOf (S : Search) (content : List (List FieldValue)) (commits : ℕ) (h : IsCutTree S content commits) (C : Claim) : Type 0 where
+  pub shape : IsProof C
+  pub proves : Proves S.instance C
+  pub root : C.root ≡ S.root
+  pub best : h.permutation ≡ C.permutation
+  pub costs : h.cost ≡ C.cost
+  pub closed : ClosedTo S.instance S.root h.tree C.tree
+  pub least : IsBoundOf S.instance S.root C.cost C.tree C.bound
+
+-- after so many commits the search has left a cut tree with so many open nodes, and this is its proof
+pub record LeavesProof (S : Search) (commits left : ℕ) (C : Claim) : Type 0 where
+  pub content : List (List FieldValue)
+  pub tree : IsCutTree S content commits
+  pub counted : open_count content ≡ left
+  pub proof : IsProofOf S content commits tree C
+
+-- a proof of the instance over the root, whose permutation costs at most what was known, and whose bound is the cost where no node is left
+-- open; and a report for each of so many workers, whose accepted commits are together those of the search that has left it, and at most
+-- the limit
+pub record IsProvedFrom (S : Search) (workers : ℕ) (limit : Option ℕ) (a : Proved) : Type 0 where
+  pub shape : IsProof a.proof
+  pub proves : Proves S.instance a.proof
+  pub root : a.proof.root ≡ S.root
+  pub no_dearer : a.proof.cost ≤ℤ S.known.cost
+  pub none_below : NoneBelow S a.proof.bound
+  pub closed : a.open_nodes ≡ 0 → a.proof.bound ≡ a.proof.cost
+  pub left : LeavesProof S (accepted_of a.reports.items) a.open_nodes a.proof
+  pub one_each : length a.reports.items ≡ workers
+  pub within : IsWithin limit (accepted_of a.reports.items)

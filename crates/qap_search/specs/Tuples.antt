@@ -1,0 +1,5 @@
+-- The tuples of a search.
+pub mod DecidedTuples
+pub mod Found
+pub mod Piece
+pub mod Pieces

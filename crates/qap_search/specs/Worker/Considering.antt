@@ -1,0 +1,50 @@
+-- A worker's thought on the node that it took.
+use Rattle.std.specs.Prelude.{◌≡◌, ◌==◌, ℕ, Bool, true, false, find, Option, Some, None, IfSome, Result, Ok, Err}
+use Rattle.std.specs.declared.alloc.AllocError.{AllocError}
+use Rattle.qap_cost.specs.Instance.{Problem}
+use Rattle.qap_cost.specs.Placement.{Placement, IsPlacement}
+use Rattle.space_txn.specs.Txn.{TxnValue}
+use Rattle.space_txn.specs.declared.mark.Mark.{Mark}
+use Rattle.qap_search.specs.Tuples.Found.{IsOpenNode}
+use Rattle.qap_search.specs.Tuples.Piece.{node_tuple}
+use Rattle.qap_search.specs.Worker.Standing.{IsLastThought}
+use Rattle.qap_search.specs.declared.worker.stage.LastThought.{LastThought}
+use Rattle.qap_search.specs.declared.worker.stage.Stage.{Stage}
+use Rattle.qap_search.specs.declared.worker.stage.Stage.TheVariants.{Taken, Considered, GivingUp}
+
+-- the transaction has marked this entry, whose tuple is that of the open node x of size n and there to stay
+pub record IsNodeAt (n number : ℕ) (t : TxnValue) (x : Placement) : Type 0 where
+  pub mark : Mark
+  pub here : find (λ m. m.entry == number) t.marks ≡ Some mark
+  pub permanent : mark.permanent ≡ true
+  pub is : mark.tuple ≡ node_tuple x
+  pub placement : IsPlacement x
+  pub size : x.size ≡ n
+
+-- where it has marked this entry, its tuple has a lease that ends or isn't that of an open node of size n
+abbrev pub HasNoNode : ℕ → ℕ → TxnValue → Type 0
+HasNoNode n number t = (mark : Mark) → find (λ m. m.entry == number) t.marks ≡ Some mark → mark.permanent ≡ true → IsOpenNode n mark.tuple → ⊥
+
+-- the last thought is on x
+abbrev pub IsOnNode : Option LastThought → Placement → Type 0
+IsOnNode None x = ⊥
+IsOnNode (Some l) x = l.node ≡ x
+
+-- x has been thought on; where the last thought was on it, that is kept
+pub record IsThoughtOn (cutting : Bool) (I : Problem) (x : Placement) (old new : Option LastThought) : Type 0 where
+  pub last : LastThought
+  pub is : new ≡ Some last
+  pub node : last.node ≡ x
+  pub right : IfSome old (IsLastThought cutting I) → IsLastThought cutting I last
+  pub kept : (before : LastThought) → old ≡ Some before → before.node ≡ x → before ≡ last
+
+-- what came of a thought that was due: whether the node was thought on
+abbrev pub Considers : Bool → Problem → Stage → Option LastThought → Result Bool AllocError → Option LastThought → Type 0
+Considers cutting I (Taken t number) old (Ok true) new = (x : Placement) × IsNodeAt I.size number t x × IsThoughtOn cutting I x old new
+Considers cutting I (Taken t number) old (Ok false) new = HasNoNode I.size number t × (new ≡ old)
+Considers cutting I stage old (Err error) new = new ≡ old
+Considers cutting I stage old told new = Unit {0}
+
+abbrev pub stage_after : Bool → TxnValue → Stage
+stage_after true t = Considered t
+stage_after false t = GivingUp t

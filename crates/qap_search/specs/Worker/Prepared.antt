@@ -1,0 +1,25 @@
+-- What a worker has worked out to write before it has read what the best permutation costs.
+use Rattle.std.specs.Prelude.{Bool, List, ℤ, IfSome, Option}
+use Rattle.qap_cost.specs.Instance.{Problem}
+use Rattle.space_txn.specs.Content.{SameItems, added_of}
+use Rattle.tuple_match.specs.FieldValue.{FieldValue}
+use Rattle.tuple_space.specs.declared.write.Write.{Write}
+use Rattle.qap_search.specs.Node.Decision.{DecidesBy}
+use Rattle.qap_search.specs.Worker.Hand.{thought_of}
+use Rattle.qap_search.specs.Node.Thought.{ThoughtValue}
+use Rattle.qap_search.specs.declared.worker.prepared.Prepared.{Prepared}
+use Rattle.qap_search.specs.declared.worker.stage.LastThought.{LastThought}
+
+-- the writes are those of what the thought makes of its node where the best permutation costs c
+pub record AreWritesFor (cutting : Bool) (I : Problem) (last : ThoughtValue) (writes : List Write) (c : ℤ) : Type 0 where
+  pub tuples : List (List FieldValue)
+  pub written : DecidesBy cutting I c last tuples
+  pub added : SameItems (added_of writes) tuples
+
+-- what has been worked out is that, for the cost that it is for, if any
+abbrev pub IsPrepared : Bool → Problem → ThoughtValue → Prepared → Type 0
+IsPrepared cutting I last p = IfSome p.cost (AreWritesFor cutting I last p.writes)
+
+-- a worker has worked that out of its last thought
+abbrev pub HasPrepared : Bool → Problem → Option LastThought → Prepared → Type 0
+HasPrepared cutting I last p = IfSome last (λ l. IsPrepared cutting I (thought_of l) p)

@@ -1,0 +1,84 @@
+-- What a worker's transaction holds, by where it stands in its turn.
+use Rattle.std.specs.Prelude.{◌≡◌, ℕ, Bool, true, [], ◌∷◌, Option, Some, None, IfSome}
+use Rattle.qap_cost.specs.Instance.{Problem, IsInstance}
+use Rattle.qap_cost.specs.Placement.{Placement, IsPlacement}
+use Rattle.shared_space.specs.Law.{Content, MayCommit}
+use Rattle.space_txn.specs.Machine.{Answer, found, nothing, done, refused}
+use Rattle.space_txn.specs.Txn.{TxnValue}
+use Rattle.space_txn.specs.declared.mark.Mark.{Mark}
+use Rattle.space_txn.specs.declared.txn.Found.TheVariants.{Entry as Stored, Own}
+use Rattle.qap_search.specs.Tuples.Found.{IsOpenNode, best_template}
+use Rattle.qap_search.specs.Worker.Hand.{cuts, last_of}
+use Rattle.qap_search.specs.Tuples.Piece.{node_template, node_tuple}
+use Rattle.qap_search.specs.Law.Replacement.{MayReplace}
+use Rattle.qap_search.specs.Worker.Prepared.{HasPrepared}
+use Rattle.qap_search.specs.Law.SearchLaw.{IsSearchLaw}
+use Rattle.qap_search.specs.Node.Thought.{IsThought, ThoughtValue}
+use Rattle.qap_search.specs.declared.worker.job.Job.{Job}
+use Rattle.qap_search.specs.declared.worker.stage.LastThought.{LastThought}
+use Rattle.qap_search.specs.declared.worker.stage.Stage.{Stage}
+use Rattle.qap_search.specs.declared.worker.stage.Tools.{Tools}
+use Rattle.qap_search.specs.declared.worker.stage.Stage.TheVariants.{Idle, Begun, Taken, Considered, Ready, GivingUp}
+
+-- it took this entry and no other, whose tuple is an open node's where it is there to stay
+pub record HasTaken (I : Problem) (t : TxnValue) (number : ℕ) : Type 0 where
+  pub mark : Mark
+  pub marks : t.marks ≡ mark ∷ []
+  pub writes : t.writes ≡ []
+  pub entry : mark.entry ≡ number
+  pub taken : mark.taken ≡ true
+  pub node : mark.permanent ≡ true → IsOpenNode I.size mark.tuple
+
+-- what is known of it after the call that takes an open node's entry
+abbrev pub IsFoundNode : Problem → Answer → TxnValue → Type 0
+IsFoundNode I (found (Stored number)) t = HasTaken I t number
+IsFoundNode I (found (Own place)) t = Unit {0}
+IsFoundNode I nothing t = Unit {0}
+IsFoundNode I (refused error) t = (t.marks ≡ []) × (t.writes ≡ [])
+IsFoundNode I done t = Unit {0}
+
+-- it took the tuple of the open node x, which was there to stay, and nothing else
+pub record HasNode (x : Placement) (t : TxnValue) : Type 0 where
+  pub mark : Mark
+  pub marks : t.marks ≡ mark ∷ []
+  pub writes : t.writes ≡ []
+  pub taken : mark.taken ≡ true
+  pub permanent : mark.permanent ≡ true
+  pub is : mark.tuple ≡ node_tuple x
+
+abbrev pub IsStage : Bool → Problem → Option ThoughtValue → Stage → Type 0
+IsStage cutting I last Idle = Unit {0}
+IsStage cutting I last (Begun t) = (t.marks ≡ []) × (t.writes ≡ [])
+IsStage cutting I last (Taken t number) = HasTaken I t number
+IsStage cutting I None (Considered t) = ⊥
+IsStage cutting I (Some last) (Considered t) = HasNode last.node t
+IsStage cutting I last (Ready t cost) = MayCommit (MayReplace cutting I) t
+IsStage cutting I last (GivingUp t) = Unit {0}
+
+-- what was thought is right
+pub record IsLastThought (cutting : Bool) (I : Problem) (l : LastThought) : Type 0 where
+  pub placement : IsPlacement l.node
+  pub size : l.node.size ≡ I.size
+  pub thought : IsThought cutting I l.node l.thought
+
+-- what holds of every worker
+pub record IsHand (I : Problem) (tools : Tools) (last : Option LastThought) (stage : Stage) : Type 0 where
+  pub node : tools.node ≡ node_template
+  pub best : tools.best ≡ best_template
+  pub instance : IsInstance I
+  pub thought : IfSome last (IsLastThought (cuts tools.branching) I)
+  pub stage_is : IsStage (cuts tools.branching) I (last_of last) stage
+
+-- such a worker, on a space that holds the search of its instance
+abbrev pub IsSearchHand : (Content → ℕ → Type 0) → (Content → Content → Content → Type 0) → Tools → Option LastThought → Stage → Type 0
+IsSearchHand lawful allowed tools last stage = (I : Problem) × IsHand I tools last stage × IsSearchLaw (cuts tools.branching) I lawful allowed
+
+-- what holds of each node that a worker has at hand
+pub record IsJob (I : Problem) (tools : Tools) (j : Job) : Type 0 where
+  pub hand : IsHand I tools j.last j.stage
+  pub prepared : HasPrepared (cuts tools.branching) I j.last j.prepared
+
+-- a worker has no node there yet
+pub record IsIdle (j : Job) : Type 0 where
+  pub stage : j.stage ≡ Idle
+  pub last : j.last ≡ None

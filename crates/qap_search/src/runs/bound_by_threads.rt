@@ -1,0 +1,105 @@
+//! The bound by the open nodes that entries tell, worked out by many threads.
+
+ghost use denote.Param.Send.{IsSync};
+ghost use Rattle.std.specs.Prelude.{◌≡◌, ◌≤◌, ◌++◌, All, IfOk, length, ℕ};
+ghost use Rattle.qap_search.specs.Runs.OpenBound.{IsOpenBound, IsSoundTuple};
+ghost use Rattle.tuple_space.specs.Rows.{permanent_tuples};
+
+use crate::certificate::closing_open_nodes::Closing;
+use crate::certificate::closing_threads::Many;
+use crate::runs::best_and_open_entries::{is_open_at, open_among, open_bound};
+use gilmore_lawler::RankedInstance;
+use std::alloc::{AllocError, Global};
+use std::thread;
+use std::thread::Threads;
+use tuple_space::Entry;
+
+/// The least of this cost and of the values of the open nodes among the permanent tuples: by many threads with memory of their own, or, where
+/// that isn't to be had, by the calling thread in the memory that was taken before.
+pub(crate) fn bound_by<R: Threads + Sync>(
+    many: &Many<'_, R>,
+    alloc: Global,
+    instance: &RankedInstance,
+    closing: &mut Closing,
+    entries: &[Entry],
+    cost: i128,
+) -> Result<i128, AllocError>
+    requires { All (IsSoundTuple instance.now.size) (permanent_tuples entries.now) }
+    ensures { IfOk result (IsOpenBound instance.now (permanent_tuples entries.now) cost) }
+{
+    if let Ok(bound) = bound_by_halves(many.rt, alloc, instance, many.halvings, entries, cost) {
+        return Ok(bound);
+    }
+    open_bound(instance, closing, entries, cost)
+}
+
+/// The same, by as many threads as halving so often gives parts.
+#[cycle(bounds)]
+fn bound_by_halves<R: Threads + Sync>(
+    rt: &R,
+    alloc: Global,
+    instance: &RankedInstance,
+    halvings: u32,
+    entries: &[Entry],
+    cost: i128,
+) -> Result<i128, AllocError>
+    requires { All (IsSoundTuple instance.now.size) (permanent_tuples entries.now) }
+    ensures { IfOk result (IsOpenBound instance.now (permanent_tuples entries.now) cost) }
+{
+    if halvings == 0 {
+        return bound_in_own_memory(alloc, instance, entries, cost);
+    }
+    let (front, back) = halves(entries);
+    let fewer = halvings - 1;
+    let first = move || -> Result<i128, AllocError>
+        requires sync { IsSync R.row }
+        requires sound { All (IsSoundTuple instance.now.size) (permanent_tuples front.now) }
+        ensures { IfOk result (IsOpenBound instance.entry.now (permanent_tuples front.entry.now) cost) }
+    { bound_by_halves(rt, alloc, instance, fewer, front, cost) };
+    let second = move || -> Result<i128, AllocError>
+        requires sync { IsSync R.row }
+        requires sound { All (IsSoundTuple instance.now.size) (permanent_tuples back.now) }
+        ensures { IfOk result (IsOpenBound instance.entry.now (permanent_tuples back.entry.now) cost) }
+    { bound_by_halves(rt, alloc, instance, fewer, back, cost) };
+    let (left, right) = thread::join(rt, first, second);
+    Ok(left?.min(right?))
+}
+
+/// The same, by the calling thread, in memory that it takes for it.
+fn bound_in_own_memory(
+    alloc: Global,
+    instance: &RankedInstance,
+    entries: &[Entry],
+    cost: i128,
+) -> Result<i128, AllocError>
+    requires { All (IsSoundTuple instance.now.size) (permanent_tuples entries.now) }
+    ensures { IfOk result (IsOpenBound instance.now (permanent_tuples entries.now) cost) }
+{
+    let mut closing = Closing::with_room(alloc, instance.instance().size())?;
+    open_bound(instance, &mut closing, entries, cost)
+}
+
+/// The entries in two parts with as many open nodes each.
+fn halves(entries: &[Entry]) -> (&[Entry], &[Entry])
+    ensures parts { permanent_tuples entries.now ≡ permanent_tuples result.0.now ++ permanent_tuples result.1.now }
+    ensures front { (n : ℕ) → All (IsSoundTuple n) (permanent_tuples entries.now) → All (IsSoundTuple n) (permanent_tuples result.0.now) }
+    ensures back { (n : ℕ) → All (IsSoundTuple n) (permanent_tuples entries.now) → All (IsSoundTuple n) (permanent_tuples result.1.now) }
+{
+    entries.split_at(middle(entries))
+}
+
+/// The place before which half of the open nodes stand, since these stand together.
+fn middle(entries: &[Entry]) -> usize
+    ensures { result ≤ length entries.now }
+{
+    let mut before = open_among(entries) / 2;
+    for place in 0..entries.len() {
+        if is_open_at(&entries[place]) {
+            if before == 0 {
+                return place;
+            }
+            before -= 1;
+        }
+    }
+    entries.len()
+}
