@@ -62,7 +62,7 @@ HasNoTexts s e = NoInstance s e ⊎ (SecondUnread s e ⊎ WantsMemory s e)
 abbrev pub IsNoSolution : Problem → List ℕ → RunError → Type 0
 IsNoSolution I text e = (fault : TextError) × (e ≡ of_text fault) × IsSolutionFault text I.size fault
 
--- the text has this first fault as one of a certificate that shows a least cost
+-- the text has this first fault as one of a certificate, of a least cost or of a gap
 abbrev pub IsNoProof : Problem → List ℕ → RunError → Type 0
 IsNoProof I text e = (fault : CertError) × (e ≡ of_certificate fault) × IsRefused I text fault
 

@@ -12,14 +12,12 @@ mod value;
 
 use answering::{answered, refused};
 use command_line::{Files, Question, Request, USAGE, parse};
-use qap_command::CommandError;
-use qap_io::{Counted, Status};
+use qap_command::{CommandError, tell_usage, words};
+use qap_io::Counted;
 use refusal::RunError;
-use std::env;
 use std::fs::{self, File};
 use std::io::Read;
 use std::process::ExitCode;
-use std::rt::Env;
 
 #[cfg(test)]
 mod hostile_tests;
@@ -27,7 +25,7 @@ mod hostile_tests;
 mod tests;
 
 fn main(rt: HostRuntime) -> ExitCode {
-    let words = match arguments(&rt) {
+    let words = match words(&rt) {
         Ok(words) => words,
         Err(error) => return tell(&rt, error),
     };
@@ -41,21 +39,13 @@ fn main(rt: HostRuntime) -> ExitCode {
 fn tell(rt: &HostRuntime, error: CommandError) -> ExitCode {
     match error {
         CommandError::OutOfMemory => refuse(rt, RunError::OutOfMemory),
-        CommandError::Usage => {
-            let _ = rt.eprintln(USAGE);
-            ExitCode::from(Status::Usage.code())
-        }
+        CommandError::Usage => tell_usage(rt, USAGE),
     }
 }
 
 /// Tells a refusal on standard error.
 fn refuse(rt: &HostRuntime, error: RunError) -> ExitCode {
     ExitCode::from(refused(error, &mut Counted::new(rt.stderr())))
-}
-
-/// The words of the program's own command line.
-fn arguments(rt: &(impl Env + AllocGlobal)) -> Result<Vec<String>, CommandError> {
-    Ok(env::args(rt)?.collect(rt.alloc())?)
 }
 
 /// Answers a request. Named files are opened before any of them is read.

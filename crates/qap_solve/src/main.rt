@@ -14,11 +14,10 @@ ghost use Rattle.qap_solve.specs.Options.{MayRun};
 use answering::{answered, refused};
 use command_line::{Request, USAGE, parse};
 use elapsed::Elapsed;
-use qap_command::CommandError;
-use qap_io::{Counted, Status};
+use qap_command::{CommandError, tell_usage, words};
+use qap_io::Counted;
 use qap_search::{Always, Pace};
 use refusal::RunError;
-use std::env;
 use std::io::{self, BufWriter, Stdout};
 use std::process::ExitCode;
 use std::rt::Env;
@@ -38,10 +37,7 @@ fn main(rt: HostRuntime) -> ExitCode {
     match requested(&rt) {
         Ok(request) => run(&rt, &rt, request),
         Err(CommandError::OutOfMemory) => refuse(&rt, RunError::OutOfMemory),
-        Err(CommandError::Usage) => {
-            let _ = rt.eprintln(USAGE);
-            ExitCode::from(Status::Usage.code())
-        }
+        Err(CommandError::Usage) => tell_usage(&rt, USAGE),
     }
 }
 
@@ -54,8 +50,7 @@ fn refuse(rt: &HostRuntime, error: RunError) -> ExitCode {
 fn requested(rt: &(impl Env + AllocGlobal)) -> Result<Request, CommandError>
     ensures { IfOk result MayRun }
 {
-    let words: Vec<String> = env::args(rt)?.collect(rt.alloc())?;
-    parse(rt.alloc(), &words)
+    parse(rt.alloc(), &words(rt)?)
 }
 
 /// Answers a request on standard output. `system` is what threads, waiting and the time are asked of.

@@ -25,9 +25,8 @@ impl Spent {
     /// The memory for another transaction. What lies in it is dropped.
     pub fn emptied(self) -> Spare {
         let Spent { mut lists } = self;
-        let alloc = lists.marks.allocator();
         lists.marks.clear();
-        lists.writes = Writes::new(alloc);
+        lists.writes.clear();
         Spare { lists }
     }
 }

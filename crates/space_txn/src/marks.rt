@@ -35,11 +35,6 @@ impl Marks {
         }
     }
 
-    /// Where the memory comes from.
-    pub(crate) fn allocator(&self) -> Global {
-        *self.places.allocator()
-    }
-
     /// Drops all marks, and keeps their memory.
     pub(crate) fn clear(&mut self)
         ensures { self.new.items ≡ [] }

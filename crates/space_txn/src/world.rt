@@ -19,9 +19,8 @@ use crate::transactions::Transactions;
 use crate::txn::{Found, Txn};
 use std::alloc::{AllocError, Global};
 use std::marker::Model;
-use std::mem::replace;
 use tuple_match::{Template, Tuple};
-use tuple_space::{Claim, Entry, EntryId, Lease, MOST, Space, SpaceError, Writes, granted_end};
+use tuple_space::{Claim, Entry, EntryId, Lease, MOST, Space, SpaceError, granted_end};
 
 /// A space of tuples with transactions.
 #[derive(Debug, Drop)]
@@ -309,9 +308,7 @@ impl TxnSpace {
             return Err((TxnError::Exhausted, txn));
         }
         let Txn { number, mut lists } = txn;
-        let writes = replace(&mut lists.writes, Writes::new(self.live.allocator()));
-        if let Err((error, writes)) = self.space.put_all(writes) {
-            lists.writes = writes;
+        if let Err(error) = self.space.put_from(&mut lists.writes) {
             return Err((refusal_of(error), Txn { number, lists }));
         }
         self.space.remove_taken(number);

@@ -16,7 +16,7 @@ use crate::held::Held;
 use crate::hold::Holds;
 use crate::index::Bucket;
 use crate::rows::take_number;
-use crate::write::{Rows, Write, Writes};
+use crate::write::{Rows, Write, Writes, withdrawn};
 
 /// Whether a holder holds the entry of a number.
 pub(crate) fn is_entry_held_by(entries: &Entries, number: u64, holder: u64) -> bool
@@ -194,17 +194,22 @@ fn put_row(entries: &mut Entries, row: Option<Write>, moment: u64, last: u64) ->
     number
 }
 
-/// Puts writes out in order, where there is room for them, and tells the number last given.
-pub(crate) fn put_rows(entries: &mut Entries, rows: Rows, moment: u64, last: u64) -> u64
+/// Puts writes out in order, where there is room for them, and tells the number last given. They are gone from their places then,
+/// whose memory stays.
+pub(crate) fn put_rows(entries: &mut Entries, rows: &mut Rows, moment: u64, last: u64) -> u64
     requires early { moment ≤ most }
-    requires few { last + put_count (items_in rows.items) ≤ most }
-    requires room { put_count (items_in rows.items) ≤ entries.old.room }
+    requires few { last + put_count (items_in rows.old.items) ≤ most }
+    requires room { put_count (items_in rows.old.items) ≤ entries.old.room }
     requires new { All (λ e. e.number ≤ last) entries.old.items }
-    ensures { space_of entries.new.items moment result ≡ put_each (space_of entries.old.items moment last) (items_in rows.items) }
+    ensures put { space_of entries.new.items moment result ≡ put_each (space_of entries.old.items moment last) (items_in rows.old.items) }
+    ensures emptied { rows.new.items ≡ [] }
+    ensures memory { rows.new.capacity ≡ rows.old.capacity }
 {
     let mut number = last;
-    for row in rows {
+    for place in 0..rows.len() {
+        let row = withdrawn(rows, place);
         number = put_row(entries, row, moment, number);
     }
+    rows.clear();
     number
 }

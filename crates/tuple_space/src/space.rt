@@ -1,6 +1,6 @@
 //! The space and its calls.
 
-ghost use Rattle.std.specs.Prelude.{◌≡◌, ◌≤◌, ◌+◌, ◌^◌, ◌==◌, ◌&&◌, true, IsOk, IfErr, IfSome, IfNone, IfOk, OnErr, OnOk, count_by, find, option_map};
+ghost use Rattle.std.specs.Prelude.{◌≡◌, ◌≤◌, ◌+◌, ◌^◌, ◌==◌, ◌&&◌, [], true, IsOk, IfErr, IfSome, IfNone, IfOk, OnErr, OnOk, count_by, find, option_map};
 ghost use Rattle.std.specs.Option.{option_copied};
 ghost use Rattle.tuple_space.specs.Entry.{is_counted, is_held_by};
 ghost use Rattle.tuple_space.specs.Space.{IsSpace, held_by, most, opening, released, with_entries, without_taken};
@@ -309,27 +309,37 @@ impl Space {
         ensures handed_back { IfErr result (λ back. back.1 ≡ writes) }
         ensures kind { IfErr result (λ back. IsPutRefusal self.old writes back.0) }
     {
-        let count = count_puts(&writes);
+        let mut writes = writes;
+        match self.put_from(&mut writes) {
+            Ok(()) => Ok(()),
+            Err(error) => Err((error, writes)),
+        }
+    }
+
+    /// The same from where the writes lie: there are none left then, and their memory stays there. Refused, all stay.
+    pub fn put_from(&mut self, writes: &mut Writes) -> Result<(), SpaceError>
+        ensures ok { OnOk result ((self.old.last + put_count writes.old ≤ most) × (self.new ≡ put_each self.old writes.old)) }
+        ensures emptied { OnOk result (writes.new ≡ []) }
+        ensures err { OnErr result ((self.new ≡ self.old) × (writes.new ≡ writes.old)) }
+        ensures kind { IfErr result (IsPutRefusal self.old writes.old) }
+    {
+        let count = count_puts(writes);
         if count as u64 > MOST - self.last {
-            return Err((SpaceError::Exhausted, writes));
+            return Err(SpaceError::Exhausted);
         }
         if count == 0 {
+            writes.clear();
             return Ok(());
         }
         if self.entries.reserve(count).is_err() {
-            return Err((SpaceError::OutOfMemory, writes));
+            return Err(SpaceError::OutOfMemory);
         }
-        if add_writes(&mut self.buckets, &writes, self.last).is_err() {
-            drop_writes(&mut self.buckets, &writes, self.last);
-            return Err((SpaceError::OutOfMemory, writes));
+        if add_writes(&mut self.buckets, writes, self.last).is_err() {
+            drop_writes(&mut self.buckets, writes, self.last);
+            return Err(SpaceError::OutOfMemory);
         }
-        self.first_end = end_with_all(self.first_end, &writes, self.moment);
-        self.last = put_rows(
-            &mut self.entries,
-            writes.into_rows(),
-            self.moment,
-            self.last,
-        );
+        self.first_end = end_with_all(self.first_end, writes, self.moment);
+        self.last = put_rows(&mut self.entries, &mut writes.rows, self.moment, self.last);
         Ok(())
     }
 

@@ -1,6 +1,6 @@
 //! Tuples that are to be put out together.
 
-ghost use Rattle.std.specs.Prelude.{◌≡◌, ◌<◌, ◌++◌, ◌∷◌, [], false, length, map, Some, IfErr, IsOk, OnOk, OnErr, slice_get, slice_index_or};
+ghost use Rattle.std.specs.Prelude.{◌≡◌, ◌<◌, ◌+◌, ◌++◌, ◌∷◌, [], false, drop, length, IfErr, IsOk, OnOk, OnErr, slice_get, slice_index_or};
 ghost use Rattle.std.specs.Option.{option_copied};
 ghost use Rattle.tuple_space.specs.Writes.{taken_at};
 
@@ -27,7 +27,7 @@ pub(crate) type Rows = SmallVec<Option<Write>, 4>;
 /// Writes in order.
 #[derive(Debug, Drop)]
 pub struct Writes {
-    rows: Rows,
+    pub(crate) rows: Rows,
 }
 
 impl Model for Writes {
@@ -113,10 +113,20 @@ impl Writes {
         write.taken = true;
     }
 
-    pub(crate) fn into_rows(self) -> Rows
-        ensures { result.items ≡ map Some self }
+    /// Drops all writes, and keeps their memory.
+    pub fn clear(&mut self)
+        ensures { self.new ≡ [] }
     {
-        let Writes { rows } = self;
-        rows
+        self.rows.clear();
     }
+}
+
+/// Takes out what a place holds, which is empty then.
+pub(crate) fn withdrawn(rows: &mut Rows, place: usize) -> Option<Write>
+    requires { place < length rows.old.items }
+    ensures rest { drop place rows.old.items ≡ result ∷ drop (place + 1) rows.new.items }
+    ensures places { length rows.new.items ≡ length rows.old.items }
+    ensures memory { rows.new.capacity ≡ rows.old.capacity }
+{
+    rows[place].take()
 }

@@ -222,7 +222,7 @@ fn number_below(number: i128, count: usize) -> Option<u16>
 }
 
 /// Takes what was decided at the root from the end of the nodes.
-#[tactic(auto, using(crate::proofs::Taking::none_at_end))]
+#[tactic(auto, using(crate::proofs::CertificateLemmas::Taking::none_at_end))]
 fn decision_at_root(root: &Partial, nodes: &mut Vec<DecidedNode>) -> Option<Decision>
     ensures { MatchOption result
         (BeginWithNone (whole root.now) (pos 0) (ahead nodes.old.items))
@@ -237,7 +237,7 @@ fn decision_at_root(root: &Partial, nodes: &mut Vec<DecidedNode>) -> Option<Deci
 }
 
 /// Takes what was decided at the node that puts the facility at the location too.
-#[tactic(auto, using(crate::proofs::Taking::none_at_end))]
+#[tactic(auto, using(crate::proofs::CertificateLemmas::Taking::none_at_end))]
 fn decision_at_child(
     parent: &Partial,
     facility: u16,

@@ -214,7 +214,7 @@ enum Part {
 }
 
 /// What the field is.
-#[tactic(auto, using(crate::proofs::Fields::number_from, crate::proofs::Fields::numbers_from, crate::proofs::Fields::word_from))]
+#[tactic(auto, using(crate::proofs::TupleLemmas::Fields::number_from, crate::proofs::TupleLemmas::Fields::numbers_from, crate::proofs::TupleLemmas::Fields::word_from))]
 fn part_of(field: Field) -> Part
     ensures { IsPart result (field_value field) }
 {

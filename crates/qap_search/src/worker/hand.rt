@@ -252,11 +252,13 @@ impl Hand {
         Ok(())
     }
 
-    /// Works out what the next step is to write, where that reads the best permutation and finds the cost that the worker remembers; the
-    /// step writes it then as it is. Where there is no memory, and where the cost is another one, the step works it out.
+    /// Makes ready, outside the space's lock, for the steps that come next. Where the next one reads the best permutation and finds the
+    /// cost that the worker remembers, it writes then as it is what is worked out here; where there is no memory, and where the cost is
+    /// another one, the step works it out. The next transaction gets its memory, and what the last ones held is dropped.
     pub fn prepare(&mut self)
         ensures { self.new ≡ self.old }
     {
+        self.job.reserve.restock(self.tools.alloc);
         if !matches!(self.job.stage, Stage::Considered(_))
             || is_hopeful(&self.tally, &self.job.last)
         {
@@ -270,7 +272,7 @@ impl Hand {
         );
     }
 
-    /// Keeps what a transaction held that has ended: the worker's next thought, which comes outside the space's lock, drops it.
+    /// Keeps what a transaction held that has ended, to be dropped when it next thinks or makes ready, outside the space's lock.
     pub fn keep(&mut self, spent: Spent)
         ensures { self.new ≡ self.old }
     {

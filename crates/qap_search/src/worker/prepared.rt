@@ -65,7 +65,7 @@ impl Prepared {
         };
         let order = order_of(alloc, &last.thought, cost)?;
         let tuples = by_entries(alloc, tuples, &order)?;
-        self.writes = Writes::new(alloc);
+        self.writes.clear();
         push_forever(&mut self.writes, tuples)?;
         self.cost = Some(cost);
         Ok(())

@@ -70,6 +70,8 @@ impl Desk {
 pub(crate) struct Reserve {
     /// What the transaction held that was ended last.
     spent: Option<Spent>,
+    /// What the one before it held: a worker that commits and then finds no node ends two in one taking of the lock.
+    older: Option<Spent>,
     /// What the next one is to lie in.
     pub(crate) spare: Option<Spare>,
 }
@@ -79,18 +81,20 @@ impl Reserve {
     pub(crate) fn new() -> Reserve {
         Reserve {
             spent: None,
+            older: None,
             spare: None,
         }
     }
 
-    /// Keeps what a transaction held that has ended.
+    /// Keeps what a transaction held that has ended, beside what the last one held.
     pub(crate) fn keep(&mut self, spent: Spent) {
-        self.spent = Some(spent);
+        self.older = self.spent.replace(spent);
     }
 
     /// Sees to it that the next transaction has memory, where there is any, before the space's lock is taken for it. What the last
-    /// one held is dropped.
+    /// ones held is dropped.
     pub(crate) fn restock(&mut self, alloc: Global) {
+        self.older = None;
         let spent = self.spent.take();
         if self.spare.is_some() {
             return;

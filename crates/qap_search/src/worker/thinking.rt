@@ -136,7 +136,7 @@ fn read_taken(n: usize, txn: &Txn, id: EntryId, node: &mut Partial) -> Result<bo
 }
 
 /// The list of an open node's tuple, as it lies there.
-#[tactic(auto, using(crate::proofs::Fields::numbers_from))]
+#[tactic(auto, using(crate::proofs::TupleLemmas::Fields::numbers_from))]
 pub(crate) fn node_numbers(tuple: &Tuple) -> Option<Numbers<'_>>
     ensures { MatchOption result
         ((xs : List ℤ) → tuple.now ≢ word (codes "node") ∷ numbers xs ∷ [])

@@ -1,4 +1,4 @@
-use Rattle.qap_search.proofs.AcceptedTexts.{only_shown, text_not_refused, text_shown}
+use Rattle.qap_search.proofs.CertificateLemmas.AcceptedTexts.{only_shown, text_not_refused, text_shown}
 use Rattle.qap_search.proofs.law.accepted_law.Goals as goal
 
 pub returns-clause-shown : goal.returns-clause-shown

@@ -1,4 +1,4 @@
-use Rattle.qap_search.proofs.Certificates.{certificate_certifies, certificate_counted, certificate_there}
+use Rattle.qap_search.proofs.CertificateLemmas.Certificates.{certificate_certifies, certificate_counted, certificate_there}
 use Rattle.qap_search.proofs.law.certificate_law.Goals as goal
 
 pub returns-clause-there : goal.returns-clause-there

@@ -1,4 +1,4 @@
-use Rattle.qap_search.proofs.Found.{best_found_there, node_found}
+use Rattle.qap_search.proofs.TupleLemmas.Found.{best_found_there, node_found}
 use Rattle.qap_search.proofs.law.found_law.Goals as goal
 
 pub returns-clause-node : goal.returns-clause-node

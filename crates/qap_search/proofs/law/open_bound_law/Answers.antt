@@ -1,4 +1,4 @@
-use Rattle.qap_search.proofs.OpenBounds.{open_bound_closed, open_bounds}
+use Rattle.qap_search.proofs.RunLemmas.OpenBounds.{open_bound_closed, open_bounds}
 use Rattle.qap_search.proofs.law.open_bound_law.Goals as goal
 
 pub returns-clause-bounds : goal.returns-clause-bounds

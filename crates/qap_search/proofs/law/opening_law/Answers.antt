@@ -1,4 +1,4 @@
-use Rattle.qap_search.proofs.Replacing.{opening}
+use Rattle.qap_search.proofs.LawLemmas.Replacing.{opening}
 use Rattle.qap_search.proofs.law.opening_law.Goals as goal
 
 pub returns : goal.returns

@@ -1,4 +1,4 @@
-use Rattle.qap_search.proofs.Deciding.{replaces_read, replaces_taken}
+use Rattle.qap_search.proofs.NodeLemmas.Deciding.{replaces_read, replaces_taken}
 use Rattle.qap_search.proofs.law.replacing_law.Goals as goal
 
 pub returns-clause-read : goal.returns-clause-read

@@ -1,4 +1,4 @@
-use Rattle.qap_search.proofs.StoppedLaws.{stopped_certifies, stopped_closed_before, stopped_counted, stopped_no_dearer, stopped_not_refused}
+use Rattle.qap_search.proofs.CertificateLemmas.StoppedLaws.{stopped_certifies, stopped_closed_before, stopped_counted, stopped_no_dearer, stopped_not_refused}
 use Rattle.qap_search.proofs.law.stopped_law.Goals as goal
 
 pub returns-clause-certifies : goal.returns-clause-certifies

@@ -2,7 +2,7 @@ use Rattle.std.specs.Prelude.{None, false}
 use Rattle.qap_search.specs.Law.CutTree.{IsCutTree}
 use Rattle.qap_search.specs.Law.Replacement.{MayReplace}
 use Rattle.qap_search.specs.Law.Search.{whole}
-use Rattle.qap_search.proofs.SearchLaws.{cut_trees_kept, cut_trees_unordered}
+use Rattle.qap_search.proofs.LawLemmas.SearchLaws.{cut_trees_kept, cut_trees_unordered}
 use Rattle.qap_search_tests.proofs.branching_tests.the_least_entry_is_taken_first.Given as goal
 
 abbrev pub ghosts-taken_child-L-Ledger : goal.ghosts-taken_child-L-Ledger

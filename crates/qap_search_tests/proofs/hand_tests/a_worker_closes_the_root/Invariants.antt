@@ -2,7 +2,7 @@ use Rattle.std.specs.Prelude.{None, false}
 use Rattle.qap_search.specs.Law.CutTree.{IsCutTree}
 use Rattle.qap_search.specs.Law.Replacement.{MayReplace}
 use Rattle.qap_search.specs.Law.Search.{whole}
-use Rattle.qap_search.proofs.SearchLaws.{cut_trees_kept, cut_trees_unordered}
+use Rattle.qap_search.proofs.LawLemmas.SearchLaws.{cut_trees_kept, cut_trees_unordered}
 use Rattle.qap_search_tests.proofs.hand_tests.a_worker_closes_the_root.Given as goal
 
 abbrev pub ghosts-one_worker-L-Ledger : goal.ghosts-one_worker-L-Ledger

@@ -6,8 +6,8 @@ use Rattle.std.specs.Prelude.{ℤ}
 use Rattle.std.proofs.lemmas.Result.{MatchResult-weaker}
 use Rattle.qap_proof.specs.Memory.{node_of}
 use Rattle.qap_search.specs.Certificate.Told.{IsMadeOf, IsTellingFault, Tell}
-use Rattle.qap_search.proofs.Certificates.{root_placement}
-use Rattle.qap_search.proofs.StoppedAssembling.{assembled_made, none_assembled, not_assembled}
+use Rattle.qap_search.proofs.CertificateLemmas.Certificates.{root_placement}
+use Rattle.qap_search.proofs.CertificateLemmas.StoppedAssembling.{assembled_made, none_assembled, not_assembled}
 use Rattle.qap_search.proofs.certificate.assembling.assemble_finished.Goals as goal
 
 pub returns-in_err-assembled : goal.returns-in_err-assembled

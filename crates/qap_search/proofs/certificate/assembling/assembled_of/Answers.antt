@@ -3,7 +3,7 @@ use Rattle.std.proofs.lemmas.Result.{err_from_is_err_and}
 use Rattle.number_list.specs.NumberList.{numbers_held}
 use Rattle.number_list.specs.Numbers.{numbers_in}
 use Rattle.qap_search.specs.Tuples.Pieces.{decided_tuples}
-use Rattle.qap_search.proofs.Telling.{none_of_tree, none_permuted, tells}
+use Rattle.qap_search.proofs.CertificateLemmas.Telling.{none_of_tree, none_permuted, tells}
 use Rattle.qap_search.proofs.certificate.assembling.assembled_of.Goals as goal
 
 pub returns-in_default : goal.returns-in_default

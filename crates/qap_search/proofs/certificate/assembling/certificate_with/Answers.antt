@@ -6,7 +6,7 @@ use Rattle.qap_cert.specs.Certificate.{claim_of}
 use Rattle.qap_cert.specs.Fault.{IsClaimFault}
 use Rattle.qap_cert.specs.Tree.{node_of as cert_node_of}
 use Rattle.qap_proof.specs.Memory.{node_of}
-use Rattle.qap_search.proofs.StoppedAssembling.{made_of, none_of_shape, none_of_size}
+use Rattle.qap_search.proofs.CertificateLemmas.StoppedAssembling.{made_of, none_of_shape, none_of_size}
 use Rattle.qap_search.proofs.certificate.assembling.certificate_with.Goals as goal
 
 pub returns-then-len-n : goal.returns-then-len-n

@@ -1,5 +1,5 @@
 use Rattle.number_list.specs.Numbers.{numbers_in}
-use Rattle.qap_search.proofs.Finishing.{no_other-permutation, no_small-no_permutation}
+use Rattle.qap_search.proofs.CertificateLemmas.Finishing.{no_other-permutation, no_small-no_permutation}
 use Rattle.qap_search.proofs.certificate.assembling.permutation_in.Goals as goal
 
 pub returns-in_default : goal.returns-in_default

@@ -1,6 +1,6 @@
 use Rattle.std.proofs.lemmas.Result.{err_from_is_err_and}
 use Rattle.std.proofs.lemmas.Result.{MatchResult-weaker}
-use Rattle.qap_search.proofs.Telling.{same_fault, same_told}
+use Rattle.qap_search.proofs.CertificateLemmas.Telling.{same_fault, same_told}
 use Rattle.qap_search.proofs.certificate.assembling.put_together.Goals as goal
 
 pub returns-in_err-pieces : goal.returns-in_err-pieces

@@ -1,7 +1,7 @@
 use Rattle.std.proofs.Common.{[], refl, inl, inr, ⊎_elim, arith}
 use Rattle.std.proofs.lemmas.List.{length-reverse}
 use Rattle.std.proofs.lemmas.Result.{err_from_is_err_and}
-use Rattle.qap_search.proofs.Finishing.{in_front, no_items, none_counted, none_left, some_counted, some_left}
+use Rattle.qap_search.proofs.CertificateLemmas.Finishing.{in_front, no_items, none_counted, none_left, some_counted, some_left}
 use Rattle.qap_search.proofs.certificate.assembling.tree_of.Goals as goal
 
 pub returns-in_err-tree : goal.returns-in_err-tree

@@ -3,7 +3,7 @@ use Rattle.std.specs.Int.{w128}
 use Rattle.std.specs.Prelude.{Contains, ℤ}
 use Rattle.number_list.specs.Numbers.{numbers_in}
 use Rattle.qap_search.specs.Tuples.DecidedTuples.{best_of}
-use Rattle.qap_search.proofs.Outcomes.{best_contained, best_permutes, best_stands}
+use Rattle.qap_search.proofs.RunLemmas.Outcomes.{best_contained, best_permutes, best_stands}
 use Rattle.qap_search.proofs.certificate.best_permutation.best_of.Goals as goal
 
 pub unreachable-requires : goal.unreachable-requires

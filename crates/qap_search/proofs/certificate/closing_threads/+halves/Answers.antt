@@ -1,7 +1,7 @@
 use Rattle.std.proofs.Common.{inl, inr, ⊎_elim, subst, sym}
 use Rattle.std.proofs.lemmas.Result.{MatchResult-at_err, MatchResult-at_ok, MatchResult-weaker, err_from_is_err_and}
 use Rattle.qap_search.specs.Certificate.ClosedTuples.{AreClosed}
-use Rattle.qap_search.proofs.Halves.{both_closed, none_in_back, none_in_front}
+use Rattle.qap_search.proofs.CertificateLemmas.Halves.{both_closed, none_in_back, none_in_front}
 use Rattle.qap_search.proofs.certificate.closing_threads.+halves.Goals as goal
 
 pub returns-in_err-left : goal.returns-in_err-left

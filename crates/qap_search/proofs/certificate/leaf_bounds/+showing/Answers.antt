@@ -14,8 +14,8 @@ use Rattle.qap_proof.specs.Tree.{child, child_of, node_count, nodes_count}
 use Rattle.qap_proof.specs.declared.tree.Tree.{Tree}
 use Rattle.qap_search.specs.Certificate.LeafBounds.{shown, shown_by_all}
 use Rattle.qap_search.specs.Law.SearchTree.{AreTrees, of_proofs, readable}
-use Rattle.qap_search.proofs.Children.{free_pair, get_or-any, others_count}
-use Rattle.qap_search.proofs.LeafBounds.{HaveShown-all, HaveShown-at, HaveShown-more, parts_at}
+use Rattle.qap_search.proofs.NodeLemmas.Children.{free_pair, get_or-any, others_count}
+use Rattle.qap_search.proofs.CertificateLemmas.LeafBounds.{HaveShown-all, HaveShown-at, HaveShown-more, parts_at}
 use Rattle.qap_search.proofs.certificate.leaf_bounds.+showing.Goals as goal
 
 pub least_shown-least_shown_by_all-requires : goal.least_shown-least_shown_by_all-requires

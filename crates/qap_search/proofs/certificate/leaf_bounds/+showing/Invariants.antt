@@ -2,7 +2,7 @@ use Rattle.std.specs.Prelude.{◌+◌, ◌*◌, drop}
 use Rattle.qap_proof.specs.Memory.{node_of, nodes_of}
 use Rattle.qap_proof.specs.NodeLine.{split_of}
 use Rattle.qap_proof.specs.Tree.{node_count, nodes_count}
-use Rattle.qap_search.proofs.LeafBounds.{HaveShown}
+use Rattle.qap_search.proofs.CertificateLemmas.LeafBounds.{HaveShown}
 use Rattle.qap_search.proofs.certificate.leaf_bounds.+showing.Given as goal
 
 abbrev pub decreases-least_shown : goal.decreases-least_shown

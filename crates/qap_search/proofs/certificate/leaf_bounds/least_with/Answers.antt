@@ -1,6 +1,6 @@
 use Rattle.std.proofs.Common.{arith}
 use Rattle.std.proofs.lemmas.Int.{ints}
-use Rattle.qap_search.proofs.LeafBounds.{least_first, least_second}
+use Rattle.qap_search.proofs.CertificateLemmas.LeafBounds.{least_first, least_second}
 use Rattle.qap_search.proofs.certificate.leaf_bounds.least_with.Goals as goal
 
 pub returns-then-value-least : goal.returns-then-value-least

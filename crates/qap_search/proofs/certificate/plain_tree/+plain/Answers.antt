@@ -7,7 +7,7 @@ use Rattle.qap_proof.specs.Tree.{node_count, nodes_count}
 use Rattle.qap_cert.specs.Tree.{nodes_of as cert_nodes_of}
 use Rattle.qap_cert.specs.declared.tree.Tree.{Tree as PlainTree}
 use Rattle.qap_search.specs.Law.SearchTree.{as_proofs}
-use Rattle.qap_search.proofs.PlainTrees.{no_cut, no_mirrored, no_plain_children, no_plain_last, no_plain_rest, no_plain_split, plain_pushed, popped_count, some_nodes}
+use Rattle.qap_search.proofs.CertificateLemmas.PlainTrees.{no_cut, no_mirrored, no_plain_children, no_plain_last, no_plain_rest, no_plain_split, plain_pushed, popped_count, some_nodes}
 use Rattle.qap_search.proofs.certificate.plain_tree.+plain.Goals as goal
 
 pub plain_tree-returns-in_default : goal.plain_tree-returns-in_default

@@ -1,7 +1,7 @@
 use Rattle.std.proofs.Common.{subst}
 use Rattle.qap_search.specs.Law.Search.{Search, search_of}
 use Rattle.qap_search.specs.Certificate.Told.{IsClosingFault}
-use Rattle.qap_search.proofs.ProvedTrees.{never_open, never_untold}
+use Rattle.qap_search.proofs.CertificateLemmas.ProvedTrees.{never_open, never_untold}
 use Rattle.qap_search.proofs.certificate.proof_assembling.closed_together.Goals as goal
 
 pub put_together_closed-requires-clause-same_size : goal.put_together_closed-requires-clause-same_size

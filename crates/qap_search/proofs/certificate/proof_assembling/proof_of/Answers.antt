@@ -6,9 +6,9 @@ use Rattle.qap_proof.specs.Claim.{IsProof, claim_of}
 use Rattle.qap_proof.specs.Memory.{node_of}
 use Rattle.qap_proof.specs.Tree.{whole}
 use Rattle.qap_search.specs.Law.Search.{Search, search_of}
-use Rattle.qap_search.proofs.ProofFaults.{claim_fault}
-use Rattle.qap_search.proofs.ProvedTrees.{closed_cut_tree, proof_made, proof_shape}
-use Rattle.qap_search.proofs.StoppedAssembling.{IsBoundIf}
+use Rattle.qap_search.proofs.CertificateLemmas.ProofFaults.{claim_fault}
+use Rattle.qap_search.proofs.CertificateLemmas.ProvedTrees.{closed_cut_tree, proof_made, proof_shape}
+use Rattle.qap_search.proofs.CertificateLemmas.StoppedAssembling.{IsBoundIf}
 use Rattle.qap_search.proofs.certificate.proof_assembling.proof_of.Goals as goal
 
 pub least_shown-requires-clause-tree : goal.least_shown-requires-clause-tree

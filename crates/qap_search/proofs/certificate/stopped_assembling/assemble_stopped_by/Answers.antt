@@ -7,8 +7,8 @@ use Rattle.qap_cert.specs.Certificate.{Claim}
 use Rattle.qap_proof.specs.Memory.{node_of}
 use Rattle.qap_search.specs.Certificate.Told.{IsClosingFault, IsMadeOf, TellClosed}
 use Rattle.qap_search.specs.declared.certificate.error.AssembleError.TheVariants.{NotATree, OutOfMemory}
-use Rattle.qap_search.proofs.Certificates.{root_placement}
-use Rattle.qap_search.proofs.StoppedAssembling.{IsBoundIf, closing_stopped, stopped_fault, stopped_made}
+use Rattle.qap_search.proofs.CertificateLemmas.Certificates.{root_placement}
+use Rattle.qap_search.proofs.CertificateLemmas.StoppedAssembling.{IsBoundIf, closing_stopped, stopped_fault, stopped_made}
 use Rattle.qap_search.proofs.certificate.stopped_assembling.assemble_stopped_by.Goals as goal
 
 pub returns-in_err-closed : goal.returns-in_err-closed

@@ -2,7 +2,7 @@ use Rattle.std.proofs.Common.{ap, sym, ◌∙◌, subst}
 use Rattle.std.proofs.lemmas.Result.{MatchResult-weaker, err_from_is_err_and}
 use Rattle.qap_cost.specs.Instance.{Problem}
 use Rattle.qap_search.specs.Certificate.ClosedTuples.{AreClosed}
-use Rattle.qap_search.proofs.Telling.{closing_fault, telling_fault}
+use Rattle.qap_search.proofs.CertificateLemmas.Telling.{closing_fault, telling_fault}
 use Rattle.qap_search.proofs.certificate.stopped_assembling.put_together_closed.Goals as goal
 
 pub returns-in_err-closed : goal.returns-in_err-closed

@@ -13,8 +13,8 @@ use Rattle.qap_proof.specs.Memory.{node_of, nodes_of}
 use Rattle.qap_proof.specs.Shape.{free_count}
 use Rattle.qap_proof.specs.declared.tree.Tree.TheViews.{Split}
 use Rattle.qap_search.specs.Certificate.TreeBuilding.{BeginWith, BeginWithNone, IsFlag, ahead}
-use Rattle.qap_search.proofs.Children.{free_pair, get_or-any, others_count}
-use Rattle.qap_search.proofs.Taking.{HaveTaken, HaveTaken-all, HaveTaken-fault, HaveTaken-more, ZerosAndOnes, none_flagged, zero_flag}
+use Rattle.qap_search.proofs.NodeLemmas.Children.{free_pair, get_or-any, others_count}
+use Rattle.qap_search.proofs.CertificateLemmas.Taking.{HaveTaken, HaveTaken-all, HaveTaken-fault, HaveTaken-more, ZerosAndOnes, none_flagged, zero_flag}
 use Rattle.qap_search.proofs.certificate.tree_building.+building.Goals as goal
 
 pub take_child-place-requires-clause-facility : goal.take_child-place-requires-clause-facility

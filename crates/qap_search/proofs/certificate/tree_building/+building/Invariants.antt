@@ -2,7 +2,7 @@ use Rattle.std.specs.Prelude.{◌+◌, ◌-◌, ◌*◌, length}
 use Rattle.qap_proof.specs.Memory.{nodes_of}
 use Rattle.qap_proof.specs.NodeLine.{split_of}
 use Rattle.qap_search.specs.Certificate.TreeBuilding.{ahead}
-use Rattle.qap_search.proofs.Taking.{HaveTaken}
+use Rattle.qap_search.proofs.CertificateLemmas.Taking.{HaveTaken}
 use Rattle.qap_search.proofs.certificate.tree_building.+building.Given as goal
 
 abbrev pub decreases-take_child : goal.decreases-take_child

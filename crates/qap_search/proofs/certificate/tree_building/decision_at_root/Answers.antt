@@ -3,7 +3,7 @@ use Rattle.std.proofs.lemmas.Bool.{false≢true}
 use Rattle.number_list.specs.NumberList.{numbers_held}
 use Rattle.qap_proof.specs.Tree.{whole}
 use Rattle.qap_search.specs.Tuples.Piece.{node_list}
-use Rattle.qap_search.proofs.Taking.{none_other_node}
+use Rattle.qap_search.proofs.CertificateLemmas.Taking.{none_other_node}
 use Rattle.qap_search.proofs.certificate.tree_building.decision_at_root.Goals as goal
 
 pub returns : goal.returns

@@ -2,7 +2,7 @@ use Rattle.std.proofs.Common.{List, ℕ, length, ap, refl, sym, subst, arith}
 use Rattle.std.proofs.lemmas.Bool.{false≢true}
 use Rattle.number_list.specs.Numbers.{numbers_in}
 use Rattle.qap_search.specs.Certificate.TreeBuilding.{BeginsByTurns}
-use Rattle.qap_search.proofs.DeeperNodes.{child_test, no_child_begins, no_child_length}
+use Rattle.qap_search.proofs.CertificateLemmas.DeeperNodes.{child_test, no_child_begins, no_child_length}
 use Rattle.qap_search.proofs.certificate.tree_building.is_child.Goals as goal
 
 pub returns-then-len-facilities : goal.returns-then-len-facilities

@@ -1,7 +1,7 @@
 use Rattle.std.proofs.Common.{List, ℕ, IsTrue, ◌↔◌, length, ap, subst, arith}
 use Rattle.number_list.specs.Numbers.{numbers_in}
 use Rattle.qap_search.specs.Certificate.TreeBuilding.{BeginsByTurns}
-use Rattle.qap_search.proofs.DeeperNodes.{no_node_length, node_test}
+use Rattle.qap_search.proofs.CertificateLemmas.DeeperNodes.{no_node_length, node_test}
 use Rattle.qap_search.proofs.certificate.tree_building.is_list_of.Goals as goal
 
 pub returns-then-len-facilities : goal.returns-then-len-facilities

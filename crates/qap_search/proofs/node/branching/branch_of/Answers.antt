@@ -1,6 +1,6 @@
 use Rattle.std.proofs.Common.{arith}
 use Rattle.qap_cost.proofs.Placements.{IsPlacement-depth}
-use Rattle.qap_search.proofs.Certificates.{free_facility_count}
+use Rattle.qap_search.proofs.CertificateLemmas.Certificates.{free_facility_count}
 use Rattle.qap_proof.specs.NodeLine.{pair_of}
 use Rattle.qap_search.proofs.node.branching.branch_of.Goals.{in-GreatestMatched, in-GreatestSum+in_ok-reduced_row-in-GreatestSum, in-Cutting+in_ok-branch-in-Cutting}
 use Rattle.qap_search.proofs.node.branching.branch_of.Goals as goal

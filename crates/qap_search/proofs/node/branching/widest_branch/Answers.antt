@@ -1,5 +1,5 @@
 use Rattle.std.proofs.Common.{ap, arith, length, refl}
-use Rattle.qap_search.proofs.Certificates.{free_facility_count, free_location_count}
+use Rattle.qap_search.proofs.CertificateLemmas.Certificates.{free_facility_count, free_location_count}
 use Rattle.qap_search.specs.Node.Thought.{AreImages}
 use Rattle.qap_search.proofs.node.branching.widest_branch.Goals.{in-Facility, in-Location}
 use Rattle.qap_search.proofs.node.branching.widest_branch.Goals as goal

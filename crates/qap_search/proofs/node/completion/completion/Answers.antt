@@ -1,6 +1,6 @@
 use Rattle.std.proofs.Common.{◌≡◌, ◌<◌, ◌∙◌, ap, arith, get_or, length}
 use Rattle.qap_cost.specs.Placement.{free_locations}
-use Rattle.qap_search.proofs.Completions.{completion_perm, completion_put, matched_below}
+use Rattle.qap_search.proofs.NodeLemmas.Completions.{completion_perm, completion_put, matched_below}
 use Rattle.qap_search.proofs.node.completion.completion.Goals as goal
 
 pub pick-requires : goal.pick-requires

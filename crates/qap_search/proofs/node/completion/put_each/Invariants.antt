@@ -1,4 +1,4 @@
-use Rattle.qap_search.proofs.Scatter.{HasPut}
+use Rattle.qap_search.proofs.NodeLemmas.Scatter.{HasPut}
 use Rattle.qap_search.proofs.node.completion.put_each.Given as goal
 
 abbrev pub invariant-loop-t : goal.invariant-loop-t

@@ -4,7 +4,7 @@ use Rattle.std.proofs.lemmas.Int.{ints, to_z-of_z}
 use Rattle.qap_search.specs.Node.Decision.{split_by}
 use Rattle.qap_search.specs.Tuples.Piece.{closed_tuple, pieces}
 use Rattle.qap_search.specs.Node.Thought.{branch_value, thought_on}
-use Rattle.qap_search.proofs.Deciding.{decides_closed, decides_split}
+use Rattle.qap_search.proofs.NodeLemmas.Deciding.{decides_closed, decides_split}
 use Rattle.qap_search.proofs.node.decision.decide.Goals as goal
 
 pub returns-then-thought-best : goal.returns-then-thought-best

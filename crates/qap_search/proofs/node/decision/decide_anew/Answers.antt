@@ -3,7 +3,7 @@ use Rattle.std.specs.Int.{w128}
 use Rattle.std.proofs.lemmas.Int.{ints, to_z-of_z}
 use Rattle.qap_search.specs.Law.Replacement.{Best}
 use Rattle.qap_search.specs.Node.Thought.{candidate_of, thought_on}
-use Rattle.qap_search.proofs.Deciding.{better_candidate, better_old, made_then}
+use Rattle.qap_search.proofs.NodeLemmas.Deciding.{better_candidate, better_old, made_then}
 use Rattle.qap_search.proofs.node.decision.decide_anew.Goals as goal
 
 pub returns-then-thought-cost : goal.returns-then-thought-cost

@@ -4,7 +4,7 @@ use Rattle.std.proofs.lemmas.Int.{to_z-of_z}
 use Rattle.qap_search.specs.Node.Decision.{DecidesBy}
 use Rattle.qap_search.specs.Tuples.Piece.{best_tuple}
 use Rattle.qap_search.specs.Node.Thought.{thought_on}
-use Rattle.qap_search.proofs.Deciding.{decides_beside}
+use Rattle.qap_search.proofs.NodeLemmas.Deciding.{decides_beside}
 use Rattle.qap_search.proofs.node.decision.decide_beside.Goals as goal
 
 pub returns : goal.returns

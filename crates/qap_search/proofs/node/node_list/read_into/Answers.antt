@@ -2,7 +2,7 @@ use Rattle.std.proofs.Common.{◌≡◌, ◌+◌, ◌*◌, ◌<◌, ◌∙◌, �
 use Rattle.std.specs.Int.{w128}
 use Rattle.number_list.specs.Numbers.{numbers_in}
 use Rattle.qap_search.specs.Node.NodeList.{IsNextOf}
-use Rattle.qap_search.proofs.NodeLists.{HasPlaced-more, none_next, none_odd}
+use Rattle.qap_search.proofs.NodeLemmas.NodeLists.{HasPlaced-more, none_next, none_odd}
 use Rattle.qap_search.proofs.node.node_list.read_into.Goals as goal
 
 pub returns-then-count-ne0 : goal.returns-then-count-ne0

@@ -1,5 +1,5 @@
 use Rattle.number_list.specs.Numbers.{numbers_in}
-use Rattle.qap_search.proofs.NodeLists.{HasPlaced}
+use Rattle.qap_search.proofs.NodeLemmas.NodeLists.{HasPlaced}
 use Rattle.qap_search.proofs.node.node_list.read_into.Given as goal
 
 abbrev pub invariant-loop-t : goal.invariant-loop-t

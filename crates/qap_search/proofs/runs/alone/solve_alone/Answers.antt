@@ -1,8 +1,8 @@
 use Rattle.std.specs.Prelude.{None}
 use Rattle.qap_search.specs.Runs.Answer.{IsAnswer}
 use Rattle.qap_search.specs.Law.Search.{whole}
-use Rattle.qap_search.proofs.Outcomes.{told_of}
-use Rattle.qap_search.proofs.SearchLaws.{cut_trees_are_law}
+use Rattle.qap_search.proofs.RunLemmas.Outcomes.{told_of}
+use Rattle.qap_search.proofs.LawLemmas.SearchLaws.{cut_trees_are_law}
 use Rattle.qap_search.proofs.runs.alone.solve_alone.Goals as goal
 
 pub search-requires-clause-law : goal.search-requires-clause-law

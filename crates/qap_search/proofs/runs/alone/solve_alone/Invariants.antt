@@ -2,7 +2,7 @@ use Rattle.std.specs.Prelude.{false, None}
 use Rattle.qap_search.specs.Law.CutTree.{IsCutTree}
 use Rattle.qap_search.specs.Law.Replacement.{MayReplace}
 use Rattle.qap_search.specs.Law.Search.{whole}
-use Rattle.qap_search.proofs.SearchLaws.{cut_trees_kept, cut_trees_unordered}
+use Rattle.qap_search.proofs.LawLemmas.SearchLaws.{cut_trees_kept, cut_trees_unordered}
 use Rattle.qap_search.proofs.runs.alone.solve_alone.Given as goal
 
 abbrev pub ghosts-search-L-Ledger : goal.ghosts-search-L-Ledger

@@ -4,7 +4,7 @@ use Rattle.std.specs.Prelude.{Contains, ℤ}
 use Rattle.number_list.specs.Numbers.{numbers_in}
 use Rattle.tuple_space.specs.Rows.{permanent_tuples}
 use Rattle.qap_search.specs.Tuples.DecidedTuples.{best_of}
-use Rattle.qap_search.proofs.Outcomes.{best_contained, best_permutes, best_stands}
+use Rattle.qap_search.proofs.RunLemmas.Outcomes.{best_contained, best_permutes, best_stands}
 use Rattle.qap_search.proofs.runs.best_and_open_entries.best_among.Goals as goal
 
 pub unreachable-requires : goal.unreachable-requires

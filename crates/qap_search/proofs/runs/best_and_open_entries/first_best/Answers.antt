@@ -5,7 +5,7 @@ use Rattle.tuple_space.specs.Lease.{is_permanent}
 use Rattle.tuple_space.specs.Rows.{permanent_tuples}
 use Rattle.tuple_space.specs.declared.entry.Entry.{Entry}
 use Rattle.qap_search.specs.Tuples.DecidedTuples.{best_of}
-use Rattle.qap_search.proofs.Remaining.{all_more, Contains-permanent, none_of, some_of}
+use Rattle.qap_search.proofs.RunLemmas.Remaining.{all_more, Contains-permanent, none_of, some_of}
 use Rattle.qap_search.proofs.runs.best_and_open_entries.first_best.Goals as goal
 
 pub loop-entry-preserved : goal.loop-entry-preserved

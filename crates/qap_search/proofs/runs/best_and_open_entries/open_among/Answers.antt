@@ -1,7 +1,7 @@
 use Rattle.std.proofs.Common.{◌∙◌, ap, arith, take_all}
 use Rattle.std.specs.Prelude.{count_by}
 use Rattle.qap_search.specs.Runs.Remaining.{is_open_entry}
-use Rattle.qap_search.proofs.Remaining.{open_count-entries}
+use Rattle.qap_search.proofs.RunLemmas.Remaining.{open_count-entries}
 use Rattle.qap_search.proofs.runs.best_and_open_entries.open_among.Goals as goal
 
 pub returns : goal.returns

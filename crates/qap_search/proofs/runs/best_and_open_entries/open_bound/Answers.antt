@@ -6,7 +6,7 @@ use Rattle.tuple_space.specs.Lease.{is_permanent}
 use Rattle.tuple_space.specs.Rows.{permanent_tuples}
 use Rattle.tuple_space.specs.declared.entry.Entry.{Entry}
 use Rattle.qap_search.specs.Runs.OpenBound.{IsOpenBound, IsSoundTuple}
-use Rattle.qap_search.proofs.Remaining.{all_at, open_bound_next}
+use Rattle.qap_search.proofs.RunLemmas.Remaining.{all_at, open_bound_next}
 use Rattle.qap_search.proofs.runs.best_and_open_entries.open_bound.Goals as goal
 
 pub bound_at-requires : goal.bound_at-requires

@@ -5,8 +5,8 @@ use Rattle.std.proofs.lemmas.Int.{to_z-of_z}
 use Rattle.std.proofs.lemmas.Result.{IfOk-at_ok}
 use Rattle.tuple_space.specs.Rows.{permanent_tuples}
 use Rattle.qap_search.specs.Runs.OpenBound.{IsOpenBound}
-use Rattle.qap_search.proofs.BestSteps.{least_either}
-use Rattle.qap_search.proofs.OpenBounds.{open_bound_both}
+use Rattle.qap_search.proofs.WorkerLemmas.BestSteps.{least_either}
+use Rattle.qap_search.proofs.RunLemmas.OpenBounds.{open_bound_both}
 use Rattle.qap_search.proofs.runs.bound_by_threads.+bounds.Goals as goal
 
 pub returns : goal.returns

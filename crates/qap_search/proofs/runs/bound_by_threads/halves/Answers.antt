@@ -3,7 +3,7 @@ use Rattle.std.specs.Prelude.{All, ◌++◌}
 use Rattle.tuple_space.specs.Rows.{permanent_tuples}
 use Rattle.tuple_space.specs.declared.entry.Entry.{Entry}
 use Rattle.qap_search.specs.Runs.OpenBound.{IsSoundTuple}
-use Rattle.qap_search.proofs.Remaining.{all_in_back, all_in_front, both_parts}
+use Rattle.qap_search.proofs.RunLemmas.Remaining.{all_in_back, all_in_front, both_parts}
 use Rattle.qap_search.proofs.runs.bound_by_threads.halves.Goals as goal
 
 pub returns-clause-parts : goal.returns-clause-parts

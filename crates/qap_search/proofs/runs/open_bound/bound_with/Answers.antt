@@ -5,7 +5,7 @@ use Rattle.std.proofs.lemmas.Int.{to_z-of_z}
 use Rattle.qap_cost.specs.Instance.{Problem}
 use Rattle.number_list.specs.Numbers.{numbers_in}
 use Rattle.qap_search.specs.Runs.OpenBound.{IsOpenBound}
-use Rattle.qap_search.proofs.OpenBounds.{open_bound_read}
+use Rattle.qap_search.proofs.RunLemmas.OpenBounds.{open_bound_read}
 use Rattle.qap_search.proofs.runs.open_bound.bound_with.Goals as goal
 
 pub returns : goal.returns

@@ -6,7 +6,7 @@ use Rattle.tuple_space.specs.declared.entry.Entry.{Entry}
 use Rattle.qap_search.specs.Law.CutTree.{IsCutTree}
 use Rattle.qap_search.specs.Runs.OpenBound.{IsOpenBound}
 use Rattle.qap_search.specs.Law.Search.{Search, search_of}
-use Rattle.qap_search.proofs.OpenBounds.{bounded_left, sound_tuples}
+use Rattle.qap_search.proofs.RunLemmas.OpenBounds.{bounded_left, sound_tuples}
 use Rattle.qap_search.proofs.runs.open_bound.bounded_of.Goals as goal
 
 pub best_among-requires-clause-tree : goal.best_among-requires-clause-tree

@@ -1,5 +1,5 @@
 use Rattle.std.proofs.Common.{sym}
-use Rattle.qap_search.proofs.Identities.{range_more}
+use Rattle.qap_search.proofs.RunLemmas.Identities.{range_more}
 use Rattle.qap_search.proofs.runs.opening.first_numbers.Goals as goal
 
 pub loop-k-preserved : goal.loop-k-preserved

@@ -1,6 +1,6 @@
 use Rattle.std.proofs.lemmas.List.FromFn.{length-range_with_len}
 use Rattle.qap_cost.specs.Bijection.{IsPerm}
-use Rattle.qap_search.proofs.Identities.{IsPerm-range}
+use Rattle.qap_search.proofs.RunLemmas.Identities.{IsPerm-range}
 use Rattle.qap_search.proofs.runs.opening.identity.Goals as goal
 
 pub unreachable-requires : goal.unreachable-requires

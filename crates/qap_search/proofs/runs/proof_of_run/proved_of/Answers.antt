@@ -2,7 +2,7 @@ use Rattle.std.proofs.Common.{◌∙◌, ap, refl, sym}
 use Rattle.qap_search.specs.Law.CutTree.{IsCutTree}
 use Rattle.qap_search.specs.Tuples.Piece.{open_count}
 use Rattle.qap_search.specs.Law.Search.{Search, search_of}
-use Rattle.qap_search.proofs.ProvedTrees.{proved_left}
+use Rattle.qap_search.proofs.CertificateLemmas.ProvedTrees.{proved_left}
 use Rattle.qap_search.proofs.runs.proof_of_run.proved_of.Goals as goal
 
 pub proof_of-requires-clause-tree : goal.proof_of-requires-clause-tree

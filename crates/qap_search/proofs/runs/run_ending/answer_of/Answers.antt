@@ -4,7 +4,7 @@ use Rattle.std.proofs.lemmas.Result.{err_from_is_err_and}
 use Rattle.qap_search.specs.Runs.Answer.{CertifiesLeast, accepted_of}
 use Rattle.qap_search.specs.Runs.Outcome.{IsFinished}
 use Rattle.qap_search.specs.Law.Search.{from_root}
-use Rattle.qap_search.proofs.Outcomes.{finished_tree}
+use Rattle.qap_search.proofs.RunLemmas.Outcomes.{finished_tree}
 use Rattle.qap_search.proofs.runs.run_ending.answer_of.Goals as goal
 
 pub returns-clause-answer : goal.returns-clause-answer

@@ -1,7 +1,7 @@
 use Rattle.std.proofs.Common.{sym, subst}
 use Rattle.qap_search.specs.Certificate.Assembling.{IsTreeFault}
 use Rattle.qap_search.specs.Certificate.Finished.{IsAssembled}
-use Rattle.qap_search.proofs.Outcomes.{never_open, no_certificate_there}
+use Rattle.qap_search.proofs.RunLemmas.Outcomes.{never_open, no_certificate_there}
 use Rattle.qap_search.proofs.runs.run_ending.assembled.Goals as goal
 
 pub unreachable-requires : goal.unreachable-requires

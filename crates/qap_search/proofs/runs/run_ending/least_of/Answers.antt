@@ -5,7 +5,7 @@ use Rattle.qap_search.specs.Law.CutTree.{IsCutTree}
 use Rattle.qap_search.specs.Runs.Outcome.{IsFinished}
 use Rattle.qap_search.specs.Tuples.Piece.{open_count}
 use Rattle.qap_search.specs.Law.Search.{Search, from_root}
-use Rattle.qap_search.proofs.Outcomes.{finished_tree, least_left}
+use Rattle.qap_search.proofs.RunLemmas.Outcomes.{finished_tree, least_left}
 use Rattle.qap_search.proofs.runs.run_ending.least_of.Goals as goal
 
 pub returns-clause-answer : goal.returns-clause-answer

@@ -1,7 +1,7 @@
 use Rattle.std.proofs.Common.{ap, ◌∙◌, arith}
 use Rattle.std.specs.Prelude.{map}
 use Rattle.qap_search.specs.Runs.Interleaving.{report_of}
-use Rattle.qap_search.proofs.ScheduledRuns.{Runs-step, Runs-whole}
+use Rattle.qap_search.proofs.RunLemmas.ScheduledRuns.{Runs-step, Runs-whole}
 use Rattle.qap_search.proofs.runs.schedule.follow.Goals as goal
 
 pub loop-i-preserved : goal.loop-i-preserved

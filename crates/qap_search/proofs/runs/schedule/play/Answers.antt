@@ -1,5 +1,5 @@
 use Rattle.qap_search.specs.Law.Search.{whole}
-use Rattle.qap_search.proofs.SearchLaws.{cut_trees_are_law}
+use Rattle.qap_search.proofs.LawLemmas.SearchLaws.{cut_trees_are_law}
 use Rattle.qap_search.proofs.runs.schedule.play.Goals as goal
 
 pub follow-requires-clause-law : goal.follow-requires-clause-law

@@ -2,7 +2,7 @@ use Rattle.std.specs.Prelude.{false, None}
 use Rattle.qap_search.specs.Law.CutTree.{IsCutTree}
 use Rattle.qap_search.specs.Law.Replacement.{MayReplace}
 use Rattle.qap_search.specs.Law.Search.{whole}
-use Rattle.qap_search.proofs.SearchLaws.{cut_trees_kept, cut_trees_unordered}
+use Rattle.qap_search.proofs.LawLemmas.SearchLaws.{cut_trees_kept, cut_trees_unordered}
 use Rattle.qap_search.proofs.runs.schedule.play.Given as goal
 
 abbrev pub ghosts-follow-L-Ledger : goal.ghosts-follow-L-Ledger

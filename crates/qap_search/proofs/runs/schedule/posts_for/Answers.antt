@@ -2,7 +2,7 @@ use Rattle.std.proofs.Common.{◌≡◌, ◌+◌, ◌++◌, ◌∷◌, [], ap, s
 use Rattle.std.specs.Prelude.{ℕ, List, vec_len}
 use Rattle.std.proofs.lemmas.List.{replicate-append-replicate}
 use Rattle.qap_search.specs.Runs.Interleaving.{PostValue}
-use Rattle.qap_search.proofs.Fronts.{All-front}
+use Rattle.qap_search.proofs.RunLemmas.Fronts.{All-front}
 use Rattle.qap_search.proofs.runs.schedule.posts_for.Goals as goal
 
 -- one place more, where a worker stands who has done nothing yet

@@ -3,7 +3,7 @@ use Rattle.std.proofs.lemmas.Result.{IfOk-weaker}
 use Rattle.qap_search.specs.Worker.Hand.{cuts}
 use Rattle.qap_search.specs.Runs.ProvedAnswer.{IsProvedFrom}
 use Rattle.qap_search.specs.Law.Search.{Search, best_with, search_of}
-use Rattle.qap_search.proofs.BehindAnswers.{ran_so}
+use Rattle.qap_search.proofs.RunLemmas.BehindAnswers.{ran_so}
 use Rattle.qap_search.proofs.runs.threads.prove_from.Goals as goal
 
 pub returns-clause-answer : goal.returns-clause-answer

@@ -3,7 +3,7 @@ use Rattle.shared_space.proofs.RunLemmas.{no_acts_yet}
 use Rattle.qap_search.specs.Worker.Hand.{cuts}
 use Rattle.qap_search.specs.Law.Replacement.{MayReplace}
 use Rattle.qap_search.specs.Law.Search.{best_with, search_of}
-use Rattle.qap_search.proofs.SearchLaws.{cut_trees_are_law}
+use Rattle.qap_search.proofs.LawLemmas.SearchLaws.{cut_trees_are_law}
 use Rattle.qap_search.proofs.runs.threads.run_of.Goals as goal
 
 pub search-requires-clause-law : goal.search-requires-clause-law

@@ -6,7 +6,7 @@ use Rattle.qap_search.specs.Law.CutTree.{IsCutTree}
 use Rattle.qap_search.specs.Worker.Hand.{cuts}
 use Rattle.qap_search.specs.Law.Replacement.{MayReplace}
 use Rattle.qap_search.specs.Law.Search.{best_with, search_of}
-use Rattle.qap_search.proofs.SearchLaws.{cut_trees_kept, cut_trees_unordered}
+use Rattle.qap_search.proofs.LawLemmas.SearchLaws.{cut_trees_kept, cut_trees_unordered}
 use Rattle.qap_search.proofs.runs.threads.run_of.Given as goal
 
 abbrev pub ghosts-search-L-Ledger : goal.ghosts-search-L-Ledger

@@ -1,7 +1,7 @@
 use Rattle.std.proofs.Common.{ℕ, Some, ◌≡◌, ◌∙◌, ap, arith, sym}
 use Rattle.std.proofs.lemmas.List.Elements.{All-pop}
 use Rattle.qap_search.specs.Worker.Hand.{HandValue}
-use Rattle.qap_search.proofs.Fronts.{All-front}
+use Rattle.qap_search.proofs.RunLemmas.Fronts.{All-front}
 use Rattle.qap_search.proofs.runs.threads.seats_for.Goals as goal
 
 pub loop-share-preserved : goal.loop-share-preserved

@@ -5,7 +5,7 @@ use Rattle.qap_search.specs.Runs.Outcome.{IsEnded}
 use Rattle.qap_search.specs.Runs.Ran.{RanTo}
 use Rattle.qap_search.specs.Law.Search.{Search, best_with, from_root, search_of}
 use Rattle.qap_search.specs.declared.runs.answer.Answer.{Answer}
-use Rattle.qap_search.proofs.BehindAnswers.{ran_behind}
+use Rattle.qap_search.proofs.RunLemmas.BehindAnswers.{ran_behind}
 use Rattle.qap_search.proofs.runs.threads.solve_from.Goals as goal
 
 pub returns-clause-ran : goal.returns-clause-ran

@@ -5,8 +5,8 @@ use Rattle.qap_search.specs.Runs.Outcome.{IsEnded}
 use Rattle.qap_search.specs.Law.Search.{Search, best_with, search_of, whole}
 use Rattle.qap_search.specs.Runs.Ran.{RanTo}
 use Rattle.qap_search.specs.declared.runs.answer.Least.{Least}
-use Rattle.qap_search.proofs.BehindAnswers.{ran_behind}
-use Rattle.qap_search.proofs.Outcomes.{least_told, told_of}
+use Rattle.qap_search.proofs.RunLemmas.BehindAnswers.{ran_behind}
+use Rattle.qap_search.proofs.RunLemmas.Outcomes.{least_told, told_of}
 use Rattle.qap_search.proofs.runs.threads.solve_least.Goals as goal
 
 pub returns-clause-answer : goal.returns-clause-answer

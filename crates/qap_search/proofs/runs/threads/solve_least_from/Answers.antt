@@ -5,7 +5,7 @@ use Rattle.qap_search.specs.Runs.BoundedAnswer.{IsBoundedFrom}
 use Rattle.qap_search.specs.Worker.Hand.{cuts}
 use Rattle.qap_search.specs.Runs.Outcome.{IsEnded}
 use Rattle.qap_search.specs.Law.Search.{Search, best_with, search_of}
-use Rattle.qap_search.proofs.BehindAnswers.{ran_so}
+use Rattle.qap_search.proofs.RunLemmas.BehindAnswers.{ran_so}
 use Rattle.qap_search.proofs.runs.threads.solve_least_from.Goals as goal
 
 pub bounded_of-requires-clause-ended : goal.bounded_of-requires-clause-ended

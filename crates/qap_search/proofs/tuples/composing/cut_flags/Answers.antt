@@ -2,7 +2,7 @@ use Rattle.std.proofs.Common.{◌≡◌, ◌<◌, length, get_or, pos, arith, to
 use Rattle.std.specs.Int.{w128}
 use Rattle.std.specs.Prelude.{◌<ℤ◌, ◌≤ℤ◌}
 use Rattle.std.proofs.lemmas.Int.{ints, to_z-of_z}
-use Rattle.qap_search.proofs.Pruned.{flag_cut, flag_open, flags_all}
+use Rattle.qap_search.proofs.TupleLemmas.Pruned.{flag_cut, flag_open, flags_all}
 use Rattle.qap_search.proofs.tuples.composing.cut_flags.Goals.{then-reached-child+in_ok-push, else-reached-child+in_ok-push-2}
 use Rattle.qap_search.proofs.tuples.composing.cut_flags.Goals as goal
 

@@ -3,7 +3,7 @@ use Rattle.std.proofs.lemmas.Result.{IfOk-weaker}
 use Rattle.number_list.specs.NumberList.{numbers_held}
 use Rattle.number_list.specs.Turns.{by_turns}
 use Rattle.qap_search.specs.Node.NodeList.{IsListOf}
-use Rattle.qap_search.proofs.NodeLists.{short_list}
+use Rattle.qap_search.proofs.NodeLemmas.NodeLists.{short_list}
 use Rattle.qap_search.proofs.tuples.composing.list_of.Goals as goal
 
 pub returns-clause-list : goal.returns-clause-list

@@ -8,7 +8,7 @@ use Rattle.tuple_match.specs.FieldValue.{FieldValue}
 use Rattle.qap_search.specs.Node.Decision.{children_by, pruned_split, uncut}
 use Rattle.qap_search.specs.Tuples.Piece.{cut_numbers, pieces, pruned_tuple}
 use Rattle.qap_search.specs.declared.node.images.Image.{Image}
-use Rattle.qap_search.proofs.Pruned.{child_cut, child_opened, children_all, same_flags}
+use Rattle.qap_search.proofs.TupleLemmas.Pruned.{child_cut, child_opened, children_all, same_flags}
 use Rattle.qap_search.proofs.tuples.composing.pruned_tuples.Goals.{then-reached-child+in_ok-tuple_at+in_ok-push-2, else-reached-child}
 use Rattle.qap_search.proofs.tuples.composing.pruned_tuples.Goals as goal
 

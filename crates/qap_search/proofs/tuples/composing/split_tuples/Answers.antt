@@ -1,5 +1,5 @@
 use Rattle.std.proofs.Common.{◌∙◌, arith}
-use Rattle.qap_search.proofs.Written.{all_open}
+use Rattle.qap_search.proofs.TupleLemmas.Written.{all_open}
 use Rattle.qap_search.proofs.tuples.composing.split_tuples.Goals as goal
 
 pub returns-clause-value : goal.returns-clause-value

@@ -1,7 +1,7 @@
 use Rattle.std.proofs.Common.{sym, subst, arith, rules}
 use Rattle.std.specs.Prelude.{codes}
 use Rattle.tuple_match.specs.FieldValue.{IsField, word}
-use Rattle.qap_search.proofs.Written.{four_fields}
+use Rattle.qap_search.proofs.TupleLemmas.Written.{four_fields}
 use Rattle.qap_search.proofs.tuples.composing.tuple_of_mirrored.Goals as goal
 
 pub of_four-requires : goal.of_four-requires

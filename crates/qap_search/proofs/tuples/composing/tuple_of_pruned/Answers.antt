@@ -1,7 +1,7 @@
 use Rattle.std.proofs.Common.{sym, subst, arith, rules}
 use Rattle.std.specs.Prelude.{codes}
 use Rattle.tuple_match.specs.FieldValue.{IsField, word}
-use Rattle.qap_search.proofs.Pruned.{seven_fields, side_is_field}
+use Rattle.qap_search.proofs.TupleLemmas.Pruned.{seven_fields, side_is_field}
 use Rattle.qap_search.proofs.tuples.composing.tuple_of_pruned.Goals as goal
 
 pub of_seven-requires : goal.of_seven-requires

@@ -1,4 +1,4 @@
-use Rattle.qap_search.proofs.Fields.{only_field, only_word_test}
+use Rattle.qap_search.proofs.TupleLemmas.Fields.{only_field, only_word_test}
 use Rattle.qap_search.proofs.tuples.parsing.is_only_word.Goals as goal
 
 pub returns-in-len1 : goal.returns-in-len1

@@ -1,5 +1,5 @@
 use Rattle.tuple_match.specs.Field.{field_value}
-use Rattle.qap_search.proofs.Fields.{word_said, word_test}
+use Rattle.qap_search.proofs.TupleLemmas.Fields.{word_said, word_test}
 use Rattle.qap_search.proofs.tuples.parsing.is_word.Goals as goal
 
 pub returns-in-Some : goal.returns-in-Some

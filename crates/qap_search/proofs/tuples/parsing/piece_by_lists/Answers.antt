@@ -2,7 +2,7 @@ use Rattle.std.proofs.Common.{arith}
 use Rattle.std.proofs.lemmas.List.{length-map}
 use Rattle.number_list.specs.NumberList.{numbers_held}
 use Rattle.tuple_match.specs.Field.{field_value, fields_value}
-use Rattle.qap_search.proofs.Fields.{no_closed_piece}
+use Rattle.qap_search.proofs.TupleLemmas.Fields.{no_closed_piece}
 use Rattle.qap_search.proofs.tuples.parsing.piece_by_lists.Goals as goal
 
 pub returns-in_err-node : goal.returns-in_err-node

@@ -2,7 +2,7 @@ use Rattle.std.proofs.lemmas.Bool.{false≢true}
 use Rattle.std.proofs.Common.{sym, ◌∙◌}
 use Rattle.number_list.specs.NumberList.{numbers_held}
 use Rattle.tuple_match.specs.Field.{fields_value}
-use Rattle.qap_search.proofs.Fields.{no_numbered_piece}
+use Rattle.qap_search.proofs.TupleLemmas.Fields.{no_numbered_piece}
 use Rattle.qap_search.proofs.tuples.parsing.piece_by_number.Goals as goal
 
 pub returns-in_err-node : goal.returns-in_err-node

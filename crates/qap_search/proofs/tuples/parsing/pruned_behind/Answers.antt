@@ -1,7 +1,7 @@
 use Rattle.std.proofs.Common.{◌≡◌, ◌++◌, ◌∷◌, [], ap, ◌∙◌, rules}
 use Rattle.std.proofs.lemmas.List.{map-append}
 use Rattle.tuple_match.specs.Field.{field_value, fields_value}
-use Rattle.qap_search.proofs.Fields.{no_split_before}
+use Rattle.qap_search.proofs.TupleLemmas.Fields.{no_split_before}
 use Rattle.qap_search.proofs.tuples.parsing.pruned_behind.Goals as goal
 
 pub returns-in_err-node : goal.returns-in_err-node

@@ -1,6 +1,6 @@
 use Rattle.std.proofs.Common.{◌∙◌, sym, refl, inr, ap}
 use Rattle.qap_search.specs.Tuples.DecidedTuples.{piece_tuple}
-use Rattle.qap_search.proofs.Assembled.{some_there}
+use Rattle.qap_search.proofs.CertificateLemmas.Assembled.{some_there}
 use Rattle.qap_search.proofs.tuples.pieces.keep_piece.Goals as goal
 
 pub returns-then-is_some : goal.returns-then-is_some

@@ -5,7 +5,7 @@ use Rattle.tuple_match.specs.FieldValue.{FieldValue}
 use Rattle.qap_search.specs.Tuples.DecidedTuples.{IsNoPiece, piece_tuple}
 use Rattle.qap_search.specs.declared.tuples.parsing.Piece.{Piece}
 use Rattle.qap_search.specs.Tuples.Pieces.{told_tuples}
-use Rattle.qap_search.proofs.Assembled.{keep_fault, none_with, none_without_best, told_all}
+use Rattle.qap_search.proofs.CertificateLemmas.Assembled.{keep_fault, none_with, none_without_best, told_all}
 use Rattle.qap_search.proofs.tuples.pieces.tell_apart.Goals as goal
 
 -- what was told of the tuple, where that is known

@@ -1,5 +1,5 @@
 use Rattle.number_list.specs.Numbers.{numbers_in}
-use Rattle.qap_search.proofs.BestSteps.{perm_of}
+use Rattle.qap_search.proofs.WorkerLemmas.BestSteps.{perm_of}
 use Rattle.qap_search.proofs.worker.best_steps.perm_at.Goals as goal
 
 pub returns : goal.returns

@@ -1,7 +1,7 @@
 use Rattle.std.proofs.Common.{◌≡◌, Some, false, sym, true}
 use Rattle.space_txn.specs.Machine.{find_answer}
 use Rattle.qap_search.specs.Worker.Hand.{is_hopeful, thought_of}
-use Rattle.qap_search.proofs.BestSteps.{found_best}
+use Rattle.qap_search.proofs.WorkerLemmas.BestSteps.{found_best}
 use Rattle.qap_search.proofs.worker.best_steps.seek_best.Goals as goal
 
 pub returns-then-is_hopeful-clause-turn : goal.returns-then-is_hopeful-clause-turn

@@ -1,7 +1,7 @@
 use Rattle.std.proofs.Common.{◌≡◌, Some, inl, inr, to_z, of_z, ◌∙◌, sym, rules}
 use Rattle.std.specs.Int.{w128}
 use Rattle.qap_search.specs.Worker.Hand.{hand_of, thought_of}
-use Rattle.qap_search.proofs.BestSteps.{best_stage, has_best, has_leased}
+use Rattle.qap_search.proofs.WorkerLemmas.BestSteps.{best_stage, has_best, has_leased}
 use Rattle.qap_search.proofs.worker.best_steps.told_entry.Goals as goal
 
 pub returns-clause-turn : goal.returns-clause-turn

@@ -1,7 +1,7 @@
 use Rattle.std.proofs.Common.{◌≡◌, Some, Ok, false, inl, to_z, of_z, ◌∙◌}
 use Rattle.std.specs.Int.{w128}
 use Rattle.std.proofs.lemmas.Int.{to_z-of_z}
-use Rattle.qap_search.proofs.BestSteps.{best_stage, has_best, written_prepared}
+use Rattle.qap_search.proofs.WorkerLemmas.BestSteps.{best_stage, has_best, written_prepared}
 use Rattle.qap_search.proofs.worker.best_steps.told_prepared.Goals as goal
 
 pub returns-clause-turn : goal.returns-clause-turn

@@ -3,7 +3,7 @@ use Rattle.std.specs.Int.{w128}
 use Rattle.std.proofs.lemmas.Int.{to_z-of_z}
 use Rattle.qap_search.specs.Law.Replacement.{Best}
 use Rattle.qap_search.specs.Node.Thought.{candidate_of}
-use Rattle.qap_search.proofs.BestSteps.{least_either, standing_cost, written_anew}
+use Rattle.qap_search.proofs.WorkerLemmas.BestSteps.{least_either, standing_cost, written_anew}
 use Rattle.qap_search.proofs.worker.best_steps.write_anew.Goals as goal
 
 pub returns-in_default : goal.returns-in_default

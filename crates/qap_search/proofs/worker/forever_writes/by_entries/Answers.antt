@@ -1,5 +1,5 @@
 use Rattle.std.proofs.Common.{◌≡◌, [], rules}
-use Rattle.qap_search.proofs.Entries.{none_taken_off, taken_off}
+use Rattle.qap_search.proofs.WorkerLemmas.Entries.{none_taken_off, taken_off}
 use Rattle.qap_search.proofs.worker.forever_writes.by_entries.Goals as goal
 
 pub loop-last-init : goal.loop-last-init

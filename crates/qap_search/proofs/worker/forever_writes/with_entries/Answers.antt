@@ -1,4 +1,4 @@
-use Rattle.qap_search.proofs.Entries.{put_behind}
+use Rattle.qap_search.proofs.WorkerLemmas.Entries.{put_behind}
 use Rattle.qap_search.proofs.worker.forever_writes.with_entries.Goals as goal
 
 pub loop-tuple-preserved : goal.loop-tuple-preserved

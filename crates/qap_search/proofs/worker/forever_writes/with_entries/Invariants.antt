@@ -1,6 +1,6 @@
 use Rattle.std.specs.Prelude.{◌++◌, map, vec_len}
 use Rattle.space_txn.specs.Content.{SameItems}
-use Rattle.qap_search.proofs.Entries.{tuple_in}
+use Rattle.qap_search.proofs.WorkerLemmas.Entries.{tuple_in}
 use Rattle.qap_search.proofs.worker.forever_writes.with_entries.Given as goal
 
 abbrev pub invariant-loop-tuple : goal.invariant-loop-tuple

@@ -4,7 +4,7 @@ use Rattle.qap_search.specs.Worker.Considering.{IsThoughtOn}
 use Rattle.qap_search.specs.Worker.Hand.{cuts}
 use Rattle.qap_search.specs.Node.Thought.{IsThought}
 use Rattle.qap_search.specs.declared.worker.stage.LastThought.{LastThought}
-use Rattle.qap_search.proofs.Thinkings.{anew_on, kept_on}
+use Rattle.qap_search.proofs.WorkerLemmas.Thinkings.{anew_on, kept_on}
 use Rattle.qap_search.proofs.worker.thinking.think_on.Goals as goal
 
 pub returns-then-is_on-clause-thought : goal.returns-then-is_on-clause-thought

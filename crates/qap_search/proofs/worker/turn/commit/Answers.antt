@@ -1,7 +1,7 @@
 use Rattle.std.proofs.Common.{◌≡◌, to_z, of_z}
 use Rattle.std.specs.Int.{w128}
 use Rattle.std.proofs.lemmas.Int.{to_z-of_z}
-use Rattle.qap_search.proofs.Standings.{handed_on}
+use Rattle.qap_search.proofs.WorkerLemmas.Standings.{handed_on}
 use Rattle.qap_search.proofs.worker.turn.commit.Goals as goal
 
 pub returns-clause-turn : goal.returns-clause-turn

@@ -1,7 +1,7 @@
 use Rattle.std.proofs.Common.{ap}
 use Rattle.qap_search.specs.Worker.Hand.{hand_of}
 use Rattle.qap_search.specs.declared.worker.stage.Tally.{Tally}
-use Rattle.qap_search.proofs.Standings.{not_committed_after, not_expired}
+use Rattle.qap_search.proofs.WorkerLemmas.Standings.{not_committed_after, not_expired}
 use Rattle.qap_search.proofs.worker.turn.not_committed.Goals as goal
 
 pub returns-in-Foreign : goal.returns-in-Foreign

@@ -1,4 +1,4 @@
-use Rattle.qap_search.proofs.Standings.{found_node}
+use Rattle.qap_search.proofs.WorkerLemmas.Standings.{found_node}
 use Rattle.qap_search.proofs.worker.turn.take_node.Goals as goal
 
 pub returns-clause-stage : goal.returns-clause-stage

@@ -1,5 +1,5 @@
 use Rattle.std.proofs.Common.{arith}
-use Rattle.qap_search.proofs.Thoughts.{duals_of, within_more}
+use Rattle.qap_search.proofs.NodeLemmas.Thoughts.{duals_of, within_more}
 use Rattle.qap_search.proofs.certificate.closing_open_nodes.Closing.work_out.Goals as goal
 
 pub returns-clause-duals : goal.returns-clause-duals

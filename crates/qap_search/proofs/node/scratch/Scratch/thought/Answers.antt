@@ -4,7 +4,7 @@ use Rattle.std.proofs.lemmas.Int.{fits_signed_from_abs, ints}
 use Rattle.qap_cost.specs.Matrix.{dual_value}
 use Rattle.qap_cost.specs.Placement.{ListsFree}
 use Rattle.qap_search.specs.Node.Completion.{IsCompletion, IsMatching}
-use Rattle.qap_search.proofs.Thoughts.{duals_of, within_more}
+use Rattle.qap_search.proofs.NodeLemmas.Thoughts.{duals_of, within_more}
 use Rattle.qap_search.proofs.node.scratch.Scratch.thought.Goals as goal
 
 pub overflow_add-value : goal.overflow_add-value

@@ -1,6 +1,6 @@
 use Rattle.std.proofs.lemmas.Result.{IfOk-weaker}
 use Rattle.number_list.specs.NumberList.{numbers_held}
-use Rattle.qap_search.proofs.NodeLists.{child_list, short_child}
+use Rattle.qap_search.proofs.NodeLemmas.NodeLists.{child_list, short_child}
 use Rattle.qap_search.proofs.tuples.composing.Parent.child_list.Goals as goal
 
 pub returns-clause-list : goal.returns-clause-list

@@ -1,6 +1,6 @@
 use Rattle.std.proofs.Common.{◌∙◌}
-use Rattle.qap_search.proofs.Preparing.{nothing_prepared}
-use Rattle.qap_search.proofs.Thinkings.{hand_after, not_due_after, thinks}
+use Rattle.qap_search.proofs.WorkerLemmas.Preparing.{nothing_prepared}
+use Rattle.qap_search.proofs.WorkerLemmas.Thinkings.{hand_after, not_due_after, thinks}
 use Rattle.qap_search.proofs.worker.hand.Hand.think.Goals as goal
 
 pub invariant_of-self-2 : goal.invariant_of-self-2

@@ -1,0 +1,18 @@
+//! The words of a program's own command line, and what it tells where they ask for nothing.
+
+use crate::command_error::CommandError;
+use qap_io::Status;
+use std::env;
+use std::process::ExitCode;
+use std::rt::Env;
+
+/// The words of the program's own command line, its name being the first.
+pub fn words(rt: &(impl Env + AllocGlobal)) -> Result<Vec<String>, CommandError> {
+    Ok(env::args(rt)?.collect(rt.alloc())?)
+}
+
+/// Tells on standard error how the program is used, and the exit status of a command line that asks for nothing.
+pub fn tell_usage(rt: &HostRuntime, usage: &str) -> ExitCode {
+    let _ = rt.eprintln(usage);
+    ExitCode::from(Status::Usage.code())
+}

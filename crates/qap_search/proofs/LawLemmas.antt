@@ -1,0 +1,3 @@
+-- The law of a search.
+pub mod Replacing
+pub mod SearchLaws

@@ -1,0 +1,9 @@
+-- A node of the search.
+pub mod Children
+pub mod Completions
+pub mod Deciding
+pub mod Images
+pub mod LeastDuals
+pub mod NodeLists
+pub mod Scatter
+pub mod Thoughts

@@ -1,0 +1,8 @@
+-- Runs of the search, and what they leave.
+pub mod BehindAnswers
+pub mod Fronts
+pub mod Identities
+pub mod OpenBounds
+pub mod Outcomes
+pub mod Remaining
+pub mod ScheduledRuns

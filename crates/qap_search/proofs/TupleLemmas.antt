@@ -1,0 +1,6 @@
+-- The tuples of a search.
+pub mod Fields
+pub mod Found
+pub mod Pruned
+pub mod TupleReadings
+pub mod Written
