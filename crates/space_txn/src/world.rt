@@ -3,6 +3,7 @@
 ghost use Rattle.std.specs.Prelude.{◌≡◌, ◌≤◌, ◌==◌, count_by, true, false, Contains, IfErr, IfOk, IfSome, OnOk, MatchResult};
 ghost use Rattle.tuple_space.specs.Entry.{is_counted};
 ghost use Rattle.tuple_space.specs.Index.{class_of, has_class};
+ghost use Rattle.tuple_space.specs.Places.{items_in};
 ghost use Rattle.tuple_space.specs.Step as space;
 ghost use Rattle.tuple_space.specs.Space.{IsSpace, most};
 ghost use Rattle.space_txn.specs.Content.{ChangesContent, content_of};
@@ -318,9 +319,9 @@ impl TxnSpace {
         Ok(Spent { lists })
     }
 
-    /// The entries, in order of number.
-    pub fn entries(&self) -> &[Entry]
-        ensures { result.now ≡ self.now.space.entries }
+    /// The entries, in order of number, in their places: that of one that left may be empty.
+    pub fn entries(&self) -> &[Option<Entry>]
+        ensures { items_in result.now ≡ self.now.space.entries }
     {
         self.space.entries()
     }

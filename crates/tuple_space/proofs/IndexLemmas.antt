@@ -3,7 +3,7 @@ use Rattle.std.proofs.Common.{◌≡◌, ℕ, zero, suc, ◌+◌, ◌<◌, ◌�
 use Rattle.std.specs.Prelude.{◌≢◌, ◌&&◌, ◌||◌, not, All, AllPairs, Contains, IfNone, Option, count_by, Some, None, OnErr, OnOk, Result, Ok, Err, filter, find, map, remove}
 use Rattle.std.specs.Global.{Vec}
 use Rattle.std.specs.Result.{is_err}
-use Rattle.std.specs.List.{AllWithin, AllZip, HoldsAt, list_any}
+use Rattle.std.specs.List.{AllWithin, AllZip, HoldsAt}
 use Rattle.std.specs.Str.{bytes_eq}
 use Rattle.std.proofs.Math.ListN.{set}
 use Rattle.std.proofs.lemmas.Bool.{cases_Bool, cases_lt, cond-false, cond-true, cond_both, eq-eqb, eqb-false, eqb-true, ne_eqb, false≢true, or_cases, or_left, or_right}
@@ -22,7 +22,7 @@ use Rattle.tuple_match.proofs.Deciding.{Decides-does_match}
 use Rattle.tuple_space.specs.Entry.{is_open, is_there}
 use Rattle.tuple_space.specs.Wanted.{is_wanted}
 use Rattle.tuple_space.specs.Held.{AreRising, is_among}
-use Rattle.tuple_space.specs.Index.{AreIndexed, AreOnce, AreOrdered, AreSame, AreUpTo, Class, HasNoneWanted, IsAdded, IsDropped, IsUnwanted, first_word, has_class, is_next, is_numbered, is_of, is_put, is_to_be, is_word, key, last_after, list_at, numbers_of, second_length, sought_word}
+use Rattle.tuple_space.specs.Index.{AreIndexed, AreOnce, AreOrdered, AreSame, AreUpTo, Class, HasNoneWanted, IsAdded, IsDropped, IsUnwanted, first_word, has_class, is_dropped, is_next, is_numbered, is_of, is_put, is_to_be, is_word, key, last_after, list_at, numbers_of, second_length, sought_word}
 use Rattle.tuple_space.proofs.RowLemmas.{HasNone, any_place, found_at, none_head, none_tail, only_at, rising_head, rising_tail}
 use Rattle.tuple_space.specs.Lease.{granted}
 use Rattle.tuple_space.specs.Rows.{IsRising, without}
@@ -544,10 +544,6 @@ indexed_undone old mid new last es writes numbered rising once put_there gone h 
     by true false m e never = and_false m
     by false o m e never = and_true m ∙ sym (or_false m) ∙ e ∙ or_false o
 
--- entries that aren't kept, of a class and under a number
-abbrev pub is_dropped : (Entry → Bool) → Class → ℕ → List Entry → Bool
-is_dropped test k n es = list_any (λ e. not (test e) && (eqb e.number n && has_class k e.tuple)) es
-
 none_numbered : (k : Class) (n : ℕ) (test : Entry → Bool) (es : List Entry) → HasNone n es
     → (is_numbered k n es ≡ false) × (is_numbered k n (filter test es) ≡ false) × (is_dropped test k n es ≡ false)
 none_numbered k n test [] none = (refl, refl, refl)
@@ -613,15 +609,16 @@ gone_put kept tuple m old new goes gone = λ k n.
     turned true b = sym (and_true b)
     turned false b = sym (and_false b)
 
--- the numbers of the entries behind a place that aren't kept are taken out, and that of the one before them
+-- the numbers of the entries behind a place that aren't kept are taken out, and those of the ones before them
 pub dropped_none : (test : Entry → Bool) (k : Class) (n : ℕ) (l : List Entry) (b : Bool) → l ≡ [] → b ≡ (b && not (is_dropped test k n l))
 dropped_none test k n l b none = sym (ap (λ (m : List Entry). b && not (is_dropped test k n m)) none ∙ and_true b)
 
-pub dropped_more : (test : Entry → Bool) (k : Class) (n : ℕ) (x : Entry) (rest l : List Entry) (old mid new : Bool) → l ≡ x ∷ rest → mid ≡ (old && not (is_dropped test k n rest))
-    → new ≡ (mid && not (not (test x) && (eqb x.number n && has_class k x.tuple))) → new ≡ (old && not (is_dropped test k n l))
-dropped_more test k n x rest l old mid new is before here =
-    here ∙ ap (λ b. b && not (not (test x) && (eqb x.number n && has_class k x.tuple))) before
-    ∙ by old (is_dropped test k n rest) (not (test x) && (eqb x.number n && has_class k x.tuple))
+pub dropped_more : (test : Entry → Bool) (k : Class) (n : ℕ) (xs rest l : List Entry) (old mid new : Bool) → l ≡ xs ++ rest → mid ≡ (old && not (is_dropped test k n rest))
+    → new ≡ (mid && not (is_dropped test k n xs)) → new ≡ (old && not (is_dropped test k n l))
+dropped_more test k n xs rest l old mid new is before here =
+    here ∙ ap (λ b. b && not (is_dropped test k n xs)) before
+    ∙ by old (is_dropped test k n rest) (is_dropped test k n xs)
+    ∙ ap (λ b. old && not b) (sym (list_any-append (λ (e : Entry). not (test e) && (eqb e.number n && has_class k e.tuple)) xs rest))
     ∙ ap (λ (m : List Entry). old && not (is_dropped test k n m)) (sym is)
   where
     by : (o r t : Bool) → ((o && not r) && not t) ≡ (o && not (t || r))

@@ -1,11 +1,13 @@
 -- Items in their places.
-use Rattle.std.proofs.Common.{◌≡◌, ℕ, zero, suc, ◌<◌, List, [], ◌∷◌, ◌++◌, length, drop, get_or, refl, sym, ap, ◌∙◌, Option, Some, None, arith}
+use Rattle.std.proofs.Common.{◌≡◌, ℕ, zero, suc, ◌+◌, ◌<◌, ◌≤◌, Bool, List, [], ◌∷◌, ◌++◌, length, drop, get_or, refl, sym, ap, subst, ◌∙◌, cond, Option, Some, None, arith}
 use Rattle.std.proofs.Math.ListN.{set}
-use Rattle.std.specs.Prelude.{insert, map}
+use Rattle.std.specs.Prelude.{All, Contains, IfSome, count_by, insert, map}
 use Rattle.std.specs.List.{refill}
 use Rattle.std.proofs.lemmas.List.{length-set, take_at}
+use Rattle.std.proofs.lemmas.List.Elements.{All-cons, All-head, All-nil, All-tail, Contains-append_right}
+use Rattle.std.proofs.lemmas.List.Sums.{sum_by-cons}
 use Rattle.std.proofs.lemmas.Option.{none-some, same_Some}
-use Rattle.tuple_space.specs.Places.{items_in}
+use Rattle.tuple_space.specs.Places.{holds_one, items_in}
 
 module _ {A : Type 0} where
   -- places that all hold an item
@@ -89,3 +91,34 @@ module _ {A : Type 0} where
 
   pub items_are : (places : List (Option A)) (xs : List A) → places ≡ map Some xs → items_in places ≡ xs
   items_are places xs is = ap items_in is ∙ items_in-map xs
+
+  -- what holds of the item in each place that has one holds of all
+  pub all_in : (P : A → Type 0) (places : List (Option A)) → All (λ o. IfSome o P) places → All P (items_in places)
+  all_in P [] h = All-nil P
+  all_in P (o ∷ places) h = by o (All-head (λ (q : Option A). IfSome q P) o places h) (all_in P places (All-tail (λ (q : Option A). IfSome q P) o places h))
+    where
+      by : (q : Option A) → IfSome q P → All P (items_in places) → All P (items_in (q ∷ places))
+      by None here rest = rest
+      by (Some x) here rest = All-cons P x (items_in places) here rest
+
+  -- the item in a place is one of them
+  pub contains_in : (places : List (Option A)) (i : ℕ) (x : A) → i < length places → Some x ≡ get_or places i (Some x) → Contains (items_in places) x
+  contains_in [] i x lt at = absurd (omega arith)
+  contains_in (o ∷ places) zero x lt at = subst (λ (q : Option A). Contains (items_in (q ∷ places)) x) at (0, omega arith, refl)
+  contains_in (o ∷ places) (suc i) x lt at =
+      subst (λ (l : List A). Contains l x) (sym (items_in-append (o ∷ []) places)) (Contains-append_right (items_in (o ∷ [])) (items_in places) x (contains_in places i x (omega arith) at))
+
+  -- as many places hold one that passes a test as items pass it
+  pub counted_in : (test : A → Bool) (places : List (Option A)) → count_by (holds_one test) places ≡ count_by test (items_in places)
+  counted_in test [] = refl
+  counted_in test (o ∷ places) = sum_by-cons (λ (q : Option A). cond (holds_one test q) 1 0) o places ∙ by o (counted_in test places)
+    where
+      by : (q : Option A) → count_by (holds_one test) places ≡ count_by test (items_in places) → cond (holds_one test q) 1 0 + count_by (holds_one test) places ≡ count_by test (items_in (q ∷ places))
+      by None rest = let same = rest in omega arith
+      by (Some x) rest = ap (λ n. cond (test x) 1 0 + n) rest ∙ sym (sum_by-cons (λ (y : A). cond (test y) 1 0) x (items_in places))
+
+  -- there are no more items than places
+  pub few_in : (places : List (Option A)) → length (items_in places) ≤ length places
+  few_in [] = omega arith
+  few_in (None ∷ places) = let rest = few_in places in omega arith
+  few_in (Some x ∷ places) = let rest = few_in places in omega arith

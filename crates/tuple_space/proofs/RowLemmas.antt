@@ -102,12 +102,12 @@ find_nothing number (x ∷ xs) none = by (eqb x.number number) none (find_nothin
     by true e h = absurd (none-some x (sym e))
     by false e h = ap (λ l. x ∷ l) (h e)
 
-by_head : (a t r : Bool) → a ≡ true → r ≡ false → ((a && t) || r) ≡ t
+pub by_head : (a t r : Bool) → a ≡ true → r ≡ false → ((a && t) || r) ≡ t
 by_head true true r e f = refl
 by_head true false r e f = f
 by_head false t r e f = absurd (false≢true e)
 
-by_tail : (a t r : Bool) → a ≡ false → ((a && t) || r) ≡ r
+pub by_tail : (a t r : Bool) → a ≡ false → ((a && t) || r) ≡ r
 by_tail true t r e = absurd (false≢true (sym e))
 by_tail false t r e = refl
 

@@ -1,5 +1,5 @@
 -- Entries, and things of other kinds, under their numbers.
-use Rattle.std.specs.Prelude.{◌≡◌, ℕ, List, map}
+use Rattle.std.specs.Prelude.{◌≡◌, ◌<◌, ℕ, All, AllPairs, IfSome, List, Option, map}
 use Rattle.std.specs.Map.{values_of}
 use Rattle.tuple_space.specs.declared.entry.Entry.{Entry}
 
@@ -15,3 +15,8 @@ numbered number xs = map (λ x. (number x, x)) xs
 -- each value stands under its number
 abbrev pub AreNumbered : {A : Type 0} → (A → ℕ) → List (ℕ × A) → Type 0
 AreNumbered number pairs = pairs ≡ numbered number (values_of pairs)
+
+-- places under their numbers, which rise, and each entry stands under its own
+pub record AreInPlaces (pairs : List (ℕ × Option Entry)) : Type 0 where
+  pub own : All (λ p. IfSome p.1 (λ e. e.number ≡ p.0)) pairs
+  pub rising : AllPairs (λ p q. p.0 < q.0) pairs

@@ -110,6 +110,10 @@ abbrev pub is_to_be : Class → ℕ → ℕ → List Write → Bool
 is_to_be class number last [] = false
 is_to_be class number last (x ∷ xs) = is_next class number last x || is_to_be class number (last_after last x) xs
 
+-- entries that aren't kept, of a class and under a number
+abbrev pub is_dropped : (Entry → Bool) → Class → ℕ → List Entry → Bool
+is_dropped test class number entries = list_any (λ e. not (test e) && ((e.number == number) && has_class class e.tuple)) entries
+
 -- the numbers under each class rise, up to one
 pub record AreUpTo (last : ℕ) (buckets : List Bucket) : Type 0 where
   pub rising : AreOrdered buckets

@@ -2,6 +2,7 @@
 
 ghost use Rattle.std.specs.Prelude.{◌≡◌};
 ghost use Rattle.tuple_space.specs.Entry.{can_be_had, is_counted, is_open, is_there};
+ghost use Rattle.tuple_space.specs.Places.{holds_one};
 
 use crate::entry::{Claim, Entry};
 use tuple_match::{Template, matches};
@@ -11,6 +12,16 @@ pub(crate) fn is_there(entry: &Entry, moment: u64) -> bool
     ensures { result ≡ is_there moment entry.now }
 {
     entry.end.is_live(moment) || entry.holds.is_held()
+}
+
+/// Whether a place holds an entry that is there.
+pub(crate) fn is_there_in(place: &Option<Entry>, moment: u64) -> bool
+    ensures { result ≡ holds_one (is_there moment) place.now }
+{
+    match place {
+        Some(entry) => is_there(entry, moment),
+        None => false,
+    }
 }
 
 /// Whether the claim allows the entry.
@@ -39,4 +50,14 @@ pub(crate) fn is_counted(entry: &Entry, moment: u64, template: &Template) -> boo
     ensures { result ≡ is_counted moment template.now entry.now }
 {
     is_there(entry, moment) && matches(template, &entry.tuple)
+}
+
+/// Whether a place holds such an entry.
+pub(crate) fn is_counted_in(place: &Option<Entry>, moment: u64, template: &Template) -> bool
+    ensures { result ≡ holds_one (is_counted moment template.now) place.now }
+{
+    match place {
+        Some(entry) => is_counted(entry, moment, template),
+        None => false,
+    }
 }

@@ -1,8 +1,9 @@
 //! When the first lease of several ends.
 
-ghost use Rattle.std.specs.Prelude.{◌≤◌, All};
+ghost use Rattle.std.specs.Prelude.{◌≤◌, All, IfSome};
 ghost use Rattle.tuple_space.specs.Ends.{AreLiveBefore, IsLiveBefore};
 ghost use Rattle.tuple_space.specs.Lease.{granted};
+ghost use Rattle.tuple_space.specs.Places.{items_in};
 ghost use Rattle.tuple_space.specs.Space.{most};
 
 use crate::entry::Entry;
@@ -28,13 +29,24 @@ fn earlier(first: u64, end: LeaseEnd) -> u64
     if ends < first { ends } else { first }
 }
 
-/// The moment at which the first of the entries' leases ends.
-pub(crate) fn first_end(entries: &[Entry]) -> u64
-    ensures { AreLiveBefore result entries.now }
+/// The same where a place holds an entry.
+fn earlier_in(first: u64, place: &Option<Entry>) -> u64
+    ensures less { result ≤ first }
+    ensures live { IfSome place.now (λ e. IsLiveBefore result e.end) }
+{
+    match place {
+        Some(entry) => earlier(first, entry.end),
+        None => first,
+    }
+}
+
+/// The moment at which the first of the leases of the entries in these places ends.
+pub(crate) fn first_end(places: &[Option<Entry>]) -> u64
+    ensures { AreLiveBefore result (items_in places.now) }
 {
     let mut first = u64::MAX;
-    for entry in entries {
-        first = earlier(first, entry.end);
+    for place in places {
+        first = earlier_in(first, place);
     }
     first
 }

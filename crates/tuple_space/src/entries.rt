@@ -1,13 +1,17 @@
 //! Entries in order of number, each found by its number in one look.
 
-ghost use Rattle.std.specs.Prelude.{◌≡◌, ◌≢◌, ◌<◌, ◌≤◌, ◌+◌, ◌==◌, ◌&&◌, ◌++◌, ◌∷◌, [], true, All, IfNone, IfSome, IsOk, OnErr, OnOk, filter, find, length};
-ghost use Rattle.std.specs.List.{HoldsAt, list_any};
+ghost use Rattle.std.specs.Prelude.{◌≡◌, ◌≢◌, ◌<◌, ◌≤◌, ◌+◌, ◌==◌, ◌&&◌, ◌++◌, ◌∷◌, [], true, All, IsOk, IsTrue, OnErr, OnOk, filter, find, is_some, option_map};
+ghost use Rattle.std.specs.List.{list_any};
 ghost use Rattle.std.specs.Option.{option_copied};
+ghost use Rattle.indexmap.specs.IndexMap.{spare, values};
 ghost use Rattle.tuple_space.specs.Entry.{is_held_by, is_there, unheld};
+ghost use Rattle.tuple_space.specs.Entries.{AreInPlaces};
+ghost use Rattle.tuple_space.specs.Places.{holds_one, items_in};
 ghost use Rattle.tuple_space.specs.Rows.{IsRising, changed, without};
 ghost use Rattle.tuple_space.specs.Space.{held_by};
+ghost use Rattle.tuple_space.specs.declared.entry.Entry.{Entry};
 
-use crate::admission::is_there;
+use crate::admission::is_there_in;
 use crate::entry::Entry;
 use crate::hasher::NumberHasher;
 use crate::hold::Hold;
@@ -17,22 +21,117 @@ use indexmap::map::IntoValues;
 use std::alloc::{AllocError, Global};
 use std::marker::Model;
 
-/// Entries in order of number, each under its own. Where one leaves, those behind it close up.
+/// So many places may be empty before any close up.
+const FEW: usize = 64;
+
+/// Places in order of number, each under its own.
+type Places = IndexMap<u64, Option<Entry>, NumberHasher>;
+
+/// Entries in order of number, each in a place under its own. The place of one that leaves stays empty until more than 64 of them and
+/// a quarter of all are, when those behind close up: one at a time would write all rows behind it each time, which other threads
+/// have read or written last.
 #[derive(Debug, Drop)]
 pub(crate) struct Entries {
-    by_number: IndexMap<u64, Entry, NumberHasher>,
+    places: Places,
+    /// How many places are empty.
+    empty: usize,
 }
 
 impl Model for Entries {
     ghost use Rattle.indexmap.specs.IndexMap.{spare, values};
-    ghost use Rattle.tuple_space.specs.Entries.{AreNumbered, EntriesValue};
-    ghost use Rattle.tuple_space.specs.Rows.{IsRising};
+    ghost use Rattle.tuple_space.specs.Entries.{AreInPlaces, EntriesValue};
+    ghost use Rattle.tuple_space.specs.Places.{items_in};
 
     ghost Value = { EntriesValue };
 
-    ghost view = { λ e. record { items = values e.by_number; room = spare e.by_number } };
+    ghost view = { λ e. record { items = items_in (values e.places); room = spare e.places } };
 
-    ghost invariant = { λ e. AreNumbered (λ x. x.number) e.by_number.entries × IsRising (values e.by_number) };
+    ghost invariant = { λ e. AreInPlaces e.places.entries };
+}
+
+/// Sets the end of the lease of the entry in a place.
+fn set_end_in(place: &mut Option<Entry>, end: LeaseEnd)
+    ensures { place.new ≡ option_map (λ (e : Entry). record e { end = end }) place.old }
+{
+    if let Some(entry) = place {
+        entry.end = end;
+    }
+}
+
+/// Holds an entry.
+fn hold_entry(entry: &mut Entry, holder: u64, taken: bool) -> Result<(), AllocError>
+    ensures ok { OnOk result (entry.new ≡ held_by holder taken entry.old) }
+    ensures err { OnErr result (entry.new ≡ entry.old) }
+    ensures ready { is_held_by holder entry.old ≡ true → IsOk result }
+{
+    let permanent = entry.end.is_permanent();
+    entry.holds.put(Hold {
+        by: holder,
+        taken,
+        permanent,
+    })?;
+    Ok(())
+}
+
+/// Holds the entry in a place.
+fn hold_in(place: &mut Option<Entry>, holder: u64, taken: bool) -> Result<(), AllocError>
+    ensures ok { OnOk result (place.new ≡ option_map (held_by holder taken) place.old) }
+    ensures err { OnErr result (place.new ≡ place.old) }
+    ensures ready { holds_one (is_held_by holder) place.old ≡ true → IsOk result }
+{
+    match place {
+        Some(entry) => hold_entry(entry, holder, taken),
+        None => Ok(()),
+    }
+}
+
+/// Ends a holder's holds of the entry in a place.
+fn release_in(place: &mut Option<Entry>, holder: u64)
+    ensures { place.new ≡ option_map (unheld holder) place.old }
+{
+    if let Some(entry) = place {
+        entry.holds.release(holder);
+    }
+}
+
+/// Whether the number is above those of all places.
+fn is_above_all(number: u64, places: &Places) -> bool
+    requires { AreInPlaces places.now.entries }
+    ensures { IsTrue result → All (λ p. p.0 < number) places.now.entries }
+{
+    match places.last() {
+        Some((&last, _)) => last < number,
+        None => true,
+    }
+}
+
+/// Drops the places that are empty.
+fn close_up(places: &mut Places)
+    ensures entries { places.new.entries ≡ filter (λ p. is_some p.1) places.old.entries }
+    ensures room { spare places.old ≤ spare places.new }
+{
+    places.retain(
+        |_number: &u64, place: &mut Option<Entry>| -> bool
+            ensures { (result ≡ is_some place.old) × (place.new ≡ place.old) }
+        { place.is_some() },
+    );
+}
+
+/// Lets the places close up where a number above those of all entries isn't above those of all places, and tells how many are
+/// empty then.
+fn make_way(number: u64, places: &mut Places, empty: usize) -> usize
+    requires places { AreInPlaces places.old.entries }
+    requires new { All (λ e. e.number < number) (items_in (values places.old)) }
+    ensures places { AreInPlaces places.new.entries }
+    ensures items { items_in (values places.new) ≡ items_in (values places.old) }
+    ensures above { All (λ p. p.0 < number) places.new.entries }
+    ensures room { spare places.old ≤ spare places.new }
+{
+    if is_above_all(number, places) {
+        return empty;
+    }
+    close_up(places);
+    0
 }
 
 impl Entries {
@@ -41,21 +140,21 @@ impl Entries {
         ensures { result.items ≡ [] }
     {
         Entries {
-            by_number: IndexMap::with_hasher(alloc, NumberHasher::new()),
+            places: IndexMap::with_hasher(alloc, NumberHasher::new()),
+            empty: 0,
         }
     }
 
     /// Where the memory comes from.
     pub(crate) fn allocator(&self) -> Global {
-        *self.by_number.allocator()
+        *self.places.allocator()
     }
 
-    /// The entries, in order of number.
-    pub(crate) fn as_slice(&self) -> &[Entry]
-        ensures items { result.now ≡ self.now.items }
-        ensures rising { IsRising result.now }
+    /// The places, in order of number: each holds an entry or is empty.
+    pub(crate) fn as_slice(&self) -> &[Option<Entry>]
+        ensures { items_in result.now ≡ self.now.items }
     {
-        self.by_number.values().as_slice()
+        self.places.values().as_slice()
     }
 
     /// Makes room for more entries.
@@ -63,7 +162,7 @@ impl Entries {
         ensures items { self.new.items ≡ self.old.items }
         ensures room { OnOk result (additional ≤ self.new.room) }
     {
-        self.by_number.reserve(additional)
+        self.places.reserve(additional)
     }
 
     /// Puts an entry whose number is above those of the others, where there is room for it.
@@ -73,39 +172,52 @@ impl Entries {
         ensures items { self.new.items ≡ self.old.items ++ entry ∷ [] }
         ensures room { self.old.room ≤ self.new.room + 1 }
     {
-        self.by_number.insert(entry.number, entry).unwrap();
-    }
-
-    /// The place of the entry of a number.
-    fn place_of(&self, number: u64) -> Option<usize>
-        ensures none { IfNone result (All (λ e. e.number ≢ number) self.now.items) }
-        ensures place { IfSome result (λ i. i < length self.now.items) }
-        ensures found { IfSome result (HoldsAt (λ e. e.number ≡ number) self.now.items) }
-    {
-        self.by_number.get_index_of(&number)
+        self.empty = make_way(entry.number, &mut self.places, self.empty);
+        self.places.insert(entry.number, Some(entry)).unwrap();
     }
 
     /// The entry of a number.
     pub(crate) fn get(&self, number: u64) -> Option<&Entry>
         ensures { option_copied result ≡ find (λ e. e.number == number) self.now.items }
     {
-        match self.place_of(number) {
-            Some(place) => Some(&self.as_slice()[place]),
+        match self.places.get(&number) {
+            Some(place) => place.as_ref(),
             None => None,
         }
     }
 
-    /// Takes out the entry of a number; those behind it close up.
+    /// Takes out the entry of a number.
     pub(crate) fn remove(&mut self, number: u64) -> Option<Entry>
         ensures value { result ≡ find (λ e. e.number == number) self.old.items }
         ensures rest { self.new.items ≡ without number self.old.items }
     {
-        let Some(place) = self.place_of(number) else {
+        let entry = self.take(number);
+        self.close_up_many();
+        entry
+    }
+
+    /// Takes out the entry of a number, whose place is empty then.
+    fn take(&mut self, number: u64) -> Option<Entry>
+        ensures value { result ≡ find (λ e. e.number == number) self.old.items }
+        ensures rest { self.new.items ≡ without number self.old.items }
+    {
+        let Some(index) = self.places.get_index_of(&number) else {
             return None;
         };
-        match self.by_number.shift_remove_index(place) {
-            Some((_, entry)) => Some(entry),
-            None => unreachable!(),
+        let Some(place) = self.places.get_index_mut(index) else {
+            unreachable!()
+        };
+        self.empty = self.empty.saturating_add(1);
+        place.take()
+    }
+
+    /// Lets the places close up where many of them are empty.
+    fn close_up_many(&mut self)
+        ensures { self.new.items ≡ self.old.items }
+    {
+        if self.empty > FEW && self.empty > self.places.len() / 4 {
+            close_up(&mut self.places);
+            self.empty = 0;
         }
     }
 
@@ -113,13 +225,13 @@ impl Entries {
     pub(crate) fn set_end(&mut self, number: u64, end: LeaseEnd)
         ensures { self.new.items ≡ changed number (λ e. record e { end = end }) self.old.items }
     {
-        let Some(place) = self.place_of(number) else {
+        let Some(index) = self.places.get_index_of(&number) else {
             return;
         };
-        let Some(entry) = self.by_number.get_index_mut(place) else {
+        let Some(place) = self.places.get_index_mut(index) else {
             unreachable!()
         };
-        entry.end = end;
+        set_end_in(place, end);
     }
 
     /// Holds the entry of a number, in the place of the holder's older hold of it, which takes no memory.
@@ -128,50 +240,45 @@ impl Entries {
         ensures err { OnErr result (self.new.items ≡ self.old.items) }
         ensures ready { list_any (λ e. (e.number == number) && is_held_by holder e) self.old.items ≡ true → IsOk result }
     {
-        let Some(place) = self.place_of(number) else {
+        let Some(index) = self.places.get_index_of(&number) else {
             return Ok(());
         };
-        let Some(entry) = self.by_number.get_index_mut(place) else {
+        let Some(place) = self.places.get_index_mut(index) else {
             unreachable!()
         };
-        let permanent = entry.end.is_permanent();
-        entry.holds.put(Hold {
-            by: holder,
-            taken,
-            permanent,
-        })?;
-        Ok(())
+        hold_in(place, holder, taken)
     }
 
     /// Ends a holder's holds of the entry of a number.
     pub(crate) fn release(&mut self, number: u64, holder: u64)
         ensures { self.new.items ≡ changed number (unheld holder) self.old.items }
     {
-        let Some(place) = self.place_of(number) else {
+        let Some(index) = self.places.get_index_of(&number) else {
             return;
         };
-        let Some(entry) = self.by_number.get_index_mut(place) else {
+        let Some(place) = self.places.get_index_mut(index) else {
             unreachable!()
         };
-        entry.holds.release(holder);
+        release_in(place, holder);
     }
 
-    /// Keeps the entries that are there.
+    /// Keeps the entries that are there, which close up.
     pub(crate) fn keep_there(&mut self, moment: u64)
         ensures { self.new.items ≡ filter (is_there moment) self.old.items }
     {
-        self.by_number.retain(
-            |_number: &u64, entry: &mut Entry| -> bool
-                ensures { (result ≡ is_there moment entry.old) × (entry.new ≡ entry.old) }
-            { is_there(entry, moment) },
+        self.places.retain(
+            |_number: &u64, place: &mut Option<Entry>| -> bool
+                ensures { (result ≡ holds_one (is_there moment) place.old) × (place.new ≡ place.old) }
+            { is_there_in(place, moment) },
         );
+        self.empty = 0;
     }
 
-    /// The entries by value, in order of number.
-    pub(crate) fn into_values(self) -> IntoValues<u64, Entry>
-        ensures { result ≡ self.items }
+    /// The places by value, in order of number.
+    pub(crate) fn into_values(self) -> IntoValues<u64, Option<Entry>>
+        ensures { items_in result ≡ self.items }
     {
-        let Entries { by_number } = self;
-        by_number.into_values()
+        let Entries { places, empty: _ } = self;
+        places.into_values()
     }
 }

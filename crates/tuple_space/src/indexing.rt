@@ -1,8 +1,9 @@
 //! What the calls of the space do to the buckets.
 
-ghost use Rattle.std.specs.Prelude.{ℕ, ◌≡◌, ◌+◌, ◌≤◌, ◌==◌, ◌&&◌, ◌||◌, true, not, IfOk, OnErr, OnOk, filter};
+ghost use Rattle.std.specs.Prelude.{ℕ, ◌≡◌, ◌+◌, ◌≤◌, ◌==◌, ◌&&◌, ◌||◌, ◌∷◌, [], true, not, IfOk, OnErr, OnOk, filter};
 ghost use Rattle.tuple_space.specs.Entry.{is_there};
-ghost use Rattle.tuple_space.specs.Index.{AreIndexed, AreOnce, AreOrdered, AreUpTo, Class, has_class, is_next, is_put, is_to_be, last_after};
+ghost use Rattle.tuple_space.specs.Index.{AreIndexed, AreOnce, AreOrdered, AreUpTo, Class, has_class, is_dropped, is_next, is_put, is_to_be, last_after};
+ghost use Rattle.tuple_space.specs.Places.{items_in};
 ghost use Rattle.tuple_space.specs.Rows.{IsRising};
 ghost use Rattle.tuple_space.specs.Writes.{put_count};
 ghost use Rattle.tuple_space.specs.Space.{most};
@@ -26,14 +27,27 @@ fn drop_if_gone(buckets: &mut Vec<Bucket>, entry: &Entry, moment: u64)
     }
 }
 
-/// Takes the numbers of the entries that aren't there out of their buckets.
-pub(crate) fn drop_gone(buckets: &mut Vec<Bucket>, entries: &[Entry], moment: u64)
-    requires rising { IsRising entries.now }
-    requires indexed { AreIndexed buckets.old.items entries.now }
-    ensures { AreIndexed buckets.new.items (filter (is_there moment) entries.now) }
+/// The same of the entry in a place.
+fn drop_gone_in(buckets: &mut Vec<Bucket>, place: &Option<Entry>, moment: u64)
+    requires { AreOrdered buckets.old.items }
+    ensures dropped { (class : Class) (n : ℕ) → is_put class n buckets.new.items ≡
+        (is_put class n buckets.old.items && not (is_dropped (is_there moment) class n (items_in (place.now ∷ [])))) }
+    ensures ordered { AreOrdered buckets.new.items }
+    ensures once { AreOnce buckets.old.items → AreOnce buckets.new.items }
 {
-    for place in (0..entries.len()).rev() {
-        drop_if_gone(buckets, &entries[place], moment);
+    if let Some(entry) = place {
+        drop_if_gone(buckets, entry, moment);
+    }
+}
+
+/// Takes the numbers of the entries that aren't there out of their buckets.
+pub(crate) fn drop_gone(buckets: &mut Vec<Bucket>, places: &[Option<Entry>], moment: u64)
+    requires rising { IsRising (items_in places.now) }
+    requires indexed { AreIndexed buckets.old.items (items_in places.now) }
+    ensures { AreIndexed buckets.new.items (filter (is_there moment) (items_in places.now)) }
+{
+    for index in (0..places.len()).rev() {
+        drop_gone_in(buckets, &places[index], moment);
     }
 }
 

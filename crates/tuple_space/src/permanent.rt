@@ -13,7 +13,10 @@ pub(crate) fn permanent_of(entries: Entries, room: Vec<Tuple>) -> Vec<Tuple>
     ensures { result.items ≡ permanent_tuples entries.items }
 {
     let mut tuples = room;
-    for entry in entries.into_values() {
+    for place in entries.into_values() {
+        let Some(entry) = place else {
+            continue;
+        };
         if entry.end.is_permanent() {
             tuples.push(entry.tuple).unwrap();
         }

@@ -5,9 +5,10 @@ ghost use Rattle.std.specs.List.{list_any};
 ghost use Rattle.tuple_space.specs.Lease.{is_live, later};
 ghost use Rattle.tuple_space.specs.Entry.{is_counted};
 ghost use Rattle.tuple_space.specs.Index.{AreIndexed};
+ghost use Rattle.tuple_space.specs.Places.{holds_one};
 ghost use Rattle.tuple_space.specs.Rows.{IsRising, changed, has_number, with_end, without};
 
-use crate::admission::is_counted;
+use crate::admission::is_counted_in;
 use crate::entries::Entries;
 use crate::entry::Entry;
 use crate::index::{Bucket, drop_entry};
@@ -55,14 +56,19 @@ pub(crate) fn change_end(entries: &mut Entries, number: u64, moment: u64, end: L
     true
 }
 
+/// How many places hold an entry that is there and whose tuple the template asks for.
+fn count_in(places: &[Option<Entry>], moment: u64, template: &Template) -> usize
+    ensures { result ≡ count_by (holds_one (is_counted moment template.now)) places.now }
+{
+    places
+        .iter()
+        .filter(|place| is_counted_in(place, moment, template))
+        .count()
+}
+
 /// How many entries are there whose tuples the template asks for.
 pub(crate) fn count_of(entries: &Entries, moment: u64, template: &Template) -> u64
     ensures { result ≡ count_by (is_counted moment template.now) entries.now.items }
 {
-    let count = entries
-        .as_slice()
-        .iter()
-        .filter(|entry| is_counted(entry, moment, template))
-        .count();
-    count as u64
+    count_in(entries.as_slice(), moment, template) as u64
 }

@@ -1,8 +1,9 @@
 //! Which entry a template finds: the order in which entries are tried.
 
-ghost use Rattle.std.specs.Prelude.{◌≡◌, ◌==◌, true, false, All, Contains, IfNone, IfSome, count_by};
+ghost use Rattle.std.specs.Prelude.{◌≡◌, ◌==◌, true, false, All, Contains, IfNone, IfSome, Some, count_by};
 ghost use Rattle.tuple_space.specs.Entry.{is_counted};
 ghost use Rattle.tuple_space.specs.Index.{AreIndexed, HasNoneWanted, IsUnwanted};
+ghost use Rattle.tuple_space.specs.Places.{items_in};
 ghost use Rattle.tuple_space.specs.Wanted.{is_wanted};
 ghost use Rattle.tuple_space.specs.Rows.{IsRising};
 
@@ -31,20 +32,38 @@ fn is_wanted(entry: &Entry, wanted: Wanted, moment: u64, template: &Template) ->
     }
 }
 
-/// The newest entry that is wanted.
-fn newest_wanted<'a>(
-    entries: &'a [Entry],
+/// The entry in a place, where it is wanted.
+fn wanted_in<'a>(
+    place: &'a Option<Entry>,
     wanted: Wanted,
     moment: u64,
     template: &Template,
 ) -> Option<&'a Entry>
-    ensures none { IfNone result (All (λ e. is_wanted wanted moment template.now e ≡ false) entries.now) }
-    ensures stands { IfSome result (λ e. Contains entries.now e.now) }
+    ensures none { IfNone result (IfSome place.now (λ e. is_wanted wanted moment template.now e ≡ false)) }
+    ensures stands { IfSome result (λ e. place.now ≡ Some e.now) }
     ensures can { IfSome result (λ e. is_wanted wanted moment template.now e.now ≡ true) }
 {
-    for place in (0..entries.len()).rev() {
-        let entry = &entries[place];
-        if is_wanted(entry, wanted, moment, template) {
+    let entry = place.as_ref()?;
+    if is_wanted(entry, wanted, moment, template) {
+        Some(entry)
+    } else {
+        None
+    }
+}
+
+/// The newest entry that is wanted.
+fn newest_wanted<'a>(
+    places: &'a [Option<Entry>],
+    wanted: Wanted,
+    moment: u64,
+    template: &Template,
+) -> Option<&'a Entry>
+    ensures none { IfNone result (All (λ e. is_wanted wanted moment template.now e ≡ false) (items_in places.now)) }
+    ensures stands { IfSome result (λ e. Contains (items_in places.now) e.now) }
+    ensures can { IfSome result (λ e. is_wanted wanted moment template.now e.now ≡ true) }
+{
+    for index in (0..places.len()).rev() {
+        if let Some(entry) = wanted_in(&places[index], wanted, moment, template) {
             return Some(entry);
         }
     }

@@ -6,6 +6,7 @@ ghost use Rattle.tuple_space.specs.Entry.{is_counted, is_held_by};
 ghost use Rattle.tuple_space.specs.Space.{IsSpace, held_by, most, opening, released, with_entries, without_taken};
 ghost use Rattle.std.specs.List.{list_any};
 ghost use Rattle.tuple_space.specs.Held.{HasHeld};
+ghost use Rattle.tuple_space.specs.Places.{items_in};
 ghost use Rattle.tuple_space.specs.Index.{class_of, has_class};
 ghost use Rattle.tuple_space.specs.Rows.{IsRising, changed, permanent_tuples, without};
 ghost use Rattle.tuple_space.specs.Writes.{IsPutRefusal, put_count, put_each};
@@ -210,9 +211,9 @@ impl Space {
         self.entry_numbered(id.number())
     }
 
-    /// The entries, in rising order of number.
-    pub fn entries(&self) -> &[Entry]
-        ensures { result.now ≡ self.now.entries }
+    /// The entries, in rising order of number, in their places: that of one that left may be empty.
+    pub fn entries(&self) -> &[Option<Entry>]
+        ensures { items_in result.now ≡ self.now.entries }
     {
         self.entries.as_slice()
     }

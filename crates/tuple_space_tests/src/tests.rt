@@ -2,7 +2,7 @@ use std::alloc::{AllocError, Global};
 use std::process::Abort;
 use std::test::Fail;
 use tuple_match::{Field, Pattern, Template, Tuple};
-use tuple_space::{EntryId, Held, Lease, Space, SpaceError};
+use tuple_space::{Entry, EntryId, Held, Lease, Space, SpaceError};
 
 /// The tuple `job n`.
 fn job(alloc: Global, number: i128) -> Result<Tuple, Fail> {
@@ -213,4 +213,67 @@ fn holders_leave_and_take(rt: HostRuntime) -> Result<(), Fail> {
     let mut space = Space::new(alloc);
     let id = put(alloc, &mut space, 5, Lease::Forever)?;
     assert_holders(&rt, &mut space, &any_job(alloc)?, id)
+}
+
+/// Puts so many jobs out to stay, and tells their entries.
+fn put_many(alloc: Global, space: &mut Space, many: i128) -> Result<Vec<EntryId>, Fail> {
+    let mut entries = Vec::new(alloc);
+    for number in 0..many {
+        entries.push(put(alloc, space, number, Lease::Forever)?)?;
+    }
+    Ok(entries)
+}
+
+/// Removes all of these entries but each fourth.
+fn remove_most(space: &mut Space, entries: &[EntryId]) {
+    for index in 0..entries.len() {
+        if index % 4 != 3 {
+            space.remove(entries[index]);
+        }
+    }
+}
+
+/// The number of the job in a place.
+fn job_in(place: &Option<Entry>) -> Option<i128> {
+    match place {
+        Some(entry) => number_of(&entry.tuple),
+        None => None,
+    }
+}
+
+/// The numbers of the jobs that are left, in order.
+fn jobs_left(alloc: Global, space: &Space) -> Result<Vec<i128>, AllocError> {
+    let mut numbers = Vec::new(alloc);
+    for place in space.entries() {
+        if let Some(number) = job_in(place) {
+            numbers.push(number)?;
+        }
+    }
+    Ok(numbers)
+}
+
+/// Each fourth of the numbers from 0 to 199.
+fn fourths(alloc: Global) -> Result<Vec<i128>, AllocError> {
+    let mut numbers = Vec::new(alloc);
+    for fourth in 0..50u64 {
+        numbers.push(i128::from(4 * fourth + 3))?;
+    }
+    Ok(numbers)
+}
+
+// The places of 150 that leave don't stay: no more than 65 are empty. Those left stand in order, and one that is put out
+// goes behind them.
+#[test]
+fn empty_places_close_up(rt: HostRuntime) -> Result<(), Fail> {
+    let alloc = rt.alloc();
+    let mut space = Space::new(alloc);
+    let entries = put_many(alloc, &mut space, 200)?;
+    remove_most(&mut space, &entries);
+    assert!(rt; space.entries().len() <= 115);
+    put(alloc, &mut space, 200, Lease::Forever)?;
+    let mut left = fourths(alloc)?;
+    left.push(200)?;
+    assert_eq!(rt; jobs_left(alloc, &space)?.as_slice(), left.as_slice());
+    assert_eq!(rt; read(&space, &any_job(alloc)?)?, Some(200));
+    Ok(())
 }

@@ -1,4 +1,4 @@
--- The permanent tuples of entries, one entry after another.
+-- The permanent tuples in places, one place after another.
 use Rattle.std.proofs.Common.{◌≡◌, ℕ, zero, suc, ◌+◌, ◌<◌, ◌++◌, ◌∷◌, [], List, length, take, drop, get_or, map, filter, Bool, true, false, ℤ, inl, refl, sym, ◌∙◌, ap, subst, arith}
 use Rattle.std.proofs.lemmas.Bool.{false≢true}
 use Rattle.std.specs.Option.{is_some}
@@ -6,17 +6,19 @@ use Rattle.std.specs.Prelude.{All, Contains, MatchOption, Option, None, Some, co
 use Rattle.std.proofs.Math.Seq.{drop-append_seam, take-append_seam}
 use Rattle.std.proofs.lemmas.Int.{ints}
 use Rattle.std.proofs.lemmas.List.{map-append, take-append-drop, take_more}
-use Rattle.std.proofs.lemmas.List.Elements.{All-append, All-cons, All-drop, All-nil, All-take, Contains-append_left, Contains-append_right, filter-append}
+use Rattle.std.proofs.lemmas.List.Elements.{All-append, All-contains, All-contains_itself, All-drop, All-nil, All-take, All-weaker, Contains-append_left, Contains-append_right, filter-append}
 use Rattle.std.proofs.lemmas.List.Sums.{sum_by-append, sum_by-cons}
 use Rattle.qap_cost.specs.Instance.{Problem}
 use Rattle.tuple_match.specs.FieldValue.{FieldValue}
 use Rattle.tuple_space.specs.Lease.{is_permanent}
+use Rattle.tuple_space.specs.Places.{holds_one, items_in}
 use Rattle.tuple_space.specs.Rows.{permanent_tuples}
 use Rattle.tuple_space.specs.declared.entry.Entry.{Entry}
+use Rattle.tuple_space.proofs.PlaceLemmas.{counted_in, items_in-append}
 use Rattle.qap_search.proofs.CertificateLemmas.Certificates.{open_weight}
 use Rattle.qap_search.proofs.RunLemmas.OpenBounds.{open_bound_append}
 use Rattle.qap_search.specs.Runs.OpenBound.{IsOpenBound, IsTupleAbove}
-use Rattle.qap_search.specs.Runs.Remaining.{is_open_entry}
+use Rattle.qap_search.specs.Runs.Remaining.{is_open_entry, tuples_in}
 use Rattle.qap_search.specs.Tuples.Piece.{is_open, open_count}
 
 permanent_tuples-append : (xs ys : List Entry) → permanent_tuples (xs ++ ys) ≡ permanent_tuples xs ++ permanent_tuples ys
@@ -24,40 +26,34 @@ permanent_tuples-append xs ys =
     ap (map (λ (e : Entry). e.tuple)) (filter-append (λ (e : Entry). is_permanent e.end) xs ys)
     ∙ map-append (λ (e : Entry). e.tuple) (filter (λ (e : Entry). is_permanent e.end) xs) (filter (λ (e : Entry). is_permanent e.end) ys)
 
--- with one entry more
-pub permanent_tuples-more : (xs : List Entry) (i : ℕ) (d : Entry) → i < length xs → permanent_tuples (take (i + 1) xs) ≡ permanent_tuples (take i xs) ++ permanent_tuples (get_or xs i d ∷ [])
-permanent_tuples-more xs i d below = ap permanent_tuples (take_more xs i d below) ∙ permanent_tuples-append (take i xs) (get_or xs i d ∷ [])
+tuples_in-append : (os qs : List (Option Entry)) → tuples_in (os ++ qs) ≡ tuples_in os ++ tuples_in qs
+tuples_in-append os qs = ap permanent_tuples (items_in-append os qs) ∙ permanent_tuples-append (items_in os) (items_in qs)
 
-pub permanent_one : (e : Entry) → is_permanent e.end ≡ true → permanent_tuples (e ∷ []) ≡ e.tuple ∷ []
+-- with one place more
+tuples_in-more : (os : List (Option Entry)) (i : ℕ) (d : Option Entry) → i < length os → tuples_in (take (i + 1) os) ≡ tuples_in (take i os) ++ tuples_in (get_or os i d ∷ [])
+tuples_in-more os i d below = ap tuples_in (take_more os i d below) ∙ tuples_in-append (take i os) (get_or os i d ∷ [])
+
+permanent_one : (e : Entry) → is_permanent e.end ≡ true → permanent_tuples (e ∷ []) ≡ e.tuple ∷ []
 permanent_one e is = ap (λ (b : Bool). map (λ (x : Entry). x.tuple) (if b then e ∷ [] else [])) is
 
-pub permanent_none : (e : Entry) → is_permanent e.end ≡ false → permanent_tuples (e ∷ []) ≡ []
+permanent_none : (e : Entry) → is_permanent e.end ≡ false → permanent_tuples (e ∷ []) ≡ []
 permanent_none e is = ap (λ (b : Bool). map (λ (x : Entry). x.tuple) (if b then e ∷ [] else [])) is
 
--- what holds of all so far, and of one more if it is permanent, holds of all
-pub all_more : (P : List FieldValue → Type 0) (xs : List Entry) (i : ℕ) (d : Entry) → i < length xs → All P (permanent_tuples (take i xs)) → (is_permanent (get_or xs i d).end ≡ true → P (get_or xs i d).tuple)
-    → All P (permanent_tuples (take (i + 1) xs))
-all_more P xs i d below h one = by (is_permanent (get_or xs i d).end) refl
-  where
-    e : Entry
-    e = get_or xs i d
+-- what holds of all so far, and of what one place more holds, holds of all
+pub all_more : (P : List FieldValue → Type 0) (os : List (Option Entry)) (i : ℕ) (d : Option Entry) → i < length os → All P (tuples_in (take i os)) → All P (tuples_in (get_or os i d ∷ []))
+    → All P (tuples_in (take (i + 1) os))
+all_more P os i d below h one =
+    subst (All P) (sym (tuples_in-more os i d below)) (All-append P (tuples_in (take i os)) (tuples_in (get_or os i d ∷ [])) h one)
 
-    last : All P (permanent_tuples (e ∷ [])) → All P (permanent_tuples (take (i + 1) xs))
-    last there = subst (All P) (sym (permanent_tuples-more xs i d below)) (All-append P (permanent_tuples (take i xs)) (permanent_tuples (e ∷ [])) h there)
-
-    by : (b : Bool) → is_permanent e.end ≡ b → All P (permanent_tuples (take (i + 1) xs))
-    by true is = last (subst (All P) (sym (permanent_one e is)) (All-cons P e.tuple [] (one is) (All-nil P)))
-    by false is = last (subst (All P) (sym (permanent_none e is)) (All-nil P))
-
--- a permanent entry's tuple is among them
-pub Contains-permanent : (xs : List Entry) (i : ℕ) (d : Entry) → i < length xs → is_permanent (get_or xs i d).end ≡ true → Contains (permanent_tuples xs) (get_or xs i d).tuple
-Contains-permanent [] i d below is = absurd (omega arith)
-Contains-permanent (x ∷ xs) zero d below is =
-    subst (λ (ts : List (List FieldValue)). Contains ts x.tuple) (sym (permanent_tuples-append (x ∷ []) xs))
-    (Contains-append_left (permanent_tuples (x ∷ [])) (permanent_tuples xs) x.tuple (subst (λ (ts : List (List FieldValue)). Contains ts x.tuple) (sym (permanent_one x is)) (0, omega arith, refl)))
-Contains-permanent (x ∷ xs) (suc i) d below is =
-    subst (λ (ts : List (List FieldValue)). Contains ts (get_or xs i d).tuple) (sym (permanent_tuples-append (x ∷ []) xs))
-    (Contains-append_right (permanent_tuples (x ∷ [])) (permanent_tuples xs) (get_or xs i d).tuple (Contains-permanent xs i d (omega arith) is))
+-- a tuple in a place is among them
+pub contains_at : (os : List (Option Entry)) (i : ℕ) (o : Option Entry) (t : List FieldValue) → i < length os → o ≡ get_or os i o → Contains (tuples_in (o ∷ [])) t → Contains (tuples_in os) t
+contains_at [] i o t below is at = absurd (omega arith)
+contains_at (q ∷ qs) zero o t below is at =
+    subst (λ (ts : List (List FieldValue)). Contains ts t) (sym (tuples_in-append (q ∷ []) qs))
+    (Contains-append_left (tuples_in (q ∷ [])) (tuples_in qs) t (subst (λ (p : Option Entry). Contains (tuples_in (p ∷ [])) t) is at))
+contains_at (q ∷ qs) (suc i) o t below is at =
+    subst (λ (ts : List (List FieldValue)). Contains ts t) (sym (tuples_in-append (q ∷ []) qs))
+    (Contains-append_right (tuples_in (q ∷ [])) (tuples_in qs) t (contains_at qs i o t (omega arith) is at))
 
 -- the open nodes counted entry by entry
 count-with : (x : Entry) (xs : List Entry) → count_by is_open_entry xs ≡ open_count (permanent_tuples xs) → count_by is_open_entry (x ∷ xs) ≡ open_count (permanent_tuples (x ∷ xs))
@@ -79,9 +75,13 @@ count-with x xs rest = by (is_permanent x.end) refl
         let weight : cond {A = ℕ} (is_permanent x.end && is_open x.tuple) 1 0 ≡ 0 = ap (λ (b : Bool). cond {A = ℕ} (b && is_open x.tuple) 1 0) is in
         omega (arith, apart, here, weight, first, rest)
 
-pub open_count-entries : (xs : List Entry) → count_by is_open_entry xs ≡ open_count (permanent_tuples xs)
+open_count-entries : (xs : List Entry) → count_by is_open_entry xs ≡ open_count (permanent_tuples xs)
 open_count-entries [] = refl
 open_count-entries (x ∷ xs) = count-with x xs (open_count-entries xs)
+
+-- and place by place
+pub open_count-places : (os : List (Option Entry)) → count_by (holds_one is_open_entry) os ≡ open_count (tuples_in os)
+open_count-places os = counted_in is_open_entry os ∙ open_count-entries (items_in os)
 
 -- what an option says where it is none, and where it is some
 pub none_of : {X : Type 0} (o : Option X) (A : Type 0) (B : X → Type 0) → is_some o ≡ false → MatchOption o A B → A
@@ -92,40 +92,35 @@ pub some_of : {X : Type 0} (o : Option X) (A C : Type 0) (B D : X → Type 0) �
 some_of None A C B D e f h = absurd (false≢true e)
 some_of (Some x) A C B D e f h = f x h
 
--- what is so of all permanent tuples is so of each
-pub all_at : (P : List FieldValue → Type 0) (xs : List Entry) (i : ℕ) (d : Entry) → i < length xs → All P (permanent_tuples xs) → is_permanent (get_or xs i d).end ≡ true → P (get_or xs i d).tuple
-all_at P xs i d below h is =
-    let at = Contains-permanent xs i d below is in
-    let t = (get_or xs i d).tuple in
-    subst P at.2 (h at.0 t at.1)
+-- what is so of all permanent tuples is so of those in each place
+pub all_at : (P : List FieldValue → Type 0) (os : List (Option Entry)) (i : ℕ) (o : Option Entry) → i < length os → o ≡ get_or os i o → All P (tuples_in os) → All P (tuples_in (o ∷ []))
+all_at P os i o below is h =
+    All-weaker (Contains (tuples_in (o ∷ []))) P (λ t at. All-contains P (tuples_in os) t h (contains_at os i o t below is at)) (tuples_in (o ∷ [])) (All-contains_itself (tuples_in (o ∷ [])))
 
--- the bound with what one entry more leads to
-pub open_bound_next : (I : Problem) (xs : List Entry) (i : ℕ) (e : Entry) (c b g : ℤ) → i < length xs → e ≡ get_or xs i e → IsOpenBound I (permanent_tuples (take i xs)) c b → IsOpenBound I (permanent_tuples (e ∷ [])) b g
-    → IsOpenBound I (permanent_tuples (take (i + 1) xs)) c g
-open_bound_next I xs i e c b g below is first second =
-    subst (λ (ts : List (List FieldValue)). IsOpenBound I ts c g) (sym (permanent_tuples-more xs i e below))
-    (open_bound_append I (permanent_tuples (take i xs)) (permanent_tuples (get_or xs i e ∷ [])) c b g first (subst (λ (x : Entry). IsOpenBound I (permanent_tuples (x ∷ [])) b g) is second))
+-- the bound with what one place more leads to
+pub open_bound_next : (I : Problem) (os : List (Option Entry)) (i : ℕ) (o : Option Entry) (c b g : ℤ) → i < length os → o ≡ get_or os i o → IsOpenBound I (tuples_in (take i os)) c b → IsOpenBound I (tuples_in (o ∷ [])) b g
+    → IsOpenBound I (tuples_in (take (i + 1) os)) c g
+open_bound_next I os i o c b g below is first second =
+    subst (λ (ts : List (List FieldValue)). IsOpenBound I ts c g) (sym (tuples_in-more os i o below))
+    (open_bound_append I (tuples_in (take i os)) (tuples_in (get_or os i o ∷ [])) c b g first (subst (λ (p : Option Entry). IsOpenBound I (tuples_in (p ∷ [])) b g) is second))
 
--- what one entry leads to
-pub open_bound_one : (I : Problem) (e : Entry) (b g : ℤ) → is_permanent e.end ≡ true → IsOpenBound I (e.tuple ∷ []) b g → IsOpenBound I (permanent_tuples (e ∷ [])) b g
-open_bound_one I e b g is h = subst (λ (ts : List (List FieldValue)). IsOpenBound I ts b g) (sym (permanent_one e is)) h
-
-pub open_bound_none : (I : Problem) (e : Entry) (b : ℤ) → is_permanent e.end ≡ false → IsOpenBound I (permanent_tuples (e ∷ [])) b b
-open_bound_none I e b is = subst (λ (ts : List (List FieldValue)). IsOpenBound I ts b b) (sym (permanent_none e is)) (record { one = inl refl; at_most = omega (arith, ints); least = All-nil (IsTupleAbove I b) })
+-- no tuples change no bound
+pub open_bound_none : (I : Problem) (tuples : List (List FieldValue)) (b : ℤ) → tuples ≡ [] → IsOpenBound I tuples b b
+open_bound_none I tuples b is = subst (λ (ts : List (List FieldValue)). IsOpenBound I ts b b) (sym is) (record { one = inl refl; at_most = omega (arith, ints); least = All-nil (IsTupleAbove I b) })
 
 -- those of both parts
-pub both_parts : (xs : List Entry) (m : ℕ) → permanent_tuples xs ≡ permanent_tuples (take m xs) ++ permanent_tuples (drop m xs)
-both_parts xs m = sym (ap permanent_tuples (take-append-drop m xs)) ∙ permanent_tuples-append (take m xs) (drop m xs)
+pub both_parts : (os : List (Option Entry)) (m : ℕ) → tuples_in os ≡ tuples_in (take m os) ++ tuples_in (drop m os)
+both_parts os m = sym (ap tuples_in (take-append-drop m os)) ∙ tuples_in-append (take m os) (drop m os)
 
 -- what is so of all permanent tuples is so of those of each part
-pub all_in_front : (P : List FieldValue → Type 0) (xs : List Entry) (m : ℕ) → All P (permanent_tuples xs) → All P (permanent_tuples (take m xs))
-all_in_front P xs m h =
-    let front = permanent_tuples (take m xs) in
-    let back = permanent_tuples (drop m xs) in
-    subst (All P) (take-append_seam front back) (All-take P (length front) (front ++ back) (subst (All P) (both_parts xs m) h))
+pub all_in_front : (P : List FieldValue → Type 0) (os : List (Option Entry)) (m : ℕ) → All P (tuples_in os) → All P (tuples_in (take m os))
+all_in_front P os m h =
+    let front = tuples_in (take m os) in
+    let back = tuples_in (drop m os) in
+    subst (All P) (take-append_seam front back) (All-take P (length front) (front ++ back) (subst (All P) (both_parts os m) h))
 
-pub all_in_back : (P : List FieldValue → Type 0) (xs : List Entry) (m : ℕ) → All P (permanent_tuples xs) → All P (permanent_tuples (drop m xs))
-all_in_back P xs m h =
-    let front = permanent_tuples (take m xs) in
-    let back = permanent_tuples (drop m xs) in
-    subst (All P) (drop-append_seam front back) (All-drop P (length front) (front ++ back) (subst (All P) (both_parts xs m) h))
+pub all_in_back : (P : List FieldValue → Type 0) (os : List (Option Entry)) (m : ℕ) → All P (tuples_in os) → All P (tuples_in (drop m os))
+all_in_back P os m h =
+    let front = tuples_in (take m os) in
+    let back = tuples_in (drop m os) in
+    subst (All P) (drop-append_seam front back) (All-drop P (length front) (front ++ back) (subst (All P) (both_parts os m) h))

@@ -3,7 +3,7 @@
 ghost use denote.Param.Send.{IsSync};
 ghost use Rattle.std.specs.Prelude.{◌≡◌, ◌≤◌, ◌++◌, All, IfOk, length, ℕ};
 ghost use Rattle.qap_search.specs.Runs.OpenBound.{IsOpenBound, IsSoundTuple};
-ghost use Rattle.tuple_space.specs.Rows.{permanent_tuples};
+ghost use Rattle.qap_search.specs.Runs.Remaining.{tuples_in};
 
 use crate::certificate::closing_open_nodes::Closing;
 use crate::certificate::closing_threads::Many;
@@ -21,16 +21,16 @@ pub(crate) fn bound_by<R: Threads + Sync>(
     alloc: Global,
     instance: &RankedInstance,
     closing: &mut Closing,
-    entries: &[Entry],
+    places: &[Option<Entry>],
     cost: i128,
 ) -> Result<i128, AllocError>
-    requires { All (IsSoundTuple instance.now.size) (permanent_tuples entries.now) }
-    ensures { IfOk result (IsOpenBound instance.now (permanent_tuples entries.now) cost) }
+    requires { All (IsSoundTuple instance.now.size) (tuples_in places.now) }
+    ensures { IfOk result (IsOpenBound instance.now (tuples_in places.now) cost) }
 {
-    if let Ok(bound) = bound_by_halves(many.rt, alloc, instance, many.halvings, entries, cost) {
+    if let Ok(bound) = bound_by_halves(many.rt, alloc, instance, many.halvings, places, cost) {
         return Ok(bound);
     }
-    open_bound(instance, closing, entries, cost)
+    open_bound(instance, closing, places, cost)
 }
 
 /// The same, by as many threads as halving so often gives parts.
@@ -40,26 +40,26 @@ fn bound_by_halves<R: Threads + Sync>(
     alloc: Global,
     instance: &RankedInstance,
     halvings: u32,
-    entries: &[Entry],
+    places: &[Option<Entry>],
     cost: i128,
 ) -> Result<i128, AllocError>
-    requires { All (IsSoundTuple instance.now.size) (permanent_tuples entries.now) }
-    ensures { IfOk result (IsOpenBound instance.now (permanent_tuples entries.now) cost) }
+    requires { All (IsSoundTuple instance.now.size) (tuples_in places.now) }
+    ensures { IfOk result (IsOpenBound instance.now (tuples_in places.now) cost) }
 {
     if halvings == 0 {
-        return bound_in_own_memory(alloc, instance, entries, cost);
+        return bound_in_own_memory(alloc, instance, places, cost);
     }
-    let (front, back) = halves(entries);
+    let (front, back) = halves(places);
     let fewer = halvings - 1;
     let first = move || -> Result<i128, AllocError>
         requires sync { IsSync R.row }
-        requires sound { All (IsSoundTuple instance.now.size) (permanent_tuples front.now) }
-        ensures { IfOk result (IsOpenBound instance.entry.now (permanent_tuples front.entry.now) cost) }
+        requires sound { All (IsSoundTuple instance.now.size) (tuples_in front.now) }
+        ensures { IfOk result (IsOpenBound instance.entry.now (tuples_in front.entry.now) cost) }
     { bound_by_halves(rt, alloc, instance, fewer, front, cost) };
     let second = move || -> Result<i128, AllocError>
         requires sync { IsSync R.row }
-        requires sound { All (IsSoundTuple instance.now.size) (permanent_tuples back.now) }
-        ensures { IfOk result (IsOpenBound instance.entry.now (permanent_tuples back.entry.now) cost) }
+        requires sound { All (IsSoundTuple instance.now.size) (tuples_in back.now) }
+        ensures { IfOk result (IsOpenBound instance.entry.now (tuples_in back.entry.now) cost) }
     { bound_by_halves(rt, alloc, instance, fewer, back, cost) };
     let (left, right) = thread::join(rt, first, second);
     Ok(left?.min(right?))
@@ -69,37 +69,37 @@ fn bound_by_halves<R: Threads + Sync>(
 fn bound_in_own_memory(
     alloc: Global,
     instance: &RankedInstance,
-    entries: &[Entry],
+    places: &[Option<Entry>],
     cost: i128,
 ) -> Result<i128, AllocError>
-    requires { All (IsSoundTuple instance.now.size) (permanent_tuples entries.now) }
-    ensures { IfOk result (IsOpenBound instance.now (permanent_tuples entries.now) cost) }
+    requires { All (IsSoundTuple instance.now.size) (tuples_in places.now) }
+    ensures { IfOk result (IsOpenBound instance.now (tuples_in places.now) cost) }
 {
     let mut closing = Closing::with_room(alloc, instance.instance().size())?;
-    open_bound(instance, &mut closing, entries, cost)
+    open_bound(instance, &mut closing, places, cost)
 }
 
-/// The entries in two parts with as many open nodes each.
-fn halves(entries: &[Entry]) -> (&[Entry], &[Entry])
-    ensures parts { permanent_tuples entries.now ≡ permanent_tuples result.0.now ++ permanent_tuples result.1.now }
-    ensures front { (n : ℕ) → All (IsSoundTuple n) (permanent_tuples entries.now) → All (IsSoundTuple n) (permanent_tuples result.0.now) }
-    ensures back { (n : ℕ) → All (IsSoundTuple n) (permanent_tuples entries.now) → All (IsSoundTuple n) (permanent_tuples result.1.now) }
+/// The places in two parts with as many open nodes each.
+fn halves(places: &[Option<Entry>]) -> (&[Option<Entry>], &[Option<Entry>])
+    ensures parts { tuples_in places.now ≡ tuples_in result.0.now ++ tuples_in result.1.now }
+    ensures front { (n : ℕ) → All (IsSoundTuple n) (tuples_in places.now) → All (IsSoundTuple n) (tuples_in result.0.now) }
+    ensures back { (n : ℕ) → All (IsSoundTuple n) (tuples_in places.now) → All (IsSoundTuple n) (tuples_in result.1.now) }
 {
-    entries.split_at(middle(entries))
+    places.split_at(middle(places))
 }
 
 /// The place before which half of the open nodes stand, since these stand together.
-fn middle(entries: &[Entry]) -> usize
-    ensures { result ≤ length entries.now }
+fn middle(places: &[Option<Entry>]) -> usize
+    ensures { result ≤ length places.now }
 {
-    let mut before = open_among(entries) / 2;
-    for place in 0..entries.len() {
-        if is_open_at(&entries[place]) {
+    let mut before = open_among(places) / 2;
+    for index in 0..places.len() {
+        if is_open_at(&places[index]) {
             if before == 0 {
-                return place;
+                return index;
             }
             before -= 1;
         }
     }
-    entries.len()
+    places.len()
 }

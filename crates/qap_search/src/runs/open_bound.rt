@@ -65,10 +65,10 @@ pub(crate) fn bounded_of<R: Threads + Sync>(
         locations,
     } = ending;
     let Run { space, reports } = run;
-    let entries = space.entries();
-    let (permutation, cost) = best_among(entries, locations)?;
-    let bound = bound_by(many, alloc, &ranked, &mut closing, entries, cost)?;
-    let open_nodes = open_among(entries);
+    let places = space.entries();
+    let (permutation, cost) = best_among(places, locations)?;
+    let bound = bound_by(many, alloc, &ranked, &mut closing, places, cost)?;
+    let open_nodes = open_among(places);
     Ok(Bounded {
         permutation,
         cost,

@@ -1,6 +1,7 @@
+use Rattle.std.specs.Prelude.{IfSome}
 use Rattle.std.specs.List.{AllWithin}
 use Rattle.tuple_space.specs.Ends.{IsLiveBefore}
 use Rattle.tuple_space.proofs.ends.first_end.Given as goal
 
-abbrev pub invariant-loop-entry : goal.invariant-loop-entry
-invariant-loop-entry l = AllWithin (λ e. IsLiveBefore l.first e.end) l.entries 0 l.entry-index
+abbrev pub invariant-loop-place : goal.invariant-loop-place
+invariant-loop-place l = AllWithin (λ o. IfSome o (λ e. IsLiveBefore l.first e.end)) l.places 0 l.place-index

@@ -1,15 +1,16 @@
-use Rattle.std.proofs.Common.{subst}
-use Rattle.tuple_space.specs.Rows.{IsRising}
-use Rattle.tuple_space.proofs.RowLemmas.{find_none, find_place, only_at}
+use Rattle.std.proofs.Common.{◌∙◌, ap, eqb, sym}
+use Rattle.std.specs.Prelude.{find}
+use Rattle.tuple_space.specs.Entries.{EntriesValue}
+use Rattle.tuple_space.specs.declared.entry.Entry.{Entry}
+use Rattle.tuple_space.proofs.OrderLemmas.{found_in, not_found}
 use Rattle.tuple_space.proofs.entries.Entries.get.Goals as goal
 
 pub returns-in-Some : goal.returns-in-Some
 returns-in-Some c =
-    let items = c.args.self.now.items in
-    let x = c.index-as_slice-place.result in
-    let same = c.as_slice.ensures.items in
-    find_place c.args.number items c.in-Some.place x (only_at c.args.number items c.in-Some.place (subst IsRising same c.as_slice.ensures.rising) c.in-Some.ensures.place c.in-Some.ensures.found)
-    (rw same at c.index-as_slice-place.is)
+    c.as_ref.ensures.value ∙ found_in c.args.number c.self.inside.places.entries c.in-Some.place.now c.self.invariant (sym c.in-Some.ensures.value)
+    ∙ ap (λ (v : EntriesValue). find (λ (e : Entry). eqb e.number c.args.number) v.items) c.self.view_is
 
 pub returns-in-None : goal.returns-in-None
-returns-in-None c = find_none c.args.number c.args.self.now.items c.in-None.ensures.none
+returns-in-None c =
+    not_found c.args.number c.self.inside.places.entries c.self.invariant (sym c.in-None.ensures.value)
+    ∙ ap (λ (v : EntriesValue). find (λ (e : Entry). eqb e.number c.args.number) v.items) c.self.view_is

@@ -1,26 +1,20 @@
-use Rattle.std.proofs.Common.{◌∙◌, ap, rules}
-use Rattle.std.specs.Prelude.{ℕ, filter}
-use Rattle.std.specs.Map.{values_of}
+use Rattle.std.proofs.Common.{◌∙◌, ap, rules, subst, sym}
+use Rattle.std.specs.Prelude.{ℕ, Option, filter}
 use Rattle.indexmap.proofs.CallerLemmas.{filter-RetainsPairs}
-use Rattle.tuple_space.specs.Entries.{EntriesValue}
+use Rattle.tuple_space.specs.Entries.{AreInPlaces, EntriesValue}
 use Rattle.tuple_space.specs.Entry.{is_there}
+use Rattle.tuple_space.specs.Places.{holds_one}
 use Rattle.tuple_space.specs.declared.entry.Entry.{Entry}
-use Rattle.tuple_space.proofs.NumberLemmas.{numbered-filter}
-use Rattle.tuple_space.proofs.OrderLemmas.{AreInOrder, in_order}
-use Rattle.tuple_space.proofs.RowLemmas.{rising_filter}
+use Rattle.tuple_space.proofs.OrderLemmas.{entries_of, kept_in}
 use Rattle.tuple_space.proofs.entries.Entries.keep_there.Goals as goal
 
-kept : (c : goal.After-retain) → AreInOrder c.retain.new.self.entries (filter (is_there c.args.moment) (values_of c.self.inside.by_number.entries))
-kept c =
-    let ps = c.self.inside.by_number.entries in
-    let there = is_there c.args.moment in
-    in_order _ (filter there (values_of ps))
-    (filter-RetainsPairs _ (λ (p : ℕ × Entry). there p.1) _ (λ k v b w g call. search rules) _ _ c.retain.ensures.filtered
-    ∙ ap (filter (λ (p : ℕ × Entry). there p.1)) c.self.invariant.0 ∙ numbered-filter (λ (e : Entry). e.number) there (values_of ps))
-    (rising_filter there (values_of ps) c.self.invariant.1)
-
 pub invariant_of-self : goal.invariant_of-self
-invariant_of-self c = let order = kept c in (order.numbered, order.rising)
+invariant_of-self c =
+    let is = filter-RetainsPairs _ (λ (p : ℕ × Option Entry). holds_one (is_there c.args.moment) p.1) _ (λ k v b w g call. search rules) _ _ c.retain.ensures.filtered in
+    subst AreInPlaces (sym is) (kept_in (is_there c.args.moment) c.self.inside.places.entries c.self.invariant).places
 
 pub returns : goal.returns
-returns c = (kept c).are ∙ ap (λ (v : EntriesValue). filter (is_there c.args.moment) v.items) c.self.view_is
+returns c =
+    let is = filter-RetainsPairs _ (λ (p : ℕ × Option Entry). holds_one (is_there c.args.moment) p.1) _ (λ k v b w g call. search rules) _ _ c.retain.ensures.filtered in
+    ap entries_of is ∙ (kept_in (is_there c.args.moment) c.self.inside.places.entries c.self.invariant).are
+    ∙ ap (λ (v : EntriesValue). filter (is_there c.args.moment) v.items) c.self.view_is

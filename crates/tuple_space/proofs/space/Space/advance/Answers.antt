@@ -13,8 +13,8 @@ invariant_of-self-2 c =
     rw c.keep_there.ensures (
       IsSpace-filter (is_there c.args.moment) s.entries.items s.moment s.last c.args.moment (omega arith) c.self.invariant.0,
       held_filter (is_there c.args.moment) s.held.items s.entries.items (there_free c.args.moment s.entries.items) c.self.invariant.1,
-      rw c.as_slice.ensures.items at c.drop_gone.ensures,
-      subst (AreLiveBefore c.first_end-self-inside.result) (c.as_slice-2.ensures.items ∙ c.keep_there.ensures) c.first_end-self-inside.ensures,
+      rw c.as_slice.ensures at c.drop_gone.ensures,
+      subst (AreLiveBefore c.first_end-self-inside.result) (c.as_slice-2.ensures ∙ c.keep_there.ensures) c.first_end-self-inside.ensures,
     )
 
 pub returns-then-moment-self-2 : goal.returns-then-moment-self-2

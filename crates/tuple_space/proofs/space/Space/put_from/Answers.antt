@@ -11,7 +11,6 @@ use Rattle.tuple_space.proofs.IndexLemmas.{indexed_put_each, indexed_undone, ind
 use Rattle.tuple_space.specs.Ends.{AreLiveBefore}
 use Rattle.tuple_space.proofs.EndLemmas.{live_less, live_put_each}
 use Rattle.tuple_space.proofs.SpaceLemmas.{IsSpace-put_each}
-use Rattle.tuple_space.proofs.PlaceLemmas.{items_in-map}
 use Rattle.tuple_space.proofs.WriteLemmas.{put_none}
 use Rattle.tuple_space.proofs.space.Space.put_from.Goals as goal
 
