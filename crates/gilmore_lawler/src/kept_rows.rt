@@ -14,8 +14,9 @@ use std::marker::Model;
 use std::sync::Arc;
 
 /// A share of a ranked instance, with for each depth the rows of the last node there: those of the flows serve the next one too
-/// where it places the same facilities, those of the distances where it takes the same locations, and of these those of its children
-/// are made. It is seen as the instance, and its answers don't depend on what was asked before.
+/// where it places the same facilities, those of the distances where it takes the same locations. Of the latter those of its children
+/// are made, and those of a node's ancestors first where they aren't kept, so that its siblings find them in whichever order nodes
+/// come. It is seen as the instance, and its answers don't depend on what was asked before.
 #[derive(Drop)]
 pub struct KeptRows {
     ranked: Arc<RankedInstance>,

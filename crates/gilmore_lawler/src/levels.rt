@@ -2,6 +2,7 @@
 
 ghost use Rattle.std.specs.Prelude.{◌≡◌, ◌<◌, ◌≤◌, ⊤, length, IsTrue, MatchOption, OnOk};
 ghost use Rattle.std.specs.List.{All};
+ghost use Rattle.qap_cost.specs.Bijection.{AreDifferent};
 ghost use Rattle.qap_cost.specs.Instance.{Problem};
 ghost use Rattle.gilmore_lawler.specs.FlowRows.{HasDistanceRows, HasFlowRows};
 ghost use Rattle.gilmore_lawler.specs.Levels.{HasLevel, KeepsDistances, KeepsRows};
@@ -46,7 +47,7 @@ impl Level {
         ensures distances { OnOk result (HasDistanceRows ranked.now node.now.places self.new.distances.known.rows.items) }
     {
         self.flows.make(ranked, node, free)?;
-        self.distances.make(ranked, above, node)
+        self.distances.make(ranked, above, node.places())
     }
 }
 
@@ -75,29 +76,30 @@ impl DistanceLevel {
         self.are_made && *self.known.places == *places
     }
 
-    /// Makes the rows those at the node, where they aren't yet, from those of the level above where these are its parent's.
+    /// Makes the rows those where these locations are taken, where they aren't yet, from those of the level above where the last
+    /// location is free there.
     fn make(
         &mut self,
         ranked: &RankedInstance,
         above: Option<&Level>,
-        node: &Partial,
+        places: &[u16],
     ) -> Result<(), AllocError>
-        requires size { ranked.now.size ≡ node.now.size }
+        requires different { AreDifferent ranked.now.size places.now }
         requires above { MatchOption above ⊤ (λ level. KeepsRows ranked.now level.now) }
         requires kept { KeepsDistances ranked.now self.old }
         ensures kept { KeepsDistances ranked.now self.new }
-        ensures made { OnOk result (HasDistanceRows ranked.now node.now.places self.new.known.rows.items) }
+        ensures made { OnOk result (HasDistanceRows ranked.now places.now self.new.known.rows.items) }
     {
-        if self.is_at(node.places()) {
+        if self.is_at(places) {
             return Ok(());
         }
         self.are_made = false;
         match above {
             Some(level) if level.distances.are_made => {
                 let before = &level.distances.known;
-                ranked.make_known_behind(before, node, &mut self.known)?;
+                ranked.make_known_behind(before, places, &mut self.known)?;
             }
-            _ => ranked.make_location_rows(node.places(), &mut self.known)?,
+            _ => ranked.make_location_rows(places, &mut self.known)?,
         }
         self.are_made = true;
         Ok(())
@@ -132,7 +134,7 @@ fn deepen(alloc: Global, depth: usize, levels: &mut Vec<Level>) -> Result<(), Al
     Ok(())
 }
 
-/// Makes the rows of the node's level those at the node, of the distances from those of its parent where the level above has these.
+/// Makes the rows of the node's level those at the node, of the distances from those of its parent, which the level above has then.
 fn make_level(
     ranked: &RankedInstance,
     node: &Partial,
@@ -146,6 +148,55 @@ fn make_level(
     ensures kept { All (KeepsRows ranked.now) levels.new }
     ensures count { length levels.new ≡ length levels.old }
 {
+    make_ancestors(ranked, node.places(), levels)?;
     let (above, own) = levels.split_at_mut(node.depth());
     own[0].make(ranked, above.last(), node, free)
+}
+
+/// Makes the rows of the distances at each level above the node with these locations those of its ancestor there, from the lowest
+/// ancestor on whose rows are kept. Siblings that come later find those of their parent, whoever thought on that.
+fn make_ancestors(
+    ranked: &RankedInstance,
+    places: &[u16],
+    levels: &mut [Level],
+) -> Result<(), AllocError>
+    requires different { AreDifferent ranked.now.size places.now }
+    requires deep { length places.now < length levels.old }
+    requires kept { All (KeepsRows ranked.now) levels.old }
+    ensures kept { All (KeepsRows ranked.now) levels.new }
+    ensures count { length levels.new ≡ length levels.old }
+{
+    for depth in first_missing(places, levels)..places.len() {
+        make_distances(ranked, &places[..depth], levels)?;
+    }
+    Ok(())
+}
+
+/// The level below that of the lowest ancestor of the node with these locations whose rows of the distances are kept, or 0 where
+/// those of none are.
+fn first_missing(places: &[u16], levels: &[Level]) -> usize
+    requires { length places.now < length levels.now }
+    ensures { result ≤ length places.now }
+{
+    let mut depth = places.len();
+    while depth > 0 && !levels[depth - 1].distances.is_at(&places[..depth - 1]) {
+        depth -= 1;
+    }
+    depth
+}
+
+/// Makes the rows of the distances at the level of so many locations those where these are taken, where they aren't yet.
+fn make_distances(
+    ranked: &RankedInstance,
+    places: &[u16],
+    levels: &mut [Level],
+) -> Result<(), AllocError>
+    requires different { AreDifferent ranked.now.size places.now }
+    requires deep { length places.now < length levels.old }
+    requires kept { All (KeepsRows ranked.now) levels.old }
+    ensures kept { All (KeepsRows ranked.now) levels.new }
+    ensures count { length levels.new ≡ length levels.old }
+{
+    let (above, own) = levels.split_at_mut(places.len());
+    own[0].distances.make(ranked, above.last(), places)
 }

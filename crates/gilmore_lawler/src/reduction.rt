@@ -165,21 +165,21 @@ impl RankedInstance {
         )
     }
 
-    /// Makes the rows those of the distances at the node, with its locations, from those where one location fewer is taken, if
-    /// these are such.
+    /// Makes the rows those of the distances where these locations are taken, with the locations, from those where the last of them
+    /// is free, if these are such.
     pub(crate) fn make_known_behind(
         &self,
         before: &LocationRows,
-        node: &Partial,
+        places: &[u16],
         made: &mut LocationRows,
     ) -> Result<(), AllocError>
-        requires size { self.now.size ≡ node.now.size }
+        requires different { AreDifferent self.now.size places.now }
         requires before { HasLocationRows self.now before.now.places.items before.now.free.items before.now.rows.items }
-        ensures { OnOk result (AreRowsAt self.now node.now.places made.new) }
+        ensures { OnOk result (AreRowsAt self.now places.now made.new) }
     {
-        match place_behind(&before.places, &before.free, node.places()) {
+        match place_behind(&before.places, &before.free, places) {
             Some(s) => before.make_child(&self.instance, s, made),
-            None => self.make_location_rows(node.places(), made),
+            None => self.make_location_rows(places, made),
         }
     }
 
