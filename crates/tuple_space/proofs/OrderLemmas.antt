@@ -6,13 +6,13 @@ use Rattle.std.specs.Map.{keys_of, lookup, values_of}
 use Rattle.std.proofs.lemmas.Bool.{cases_lt, cond-false, cond-true, eq-eqb, eqb-true, false≢true, ne_eqb}
 use Rattle.std.proofs.lemmas.List.{get_or-map, length-map}
 use Rattle.std.proofs.lemmas.List.Elements.{All-cons, All-filter, All-head, All-nil, All-push, All-tail, filter_agree, filter_passes}
-use Rattle.std.proofs.lemmas.List.Kept.{AllPairs-cons, AllPairs-filter}
+use Rattle.std.proofs.lemmas.List.Kept.{AllPairs-filter}
 use Rattle.std.proofs.lemmas.List.Quantifiers.{all_pairs_push, position-Some}
 use Rattle.std.proofs.lemmas.Option.{none-some, same_Some}
 use Rattle.indexmap.specs.IndexMap.{insert_entry, set_value_at}
 use Rattle.tuple_space.specs.Entries.{AreInPlaces}
 use Rattle.tuple_space.specs.Places.{holds_one, items_in}
-use Rattle.tuple_space.specs.Rows.{IsRising, changed, without}
+use Rattle.tuple_space.specs.Rows.{changed, without}
 use Rattle.tuple_space.specs.declared.entry.Entry.{Entry}
 use Rattle.tuple_space.proofs.NumberLemmas.{position_none}
 use Rattle.tuple_space.proofs.PlaceLemmas.{items_in-push}
@@ -44,26 +44,6 @@ none_in number (p ∷ ps) own other =
     by : (o : Option Entry) → IfSome o (λ e. e.number ≡ p.0) → HasNone number (entries_of ps) → HasNone number (items_in (o ∷ values_of ps))
     by None here rest = rest
     by (Some e) here rest = All-cons (λ (x : Entry). x.number ≢ number) e (entries_of ps) (λ same. All-head (λ (q : ℕ × Option Entry). q.0 ≢ number) p ps other (sym here ∙ same)) rest
-
--- entries behind a number's place have greater ones
-behind : (n : ℕ) (qs : Pairs) → All IsOwn qs → All (λ (q : ℕ × Option Entry). n < q.0) qs → All (λ (e : Entry). n < e.number) (entries_of qs)
-behind n [] own above = All-nil (λ (e : Entry). n < e.number)
-behind n (q ∷ qs) own above =
-    by q.1 (All-head IsOwn q qs own) (All-head (λ (r : ℕ × Option Entry). n < r.0) q qs above) (behind n qs (All-tail IsOwn q qs own) (All-tail (λ (r : ℕ × Option Entry). n < r.0) q qs above))
-  where
-    by : (o : Option Entry) → IfSome o (λ e. e.number ≡ q.0) → n < q.0 → All (λ (e : Entry). n < e.number) (entries_of qs) → All (λ (e : Entry). n < e.number) (items_in (o ∷ values_of qs))
-    by None is less rest = rest
-    by (Some e) is less rest = All-cons (λ (x : Entry). n < x.number) e (entries_of qs) (omega arith) rest
-
--- entries in their places rise
-pub rising_in : (ps : List (ℕ × Option Entry)) → AreInPlaces ps → IsRising (entries_of ps)
-rising_in [] h = λ i j d below within. absurd (omega arith)
-rising_in (p ∷ ps) h =
-    by p.1 (All-head IsOwn p ps h.own) (behind p.0 ps (All-tail IsOwn p ps h.own) (λ i q within. h.rising 0 (suc i) q (omega arith) (omega arith))) (rising_in ps (tail_in p ps h))
-  where
-    by : (o : Option Entry) → IfSome o (λ e. e.number ≡ p.0) → All (λ (e : Entry). p.0 < e.number) (entries_of ps) → IsRising (entries_of ps) → IsRising (items_in (o ∷ values_of ps))
-    by None is above rest = rest
-    by (Some e) is above rest = AllPairs-cons (λ (x y : Entry). x.number < y.number) e (entries_of ps) (λ k d lt. let less = above k d lt in omega arith) rest
 
 -- the place of a number and what it holds; no entry before it or behind it has the number
 abbrev pub IsAt : ℕ → List (ℕ × Option Entry) → ℕ → Option Entry → Type 0
