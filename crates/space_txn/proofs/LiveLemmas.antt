@@ -1,19 +1,18 @@
 -- Live transactions in rising order of number.
-use Rattle.std.proofs.Common.{◌≡◌, Bool, true, false, ℕ, zero, suc, ◌<◌, ◌≤◌, List, [], ◌∷◌, length, get_or, slice_get, Some, ap, ◌∙◌, sym, subst, refl, cond, eqb, ltb, ⊎_elim, ◌⊎◌, Result, Ok, Err, arith}
-use Rattle.std.specs.Prelude.{◌≢◌, ◌&&◌, ◌||◌, not, max, All, IfNone, IfSome, remove}
-use Rattle.std.specs.List.{HoldsAt}
-use Rattle.std.specs.List.Sorted.{IsBinarySearchResult, IsNonDecreasingBy}
-use Rattle.std.specs.Ordering.{nat_cmp, ordering_index}
-use Rattle.std.specs.Result.{result_ok}
-use Rattle.std.proofs.lemmas.Cmp.{ranked}
-use Rattle.std.proofs.lemmas.Bool.Decides.{nat_tests}
+use Rattle.std.proofs.Common.{◌≡◌, Bool, true, false, ℕ, zero, suc, ◌<◌, ◌≤◌, List, [], ◌∷◌, length, get_or, slice_get, Some, ap, ◌∙◌, sym, subst, refl, cond, eqb, ltb, ⊎_elim, arith}
+use Rattle.std.specs.Prelude.{◌≢◌, ◌&&◌, ◌||◌, not, max, All, filter, remove}
+use Rattle.std.specs.List.{AllPairs, HoldsAt, list_any}
 use Rattle.std.proofs.Math.ListN.{set}
-use Rattle.std.proofs.lemmas.Bool.{and_from, and_parts, cond-true, cond-false, cond_both, eq-eqb, lt-ltb, ltb-true, ne_eqb, or_cases, or_from, or_left, or_right}
+use Rattle.std.proofs.lemmas.Bool.{and_from, and_parts, cond-true, cond-false, cond_both, eq-eqb, false≢true, lt-ltb, ltb-true, ne_eqb, or_cases, or_from, or_left, or_right}
 use Rattle.std.proofs.lemmas.List.Elements.{All-cons, All-head, All-tail}
 use Rattle.std.proofs.lemmas.List.Kept.{AllPairs-cons}
 use Rattle.std.proofs.lemmas.Option.{none-some, same_Some}
-use Rattle.space_txn.specs.Live.{AreInOrder, is_live_in, others, renewed_row, renewed_rows}
+use Rattle.space_txn.specs.Live.{is_live_in, others, renewed_row, renewed_rows}
 use Rattle.space_txn.specs.declared.live.Live.{Live}
+
+-- the numbers rise
+abbrev pub AreRising : List Live → Type 0
+AreRising ts = AllPairs (λ (t : Live) (u : Live). t.number < u.number) ts
 
 -- no transaction has the number
 abbrev pub HasNone : ℕ → List Live → Type 0
@@ -23,16 +22,16 @@ HasNone n ts = All (λ (t : Live). t.number ≢ n) ts
 abbrev pub IsAt : ℕ → List Live → ℕ → Type 0
 IsAt n ts i = HoldsAt (λ (t : Live). t.number ≡ n) ts i
 
-rising_head : (t : Live) (ts : List Live) → AreInOrder (t ∷ ts) → All (λ (u : Live). t.number < u.number) ts
+rising_head : (t : Live) (ts : List Live) → AreRising (t ∷ ts) → All (λ (u : Live). t.number < u.number) ts
 rising_head t ts h = λ k d lt. h 0 (suc k) d (omega arith) (omega arith)
 
-rising_tail : (t : Live) (ts : List Live) → AreInOrder (t ∷ ts) → AreInOrder ts
+rising_tail : (t : Live) (ts : List Live) → AreRising (t ∷ ts) → AreRising ts
 rising_tail t ts h = λ i j d less lt. h (suc i) (suc j) d (omega arith) (omega arith)
 
-apart : (n : ℕ) (t : Live) (ts : List Live) → AreInOrder (t ∷ ts) → t.number ≡ n → HasNone n ts
+apart : (n : ℕ) (t : Live) (ts : List Live) → AreRising (t ∷ ts) → t.number ≡ n → HasNone n ts
 apart n t ts h same = λ k d lt e. (let less = rising_head t ts h k d lt in omega arith)
 
-differs : (n : ℕ) (t : Live) (ts : List Live) (i : ℕ) → AreInOrder (t ∷ ts) → i < length ts → IsAt n ts i → t.number ≢ n
+differs : (n : ℕ) (t : Live) (ts : List Live) (i : ℕ) → AreRising (t ∷ ts) → i < length ts → IsAt n ts i → t.number ≢ n
 differs n t ts i h lt at = λ e. (let less = rising_head t ts h i t lt in let same = at t in omega arith)
 
 -- the other transactions
@@ -43,7 +42,7 @@ others_none n (t ∷ ts) h =
     cond-true (not (eqb t.number n)) (t ∷ others n ts) (others n ts) (ap not (ne_eqb _ _ (All-head P t ts h)))
     ∙ ap (λ l. t ∷ l) (others_none n ts (All-tail P t ts h))
 
-pub others_at : (n : ℕ) (ts : List Live) (i : ℕ) → AreInOrder ts → i < length ts → IsAt n ts i → remove ts i ≡ others n ts
+pub others_at : (n : ℕ) (ts : List Live) (i : ℕ) → AreRising ts → i < length ts → IsAt n ts i → remove ts i ≡ others n ts
 others_at n [] i h lt at = absurd (omega arith)
 others_at n (t ∷ ts) zero h lt at =
     sym (cond-false (not (eqb t.number n)) (t ∷ others n ts) (others n ts) (ap not (eq-eqb _ _ (at t))) ∙ others_none n ts (apart n t ts h (at t)))
@@ -66,7 +65,7 @@ live_none moment n (t ∷ ts) h =
     or_from (eqb t.number n && ltb moment t.end) (is_live_in moment n ts) (ap (λ b. b && ltb moment t.end) (ne_eqb _ _ (All-head P t ts h)))
     (live_none moment n ts (All-tail P t ts h))
 
-pub live_at : (moment n : ℕ) (ts : List Live) (i : ℕ) (d : Live) → AreInOrder ts → i < length ts → IsAt n ts i → ltb moment (get_or ts i d).end ≡ is_live_in moment n ts
+pub live_at : (moment n : ℕ) (ts : List Live) (i : ℕ) (d : Live) → AreRising ts → i < length ts → IsAt n ts i → ltb moment (get_or ts i d).end ≡ is_live_in moment n ts
 live_at moment n [] i d h lt at = absurd (omega arith)
 live_at moment n (t ∷ ts) zero d h lt at =
     sym (ap (λ b. (b && ltb moment t.end) || is_live_in moment n ts) (eq-eqb _ _ (at t))
@@ -86,7 +85,7 @@ renewed_none n end (t ∷ ts) h =
 pub renewed_missing : (n end : ℕ) (ts : List Live) → HasNone n ts → ts ≡ renewed_rows n end ts
 renewed_missing n end ts h = sym (renewed_none n end ts h)
 
-pub renewed_at : (n end : ℕ) (ts : List Live) (i : ℕ) (d : Live) → AreInOrder ts → i < length ts → IsAt n ts i → set ts i (renewed_row n end (get_or ts i d)) ≡ renewed_rows n end ts
+pub renewed_at : (n end : ℕ) (ts : List Live) (i : ℕ) (d : Live) → AreRising ts → i < length ts → IsAt n ts i → set ts i (renewed_row n end (get_or ts i d)) ≡ renewed_rows n end ts
 renewed_at n end [] i d h lt at = absurd (omega arith)
 renewed_at n end (t ∷ ts) zero d h lt at = ap (λ l. renewed_row n end t ∷ l) (sym (renewed_none n end ts (apart n t ts h (at t))))
 renewed_at n end (t ∷ ts) (suc i) d h lt at =
@@ -132,34 +131,18 @@ all_renewed P n end (t ∷ ts) h =
     let Q : Live → Type 0 = λ u. P u.number in
     All-cons Q (renewed_row n end t) (renewed_rows n end ts) (subst P (sym (number_stays n end t)) (All-head Q t ts h)) (all_renewed P n end ts (All-tail Q t ts h))
 
-pub rising_renewed : (n end : ℕ) (ts : List Live) → AreInOrder ts → AreInOrder (renewed_rows n end ts)
+pub rising_renewed : (n end : ℕ) (ts : List Live) → AreRising ts → AreRising (renewed_rows n end ts)
 rising_renewed n end [] h = h
 rising_renewed n end (t ∷ ts) h =
     AllPairs-cons (λ (t : Live) (u : Live). t.number < u.number) (renewed_row n end t) (renewed_rows n end ts)
     (all_renewed (λ k. (renewed_row n end t).number < k) n end ts (subst (λ k. All (λ (u : Live). k < u.number) ts) (sym (number_stays n end t)) (rising_head t ts h)))
     (rising_renewed n end ts (rising_tail t ts h))
 
--- the place that halving finds
-rises : (ts : List Live) (i j : ℕ) (d : Live) → AreInOrder ts → i ≤ j → j < length ts → (get_or ts i d).number ≤ (get_or ts j d).number
-rises ts i j d h le lt =
-    let split : (i < j) ⊎ (i ≡ j) = grind arith in
-    ⊎_elim (λ below. (let less = h i j d below lt in omega arith)) (λ same. (let equal = ap (λ k. (get_or ts k d).number) same in omega arith)) split
-
-comparisons_rise : (n : ℕ) (ts : List Live) → AreInOrder ts → IsNonDecreasingBy (λ (t : Live). ordering_index (nat_cmp t.number n)) ts
-comparisons_rise n ts h i j d le lt =
-    let rise = rises ts i j d h le lt in
-    grind (arith, nat_tests)
-
-pub found_there : (n : ℕ) (ts : List Live) (r : Result ℕ ℕ) → IsBinarySearchResult (λ (t : Live). nat_cmp t.number n) ts r → IfSome (result_ok r) (IsAt n ts)
-found_there n ts (Ok i) h = λ d. ranked _ n _ (sym (h d))
-found_there n ts (Err i) h = tt
-
-pub found_none : (n : ℕ) (ts : List Live) (r : Result ℕ ℕ) → AreInOrder ts → IsBinarySearchResult (λ (t : Live). nat_cmp t.number n) ts r → IfNone (result_ok r) (HasNone n ts)
-found_none n ts (Ok i) rising h = tt
-found_none n ts (Err i) rising h = λ k d lt e. (
-    let parts = h (comparisons_rise n ts rising) in
-    let split : (k < i) ⊎ (i ≤ k) = grind arith in
-    ⊎_elim
-    (λ before. (let less = ranked _ n _ (sym (parts.0 k d (omega arith) before)) in omega (arith, less, e)))
-    (λ behind. (let more = ranked _ n _ (sym (parts.1 k d behind lt)) in omega (arith, more, e)))
-    split)
+-- where none has ended all stay
+pub going_all : (p : Live → Bool) (ts : List Live) → list_any (λ t. not (p t)) ts ≡ false → ts ≡ filter p ts
+going_all p [] none = refl
+going_all p (t ∷ ts) none = by (p t) none (going_all p ts)
+  where
+    by : (b : Bool) → (not b || list_any (λ u. not (p u)) ts) ≡ false → (list_any (λ u. not (p u)) ts ≡ false → ts ≡ filter p ts) → t ∷ ts ≡ cond b (t ∷ filter p ts) (filter p ts)
+    by true is rest = ap (λ l. t ∷ l) (rest is)
+    by false is rest = absurd (false≢true (sym is))

@@ -1,13 +1,16 @@
 -- The live transactions: the number of each, and when its lease ends.
 use Rattle.std.specs.Prelude.{◌≡◌, ℕ, ◌<◌, ◌==◌, ◌&&◌, not, nat_lt, max, Bool, true, All, List, [], ◌∷◌, filter, map, if◌then◌else◌}
 use Rattle.std.specs.List.{AllPairs, list_any}
+use Rattle.std.specs.Map.{values_of}
+use Rattle.tuple_space.specs.Entries.{AreNumbered}
 use Rattle.tuple_space.specs.Space.{SpaceValue, with_entries, released}
 use Rattle.tuple_space.specs.declared.entry.Entry.{Entry}
 use Rattle.space_txn.specs.declared.live.Live.{Live}
 
--- in rising order of number
-abbrev pub AreInOrder : List Live → Type 0
-AreInOrder live = AllPairs (λ t u. t.number < u.number) live
+-- each under its number, in rising order
+pub record AreInOrder (rows : List (ℕ × Live)) : Type 0 where
+  pub numbered : AreNumbered (λ t. t.number) rows
+  pub rising : AllPairs (λ t u. t.number < u.number) (values_of rows)
 
 -- a transaction with this number is live: the moment is smaller than its end
 abbrev pub is_live_in : ℕ → ℕ → List Live → Bool

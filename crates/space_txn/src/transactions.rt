@@ -1,29 +1,31 @@
-//! The live transactions, each found by its number by halving.
+//! The live transactions, each found by its number in one look.
 
-ghost use Rattle.std.specs.Prelude.{◌≡◌, ◌≢◌, ◌<◌, ◌++◌, ◌∷◌, [], All, IfNone, IfSome, OnErr, OnOk, length};
-ghost use Rattle.std.specs.List.{HoldsAt};
+ghost use Rattle.std.specs.Prelude.{◌≡◌, ◌≢◌, ◌<◌, ◌++◌, ◌∷◌, [], All, IfNone, IfSome, OnErr, OnOk, length, nat_lt, not};
+ghost use Rattle.std.specs.List.{HoldsAt, list_any};
 ghost use Rattle.space_txn.specs.Live.{going_at, is_live_in, others, renewed_rows};
 
 use crate::live::{Live, renewed_row};
+use indexmap::IndexMap;
 use std::alloc::{AllocError, Global};
 use std::marker::Model;
 
-/// The live transactions in the order in which they were begun, which is that of their numbers.
+/// The live transactions in the order in which they were begun, each under its number.
 #[derive(Debug, Drop)]
 pub(crate) struct Transactions {
-    rows: Vec<Live>,
+    by_number: IndexMap<u64, Live>,
 }
 
 impl Model for Transactions {
     ghost use Rattle.std.specs.Prelude.{List};
+    ghost use Rattle.indexmap.specs.IndexMap.{values};
     ghost use Rattle.space_txn.specs.declared.live.Live.{Live};
     ghost use Rattle.space_txn.specs.Live.{AreInOrder};
 
     ghost Value = { List Live };
 
-    ghost view = { λ t. t.rows.items };
+    ghost view = { λ t. values t.by_number };
 
-    ghost invariant = { λ t. AreInOrder t.rows.items };
+    ghost invariant = { λ t. AreInOrder t.by_number.entries };
 }
 
 impl Transactions {
@@ -32,20 +34,20 @@ impl Transactions {
         ensures { result ≡ [] }
     {
         Transactions {
-            rows: Vec::new(alloc),
+            by_number: IndexMap::new(alloc),
         }
     }
 
     /// Where the memory comes from.
     pub(crate) fn allocator(&self) -> Global {
-        *self.rows.allocator()
+        *self.by_number.allocator()
     }
 
     /// The transactions, in order.
     pub(crate) fn as_slice(&self) -> &[Live]
         ensures { result.now ≡ self.now }
     {
-        &self.rows
+        self.by_number.values().as_slice()
     }
 
     /// Adds a transaction of a greater number than the others.
@@ -54,8 +56,10 @@ impl Transactions {
         ensures ok { OnOk result (self.new ≡ self.old ++ row ∷ []) }
         ensures err { OnErr result (self.new ≡ self.old) }
     {
-        self.rows.push(row)?;
-        Ok(())
+        let Err(_) = self.by_number.insert(row.number, row) else {
+            return Ok(());
+        };
+        Err(AllocError)
     }
 
     /// The place of the transaction of a number.
@@ -64,21 +68,16 @@ impl Transactions {
         ensures place { IfSome result (λ i. i < length self.now) }
         ensures found { IfSome result (HoldsAt (λ t. t.number ≡ number) self.now) }
     {
-        let found = self.rows.binary_search_by_key(
-            &number,
-            |row: &Live| -> u64
-                ensures { result ≡ row.now.number }
-            { row.number },
-        );
-        found.ok()
+        self.by_number.get_index_of(&number)
     }
 
     /// Whether a live transaction has the number.
     pub(crate) fn is_live(&self, moment: u64, number: u64) -> bool
         ensures { result ≡ is_live_in moment number self.now }
     {
+        let rows = self.by_number.values().as_slice();
         match self.place_of(number) {
-            Some(place) => moment < self.rows[place].end,
+            Some(place) => moment < rows[place].end,
             None => false,
         }
     }
@@ -87,9 +86,13 @@ impl Transactions {
     pub(crate) fn renew(&mut self, number: u64, end: u64)
         ensures { self.new ≡ renewed_rows number end self.old }
     {
-        if let Some(place) = self.place_of(number) {
-            self.rows[place] = renewed_row(self.rows[place], number, end);
-        }
+        let Some(place) = self.place_of(number) else {
+            return;
+        };
+        let Some(row) = self.by_number.get_index_mut(place) else {
+            unreachable!()
+        };
+        *row = renewed_row(*row, number, end);
     }
 
     /// Drops a transaction; those behind it close up.
@@ -97,14 +100,28 @@ impl Transactions {
         ensures { self.new ≡ others number self.old }
     {
         if let Some(place) = self.place_of(number) {
-            self.rows.remove(place);
+            self.by_number.shift_remove_index(place);
         }
     }
 
-    /// Drops the transactions whose lease has ended.
+    /// Whether the lease of one has ended.
+    fn has_ended(&self, moment: u64) -> bool
+        ensures { result ≡ list_any (λ t. not (nat_lt moment t.end)) self.now }
+    {
+        self.as_slice().iter().any(|row| row.end <= moment)
+    }
+
+    /// Drops the transactions whose lease has ended. The map's table is built anew only where there are such.
     pub(crate) fn drop_ended(&mut self, moment: u64)
         ensures { self.new ≡ going_at moment self.old }
     {
-        self.rows.retain(|row| moment < row.end);
+        if !self.has_ended(moment) {
+            return;
+        }
+        self.by_number.retain(
+            |_number: &u64, row: &mut Live| -> bool
+                ensures { (result ≡ nat_lt moment row.old.end) × (row.new ≡ row.old) }
+            { moment < row.end },
+        );
     }
 }

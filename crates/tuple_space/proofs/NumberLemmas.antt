@@ -1,11 +1,13 @@
 -- Things under their numbers.
-use Rattle.std.proofs.Common.{◌≡◌, ℕ, zero, suc, ◌≤◌, Bool, true, false, List, [], ◌∷◌, ◌++◌, length, refl, sym, ap, ◌∙◌, cond, eqb, ltb, slice_get, Some, None, arith}
+use Rattle.std.proofs.Common.{◌≡◌, ℕ, zero, suc, ◌≤◌, Bool, true, false, List, [], ◌∷◌, ◌++◌, length, get_or, refl, sym, ap, ◌∙◌, cond, eqb, ltb, slice_get, Option, Some, None, arith}
 use Rattle.std.proofs.Math.ListN.{set}
-use Rattle.std.specs.Prelude.{◌≢◌, All, filter, map, position, remove}
-use Rattle.std.specs.List.{position_or_len}
+use Rattle.std.specs.Prelude.{◌≢◌, All, IfNone, IfSome, filter, map, position, remove}
+use Rattle.std.specs.List.{HoldsAt, position_or_len}
 use Rattle.std.specs.Map.{keys_of, values_of}
-use Rattle.std.proofs.lemmas.Bool.{cond-false, ltb-false, ne_eqb}
+use Rattle.std.proofs.lemmas.Bool.{cond-false, eq-eqb, eqb-true, false≢true, ltb-false, ne_eqb}
+use Rattle.std.proofs.lemmas.List.{get_or-map, length-map}
 use Rattle.std.proofs.lemmas.List.Elements.{All-head, All-tail}
+use Rattle.std.proofs.lemmas.List.Quantifiers.{position-Some}
 use Rattle.std.proofs.lemmas.List.Sums.{fails_before_first}
 use Rattle.std.proofs.lemmas.Option.{none-some, same_Some}
 use Rattle.indexmap.proofs.SetLemmas.{map-remove}
@@ -18,6 +20,15 @@ module _ {A : Type 0} where
   set_same [] i x at = refl
   set_same (y ∷ ys) zero x at = ap (λ z. z ∷ ys) (same_Some x y (sym at))
   set_same (y ∷ ys) (suc i) x at = ap (λ l. y ∷ l) (set_same ys i x at)
+
+  -- the value of the pair at a place
+  pub value_at : (ps : List (ℕ × A)) (es : List A) (i n : ℕ) (e : A) → values_of ps ≡ es → slice_get ps i ≡ Some (n, e) → e ≡ get_or es i e
+  value_at ps es i n e same at = by ps i at ∙ ap (λ l. get_or l i e) same
+    where
+      by : (qs : List (ℕ × A)) (k : ℕ) → slice_get qs k ≡ Some (n, e) → e ≡ get_or (values_of qs) k e
+      by [] k is = absurd (none-some (n, e) is)
+      by (q ∷ qs) zero is = sym (ap (λ (p : ℕ × A). p.1) (same_Some q (n, e) is))
+      by (q ∷ qs) (suc k) is = by qs k is
 
 some_of : (b : Bool) (x : ℕ) → cond b (Some x) None ≡ None → b ≡ false
 some_of true x e = absurd (none-some x (sym e))
@@ -77,6 +88,31 @@ module _ {A : Type 0} (number : A → ℕ) where
 
     pub written_values : AreNumbered number ps → slice_get (values_of ps) i ≡ Some old → number new ≡ number old → values_of (set_value_at ps i new) ≡ set (values_of ps) i new
     written_values each at same = values_are (set_value_at ps i new) (set (values_of ps) i new) (numbered_write each at same)
+
+  keys_are : (ps : List (ℕ × A)) → AreNumbered number ps → keys_of ps ≡ map number (values_of ps)
+  keys_are ps each = ap keys_of each ∙ keys-numbered (values_of ps)
+
+  -- where a number is looked for among the keys
+  pub place_none : (sought : ℕ) (ps : List (ℕ × A)) (r : Option ℕ) → AreNumbered number ps → r ≡ position (λ k. eqb sought k) (keys_of ps) → IfNone r (All (λ (e : A). number e ≢ sought) (values_of ps))
+  place_none sought ps (Some i) each is = tt
+  place_none sought ps None each is = λ k d lt same.
+      let es = values_of ps in
+      let numbers = map number es in
+      let long : length numbers ≡ length es = length-map es number in
+      let fails = position_none (λ n. eqb sought n) numbers (ap (position (λ n. eqb sought n)) (sym (keys_are ps each)) ∙ sym is) k (number d) (omega arith) in
+      let here : get_or numbers k (number d) ≡ number (get_or es k d) = get_or-map number es k d (number d) lt in
+      false≢true (sym fails ∙ eq-eqb sought _ (sym (here ∙ same)))
+
+  pub place_some : (sought : ℕ) (ps : List (ℕ × A)) (r : Option ℕ) → AreNumbered number ps → r ≡ position (λ k. eqb sought k) (keys_of ps) → IfSome r (HoldsAt (λ (e : A). number e ≡ sought) (values_of ps))
+  place_some sought ps None each is = tt
+  place_some sought ps (Some i) each is = λ d.
+      let es = values_of ps in
+      let numbers = map number es in
+      let long : length numbers ≡ length es = length-map es number in
+      let at = position-Some (λ n. eqb sought n) numbers i (number d) (ap (position (λ n. eqb sought n)) (sym (keys_are ps each)) ∙ sym is) in
+      let within = at.0 in
+      let here : get_or numbers i (number d) ≡ number (get_or es i d) = get_or-map number es i d (number d) (omega arith) in
+      sym (eqb-true sought _ at.1 ∙ here)
 
   -- a thing of a new number goes last
   pub numbered_new : (ps : List (ℕ × A)) (x : A) → AreNumbered number ps → All (λ (e : A). number e ≢ number x) (values_of ps) → insert_entry eqb ps (number x) x ≡ numbered number (values_of ps ++ x ∷ [])
