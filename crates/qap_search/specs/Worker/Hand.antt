@@ -47,6 +47,15 @@ abbrev pub is_due : Stage → Bool
 is_due (Taken t number) = true
 is_due _ = false
 
+-- where a worker stands that gives up the node at hand: its transaction, if it has one, is to be aborted
+abbrev pub given_up : Stage → Stage
+given_up Idle = Idle
+given_up (Begun t) = GivingUp t
+given_up (Taken t number) = GivingUp t
+given_up (Considered t) = GivingUp t
+given_up (Ready t cost) = GivingUp t
+given_up (GivingUp t) = GivingUp t
+
 -- no cost of a best permutation is known, or the candidate of the last thought costs less than that
 abbrev pub is_hopeful : Option ℤ → Option ThoughtValue → Bool
 is_hopeful None last = true

@@ -136,6 +136,7 @@ where
         pace,
         stop: &Never,
         observer: &Nobody,
+        aborts: false,
     };
     let run = run_of(rt, alloc, instance, &plan, &keeper)?;
     least_of(
@@ -176,6 +177,7 @@ where
         pace,
         stop: &Never,
         observer: &Nobody,
+        aborts: false,
     };
     let run = run_of(rt, alloc, instance, plan, &keeper)?;
     answer_of(
@@ -193,7 +195,8 @@ where
 /// What `solve` says of the workers, the gate, the lease and the limit holds here too. Where the stop is wanted the space is closed
 /// though nodes are open; no worker begins on another node then, and none waits for a lease to end. For whatever reason nodes are
 /// left, by the stop or the gate, at the limit or for want of memory, the least assignments of their reduced matrices bound the answer;
-/// where none is left, the bound is the cost. As many threads as there are workers work these out, or up to twice as many. The observer is
+/// where none is left, the bound is the cost. A worker that ends for want of memory aborts its transactions, so that others can take
+/// its nodes at once. As many threads as there are workers work these out, or up to twice as many. The observer is
 /// shown meanwhile how far the search has come. No certificate is put together, and what the end wants of memory is taken before the
 /// search: where threads find none of their own, the calling one works in that. The only error is want of memory.
 pub fn solve_least_from<R, C, G, S, O>(
@@ -224,6 +227,7 @@ where
         pace,
         stop,
         observer,
+        aborts: true,
     };
     let ending = Ending::with_room(alloc, instance)?;
     let run = run_of(rt, alloc, instance, plan, &keeper)?;
@@ -266,6 +270,7 @@ where
         pace,
         stop,
         observer,
+        aborts: true,
     };
     let run = run_of(rt, alloc, instance, plan, &keeper)?;
     proved_of(
@@ -373,6 +378,8 @@ struct Keeper<'a, C, G, S, O> {
     pace: &'a Pace<'a, C, G>,
     stop: &'a S,
     observer: &'a O,
+    /// Whether a worker that ends for want of memory aborts its transactions.
+    aborts: bool,
 }
 
 /// What is watched: the open nodes and the best permutation, below a root that places so many of the instance's facilities.
@@ -466,6 +473,7 @@ where
         nodes: &watch.templates.nodes,
         best: &watch.templates.best,
         gate: keeper.pace.gate,
+        aborts: keeper.aborts,
     };
     work_all(&place, &seats, watch, keeper);
     let Left { shares, reports } = left_by(room, seats);
