@@ -6,6 +6,7 @@ pub mod Checking
 pub mod Keeping
 pub mod NodeLines
 pub mod Options
+pub mod Outputs
 pub mod Parts
 pub mod Planning
 pub mod Reading

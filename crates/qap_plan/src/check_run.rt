@@ -2,11 +2,10 @@
 
 use crate::check_command::CheckRequest;
 use crate::checking::checked_numbers;
-use crate::instance_file::instance_of;
+use crate::instance_file::{instance_of, loaded_plan};
 use crate::judged_files::{bytes_of, print, refuse_answer, refuse_proof};
-use crate::loading::problem_of_plan;
-use crate::plan_run::is_plan;
 use plan_check::{ProofFault, answer_to_instance, answer_to_plan, checked_line};
+use plan_input::is_plan;
 use std::process::ExitCode;
 
 /// Says what the answer of a file costs, and where a proof is named, what that shows of it.
@@ -33,8 +32,8 @@ fn proof_of(rt: &HostRuntime, request: &CheckRequest<'_>) -> Result<Option<Vec<u
 
 /// Judges an answer to a plan.
 fn check_plan(rt: &HostRuntime, request: &CheckRequest<'_>, proof: Option<&[u8]>) -> ExitCode {
-    let problem = match problem_of_plan(rt, request.file) {
-        Ok(problem) => problem,
+    let problem = match loaded_plan(rt, request.file) {
+        Ok(loaded) => loaded.problem,
         Err(code) => return code,
     };
     let text = match bytes_of(rt, request.answer) {
@@ -54,7 +53,7 @@ fn check_plan(rt: &HostRuntime, request: &CheckRequest<'_>, proof: Option<&[u8]>
 /// Judges an answer to an instance.
 fn check_instance(rt: &HostRuntime, request: &CheckRequest<'_>, proof: Option<&[u8]>) -> ExitCode {
     let instance = match instance_of(rt, request.file, request.passes) {
-        Ok(instance) => instance,
+        Ok((instance, _)) => instance,
         Err(code) => return code,
     };
     let text = match bytes_of(rt, request.answer) {
@@ -78,7 +77,7 @@ fn tell(
     line: Result<Vec<u8>, ProofFault>,
 ) -> ExitCode {
     match line {
-        Ok(line) => print(rt, request.file, &line),
+        Ok(line) => print(rt, &line),
         Err(fault) => refuse_proof(rt, request.proof.unwrap_or(request.file), &fault),
     }
 }

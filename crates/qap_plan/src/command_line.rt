@@ -12,6 +12,7 @@ use crate::show_command::{ShowRequest, show_command, show_request};
 use crate::split_command::{SplitRequest, split_command, split_request};
 use clap::error::ErrorKind;
 use clap::{Arg, ArgAction, ArgMatches, Command, Error, value_parser};
+use qap_command::VERSION;
 use std::alloc::{AllocError, Global};
 
 /// To solve an instance.
@@ -61,7 +62,7 @@ pub fn parse<'a>(alloc: Global, words: &'a [String]) -> Result<Task<'a>, Error>
     let mut command = Command::new(alloc, "qapplan")
         .bin_name("qapplan")?
         .about("Finds an arrangement of least cost, and proves that none costs less")
-        .version("0.2.0")
+        .version(VERSION)
         .subcommand_required(true)
         .subcommand(solve_command(alloc)?)?
         .subcommand(split_command(alloc)?)?

@@ -1,14 +1,14 @@
 //! A run that writes a plan's tables as a text of numbers.
 
 use crate::convert_command::ConvertRequest;
-use crate::converting::{convert, summary};
+use crate::converting::{Converted, convert, summary};
 use crate::error::PlanError;
-use crate::loading::problem_of_plan;
-use crate::plan_run::is_plan;
-use crate::refuse;
-use crate::whole_file::{is_other, write_whole};
-use plan_file::NamedProblem;
+use crate::instance_file::{inputs_of, loaded_plan};
+use crate::outputs::{Outputs, print_text};
+use crate::{refuse, refuse_with};
+use plan_input::{Loaded, is_plan};
 use qap_io::Status;
+use std::fs;
 use std::process::ExitCode;
 
 /// Writes the instance of a plan's tables, and beside it the names and the scales, and says how large it is.
@@ -16,16 +16,62 @@ pub fn run_convert(rt: &HostRuntime, request: &ConvertRequest<'_>) -> ExitCode {
     if !is_plan(request.plan) {
         return refuse_instance(rt, request.plan);
     }
-    let problem = match problem_of_plan(rt, request.plan) {
-        Ok(problem) => problem,
+    let loaded = match loaded_plan(rt, request.plan) {
+        Ok(loaded) => loaded,
         Err(code) => return code,
     };
-    match write_files(rt, request.out, &problem) {
-        Ok(line) => {
-            let _ = rt.println(line);
-            ExitCode::from(Status::Done.code())
-        }
-        Err(error) => refuse(rt, request.out, error),
+    let Ok(beside) = format!(in rt.alloc(); "{}.json", request.out) else {
+        return refuse(rt, request.out, PlanError::OutOfMemory);
+    };
+    let beside = if is_device(rt, request.out) {
+        None
+    } else {
+        Some(beside.as_str())
+    };
+    let inputs = inputs_of(rt, request.plan, &loaded);
+    let mut outputs = match Outputs::open(rt, &[beside, Some(request.out)], &inputs) {
+        Ok(outputs) => outputs,
+        Err(code) => return code,
+    };
+    let status = write_both(rt, &mut outputs, beside, request.out, &loaded);
+    outputs.discard(rt);
+    ExitCode::from(status.code())
+}
+
+/// Writes the names, so that no instance stands without them, and then the instance; to a device, the instance alone. Then it says how large that
+/// is.
+fn write_both(
+    rt: &HostRuntime,
+    outputs: &mut Outputs<'_>,
+    beside: Option<&str>,
+    out: &str,
+    loaded: &Loaded,
+) -> Status {
+    let alloc = rt.alloc();
+    let (line, converted) = match (
+        summary(alloc, &loaded.problem),
+        convert(alloc, &loaded.problem),
+    ) {
+        (Ok(line), Ok(converted)) => (line, converted),
+        _ => return refuse_with(rt, out, PlanError::OutOfMemory),
+    };
+    let Converted { text, names } = converted;
+    let written = outputs.put(rt, beside, Ok(names.into_bytes()));
+    if written != Status::Done {
+        return written;
+    }
+    let written = outputs.put(rt, Some(out), Ok(text));
+    if written != Status::Done {
+        return written;
+    }
+    print_text(rt, line.as_bytes())
+}
+
+/// Whether something of this name is there that is no regular file.
+fn is_device(rt: &HostRuntime, name: &str) -> bool {
+    match fs::metadata(rt, name) {
+        Ok(found) => !found.is_file(),
+        Err(_) => false,
     }
 }
 
@@ -35,23 +81,4 @@ fn refuse_instance(rt: &HostRuntime, file: &str) -> ExitCode {
         "error: {file}: a plan is wanted, whose file's name ends in .toml: name one; an instance in the QAPLIB format stays as it is"
     ));
     ExitCode::from(Status::Usage.code())
-}
-
-/// Writes the names, so that no text stands without them, and then the text; to what is no regular file, as a device, the text alone. The line that
-/// sums up what was written comes back.
-fn write_files(rt: &HostRuntime, out: &str, problem: &NamedProblem) -> Result<String, PlanError> {
-    let alloc = rt.alloc();
-    let line = summary(alloc, problem)?;
-    let converted = convert(alloc, problem)?;
-    if !is_other(rt, out) {
-        let beside = format!(in alloc; "{out}.json")?;
-        write_text(rt, beside.as_str(), converted.names.as_bytes())?;
-    }
-    write_text(rt, out, &converted.text)?;
-    Ok(line)
-}
-
-/// Writes a text to a file.
-fn write_text(rt: &HostRuntime, file: &str, text: &[u8]) -> Result<(), PlanError> {
-    write_whole(rt, file, text).map_err(|_| PlanError::Device)
 }

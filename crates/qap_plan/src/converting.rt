@@ -31,7 +31,7 @@ pub fn summary(alloc: Global, problem: &NamedProblem) -> Result<String, AllocErr
     let size = problem.instance.size();
     let flows = power_of_ten(alloc, problem.flow_scale)?;
     let distances = power_of_ten(alloc, problem.distance_scale)?;
-    format!(in alloc; "size {size}, flows times {flows}, distances times {distances}")
+    format!(in alloc; "size {size}, flows times {flows}, distances times {distances}\n")
 }
 
 /// A power of ten, in digits.

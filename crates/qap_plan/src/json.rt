@@ -5,6 +5,7 @@ ghost use Rattle.plan_file.specs.Tables.{HasSizes};
 use crate::planning::Planned;
 use plan_answer::cost_text;
 use plan_file::NamedProblem;
+use qap_command::VERSION;
 use qap_cost::Perm;
 use serde_json::{Map, Value, json};
 use std::alloc::{AllocError, Global};
@@ -15,7 +16,7 @@ pub fn json_text(alloc: Global, answer: &Planned, milliseconds: u64) -> Result<S
     let cost = answer.cost;
     let bound = answer.bound;
     let value = json!(in alloc; {
-        "version": "0.2.0",
+        "version": VERSION,
         "status": status_word(answer),
         "cost": format!(in alloc; "{cost}")?,
         "bound": format!(in alloc; "{bound}")?,
@@ -38,7 +39,7 @@ pub fn named_json_text(
     requires { HasSizes problem.now }
 {
     let value = json!(in alloc; {
-        "version": "0.2.0",
+        "version": VERSION,
         "status": status_word(answer),
         "cost": cost_value(alloc, problem, answer.cost)?,
         "bound": cost_value(alloc, problem, answer.bound)?,
@@ -59,7 +60,7 @@ pub fn named_json_text(
 /// ten that made the tables whole, and `fixed`, where something is fixed, has the place of each department that is, by its name.
 pub fn names_text(alloc: Global, problem: &NamedProblem) -> Result<String, AllocError> {
     let mut value = json!(in alloc; {
-        "version": "0.2.0",
+        "version": VERSION,
         "departments": names_value(alloc, &problem.departments)?,
         "places": names_value(alloc, &problem.places)?,
         "flow_scale": problem.flow_scale as u64,

@@ -1,9 +1,10 @@
 //! The files of answers and proofs that are judged, and what is told of them.
 
 use crate::error::PlanError;
+use crate::outputs::print_text;
 use crate::refuse;
 use plan_check::{AnswerError, ProofFault};
-use qap_io::{Counted, Status, send};
+use qap_io::{Counted, Status};
 use qap_text::{MAX_INPUT, read_all};
 use std::fs;
 use std::process::ExitCode;
@@ -19,12 +20,9 @@ pub fn bytes_of(rt: &HostRuntime, file: &str) -> Result<Vec<u8>, ExitCode> {
     }
 }
 
-/// Prints a text, and tells the exit status.
-pub fn print(rt: &HostRuntime, file: &str, text: &[u8]) -> ExitCode {
-    match send(&mut Counted::new(rt.stdout()), text) {
-        Ok(()) => ExitCode::from(Status::Done.code()),
-        Err(_) => refuse(rt, file, PlanError::Device),
-    }
+/// Prints a text, and gives the exit status.
+pub fn print(rt: &HostRuntime, text: &[u8]) -> ExitCode {
+    ExitCode::from(print_text(rt, text).code())
 }
 
 /// Tells on standard error what the file of an answer is refused for.

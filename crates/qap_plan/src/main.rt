@@ -18,10 +18,10 @@ mod json;
 mod judged_files;
 mod keeper;
 mod keeping;
-mod loading;
 mod memory_limit;
 mod node_lines;
 mod options;
+mod outputs;
 mod part_command;
 mod part_run;
 mod parting;
@@ -38,7 +38,6 @@ mod split_run;
 mod splitting;
 mod standing;
 mod starting;
-mod whole_file;
 
 ghost use Rattle.qap_plan.specs.Asking.{IsLimitedTask};
 ghost use Rattle.qap_plan.specs.Options.{AreLimited};
@@ -54,35 +53,25 @@ use elapsed::Elapsed;
 use error::PlanError;
 use json::json_text;
 use keeper::Keeper;
+use outputs::{Outputs, one_input, print_text, worse};
 use part_run::run_part;
-use plan_run::{is_plan, solve_plan};
+use plan_input::is_plan;
+use plan_run::solve_plan;
 use planning::Planned;
 use progress::{Teller, telling_of};
-use proof_file::write_proof;
+use proof_file::proof_text;
 use qap_io::{Counted, Status};
 use show_run::run_show;
 use split_run::run_split;
-use std::alloc::Global;
+use std::alloc::{AllocError, Global};
 use std::fs::Files;
-use std::io::{Read, Write};
+use std::io::Read;
 use std::process::ExitCode;
 use std::rt::Env;
 use std::sync::Wait;
 use std::thread::Threads;
 use std::time::Clock;
 use std::{env, fs, io};
-use whole_file::write_whole;
-
-#[cfg(test)]
-mod convert_tests;
-#[cfg(test)]
-mod judging_tests;
-#[cfg(test)]
-mod memory_limit_tests;
-#[cfg(test)]
-mod part_tests;
-#[cfg(test)]
-mod tests;
 
 fn main(rt: HostRuntime) -> ExitCode {
     let words = match arguments(&rt) {
@@ -135,10 +124,15 @@ fn tell(rt: &HostRuntime, error: &Error) -> ExitCode {
     ExitCode::from(error.exit_code() as u8)
 }
 
-/// Tells on standard error what a file is refused for.
+/// Prints on standard error what a file is refused for, and gives the exit status.
 pub(crate) fn refuse(rt: &HostRuntime, file: &str, error: PlanError) -> ExitCode {
+    ExitCode::from(refuse_with(rt, file, error).code())
+}
+
+/// Prints on standard error what a file is refused for.
+pub(crate) fn refuse_with(rt: &HostRuntime, file: &str, error: PlanError) -> Status {
     let _ = rt.eprintln(format_args!("error: {file}: {error}"));
-    ExitCode::from(error.status().code())
+    error.status()
 }
 
 /// Solves an instance. `system` is what threads, waiting and the time are asked of.
@@ -157,20 +151,21 @@ where
         Ok(start) => start,
         Err(name) => return refuse(rt, name, PlanError::Device),
     };
+    let names = [request.out, request.json, request.proof];
+    let outputs = match Outputs::open(rt, &names, &one_input(rt, request.file)) {
+        Ok(outputs) => outputs,
+        Err(code) => return code,
+    };
     let elapsed = Elapsed::new(system, request.options.seconds);
     let teller = Teller::new(rt, &elapsed, telling_of(rt, request.progress));
-    let alloc = rt.alloc();
-    let answer = if request.quiet {
-        let output = Vec::new(alloc);
-        answer_to(system, alloc, request, &teller, file, start, output)
-    } else {
-        let output = rt.stdout();
-        answer_to(system, alloc, request, &teller, file, start, output)
-    };
+    let answer = answer_to(system, rt.alloc(), request, &teller, file, start);
     teller.finish();
     match answer {
-        Ok(answer) => finish(rt, request, &answer, elapsed.milliseconds()),
-        Err(error) => refuse(rt, faulty_file(request, error), error),
+        Ok((answer, text)) => finish(rt, request, outputs, &answer, &text, elapsed.milliseconds()),
+        Err(error) => {
+            outputs.discard(rt);
+            refuse(rt, faulty_file(request, error), error)
+        }
     }
 }
 
@@ -196,32 +191,32 @@ pub(crate) fn start_of<'a, R: Files>(
     }
 }
 
-/// Solves the instance of a file, from the start of another one, and writes the answer.
-fn answer_to<T, K, R, W>(
+/// Solves the instance of a file, from the start of another one, and gives the answer with its text.
+fn answer_to<T, K, R>(
     system: &T,
     alloc: Global,
     request: &Request<'_>,
     keeper: &K,
     file: R,
     mut start: Option<Counted<R>>,
-    output: W,
-) -> Result<Planned, PlanError>
+) -> Result<(Planned, Vec<u8>), PlanError>
 where
     T: Threads + Wait + Clock + Sync,
     K: Keeper,
     R: Read + Drop,
-    W: Write + Drop,
     requires { AreLimited request.now.options }
 {
-    plan_stream(
+    let mut output = Counted::new(Vec::new(alloc));
+    let planned = plan_stream(
         system,
         alloc,
         &mut Counted::new(file),
         &mut start,
-        &mut Counted::new(output),
+        &mut output,
         &request.options,
         keeper,
-    )
+    )?;
+    Ok((planned, output.into_inner()))
 }
 
 /// The file that an error is about.
@@ -232,56 +227,53 @@ pub(crate) fn faulty_file<'a>(request: &Request<'a>, error: PlanError) -> &'a st
     }
 }
 
-/// Writes the files that are asked for, and tells the exit status.
+/// Prints the answer and writes the files that were asked for, each whatever became of the others, and gives the exit status.
 fn finish(
     rt: &HostRuntime,
     request: &Request<'_>,
+    mut outputs: Outputs<'_>,
     answer: &Planned,
+    text: &[u8],
     milliseconds: u64,
 ) -> ExitCode {
-    if let Some(file) = request.out {
-        if let Err(error) = write_answer(rt, file, answer) {
-            return refuse(rt, file, error);
-        }
+    let mut status = end_of(answer);
+    if !request.quiet {
+        status = worse(status, print_text(rt, text));
     }
-    if let Some(file) = request.json {
-        if let Err(error) = write_json(rt, file, answer, milliseconds) {
-            return refuse(rt, file, error);
-        }
+    if request.out.is_some() {
+        let written = outputs.put(rt, request.out, out_text(rt.alloc(), answer));
+        status = worse(status, written);
     }
-    if let Some(file) = request.proof {
-        if let Err(error) = write_proof(rt, file, answer) {
-            return refuse(rt, file, error);
-        }
+    if request.json.is_some() {
+        let json = bytes_of_json(json_text(rt.alloc(), answer, milliseconds));
+        status = worse(status, outputs.put(rt, request.json, json));
     }
-    end_of(answer)
-}
-
-/// How a run ends that has come to an answer.
-pub(crate) fn end_of(answer: &Planned) -> ExitCode {
-    let status = if answer.is_optimal() {
-        Status::Done
-    } else {
-        Status::Stopped
-    };
+    if request.proof.is_some() {
+        let proof = proof_text(rt.alloc(), answer);
+        status = worse(status, outputs.put(rt, request.proof, proof));
+    }
+    outputs.discard(rt);
     ExitCode::from(status.code())
 }
 
-/// Writes the answer's text to a file.
-fn write_answer(rt: &HostRuntime, file: &str, answer: &Planned) -> Result<(), PlanError> {
-    let text = answer_text(rt.alloc(), &answer.permutation, answer.cost, answer.bound)?;
-    write_whole(rt, file, &text).map_err(|_| PlanError::Device)
+/// How a run ends that has come to an answer.
+pub(crate) fn end_of(answer: &Planned) -> Status {
+    if answer.is_optimal() {
+        Status::Done
+    } else {
+        Status::Stopped
+    }
 }
 
-/// Writes the answer's JSON to a file.
-fn write_json(
-    rt: &HostRuntime,
-    file: &str,
-    answer: &Planned,
-    milliseconds: u64,
-) -> Result<(), PlanError> {
-    let Ok(text) = json_text(rt.alloc(), answer, milliseconds) else {
-        return Err(PlanError::OutOfMemory);
-    };
-    write_whole(rt, file, text.as_bytes()).map_err(|_| PlanError::Device)
+/// The answer's text.
+fn out_text(alloc: Global, answer: &Planned) -> Result<Vec<u8>, PlanError> {
+    Ok(answer_text(alloc, &answer.permutation, answer.cost, answer.bound)?)
+}
+
+/// The bytes of an answer's JSON.
+pub(crate) fn bytes_of_json(text: Result<String, AllocError>) -> Result<Vec<u8>, PlanError> {
+    match text {
+        Ok(text) => Ok(text.into_bytes()),
+        Err(_) => Err(PlanError::OutOfMemory),
+    }
 }

@@ -8,18 +8,19 @@ ghost use Rattle.qap_plan.specs.Options.{AreLimited};
 use crate::elapsed::Elapsed;
 use crate::error::PlanError;
 use crate::instance_file::instance_of;
+use crate::outputs::{Inputs, Outputs, print_text, worse};
 use crate::part_command::PartRequest;
 use crate::parting::search_part;
 use crate::progress::{Teller, telling_of};
 use crate::proof_file::text_of_proof;
-use crate::refuse;
 use crate::standing::standing_proof;
 use crate::starting::read_permutation;
-use crate::whole_file::write_whole;
+use crate::{refuse, refuse_with};
 use qap_cost::{Instance, Partial, Perm, cost};
 use qap_io::{Counted, Status};
 use qap_proof::{Proof, read_node_text};
 use qap_text::{MAX_INPUT, read_all};
+use std::alloc::{AllocError, Global};
 use std::fs;
 use std::process::ExitCode;
 use std::sync::Wait;
@@ -32,12 +33,12 @@ where
     T: Threads + Wait + Clock + Sync,
     requires { AreLimited request.now.options }
 {
-    let instance = match instance_of(rt, request.file, request.options.passes) {
-        Ok(instance) => instance,
+    let (instance, inputs) = match instance_of(rt, request.file, request.options.passes) {
+        Ok(found) => found,
         Err(code) => return code,
     };
     match node_and_start(rt, request, &instance) {
-        Ok((node, start)) => run_on(system, rt, request, &instance, &node, &start),
+        Ok((node, start)) => run_on(system, rt, request, &instance, &inputs, &node, &start),
         Err((file, error)) => refuse(rt, file, error),
     }
 }
@@ -71,6 +72,7 @@ fn run_on<T>(
     rt: &HostRuntime,
     request: &PartRequest<'_>,
     instance: &Instance,
+    inputs: &Inputs,
     node: &Partial,
     start: &Perm,
 ) -> ExitCode
@@ -83,19 +85,29 @@ where
     let alloc = rt.alloc();
     if let Some(text) = earlier(rt, request.proof) {
         match standing_proof(alloc, instance, node, cost(instance, start), &text) {
-            Ok(Some(stated)) => return end(rt, stated.cost, stated.bound, " before"),
+            Ok(Some(stated)) => {
+                let status = end(rt, stated.cost, stated.bound, " before");
+                return ExitCode::from(status.code());
+            }
             Ok(None) => {}
             Err(_) => return refuse(rt, request.proof, PlanError::OutOfMemory),
         }
     }
+    let outputs = match Outputs::open(rt, &[Some(request.proof)], inputs) {
+        Ok(outputs) => outputs,
+        Err(code) => return code,
+    };
     let elapsed = Elapsed::new(system, request.options.seconds);
     let teller = Teller::new(rt, &elapsed, telling_of(rt, request.progress));
     let options = &request.options;
     let found = search_part(system, alloc, instance, node, start, options, &teller);
     teller.finish();
     match found {
-        Ok(part) => finish(rt, request, &part.proof),
-        Err(_) => refuse(rt, request.file, PlanError::OutOfMemory),
+        Ok(part) => finish(rt, request, outputs, &part.proof),
+        Err(_) => {
+            outputs.discard(rt);
+            refuse(rt, request.file, PlanError::OutOfMemory)
+        }
     }
 }
 
@@ -109,28 +121,42 @@ fn earlier(rt: &HostRuntime, name: &str) -> Option<Vec<u8>> {
     read_all(rt.alloc(), &mut Counted::new(file), MAX_INPUT).ok()
 }
 
-/// Writes the proof, says what it shows, and tells the exit status.
-fn finish(rt: &HostRuntime, request: &PartRequest<'_>, proof: &Proof) -> ExitCode {
-    match write_text(rt, request.proof, proof) {
-        Ok(()) => end(rt, proof.cost(), proof.bound(), ""),
-        Err(error) => refuse(rt, request.proof, error),
+/// Writes the proof, says what it shows, and gives the exit status. Where the proof can't be written, nothing is said of it.
+fn finish(
+    rt: &HostRuntime,
+    request: &PartRequest<'_>,
+    mut outputs: Outputs<'_>,
+    proof: &Proof,
+) -> ExitCode {
+    let text = text_of_proof(rt.alloc(), proof);
+    let written = outputs.put(rt, Some(request.proof), text);
+    let status = if written == Status::Done {
+        end(rt, proof.cost(), proof.bound(), "")
+    } else {
+        written
+    };
+    outputs.discard(rt);
+    ExitCode::from(status.code())
+}
+
+/// Says what the proof of the part shows, and gives the exit status.
+fn end(rt: &HostRuntime, cost: i128, bound: i128, when: &str) -> Status {
+    let status = if bound < cost {
+        Status::Stopped
+    } else {
+        Status::Done
+    };
+    match line_of(rt.alloc(), cost, bound, when) {
+        Ok(line) => worse(status, print_text(rt, line.as_bytes())),
+        Err(_) => refuse_with(rt, "standard output", PlanError::OutOfMemory),
     }
 }
 
-/// Writes the text of the proof to the file.
-fn write_text(rt: &HostRuntime, file: &str, proof: &Proof) -> Result<(), PlanError> {
-    let text = text_of_proof(rt.alloc(), proof)?;
-    write_whole(rt, file, &text).map_err(|_| PlanError::Device)
-}
-
-/// Says what the proof of the part shows, and tells the exit status.
-fn end(rt: &HostRuntime, cost: i128, bound: i128, when: &str) -> ExitCode {
+/// The line that says what the proof of the part shows.
+fn line_of(alloc: Global, cost: i128, bound: i128, when: &str) -> Result<String, AllocError> {
     if bound < cost {
-        let _ = rt.println(format_args!(
-            "cost {cost}, part within {bound} to {cost}, proved{when}"
-        ));
-        return ExitCode::from(Status::Stopped.code());
+        format!(in alloc; "cost {cost}, part within {bound} to {cost}, proved{when}\n")
+    } else {
+        format!(in alloc; "cost {cost}, part complete, proved{when}\n")
     }
-    let _ = rt.println(format_args!("cost {cost}, part complete, proved{when}"));
-    ExitCode::from(Status::Done.code())
 }

@@ -8,27 +8,23 @@ use crate::arranging::plan_named;
 use crate::command_line::Request;
 use crate::elapsed::Elapsed;
 use crate::error::PlanError;
+use crate::instance_file::{inputs_of, loaded_plan};
 use crate::json::named_json_text;
-use crate::loading::problem_of_plan;
+use crate::outputs::{Outputs, print_text, worse};
 use crate::planning::Planned;
 use crate::progress::{Teller, telling_of};
-use crate::proof_file::write_proof;
-use crate::whole_file::write_whole;
-use crate::{end_of, faulty_file, refuse, start_of};
+use crate::proof_file::proof_text;
+use crate::{bytes_of_json, end_of, faulty_file, refuse, refuse_with, start_of};
 use plan_answer::{answer_text, cost_text};
 use plan_file::NamedProblem;
 use plan_picture::picture;
 use qap_cost::Perm;
-use qap_io::Counted;
+use qap_io::{Counted, Status};
+use std::alloc::Global;
 use std::process::ExitCode;
 use std::sync::Wait;
 use std::thread::Threads;
 use std::time::Clock;
-
-/// Whether a file's name is that of a plan.
-pub fn is_plan(file: &str) -> bool {
-    file.ends_with(".toml")
-}
 
 /// Solves the problem of a plan. `system` is what threads, waiting and the time are asked of.
 pub fn solve_plan<T>(system: &T, rt: &HostRuntime, request: &Request<'_>) -> ExitCode
@@ -37,39 +33,47 @@ where
     requires { AreLimited request.now.options }
 {
     let elapsed = Elapsed::new(system, request.options.seconds);
-    let problem = match problem_of_plan(rt, request.file) {
-        Ok(problem) => problem,
+    let loaded = match loaded_plan(rt, request.file) {
+        Ok(loaded) => loaded,
         Err(code) => return code,
     };
     let mut start = match start_of(rt, request) {
         Ok(start) => start,
         Err(name) => return refuse(rt, name, PlanError::Device),
     };
+    let names = [request.out, request.json, request.svg, request.proof];
+    let outputs = match Outputs::open(rt, &names, &inputs_of(rt, request.file, &loaded)) {
+        Ok(outputs) => outputs,
+        Err(code) => return code,
+    };
+    let problem = &loaded.problem;
     let teller = Teller::new(rt, &elapsed, telling_of(rt, request.progress));
     let alloc = rt.alloc();
+    let text = &mut Counted::new(Vec::new(alloc));
     let options = &request.options;
-    let answer = if request.quiet {
-        let output = &mut Counted::new(Vec::new(alloc));
-        plan_named(
-            system, alloc, &problem, &mut start, output, options, &teller,
-        )
-    } else {
-        let output = &mut Counted::new(rt.stdout());
-        plan_named(
-            system, alloc, &problem, &mut start, output, options, &teller,
-        )
-    };
+    let answer = plan_named(system, alloc, problem, &mut start, text, options, &teller);
     teller.finish();
     match answer {
-        Ok(answer) => finish(rt, request, &problem, &answer, elapsed.milliseconds()),
-        Err(error) => refuse(rt, faulty_file(request, error), error),
+        Ok(answer) => finish(
+            rt,
+            request,
+            outputs,
+            problem,
+            &answer,
+            elapsed.milliseconds(),
+        ),
+        Err(error) => {
+            outputs.discard(rt);
+            refuse(rt, faulty_file(request, error), error)
+        }
     }
 }
 
-/// Writes the files that are asked for, and tells the exit status.
+/// Prints the answer and writes the files that were asked for, each whatever became of the others, and gives the exit status.
 fn finish(
     rt: &HostRuntime,
     request: &Request<'_>,
+    mut outputs: Outputs<'_>,
     problem: &NamedProblem,
     answer: &Planned,
     milliseconds: u64,
@@ -77,80 +81,67 @@ fn finish(
     requires sizes { HasSizes problem.now }
     requires kept { Completes problem.now.fixed answer.now.permutation }
 {
-    if let Some(file) = request.out {
-        if let Err(error) = write_answer(rt, file, problem, answer) {
-            return refuse(rt, file, error);
-        }
+    let mut status = end_of(answer);
+    if !request.quiet {
+        status = worse(status, print_answer(rt, request.file, problem, answer));
     }
-    if let Some(file) = request.json {
-        if let Err(error) = write_json(rt, file, problem, answer, milliseconds) {
-            return refuse(rt, file, error);
-        }
+    if request.out.is_some() {
+        let written = outputs.put(rt, request.out, out_text(rt.alloc(), problem, answer));
+        status = worse(status, written);
     }
-    if let Some(file) = request.svg {
-        if let Err(error) = write_picture(rt, file, problem, &answer.permutation, answer.cost) {
-            return refuse(rt, file, error);
-        }
+    if request.json.is_some() {
+        let json = bytes_of_json(named_json_text(rt.alloc(), problem, answer, milliseconds));
+        status = worse(status, outputs.put(rt, request.json, json));
     }
-    if let Some(file) = request.proof {
-        if let Err(error) = write_proof(rt, file, answer) {
-            return refuse(rt, file, error);
-        }
+    if request.svg.is_some() {
+        let svg = picture_text(rt.alloc(), problem, &answer.permutation, answer.cost);
+        status = worse(status, outputs.put(rt, request.svg, svg));
     }
-    end_of(answer)
+    if request.proof.is_some() {
+        let proof = proof_text(rt.alloc(), answer);
+        status = worse(status, outputs.put(rt, request.proof, proof));
+    }
+    outputs.discard(rt);
+    ExitCode::from(status.code())
 }
 
-/// Writes the answer's text to a file.
-fn write_answer(
-    rt: &HostRuntime,
-    file: &str,
-    problem: &NamedProblem,
-    answer: &Planned,
-) -> Result<(), PlanError>
+/// Prints the answer.
+fn print_answer(rt: &HostRuntime, file: &str, problem: &NamedProblem, answer: &Planned) -> Status
     requires sizes { HasSizes problem.now }
     requires kept { Completes problem.now.fixed answer.now.permutation }
 {
-    let text = answer_text(
-        rt.alloc(),
+    match out_text(rt.alloc(), problem, answer) {
+        Ok(text) => print_text(rt, &text),
+        Err(error) => refuse_with(rt, file, error),
+    }
+}
+
+/// The answer's text.
+fn out_text(alloc: Global, problem: &NamedProblem, answer: &Planned) -> Result<Vec<u8>, PlanError>
+    requires sizes { HasSizes problem.now }
+    requires kept { Completes problem.now.fixed answer.now.permutation }
+{
+    Ok(answer_text(
+        alloc,
         problem,
         &answer.permutation,
         answer.cost,
         answer.bound,
-    )?;
-    write_whole(rt, file, &text).map_err(|_| PlanError::Device)
+    )?)
 }
 
-/// Writes the answer's JSON to a file.
-fn write_json(
-    rt: &HostRuntime,
-    file: &str,
-    problem: &NamedProblem,
-    answer: &Planned,
-    milliseconds: u64,
-) -> Result<(), PlanError>
-    requires { HasSizes problem.now }
-{
-    let Ok(text) = named_json_text(rt.alloc(), problem, answer, milliseconds) else {
-        return Err(PlanError::OutOfMemory);
-    };
-    write_whole(rt, file, text.as_bytes()).map_err(|_| PlanError::Device)
-}
-
-/// Writes a picture of an arrangement of this cost to a file.
-pub(crate) fn write_picture(
-    rt: &HostRuntime,
-    file: &str,
+/// A picture of an arrangement of this cost.
+pub(crate) fn picture_text(
+    alloc: Global,
     problem: &NamedProblem,
     permutation: &Perm,
     cost: i128,
-) -> Result<(), PlanError>
+) -> Result<Vec<u8>, PlanError>
     requires sizes { HasSizes problem.now }
     requires kept { Completes problem.now.fixed permutation.now }
 {
-    let alloc = rt.alloc();
     let cost = cost_text(alloc, problem, cost)?;
     let cost = std::str::from_utf8(&cost).unwrap_or("");
     let title = format!(in alloc; "cost {cost}")?;
-    let text = picture(alloc, problem, permutation, title.as_str())?;
-    write_whole(rt, file, &text).map_err(|_| PlanError::Device)
+    Ok(picture(alloc, problem, permutation, title.as_str())?)
 }

@@ -1,25 +1,13 @@
-//! The file of a proof.
+//! The text of a proof.
 
 ghost use Rattle.std.specs.Prelude.{IfOk};
 ghost use Rattle.qap_proof.specs.Text.{IsProofText};
 
 use crate::error::PlanError;
 use crate::planning::Planned;
-use crate::whole_file::write_whole;
 use qap_io::Counted;
 use qap_proof::{Proof, write};
 use std::alloc::Global;
-use std::fs::Files;
-
-/// Writes the proof of an answer to a file, where there is one.
-pub fn write_proof<R: Files + AllocGlobal>(
-    rt: &R,
-    file: &str,
-    answer: &Planned,
-) -> Result<(), PlanError> {
-    let text = proof_text(rt.alloc(), answer)?;
-    write_whole(rt, file, &text).map_err(|_| PlanError::Device)
-}
 
 /// The text of an answer's proof; none where it has no proof.
 pub fn proof_text(alloc: Global, answer: &Planned) -> Result<Vec<u8>, PlanError> {

@@ -5,16 +5,16 @@ ghost use Rattle.qap_cost.specs.Placement.{Completes};
 
 use crate::answer::stated_text as numbers_text;
 use crate::error::PlanError;
-use crate::instance_file::instance_of;
-use crate::judged_files::{bytes_of, print, refuse_answer};
-use crate::loading::problem_of_plan;
-use crate::plan_run::{is_plan, write_picture};
+use crate::instance_file::{inputs_of, instance_of, loaded_plan};
+use crate::judged_files::{bytes_of, refuse_answer};
+use crate::outputs::{Inputs, Outputs, print_text, worse};
+use crate::plan_run::picture_text;
 use crate::show_command::ShowRequest;
-use crate::whole_file::write_whole;
 use crate::{refuse, refuse_picture};
 use plan_answer::stated_text;
 use plan_check::{Answer, answer_to_instance, answer_to_plan};
 use plan_file::NamedProblem;
+use plan_input::is_plan;
 use std::process::ExitCode;
 
 /// Shows the answer whose JSON a file has; what it says of a bound is told as stated.
@@ -28,24 +28,28 @@ pub fn run_show(rt: &HostRuntime, request: &ShowRequest<'_>) -> ExitCode {
 
 /// Shows an answer to a plan.
 fn show_plan(rt: &HostRuntime, request: &ShowRequest<'_>) -> ExitCode {
-    let problem = match problem_of_plan(rt, request.file) {
-        Ok(problem) => problem,
+    let loaded = match loaded_plan(rt, request.file) {
+        Ok(loaded) => loaded,
         Err(code) => return code,
     };
     let text = match bytes_of(rt, request.answer) {
         Ok(text) => text,
         Err(code) => return code,
     };
-    match answer_to_plan(rt.alloc(), &problem, &text) {
-        Ok(answer) => tell_plan(rt, request, &problem, &answer),
+    match answer_to_plan(rt.alloc(), &loaded.problem, &text) {
+        Ok(answer) => {
+            let inputs = inputs_of(rt, request.file, &loaded);
+            tell_plan(rt, request, &inputs, &loaded.problem, &answer)
+        }
         Err(error) => refuse_answer(rt, request.answer, &error),
     }
 }
 
-/// Tells an answer to a plan, and draws it where that is asked for.
+/// Prints an answer to a plan, and writes it and its picture where that is asked for.
 fn tell_plan(
     rt: &HostRuntime,
     request: &ShowRequest<'_>,
+    inputs: &Inputs,
     problem: &NamedProblem,
     answer: &Answer,
 ) -> ExitCode
@@ -61,12 +65,18 @@ fn tell_plan(
     ) else {
         return refuse(rt, request.answer, PlanError::OutOfMemory);
     };
-    if let Some(file) = request.svg {
-        if let Err(error) = write_picture(rt, file, problem, &answer.permutation, answer.cost) {
-            return refuse(rt, file, error);
-        }
+    let mut outputs = match Outputs::open(rt, &[request.out, request.svg], inputs) {
+        Ok(outputs) => outputs,
+        Err(code) => return code,
+    };
+    let mut status = print_text(rt, &text);
+    if request.svg.is_some() {
+        let svg = picture_text(rt.alloc(), problem, &answer.permutation, answer.cost);
+        status = worse(status, outputs.put(rt, request.svg, svg));
     }
-    tell(rt, request, &text)
+    status = worse(status, outputs.put(rt, request.out, Ok(text)));
+    outputs.discard(rt);
+    ExitCode::from(status.code())
 }
 
 /// Shows an answer to an instance.
@@ -74,8 +84,8 @@ fn show_instance(rt: &HostRuntime, request: &ShowRequest<'_>) -> ExitCode {
     if request.svg.is_some() {
         return refuse_picture(rt, request.file);
     }
-    let instance = match instance_of(rt, request.file, request.passes) {
-        Ok(instance) => instance,
+    let (instance, inputs) = match instance_of(rt, request.file, request.passes) {
+        Ok(found) => found,
         Err(code) => return code,
     };
     let text = match bytes_of(rt, request.answer) {
@@ -88,17 +98,19 @@ fn show_instance(rt: &HostRuntime, request: &ShowRequest<'_>) -> ExitCode {
         Err(error) => return refuse_answer(rt, request.answer, &error),
     };
     match numbers_text(alloc, &answer.permutation, answer.cost, answer.bound) {
-        Ok(text) => tell(rt, request, &text),
+        Ok(text) => tell(rt, request, &inputs, text),
         Err(_) => refuse(rt, request.answer, PlanError::OutOfMemory),
     }
 }
 
-/// Writes the text to the file that is asked for, and prints it.
-fn tell(rt: &HostRuntime, request: &ShowRequest<'_>, text: &[u8]) -> ExitCode {
-    if let Some(file) = request.out {
-        if write_whole(rt, file, text).is_err() {
-            return refuse(rt, file, PlanError::Device);
-        }
-    }
-    print(rt, request.file, text)
+/// Prints the text, and writes it to the file that is asked for.
+fn tell(rt: &HostRuntime, request: &ShowRequest<'_>, inputs: &Inputs, text: Vec<u8>) -> ExitCode {
+    let mut outputs = match Outputs::open(rt, &[request.out], inputs) {
+        Ok(outputs) => outputs,
+        Err(code) => return code,
+    };
+    let printed = print_text(rt, &text);
+    let status = worse(printed, outputs.put(rt, request.out, Ok(text)));
+    outputs.discard(rt);
+    ExitCode::from(status.code())
 }

@@ -8,21 +8,21 @@ use crate::elapsed::Elapsed;
 use crate::error::PlanError;
 use crate::instance_file::instance_of;
 use crate::node_lines::lines_of_parts;
+use crate::outputs::{Outputs, print_text, worse};
 use crate::proof_file::text_of_proof;
-use crate::refuse;
 use crate::split_command::SplitRequest;
 use crate::splitting::{Skeleton, split_up};
 use crate::starting::read_start;
-use crate::whole_file::write_whole;
+use crate::{refuse, refuse_with};
 use qap_cost::{Instance, Perm};
 use qap_io::{Counted, Status};
 use qap_text::write_solution;
-use std::alloc::Global;
+use std::alloc::{AllocError, Global};
+use std::fs;
 use std::process::ExitCode;
 use std::sync::Wait;
 use std::thread::Threads;
 use std::time::Clock;
-use std::{fs, io};
 
 /// Cuts the search of an instance into parts, and writes the proof so far, the best permutation and the parts' nodes into a folder.
 /// `system` is what threads, waiting and the time are asked of.
@@ -32,20 +32,33 @@ where
     requires { AreLimited request.now.options }
 {
     let elapsed = Elapsed::new(system, request.options.seconds);
-    let instance = match instance_of(rt, request.file, request.options.passes) {
-        Ok(instance) => instance,
+    let (instance, inputs) = match instance_of(rt, request.file, request.options.passes) {
+        Ok(found) => found,
         Err(code) => return code,
     };
     let start = match start_of(rt, request, &instance) {
         Ok(start) => start,
         Err(code) => return code,
     };
+    let Ok(names) = Names::new(rt.alloc(), request.folder) else {
+        return refuse(rt, request.folder, PlanError::OutOfMemory);
+    };
+    if fs::create_dir_all(rt, request.folder).is_err() {
+        return refuse(rt, request.folder, PlanError::Device);
+    }
+    let outputs = match Outputs::open(rt, &names.all(), &inputs) {
+        Ok(outputs) => outputs,
+        Err(code) => return code,
+    };
     let alloc = rt.alloc();
     let options = &request.options;
     let wanted = request.parts as usize;
     match split_up(system, alloc, &instance, start, options, wanted, &elapsed) {
-        Ok(skeleton) => finish(rt, request, &skeleton),
-        Err(error) => refuse(rt, request.file, error),
+        Ok(skeleton) => finish(rt, request, outputs, &names, &skeleton),
+        Err(error) => {
+            outputs.discard(rt);
+            refuse(rt, request.file, error)
+        }
     }
 }
 
@@ -69,47 +82,88 @@ fn start_of(
     }
 }
 
-/// Writes the files, says what was come to, and tells the exit status.
-fn finish(rt: &HostRuntime, request: &SplitRequest<'_>, skeleton: &Skeleton) -> ExitCode {
-    if let Err(error) = write_files(rt, request.folder, skeleton) {
-        return refuse(rt, request.folder, error);
+/// The files that are written into the folder.
+#[derive(Drop)]
+struct Names {
+    proof: String,
+    best: String,
+    parts: String,
+}
+
+impl Names {
+    fn new(alloc: Global, folder: &str) -> Result<Names, AllocError> {
+        Ok(Names {
+            proof: format!(in alloc; "{folder}/skeleton.proof")?,
+            best: format!(in alloc; "{folder}/best.sln")?,
+            parts: format!(in alloc; "{folder}/parts.txt")?,
+        })
     }
-    let (cost, bound) = (skeleton.proof.cost(), skeleton.proof.bound());
+
+    fn all(&self) -> [Option<&str>; 3] {
+        [
+            Some(self.proof.as_str()),
+            Some(self.best.as_str()),
+            Some(self.parts.as_str()),
+        ]
+    }
+}
+
+/// Writes the files, says what is left, and gives the exit status.
+fn finish(
+    rt: &HostRuntime,
+    request: &SplitRequest<'_>,
+    mut outputs: Outputs<'_>,
+    names: &Names,
+    skeleton: &Skeleton,
+) -> ExitCode {
+    let status = write_files(rt, &mut outputs, names, skeleton);
+    outputs.discard(rt);
+    if status != Status::Done {
+        return ExitCode::from(status.code());
+    }
     let left = skeleton.parts.len();
-    let _ = if left == 0 {
-        rt.println(format_args!("cost {cost}, optimal, proved: no part is left"))
-    } else {
-        rt.println(format_args!(
-            "cost {cost}, within {bound} to {cost}, proved: {left} parts are left"
-        ))
-    };
     let status = if left == 0 || left >= request.parts as usize {
         Status::Done
     } else {
         Status::Stopped
     };
+    let status = match line_of(rt.alloc(), skeleton) {
+        Ok(line) => worse(status, print_text(rt, line.as_bytes())),
+        Err(_) => refuse_with(rt, request.folder, PlanError::OutOfMemory),
+    };
     ExitCode::from(status.code())
 }
 
-/// Writes the three files into the folder, which is made where it isn't there.
-fn write_files(rt: &HostRuntime, folder: &str, skeleton: &Skeleton) -> Result<(), PlanError> {
-    let alloc = rt.alloc();
-    let proof = text_of_proof(alloc, &skeleton.proof)?;
-    let best = solution_of(alloc, skeleton)?;
-    let nodes = lines_of_parts(alloc, &skeleton.parts)?;
-    if fs::create_dir_all(rt, folder).is_err() {
-        return Err(PlanError::Device);
+/// The line that says what is left.
+fn line_of(alloc: Global, skeleton: &Skeleton) -> Result<String, AllocError> {
+    let (cost, bound) = (skeleton.proof.cost(), skeleton.proof.bound());
+    let left = skeleton.parts.len();
+    if left == 0 {
+        format!(in alloc; "cost {cost}, optimal, proved: no part is left\n")
+    } else {
+        format!(in alloc; "cost {cost}, within {bound} to {cost}, proved: {left} parts are left\n")
     }
-    write_into(rt, folder, "skeleton.proof", &proof)?;
-    write_into(rt, folder, "best.sln", &best)?;
-    write_into(rt, folder, "parts.txt", &nodes)
 }
 
-/// Writes a text to a file in the folder.
-fn write_into(rt: &HostRuntime, folder: &str, name: &str, text: &[u8]) -> Result<(), PlanError> {
-    let file = format!(in rt.alloc(); "{folder}/{name}")?;
-    let written: io::Result<()> = write_whole(rt, file.as_str(), text);
-    written.map_err(|_| PlanError::Device)
+/// Writes the three files into the folder.
+fn write_files(
+    rt: &HostRuntime,
+    outputs: &mut Outputs<'_>,
+    names: &Names,
+    skeleton: &Skeleton,
+) -> Status {
+    let alloc = rt.alloc();
+    let proof = text_of_proof(alloc, &skeleton.proof);
+    let best = solution_of(alloc, skeleton);
+    let nodes = node_lines(alloc, skeleton);
+    let status = outputs.put(rt, Some(names.proof.as_str()), proof);
+    let status = worse(status, outputs.put(rt, Some(names.best.as_str()), best));
+    worse(status, outputs.put(rt, Some(names.parts.as_str()), nodes))
+}
+
+/// The list of parts.
+fn node_lines(alloc: Global, skeleton: &Skeleton) -> Result<Vec<u8>, PlanError> {
+    Ok(lines_of_parts(alloc, &skeleton.parts)?)
 }
 
 /// The text of the best permutation.

@@ -2,13 +2,14 @@
 
 use clap::error::ErrorKind;
 use clap::{Arg, Command, Error};
+use qap_command::VERSION;
 use std::alloc::Global;
 
 /// What the program is told to be in its help.
 const ABOUT: &str =
     "Verifies a proof of a least cost, or of a bound, of the quadratic assignment problem";
 
-/// The names of an instance's file, of a proof's, and of those of proofs of parts.
+/// The names of the file of an instance or a plan, of a proof's, and of those of proofs of parts.
 #[derive(Debug, Drop)]
 pub struct Files<'a> {
     pub instance: &'a str,
@@ -19,9 +20,9 @@ pub struct Files<'a> {
 /// The files that a command line names, the program's name being the first of its words. That help or the version is asked for is an
 /// error that prints it.
 pub fn parse<'a>(alloc: Global, words: &'a [String]) -> Result<Files<'a>, Error> {
-    let instance = Arg::new(alloc, "INSTANCE")
-        .required(true)
-        .help("an instance in the QAPLIB format");
+    let instance = Arg::new(alloc, "INSTANCE").required(true).help(
+        "an instance in the QAPLIB format, or a plan, which ends in .toml",
+    );
     let proof = Arg::new(alloc, "PROOF")
         .required(true)
         .help("a proof in the format qapproof 1");
@@ -31,7 +32,7 @@ pub fn parse<'a>(alloc: Global, words: &'a [String]) -> Result<Files<'a>, Error>
     let mut command = Command::new(alloc, "qapverify")
         .bin_name("qapverify")?
         .about(ABOUT)
-        .version("0.2.0")
+        .version(VERSION)
         .arg(instance)?
         .arg(proof)?
         .arg(parts)?;

@@ -12,17 +12,17 @@ use clap::Error;
 use clap::error::ErrorKind;
 use command_line::{Files, parse};
 use leaves::short_leaves;
+use plan_input::{is_plan, load_problem};
 use qap_io::{Counted, Status};
 use qap_proof::Cover;
+use qap_write::instance_text;
 use refusal::RunError;
 use std::fs::{self, File};
+use std::io::Read;
 use std::process::ExitCode;
 use std::rt::Env;
 use std::{env, io};
 use verifying::{cover_stream, part_stream, verdict_stream};
-
-#[cfg(test)]
-mod tests;
 
 fn main(rt: HostRuntime) -> ExitCode {
     let words = match arguments(&rt) {
@@ -30,7 +30,7 @@ fn main(rt: HostRuntime) -> ExitCode {
         Err(error) => return tell_unread(&rt, &error),
     };
     match parse(rt.alloc(), &words) {
-        Ok(files) => run(&rt, files),
+        Ok(files) => run(&rt, &files),
         Err(error) => tell(&rt, &error),
     }
 }
@@ -63,21 +63,51 @@ fn refuse(rt: &HostRuntime, error: RunError) -> ExitCode {
     ExitCode::from(refused(error, &mut Counted::new(rt.stderr())))
 }
 
-/// Verifies the proof, and those of parts, if there are any, beside it.
-fn run(rt: &HostRuntime, files: Files<'_>) -> ExitCode {
-    if files.parts.is_empty() {
-        return run_alone(rt, &files);
+/// Verifies the proof, and those of parts, if there are any, beside it. All files are opened before any is read, a plan's tables aside.
+fn run(rt: &HostRuntime, files: &Files<'_>) -> ExitCode {
+    if is_plan(files.instance) {
+        return run_on_plan(rt, files);
     }
-    match covered(rt, &files) {
+    match open(rt, files.instance) {
+        Ok(instance) => run_on(rt, files, instance),
+        Err(error) => refuse(rt, error),
+    }
+}
+
+/// Verifies what is claimed of the instance of a plan: of the text that `qapplan convert` writes.
+fn run_on_plan(rt: &HostRuntime, files: &Files<'_>) -> ExitCode {
+    let loaded = match load_problem(rt, files.instance) {
+        Ok(loaded) => loaded,
+        Err(error) => {
+            let _ = rt.eprintln(format_args!("error: {error}"));
+            return ExitCode::from(error.status().code());
+        }
+    };
+    match instance_text(rt.alloc(), &loaded.problem.instance) {
+        Ok(text) => run_on(rt, files, text.as_slice()),
+        Err(_) => refuse(rt, RunError::OutOfMemory),
+    }
+}
+
+/// Verifies what is claimed of the instance whose text this reader has.
+fn run_on<R: Read + Drop>(rt: &HostRuntime, files: &Files<'_>, instance: R) -> ExitCode {
+    if files.parts.is_empty() {
+        return run_alone(rt, files, instance);
+    }
+    match covered(rt, files, instance) {
         Ok(code) => code,
         Err(error) => refuse(rt, error),
     }
 }
 
-/// Verifies the proof of the whole, and those of the parts in turn, and tells what they show together; which leaves of the whole show
-/// less than the least cost is told on standard error. The name of a part that is refused is told there too.
-fn covered(rt: &HostRuntime, files: &Files<'_>) -> Result<ExitCode, RunError> {
-    let (instance, proof) = open_both(rt, files)?;
+/// Verifies the proof of the whole, and those of the parts in turn, and prints what they show together; which leaves of the whole show
+/// less than the least cost is printed on standard error. The name of a part that is refused is printed there too.
+fn covered<R: Read + Drop>(
+    rt: &HostRuntime,
+    files: &Files<'_>,
+    instance: R,
+) -> Result<ExitCode, RunError> {
+    let proof = open(rt, files.proof)?;
     let mut cover = cover_stream(
         rt.alloc(),
         &mut Counted::new(instance),
@@ -102,10 +132,10 @@ fn add_part(rt: &HostRuntime, cover: &mut Cover, name: &str) -> Result<(), RunEr
     part_stream(rt.alloc(), cover, &mut Counted::new(file))
 }
 
-/// Verifies the proof. Both files are opened before either is read.
-fn run_alone(rt: &HostRuntime, files: &Files<'_>) -> ExitCode {
-    match open_both(rt, files) {
-        Ok((instance, proof)) => ExitCode::from(answered(
+/// Verifies the proof.
+fn run_alone<R: Read + Drop>(rt: &HostRuntime, files: &Files<'_>, instance: R) -> ExitCode {
+    match open(rt, files.proof) {
+        Ok(proof) => ExitCode::from(answered(
             rt.alloc(),
             &mut Counted::new(instance),
             &mut Counted::new(proof),
@@ -114,11 +144,6 @@ fn run_alone(rt: &HostRuntime, files: &Files<'_>) -> ExitCode {
         )),
         Err(error) => refuse(rt, error),
     }
-}
-
-/// Both files, opened for reading.
-fn open_both(rt: &HostRuntime, files: &Files<'_>) -> Result<(File, File), RunError> {
-    Ok((open(rt, files.instance)?, open(rt, files.proof)?))
 }
 
 /// A named file, opened for reading.

@@ -2,7 +2,7 @@
 
 ghost use Rattle.std.specs.Prelude.{◌≡◌, IfOk};
 ghost use Rattle.plan_file.specs.Tables.{HasSizes};
-ghost use Rattle.qap_plan.specs.declared.loading.LoadError.TheVariants.{OutOfMemory as WantOfMemory};
+ghost use Rattle.plan_input.specs.declared.loading.LoadError.TheVariants.{OutOfMemory as WantOfMemory};
 
 use plan_file::{
     FixingError, NamedProblem, PlanError, ProblemError, TablesError, read_plan, read_tables,
@@ -13,8 +13,10 @@ use qap_text::{MAX_INPUT, TextError, read_all};
 use std::alloc::{AllocError, Global};
 use std::fs::{self, Files};
 use std::path::Path;
-use std::process::ExitCode;
 use thiserror::Error;
+
+/// How the name of a plan's file ends.
+const SUFFIX: &str = ".toml";
 
 /// Why a plan has no problem, and which file is at fault.
 #[derive(Debug, Drop, Error)]
@@ -74,9 +76,25 @@ impl From<AllocError> for LoadError {
     }
 }
 
+/// The problem of a plan, and the files of the tables that it was read from.
+#[derive(Drop)]
+pub struct Loaded {
+    pub problem: NamedProblem,
+    pub flows_file: String,
+    pub distances_file: String,
+}
+
+/// Whether a file's name is that of a plan: it ends in `.toml`, in capital or small letters.
+pub fn is_plan(file: &str) -> bool {
+    match file.len().checked_sub(SUFFIX.len()) {
+        Some(front) => file.as_bytes()[front..].eq_ignore_ascii_case(SUFFIX.as_bytes()),
+        None => false,
+    }
+}
+
 /// The problem of a plan's file and of the tables' files that it names.
-fn load_problem<R: Files + AllocGlobal>(rt: &R, file: &str) -> Result<NamedProblem, LoadError>
-    ensures { IfOk result HasSizes }
+pub fn load_problem<R: Files + AllocGlobal>(rt: &R, file: &str) -> Result<Loaded, LoadError>
+    ensures { IfOk result (λ loaded. HasSizes loaded.problem) }
 {
     let alloc = rt.alloc();
     let text = read_file(rt, file)?;
@@ -92,7 +110,11 @@ fn load_problem<R: Files + AllocGlobal>(rt: &R, file: &str) -> Result<NamedProbl
     let flows = read_file(rt, flows_file.as_str())?;
     let distances = read_file(rt, distances_file.as_str())?;
     match read_tables(alloc, &plan, &flows, &distances) {
-        Ok(problem) => Ok(problem),
+        Ok(problem) => Ok(Loaded {
+            problem,
+            flows_file,
+            distances_file,
+        }),
         Err(error) => {
             let file = match fault_of(&error) {
                 Fault::Flows => flows_file,
@@ -100,19 +122,6 @@ fn load_problem<R: Files + AllocGlobal>(rt: &R, file: &str) -> Result<NamedProbl
                 Fault::Plan => String::from_str(alloc, file)?,
             };
             Err(LoadError::Tables { file, error })
-        }
-    }
-}
-
-/// The problem of a plan for a run: why there is none is told on standard error, and the exit status comes back.
-pub fn problem_of_plan(rt: &HostRuntime, file: &str) -> Result<NamedProblem, ExitCode>
-    ensures { IfOk result HasSizes }
-{
-    match load_problem(rt, file) {
-        Ok(problem) => Ok(problem),
-        Err(error) => {
-            let _ = rt.eprintln(format_args!("error: {error}"));
-            Err(ExitCode::from(error.status().code()))
         }
     }
 }

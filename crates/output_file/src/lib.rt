@@ -1,0 +1,10 @@
+//! Files that a program writes whole, or leaves as they were.
+#![tactic(auto)]
+
+mod opening;
+mod output;
+mod system_error;
+
+pub use opening::open_output;
+pub use output::{FileId, Output, file_id};
+pub use system_error::reason;

@@ -1,0 +1,13 @@
+-- What a run comes to that writes several outputs.
+use Rattle.std.specs.Prelude.{ℕ}
+use Rattle.qap_io.specs.declared.status.Status.{Status}
+use Rattle.qap_io.specs.declared.status.Status.TheVariants.{Done, Refused, Usage, OutOfMemory, Unfinished, Stopped}
+
+-- how grave a status is: a run that writes several outputs ends with the gravest
+abbrev pub severity : Status → ℕ
+severity Done = 0
+severity Stopped = 1
+severity Unfinished = 2
+severity Refused = 3
+severity Usage = 4
+severity OutOfMemory = 5
