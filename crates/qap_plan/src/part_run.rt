@@ -84,9 +84,11 @@ where
 {
     let alloc = rt.alloc();
     if let Some(text) = earlier(rt, request.proof) {
-        match standing_proof(alloc, instance, node, cost(instance, start), &text) {
+        let known = cost(instance, start);
+        match standing_proof(alloc, instance, node, known, &text) {
+            // What the proof shows reaches the lesser of its own cost and the start's: the part is complete.
             Ok(Some(stated)) => {
-                let status = end(rt, stated.cost, stated.bound, " before");
+                let status = end(rt, stated.cost.min(known), stated.bound, " before");
                 return ExitCode::from(status.code());
             }
             Ok(None) => {}
