@@ -1,0 +1,274 @@
+"""Checks of answers that no exact text can state. A case names one by `check:`, with the words that follow the run here; a check that
+fails raises an error. Everything is computed here, and nothing by the programs that are tested."""
+
+import csv
+import itertools
+import json as json_text
+import math
+import re
+import xml.etree.ElementTree as ElementTree
+from fractions import Fraction
+
+KEPT = " among arrangements that keep what is fixed"
+
+
+def expect(condition, message):
+    if not condition:
+        raise AssertionError(message)
+
+
+# Instances and their permutations, which count from 0 here.
+
+
+def instance_of(text):
+    """The size and the two matrices of an instance's text."""
+    words = [int(word) for word in re.split(r"[\s,]+", text.strip())]
+    n = words[0]
+    rows = [words[1 + n * i:1 + n * (i + 1)] for i in range(2 * n)]
+    return n, rows[:n], rows[n:]
+
+
+def cost_of(instance, permutation):
+    n, a, b = instance
+    return sum(a[i][j] * b[permutation[i]][permutation[j]] for i in range(n) for j in range(n))
+
+
+def least_of(instance, fixed=None):
+    """The least cost of all permutations, or of those that keep what is fixed: for sizes up to 8."""
+    fixed = fixed or {}
+    return min(cost_of(instance, p) for p in itertools.permutations(range(instance[0])) if all(p[i] == k for i, k in fixed.items()))
+
+
+def permutation_of(words, n):
+    permutation = [int(word) - 1 for word in words]
+    expect(sorted(permutation) == list(range(n)), f"{words} is no permutation of 1 to {n}")
+    return permutation
+
+
+def stated_by(text, instance):
+    """What a program's answer to an instance states: (permutation, cost, bound). The answer is that of `qapsolve`, or of `qapplan`."""
+    n = instance[0]
+    lines = text.splitlines()
+    if lines[0].startswith("facility"):
+        for number, line in enumerate(lines[:n], 1):
+            expect(line.startswith(f"facility {number} at location "), f"line {number} is {line}")
+        expect(len(lines) == n + 1, f"{len(lines)} lines")
+        return (permutation_of([line.split()[-1] for line in lines[:n]], n), *verdict_of(lines[n], "", False))
+    bound = None
+    if lines[0].startswith("gap"):
+        bound, stated = map(int, lines.pop(0).split()[1:])
+    size, cost = map(int, lines[0].split())
+    expect(size == n and len(lines) == 2, f"the solution is {lines}")
+    expect(bound is None or stated == cost, f"the gap ends at {bound}")
+    return permutation_of(lines[1].split(), n), cost, cost if bound is None else bound
+
+
+def verdict_of(line, kept, in_percent):
+    """The cost and the bound that a line of the cost states, as fractions; how far they lie apart in percent is checked, too."""
+    found = re.fullmatch(rf"cost (-?[\d.]+), optimal{kept}, proved", line)
+    if found:
+        return Fraction(found[1]), Fraction(found[1])
+    found = re.fullmatch(rf"cost (-?[\d.]+), within (-?[\d.]+) to (-?[\d.]+){kept}, proved(, at most ([\d.]+)% above the least)?", line)
+    expect(found and found[1] == found[3], f"the line of the cost is {line}")
+    cost, bound = Fraction(found[1]), Fraction(found[2])
+    if in_percent and bound > 0:
+        tenths = math.ceil((cost - bound) * 1000 / bound)
+        expect(found[5] and Fraction(found[5]) == Fraction(tenths, 10), f"{line}, where {tenths} tenths of a percent are between")
+    else:
+        expect(not found[4], f"a percentage in {line}")
+    return cost, bound
+
+
+def judge(permutation_cost, cost, bound, optimum):
+    """Judges a stated cost and a bound, by the permutation's own cost and the optimum."""
+    expect(cost == permutation_cost, f"the cost is stated as {cost}, and is {permutation_cost}")
+    expect(bound <= optimum <= cost, f"the optimum, {optimum}, is not within {bound} to {cost}")
+
+
+def proved(run, instance, optimum=None, name="stdout"):
+    """The answer states its permutation's cost, and a bound, with the optimum between them; without one all permutations are tried."""
+    instance = instance_of(run.text(instance))
+    permutation, cost, bound = stated_by(run.text(name), instance)
+    judge(cost_of(instance, permutation), cost, bound, least_of(instance) if optimum is None else int(optimum))
+
+
+def optimal(run, instance, optimum, name="stdout"):
+    """The same, and the answer states that it is optimal."""
+    proved(run, instance, optimum, name)
+    _, cost, bound = stated_by(run.text(name), instance_of(run.text(instance)))
+    expect(bound == cost, f"the answer is within {bound} to {cost}")
+
+
+def least(run, instance, name="stdout"):
+    """The answer is optimal, by trying all permutations."""
+    optimal(run, instance, least_of(instance_of(run.text(instance))), name)
+
+
+def least_is(run, instance, cost):
+    """The least cost of all permutations is this."""
+    found = least_of(instance_of(run.text(instance)))
+    expect(found == int(cost), f"the least cost is {found}")
+
+
+# Plans, and their answers in their own units.
+
+
+class Plan:
+    """A plan's names, flows and distances, worked out from its files: `flow[D, E]` and `distance[P, Q]`."""
+
+    def __init__(self, run, name):
+        self.folder = (run.folder / name).parent
+        keys = plan_keys(run.text(name))
+        self.fixed = keys.get("fixed", {})
+        if "flows" in keys:
+            self.departments, self.flow = matrix_of(self.rows(keys["flows"]))
+        else:
+            trips = self.rows(keys["trips"])[1:]
+            seen = [name for row in trips for name in row[:2]]
+            self.departments = keys.get("departments") or list(dict.fromkeys(seen))
+            self.flow = {(row[0], row[1]): Fraction(row[2]) for row in trips}
+        if "distances" in keys:
+            self.places, self.distance = matrix_of(self.rows(keys["distances"]))
+        else:
+            points = {row[0]: (Fraction(row[1]), Fraction(row[2])) for row in self.rows(keys["places"])[1:]}
+            self.places = list(points)
+            self.distance = {(p, q): distance_of(keys["metric"], keys.get("decimals", 2), points[p], points[q])
+                             for p in points for q in points}
+
+    def rows(self, name):
+        with open(self.folder / name, encoding="utf-8-sig", newline="") as file:
+            return [row for row in csv.reader(file) if row]
+
+    def pair_costs(self, arrangement):
+        """What each pair costs where the departments stand at these places, by rows."""
+        return {(d, e): self.flow.get((d, e), 0) * self.distance[arrangement[d], arrangement[e]]
+                for d in self.departments for e in self.departments}
+
+    def cost(self, arrangement):
+        return sum(self.pair_costs(arrangement).values())
+
+
+def plan_keys(text):
+    """The keys of a plan, whose values are numbers, texts in quotes, and lists of them on one line."""
+    keys = table = {}
+    for line in text.splitlines():
+        line = re.sub(r"\s#[^\"']*$", "", line).strip()
+        if line == "[fixed]":
+            table = keys["fixed"] = {}
+        elif line and not line.startswith("#"):
+            key, value = line.split("=", 1)
+            table[key.strip().strip("\"'")] = json_text.loads(value.strip().replace("'", '"'))
+    return keys
+
+
+def matrix_of(rows):
+    names = rows[0][1:]
+    return names, {(row[0], name): Fraction(cell) for row in rows[1:] for name, cell in zip(names, row[1:])}
+
+
+def distance_of(metric, decimals, p, q):
+    across, along = abs(p[0] - q[0]), abs(p[1] - q[1])
+    if metric == "rectilinear":
+        return across + along
+    square = across * across + along * along
+    if metric == "squared":
+        return square
+    scaled = 4 * square * 100 ** decimals  # The nearest whole number to r is (floor(2 r) + 1) / 2.
+    return Fraction((math.isqrt(scaled.numerator // scaled.denominator) + 1) // 2, 10 ** decimals)
+
+
+def arranged(lines, plan):
+    """The arrangement that the first lines of an answer state; they are taken away."""
+    arrangement = {}
+    for department in plan.departments:
+        line = lines.pop(0)
+        expect(line.startswith(f"{department} at "), f"no place of {department}: {line}")
+        arrangement[department] = line[len(department) + 4:]
+    expect(len(set(arrangement.values())) == len(arrangement), "a place is taken twice")
+    expect(set(arrangement.values()) <= set(plan.places), "a place is none of the plan's")
+    for place in plan.places:
+        if place not in arrangement.values():
+            expect(lines.pop(0) == f"{place} stays empty", f"no line of {place}, which stays empty")
+    for department, place in plan.fixed.items():
+        expect(arrangement[department] == place, f"{department} was moved to {arrangement[department]}")
+    return arrangement
+
+
+def plan(run, name, optimum=None, answer="stdout"):
+    """The answer to a plan places each department, states the arrangement's cost, and a bound with the optimum between them, and the
+    five costliest pairs; a plan without an optimum is solved by trying all arrangements."""
+    plan = Plan(run, name)
+    lines = run.text(answer).splitlines()
+    arrangement = arranged(lines, plan)
+    cost, bound = verdict_of(lines.pop(0), KEPT if plan.fixed else "", True)
+    judge(plan.cost(arrangement), cost, bound, plan_least(plan) if optimum is None else Fraction(optimum))
+    pairs = [pair for pair in plan.pair_costs(arrangement).items() if pair[1] > 0]
+    pairs = sorted(pairs, key=lambda pair: -pair[1])[:5]
+    expected = ["dearest pairs:"] if pairs else []
+    expected += [f"{d} to {e}: {decimal(pair_cost)}" for (d, e), pair_cost in pairs]
+    expect(lines == expected, f"the last lines are {lines}, where {expected} are due")
+
+
+def plan_least(plan):
+    arrangements = (dict(zip(plan.departments, places)) for places in itertools.permutations(plan.places, len(plan.departments)))
+    return min(plan.cost(a) for a in arrangements if all(a[d] == p for d, p in plan.fixed.items()))
+
+
+def decimal(number):
+    """A fraction over a power of ten as a decimal number."""
+    digits = f"{abs(number).numerator * 10 ** 30 // abs(number).denominator:031d}"
+    text = f"{digits[:-30]}.{digits[-30:]}".rstrip("0").rstrip(".")
+    return f"-{text}" if number < 0 else text
+
+
+# Files beside an answer.
+
+
+def json(run, name, source, optimum, status="optimal"):
+    """The JSON of an answer to an instance or a plan: each key of docs/PLANNING.md, and a cost and a bound that are right."""
+    answer = json_text.loads(run.text(name))
+    keys = {"status", "cost", "bound", "permutation", "nodes", "open", "milliseconds", "version"}
+    if source.lower().endswith(".toml"):
+        keys |= {"departments", "places", "arrangement", "flow_scale", "distance_scale"}
+        plan = Plan(run, source)
+        expect(answer["departments"] == plan.departments and answer["places"] == plan.places, "other names than the tables have")
+        permutation = permutation_of(answer["permutation"], len(plan.places))
+        places = [plan.places[k] for k in permutation[:len(plan.departments)]]
+        expect(answer["arrangement"] == places, "the arrangement is not that of the permutation")
+        cost = plan.cost(dict(zip(plan.departments, places)))
+        expect(all(places[plan.departments.index(d)] == p for d, p in plan.fixed.items()), "a fixed department was moved")
+    else:
+        instance = instance_of(run.text(source))
+        cost = cost_of(instance, permutation_of(answer["permutation"], instance[0]))
+    expect(set(answer) == keys, f"the keys are {sorted(answer)}")
+    judge(cost, Fraction(answer["cost"]), Fraction(answer["bound"]), Fraction(optimum))
+    expect(answer["cost"] == decimal(cost), f"the cost is spelled {answer['cost']}")
+    expect(answer["status"] == status == ("optimal" if answer["bound"] == answer["cost"] else "bounded"), f"the status is {answer['status']}")
+    expect(re.fullmatch(r"\d+\.\d+\.\d+", answer["version"]), f"the version is {answer['version']}")
+    expect(all(type(answer[key]) is int and answer[key] >= 0 for key in ("nodes", "open", "milliseconds")), "a count is none")
+
+
+def picture(run, name, source, answer):
+    """A picture is well-formed, has the cost as its title and a box for each place, whose department it names, by the JSON of an answer."""
+    answer = json_text.loads(run.text(answer))
+    plan = Plan(run, source)
+    svg = ElementTree.fromstring(run.text(name))
+    space = "{http://www.w3.org/2000/svg}"
+    texts = ["".join(text.itertext()) for text in svg.iter(f"{space}text")]
+    expect(svg.tag == f"{space}svg", f"the root is {svg.tag}")
+    expect(texts[0] == f"cost {answer['cost']}", f"the title is {texts[0]}")
+    expect(sorted(texts[1:]) == sorted(plan.departments + plan.places), f"the names are {texts[1:]}")
+    for department, place in zip(plan.departments, answer["arrangement"]):
+        expect(texts[texts.index(department, 1) + 1] == place, f"{department} is not drawn at {place}")
+
+
+def solution(run, name, instance, optimum):
+    """The file has the text of a solution whose cost is its permutation's, and at least the optimum."""
+    instance = instance_of(run.text(instance))
+    permutation, cost, _ = stated_by(run.text(name), instance)
+    judge(cost_of(instance, permutation), cost, int(optimum), int(optimum))
+
+
+def same(run, name, other):
+    """Two texts are the same."""
+    expect(run.text(name) == run.text(other), f"{name} is not {other}")

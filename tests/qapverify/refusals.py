@@ -1,0 +1,80 @@
+"""Each refusal of `qapverify`, with its place or line (docs/FORMATS.md, "Refusals")."""
+
+TWO = "2 0 3 1 0 0 2 5 0"
+HEAD = "qapproof 1|n 2|cost 11|perm 1 2"
+DEARER = "qapproof 1|n 2|cost 17|perm 2 1"
+LEAST = f"{HEAD}|b 6 2 0 3|end"
+
+# An instance, the lines of a proof, and the refusal. The permutation 1 2 costs 11 and the other one 17; the matrix of the root has the
+# rows 6 15 and 2 5.
+PROOFS = [
+    ("", LEAST, "1 Empty"),
+    ("2 0 x", LEAST, "2 NotANumber at 4"),
+    ("0", LEAST, "3 SizeZero at 0"),
+    ("257", LEAST, "4 SizeTooLarge at 0"),
+    ("1 1000000001 7", LEAST, "5 EntryRange at 2"),
+    ("2 0 3", LEAST, "6 CountDiffers"),
+    ("1 5 7", LEAST, "8 SizeDiffers at 2"),
+    (TWO, "qapcert 1", "11 BadHeader"),
+    (TWO, "qapproof", "11 BadHeader"),
+    (TWO, "qapproof 0", "11 BadHeader"),
+    (TWO, "qapproof 2", "12 BadVersion"),
+    (TWO, "qapproof 1|n 257", "13 BadLine at 2"),
+    (TWO, "qapproof 1|n 02", "13 BadLine at 2"),
+    (TWO, "qapproof 1|n 2|cost 1000000000000000000000001", "13 BadLine at 3"),
+    (TWO, "qapproof 1|n 2|cost 11|perm 1", "13 BadLine at 4"),
+    (TWO, f"{HEAD}|bound 11|b 6 2 0 3|end", "13 BadLine at 5"),
+    (TWO, f"{HEAD}|bound -1000000000000000000000001|b 6 2 0 3|end", "13 BadLine at 5"),
+    (TWO, f"{HEAD}|x", "13 BadLine at 5"),
+    (TWO, f"{HEAD}|b 6 2  0 3|end", "13 BadLine at 5"),
+    (TWO, f"{HEAD}|b 6 2 0 03|end", "13 BadLine at 5"),
+    (TWO, f"{HEAD}|s|end", "13 BadLine at 5"),
+    (TWO, f"{HEAD}|s 3|end", "13 BadLine at 5"),
+    (TWO, f"{HEAD}|t 0|end", "13 BadLine at 5"),
+    (TWO, f"{HEAD}|s 1|b 11 0|m 1 2|end", "13 BadLine at 7"),
+    (TWO, f"{HEAD}|s 1|b 11 0|b 17 0|b|end", "13 BadLine at 8"),
+    (TWO, "", "14 Truncated at 1"),
+    (TWO, f"{HEAD}|b 6 2 0 3", "14 Truncated at 6"),
+    (TWO, f"{HEAD}|b 6 2 0 3\\", "14 Truncated at 5"),
+    (TWO, f"{LEAST}|x", "15 TrailingText at 7"),
+    (TWO, "qapproof 1|n 2|cost 12|perm 1 2|b 6 2 0 3|end", "16 CostDiffers at 3"),
+    (TWO, "qapproof 1|n 2|cost 11|perm 1 1|b 6 2 0 3|end", "17 PermBad at 4"),
+    (TWO, f"{HEAD}|s 1|b 11 0|m 1 2 2|end", "17 PermBad at 7"),
+    ("1 5 7", "qapproof 1|n 1|cost 35|perm 1|s 1|s 1|b|end", "18 SplitTooDeep at 6"),
+    (TWO, f"{HEAD}|b 6 2 0|end", "19 DualCount at 5"),
+    (TWO, f"{HEAD}|s 1 6 2 0|end", "19 DualCount at 5"),
+    (TWO, f"{HEAD}|b 6 2 0 1000000000000000000000001|end", "20 DualRange at 5"),
+    (TWO, f"{HEAD}|t 1 -1000000000000000000000001 2 0 3|c|c|end", "20 DualRange at 5"),
+    (TWO, f"{HEAD}|b 7 2 0 3|end", "21 NotFeasible at 5"),
+    (TWO, f"{HEAD}|t 2 6 3 0 3|c|b 11 0|end", "21 NotFeasible at 5"),
+    (TWO, f"{HEAD}|b 6 2 0 2|end", "22 BoundTooLow at 5"),
+    (TWO, f"{DEARER}|t 2 6 2 0 3|c|b 11 0|end", "22 BoundTooLow at 7"),
+    (TWO, f"{HEAD}|s 1|s 1|b|b|end", "25 FacilityTaken at 6"),
+    (TWO, f"{HEAD}|t 1|t 1|b|b|end", "26 LocationTaken at 6"),
+    (TWO, f"{HEAD}|s 1|c|b 17 0|end", "27 CutWithoutDuals at 6"),
+    (TWO, f"{HEAD}|c|end", "27 CutWithoutDuals at 5"),
+    (TWO, f"{DEARER}|t 2 6 2 0 3|c|c|end", "28 CutTooLow at 7"),
+    (TWO, f"{HEAD}|s 1|m 1 2 1|b 17 0|end", "29 NoEarlierChild at 6"),
+    (TWO, f"{HEAD}|m 1 2 1|end", "29 NoEarlierChild at 5"),
+    # The exchange of the locations takes 2 to 5 and 5 to 2; the identity keeps the matrix, and takes location 1 to itself.
+    (TWO, f"{HEAD}|s 1|b 11 0|m 1 2 1|end", "52 NotAnImage at 7"),
+    (TWO, f"{HEAD}|s 1|b 11 0|m 1 1 2|end", "52 NotAnImage at 7"),
+    (TWO, f"{HEAD}|t 1|b 11 0|m 1 2 1|end", "52 NotAnImage at 7"),
+    (TWO, f"{HEAD}|node 2 1 1 2|b|end", "53 RootBad at 5"),
+    (TWO, f"{HEAD}|node 1 1 2 1|b|end", "53 RootBad at 5"),
+    # A fault of the text comes before every fault of what it says.
+    (TWO, f"{HEAD}|b 7 2 0 3|end|x", "15 TrailingText at 7"),
+]
+
+
+def proof_text(lines):
+    """The text of lines that `|` separates, with a line feed behind the last unless a backslash stands there."""
+    text = lines.replace("|", "\n")
+    return text[:-1] if text.endswith("\\") else f"{text}\n" if text else ""
+
+
+def cases():
+    for number, (instance, lines, refusal) in enumerate(PROOFS):
+        escaped = proof_text(lines).replace("\n", "\\n")
+        yield f"case: {number}: {refusal}\nbytes a.dat: {instance}\nbytes a.proof: {escaped}"
+        yield f"run: qapverify a.dat a.proof\nstderr: refused {refusal}\nstatus: 1"
