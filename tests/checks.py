@@ -151,13 +151,13 @@ class Plan:
 def plan_keys(text):
     """The keys of a plan, whose values are numbers, texts in quotes, and lists of them on one line."""
     keys = table = {}
-    for line in text.splitlines():
-        line = re.sub(r"\s#[^\"']*$", "", line).strip()
-        if line == "[fixed]":
+    for line in text.lstrip("\ufeff").splitlines():
+        if line.strip() == "[fixed]":
             table = keys["fixed"] = {}
-        elif line and not line.startswith("#"):
+        elif line.strip() and not line.startswith("#"):
             key, value = line.split("=", 1)
-            table[key.strip().strip("\"'")] = json_text.loads(value.strip().replace("'", '"'))
+            value = re.sub("^'([^']*)'", r'"\1"', value.strip())
+            table[key.strip().strip("\"'")] = json_text.JSONDecoder().raw_decode(value)[0]
     return keys
 
 
@@ -254,12 +254,13 @@ def picture(run, name, source, answer):
     plan = Plan(run, source)
     svg = ElementTree.fromstring(run.text(name))
     space = "{http://www.w3.org/2000/svg}"
-    texts = ["".join(text.itertext()) for text in svg.iter(f"{space}text")]
+    texts = [("".join(text.itertext()), text.get("font-weight") == "bold") for text in svg.iter(f"{space}text")]
+    names = [text for text, _ in texts[1:]]
     expect(svg.tag == f"{space}svg", f"the root is {svg.tag}")
-    expect(texts[0] == f"cost {answer['cost']}", f"the title is {texts[0]}")
-    expect(sorted(texts[1:]) == sorted(plan.departments + plan.places), f"the names are {texts[1:]}")
-    for department, place in zip(plan.departments, answer["arrangement"]):
-        expect(texts[texts.index(department, 1) + 1] == place, f"{department} is not drawn at {place}")
+    expect(texts[0][0] == f"cost {answer['cost']}", f"the title is {texts[0][0]}")
+    expect(sorted(names) == sorted(plan.departments + plan.places), f"the names are {names}")
+    drawn = [(text, below) for (text, bold), (below, _) in zip(texts, texts[1:]) if bold]
+    expect(sorted(drawn) == sorted(zip(plan.departments, answer["arrangement"])), f"the picture has {drawn}")
 
 
 def solution(run, name, instance, optimum):

@@ -1,0 +1,25 @@
+"""alter.py TEXT COPY cost|dual: copies a certificate or a proof with its cost's last digit changed, or with the first of its duals raised to
+10^15 or more, which fits no matrix here; prints the number of the line that was changed. Cases use it."""
+
+import re
+import sys
+
+
+def altered(lines, what):
+    """The lines, one of them changed, and its number, which counts from 1."""
+    for at, line in enumerate(lines):
+        if what == "cost" and line.startswith("cost "):
+            return lines[:at] + [line[:-1] + str((int(line[-1]) + 1) % 10)] + lines[at + 1:], at + 1
+        duals = re.fullmatch(r"(b|[st] \d+) -?\d+( .*)", line)
+        if what == "dual" and duals:
+            return lines[:at] + [f"{duals[1]} 1{'0' * 15}{duals[2]}"] + lines[at + 1:], at + 1
+    raise SystemExit(f"no {what} in the text")
+
+
+if __name__ == "__main__":
+    source, copy, what = sys.argv[1:]
+    with open(source) as file:
+        lines, number = altered(file.read().splitlines(), what)
+    with open(copy, "w") as file:
+        file.write("\n".join(lines) + "\n")
+    print(number)
