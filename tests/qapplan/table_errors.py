@@ -1,0 +1,118 @@
+"""Each message of `qapplan` about a table (docs/PLANNING.md, "Errors"), with its line and field."""
+
+MATRIX_HEAD = "begin with a line of an empty field and the names, as `,Saw,Lathe`"
+NO_NAME = "write an empty field and then 1 to 256 names, as `,Saw,Lathe`"
+EMPTY_NAME = "write a name there, or take its column or its line away"
+TWICE = "give each a name of its own"
+ORDER = "the rows have the columns' names, in their order"
+EACH_COLUMN = "write a number for each column"
+EXTRA_CELL = "is one too many: take it away, or quote a number's comma away"
+NO_NUMBER = "is no number: write digits and at most one point, as `12` or `-0.25`, with no blanks, exponent or comma"
+TOO_LARGE = ("is too large: times the power of ten that makes all numbers whole it lies outside -10^9 to 10^9; round the numbers or "
+             "choose a larger unit")
+NO_TEXT = 'is no UTF-8: save the table as "CSV UTF-8"'
+TOO_FINE = "a number has more than 100 places behind the point: round the numbers, or choose a smaller unit"
+COORDINATES = "a coordinate has more than 9 places behind the point: round the coordinates, or choose a smaller unit"
+TOO_FAR = ("lie too far apart: with its places behind the point dropped, a distance is at most 10^9; round the coordinates, keep fewer "
+           "decimals or choose a larger unit")
+PAIR_FIELDS = "write two names and a number on each line"
+
+MANY = [f"n{number}" for number in range(257)]
+
+# The text of a matrix with names, and what is said of it.
+MATRICES = [
+    ("", f"the table is empty: {MATRIX_HEAD}"),
+    ("\r\n\r\n", f"the table is empty: {MATRIX_HEAD}"),
+    ("corner\n", f"line 1 has no name: {NO_NAME}"),
+    (";a;b\na;0;1\n", f"line 1 has no name: {NO_NAME}"),
+    (f",{','.join(MANY)}\n", "line 1 has 257 names: at most 256 are read, so split the table"),
+    (",a,,c", f"line 1, field 3 is empty: {EMPTY_NAME}"),
+    (",a,b,a", f'line 1, field 4: the name "a" stands twice: {TWICE}'),
+    ("\n\n,a,a", f'line 3, field 3: the name "a" stands twice: {TWICE}'),
+    (",a,b\na,0,1\n", 'the row "b" is missing: write a row for each column, in the columns\' order'),
+    (",a,b\nb,0,1\na,1,0\n", f'line 2, field 1: expected the name "a" and found "b": {ORDER}'),
+    (",a\na ,0\n", f'line 2, field 1: expected the name "a" and found "a ": {ORDER}'),
+    (",a\na,0\nb,0\n", 'line 3, field 1: the row "b" is one too many: take it away, or add its column'),
+    (",a,b\na,0\nb,0,0\n", f"line 2, field 3 is missing: {EACH_COLUMN}"),
+    (",a\na,3,5\n", f'line 2, field 3: the cell "5" {EXTRA_CELL}'),
+    (",a\na,1e3\n", f'line 2, field 2: "1e3" {NO_NUMBER}'),
+    (',a\na,"3,5"\n', f'line 2, field 2: "3,5" {NO_NUMBER}'),
+    (",a\na, 1\n", f'line 2, field 2: " 1" {NO_NUMBER}'),
+    (",a\na,1.\n", f'line 2, field 2: "1." {NO_NUMBER}'),
+    (",a\na,.5\n", f'line 2, field 2: ".5" {NO_NUMBER}'),
+    (",a\na,--1\n", f'line 2, field 2: "--1" {NO_NUMBER}'),
+    (",a\na,NaN\n", f'line 2, field 2: "NaN" {NO_NUMBER}'),
+    (",a\na,\n", f'line 2, field 2: "" {NO_NUMBER}'),
+    (",a,b\na,0,0.1\nb,0,100000001\n", f'line 3, field 3: "100000001" {TOO_LARGE}'),
+    (",a\na,-1000000001\n", f'line 2, field 2: "-1000000001" {TOO_LARGE}'),
+    ("\xef\xbb\xbf,a,b\r\na,0,1\r\n\r\nb,x,0\r\n", f'line 4, field 2: "x" {NO_NUMBER}'),
+    (",a\na\xff,0\n", f"line 2 {NO_TEXT}"),
+    (f",a\na,0.{'0' * 100}1\n", TOO_FINE),
+]
+
+# The text of a list of places, and what is said of it.
+PLACES_HEAD = "the line `name,x,y`{0} and write a line for each place below it"
+PLACES = [
+    ("", f"the table is empty: begin with {PLACES_HEAD.format(',')}"),
+    ("name,x\nA,1\n", f"line 1: expected {PLACES_HEAD.format(': begin with it,')}"),
+    ("\nName,x,y\nA,1,2\n", f"line 2: expected {PLACES_HEAD.format(': begin with it,')}"),
+    ("name,x,y\n", "the table has no place: write a line for each below the first"),
+    ("name,x,y\n" + "".join(f"{name},1,2\n" for name in MANY), "the table has 257 places: at most 256 are read, so split the table"),
+    ("name,x,y\nA,1,2\n,3,4\n", f"line 3, field 1 is empty: {EMPTY_NAME}"),
+    ("name,x,y\nA,1,2\nA,3,4\n", f'line 3, field 1: the name "A" stands twice: {TWICE}'),
+    ("name,x,y\nA,1\n", f"line 2, field 3 is missing: {EACH_COLUMN}"),
+    ("name,x,y\nA,1,2,3\n", f'line 2, field 4: the cell "3" {EXTRA_CELL}'),
+    ("name,x,y\nA,1,y\n", f'line 2, field 3: "y" {NO_NUMBER}'),
+    ("name,x,y\nA,1,0.5\nB,1,200000000\n", f'line 3, field 3: "200000000" {TOO_LARGE}'),
+    ("name,x,y\nA,1,\xff\n", f"line 2 {NO_TEXT}"),
+    ("name,x,y\nA,0,0\nB,0,0.0000000001\n", COORDINATES),
+    ("name,x,y\nA,0,0\nB,0,100000\n", f'the places "A" and "B" {TOO_FAR}'),
+]
+
+# The text of a list of flows, and what is said of it.
+TRIPS_HEAD = "the line `from,to,amount`{0} and write a line for each pair below it"
+TRIPS = [
+    ("", f"the table is empty: begin with {TRIPS_HEAD.format(',')}"),
+    ("from;to;amount\n", f"line 1: expected {TRIPS_HEAD.format(': begin with it,')}"),
+    ("from,to,amount\n", "the list has no pair: write a line for each below the first, or name the departments in the plan"),
+    ("from,to,amount\n" + "".join(f"{name},{name},1\n" for name in MANY),
+     'line 258, field 1: the name "n256" is that of one department more than 256: at most so many are read, so split the list'),
+    ("from,to,amount\nA\n", f"line 2, field 2 is missing: {PAIR_FIELDS}"),
+    ("from,to,amount\nA,B\n", f"line 2, field 3 is missing: {PAIR_FIELDS}"),
+    ("from,to,amount\nA,B,3,5\n", f'line 2, field 4: the cell "5" {EXTRA_CELL}'),
+    ("from,to,amount\nA,,3\n", f"line 2, field 2 is empty: {EMPTY_NAME}"),
+    ("from,to,amount\nA,B,x\n", f'line 2, field 3: "x" {NO_NUMBER}'),
+    ("from,to,amount\nA,B,3\nB,A,4\nA,B,3\n",
+     'line 4, field 1: the pair from "A" to "B" stands twice: write one line with the sum of both'),
+    ("from,to,amount\nA,B,0.5\nB,A,500000001\n", f'line 3, field 3: "500000001" {TOO_LARGE}'),
+    ("from,to,amount\n\xff,B,1\n", f"line 2 {NO_TEXT}"),
+    (f"from,to,amount\nA,B,0.{'0' * 100}1\n", TOO_FINE),
+]
+
+# The text of a list of flows between given departments, A and B, and what is said of it.
+BETWEEN = [
+    ("from,to,amount\nA,A,1\nA,C,3\n",
+     'line 3, field 2: no department has the name "C": mend it, or add it to the departments of the plan'),
+]
+
+# A plan in which the table of each kind stands at X.
+PLANS = {
+    "flows": "flows = 'x.csv'\ndistances = 'd.csv'\n",
+    "distances": "flows = 'f.csv'\ndistances = 'x.csv'\n",
+    "places": "flows = 'f.csv'\nplaces = 'x.csv'\nmetric = 'squared'\n",
+    "trips": "trips = 'x.csv'\ndistances = 'd.csv'\n",
+    "between": "trips = 'x.csv'\ndepartments = ['A', 'B']\ndistances = 'd.csv'\n",
+}
+
+
+def cases():
+    yield "file f.csv:\n    ,Saw\n    Saw,1\nfile d.csv:\n    ,P,Q\n    P,0,1\n    Q,1,0"
+    tables = [("flows", row) for row in MATRICES] + [("distances", row) for row in MATRICES[:9:4]]
+    tables += [("places", row) for row in PLACES] + [("trips", row) for row in TRIPS] + [("between", row) for row in BETWEEN]
+    for number, (kind, (text, message)) in enumerate(tables):
+        yield f"case: {kind} {number}: {message}\nbytes plan.toml: {escaped(PLANS[kind])}\nbytes x.csv: {escaped(text)}"
+        yield f"run: qapplan solve plan.toml\nstderr: error: x.csv: {message}\nstatus: 1"
+
+
+def escaped(text):
+    return "".join(f"\\x{ord(c):02x}" if c in "\r\n" or ord(c) > 126 else c for c in text)
