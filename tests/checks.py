@@ -273,3 +273,15 @@ def solution(run, name, instance, optimum):
 def same(run, name, other):
     """Two texts are the same."""
     expect(run.text(name) == run.text(other), f"{name} is not {other}")
+
+
+def short_leaves(run, name, parts):
+    """The lines `short V node ..` of `qapverify` name the nodes of a list of parts, all of them and no other one. A node is a set of
+    placements: in what order they stand does not matter here."""
+    def nodes(texts):
+        numbers = [text.split() for text in texts]
+        return sorted(sorted(zip(map(int, words[::2]), map(int, words[1::2]))) for words in numbers)
+    lines = [re.fullmatch(r"short -?\d+ node((?: \d+ \d+)*)", line) for line in run.text(name).splitlines()]
+    expect(all(lines), f"{name} has another line")
+    found, listed = nodes([line[1] for line in lines]), nodes(run.text(parts).splitlines())
+    expect(found == listed, f"the nodes {found} are short, where {listed} are listed")
