@@ -89,7 +89,7 @@ def proved(run, instance, optimum=None, name="stdout"):
     """The answer states its permutation's cost, and a bound, with the optimum between them; without one all permutations are tried."""
     instance = instance_of(run.text(instance))
     permutation, cost, bound = stated_by(run.text(name), instance)
-    judge(cost_of(instance, permutation), cost, bound, least_of(instance) if optimum is None else int(optimum))
+    judge(cost_of(instance, permutation), cost, bound, least_of(instance) if optimum in (None, "least") else int(optimum))
 
 
 def optimal(run, instance, optimum, name="stdout"):
@@ -102,6 +102,12 @@ def optimal(run, instance, optimum, name="stdout"):
 def least(run, instance, name="stdout"):
     """The answer is optimal, by trying all permutations."""
     optimal(run, instance, least_of(instance_of(run.text(instance))), name)
+
+
+def shown(run, instance, name="stdout"):
+    """The verdict of `qapcheck optimal` or `qapverify` is that the least cost of all permutations is optimal."""
+    expected = f"optimal {least_of(instance_of(run.text(instance)))}\n"
+    expect(run.text(name) == expected, f"the verdict is {run.text(name)}, where {expected} is due")
 
 
 def least_is(run, instance, cost):
@@ -201,7 +207,7 @@ def plan(run, name, optimum=None, answer="stdout"):
     lines = run.text(answer).splitlines()
     arrangement = arranged(lines, plan)
     cost, bound = verdict_of(lines.pop(0), KEPT if plan.fixed else "", True)
-    judge(plan.cost(arrangement), cost, bound, plan_least(plan) if optimum is None else Fraction(optimum))
+    judge(plan.cost(arrangement), cost, bound, plan_least(plan) if optimum in (None, "least") else Fraction(optimum))
     pairs = [pair for pair in plan.pair_costs(arrangement).items() if pair[1] > 0]
     pairs = sorted(pairs, key=lambda pair: -pair[1])[:5]
     expected = ["dearest pairs:"] if pairs else []
@@ -210,8 +216,17 @@ def plan(run, name, optimum=None, answer="stdout"):
 
 
 def plan_least(plan):
-    arrangements = (dict(zip(plan.departments, places)) for places in itertools.permutations(plan.places, len(plan.departments)))
-    return min(plan.cost(a) for a in arrangements if all(a[d] == p for d, p in plan.fixed.items()))
+    """The least cost of all arrangements that keep what is fixed: for up to a few thousand."""
+    departments = [name for name in plan.departments if name not in plan.fixed]
+    places = [name for name in plan.places if name not in plan.fixed.values()]
+    return min(plan.cost({**plan.fixed, **dict(zip(departments, chosen))}) for chosen in itertools.permutations(places, len(departments)))
+
+
+def plan_least_found(run, name, answer="stdout"):
+    """The answer's arrangement has the least cost, whatever the answer says of it."""
+    plan = Plan(run, name)
+    cost, optimum = plan.cost(arranged(run.text(answer).splitlines(), plan)), plan_least(plan)
+    expect(cost == optimum, f"the arrangement costs {cost}, and the least is {optimum}")
 
 
 def decimal(number):
