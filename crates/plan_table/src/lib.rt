@@ -6,6 +6,7 @@ mod departments;
 mod error;
 mod head;
 mod names;
+mod numbers;
 mod places;
 mod records;
 mod rows;

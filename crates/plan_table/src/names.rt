@@ -1,12 +1,13 @@
 //! The names of a table's columns.
 
-ghost use Rattle.std.specs.Prelude.{◌≡◌, ◌∷◌, List, ℕ, length, map, IfOk, IsTrue, ◌↔◌};
+ghost use Rattle.std.specs.Prelude.{◌≡◌, ◌<◌, ◌^◌, ◌-◌, ◌∷◌, List, ℕ, length, map, IfOk, IsTrue, ◌↔◌};
 ghost use Rattle.std.specs.String.{string_bytes};
 ghost use Rattle.csv.specs.Records.{fields_of};
 ghost use Rattle.plan_table.specs.Names.{AreNames, HasName, IsNew};
 
-use crate::error::{Place, TableError};
+use crate::error::TableError;
 use crate::records::line_of;
+use crate::rows::place_of;
 use csv::StringRecord;
 use std::alloc::Global;
 
@@ -38,11 +39,7 @@ pub fn read_names(
         let Some(name) = head.get(column) else {
             unreachable!()
         };
-        let place = Place {
-            line: line_of(text, head),
-            field: column + 1,
-        };
-        let name = new_name(alloc, &names, name, place)?;
+        let name = new_name(alloc, &names, name, text, head, column)?;
         names.push(name).map_err(|_| TableError::OutOfMemory)?;
     }
     Ok(names)
@@ -64,31 +61,35 @@ pub fn read_first_names(
     }
     let mut names = Vec::new(alloc);
     for row in rows {
-        let place = Place {
-            line: line_of(text, row),
-            field: 1,
-        };
-        let name = new_name(alloc, &names, row.get(0).unwrap_or(""), place)?;
+        let name = new_name(alloc, &names, row.get(0).unwrap_or(""), text, row, 0)?;
         names.push(name).map_err(|_| TableError::OutOfMemory)?;
     }
     Ok(names)
 }
 
-/// A name that is not empty and that none of the others is.
+/// A name that is not empty and that none of the others is; it stands in this field of a row, counted from 0.
 fn new_name(
     alloc: Global,
     others: &[String],
     name: &str,
-    place: Place,
+    text: &[u8],
+    row: &StringRecord,
+    field: usize,
 ) -> Result<String, TableError>
+    requires { field < 2 ^ 64 - 1 }
     ensures { IfOk result (λ own. (string_bytes own ≡ name.now) × IsNew (map string_bytes others.now) name.now) }
 {
     if name.is_empty() {
-        return Err(TableError::EmptyName { place });
+        return Err(TableError::EmptyName {
+            place: place_of(text, row, field),
+        });
     }
     let own = String::from_str(alloc, name)?;
     if has_name(others, name) {
-        return Err(TableError::NameTwice { place, name: own });
+        return Err(TableError::NameTwice {
+            place: place_of(text, row, field),
+            name: own,
+        });
     }
     Ok(own)
 }

@@ -138,20 +138,18 @@ pub fn read_cell(
     requires { column < max_names }
     ensures { IfOk result (λ d. (word : List ℕ) × (field_at (fields_of record.now) (column + 1) ≡ Some word) × (decimal_of word ≡ Some d)) }
 {
-    let place = place_of(text, record, column + 1);
     let Some(word) = record.get(column + 1) else {
-        return Err(TableError::MissingCell { place });
+        return Err(TableError::MissingCell {
+            place: place_of(text, record, column + 1),
+        });
     };
     match parse_decimal(word.as_bytes()) {
         Ok(decimal) => Ok(decimal),
         Err(NumberFault::NotANumber) => Err(TableError::NotANumber {
-            place,
+            place: place_of(text, record, column + 1),
             word: String::from_str(alloc, word)?,
         }),
-        Err(NumberFault::TooLarge) => Err(TableError::TooLarge {
-            place,
-            word: String::from_str(alloc, word)?,
-        }),
+        Err(NumberFault::TooLarge) => Err(too_large_in(alloc, text, record, column + 1)),
     }
 }
 
@@ -183,7 +181,8 @@ pub fn too_large_in(alloc: Global, text: &[u8], record: &StringRecord, field: us
     }
 }
 
-/// The place of a field of a record, which is given by its number from 0.
+/// The place of a field of a record, which is given by its number from 0. It counts the lines from the start of the text, so it is called for
+/// a refusal alone.
 pub fn place_of(text: &[u8], record: &StringRecord, field: usize) -> Place
     requires { field < 2 ^ 64 - 1 }
 {

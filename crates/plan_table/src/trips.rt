@@ -6,13 +6,15 @@ ghost use Rattle.csv.specs.Records.{fields_of, field_at};
 ghost use Rattle.plan_table.specs.Decimal.{max_entry};
 ghost use Rattle.plan_table.specs.Listing.{AreInside, ArePlaced, AreTripsOf, IsTripOf, cell_of as cell_number, filled as filled_with};
 ghost use Rattle.plan_table.specs.Names.{AreNames, max_names};
+ghost use Rattle.plan_table.specs.Numbers.{AreNumbers};
 ghost use Rattle.plan_table.specs.Shape.{IsNamedSquare};
 ghost use Rattle.plan_table.specs.Trips.{AppearInOrder, IsTripsMatrix, IsTripsText, name_at, trips_head, words_of};
 
 use crate::decimal::Decimal;
-use crate::departments::{appearing_names, find_name};
+use crate::departments::appearing_names;
 use crate::error::TableError;
 use crate::head::check_head;
+use crate::numbers::{NameNumbers, number_of, numbers_of};
 use crate::records::read_records;
 use crate::rows::{check_end, place_of, read_cell, too_large_in};
 use crate::scale::{ScaleError, least_scale, scaled_entries};
@@ -115,12 +117,12 @@ fn read_rows_of_trips(
     rows: &[StringRecord],
     names: &[String],
 ) -> Result<Vec<Trip>, TableError>
-    requires { length names.now ≤ max_names }
     ensures { IfOk result (λ v. AreTripsOf (map string_bytes names.now) (map fields_of rows.now) v.items) }
 {
+    let numbers = numbers_of(alloc, names)?;
     let mut trips = Vec::new(alloc);
     for row in rows {
-        let trip = read_trip(alloc, text, row, names)?;
+        let trip = read_trip(alloc, text, row, names, &numbers)?;
         trips.push(trip).map_err(|_| TableError::OutOfMemory)?;
     }
     Ok(trips)
@@ -132,15 +134,16 @@ fn read_trip(
     text: &[u8],
     row: &StringRecord,
     names: &[String],
+    numbers: &NameNumbers,
 ) -> Result<Trip, TableError>
-    requires { length names.now ≤ max_names }
+    requires { AreNumbers numbers.now (map string_bytes names.now) }
     ensures { IfOk result (IsTripOf (map string_bytes names.now) (fields_of row.now)) }
 {
     check_start(text, row)?;
     check_end(alloc, text, row, 2)?;
     Ok(Trip {
-        from: department_in(alloc, text, row, 0, names)?,
-        to: department_in(alloc, text, row, 1, names)?,
+        from: department_in(alloc, text, row, 0, names, numbers)?,
+        to: department_in(alloc, text, row, 1, names, numbers)?,
         amount: read_cell(alloc, text, row, 1)?,
     })
 }
@@ -164,18 +167,21 @@ fn department_in(
     row: &StringRecord,
     field: usize,
     names: &[String],
+    numbers: &NameNumbers,
 ) -> Result<usize, TableError>
-    requires { field < 2 ^ 64 - 1 }
+    requires field { field < 2 ^ 64 - 1 }
+    requires numbered { AreNumbers numbers.now (map string_bytes names.now) }
     ensures { IfOk result (λ i. (i < length names.now) × (field_at (fields_of row.now) field ≡ Some (name_at (map string_bytes names.now) i))) }
 {
-    let place = place_of(text, row, field);
     let Some(name) = row.get(field) else {
-        return Err(TableError::MissingField { place });
+        return Err(TableError::MissingField {
+            place: place_of(text, row, field),
+        });
     };
-    match find_name(names, name) {
+    match number_of(numbers, name) {
         Some(i) => Ok(i),
         None => Err(TableError::UnknownName {
-            place,
+            place: place_of(text, row, field),
             name: String::from_str(alloc, name)?,
         }),
     }

@@ -19,6 +19,7 @@ loop-row-preserved c =
     record {
       few = c.in_ok-add_name-2.ensures.few;
       different = c.in_ok-add_name-2.ensures.different;
+      numbered = c.in_ok-add_name-2.ensures.numbered;
       order =
           subst (λ l. AppearInOrder (words_of l) (map string_bytes c.add_name-in-loop-row.new.names.items)) (sym more)
           (AppearInOrder-row (take i rows) (fields_of row) from to _ _ _ c.loop-row.invariant.order one two first second);
