@@ -2,14 +2,16 @@
 use Rattle.std.specs.Prelude.{◌≡◌, ℕ, List, [], ◌∷◌, ◌++◌, length, map, Some, ℤ}
 use Rattle.csv.specs.Reading.{AreRecords, default_config, strip_bom}
 use Rattle.csv.specs.declared.parser.State.TheVariants as state
+use Rattle.plan_table.specs.CsvText.{IsCsv}
 use Rattle.plan_table.specs.Decimal.{decimal_of}
 use Rattle.plan_table.specs.Names.{AreNames}
 use Rattle.plan_table.specs.Scale.{AreScaled, IsLeastScale}
 use Rattle.plan_table.specs.declared.decimal.Decimal.{Decimal}
 
--- these are all records of the text, behind the byte order mark that it may begin with
-abbrev pub AreRecordsOf : List ℕ → List (List (List ℕ)) → Type 0
-AreRecordsOf text records = AreRecords default_config state.StartRecord (strip_bom text) records
+-- the text is CSV, and these are all its records, behind the byte order mark that it may begin with
+pub record AreRecordsOf (text : List ℕ) (records : List (List (List ℕ))) : Type 0 where
+  pub written : IsCsv (strip_bom text)
+  pub read : AreRecords default_config state.StartRecord (strip_bom text) records
 
 -- a record is a name and so many cells, which spell these numbers
 pub record IsRow (count : ℕ) (name : List ℕ) (fields : List (List ℕ)) (decimals : List Decimal) : Type 0 where

@@ -17,6 +17,31 @@ impl fmt::Display for Place {
     }
 }
 
+/// Why a field isn't spelled as CSV is.
+#[derive(Clone, Copy, Debug, PartialEq, Eq, Error)]
+pub enum Misspelling {
+    /// Something follows the quote that ends a field.
+    #[error("text follows the closing quote: write a quote that belongs to the field twice, or take the quotes away")]
+    AfterQuote,
+    /// A field has a quote, and doesn't begin with one.
+    #[error("a quote stands inside a field without quotes: put the whole field in quotes, and write each quote inside twice")]
+    QuoteInside,
+    /// A carriage return ends a field, and no line feed follows.
+    #[error("a carriage return without a line feed follows: end each line in LF or CRLF")]
+    LoneReturn,
+    /// The text ends within a field in quotes.
+    #[error("the quote that opens this field is never closed: close it, or save the file again if its end is missing")]
+    OpenQuote,
+}
+
+/// What is wrong with a text that isn't CSV, and where: the line in which the field begins, and its number in the record.
+#[derive(Clone, Copy, Debug, PartialEq, Eq, Error)]
+#[error("{place}: {fault}")]
+pub struct CsvFault {
+    pub place: Place,
+    pub fault: Misspelling,
+}
+
 /// Why a text is refused.
 #[derive(Debug, Drop, Error)]
 pub enum TableError {
@@ -134,6 +159,9 @@ pub enum TableError {
         place: Place,
         word: String,
     },
+    /// The text is no CSV.
+    #[error("{0}")]
+    NotCsv(#[from] CsvFault),
     /// A record is no UTF-8.
     #[error("line {line} is no UTF-8: save the table as \"CSV UTF-8\"")]
     NotText {

@@ -1,6 +1,7 @@
 //! Tables of planners, a matrix with names, read exactly.
 #![tactic(auto)]
 
+mod csv_text;
 mod decimal;
 mod departments;
 mod error;
@@ -18,7 +19,7 @@ mod trips;
 
 pub use decimal::{Decimal, MAX_ENTRY, NumberFault, decimal_law, parse_decimal};
 pub use departments::find_name;
-pub use error::{Place, TableError};
+pub use error::{CsvFault, Misspelling, Place, TableError};
 pub use names::MAX_NAMES;
 pub use places::{PlaceTable, Point, read_places};
 pub use spelled::spelled_number;

@@ -4,6 +4,7 @@ ghost use Rattle.std.specs.Prelude.{◌≡◌, map, List, ℕ, IfOk};
 ghost use Rattle.csv.specs.Records.{fields_of};
 ghost use Rattle.plan_table.specs.Table.{AreRecordsOf};
 
+use crate::csv_text::check_csv;
 use crate::error::TableError;
 use csv::{Error, ErrorKind, Position, ReaderBuilder, StringRecord};
 use std::alloc::Global;
@@ -12,6 +13,7 @@ use std::alloc::Global;
 pub fn read_records(alloc: Global, text: &[u8]) -> Result<Vec<StringRecord>, TableError>
     ensures { IfOk result (λ v. AreRecordsOf text.now (map fields_of v.items)) }
 {
+    check_csv(text)?;
     let reader = ReaderBuilder::new()
         .has_headers(false)
         .flexible(true)

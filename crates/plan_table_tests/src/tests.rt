@@ -53,7 +53,7 @@ fn reads_large_and_small_numbers(rt: HostRuntime) -> Result<(), Fail> {
 /// A text, and what its refusal says.
 type Refused = (&'static [u8], &'static str);
 
-const REFUSED: [Refused; 19] = [
+const REFUSED: [Refused; 26] = [
     (
         b"",
         "the table is empty: begin with a line of an empty field and the names, as `,Saw,Lathe`",
@@ -129,6 +129,34 @@ const REFUSED: [Refused; 19] = [
     (
         b",a\na\xff,0\n",
         "line 2 is no UTF-8: save the table as \"CSV UTF-8\"",
+    ),
+    (
+        b",\"A\"x\n",
+        "line 1, field 2: text follows the closing quote: write a quote that belongs to the field twice, or take the quotes away",
+    ),
+    (
+        b",A\nA\"x,0\n",
+        "line 2, field 1: a quote stands inside a field without quotes: put the whole field in quotes, and write each quote inside twice",
+    ),
+    (
+        b",A\rA,0\r",
+        "line 1, field 2: a carriage return without a line feed follows: end each line in LF or CRLF",
+    ),
+    (
+        b",\"A\"\r\nA,0\r",
+        "line 2, field 2: a carriage return without a line feed follows: end each line in LF or CRLF",
+    ),
+    (
+        b"\xef\xbb\xbf,A\nA,\"0\n",
+        "line 2, field 2: the quote that opens this field is never closed: close it, or save the file again if its end is missing",
+    ),
+    (
+        b"\"a\nb\",A,\"B\"\"\n",
+        "line 2, field 3: the quote that opens this field is never closed: close it, or save the file again if its end is missing",
+    ),
+    (
+        b"\"a\r\nb\"\"\n\",A\n\"A\" ,0\n",
+        "line 4, field 1: text follows the closing quote: write a quote that belongs to the field twice, or take the quotes away",
     ),
 ];
 

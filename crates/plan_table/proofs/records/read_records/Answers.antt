@@ -39,4 +39,7 @@ pub returns : goal.returns
 returns c =
     let so_far = c.loop-record.invariant in
     let step = rw c.in-None.is at ((c.next.ensures.steps so_far.2 so_far.0).0 so_far.1) in
-    (c.loop-record.record-iterator.rdr.state, so_far.4, so_far.6, rows-end (λ (s : Bor (List ℕ)). Some s.now) c.loop-record.record-iterator.rdr c.next.new.self.rdr [] default_config so_far.4 so_far.3 so_far.5 step)
+    record {
+      written = c.in_ok-check_csv.ensures.exactly;
+      read = (c.loop-record.record-iterator.rdr.state, so_far.4, so_far.6, rows-end (λ (s : Bor (List ℕ)). Some s.now) c.loop-record.record-iterator.rdr c.next.new.self.rdr [] default_config so_far.4 so_far.3 so_far.5 step);
+    }

@@ -1,0 +1,102 @@
+-- What is wrong first with a text that is not CSV, and where: the line and the number of the field at fault.
+use Rattle.std.specs.Prelude.{ℕ, ◌+◌, ◌-◌, ◌^◌, ◌==◌, min, List, [], ◌∷◌, Result, Ok, Err, if◌then◌else◌}
+use Rattle.plan_table.specs.Marks.{mark_of}
+use Rattle.plan_table.specs.declared.csv_text.Mark.{Mark}
+use Rattle.plan_table.specs.declared.csv_text.Mark.TheVariants.{Quote, Comma, Feed, Return, Other}
+use Rattle.plan_table.specs.declared.csv_text.Stand.{Stand}
+use Rattle.plan_table.specs.declared.csv_text.Stand.TheVariants.{Start, Bare, Quoted, Closed, Returned}
+use Rattle.plan_table.specs.declared.csv_text.Reached.{Reached}
+use Rattle.plan_table.specs.declared.error.Place.{Place}
+use Rattle.plan_table.specs.declared.error.CsvFault.{CsvFault}
+use Rattle.plan_table.specs.declared.error.Misspelling.{Misspelling}
+use Rattle.plan_table.specs.declared.error.Misspelling.TheVariants.{AfterQuote, QuoteInside, LoneReturn, OpenQuote}
+
+-- where a text stands behind a byte more, or what is wrong with the byte
+abbrev pub next_stand : Stand → Mark → Result Stand Misspelling
+next_stand Start Quote = Ok Quoted
+next_stand Start Comma = Ok Start
+next_stand Start Feed = Ok Start
+next_stand Start Return = Ok Returned
+next_stand Start Other = Ok Bare
+next_stand Bare Quote = Err QuoteInside
+next_stand Bare Comma = Ok Start
+next_stand Bare Feed = Ok Start
+next_stand Bare Return = Ok Returned
+next_stand Bare Other = Ok Bare
+next_stand Quoted Quote = Ok Closed
+next_stand Quoted Comma = Ok Quoted
+next_stand Quoted Feed = Ok Quoted
+next_stand Quoted Return = Ok Quoted
+next_stand Quoted Other = Ok Quoted
+next_stand Closed Quote = Ok Quoted
+next_stand Closed Comma = Ok Start
+next_stand Closed Feed = Ok Start
+next_stand Closed Return = Ok Returned
+next_stand Closed Other = Err AfterQuote
+next_stand Returned Quote = Err LoneReturn
+next_stand Returned Comma = Err LoneReturn
+next_stand Returned Feed = Ok Start
+next_stand Returned Return = Err LoneReturn
+next_stand Returned Other = Err LoneReturn
+
+-- what is wrong where a text ends there
+abbrev pub end_stand : Stand → Result (Unit {0}) Misspelling
+end_stand Quoted = Err OpenQuote
+end_stand Returned = Err LoneReturn
+end_stand Start = Ok tt
+end_stand Bare = Ok tt
+end_stand Closed = Ok tt
+
+-- one more, as far as a number of 64 bits goes
+abbrev pub next_number : ℕ → ℕ
+next_number n = min (n + 1) (2 ^ 64 - 1)
+
+-- a field that begins behind a comma is the next one, and another one the first
+abbrev pub first_place : Place → ℕ → ℕ → Place
+first_place place byte line = record { line = line; field = if byte == 44 then next_number place.field else 1 }
+
+-- where the field begins that is reached with a byte
+abbrev pub place_after : Place → ℕ → Stand → ℕ → Place
+place_after place byte Start line = first_place place byte line
+place_after place byte Bare line = place
+place_after place byte Quoted line = place
+place_after place byte Closed line = place
+place_after place byte Returned line = place
+
+abbrev pub line_after : ℕ → ℕ → ℕ
+line_after line byte = if byte == 10 then next_number line else line
+
+abbrev pub moved : Reached → ℕ → Stand → Reached
+moved reached byte stand = record {
+  stand = stand;
+  line = line_after reached.line byte;
+  place = place_after reached.place byte stand (line_after reached.line byte);
+}
+
+-- a fault of the field that has been reached
+abbrev pub at_place : {A B : Type 0} → Place → (A → B) → Result A Misspelling → Result B CsvFault
+at_place place f (Ok a) = Ok (f a)
+at_place place f (Err fault) = Err (record { place = place; fault = fault })
+
+abbrev pub reached_after : Reached → ℕ → Result Reached CsvFault
+reached_after reached byte = at_place reached.place (moved reached byte) (next_stand reached.stand (mark_of byte))
+
+abbrev pub check_end : Reached → Result (Unit {0}) CsvFault
+check_end reached = at_place reached.place (λ u. u) (end_stand reached.stand)
+
+abbrev pub and_then : {A B E : Type 0} → Result A E → (A → Result B E) → Result B E
+and_then (Ok a) f = f a
+and_then (Err e) f = Err e
+
+-- the rest of a text, from what has been reached
+abbrev pub scan : Reached → List ℕ → Result (Unit {0}) CsvFault
+scan reached [] = check_end reached
+scan reached (b ∷ bs) = and_then (reached_after reached b) (λ next. scan next bs)
+
+-- at a text's front
+abbrev pub begun : Reached
+begun = record { stand = Start; line = 1; place = record { line = 1; field = 1 } }
+
+-- what is wrong first with a text
+abbrev pub first_fault : List ℕ → Result (Unit {0}) CsvFault
+first_fault text = scan begun text

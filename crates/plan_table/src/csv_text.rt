@@ -1,0 +1,168 @@
+//! Whether a text is spelled as CSV is (RFC 4180), where a line may also end in a line feed alone.
+
+ghost use Rattle.std.specs.Prelude.{◌≡◌, MatchResult};
+ghost use Rattle.csv.specs.Reading.{strip_bom};
+ghost use Rattle.plan_table.specs.CsvText.{IsCsv};
+ghost use Rattle.plan_table.specs.Marks.{mark_of};
+ghost use Rattle.plan_table.specs.Scan.{check_end, first_fault, moved, next_stand, place_after, reached_after};
+
+use crate::error::{CsvFault, Misspelling, Place};
+
+/// What a byte is to CSV.
+#[derive(Clone, Copy)]
+pub enum Mark {
+    Quote,
+    Comma,
+    Feed,
+    Return,
+    Other,
+}
+
+/// Where in a field a text stands.
+#[derive(Clone, Copy)]
+pub enum Stand {
+    /// At the beginning of a field.
+    Start,
+    /// In a field without quotes.
+    Bare,
+    /// In a field in quotes.
+    Quoted,
+    /// Behind a quote in such a field, which ends it unless another one follows.
+    Closed,
+    /// Behind a carriage return that ends a field.
+    Returned,
+}
+
+/// How far a text has been read.
+#[derive(Clone, Copy)]
+pub struct Reached {
+    pub stand: Stand,
+    /// The line that has been reached.
+    pub line: u64,
+    /// Where the field begins that has been reached.
+    pub place: Place,
+}
+
+/// Checks that a text is CSV, behind the byte order mark that it may begin with; else says what is wrong first.
+pub fn check_csv(text: &[u8]) -> Result<(), CsvFault>
+    ensures first { result ≡ first_fault (strip_bom text.now) }
+    ensures exactly { MatchResult result (λ _. IsCsv (strip_bom text.now)) (λ _. IsCsv (strip_bom text.now) → ⊥) }
+{
+    check(without_bom(text))
+}
+
+/// A text without the byte order mark that it may begin with.
+fn without_bom(text: &[u8]) -> &[u8]
+    ensures { result.now ≡ strip_bom text.now }
+{
+    match text.strip_prefix(&[0xEF, 0xBB, 0xBF]) {
+        Some(rest) => rest,
+        None => text,
+    }
+}
+
+/// Checks that a text is CSV.
+fn check(text: &[u8]) -> Result<(), CsvFault>
+    ensures { result ≡ first_fault text.now }
+{
+    let mut reached = Reached {
+        stand: Stand::Start,
+        line: 1,
+        place: Place { line: 1, field: 1 },
+    };
+    for byte in text {
+        reached = after(reached, *byte)?;
+    }
+    check_end(reached)
+}
+
+/// What is reached with a byte more.
+fn after(reached: Reached, byte: u8) -> Result<Reached, CsvFault>
+    ensures { result ≡ reached_after reached byte }
+{
+    match next_stand(reached.stand, mark_of(byte)) {
+        Ok(stand) => Ok(moved(reached, byte, stand)),
+        Err(fault) => Err(CsvFault {
+            place: reached.place,
+            fault,
+        }),
+    }
+}
+
+/// The line and the field that are reached with a byte, where it leads there.
+fn moved(reached: Reached, byte: u8, stand: Stand) -> Reached
+    ensures { result ≡ moved reached byte stand }
+{
+    let line = if byte == b'\n' {
+        reached.line.saturating_add(1)
+    } else {
+        reached.line
+    };
+    Reached {
+        stand,
+        line,
+        place: place_after(reached.place, byte, stand, line),
+    }
+}
+
+/// Where the field begins that is reached with a byte: where it stands at a field's start, that is a new one.
+fn place_after(place: Place, byte: u8, stand: Stand, line: u64) -> Place
+    ensures { result ≡ place_after place byte stand line }
+{
+    match stand {
+        Stand::Start if byte == b',' => Place {
+            line,
+            field: place.field.saturating_add(1),
+        },
+        Stand::Start => Place { line, field: 1 },
+        _ => place,
+    }
+}
+
+/// What a byte is to CSV.
+fn mark_of(byte: u8) -> Mark
+    ensures { result ≡ mark_of byte }
+{
+    match byte {
+        b'"' => Mark::Quote,
+        b',' => Mark::Comma,
+        b'\n' => Mark::Feed,
+        b'\r' => Mark::Return,
+        _ => Mark::Other,
+    }
+}
+
+/// Where the text stands behind a byte more, or what is wrong with that byte.
+fn next_stand(stand: Stand, mark: Mark) -> Result<Stand, Misspelling>
+    ensures { result ≡ next_stand stand mark }
+{
+    match (stand, mark) {
+        (Stand::Start, Mark::Quote) => Ok(Stand::Quoted),
+        (Stand::Start, Mark::Other) => Ok(Stand::Bare),
+        (Stand::Bare, Mark::Quote) => Err(Misspelling::QuoteInside),
+        (Stand::Bare, Mark::Other) => Ok(Stand::Bare),
+        (Stand::Quoted, Mark::Quote) => Ok(Stand::Closed),
+        (Stand::Quoted, _) => Ok(Stand::Quoted),
+        (Stand::Closed, Mark::Quote) => Ok(Stand::Quoted),
+        (Stand::Closed, Mark::Other) => Err(Misspelling::AfterQuote),
+        (Stand::Returned, Mark::Feed) => Ok(Stand::Start),
+        (Stand::Returned, _) => Err(Misspelling::LoneReturn),
+        (_, Mark::Return) => Ok(Stand::Returned),
+        (_, _) => Ok(Stand::Start),
+    }
+}
+
+/// Checks that a text may end where it stands.
+fn check_end(reached: Reached) -> Result<(), CsvFault>
+    ensures { result ≡ check_end reached }
+{
+    let fault = match reached.stand {
+        Stand::Quoted => Misspelling::OpenQuote,
+        Stand::Returned => Misspelling::LoneReturn,
+        _ => return Ok(()),
+    };
+    Err(CsvFault {
+        place: reached.place,
+        fault,
+    })
+}
