@@ -4,11 +4,13 @@ use Rattle.std.proofs.lemmas.Bool.{cases_lt}
 use Rattle.std.proofs.lemmas.List.{get_or_at, get_or_append_left, map-append}
 use Rattle.csv.specs.Records.{field_at}
 use Rattle.plan_table.proofs.Fields.{take_field}
+use Rattle.plan_table.specs.Control.{HasNoControl}
 use Rattle.plan_table.specs.Names.{AreDifferent, IsNew}
 
 pub AreDifferent-none : AreDifferent []
 AreDifferent-none = record {
   some = λ k below. absurd (omega arith);
+  visible = λ k below. absurd (omega arith);
   once = λ j k before below. absurd (omega arith);
 }
 
@@ -22,6 +24,13 @@ AreDifferent-more names name different new =
             | inr past ↦
                 let here : length names ≡ k = omega arith in
                 λ e. new.some (sym (get_or_at names name [] [] k here) ∙ e)
+          ];
+      visible = λ k below.
+          elim (cases_lt k (length names)) [
+            | inl before ↦ subst HasNoControl (sym (get_or_append_left names (name ∷ []) [] k before)) (different.visible k before)
+            | inr past ↦
+                let here : length names ≡ k = omega arith in
+                subst HasNoControl (sym (get_or_at names name [] [] k here)) new.visible
           ];
       once = λ j k before below.
           elim (cases_lt k (length names)) [

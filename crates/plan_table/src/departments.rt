@@ -9,7 +9,7 @@ ghost use Rattle.plan_table.specs.Numbers.{AreNumbers};
 ghost use Rattle.plan_table.specs.Trips.{AppearInOrder, name_at, words_of};
 
 use crate::error::TableError;
-use crate::names::MAX_NAMES;
+use crate::names::{MAX_NAMES, check_name_text};
 use crate::numbers::{NameNumbers, add_number, has_number};
 use crate::rows::place_of;
 use csv::StringRecord;
@@ -64,11 +64,7 @@ fn add_name(
     if has_number(numbers, name) {
         return Ok(());
     }
-    if name.is_empty() {
-        return Err(TableError::EmptyName {
-            place: place_of(text, row, field),
-        });
-    }
+    check_name_text(text, row, field, name)?;
     let own = String::from_str(alloc, name)?;
     if names.len() == MAX_NAMES {
         return Err(TableError::TooManyDepartments {

@@ -112,6 +112,12 @@ pub enum TableError {
     EmptyName {
         place: Place,
     },
+    /// A name has a control character.
+    #[error("{place}: the name has the control character U+{code:04X}: write names without line breaks, tabs and other control characters")]
+    ControlInName {
+        place: Place,
+        code: u32,
+    },
     /// A name stands twice.
     #[error("{place}: the name \"{name}\" stands twice: give each a name of its own")]
     NameTwice {

@@ -1,6 +1,7 @@
 //! Tables of planners, a matrix with names, read exactly.
 #![tactic(auto)]
 
+mod control;
 mod csv_text;
 mod decimal;
 mod departments;
@@ -17,6 +18,7 @@ mod spelling;
 mod table;
 mod trips;
 
+pub use control::{first_control, shown};
 pub use decimal::{Decimal, MAX_ENTRY, NumberFault, decimal_law, parse_decimal};
 pub use departments::find_name;
 pub use error::{CsvFault, Misspelling, Place, TableError};

@@ -1,10 +1,12 @@
 //! The names of a table's columns.
 
-ghost use Rattle.std.specs.Prelude.{◌≡◌, ◌<◌, ◌^◌, ◌-◌, ◌∷◌, List, ℕ, length, map, IfOk, IsTrue, ◌↔◌};
+ghost use Rattle.std.specs.Prelude.{◌≡◌, ◌≢◌, ◌<◌, ◌^◌, ◌-◌, [], ◌∷◌, List, ℕ, length, map, IfOk, IsTrue, OnOk, ◌↔◌};
 ghost use Rattle.std.specs.String.{string_bytes};
 ghost use Rattle.csv.specs.Records.{fields_of};
+ghost use Rattle.plan_table.specs.Control.{HasNoControl};
 ghost use Rattle.plan_table.specs.Names.{AreNames, HasName, IsNew};
 
+use crate::control::first_control;
 use crate::error::TableError;
 use crate::records::line_of;
 use crate::rows::place_of;
@@ -67,7 +69,7 @@ pub fn read_first_names(
     Ok(names)
 }
 
-/// A name that is not empty and that none of the others is; it stands in this field of a row, counted from 0.
+/// A name that is not empty, has no control character and is none of the others; it stands in this field of a row, counted from 0.
 fn new_name(
     alloc: Global,
     others: &[String],
@@ -79,11 +81,7 @@ fn new_name(
     requires { field < 2 ^ 64 - 1 }
     ensures { IfOk result (λ own. (string_bytes own ≡ name.now) × IsNew (map string_bytes others.now) name.now) }
 {
-    if name.is_empty() {
-        return Err(TableError::EmptyName {
-            place: place_of(text, row, field),
-        });
-    }
+    check_name_text(text, row, field, name)?;
     let own = String::from_str(alloc, name)?;
     if has_name(others, name) {
         return Err(TableError::NameTwice {
@@ -92,6 +90,31 @@ fn new_name(
         });
     }
     Ok(own)
+}
+
+/// Checks that a name, which stands in this field of a row, is not empty and has no control character.
+pub fn check_name_text(
+    text: &[u8],
+    row: &StringRecord,
+    field: usize,
+    name: &str,
+) -> Result<(), TableError>
+    requires { field < 2 ^ 64 - 1 }
+    ensures some { OnOk result (name.now ≢ []) }
+    ensures visible { OnOk result (HasNoControl name.now) }
+{
+    if name.is_empty() {
+        return Err(TableError::EmptyName {
+            place: place_of(text, row, field),
+        });
+    }
+    match first_control(name) {
+        Some(control) => Err(TableError::ControlInName {
+            place: place_of(text, row, field),
+            code: control as u32,
+        }),
+        None => Ok(()),
+    }
 }
 
 /// Whether one of the names is this one.

@@ -8,6 +8,7 @@ ghost use Rattle.plan_table.specs.Names.{max_names};
 ghost use Rattle.plan_table.specs.Table.{AreRows, IsRow};
 ghost use Rattle.plan_table.specs.declared.decimal.Decimal.{Decimal};
 
+use crate::control::shown;
 use crate::decimal::{Decimal, NumberFault, parse_decimal};
 use crate::error::{Place, TableError};
 use crate::records::line_of;
@@ -49,7 +50,7 @@ pub fn read_rows(
 }
 
 fn extra_row(alloc: Global, text: &[u8], record: &StringRecord) -> TableError {
-    match String::from_str(alloc, record.get(0).unwrap_or("")) {
+    match shown(alloc, record.get(0).unwrap_or("")) {
         Ok(found) => TableError::ExtraRow {
             place: place_of(text, record, 0),
             found,
@@ -95,7 +96,7 @@ fn check_name(
     Err(TableError::OtherName {
         place: place_of(text, record, 0),
         expected: String::from_str(alloc, name)?,
-        found: String::from_str(alloc, record.get(0).unwrap_or(""))?,
+        found: shown(alloc, record.get(0).unwrap_or(""))?,
     })
 }
 
@@ -124,7 +125,7 @@ pub fn check_end(
     };
     Err(TableError::ExtraCell {
         place: place_of(text, record, count + 1),
-        word: String::from_str(alloc, word)?,
+        word: shown(alloc, word)?,
     })
 }
 
@@ -147,7 +148,7 @@ pub fn read_cell(
         Ok(decimal) => Ok(decimal),
         Err(NumberFault::NotANumber) => Err(TableError::NotANumber {
             place: place_of(text, record, column + 1),
-            word: String::from_str(alloc, word)?,
+            word: shown(alloc, word)?,
         }),
         Err(NumberFault::TooLarge) => Err(too_large_in(alloc, text, record, column + 1)),
     }
@@ -172,7 +173,7 @@ pub fn too_large(
 pub fn too_large_in(alloc: Global, text: &[u8], record: &StringRecord, field: usize) -> TableError
     requires { field < 2 ^ 64 - 1 }
 {
-    match String::from_str(alloc, record.get(field).unwrap_or("")) {
+    match shown(alloc, record.get(field).unwrap_or("")) {
         Ok(word) => TableError::TooLarge {
             place: place_of(text, record, field),
             word,

@@ -10,6 +10,7 @@ ghost use Rattle.plan_table.specs.Numbers.{AreNumbers};
 ghost use Rattle.plan_table.specs.Shape.{IsNamedSquare};
 ghost use Rattle.plan_table.specs.Trips.{AppearInOrder, IsTripsMatrix, IsTripsText, name_at, trips_head, words_of};
 
+use crate::control::shown;
 use crate::decimal::Decimal;
 use crate::departments::appearing_names;
 use crate::error::TableError;
@@ -182,7 +183,7 @@ fn department_in(
         Some(i) => Ok(i),
         None => Err(TableError::UnknownName {
             place: place_of(text, row, field),
-            name: String::from_str(alloc, name)?,
+            name: shown(alloc, name)?,
         }),
     }
 }

@@ -53,7 +53,7 @@ fn reads_large_and_small_numbers(rt: HostRuntime) -> Result<(), Fail> {
 /// A text, and what its refusal says.
 type Refused = (&'static [u8], &'static str);
 
-const REFUSED: [Refused; 26] = [
+const REFUSED: [Refused; 30] = [
     (
         b"",
         "the table is empty: begin with a line of an empty field and the names, as `,Saw,Lathe`",
@@ -155,6 +155,22 @@ const REFUSED: [Refused; 26] = [
         "line 2, field 3: the quote that opens this field is never closed: close it, or save the file again if its end is missing",
     ),
     (
+        b",A,\"B\ncost 0, optimal, proved\"\n",
+        "line 1, field 3: the name has the control character U+000A: write names without line breaks, tabs and other control characters",
+    ),
+    (
+        b",A\xc2\x9b\n",
+        "line 1, field 2: the name has the control character U+009B: write names without line breaks, tabs and other control characters",
+    ),
+    (
+        b",A\nA,\x1b[2J\n",
+        "line 2, field 2: \"\\u{1b}[2J\" is no number: write digits and at most one point, as `12` or `-0.25`, with no blanks, exponent or comma",
+    ),
+    (
+        b",A\nA\x7f,0\n",
+        "line 2, field 1: expected the name \"A\" and found \"A\\u{7f}\": the rows have the columns' names, in their order",
+    ),
+    (
         b"\"a\r\nb\"\"\n\",A\n\"A\" ,0\n",
         "line 4, field 1: text follows the closing quote: write a quote that belongs to the field twice, or take the quotes away",
     ),
@@ -195,7 +211,7 @@ fn reads_flows_pair_by_pair(rt: HostRuntime) -> Result<(), Fail> {
     Ok(())
 }
 
-const REFUSED_PLACES: [Refused; 10] = [
+const REFUSED_PLACES: [Refused; 11] = [
     (
         b"",
         "the table is empty: begin with the line `name,x,y`, and write a line for each place below it",
@@ -219,6 +235,10 @@ const REFUSED_PLACES: [Refused; 10] = [
     (
         b"name,x,y\nA,1,2\nA,3,4\n",
         "line 3, field 1: the name \"A\" stands twice: give each a name of its own",
+    ),
+    (
+        b"name,x,y\nA\tB,1,2\n",
+        "line 2, field 1: the name has the control character U+0009: write names without line breaks, tabs and other control characters",
     ),
     (
         b"name,x,y\nA,1\n",
@@ -250,7 +270,7 @@ fn tells_what_is_wrong_with_places(rt: HostRuntime) -> Result<(), Fail> {
     Ok(())
 }
 
-const REFUSED_TRIPS: [Refused; 9] = [
+const REFUSED_TRIPS: [Refused; 10] = [
     (
         b"",
         "the table is empty: begin with the line `from,to,amount`, and write a line for each pair below it",
@@ -274,6 +294,10 @@ const REFUSED_TRIPS: [Refused; 9] = [
     (
         b"from,to,amount\nA,B,3,5\n",
         "line 2, field 4: the cell \"5\" is one too many: take it away, or quote a number's comma away",
+    ),
+    (
+        b"from,to,amount\nA,B\x00,3\n",
+        "line 2, field 2: the name has the control character U+0000: write names without line breaks, tabs and other control characters",
     ),
     (
         b"from,to,amount\nA,,3\n",

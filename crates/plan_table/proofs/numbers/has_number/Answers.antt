@@ -1,7 +1,4 @@
-use Rattle.std.proofs.Common.{sym, subst}
-use Rattle.std.specs.Prelude.{IsTrue, ◌↔◌}
 use Rattle.std.specs.HashMap.{get_by_text}
-use Rattle.plan_table.specs.Names.{HasName}
 use Rattle.plan_table.proofs.NumberLists.{is_numbered}
 use Rattle.plan_table.proofs.numbers.has_number.Goals as goal
 
