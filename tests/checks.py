@@ -1,5 +1,5 @@
-"""Checks of answers that no exact text can state. A case names one by `check:`, with the words that follow the run here; a check that
-fails raises an error. Everything is computed here, and nothing by the programs that are tested."""
+"""Checks of answers that cannot be known in advance. A case names one by `check:`, with the words that its function takes after the run. A check
+fails by raising an error. Everything is computed here, and nothing by the programs under test."""
 
 import csv
 import itertools

@@ -89,7 +89,7 @@ CERTIFICATES = [
 
 
 def certificate_text(lines):
-    """The text of lines that `|` separates, with a line feed behind the last unless a backslash stands there."""
+    """The text of lines separated by `|`. It ends in a line feed, unless a backslash stands at the end."""
     text = lines.replace("|", "\n")
     return text[:-1] if text.endswith("\\") else f"{text}\n" if text else ""
 

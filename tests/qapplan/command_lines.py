@@ -4,7 +4,7 @@ RANGE = "error: invalid value '{0}' for '{1}': {0} is not in {2}"
 MISSING = "error: the following required arguments were not provided:"
 NODES = "0..=4611686018427387904"
 
-# The words behind `qapplan`, and the first line; where that is left to the library `clap`, its beginning.
+# The words after `qapplan`, and the first line that is printed, or its beginning.
 LINES = [
     ("solve a.dat --workers 0", RANGE.format("0", "--workers <K>", "1..=64")),
     ("solve a.dat --workers 65", RANGE.format("65", "--workers <K>", "1..=64")),

@@ -2,7 +2,7 @@
 
 TWO = "2 0 3 1 0 0 2 5 0"
 HEAD = "qapproof 1|n 2|cost 11|perm 1 2"
-DEARER = "qapproof 1|n 2|cost 17|perm 2 1"
+COSTLIER = "qapproof 1|n 2|cost 17|perm 2 1"
 LEAST = f"{HEAD}|b 6 2 0 3|end"
 
 # An instance, the lines of a proof, and the refusal. The permutation 1 2 costs 11 and the other one 17; the matrix of the root has the
@@ -48,12 +48,12 @@ PROOFS = [
     (TWO, f"{HEAD}|b 7 2 0 3|end", "21 NotFeasible at 5"),
     (TWO, f"{HEAD}|t 2 6 3 0 3|c|b 11 0|end", "21 NotFeasible at 5"),
     (TWO, f"{HEAD}|b 6 2 0 2|end", "22 BoundTooLow at 5"),
-    (TWO, f"{DEARER}|t 2 6 2 0 3|c|b 11 0|end", "22 BoundTooLow at 7"),
+    (TWO, f"{COSTLIER}|t 2 6 2 0 3|c|b 11 0|end", "22 BoundTooLow at 7"),
     (TWO, f"{HEAD}|s 1|s 1|b|b|end", "25 FacilityTaken at 6"),
     (TWO, f"{HEAD}|t 1|t 1|b|b|end", "26 LocationTaken at 6"),
     (TWO, f"{HEAD}|s 1|c|b 17 0|end", "27 CutWithoutDuals at 6"),
     (TWO, f"{HEAD}|c|end", "27 CutWithoutDuals at 5"),
-    (TWO, f"{DEARER}|t 2 6 2 0 3|c|c|end", "28 CutTooLow at 7"),
+    (TWO, f"{COSTLIER}|t 2 6 2 0 3|c|c|end", "28 CutTooLow at 7"),
     (TWO, f"{HEAD}|s 1|m 1 2 1|b 17 0|end", "29 NoEarlierChild at 6"),
     (TWO, f"{HEAD}|m 1 2 1|end", "29 NoEarlierChild at 5"),
     # The exchange of the locations takes 2 to 5 and 5 to 2; the identity keeps the matrix, and takes location 1 to itself.
@@ -68,7 +68,7 @@ PROOFS = [
 
 
 def proof_text(lines):
-    """The text of lines that `|` separates, with a line feed behind the last unless a backslash stands there."""
+    """The text of lines separated by `|`. It ends in a line feed, unless a backslash stands at the end."""
     text = lines.replace("|", "\n")
     return text[:-1] if text.endswith("\\") else f"{text}\n" if text else ""
 
