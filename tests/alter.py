@@ -1,5 +1,5 @@
-"""alter.py TEXT COPY cost|dual: copies a certificate or a proof with its cost's last digit changed, or with the first of its duals raised to
-10^15 or more, which fits no matrix here; prints the number of the line that was changed. Cases use it."""
+"""alter.py TEXT COPY cost|dual: copies a certificate or a proof with the last digit of its cost changed, or with
+its first dual raised to 10^15, which fits no matrix here. Prints the number of the changed line. Cases use it."""
 
 import re
 import sys

@@ -1,5 +1,6 @@
-"""Checks of answers that cannot be known in advance. A case names one by `check:`, with the words that its function takes after the run. A check
-fails by raising an error. Everything is computed here, and nothing by the programs under test."""
+"""Checks of answers that cannot be known in advance. A case names one by `check:`, with the words that its function
+takes after the run. A check fails by raising an error. Everything is computed here, and nothing by the programs
+under test."""
 
 import csv
 import itertools
@@ -33,10 +34,9 @@ def cost_of(instance, permutation):
     return sum(a[i][j] * b[permutation[i]][permutation[j]] for i in range(n) for j in range(n))
 
 
-def least_of(instance, fixed=None):
-    """The least cost of all permutations, or of those that keep what is fixed: for sizes up to 8."""
-    fixed = fixed or {}
-    return min(cost_of(instance, p) for p in itertools.permutations(range(instance[0])) if all(p[i] == k for i, k in fixed.items()))
+def least_of(instance):
+    """The least cost of all permutations: for sizes up to 8."""
+    return min(cost_of(instance, permutation) for permutation in itertools.permutations(range(instance[0])))
 
 
 def permutation_of(words, n):
@@ -46,7 +46,7 @@ def permutation_of(words, n):
 
 
 def stated_by(text, instance):
-    """What a program's answer to an instance states: (permutation, cost, bound). The answer is that of `qapsolve`, or of `qapplan`."""
+    """What an answer of `qapsolve` or `qapplan` to an instance states: (permutation, cost, bound)."""
     n = instance[0]
     lines = text.splitlines()
     if lines[0].startswith("facility"):
@@ -64,16 +64,17 @@ def stated_by(text, instance):
 
 
 def verdict_of(line, kept, in_percent):
-    """The cost and the bound that a line of the cost states, as fractions; how far they lie apart in percent is checked, too."""
+    """The cost and the bound that a line of the cost states. How far they lie apart in percent is checked, too."""
     found = re.fullmatch(rf"cost (-?[\d.]+), optimal{kept}, proved", line)
     if found:
         return Fraction(found[1]), Fraction(found[1])
-    found = re.fullmatch(rf"cost (-?[\d.]+), within (-?[\d.]+) to (-?[\d.]+){kept}, proved(, at most ([\d.]+)% above the least)?", line)
+    percent = r"(, at most ([\d.]+)% above the least)?"
+    found = re.fullmatch(rf"cost (-?[\d.]+), within (-?[\d.]+) to (-?[\d.]+){kept}, proved{percent}", line)
     expect(found and found[1] == found[3], f"the line of the cost is {line}")
     cost, bound = Fraction(found[1]), Fraction(found[2])
     if in_percent and bound > 0:
         tenths = math.ceil((cost - bound) * 1000 / bound)
-        expect(found[5] and Fraction(found[5]) == Fraction(tenths, 10), f"{line}, where {tenths} tenths of a percent are between")
+        expect(found[5] and Fraction(found[5]) * 10 == tenths, f"{tenths} tenths of a percent are due: {line}")
     else:
         expect(not found[4], f"a percentage in {line}")
     return cost, bound
@@ -86,10 +87,12 @@ def judge(permutation_cost, cost, bound, optimum):
 
 
 def proved(run, instance, optimum=None, name="stdout"):
-    """The answer states its permutation's cost, and a bound, with the optimum between them; without one all permutations are tried."""
+    """The answer states its permutation's cost and a bound, with the optimum between them. An optimum that is not
+    given is found by trying all permutations."""
     instance = instance_of(run.text(instance))
     permutation, cost, bound = stated_by(run.text(name), instance)
-    judge(cost_of(instance, permutation), cost, bound, least_of(instance) if optimum in (None, "least") else int(optimum))
+    optimum = least_of(instance) if optimum in (None, "least") else int(optimum)
+    judge(cost_of(instance, permutation), cost, bound, optimum)
 
 
 def optimal(run, instance, optimum, name="stdout"):
@@ -201,8 +204,8 @@ def arranged(lines, plan):
 
 
 def plan(run, name, optimum=None, answer="stdout"):
-    """The answer to a plan places each department, states the arrangement's cost, and a bound with the optimum between them, and the
-    five costliest pairs; a plan without an optimum is solved by trying all arrangements."""
+    """The answer to a plan places each department, states the arrangement's cost and a bound, with the optimum
+    between them, and the five costliest pairs. An optimum that is not given is found by trying all arrangements."""
     plan = Plan(run, name)
     lines = run.text(answer).splitlines()
     arrangement = arranged(lines, plan)
@@ -219,7 +222,8 @@ def plan_least(plan):
     """The least cost of all arrangements that keep what is fixed: for up to a few thousand."""
     departments = [name for name in plan.departments if name not in plan.fixed]
     places = [name for name in plan.places if name not in plan.fixed.values()]
-    return min(plan.cost({**plan.fixed, **dict(zip(departments, chosen))}) for chosen in itertools.permutations(places, len(departments)))
+    free = (dict(zip(departments, chosen)) for chosen in itertools.permutations(places, len(departments)))
+    return min(plan.cost({**plan.fixed, **arrangement}) for arrangement in free)
 
 
 def plan_least_found(run, name, answer="stdout"):
@@ -240,31 +244,36 @@ def decimal(number):
 
 
 def json(run, name, source, optimum, status="optimal"):
-    """The JSON of an answer to an instance or a plan: each key of docs/PLANNING.md, and a cost and a bound that are right."""
+    """The JSON of an answer has each key of docs/PLANNING.md, and a cost and a bound that are right."""
     answer = json_text.loads(run.text(name))
     keys = {"status", "cost", "bound", "permutation", "nodes", "open", "milliseconds", "version"}
     if source.lower().endswith(".toml"):
         keys |= {"departments", "places", "arrangement", "flow_scale", "distance_scale"}
         plan = Plan(run, source)
-        expect(answer["departments"] == plan.departments and answer["places"] == plan.places, "other names than the tables have")
+        expect(answer["departments"] == plan.departments, "other departments than the table has")
+        expect(answer["places"] == plan.places, "other places than the table has")
         permutation = permutation_of(answer["permutation"], len(plan.places))
         places = [plan.places[k] for k in permutation[:len(plan.departments)]]
         expect(answer["arrangement"] == places, "the arrangement is not that of the permutation")
         cost = plan.cost(dict(zip(plan.departments, places)))
-        expect(all(places[plan.departments.index(d)] == p for d, p in plan.fixed.items()), "a fixed department was moved")
+        fixed = {department: places[plan.departments.index(department)] for department in plan.fixed}
+        expect(fixed == plan.fixed, "a fixed department was moved")
     else:
         instance = instance_of(run.text(source))
         cost = cost_of(instance, permutation_of(answer["permutation"], instance[0]))
     expect(set(answer) == keys, f"the keys are {sorted(answer)}")
     judge(cost, Fraction(answer["cost"]), Fraction(answer["bound"]), Fraction(optimum))
     expect(answer["cost"] == decimal(cost), f"the cost is spelled {answer['cost']}")
-    expect(answer["status"] == status == ("optimal" if answer["bound"] == answer["cost"] else "bounded"), f"the status is {answer['status']}")
+    due = "optimal" if answer["bound"] == answer["cost"] else "bounded"
+    expect(answer["status"] == status == due, f"the status is {answer['status']}")
     expect(re.fullmatch(r"\d+\.\d+\.\d+", answer["version"]), f"the version is {answer['version']}")
-    expect(all(type(answer[key]) is int and answer[key] >= 0 for key in ("nodes", "open", "milliseconds")), "a count is none")
+    counts = [answer[key] for key in ("nodes", "open", "milliseconds")]
+    expect(all(type(count) is int and count >= 0 for count in counts), f"the counts are {counts}")
 
 
 def picture(run, name, source, answer):
-    """A picture is well-formed, has the cost as its title and a box for each place, whose department it names, by the JSON of an answer."""
+    """A picture is well-formed, has the cost as its title, and names each place and its department, by the JSON of
+    an answer."""
     answer = json_text.loads(run.text(answer))
     plan = Plan(run, source)
     svg = ElementTree.fromstring(run.text(name))
@@ -291,8 +300,8 @@ def same(run, name, other):
 
 
 def short_leaves(run, name, parts):
-    """The lines `short V node ..` of `qapverify` name the nodes of a list of parts, all of them and no other one. A node is a set of
-    placements: in what order they stand does not matter here."""
+    """The lines `short V node ..` of `qapverify` name the nodes of a list of parts, all of them and no other one. A
+    node is a set of placements: their order does not matter here."""
     def nodes(texts):
         numbers = [text.split() for text in texts]
         return sorted(sorted(zip(map(int, words[::2]), map(int, words[1::2]))) for words in numbers)

@@ -1,4 +1,4 @@
-"""Cases of small instances and plans that are drawn at random, from seeds: their least costs are found by trying all arrangements."""
+"""Cases of small instances and plans drawn at random: their least costs are found by trying all arrangements."""
 
 import random
 
@@ -29,7 +29,8 @@ def instance_case(seed):
     n = 1 + seed % LARGEST
     entry = ENTRIES[seed // LARGEST % len(ENTRIES)]
     # Every second instance has symmetric matrices.
-    rows = "\n".join("    " + " ".join(map(str, row)) for _ in range(2) for row in matrix(draw, n, entry, symmetric=seed % 2))
+    rows = matrix(draw, n, entry, seed % 2) + matrix(draw, n, entry, seed % 2)
+    rows = "\n".join("    " + " ".join(map(str, row)) for row in rows)
     return f"""
 case: instance {seed}, size {n}
 file a.dat:
@@ -41,7 +42,8 @@ run:
     qapsolve solve --cert < a.dat > a.cert; qapcheck optimal a.dat a.cert > certified
     qapsolve solve --nodes 1 < a.dat > stopped
     qapplan solve a.dat --workers 1 --improve 0 --proof one.proof > one.txt; qapverify a.dat one.proof > one.verified
-    qapplan solve a.dat --workers 4 --proof four.proof --json a.json > four.txt; qapverify a.dat four.proof > four.verified
+    qapplan solve a.dat --workers 4 --proof four.proof --json a.json > four.txt
+    qapverify a.dat four.proof > four.verified
     qapplan solve a.dat --nodes 1 --improve 0 > stopped.txt
     qapplan check a.dat a.json four.proof
 stdout matches: cost -?\\d+, optimal, proved
@@ -82,11 +84,15 @@ def plan_case(seed):
         files["d.csv"] = ["name,x,y"] + [f"{place},{number(draw)},{number(draw)}" for place in places]
     if seed % 5 == 1:
         keys += ["[fixed]", f'"{departments[0]}" = "{places[-1]}"']
-    texts = "\n".join(f"file {name}:\n    " + "\n    ".join(lines) for name, lines in {"plan.toml": keys, **files}.items())
+    files["plan.toml"] = keys
+    texts = "\n".join(f"file {name}:\n    " + "\n    ".join(lines) for name, lines in files.items())
     return f"""
 case: plan {seed}
 {texts}
-run: qapplan solve plan.toml --json a.json --proof a.proof --svg a.svg || exit; qapplan check plan.toml a.json a.proof >&2; qapplan solve plan.toml --nodes 1 --improve 0 > stopped
+run:
+    qapplan solve plan.toml --json a.json --proof a.proof --svg a.svg || exit
+    qapplan check plan.toml a.json a.proof >&2
+    qapplan solve plan.toml --nodes 1 --improve 0 > stopped
 ignore: stdout stderr status
 check:
     plan plan.toml

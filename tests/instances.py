@@ -1,4 +1,4 @@
-"""Cases of each instance in examples/, whose optimum is that of the table in examples/README.md: published, or found by trying all."""
+"""Cases of each instance in examples/. The optimum is that of the table in examples/README.md."""
 
 import pathlib
 import re
@@ -20,7 +20,8 @@ REFUSED = """    for what in cost dual; do
 
 def cases():
     names = [name for name, _, _ in TABLE]
-    assert names and sorted(names) == sorted(path.stem for path in EXAMPLES.glob("*.dat")), "the table is not of all instances"
+    files = [path.stem for path in EXAMPLES.glob("*.dat")]
+    assert names and sorted(names) == sorted(files), "the table of examples/README.md is not of all instances"
     for name, size, optimum in TABLE:
         yield value(name, optimum)
         if (EXAMPLES / f"{name}.cert").exists():
@@ -48,9 +49,10 @@ stdout matches: cost {optimum}\\ninverse -?\\d+\\nstated {optimum}\\nmatch direc
 """
 
 
-def refused_lines(numbers_from):
+def refused_lines():
     """What is printed of a text whose cost and whose first dual are altered."""
-    return rf"(refused 16 CostDiffers at 3\n1 cost in line 3\nrefused 21 NotFeasible at (\d+)\n1 dual in line \{numbers_from})"
+    cost = r"refused 16 CostDiffers at 3\n1 cost in line 3"
+    return rf"{cost}\nrefused 21 NotFeasible at (\d+)\n1 dual in line \1"
 
 
 def shipped(name, optimum, kind, check):
@@ -61,7 +63,7 @@ run:
     {check} {name}.{kind}
 {REFUSED.format(text=f"{name}.{kind}", check=check)}
 stdout: optimal {optimum}
-stderr matches: {refused_lines(2)}
+stderr matches: {refused_lines()}
 """
 
 
@@ -77,7 +79,7 @@ run:
 stdout:
     optimal {optimum}
     cost {optimum}, optimal, proved
-stderr matches: {refused_lines(2)}
+stderr matches: {refused_lines()}
 check:
     optimal {name}.dat {optimum} printed
     same printed a.txt
@@ -113,7 +115,7 @@ run:
     qapcheck optimal {name}.dat a.cert
 {REFUSED.format(text="a.cert", check=f"qapcheck optimal {name}.dat")}
 stdout: optimal {optimum}
-stderr matches: {refused_lines(2)}
+stderr matches: {refused_lines()}
 check: optimal {name}.dat {optimum} printed
 limit: 300
 """

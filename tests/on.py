@@ -1,5 +1,6 @@
-"""on.py closed-pipe|terminal|interrupted WORDS..: runs a command whose standard output is a pipe that nobody reads; or whose standard error is
-a terminal, what appears there being printed; or which is interrupted after two seconds. The status is the command's. Cases use it."""
+"""on.py closed-pipe|terminal|interrupted WORDS..: runs a command with its standard output on a pipe that nobody
+reads; or with its standard error on a terminal, and prints what appears there; or interrupts it after two
+seconds. The status is the command's. Cases use it."""
 
 import os
 import pty

@@ -4,7 +4,8 @@ TWO = "2 0 3 1 0 0 2 5 0"
 THREE = "3 0 1 2 1 0 3 2 3 0 0 5 2 5 0 1 2 1 0"
 EVEN = "3 0 1 0 0 0 1 1 0 0 0 1 0 1 0 0 0 0 0"
 
-# An instance with what follows it on the same input, and the refusal of `qapcheck value`. A place counts bytes before the word, in a
+# An instance with what follows it on the same input, and the refusal of `qapcheck value`. A place counts bytes before
+# the word, in a
 # solution from the end of the instance's last number.
 VALUES = [
     ("", "1 Empty"),

@@ -46,7 +46,8 @@ ANSWERS = [
     ("plan.toml", "[]", NO_LIST),
     ("plan.toml", "{}", NO_LIST),
     ("plan.toml", '{"permutation":"123"}', NO_LIST),
-    ("plan.toml", '{"permutation":[1,2]}', 'the key "permutation" has 2 locations, where 3 are wanted: name an answer to this plan'),
+    ("plan.toml", '{"permutation":[1,2]}',
+     'the key "permutation" has 2 locations, where 3 are wanted: name an answer to this plan'),
     ("plan.toml", '{"permutation":[1,2,4]}', LOCATION.format(3, 3)),
     ("plan.toml", '{"permutation":[0,2,3]}', LOCATION.format(1, 3)),
     ("plan.toml", '{"permutation":[1,2.5,3]}', LOCATION.format(2, 3)),
@@ -71,11 +72,14 @@ ANSWERS = [
     ("plan.toml", '{"places":["A","C","B"]}', NAME.format("places", 2, "B")),
     ("plan.toml", '{"permutation":[1,2,3],"cost":"3.75","bound":"3.75","status":"optimal","arrangement":["A","C"]}',
      NAME.format("arrangement", 2, "B")),
-    ("two.dat", '{"permutation":[1,2,3]}', 'the key "permutation" has 3 locations, where 2 are wanted: name an answer to this plan'),
+    ("two.dat", '{"permutation":[1,2,3]}',
+     'the key "permutation" has 3 locations, where 2 are wanted: name an answer to this plan'),
     ("two.dat", '{"permutation":[2,1],"cost":"17"}', COST.format("11")),
     ("two.dat", '{"places":[]}', NO_NAMES.format("places")),
-    ("two.dat", '{"departments":["a","b"],"permutation":[2,1],"cost":"11","bound":"11","status":"optimal"}', NO_NAMES.format("departments")),
-    ("two.dat", '{"arrangement":["a","b"],"permutation":[2,1],"cost":"11","bound":"11","status":"optimal"}', NO_NAMES.format("arrangement")),
+    ("two.dat", '{"departments":["a","b"],"permutation":[2,1],"cost":"11","bound":"11","status":"optimal"}',
+     NO_NAMES.format("departments")),
+    ("two.dat", '{"arrangement":["a","b"],"permutation":[2,1],"cost":"11","bound":"11","status":"optimal"}',
+     NO_NAMES.format("arrangement")),
 ]
 
 WITH_ANSWER = "name the one that `qapplan solve --proof` wrote with this answer"
@@ -86,10 +90,12 @@ OTHER_COST = "the proof is of an arrangement that costs {0}: " + WITH_ANSWER
 THREE = "qapproof 1|n 3|cost 375|perm 1 2 3"
 TWO = "qapproof 1|n 2|cost 11|perm 2 1"
 
-# A plan or an instance, its answer, the lines of a proof, and what is said of that. The first row's message is for each refusal of `qapverify`.
+# A plan or an instance, its answer, the lines of a proof, and what is said of that.
 PROOFS = [
-    ("plan.toml", "first.json", f"{THREE}|b 376 0 0 0 0 0|end", REFUSED.format("line 5: the duals don't fit the reduced matrix")),
-    ("plan.toml", "first.json", f"{THREE}|b 374 0 0 0 0 0|end", REFUSED.format("line 5: the duals bound their part by too little")),
+    ("plan.toml", "first.json", f"{THREE}|b 376 0 0 0 0 0|end",
+     REFUSED.format("line 5: the duals don't fit the reduced matrix")),
+    ("plan.toml", "first.json", f"{THREE}|b 374 0 0 0 0 0|end",
+     REFUSED.format("line 5: the duals bound their part by too little")),
     ("plan.toml", "first.json", f"{TWO}|b 6 2 3 0|end", REFUSED.format("line 2: the size is not the instance's")),
     ("plan.toml", "first.json", "qapcert 1", REFUSED.format("the first line is not that of a proof")),
     ("plan.toml", "first.json", "qapproof 2", REFUSED.format("the proof's version is not known")),
@@ -101,8 +107,10 @@ PROOFS = [
     ("plan.toml", "first.json", "qapproof 1|n 3|cost 375|perm 1 2 2|b 375 0 0 0 0 0|end",
      REFUSED.format("line 4: the numbers are no permutation")),
     ("two.dat", "two.json", f"{TWO}|s 1|s 2|s 1|b|b 11 0|end", REFUSED.format("line 7 splits where nothing is free")),
-    ("two.dat", "two.json", f"{TWO}|s 1|s 1|b|b 11 0|end", REFUSED.format("line 6 splits on a facility that is not free")),
-    ("two.dat", "two.json", f"{TWO}|t 1|t 1|b|b 11 0|end", REFUSED.format("line 6 splits on a location that is not free")),
+    ("two.dat", "two.json", f"{TWO}|s 1|s 1|b|b 11 0|end",
+     REFUSED.format("line 6 splits on a facility that is not free")),
+    ("two.dat", "two.json", f"{TWO}|t 1|t 1|b|b 11 0|end",
+     REFUSED.format("line 6 splits on a location that is not free")),
     ("plan.toml", "first.json", f"{THREE}|b 375 0 0 0 0|end", REFUSED.format("line 5 has another number of duals")),
     ("plan.toml", "first.json", f"{THREE}|b 375 0 0 0 0 1000000000000000000000001|end",
      REFUSED.format("line 5 has a dual outside -10^24 to 10^24")),
@@ -111,8 +119,10 @@ PROOFS = [
     ("two.dat", "two.json", f"{TWO}|node 2 1 1 2|b|end", REFUSED.format("line 5 is no root")),
     ("two.dat", "two.json", "qapproof 1|n 2|cost 17|perm 1 2|t 1 6 2 3 0|c|c|end",
      REFUSED.format("line 7: the duals bound the child by too little")),
-    ("two.dat", "two.json", f"{TWO}|s 1|b 17 0|m 1 2 1|end", REFUSED.format("line 7: the permutation takes no earlier child to this one")),
-    ("plan.toml", "first.json", "qapproof 1|n 3|cost 500|perm 2 1 3|bound 375|b 375 0 0 0 0 0|end", OTHER_COST.format("5")),
+    ("two.dat", "two.json", f"{TWO}|s 1|b 17 0|m 1 2 1|end",
+     REFUSED.format("line 7: the permutation takes no earlier child to this one")),
+    ("plan.toml", "first.json", "qapproof 1|n 3|cost 500|perm 2 1 3|bound 375|b 375 0 0 0 0 0|end",
+     OTHER_COST.format("5")),
     ("two.dat", "two.json", "qapproof 1|n 2|cost 17|perm 1 2|bound 11|b 6 2 3 0|end", OTHER_COST.format("17")),
     ("fixed.toml", "kept.json", f"{THREE}|b 375 0 0 0 0 0|end", OTHER_ROOT),
     ("plan.toml", "first.json", f"{THREE}|node 1 1|b 375 0 0 0|end", OTHER_ROOT),
@@ -120,6 +130,10 @@ PROOFS = [
 ]
 
 UNOPENED = "a file couldn't be opened, read or written"
+
+# The last word names what is no file, or is a folder.
+UNREADABLE = ["show plan.toml none", "show two.dat none", "show two.dat .", "check plan.toml none", "check two.dat .",
+              "check plan.toml first.json none", "check two.dat two.json ."]
 
 
 def cases():
@@ -132,6 +146,5 @@ def cases():
         text = lines.replace("|", "\\n") + ("\\n" if lines else "")
         yield f"case: proof {number}: {message}\nbytes a.proof: {text}"
         yield f"run: qapplan check {source} {answer} a.proof\nstderr: error: a.proof: {message}\nstatus: 1"
-    for words, name in (("show plan.toml none", "none"), ("show two.dat none", "none"), ("show two.dat .", "."), ("check plan.toml none", "none"),
-                        ("check two.dat .", "."), ("check plan.toml first.json none", "none"), ("check two.dat two.json .", ".")):
-        yield f"case: {words}\nrun: qapplan {words}\nstderr: error: {name}: {UNOPENED}\nstatus: 1"
+    for words in UNREADABLE:
+        yield f"case: {words}\nrun: qapplan {words}\nstderr: error: {words.split()[-1]}: {UNOPENED}\nstatus: 1"

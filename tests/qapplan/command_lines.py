@@ -45,4 +45,5 @@ LINES = [
 def cases():
     yield "use: examples/workshop.dat\nfile a.dat: 1 5 7"
     for words, line in LINES:
-        yield f"case: {words}\nrun: qapplan {words} 2> err; echo $? >&2; head -n 1 err | grep -qF \"{line}\" || cat err\nstderr: 2"
+        shown = f'head -n 1 err | grep -qF "{line}" || cat err'
+        yield f"case: {words}\nrun: qapplan {words} 2> err; echo $? >&2; {shown}\nstderr: 2"

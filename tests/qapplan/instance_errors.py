@@ -32,9 +32,11 @@ STARTS = [
 UNOPENED = "a file couldn't be opened, read or written"
 
 # Each subcommand that reads an instance at FILE, with what else it needs.
-COMMANDS = ["solve FILE", "split FILE --parts 2 -o parts", "part FILE --node '' --start a.sln -o a.proof", "show FILE a.json", "check FILE a.json"]
+COMMANDS = ["solve FILE", "split FILE --parts 2 -o parts", "part FILE --node '' --start a.sln -o a.proof",
+            "show FILE a.json", "check FILE a.json"]
 # Each that reads a start at FILE.
-STARTED = ["solve two.dat --start FILE", "split two.dat --parts 2 -o parts --start FILE", "part two.dat --node '' --start FILE -o a.proof"]
+STARTED = ["solve two.dat --start FILE", "split two.dat --parts 2 -o parts --start FILE",
+           "part two.dat --node '' --start FILE -o a.proof"]
 
 
 def cases():
@@ -43,11 +45,13 @@ def cases():
         commands = COMMANDS if number in (1, 9) else COMMANDS[:1]
         for command in commands:
             yield f"case: {command.split()[0]}: instance {number}: {message}\nbytes x.dat: {text}"
-            yield f"run: qapplan {command.replace('FILE', 'x.dat')}\nstderr: error: x.dat: {message}\nstatus: 1\nabsent: parts a.proof"
+            yield f"run: qapplan {command.replace('FILE', 'x.dat')}"
+            yield f"stderr: error: x.dat: {message}\nstatus: 1\nabsent: parts a.proof"
     for number, (text, message) in enumerate(STARTS):
         for command in STARTED if number in (0, 7) else STARTED[:1]:
             yield f"case: {command.split()[0]}: start {number}: {message}\nbytes x.sln: {text}"
-            yield f"run: qapplan {command.replace('FILE', 'x.sln')}\nstderr: error: x.sln: {message}\nstatus: 1\nabsent: parts a.proof"
+            yield f"run: qapplan {command.replace('FILE', 'x.sln')}"
+            yield f"stderr: error: x.sln: {message}\nstatus: 1\nabsent: parts a.proof"
     for command in COMMANDS + STARTED:
         yield f"case: {command}: no such file\nrun: qapplan {command.replace('FILE', 'none')}"
         yield f"stderr: error: none: {UNOPENED}\nstatus: 1"

@@ -1,4 +1,4 @@
-"""Each message of `qapplan` about a plan, and about tables that make no problem together (docs/PLANNING.md, "Errors")."""
+"""Each message of `qapplan` about a plan, and about tables that do not fit together (docs/PLANNING.md, "Errors")."""
 
 FLOWS = ",Saw,Lathe\nSaw,0,2.5\nLathe,1,0\n"
 DISTANCES = ",A,B,C\nA,0,1.25,4\nB,2,0,3\nC,4,3,0\n"
@@ -10,8 +10,8 @@ SYNTAX = "write a key, `=` and a file in quotes on each line, as `flows = \"trip
 KEYS = "a plan has the keys flows or trips, departments, distances or places, metric, decimals and fixed"
 NOT_DECIMALS = 'the key "decimals" is to be a whole number from 0 to 9, without quotes, as `decimals = 2`'
 NEITHER = 'the keys "{0}" and "{1}" are both missing: name the file of that table by one of them, as `{0} = "{0}.csv"`'
-FIXED_TYPE = ("write `[fixed]` on a line of its own, and below it a line as `Saw = \"A\"` for each department that stays at its "
-              "place")
+FIXED_TYPE = ("write `[fixed]` on a line of its own, and below it a line as `Saw = \"A\"` for each department that "
+              "stays at its place")
 LIST = 'write a list of names, as `departments = ["Saw", "Lathe"]`'
 
 MATRICES = "flows = 'f.csv'\ndistances = 'd.csv'\n"
@@ -36,13 +36,19 @@ PLANS = [
     ("flows = 3\ndistances = 'd.csv'\n", 'the key "flows" has the type integer: write a text in quotes'),
     ("trips = 1.5\ndistances = 'd.csv'\n", 'the key "trips" has the type float: write a text in quotes'),
     ("flows = 'f.csv'\ndistances = ['d.csv']\n", 'the key "distances" has the type array: write a text in quotes'),
-    ("flows = 'f.csv'\nplaces = true\nmetric = 'squared'\n", 'the key "places" has the type boolean: write a text in quotes'),
+    ("flows = 'f.csv'\nplaces = true\nmetric = 'squared'\n",
+     'the key "places" has the type boolean: write a text in quotes'),
     (f"{SOME_PLACES}metric = {{}}\n", 'the key "metric" has the type table: write a text in quotes'),
-    (f"{MATRICES}departments = ['Saw']\n", 'the key "departments" goes with "trips", which is missing: take it away, or add that one'),
-    (f"{MATRICES}metric = 'squared'\n", 'the key "metric" goes with "places", which is missing: take it away, or add that one'),
-    (f"{MATRICES}decimals = 2\n", 'the key "decimals" goes with "places", which is missing: take it away, or add that one'),
-    (SOME_PLACES, 'the key "metric" is missing: "places" wants it; write `metric = "rectilinear"`, or "euclidean" or "squared"'),
-    (f"{SOME_PLACES}metric = 'manhattan'\n", 'the key "metric" says "manhattan": write "rectilinear", "euclidean" or "squared"'),
+    (f"{MATRICES}departments = ['Saw']\n",
+     'the key "departments" goes with "trips", which is missing: take it away, or add that one'),
+    (f"{MATRICES}metric = 'squared'\n",
+     'the key "metric" goes with "places", which is missing: take it away, or add that one'),
+    (f"{MATRICES}decimals = 2\n",
+     'the key "decimals" goes with "places", which is missing: take it away, or add that one'),
+    (SOME_PLACES,
+     'the key "metric" is missing: "places" wants it; write `metric = "rectilinear"`, or "euclidean" or "squared"'),
+    (f"{SOME_PLACES}metric = 'manhattan'\n",
+     'the key "metric" says "manhattan": write "rectilinear", "euclidean" or "squared"'),
     (f"{SOME_PLACES}metric = 'euclidean'\ndecimals = 10\n", NOT_DECIMALS),
     (f"{SOME_PLACES}metric = 'euclidean'\ndecimals = -1\n", NOT_DECIMALS),
     (f"{SOME_PLACES}metric = 'euclidean'\ndecimals = '2'\n", NOT_DECIMALS),
@@ -50,19 +56,25 @@ PLANS = [
     (f"{SOME_PLACES}metric = 'squared'\ndecimals = 1\n",
      'the key "decimals" goes with `metric = "euclidean"` alone: distances by "squared" are exact, so take it away'),
     (f"{SOME_PLACES}metric = 'rectilinear'\ndecimals = 1\n",
-     'the key "decimals" goes with `metric = "euclidean"` alone: distances by "rectilinear" are exact, so take it away'),
+     'the key "decimals" goes with `metric = "euclidean"` alone: distances by "rectilinear" are exact, so take it '
+     "away"),
     (f"{SOME_TRIPS}departments = 'Saw'\n", f'the key "departments" has the type string: {LIST}'),
     (f"{SOME_TRIPS}departments = []\n", 'the key "departments" has 0 names: write 1 to 256'),
-    (f"{SOME_TRIPS}departments = {[str(i) for i in range(257)]}\n", 'the key "departments" has 257 names: write 1 to 256'),
-    (f"{SOME_TRIPS}departments = ['Saw', 3]\n", 'the key "departments[2]" has the type integer: write a name in quotes'),
-    (f"{SOME_TRIPS}departments = ['Saw', '']\n", 'the key "departments[2]" is empty: write a name there, or take it away'),
+    (f"{SOME_TRIPS}departments = {[str(i) for i in range(257)]}\n",
+     'the key "departments" has 257 names: write 1 to 256'),
+    (f"{SOME_TRIPS}departments = ['Saw', 3]\n",
+     'the key "departments[2]" has the type integer: write a name in quotes'),
+    (f"{SOME_TRIPS}departments = ['Saw', '']\n",
+     'the key "departments[2]" is empty: write a name there, or take it away'),
     (f"{SOME_TRIPS}departments = ['Saw', 'Lathe', 'Saw']\n",
      'the key "departments[3]": the name "Saw" stands twice: give each department a name of its own'),
     (f"{MATRICES}fixed = 'A'\n", f'the key "fixed" has the type string: {FIXED_TYPE}'),
     (f"{MATRICES}[[fixed]]\nSaw = 'A'\n", f'the key "fixed" has the type array: {FIXED_TYPE}'),
     (f"{MATRICES}[fixed]\nSaw = 4\n", 'the key "fixed.Saw" has the type integer: write the name of a place in quotes'),
-    (f"{MATRICES}[fixed]\nMill = 'A'\n", 'the key "fixed.Mill": no department has that name: mend it, or take the line away'),
-    (f"{MATRICES}[fixed]\nSaw = 'D'\n", 'the key "fixed.Saw": no place has the name "D": mend it, or take the line away'),
+    (f"{MATRICES}[fixed]\nMill = 'A'\n",
+     'the key "fixed.Mill": no department has that name: mend it, or take the line away'),
+    (f"{MATRICES}[fixed]\nSaw = 'D'\n",
+     'the key "fixed.Saw": no place has the name "D": mend it, or take the line away'),
     # The keys of a table are judged in the order of their names.
     (f"{MATRICES}[fixed]\nSaw = 'A'\nLathe = 'A'\n",
      'the key "fixed.Saw": another department is fixed at "A": give each a place of its own'),
@@ -70,7 +82,8 @@ PLANS = [
      "there are 3 departments and 2 places: add places to their table, or take departments out of theirs"),
 ]
 
-# The line and the column of the texts above that are no TOML, counted from 1: where the value or the key that is at fault stands.
+# The line and the column of the texts above that are no TOML, counted from 1: where the value or the key that is at
+# fault stands.
 SYNTAX_PLACES = ["line 2, column 13", "line 1, column", "line 1, column", "line 2, column 1", "line 1, column 1"]
 
 UNREAD = "the file can't be read: name one that is there; the files of tables are sought from the plan's folder"

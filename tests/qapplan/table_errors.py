@@ -8,13 +8,13 @@ ORDER = "the rows have the columns' names, in their order"
 EACH_COLUMN = "write a number for each column"
 EXTRA_CELL = "is one too many: take it away, or quote a number's comma away"
 NO_NUMBER = "is no number: write digits and at most one point, as `12` or `-0.25`, with no blanks, exponent or comma"
-TOO_LARGE = ("is too large: times the power of ten that makes all numbers whole it lies outside -10^9 to 10^9; round the numbers or "
-             "choose a larger unit")
+TOO_LARGE = ("is too large: times the power of ten that makes all numbers whole it lies outside -10^9 to 10^9; round "
+             "the numbers or choose a larger unit")
 NO_TEXT = 'is no UTF-8: save the table as "CSV UTF-8"'
 TOO_FINE = "a number has more than 100 places behind the point: round the numbers, or choose a smaller unit"
 COORDINATES = "a coordinate has more than 9 places behind the point: round the coordinates, or choose a smaller unit"
-TOO_FAR = ("lie too far apart: with its places behind the point dropped, a distance is at most 10^9; round the coordinates, keep fewer "
-           "decimals or choose a larger unit")
+TOO_FAR = ("lie too far apart: with its places behind the point dropped, a distance is at most 10^9; round the "
+           "coordinates, keep fewer decimals or choose a larger unit")
 PAIR_FIELDS = "write two names and a number on each line"
 
 MANY = [f"n{number}" for number in range(257)]
@@ -57,7 +57,8 @@ PLACES = [
     ("name,x\nA,1\n", f"line 1: expected {PLACES_HEAD.format(': begin with it,')}"),
     ("\nName,x,y\nA,1,2\n", f"line 2: expected {PLACES_HEAD.format(': begin with it,')}"),
     ("name,x,y\n", "the table has no place: write a line for each below the first"),
-    ("name,x,y\n" + "".join(f"{name},1,2\n" for name in MANY), "the table has 257 places: at most 256 are read, so split the table"),
+    ("name,x,y\n" + "".join(f"{name},1,2\n" for name in MANY),
+     "the table has 257 places: at most 256 are read, so split the table"),
     ("name,x,y\nA,1,2\n,3,4\n", f"line 3, field 1 is empty: {EMPTY_NAME}"),
     ("name,x,y\nA,1,2\nA,3,4\n", f'line 3, field 1: the name "A" stands twice: {TWICE}'),
     ("name,x,y\nA,1\n", f"line 2, field 3 is missing: {EACH_COLUMN}"),
@@ -74,9 +75,11 @@ TRIPS_HEAD = "the line `from,to,amount`{0} and write a line for each pair below 
 TRIPS = [
     ("", f"the table is empty: begin with {TRIPS_HEAD.format(',')}"),
     ("from;to;amount\n", f"line 1: expected {TRIPS_HEAD.format(': begin with it,')}"),
-    ("from,to,amount\n", "the list has no pair: write a line for each below the first, or name the departments in the plan"),
+    ("from,to,amount\n",
+     "the list has no pair: write a line for each below the first, or name the departments in the plan"),
     ("from,to,amount\n" + "".join(f"{name},{name},1\n" for name in MANY),
-     'line 258, field 1: the name "n256" is that of one department more than 256: at most so many are read, so split the list'),
+     'line 258, field 1: the name "n256" is that of one department more than 256: at most so many are read, so split '
+     "the list"),
     ("from,to,amount\nA\n", f"line 2, field 2 is missing: {PAIR_FIELDS}"),
     ("from,to,amount\nA,B\n", f"line 2, field 3 is missing: {PAIR_FIELDS}"),
     ("from,to,amount\nA,B,3,5\n", f'line 2, field 4: the cell "5" {EXTRA_CELL}'),
@@ -108,7 +111,8 @@ PLANS = {
 def cases():
     yield "file f.csv:\n    ,Saw\n    Saw,1\nfile d.csv:\n    ,P,Q\n    P,0,1\n    Q,1,0"
     tables = [("flows", row) for row in MATRICES] + [("distances", row) for row in MATRICES[:9:4]]
-    tables += [("places", row) for row in PLACES] + [("trips", row) for row in TRIPS] + [("between", row) for row in BETWEEN]
+    for kind, rows in (("places", PLACES), ("trips", TRIPS), ("between", BETWEEN)):
+        tables += [(kind, row) for row in rows]
     for number, (kind, (text, message)) in enumerate(tables):
         yield f"case: {kind} {number}: {message}\nbytes plan.toml: {escaped(PLANS[kind])}\nbytes x.csv: {escaped(text)}"
         yield f"run: qapplan solve plan.toml\nstderr: error: x.csv: {message}\nstatus: 1"

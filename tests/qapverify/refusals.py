@@ -5,7 +5,8 @@ HEAD = "qapproof 1|n 2|cost 11|perm 1 2"
 COSTLIER = "qapproof 1|n 2|cost 17|perm 2 1"
 LEAST = f"{HEAD}|b 6 2 0 3|end"
 
-# An instance, the lines of a proof, and the refusal. The permutation 1 2 costs 11 and the other one 17; the matrix of the root has the
+# An instance, the lines of a proof, and the refusal. The permutation 1 2 costs 11 and the other one 17; the matrix of
+# the root has the
 # rows 6 15 and 2 5.
 PROOFS = [
     ("", LEAST, "1 Empty"),
@@ -56,7 +57,8 @@ PROOFS = [
     (TWO, f"{COSTLIER}|t 2 6 2 0 3|c|c|end", "28 CutTooLow at 7"),
     (TWO, f"{HEAD}|s 1|m 1 2 1|b 17 0|end", "29 NoEarlierChild at 6"),
     (TWO, f"{HEAD}|m 1 2 1|end", "29 NoEarlierChild at 5"),
-    # The exchange of the locations takes 2 to 5 and 5 to 2; the identity keeps the matrix, and takes location 1 to itself.
+    # The exchange of the locations takes 2 to 5 and 5 to 2; the identity keeps the matrix, and takes location 1 to
+    # itself.
     (TWO, f"{HEAD}|s 1|b 11 0|m 1 2 1|end", "52 NotAnImage at 7"),
     (TWO, f"{HEAD}|s 1|b 11 0|m 1 1 2|end", "52 NotAnImage at 7"),
     (TWO, f"{HEAD}|t 1|b 11 0|m 1 2 1|end", "52 NotAnImage at 7"),
