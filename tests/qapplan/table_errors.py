@@ -11,6 +11,13 @@ NO_NUMBER = "is no number: write digits and at most one point, as `12` or `-0.25
 TOO_LARGE = ("is too large: times the power of ten that makes all numbers whole it lies outside -10^9 to 10^9; round "
              "the numbers or choose a larger unit")
 NO_TEXT = 'is no UTF-8: save the table as "CSV UTF-8"'
+AFTER_QUOTE = ("text follows the closing quote: write a quote that belongs to the field twice, or take the quotes "
+               "away")
+QUOTE_INSIDE = ("a quote stands inside a field without quotes: put the whole field in quotes, and write each quote "
+                "inside twice")
+LONE_RETURN = "a carriage return without a line feed follows: end each line in LF or CRLF"
+OPEN_QUOTE = "the quote that opens this field is never closed: close it, or save the file again if its end is missing"
+CONTROL = "the name has the control character {0}: write names without line breaks, tabs and other control characters"
 TOO_FINE = "a number has more than 100 places behind the point: round the numbers, or choose a smaller unit"
 COORDINATES = "a coordinate has more than 9 places behind the point: round the coordinates, or choose a smaller unit"
 TOO_FAR = ("lie too far apart: with its places behind the point dropped, a distance is at most 10^9; round the "
@@ -48,6 +55,18 @@ MATRICES = [
     ("\xef\xbb\xbf,a,b\r\na,0,1\r\n\r\nb,x,0\r\n", f'line 4, field 2: "x" {NO_NUMBER}'),
     (",a\na\xff,0\n", f"line 2 {NO_TEXT}"),
     (f",a\na,0.{'0' * 100}1\n", TOO_FINE),
+    (',"a"x\n', f"line 1, field 2: {AFTER_QUOTE}"),
+    (',a\na,"1" \n', f"line 2, field 2: {AFTER_QUOTE}"),
+    (',a"b\n', f"line 1, field 2: {QUOTE_INSIDE}"),
+    (",a\ra,0\r", f"line 1, field 2: {LONE_RETURN}"),
+    (',a\na,"0', f"line 2, field 2: {OPEN_QUOTE}"),
+    (',a\n"a,0\n', f"line 2, field 1: {OPEN_QUOTE}"),
+    (',"a\ncost 0, optimal, proved"\n', f"line 1, field 2: {CONTROL.format('U+000A')}"),
+    (",a\x7f\n", f"line 1, field 2: {CONTROL.format('U+007F')}"),
+    (",a\xc2\x9b\n", f"line 1, field 2: {CONTROL.format('U+009B')}"),
+    # Words that are no names are shown with their control characters escaped.
+    (",a\na,\x1b[2J\n", f'line 2, field 2: "\\u{{1b}}[2J" {NO_NUMBER}'),
+    (",a\na\x7f,0\n", f'line 2, field 1: expected the name "a" and found "a\\u{{7f}}": {ORDER}'),
 ]
 
 # The text of a list of places, and what is said of it.
@@ -66,6 +85,8 @@ PLACES = [
     ("name,x,y\nA,1,y\n", f'line 2, field 3: "y" {NO_NUMBER}'),
     ("name,x,y\nA,1,0.5\nB,1,200000000\n", f'line 3, field 3: "200000000" {TOO_LARGE}'),
     ("name,x,y\nA,1,\xff\n", f"line 2 {NO_TEXT}"),
+    ("name,x,y\nA\tB,1,2\n", f"line 2, field 1: {CONTROL.format('U+0009')}"),
+    ('name,x,y\nA,1,"2', f"line 2, field 3: {OPEN_QUOTE}"),
     ("name,x,y\nA,0,0\nB,0,0.0000000001\n", COORDINATES),
     ("name,x,y\nA,0,0\nB,0,100000\n", f'the places "A" and "B" {TOO_FAR}'),
 ]
@@ -89,6 +110,8 @@ TRIPS = [
      'line 4, field 1: the pair from "A" to "B" stands twice: write one line with the sum of both'),
     ("from,to,amount\nA,B,0.5\nB,A,500000001\n", f'line 3, field 3: "500000001" {TOO_LARGE}'),
     ("from,to,amount\n\xff,B,1\n", f"line 2 {NO_TEXT}"),
+    ("from,to,amount\nA,B\x00,3\n", f"line 2, field 2: {CONTROL.format('U+0000')}"),
+    ('from,to,amount\nA,"B"x,3\n', f"line 2, field 2: {AFTER_QUOTE}"),
     (f"from,to,amount\nA,B,0.{'0' * 100}1\n", TOO_FINE),
 ]
 
@@ -119,4 +142,4 @@ def cases():
 
 
 def escaped(text):
-    return "".join(f"\\x{ord(c):02x}" if c in "\r\n" or ord(c) > 126 else c for c in text)
+    return "".join(c if " " <= c <= "~" else f"\\x{ord(c):02x}" for c in text)
