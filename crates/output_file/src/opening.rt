@@ -1,29 +1,33 @@
-//! How a file that is to be written is opened.
+//! How a file that is to be written is found to be writable.
 
 use crate::output::{Output, file_id};
 use std::alloc::{AllocError, Global};
-use std::fs::{self, Files, Metadata, OpenFile, OpenOptions, Permissions};
+use std::fs::{self, Files, Metadata, OpenOptions, Permissions};
 use std::io;
 use std::path::Path;
 
 /// How many names are tried beside a file.
 const TRIES: u32 = 10_000;
 
-/// Opens a file to be written, before the work that its text comes from. An error is the system's own: the file can't be written.
+/// Finds out whether a file can be written, before the work that its text comes from. An error is the system's own: it can't.
 ///
 /// A link's target is what will be replaced. A file that is there must be writable, and keeps its permissions.
 pub fn open_output<R: Files + AllocGlobal>(rt: &R, name: &str) -> io::Result<Output<R::File>> {
-    match fs::symlink_metadata(rt, name) {
-        Ok(_) => {
-            let target = fs::canonicalize(rt, name)?.into_string();
-            let found = fs::metadata(rt, target.as_str())?;
-            open_over(rt, target, &found)
-        }
-        Err(error) if error.kind() == io::ErrorKind::NotFound => {
+    match fs::metadata(rt, name) {
+        Ok(found) => open_over(rt, name, &found),
+        Err(error) if error.kind() == io::ErrorKind::NotFound && !is_link(rt, name) => {
             let target = full_name(rt, name)?;
             open_beside(rt, target, None)
         }
         Err(error) => Err(error),
+    }
+}
+
+/// Whether a link has this name.
+fn is_link<R: Files>(rt: &R, name: &str) -> bool {
+    match fs::symlink_metadata(rt, name) {
+        Ok(found) => found.is_symlink(),
+        Err(_) => false,
     }
 }
 
@@ -40,49 +44,48 @@ fn full_name<R: Files + AllocGlobal>(rt: &R, name: &str) -> io::Result<String> {
     Ok(folder.join(rt.alloc(), last)?.into_string())
 }
 
-/// Opens the output over something that is there.
+/// The output over something that is there.
 fn open_over<R: Files + AllocGlobal>(
     rt: &R,
-    target: String,
+    name: &str,
     found: &Metadata,
 ) -> io::Result<Output<R::File>> {
     // A file that must not be written is not replaced either, and a folder can't be opened so.
-    let file = OpenOptions::new().write(true).open(rt, target.as_str())?;
+    let device = OpenOptions::new().write(true).open(rt, name)?;
     if found.is_file() {
+        let target = fs::canonicalize(rt, name)?.into_string();
         return open_beside(rt, target, Some(found.permissions()));
     }
     Ok(Output {
-        file,
-        target,
-        part: None,
+        target: String::from_str(rt.alloc(), name)?,
+        device: Some(device),
+        permissions: None,
         earlier: None,
     })
 }
 
-/// Opens the output in a new file of a fresh name beside its place, with these permissions, if any.
+/// The output in a file beside its place, where one can be made there.
 fn open_beside<R: Files + AllocGlobal>(
     rt: &R,
     target: String,
     permissions: Option<Permissions>,
 ) -> io::Result<Output<R::File>> {
-    let (file, part) = create_fresh(rt, target.as_str())?;
-    if let Some(permissions) = permissions {
-        if let Err(error) = file.set_permissions(permissions) {
-            let _ = fs::remove_file(rt, part.as_str());
-            return Err(error);
-        }
-    }
+    let (_file, part) = create_fresh(rt, target.as_str())?;
+    fs::remove_file(rt, part.as_str())?;
     let earlier = file_id(rt, target.as_str());
     Ok(Output {
-        file,
         target,
-        part: Some(part),
+        device: None,
+        permissions,
         earlier,
     })
 }
 
 /// A new file beside the target, and its name: the first that nothing has yet.
-fn create_fresh<R: Files + AllocGlobal>(rt: &R, target: &str) -> io::Result<(R::File, String)> {
+pub(crate) fn create_fresh<R: Files + AllocGlobal>(
+    rt: &R,
+    target: &str,
+) -> io::Result<(R::File, String)> {
     for number in 1..=TRIES {
         let name = fresh_name(rt.alloc(), target, number)?;
         match OpenOptions::new()

@@ -4,7 +4,8 @@ ghost use Rattle.std.specs.Prelude.{◌≡◌, ◌↔◌, true, Some, IsTrue, On
 ghost use Rattle.std.specs.Io.KnownBytes.{Appends};
 ghost use Rattle.output_file.specs.Output.{IsSameFile, IsSamePlace};
 
-use std::fs::{self, Files, OpenFile};
+use crate::opening::create_fresh;
+use std::fs::{self, Files, OpenFile, Permissions};
 use std::io::{self, Write};
 use std::marker::Model;
 use std::os::unix::fs::MetadataExt;
@@ -27,27 +28,29 @@ pub fn file_id<R: Files>(rt: &R, name: &str) -> Option<FileId> {
     }
 }
 
-/// A file that is to be written: opened before a program's work, and put in its place once its text is known.
+/// A file that is to be written, found to be writable before a program's work, and written once its text is known.
 ///
 /// What is no regular file, as a device, is written directly. Anything else is written beside its place, in a file of a fresh name
 /// with the same permissions, synced, and then renamed, so that a reader finds the old file or the new one, and never a part of it.
+/// Nothing stands beside the place before that.
 #[derive(Drop)]
 pub struct Output<F: Write + OpenFile + Drop> {
-    pub(crate) file: F,
     pub(crate) target: String,
-    /// The file beside the place; none for a device.
-    pub(crate) part: Option<String>,
+    /// What is no regular file, opened.
+    pub(crate) device: Option<F>,
+    /// The permissions of the file that is replaced, if there is one.
+    pub(crate) permissions: Option<Permissions>,
     /// What stood in the place when the output was opened.
     pub(crate) earlier: Option<FileId>,
 }
 
 impl<F: Write + OpenFile + Drop> Model for Output<F> {
-    ghost use Rattle.std.specs.Prelude.{is_some, string_bytes};
+    ghost use Rattle.std.specs.Prelude.{is_none, string_bytes};
     ghost use Rattle.output_file.specs.Output.{Place};
 
     ghost Value = { Place };
 
-    ghost view = { λ o. record { name = string_bytes o.target; regular = is_some o.part; earlier = o.earlier } };
+    ghost view = { λ o. record { name = string_bytes o.target; regular = is_none o.device; earlier = o.earlier } };
 }
 
 impl<F: Write + OpenFile + Drop> Output<F> {
@@ -55,8 +58,8 @@ impl<F: Write + OpenFile + Drop> Output<F> {
     pub fn is_same(&self, other: &Output<F>) -> bool
         ensures { IsTrue result ↔ IsSamePlace self.now other.now }
     {
-        self.part.is_some()
-            && other.part.is_some()
+        self.device.is_none()
+            && other.device.is_none()
             && (were_same(self.earlier, other.earlier)
                 || self.target.as_str() == other.target.as_str())
     }
@@ -65,43 +68,40 @@ impl<F: Write + OpenFile + Drop> Output<F> {
     pub fn replaces(&self, file: FileId) -> bool
         ensures { IsTrue result ↔ ((self.now.regular ≡ true) × (self.now.earlier ≡ Some file)) }
     {
-        self.part.is_some() && self.earlier == Some(file)
+        self.device.is_none() && self.earlier == Some(file)
     }
 
     /// Writes the text and puts the file in its place. At an error the place is as it was.
-    pub fn put<R: Files>(self, rt: &R, text: &[u8]) -> io::Result<()> {
+    pub fn put<R: Files + AllocGlobal>(self, rt: &R, text: &[u8]) -> io::Result<()> {
         let Output {
-            mut file,
             target,
-            part,
+            device,
+            permissions,
             earlier: _,
         } = self;
-        let Some(part) = part else {
-            return fill(&mut file, text);
-        };
-        let written = fill_and_sync(file, text);
-        let placed = match written {
-            Ok(()) => fs::rename(rt, part.as_str(), target.as_str()),
-            Err(error) => Err(error),
-        };
-        if placed.is_err() {
-            let _ = fs::remove_file(rt, part.as_str());
+        match device {
+            Some(mut device) => fill(&mut device, text),
+            None => replace_whole(rt, target.as_str(), permissions, text),
         }
-        placed
     }
+}
 
-    /// Leaves the place as it was.
-    pub fn discard<R: Files>(self, rt: &R) {
-        let Output {
-            file: _,
-            target: _,
-            part,
-            earlier: _,
-        } = self;
-        if let Some(part) = part {
-            let _ = fs::remove_file(rt, part.as_str());
-        }
+/// Writes the text to a new file beside the target, with these permissions, if any, and puts it in the target's place.
+fn replace_whole<R: Files + AllocGlobal>(
+    rt: &R,
+    target: &str,
+    permissions: Option<Permissions>,
+    text: &[u8],
+) -> io::Result<()> {
+    let (file, part) = create_fresh(rt, target)?;
+    let placed = match fill_and_sync(file, permissions, text) {
+        Ok(()) => fs::rename(rt, part.as_str(), target),
+        Err(error) => Err(error),
+    };
+    if placed.is_err() {
+        let _ = fs::remove_file(rt, part.as_str());
     }
+    placed
 }
 
 /// Whether the same file stood in both places.
@@ -122,8 +122,15 @@ fn fill<F: Write>(file: &mut F, text: &[u8]) -> io::Result<()>
     file.flush()
 }
 
-/// Writes the whole text to a file and has the system store it.
-fn fill_and_sync<F: Write + OpenFile + Drop>(mut file: F, text: &[u8]) -> io::Result<()> {
+/// Gives a file its permissions, writes the whole text to it and has the system store it.
+fn fill_and_sync<F: Write + OpenFile + Drop>(
+    mut file: F,
+    permissions: Option<Permissions>,
+    text: &[u8],
+) -> io::Result<()> {
+    if let Some(permissions) = permissions {
+        file.set_permissions(permissions)?;
+    }
     fill(&mut file, text)?;
     file.sync_all()
 }

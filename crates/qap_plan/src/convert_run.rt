@@ -34,7 +34,6 @@ pub fn run_convert(rt: &HostRuntime, request: &ConvertRequest<'_>) -> ExitCode {
         Err(code) => return code,
     };
     let status = write_both(rt, &mut outputs, beside, request.out, &loaded);
-    outputs.discard(rt);
     ExitCode::from(status.code())
 }
 

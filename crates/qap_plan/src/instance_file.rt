@@ -33,6 +33,7 @@ pub fn inputs_of(rt: &HostRuntime, file: &str, loaded: &Loaded) -> Inputs {
         file_id(rt, file),
         file_id(rt, loaded.flows_file.as_str()),
         file_id(rt, loaded.distances_file.as_str()),
+        None,
     ]
 }
 

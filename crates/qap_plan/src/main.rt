@@ -162,10 +162,7 @@ where
     teller.finish();
     match answer {
         Ok((answer, text)) => finish(rt, request, outputs, &answer, &text, elapsed.milliseconds()),
-        Err(error) => {
-            outputs.discard(rt);
-            refuse(rt, faulty_file(request, error), error)
-        }
+        Err(error) => refuse(rt, faulty_file(request, error), error),
     }
 }
 
@@ -252,7 +249,6 @@ fn finish(
         let proof = proof_text(rt.alloc(), answer);
         status = worse(status, outputs.put(rt, request.proof, proof));
     }
-    outputs.discard(rt);
     ExitCode::from(status.code())
 }
 

@@ -18,23 +18,23 @@ struct NamedOutput<'a> {
     output: Output<File>,
 }
 
-/// The regular files that a run reads: the plan or the instance, and the tables.
-pub type Inputs = [Option<FileId>; 3];
+/// The regular files that a run reads and must not write: the plan or the instance, the tables, and an answer.
+pub type Inputs = [Option<FileId>; 4];
 
 /// The one file that a run on an instance reads.
 pub fn one_input(rt: &HostRuntime, file: &str) -> Inputs {
-    [file_id(rt, file), None, None]
+    [file_id(rt, file), None, None, None]
 }
 
-/// The files that a run was asked to write, opened before its work.
+/// The files that a run was asked to write, found to be writable before its work.
 #[derive(Drop)]
 pub struct Outputs<'a> {
     files: Vec<NamedOutput<'a>>,
 }
 
 impl<'a> Outputs<'a> {
-    /// Opens these files. None of them may be an input of the run, and no two the same file, devices aside. Where one can't be opened, all
-    /// stay as they were; why is printed on standard error, and the exit status comes back.
+    /// Finds out whether these files can be written. None of them may be an input of the run, and no two the same file, devices aside. Why one
+    /// can't be written is printed on standard error, and the exit status comes back.
     pub fn open(
         rt: &HostRuntime,
         names: &[Option<&'a str>],
@@ -48,28 +48,29 @@ impl<'a> Outputs<'a> {
             let Some(name) = name else {
                 continue;
             };
-            if let Err(status) = outputs.open_one(rt, name, inputs) {
-                outputs.discard(rt);
-                return Err(ExitCode::from(status.code()));
-            }
+            outputs.open_one(rt, name, inputs)?;
         }
         Ok(outputs)
     }
 
     /// Opens one more file.
-    fn open_one(&mut self, rt: &HostRuntime, name: &'a str, inputs: &Inputs) -> Result<(), Status> {
+    fn open_one(
+        &mut self,
+        rt: &HostRuntime,
+        name: &'a str,
+        inputs: &Inputs,
+    ) -> Result<(), ExitCode> {
         let output = match open_output(rt, name) {
             Ok(output) => output,
-            Err(error) => return Err(refuse_io(rt, name, &error)),
+            Err(error) => return Err(ExitCode::from(refuse_io(rt, name, &error).code())),
         };
         if let Some(clash) = self.clash_of(&output, inputs) {
-            output.discard(rt);
             let _ = rt.eprintln(format_args!("error: {name}: {clash}"));
-            return Err(Status::Usage);
+            return Err(ExitCode::from(Status::Usage.code()));
         }
         match self.files.push(NamedOutput { name, output }) {
             Ok(()) => Ok(()),
-            Err(_) => Err(refuse_with(rt, name, PlanError::OutOfMemory)),
+            Err(_) => Err(refuse(rt, name, PlanError::OutOfMemory)),
         }
     }
 
@@ -103,10 +104,7 @@ impl<'a> Outputs<'a> {
         };
         let text = match text {
             Ok(text) => text,
-            Err(error) => {
-                output.discard(rt);
-                return refuse_with(rt, name, error);
-            }
+            Err(error) => return refuse_with(rt, name, error),
         };
         match output.put(rt, &text) {
             Ok(()) => Status::Done,
@@ -123,14 +121,6 @@ impl<'a> Outputs<'a> {
             }
         }
         None
-    }
-
-    /// Leaves all files that have not been written as they were.
-    pub fn discard(self, rt: &HostRuntime) {
-        let Outputs { mut files } = self;
-        while let Some(NamedOutput { name: _, output }) = files.pop() {
-            output.discard(rt);
-        }
     }
 }
 

@@ -106,10 +106,7 @@ where
     teller.finish();
     match found {
         Ok(part) => finish(rt, request, outputs, &part.proof),
-        Err(_) => {
-            outputs.discard(rt);
-            refuse(rt, request.file, PlanError::OutOfMemory)
-        }
+        Err(_) => refuse(rt, request.file, PlanError::OutOfMemory),
     }
 }
 
@@ -137,7 +134,6 @@ fn finish(
     } else {
         written
     };
-    outputs.discard(rt);
     ExitCode::from(status.code())
 }
 

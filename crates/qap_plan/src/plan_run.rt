@@ -62,10 +62,7 @@ where
             &answer,
             elapsed.milliseconds(),
         ),
-        Err(error) => {
-            outputs.discard(rt);
-            refuse(rt, faulty_file(request, error), error)
-        }
+        Err(error) => refuse(rt, faulty_file(request, error), error),
     }
 }
 
@@ -101,7 +98,6 @@ fn finish(
         let proof = proof_text(rt.alloc(), answer);
         status = worse(status, outputs.put(rt, request.proof, proof));
     }
-    outputs.discard(rt);
     ExitCode::from(status.code())
 }
 

@@ -11,6 +11,7 @@ use crate::outputs::{Inputs, Outputs, print_text, worse};
 use crate::plan_run::picture_text;
 use crate::show_command::ShowRequest;
 use crate::{refuse, refuse_picture};
+use output_file::file_id;
 use plan_answer::stated_text;
 use plan_check::{Answer, answer_to_instance, answer_to_plan};
 use plan_file::NamedProblem;
@@ -38,7 +39,8 @@ fn show_plan(rt: &HostRuntime, request: &ShowRequest<'_>) -> ExitCode {
     };
     match answer_to_plan(rt.alloc(), &loaded.problem, &text) {
         Ok(answer) => {
-            let inputs = inputs_of(rt, request.file, &loaded);
+            let [plan, flows, distances, _] = inputs_of(rt, request.file, &loaded);
+            let inputs = [plan, flows, distances, file_id(rt, request.answer)];
             tell_plan(rt, request, &inputs, &loaded.problem, &answer)
         }
         Err(error) => refuse_answer(rt, request.answer, &error),
@@ -75,7 +77,6 @@ fn tell_plan(
         status = worse(status, outputs.put(rt, request.svg, svg));
     }
     status = worse(status, outputs.put(rt, request.out, Ok(text)));
-    outputs.discard(rt);
     ExitCode::from(status.code())
 }
 
@@ -84,8 +85,8 @@ fn show_instance(rt: &HostRuntime, request: &ShowRequest<'_>) -> ExitCode {
     if request.svg.is_some() {
         return refuse_picture(rt, request.file);
     }
-    let (instance, inputs) = match instance_of(rt, request.file, request.passes) {
-        Ok(found) => found,
+    let instance = match instance_of(rt, request.file, request.passes) {
+        Ok((instance, _)) => instance,
         Err(code) => return code,
     };
     let text = match bytes_of(rt, request.answer) {
@@ -98,19 +99,24 @@ fn show_instance(rt: &HostRuntime, request: &ShowRequest<'_>) -> ExitCode {
         Err(error) => return refuse_answer(rt, request.answer, &error),
     };
     match numbers_text(alloc, &answer.permutation, answer.cost, answer.bound) {
-        Ok(text) => tell(rt, request, &inputs, text),
+        Ok(text) => tell(rt, request, text),
         Err(_) => refuse(rt, request.answer, PlanError::OutOfMemory),
     }
 }
 
 /// Prints the text, and writes it to the file that is asked for.
-fn tell(rt: &HostRuntime, request: &ShowRequest<'_>, inputs: &Inputs, text: Vec<u8>) -> ExitCode {
-    let mut outputs = match Outputs::open(rt, &[request.out], inputs) {
+fn tell(rt: &HostRuntime, request: &ShowRequest<'_>, text: Vec<u8>) -> ExitCode {
+    let inputs = [
+        file_id(rt, request.file),
+        file_id(rt, request.answer),
+        None,
+        None,
+    ];
+    let mut outputs = match Outputs::open(rt, &[request.out], &inputs) {
         Ok(outputs) => outputs,
         Err(code) => return code,
     };
     let printed = print_text(rt, &text);
     let status = worse(printed, outputs.put(rt, request.out, Ok(text)));
-    outputs.discard(rt);
     ExitCode::from(status.code())
 }

@@ -55,10 +55,7 @@ where
     let wanted = request.parts as usize;
     match split_up(system, alloc, &instance, start, options, wanted, &elapsed) {
         Ok(skeleton) => finish(rt, request, outputs, &names, &skeleton),
-        Err(error) => {
-            outputs.discard(rt);
-            refuse(rt, request.file, error)
-        }
+        Err(error) => refuse(rt, request.file, error),
     }
 }
 
@@ -117,7 +114,6 @@ fn finish(
     skeleton: &Skeleton,
 ) -> ExitCode {
     let status = write_files(rt, &mut outputs, names, skeleton);
-    outputs.discard(rt);
     if status != Status::Done {
         return ExitCode::from(status.code());
     }
