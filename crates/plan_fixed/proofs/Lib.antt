@@ -1,2 +1,3 @@
+pub mod Freeings
 pub mod Settlings
 pub mod Sortings

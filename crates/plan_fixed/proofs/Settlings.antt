@@ -1,8 +1,7 @@
 -- One facility brought to a location.
-use Rattle.std.proofs.Common.{◌≡◌, ◌≢◌, ◌∙◌, ℕ, ◌<◌, List, get_or, length, ap, arith, pos, refl, replicate, subst, sym, ℤ}
+use Rattle.std.proofs.Common.{◌≡◌, ◌≢◌, ◌∙◌, ℕ, ◌<◌, List, get_or, length, ap, arith, pos, refl, replicate, subst, sym}
 use Rattle.qap_cost.specs.Bijection.{IsPerm}
 use Rattle.qap_cost.specs.Instance.{Problem}
-use Rattle.qap_cost.specs.Objective.{Permutes}
 use Rattle.qap_cost.proofs.Bijections.{inverse-IsBijection, inverse_of}
 use Rattle.qap_improve.specs.Exchange.{exchanging}
 use Rattle.qap_improve.proofs.Exchanges.{Permutes-exchanging, exchanging-first, exchanging-other, length-exchanging}

@@ -1,10 +1,10 @@
 -- A node's facilities, ascending.
-use Rattle.std.proofs.Common.{◌≡◌, ◌≢◌, ◌∙◌, ℕ, ◌+◌, ◌<◌, ◌≤◌, List, [], ◌∷◌, ◌++◌, get_or, length, length-append, ap, arith, inl, inr, refl, subst, sym}
+use Rattle.std.proofs.Common.{◌≡◌, ◌∙◌, ℕ, ◌+◌, ◌<◌, List, [], ◌∷◌, ◌++◌, get_or, length, length-append, ap, arith, inl, inr, refl, subst, sym}
 use Rattle.std.specs.Prelude.{◌↔◌, Err, Ok, OnOk, Result}
 use Rattle.std.proofs.lemmas.Bool.{cases_lt}
 use Rattle.std.proofs.lemmas.List.{get_or_append_left, get_or_at}
 use Rattle.qap_cost.specs.Placement.{Completes, IsFreeFacility, IsFreeLocation, IsPlacement, Placement, StandsAt, placing, root_of}
-use Rattle.plan_fixed.specs.Sorting.{Ascend, IsSortedTo}
+use Rattle.plan_fixed.specs.Sorting.{IsSortedTo}
 
 pub IsSortedTo-none : (x : Placement) (n : ℕ) → n ≡ x.size → IsPlacement (root_of n) → IsSortedTo x 0 (root_of n)
 IsSortedTo-none x n same placement = record {

@@ -1,5 +1,5 @@
 -- A permutation with one facility brought to a location, by an exchange with the facility that stood there.
-use Rattle.std.specs.Prelude.{◌≡◌, ◌≢◌, ℕ, ◌<◌, List, length, slice_index}
+use Rattle.std.specs.Prelude.{◌≡◌, ◌≢◌, ℕ, List, length, slice_index}
 use Rattle.qap_cost.specs.Bijection.{IsPerm}
 
 -- f stands at k, those that were neither f nor at k stand where they stood, and nothing has moved where f stood at k before

@@ -1,13 +1,16 @@
-//! Permutations that keep what is fixed: those that complete a node.
+//! Permutations that keep what is fixed: those that complete a node, and a search among them.
 #![tactic(auto)]
 
-ghost use Rattle.std.specs.Prelude.{◌≡◌, ◌≢◌, ◌<◌, ◌↔◌, ◌+◌, ℕ, List, IfOk, IsTrue, MatchOption, OnOk, length, slice_index};
+ghost use Rattle.std.specs.Prelude.{◌≡◌, ◌≢◌, ◌<◌, ◌≤ℤ◌, ◌↔◌, ◌+◌, ℕ, List, IfOk, IsTrue, MatchOption, OnOk, length, slice_index};
 ghost use Rattle.qap_cost.specs.Bijection.{IsPerm};
-ghost use Rattle.qap_cost.specs.Placement.{Completes, IsPlacement};
+ghost use Rattle.qap_cost.specs.Objective.{Permutes, cost_of};
+ghost use Rattle.qap_cost.specs.Placement.{Completes, IsPlacement, StandsAt};
+ghost use Rattle.plan_fixed.specs.Freeing.{IsFixedBelow};
 ghost use Rattle.plan_fixed.specs.Settling.{IsSettled};
 ghost use Rattle.plan_fixed.specs.Sorting.{Ascend, IsSortedTo};
 
-use qap_cost::{Partial, Perm};
+use qap_cost::{Instance, Partial, Perm};
+use qap_improve::{Hook, Improved, TabuPlan, tabu_search_among};
 use std::alloc::{AllocError, Global};
 
 /// Whether a permutation puts each facility that a node places at its place.
@@ -40,6 +43,51 @@ pub fn completed(node: &Partial, permutation: &Perm) -> Result<Perm, AllocError>
         locations = settled(locations, usize::from(facilities[t]), places[t]);
     }
     Ok(Perm::new(locations).unwrap())
+}
+
+/// The best permutation that a tabu search finds from `start` among those that complete a node, which `start` does, and what it costs: no
+/// more than `start`. The search exchanges free facilities alone, so that those that the node places stay.
+pub fn improved_keeping<H: Hook>(
+    alloc: Global,
+    instance: &Instance,
+    node: &Partial,
+    start: &Perm,
+    plan: &TabuPlan,
+    hook: &mut H,
+) -> Result<Improved, AllocError>
+    requires size { node.now.size ≡ instance.now.size }
+    requires start { Completes node.now start.now }
+    ensures completes { IfOk result (λ x. Completes node.now x.permutation) }
+    ensures permutation { IfOk result (λ x. Permutes instance.now x.permutation) }
+    ensures cost { IfOk result (λ x. x.cost ≡ cost_of instance.now x.permutation) }
+    ensures no_dearer { IfOk result (λ x. x.cost ≤ℤ cost_of instance.now start.now) }
+{
+    let free = free_in(alloc, node)?;
+    let found = tabu_search_among(alloc, instance, start, &free, plan, hook)?;
+    Ok(found)
+}
+
+/// For each facility of a node whether it is free.
+fn free_in(alloc: Global, node: &Partial) -> Result<Vec<bool>, AllocError>
+    ensures count { IfOk result (λ free. length free.items ≡ node.now.size) }
+    ensures fixed { IfOk result (λ free. IsFixedBelow node.now node.now.size free.items) }
+    ensures placement { IsPlacement node.now }
+{
+    let mut free = Vec::new(alloc);
+    for f in 0..node.size() {
+        free.push(is_free(node, f))?;
+    }
+    Ok(free)
+}
+
+/// Whether a facility is free.
+fn is_free(node: &Partial, f: usize) -> bool
+    ensures { IsTrue result → (k : ℕ) → StandsAt node.now f k → ⊥ }
+{
+    match node.at(f) {
+        Some(_) => false,
+        None => true,
+    }
 }
 
 /// The same node with its facilities listed ascending.

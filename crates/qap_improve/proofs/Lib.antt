@@ -4,6 +4,7 @@ mod Costs
 mod DoubleSums
 pub mod Exchanges
 mod FacilityTables
+mod Movings
 mod Ranges
 mod Readings
 mod Rounds

@@ -1,6 +1,7 @@
 pub mod Arrangement
 pub mod Difference
 pub mod Exchange
+pub mod Moving
 pub mod Pair
 pub mod Round
 pub mod Rows

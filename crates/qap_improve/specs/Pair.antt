@@ -1,12 +1,18 @@
 -- Exchanges that a search may make.
-use Rattle.std.specs.Prelude.{ℕ, ◌<◌}
+use Rattle.std.specs.Prelude.{ℕ, ◌<◌, List, Bool}
+use Rattle.qap_improve.specs.Moving.{Moves}
 use Rattle.qap_improve.specs.declared.choice.Choice.{Choice}
 
--- of two of n facilities
-pub record IsPair (n : ℕ) (choice : Choice) : Type 0 where
-  pub order : choice.first < choice.second
-  pub within : choice.second < n
+-- of two of n facilities that may both move
+pub record ArePair (n : ℕ) (may_move : List Bool) (first second : ℕ) : Type 0 where
+  pub within : second < n
+  pub first_moves : Moves may_move first
+  pub second_moves : Moves may_move second
 
--- of two of n facilities where they are in order, and else none
-abbrev pub IsPairIfAny : ℕ → ℕ → ℕ → Type 0
-IsPairIfAny n first second = first < second → second < n
+pub record IsPair (n : ℕ) (may_move : List Bool) (choice : Choice) : Type 0 where
+  pub order : choice.first < choice.second
+  pub pair : ArePair n may_move choice.first choice.second
+
+-- of two that may where they are in order, and else none
+abbrev pub IsPairIfAny : ℕ → List Bool → ℕ → ℕ → Type 0
+IsPairIfAny n may_move first second = first < second → ArePair n may_move first second

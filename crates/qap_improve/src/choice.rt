@@ -2,6 +2,7 @@
 
 ghost use Rattle.std.specs.Prelude.{◌≡◌, ◌+◌, ◌*◌, ◌<◌, ◌≤◌, IfSome, length};
 ghost use Rattle.qap_cost.specs.Bijection.{IsBijection};
+ghost use Rattle.qap_improve.specs.Moving.{Moves};
 ghost use Rattle.qap_improve.specs.Pair.{IsPair, IsPairIfAny};
 
 use crate::memory::{Memory, Verdict};
@@ -27,20 +28,22 @@ struct Best<N> {
     aspires: bool,
 }
 
-/// The exchange to make where the facilities are at these locations: of those that aspire the one that costs least, and
-/// if none does, of those that aren't tabu; of equal ones the first.
+/// The exchange to make of two facilities that may move, where the facilities are at these locations: of those that aspire the one that
+/// costs least, and if none does, of those that aren't tabu; of equal ones the first.
 ///
 /// One aspires whose difference is below `bar`, or that is due.
 pub(crate) fn choose<N: Number>(
     memory: &Memory,
     locations: &[u16],
+    may_move: &[bool],
     differences: &[N],
     bar: N,
 ) -> Option<Choice>
     requires permutation { IsBijection locations.now }
     requires size { memory.now.size ≡ length locations.now }
+    requires movable { length may_move.now ≡ length locations.now }
     requires count { length differences.now ≡ length locations.now * length locations.now }
-    ensures { IfSome result (IsPair (length locations.now)) }
+    ensures { IfSome result (IsPair (length locations.now) may_move.now) }
 {
     let mut best = Best {
         first: 0,
@@ -49,7 +52,7 @@ pub(crate) fn choose<N: Number>(
         aspires: false,
     };
     for r in 0..locations.len() {
-        best = best_with(memory, locations, differences, bar, r, best);
+        best = best_with(memory, locations, may_move, differences, bar, r, best);
     }
     if best.first < best.second {
         Some(Choice {
@@ -61,10 +64,11 @@ pub(crate) fn choose<N: Number>(
     }
 }
 
-/// The best so far, or one of the exchanges of facility `r` and a greater one.
+/// The best so far, or one of the exchanges of facility `r` and a greater one, if both may move.
 fn best_with<N: Number>(
     memory: &Memory,
     locations: &[u16],
+    may_move: &[bool],
     differences: &[N],
     bar: N,
     r: usize,
@@ -72,11 +76,15 @@ fn best_with<N: Number>(
 ) -> Best<N>
     requires permutation { IsBijection locations.now }
     requires size { memory.now.size ≡ length locations.now }
+    requires movable { length may_move.now ≡ length locations.now }
     requires count { length differences.now ≡ length locations.now * length locations.now }
     requires first { r < length locations.now }
-    requires known { IsPairIfAny (length locations.now) known.first known.second }
-    ensures { IsPairIfAny (length locations.now) result.first result.second }
+    requires known { IsPairIfAny (length locations.now) may_move.now known.first known.second }
+    ensures { IsPairIfAny (length locations.now) may_move.now result.first result.second }
 {
+    if !may_move[r] {
+        return known;
+    }
     let n = locations.len();
     let start = r * n;
     let row = &differences[start..start + n];
@@ -84,16 +92,17 @@ fn best_with<N: Number>(
     for s in r + 1..n {
         let difference = row[s];
         if difference.is_less(best.difference) || memory.may_be_due(r, usize::from(locations[s])) {
-            best = better(memory, locations, difference, bar, (r, s), best);
+            best = better(memory, locations, may_move, difference, bar, (r, s), best);
         }
     }
     best
 }
 
-/// The exchange of this pair if it may be made and is to be made rather than the best so far, and else that.
+/// The exchange of this pair, whose first facility may move, if it may be made and is to be made rather than the best so far, and else that.
 fn better<N: Number>(
     memory: &Memory,
     locations: &[u16],
+    may_move: &[bool],
     difference: N,
     bar: N,
     pair: (usize, usize),
@@ -101,12 +110,17 @@ fn better<N: Number>(
 ) -> Best<N>
     requires permutation { IsBijection locations.now }
     requires size { memory.now.size ≡ length locations.now }
+    requires movable { length may_move.now ≡ length locations.now }
     requires order { pair.0 < pair.1 }
     requires second { pair.1 < length locations.now }
-    requires best { IsPairIfAny (length locations.now) best.first best.second }
-    ensures { IsPairIfAny (length locations.now) result.first result.second }
+    requires first_moves { Moves may_move.now pair.0 }
+    requires best { IsPairIfAny (length locations.now) may_move.now best.first best.second }
+    ensures { IsPairIfAny (length locations.now) may_move.now result.first result.second }
 {
     let (first, second) = pair;
+    if !may_move[second] {
+        return best;
+    }
     let to = usize::from(locations[second]);
     let back = usize::from(locations[first]);
     let verdict = memory.verdict(first, to, second, back);

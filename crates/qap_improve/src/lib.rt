@@ -16,4 +16,4 @@ mod tabu;
 
 pub use descent::{Improved, exchange};
 pub use pair::difference;
-pub use tabu::{Always, Hook, TabuPlan, tabu_search};
+pub use tabu::{Always, Hook, TabuPlan, tabu_search, tabu_search_among};

@@ -7,7 +7,7 @@ use rand_xoshiro::Xoshiro256PlusPlus;
 use std::alloc::{AllocError, Global};
 
 /// How long both facilities of an exchange have to be away from where it would put them before it goes before others: in
-/// iterations, as a multiple of the square of the number of facilities.
+/// iterations, as a multiple of the square of the number of facilities that may move.
 const PATIENCE: u64 = 5;
 
 /// What the memory says of an exchange.
@@ -24,26 +24,31 @@ pub enum Verdict {
 #[derive(Drop)]
 pub struct Memory {
     pub size: usize,
-    /// The iteration at hand. The count begins with the square of the number of facilities.
+    /// How many facilities may move.
+    moving: usize,
+    /// The iteration at hand. The count begins with the square of the number of facilities that may move.
     now: u64,
     /// Listed by facilities, from which iteration on they are free to go to each location.
     free_from: Vec<u64>,
     random: Xoshiro256PlusPlus,
     ghost small: { size ≤ 256 },
+    ghost among: { moving ≤ 256 },
     ghost square: { vec_len free_from ≡ size * size },
 }
 
 impl Memory {
-    /// That of a search among `n` facilities that has made no exchange.
-    pub fn new(alloc: Global, n: usize, seed: u64) -> Result<Memory, AllocError>
-        requires { n ≤ 256 }
+    /// That of a search among `n` facilities, so many of which may move, that has made no exchange.
+    pub fn new(alloc: Global, n: usize, moving: usize, seed: u64) -> Result<Memory, AllocError>
+        requires few { n ≤ 256 }
+        requires among { moving ≤ n }
         ensures { IfOk result (λ m. m.size ≡ n) }
     {
-        let now = (n * n) as u64;
-        let free_from = numbers(alloc, now)?;
+        let now = (moving * moving) as u64;
+        let free_from = numbers(alloc, (n * n) as u64, now.max(1))?;
         let random = Xoshiro256PlusPlus::seed_from_u64(seed);
         Ok(Memory {
             size: n,
+            moving,
             now,
             free_from,
             random,
@@ -78,7 +83,7 @@ impl Memory {
 
     /// The iteration before which a facility has to have been free to go to a location for that to be very long.
     fn long_ago(&self) -> u64 {
-        let square = (self.size * self.size) as u64;
+        let square = (self.moving * self.moving) as u64;
         self.now.saturating_sub(PATIENCE * square)
     }
 
@@ -100,20 +105,21 @@ impl Memory {
         self.free_from[place] = self.now.saturating_add(tenure);
     }
 
-    /// A number of iterations between 0.9 and 1.1 times the number of facilities, at random.
+    /// A number of iterations between 0.9 and 1.1 times the number of facilities that may move, at random.
     fn tenure(&mut self) -> u64
         ensures { self.new.size ≡ self.old.size }
     {
-        let n = self.size as u64;
+        let n = self.moving as u64;
         let least = 9 * n / 10;
         let most = 11 * n / 10;
         least + self.random.next_u64() % (most - least + 1)
     }
 }
 
-/// The numbers from 0 to `count - 1`.
-fn numbers(alloc: Global, count: u64) -> Result<Vec<u64>, AllocError>
+/// So many numbers: from 0 to `round - 1`, and then from 0 again.
+fn numbers(alloc: Global, count: u64, round: u64) -> Result<Vec<u64>, AllocError>
+    requires { 0 < round }
     ensures { IfOk result (λ v. vec_len v ≡ count) }
 {
-    (0..count).collect(alloc)
+    (0..count).map(|i| i % round).collect(alloc)
 }

@@ -1,10 +1,12 @@
 //! Robust tabu search: the best exchange that isn't forbidden, over and over (Taillard 1991).
 
-ghost use Rattle.std.specs.Prelude.{◌≡◌, ◌+◌, ◌*◌, ◌<◌, ◌≤ℤ◌, IfOk, length};
+ghost use Rattle.std.specs.Prelude.{◌≡◌, ◌+◌, ◌*◌, ◌<◌, ◌≤◌, ◌≤ℤ◌, ℕ, Bool, List, IfOk, length};
 ghost use Rattle.qap_improve.specs.Arrangement.{HasEntriesWithin};
 ghost use Rattle.qap_cost.specs.Instance.{IsInstance, Problem};
 ghost use Rattle.qap_cost.specs.Objective.{Permutes, cost_of};
-ghost use Rattle.qap_improve.specs.Walk.{IsWalk};
+ghost use Rattle.qap_improve.specs.Walk.{IsWalk, WalkKeeps};
+ghost use Rattle.qap_improve.specs.Exchange.{exchanging};
+ghost use Rattle.qap_improve.specs.Moving.{KeepsOthers};
 ghost use Rattle.qap_cost.specs.Bijection.{IsBijection, IsPerm};
 
 use crate::arrangement::{Arrangement, arranged, exchange_two};
@@ -72,12 +74,57 @@ pub fn tabu_search<H: Hook>(
     ensures cost { IfOk result (λ x. x.cost ≡ cost_of instance.now x.permutation) }
     ensures no_dearer { IfOk result (λ x. x.cost ≤ℤ cost_of instance.now start.now) }
 {
-    let mut memory = Memory::new(alloc, instance.size(), plan.seed)?;
+    let all = vec![in alloc; true; instance.size()]?;
+    tabu_search_among(alloc, instance, start, &all, plan, hook)
+}
+
+/// The same, where the facilities for which `may_move` is false keep the locations that `start` gives them: it exchanges two that may move
+/// alone. What it remembers it keeps for as long as a search among as many facilities as may move.
+pub fn tabu_search_among<H: Hook>(
+    alloc: Global,
+    instance: &Instance,
+    start: &Perm,
+    may_move: &[bool],
+    plan: &TabuPlan,
+    hook: &mut H,
+) -> Result<Improved, AllocError>
+    requires same_size { length start.now ≡ instance.now.size }
+    requires movable { length may_move.now ≡ instance.now.size }
+    ensures permutation { IfOk result (λ x. Permutes instance.now x.permutation) }
+    ensures cost { IfOk result (λ x. x.cost ≡ cost_of instance.now x.permutation) }
+    ensures no_dearer { IfOk result (λ x. x.cost ≤ℤ cost_of instance.now start.now) }
+    ensures kept { IfOk result (λ x. KeepsOthers may_move.now start.now x.permutation) }
+{
+    let moving = moving_in(may_move);
+    let mut memory = Memory::new(alloc, instance.size(), moving, plan.seed)?;
     if has_small_entries(instance) {
-        search::<i64, H>(alloc, instance, start, plan.iterations, &mut memory, hook)
+        search::<i64, H>(
+            alloc,
+            instance,
+            start,
+            may_move,
+            plan.iterations,
+            &mut memory,
+            hook,
+        )
     } else {
-        search::<i128, H>(alloc, instance, start, plan.iterations, &mut memory, hook)
+        search::<i128, H>(
+            alloc,
+            instance,
+            start,
+            may_move,
+            plan.iterations,
+            &mut memory,
+            hook,
+        )
     }
+}
+
+/// How many facilities may move.
+fn moving_in(may_move: &[bool]) -> usize
+    ensures { result ≤ length may_move.now }
+{
+    may_move.iter().filter(|moves| **moves).count()
 }
 
 /// The same, where the differences are kept in numbers of this width.
@@ -85,17 +132,20 @@ fn search<N: Number, H: Hook>(
     alloc: Global,
     instance: &Instance,
     start: &Perm,
+    may_move: &[bool],
     iterations: u64,
     memory: &mut Memory,
     hook: &mut H,
 ) -> Result<Improved, AllocError>
     requires same_size { length start.now ≡ instance.now.size }
+    requires movable { length may_move.now ≡ instance.now.size }
     requires memory { memory.old.size ≡ instance.now.size }
     requires instance { IsInstance instance.now }
     requires limited { HasEntriesWithin N.limit instance.now }
     ensures permutation { IfOk result (λ x. Permutes instance.now x.permutation) }
     ensures cost { IfOk result (λ x. x.cost ≡ cost_of instance.now x.permutation) }
     ensures no_dearer { IfOk result (λ x. x.cost ≤ℤ cost_of instance.now start.now) }
+    ensures kept { IfOk result (λ x. KeepsOthers may_move.now start.now x.permutation) }
 {
     let mut walk = begun::<N>(alloc, instance, start)?;
     for _ in 0..iterations {
@@ -103,7 +153,7 @@ fn search<N: Number, H: Hook>(
             break;
         }
         memory.advance();
-        step(instance, &mut walk, memory);
+        step(instance, may_move, &mut walk, memory);
     }
     Ok(best_of(walk))
 }
@@ -115,6 +165,8 @@ fn begun<N: Number>(alloc: Global, instance: &Instance, start: &Perm) -> Result<
     requires same_size { length start.now ≡ instance.now.size }
     ensures walk { IfOk result (IsWalk N.value N.limit instance.now) }
     ensures cost { IfOk result (λ walk. walk.best_cost ≡ cost_of instance.now start.now) }
+    ensures here { IfOk result (λ walk. walk.arrangement.locations.items ≡ start.now) }
+    ensures best { IfOk result (λ walk. walk.best.items ≡ start.now) }
 {
     let cost = cost(instance, start);
     let arrangement = arranged(alloc, instance, start.locations())?;
@@ -144,18 +196,21 @@ fn best_of<N: Number>(walk: Walk<N>) -> Improved
     }
 }
 
-/// Makes the exchange that is to be made next, if there is one.
-fn step<N: Number>(instance: &Instance, walk: &mut Walk<N>, memory: &mut Memory)
+/// Makes the exchange that is to be made next of two facilities that may move, if there is one.
+fn step<N: Number>(instance: &Instance, may_move: &[bool], walk: &mut Walk<N>, memory: &mut Memory)
     requires walk { IsWalk N.value N.limit instance.now walk.old }
+    requires movable { length may_move.now ≡ instance.now.size }
     requires size { memory.old.size ≡ instance.now.size }
     ensures walk { IsWalk N.value N.limit instance.now walk.new }
     ensures no_dearer { walk.new.best_cost ≤ℤ walk.old.best_cost }
+    ensures kept { (start : List ℕ) → WalkKeeps may_move.now start walk.old → WalkKeeps may_move.now start walk.new }
     ensures size { memory.new.size ≡ instance.now.size }
 {
     let bar = N::at_least(walk.best_cost - walk.cost);
     let chosen = choose(
         memory,
         &walk.arrangement.locations,
+        may_move,
         &walk.differences.entries,
         bar,
     );
@@ -186,6 +241,8 @@ fn make_exchange<N: Number>(instance: &Instance, walk: &mut Walk<N>, r: usize, s
     requires second { s < instance.now.size }
     ensures walk { IsWalk N.value N.limit instance.now walk.new }
     ensures best_cost { walk.new.best_cost ≡ walk.old.best_cost }
+    ensures here { walk.new.arrangement.locations.items ≡ exchanging walk.old.arrangement.locations.items r s }
+    ensures best { walk.new.best.items ≡ walk.old.best.items }
 {
     let place = r * instance.size() + s;
     walk.cost += number_at(&walk.differences.entries, place).widen();
@@ -197,6 +254,7 @@ fn make_exchange<N: Number>(instance: &Instance, walk: &mut Walk<N>, r: usize, s
 fn keep_if_best<N: Number>(walk: &mut Walk<N>)
     requires { length walk.old.best.items ≡ length walk.old.arrangement.locations.items }
     ensures walk { (I : Problem) → IsWalk N.value N.limit I walk.old → IsWalk N.value N.limit I walk.new }
+    ensures kept { (may_move : List Bool) (start : List ℕ) → WalkKeeps may_move start walk.old → WalkKeeps may_move start walk.new }
     ensures no_dearer { walk.new.best_cost ≤ℤ walk.old.best_cost }
 {
     if walk.cost < walk.best_cost {

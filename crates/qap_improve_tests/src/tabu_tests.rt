@@ -2,7 +2,7 @@
 
 use crate::tests::{Range, cost_by_sum, instance_of, permutation_of};
 use qap_cost::{Instance, Perm, least_by_listing};
-use qap_improve::{Always, Hook, TabuPlan, tabu_search};
+use qap_improve::{Always, Hook, TabuPlan, tabu_search, tabu_search_among};
 use std::alloc::{AllocError, Global};
 use std::process::Abort;
 use std::test::Fail;
@@ -146,5 +146,66 @@ fn equal_seeds_give_equal_answers(rt: HostRuntime) -> Result<(), Fail> {
     assert_eq!(rt; first.0.as_slice(), second.0.as_slice());
     assert_eq!(rt; first.1, second.1);
     assert_eq!(rt; patient.asked, 40);
+    Ok(())
+}
+
+/// The locations and the cost that a search among the facilities that may move answers; `None` where it may not be begun.
+fn told_search_among(
+    alloc: Global,
+    instance: &Instance,
+    start: &Perm,
+    may_move: &[bool],
+) -> Result<Option<(Vec<u16>, i128)>, AllocError> {
+    if start.len() != instance.size() || may_move.len() != instance.size() {
+        return Ok(None);
+    }
+    let plan = TabuPlan {
+        seed: 2,
+        iterations: 300,
+    };
+    let end = tabu_search_among(alloc, instance, start, may_move, &plan, &mut Always)?;
+    let locations = Vec::from_slice(alloc, end.permutation.locations())?;
+    Ok(Some((locations, end.cost)))
+}
+
+/// What the arrangement with these locations costs.
+fn cost_at(alloc: Global, instance: &Instance, locations: &[u16]) -> Result<i128, Fail> {
+    let permutation = permutation_of(alloc, locations)?.ok_or("permutation")?;
+    Ok(cost_by_sum(instance, &permutation).ok_or("sum")?)
+}
+
+/// The least cost of the six arrangements that leave facility 1 of 4 at location 1.
+fn least_of_six(alloc: Global, instance: &Instance) -> Result<i128, Fail> {
+    let mut least = cost_at(alloc, instance, &[0, 1, 2, 3])?;
+    for locations in [[0, 1, 3, 2], [2, 1, 0, 3], [2, 1, 3, 0], [3, 1, 0, 2], [3, 1, 2, 0]] {
+        least = least.min(cost_at(alloc, instance, &locations)?);
+    }
+    Ok(least)
+}
+
+#[test]
+fn moves_the_free_facilities_alone(rt: HostRuntime) -> Result<(), Fail> {
+    let alloc = rt.alloc();
+    for seed in 1..9 {
+        let instance = instance_of(alloc, 4, seed, Range::Whole)?.ok_or("instance")?;
+        let start = permutation_of(alloc, &[3, 1, 0, 2])?.ok_or("start")?;
+        let may_move = [true, false, true, true];
+        let (locations, cost) =
+            told_search_among(alloc, &instance, &start, &may_move)?.ok_or("size")?;
+        assert_eq!(rt; locations.get(1).copied(), Some(1));
+        assert_eq!(rt; cost, least_of_six(alloc, &instance)?, "by seed {seed}");
+    }
+    Ok(())
+}
+
+#[test]
+fn leaves_all_where_none_may_move(rt: HostRuntime) -> Result<(), Fail> {
+    let alloc = rt.alloc();
+    let instance = instance_of(alloc, 3, 1, Range::Small)?.ok_or("instance")?;
+    let start = permutation_of(alloc, &[2, 0, 1])?.ok_or("start")?;
+    for may_move in [[false; 3], [false, true, false]] {
+        let (locations, _) = told_search_among(alloc, &instance, &start, &may_move)?.ok_or("size")?;
+        assert_eq!(rt; locations.as_slice(), start.locations());
+    }
     Ok(())
 }

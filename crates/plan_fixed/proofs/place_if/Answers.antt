@@ -1,5 +1,3 @@
-use Rattle.std.proofs.Common.{◌+◌, sym}
-use Rattle.plan_fixed.specs.Sorting.{IsSortedTo}
 use Rattle.plan_fixed.proofs.Sortings.{IsSortedTo-more, IsSortedTo-skip, free_location, on_ok_with}
 use Rattle.plan_fixed.proofs.place_if.Goals as goal
 

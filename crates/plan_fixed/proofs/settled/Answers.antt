@@ -1,7 +1,6 @@
 use Rattle.std.proofs.Common.{◌≡◌, ◌∙◌, ap₂, get_or, set, sym}
 use Rattle.std.proofs.lemmas.List.{get_or_default}
-use Rattle.qap_improve.specs.Exchange.{exchanging}
-use Rattle.plan_fixed.proofs.Settlings.{settled_already, settled_by_exchange, stands_somewhere}
+use Rattle.plan_fixed.proofs.Settlings.{settled_by_exchange, stands_somewhere}
 use Rattle.plan_fixed.proofs.settled.Goals as goal
 
 pub returns-then-other-facility : goal.returns-then-other-facility
