@@ -1,8 +1,6 @@
 //! What no clause says: that calls succeed, what worked tables are read as, and how each refusal is told.
 
-use plan_table::{
-    NamedMatrix, Point, decimal_text, read_matrix, read_places, read_trips, read_trips_between,
-};
+use plan_table::{NamedMatrix, Point, decimal_text, read_matrix, read_places, read_trips};
 use std::process::Abort;
 use std::test::Fail;
 
@@ -322,23 +320,6 @@ fn tells_what_is_wrong_with_trips(rt: HostRuntime) -> Result<(), Fail> {
         };
         assert_eq!(rt; told.as_str(), want);
     }
-    Ok(())
-}
-
-#[test]
-fn tells_of_a_name_that_no_department_has(rt: HostRuntime) -> Result<(), Fail> {
-    let alloc = rt.alloc();
-    let mut departments = Vec::new(alloc);
-    departments.push(String::from_str(alloc, "A")?)?;
-    let text = b"from,to,amount\nA,A,1\nA,B,3\n";
-    let told = match read_trips_between(alloc, text, departments) {
-        Ok(_) => String::from_str(alloc, "read")?,
-        Err(error) => format!(in alloc; "{error}")?,
-    };
-    assert_eq!(rt;
-        told.as_str(),
-        "line 3, field 2: no department has the name \"B\": mend it, or add it to the departments of the plan"
-    );
     Ok(())
 }
 

@@ -1,6 +1,6 @@
 //! Searches an instance for a permutation of least cost among those that keep what is fixed.
 
-ghost use Rattle.std.specs.Prelude.{◌≡◌, ◌≤ℤ◌, ◌⊎◌, IfOk, IfSome, length};
+ghost use Rattle.std.specs.Prelude.{◌≡◌, IfOk, IfSome};
 ghost use Rattle.qap_cost.specs.Objective.{Permutes, cost_of};
 ghost use Rattle.qap_cost.specs.Placement.{Completes};
 ghost use Rattle.qap_plan.specs.Keeping.{IsKept, IsNoDearerKept, IsSearched, ProvesKept};
@@ -9,8 +9,8 @@ ghost use Rattle.qap_plan.specs.Options.{AreLimited};
 use crate::keeper::Keeper;
 use crate::memory_limit::WithinMemory;
 use crate::options::Options;
-use crate::planning::{Planned, improved, planned_by, proved_by};
-use plan_fixed::{ascending, completed, completes};
+use crate::planning::{Planned, UntilStopped, planned_by, proved_by};
+use plan_fixed::{ascending, completed, completes, improved_keeping};
 use qap_cost::{Instance, Partial, Perm, cost};
 use qap_search::{Always, Branching, Pace, Plan, Stop, identity, prove_from, solve_least_from};
 use std::alloc::{AllocError, Global};
@@ -60,8 +60,8 @@ where
     Ok(kept_or_first(instance, fixed, first, planned_by(found)))
 }
 
-/// The permutation that the search begins with: the better one of the start, or any, and of what a tabu search comes to from there, each made to keep
-/// what is fixed.
+/// The permutation that the search begins with: what a tabu search comes to that keeps what is fixed, from the start, or any, made to keep
+/// it.
 fn kept_start<S: Stop>(
     alloc: Global,
     instance: &Instance,
@@ -76,9 +76,10 @@ fn kept_start<S: Stop>(
     ensures no_dearer { IfOk result (λ p. IsNoDearerKept instance.now fixed.now start (cost_of instance.now p)) }
 {
     let own = own_start(alloc, instance, fixed, start)?;
-    let found = improved(alloc, instance, Some(own.copy()?), options, stop)?;
-    let kept = completed(fixed, &found)?;
-    Ok(cheaper(instance, kept, own))
+    let plan = options.tabu_plan();
+    let mut hook = UntilStopped { stop };
+    let found = improved_keeping(alloc, instance, fixed, &own, &plan, &mut hook)?;
+    Ok(found.permutation)
 }
 
 /// The start, or the permutation that leaves each facility at the location of its number, made to keep what is fixed.
@@ -96,20 +97,6 @@ fn own_start(
     match start {
         Some(start) => completed(fixed, &start),
         None => completed(fixed, &identity(alloc, instance)?),
-    }
-}
-
-/// The one of two permutations that costs less.
-fn cheaper(instance: &Instance, first: Perm, second: Perm) -> Perm
-    requires first { length first ≡ instance.now.size }
-    requires second { length second ≡ instance.now.size }
-    ensures one { (result ≡ first) ⊎ (result ≡ second) }
-    ensures no_dearer { cost_of instance.now result ≤ℤ cost_of instance.now second }
-{
-    if cost(instance, &first) <= cost(instance, &second) {
-        first
-    } else {
-        second
     }
 }
 

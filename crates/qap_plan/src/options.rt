@@ -2,6 +2,7 @@
 
 ghost use Rattle.std.specs.Prelude.{◌≡◌, ◌<◌};
 
+use qap_improve::TabuPlan;
 use qap_search::Crew;
 
 /// The most workers.
@@ -52,6 +53,14 @@ impl Options {
             workers: self.workers,
             lease_ms: LEASE_MS,
             limit: self.limit(size),
+        }
+    }
+
+    /// The tabu search before it.
+    pub fn tabu_plan(&self) -> TabuPlan {
+        TabuPlan {
+            iterations: self.improve,
+            seed: self.seed,
         }
     }
 

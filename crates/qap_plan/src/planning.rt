@@ -10,7 +10,7 @@ use crate::keeper::Keeper;
 use crate::memory_limit::WithinMemory;
 use crate::options::Options;
 use qap_cost::{Instance, Partial, Perm};
-use qap_improve::{Hook, TabuPlan, tabu_search};
+use qap_improve::{Hook, tabu_search};
 use qap_proof::Proof;
 use qap_search::{
     Always, Bounded, Branching, Pace, Plan, Proved, Report, Stop, identity, prove_from,
@@ -132,8 +132,8 @@ pub(crate) fn decided(reports: &[Report]) -> u64 {
 
 /// Lets a tabu search go on until its stop is wanted.
 #[derive(Drop)]
-struct UntilStopped<'a, S: Stop> {
-    stop: &'a S,
+pub(crate) struct UntilStopped<'a, S: Stop> {
+    pub(crate) stop: &'a S,
 }
 
 impl<S: Stop> Hook for UntilStopped<'_, S> {
@@ -155,10 +155,7 @@ pub(crate) fn improved<S: Stop>(
     ensures no_dearer { IfOk result (λ p. IsNoDearer instance.now start (cost_of instance.now p)) }
 {
     let first = first_of(alloc, instance, start)?;
-    let plan = TabuPlan {
-        iterations: options.improve,
-        seed: options.seed,
-    };
+    let plan = options.tabu_plan();
     let found = tabu_search(alloc, instance, &first, &plan, &mut UntilStopped { stop })?;
     Ok(found.permutation)
 }
