@@ -1,0 +1,86 @@
+"""Checks the documents: documents.py links FILE.. | length FILE.. | commands FILE..
+
+Prints a line for each link that names nothing, for each document that is too long, and for each command that does not
+exist. The cases run it on the documents of the project; those in docs/reference/ are also checked to be current.
+"""
+
+import pathlib
+import re
+import shlex
+import sys
+
+ROOT = pathlib.Path(__file__).resolve().parent.parent
+README_LINES = 120
+LINES = 500
+FENCE = re.compile(r"^\s*```.*?^\s*```", re.M | re.S)
+
+
+def documents():
+    """All documents of the project, by their paths from its folder."""
+    found = [ROOT / name for name in ("docs", "examples", "tests", "bench")]
+    paths = sorted(ROOT.glob("*.md")) + sorted(path for folder in found for path in folder.rglob("*.md"))
+    return [str(path.relative_to(ROOT)) for path in paths]
+
+
+def anchors(text):
+    """The names of the sections of a document, as links give them."""
+    titles = re.findall(r"^#+ (.+)$", FENCE.sub("", text), re.M)
+    return {re.sub(r"[^\w\- ]", "", title.lower()).replace(" ", "-") for title in titles}
+
+
+def links(name):
+    """What is wrong with the links of a document."""
+    text = FENCE.sub("", (ROOT / name).read_text())
+    for target in re.findall(r"\]\(([^)\s]+)\)", text):
+        if re.match(r"[a-z]+:", target):
+            continue
+        path, _, section = target.partition("#")
+        file = (ROOT / name).parent / path if path else ROOT / name
+        if not file.exists():
+            yield f"{name}: {target}: no such file"
+        elif section and section not in anchors(file.read_text()):
+            yield f"{name}: {target}: no such section"
+
+
+def length(name):
+    """Whether a document is too long."""
+    lines = len((ROOT / name).read_text().splitlines())
+    most = README_LINES if name == "README.md" else LINES
+    if lines > most and not name.startswith(("docs/reference/", "docs/history/")):
+        yield f"{name}: {lines} lines, where {most} are the most"
+
+
+def commands(name):
+    """Which commands that a document shows do not exist: those of its shell blocks, and those in its text that begin
+    with bin/ or make."""
+    text = (ROOT / name).read_text()
+    shown = [line for block in re.findall(r"^```sh\n(.*?)^```", text, re.M | re.S) for line in block.splitlines()]
+    shown += re.findall(r"`((?:bin/|make )[^`]+)`", FENCE.sub("", text))
+    targets = re.findall(r"^(\w+):", (ROOT / "Makefile").read_text(), re.M)
+    for line in shown:
+        words = shlex.split(line, comments=True)
+        if not words:
+            continue
+        if words[0] == "make":
+            known = len(words) == 1 or words[1] in targets
+        else:
+            known = (ROOT / words[1 if words[0] in ("bash", "sh") else 0]).is_file()
+        if not known:
+            yield f"{name}: no command {line}"
+
+
+def cases():
+    command = f"python3 -B {shlex.quote(str(pathlib.Path(__file__).resolve()))}"
+    names = " ".join(map(shlex.quote, documents()))
+    yield f"case: links\nrun: {command} links {names}"
+    yield f"case: length\nrun: {command} length {names}"
+    yield f"case: commands of the README\nrun: {command} commands README.md"
+    if (ROOT / "docs" / "reference").exists():
+        yield f"case: the reference is current\nrun: {shlex.quote(str(ROOT / 'bin' / 'reference'))} --check"
+
+
+if __name__ == "__main__":
+    kinds = {"links": links, "length": length, "commands": commands}
+    for name in sys.argv[2:]:
+        for fault in kinds[sys.argv[1]](name):
+            print(fault)
