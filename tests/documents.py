@@ -12,6 +12,7 @@ import sys
 ROOT = pathlib.Path(__file__).resolve().parent.parent
 README_LINES = 120
 LINES = 500
+MADE = ROOT / "dist", ROOT / "docs" / "reference"  # Written by commands, and perhaps not yet.
 FENCE = re.compile(r"^\s*```.*?^\s*```", re.M | re.S)
 
 
@@ -35,7 +36,9 @@ def links(name):
         if re.match(r"[a-z]+:", target):
             continue
         path, _, section = target.partition("#")
-        file = (ROOT / name).parent / path if path else ROOT / name
+        file = ((ROOT / name).parent / path).resolve() if path else ROOT / name
+        if any(folder in file.parents and not folder.exists() for folder in MADE):
+            continue
         if not file.exists():
             yield f"{name}: {target}: no such file"
         elif section and section not in anchors(file.read_text()):
@@ -69,12 +72,25 @@ def commands(name):
             yield f"{name}: no command {line}"
 
 
+def checker_cases():
+    """The commands of docs/VERIFY.md, on three examples."""
+    command = f"python3 -B {shlex.quote(str(ROOT / 'docs' / 'check.py'))}"
+    for name, cost in (("chr12a.cert", 9552), ("nug12.proof", 578), ("workshop.proof", 360)):
+        instance = name.split(".")[0] + ".dat"
+        yield f"case: check.py on {name}\nuse: examples/{instance} examples/{name}"
+        yield f"run: {command} {instance} {name}\nstdout: optimal {cost}"
+        yield f"case: check.py on {name}, altered\nuse: examples/{instance} examples/{name}\nrun:"
+        yield f"    sed '0,/^b [-0-9]*/s//b 999999/' {name} > altered\n    {command} {instance} altered"
+        yield "stdout matches: refused: line \\d+: the duals do not fit\nstatus: 1"
+
+
 def cases():
     command = f"python3 -B {shlex.quote(str(pathlib.Path(__file__).resolve()))}"
     names = " ".join(map(shlex.quote, documents()))
     yield f"case: links\nrun: {command} links {names}"
     yield f"case: length\nrun: {command} length {names}"
     yield f"case: commands of the README\nrun: {command} commands README.md"
+    yield from checker_cases()
     if (ROOT / "docs" / "reference").exists():
         yield f"case: the reference is current\nrun: {shlex.quote(str(ROOT / 'bin' / 'reference'))} --check"
 
