@@ -3,7 +3,7 @@ use Rattle.std.proofs.Common.{List, ℕ, codes}
 use Rattle.toml.specs.Data.{Members}
 use Rattle.plan_file.specs.Plan.{HasSome, IsFaultOf, IsFixingFault, IsNamesFault, IsPlanFault, IsTable}
 use Rattle.plan_file.specs.declared.error.PlanError.{PlanError}
-use Rattle.plan_file.specs.declared.error.PlanError.TheVariants.{Syntax, UnknownKey, NoText, NeitherKey, BothKeys, MissingKey, LoneKey, OtherMetric, NoDecimals, ExactMetric, Departments, Fixed, OutOfMemory}
+use Rattle.plan_file.specs.declared.error.PlanError.TheVariants.{Syntax, UnknownKey, NoText, ControlInText, NeitherKey, BothKeys, MissingKey, LoneKey, OtherMetric, NoDecimals, ExactMetric, Departments, Fixed, OutOfMemory}
 
 pub fault_of_names : (ms : Members) (e : PlanError) → HasSome ms (codes "departments") → IsNamesFault e → IsFaultOf ms e
 fault_of_names ms (Departments fault) there h = there
@@ -11,6 +11,7 @@ fault_of_names ms OutOfMemory there h = tt
 fault_of_names ms (Syntax place message) there h = absurd h
 fault_of_names ms (UnknownKey key) there h = absurd h
 fault_of_names ms (NoText key found) there h = absurd h
+fault_of_names ms (ControlInText key code) there h = absurd h
 fault_of_names ms (NeitherKey key other) there h = absurd h
 fault_of_names ms (BothKeys key other) there h = absurd h
 fault_of_names ms (MissingKey key other) there h = absurd h
@@ -26,6 +27,7 @@ fault_of_fixing ms OutOfMemory there h = tt
 fault_of_fixing ms (Syntax place message) there h = absurd h
 fault_of_fixing ms (UnknownKey key) there h = absurd h
 fault_of_fixing ms (NoText key found) there h = absurd h
+fault_of_fixing ms (ControlInText key code) there h = absurd h
 fault_of_fixing ms (NeitherKey key other) there h = absurd h
 fault_of_fixing ms (BothKeys key other) there h = absurd h
 fault_of_fixing ms (MissingKey key other) there h = absurd h
@@ -41,6 +43,7 @@ fault_of_table text ms (Syntax place message) is h = absurd h
 fault_of_table text ms OutOfMemory is h = tt
 fault_of_table text ms (UnknownKey key) is h = (ms, is, h)
 fault_of_table text ms (NoText key found) is h = (ms, is, h)
+fault_of_table text ms (ControlInText key code) is h = (ms, is, h)
 fault_of_table text ms (NeitherKey key other) is h = (ms, is, h)
 fault_of_table text ms (BothKeys key other) is h = (ms, is, h)
 fault_of_table text ms (MissingKey key other) is h = (ms, is, h)

@@ -1,14 +1,14 @@
 -- Names in lists of a plan, and departments at places, one more at the end.
-use Rattle.std.proofs.Common.{◌≡◌, ◌++◌, ◌∷◌, ◌∙◌, ℕ, ◌+◌, ◌<◌, List, [], length, length-append, map, String, Global, ap, refl, string_bytes, subst, sym, arith}
+use Rattle.std.proofs.Common.{◌≡◌, ◌++◌, ◌∷◌, ◌∙◌, ℕ, List, [], map, String, Global, ap, refl, string_bytes, subst, sym}
 use Rattle.std.proofs.lemmas.List.{map-append}
-use Rattle.toml.specs.Data.{Data, Items, Members, item, string, push_item}
+use Rattle.toml.specs.Data.{item, string, push_item}
 use Rattle.toml.specs.View.{members_view, view}
 use Rattle.toml.proofs.Views.{Entry}
 use Rattle.qap_cost.specs.Placement.{Placement, placing}
 use Rattle.plan_table.specs.Names.{AreDifferent, IsNew}
 use Rattle.plan_table.proofs.NameLists.{AreDifferent-more}
 use Rattle.plan_file.specs.Fixing.{AreFixed, AreNamed, IsNameAt}
-use Rattle.plan_file.specs.Plan.{ArePins, strings_of}
+use Rattle.plan_file.specs.Plan.{ArePins, IsPin, strings_of}
 use Rattle.plan_file.specs.declared.source.Pin.{Pin}
 
 pub strings_push : (ss : List (List ℕ)) (s : List ℕ) → strings_of (ss ++ s ∷ []) ≡ push_item (strings_of ss) (string s)
@@ -35,12 +35,11 @@ AreFixed-more departments places pins x newer pin f k so_far department place pl
     })
 
 -- an entry more of a table, and its pin
-pub ArePins-more : (done : List Entry) (e : Entry) (pins : List Pin) (pin : Pin) → ArePins (members_view done) pins → string_bytes pin.department ≡ string_bytes e.0 → view e.1 ≡ string (string_bytes pin.place)
-    → ArePins (members_view (done ++ e ∷ [])) (pins ++ pin ∷ [])
-ArePins-more [] e [] pin so_far department place = (department, place, tt)
-ArePins-more [] e (p ∷ pins) pin so_far department place = absurd so_far
-ArePins-more (d ∷ done) e [] pin so_far department place = absurd so_far
-ArePins-more (d ∷ done) e (p ∷ pins) pin so_far department place = (so_far.0, so_far.1, ArePins-more done e pins pin so_far.2 department place)
+pub ArePins-more : (done : List Entry) (e : Entry) (pins : List Pin) (pin : Pin) → ArePins (members_view done) pins → IsPin (string_bytes e.0) (view e.1) pin → ArePins (members_view (done ++ e ∷ [])) (pins ++ pin ∷ [])
+ArePins-more [] e [] pin so_far is = (is, tt)
+ArePins-more [] e (p ∷ pins) pin so_far is = absurd so_far
+ArePins-more (d ∷ done) e [] pin so_far is = absurd so_far
+ArePins-more (d ∷ done) e (p ∷ pins) pin so_far is = (so_far.0, ArePins-more done e pins pin so_far.1 is)
 
 -- one name more
 pub names_more : (names newer : List (String Global)) (own : String Global) → newer ≡ names ++ own ∷ [] → AreDifferent (map string_bytes names) → IsNew (map string_bytes names) (string_bytes own)

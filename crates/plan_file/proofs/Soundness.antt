@@ -1,5 +1,5 @@
 -- What a plan says is sound.
-use Rattle.std.proofs.Common.{◌≡◌, ◌≤◌, ℕ, Option, Some, None, arith, codes}
+use Rattle.std.proofs.Common.{◌≤◌, ℕ, Option, Some, None, arith, codes}
 use Rattle.toml.specs.Data.{Data, Members, get_member}
 use Rattle.plan_metric.specs.Metric.{IsFine}
 use Rattle.plan_metric.specs.declared.metric.Metric.{Metric}

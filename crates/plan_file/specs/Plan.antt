@@ -1,7 +1,9 @@
 -- A plan: a text in TOML that names the files of its tables, and says what is fixed.
-use Rattle.std.specs.Prelude.{◌≡◌, ◌≢◌, ◌⊎◌, ⊤, ℕ, ◌≤◌, List, [], ◌∷◌, map, Option, None, Some, IsUtf8, ℤ, pos, codes, string_bytes}
+use Rattle.std.specs.Prelude.{◌≡◌, ◌≢◌, ◌⊎◌, ⊤, ℕ, ◌≤◌, List, [], ◌∷◌, map, Option, None, Some, IsUtf8, pos, codes, string_bytes}
 use Rattle.toml.specs.Data.{Data, Items, no_items, item, Members, no_members, member, string, integer, array, table, get_member}
 use Rattle.toml.specs.Parse.{parse_document}
+use Rattle.std.specs.Str.{chars}
+use Rattle.plan_table.specs.Control.{HasNoControl, shown_chars}
 use Rattle.plan_table.specs.Names.{AreNames}
 use Rattle.plan_metric.specs.declared.metric.Metric.{Metric}
 use Rattle.plan_metric.specs.declared.metric.Metric.TheVariants.{Rectilinear, Euclidean, Squared}
@@ -76,12 +78,19 @@ SaysDistances ms (far.Matrix file) =
     NamesFile ms (codes "distances") (codes "places") (string_bytes file) × HasNone ms (codes "metric") × HasNone ms (codes "decimals")
 SaysDistances ms (far.Places file metric) = NamesFile ms (codes "places") (codes "distances") (string_bytes file) × SaysMetric ms metric
 
+-- a key with its text, neither of which has a control character
+pub record IsPin (key : List ℕ) (d : Data) (pin : Pin) : Type 0 where
+  pub department : string_bytes pin.department ≡ key
+  pub place : d ≡ string (string_bytes pin.place)
+  pub visible_department : HasNoControl (string_bytes pin.department)
+  pub visible_place : HasNoControl (string_bytes pin.place)
+
 -- each key with its text, one after another
 abbrev pub ArePins : Members → List Pin → Type 0
 ArePins no_members [] = ⊤
 ArePins no_members (p ∷ ps) = ⊥
 ArePins (member k d ms) [] = ⊥
-ArePins (member k d ms) (p ∷ ps) = (string_bytes p.department ≡ k) × (d ≡ string (string_bytes p.place)) × ArePins ms ps
+ArePins (member k d ms) (p ∷ ps) = IsPin k d p × ArePins ms ps
 
 -- a table of departments and places, or none
 abbrev pub SaysFixed : Option Data → List Pin → Type 0
@@ -105,11 +114,16 @@ HasSome ms key = (d : Data) × (get_member key ms ≡ Some d)
 abbrev pub HasNoText : Members → List ℕ → Type 0
 HasNoText ms key = (d : Data) × (get_member key ms ≡ Some d) × ((text : List ℕ) → d ≢ string text)
 
--- what an error says of the table
+-- it has a text there with a control character
+abbrev pub HasControl : Members → List ℕ → Type 0
+HasControl ms key = (text : List ℕ) × HasText ms key text × (HasNoControl text → ⊥)
+
+-- what an error says of the table; the key that it tells is shown as messages show it
 abbrev pub IsFaultOf : Members → PlanError → Type 0
 IsFaultOf ms (error.Syntax place message) = ⊥
-IsFaultOf ms (error.UnknownKey key) = (IsKnown (string_bytes key) → ⊥) × (AreKnown ms → ⊥)
+IsFaultOf ms (error.UnknownKey key) = (raw : List ℕ) × (string_bytes key ≡ shown_chars (chars raw)) × (IsKnown raw → ⊥) × (AreKnown ms → ⊥)
 IsFaultOf ms (error.NoText key found) = HasNoText ms key.now
+IsFaultOf ms (error.ControlInText key code) = HasControl ms key.now
 IsFaultOf ms (error.NeitherKey key other) = HasNone ms key.now × HasNone ms other.now
 IsFaultOf ms (error.BothKeys key other) = HasSome ms key.now × HasSome ms other.now
 IsFaultOf ms (error.MissingKey key other) = HasNone ms key.now × HasSome ms other.now

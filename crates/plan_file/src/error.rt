@@ -25,6 +25,12 @@ pub enum PlanError {
         key: &'static str,
         found: &'static str,
     },
+    /// The text at a key has a control character.
+    #[error("the key \"{key}\" has the control character U+{code:04X}: write its text without line breaks, tabs and other control characters")]
+    ControlInText {
+        key: &'static str,
+        code: u32,
+    },
     /// Neither of two keys is there.
     #[error("the keys \"{key}\" and \"{other}\" are both missing: name the file of that table by one of them, as `{key} = \"{key}.csv\"`")]
     NeitherKey {
@@ -88,6 +94,9 @@ pub enum NamesFault {
     /// A name is empty.
     #[error("the key \"departments[{number}]\" is empty: write a name there, or take it away")]
     EmptyName { number: usize },
+    /// A name has a control character.
+    #[error("the key \"departments[{number}]\" has the control character U+{code:04X}: write names without line breaks, tabs and other control characters")]
+    ControlInName { number: usize, code: u32 },
     /// A name stands twice.
     #[error("the key \"departments[{number}]\": the name \"{name}\" stands twice: give each department a name of its own")]
     NameTwice { number: usize, name: String },
@@ -100,6 +109,18 @@ pub enum PinsFault {
     #[error("the key \"fixed\" has the type {found}: write `[fixed]` on a line of its own, and below it a line as `Saw = \"A\"` for each department that stays at its place")]
     NoTable {
         found: &'static str,
+    },
+    /// The name of a department has a control character; it is told as messages show it.
+    #[error("the key \"fixed.{department}\" has the control character U+{code:04X}: write names without line breaks, tabs and other control characters")]
+    ControlInDepartment {
+        department: String,
+        code: u32,
+    },
+    /// The name of a place has a control character.
+    #[error("the key \"fixed.{department}\": the place's name has the control character U+{code:04X}: write names without line breaks, tabs and other control characters")]
+    ControlInPlace {
+        department: String,
+        code: u32,
     },
     /// A place is no text.
     #[error("the key \"fixed.{department}\" has the type {found}: write the name of a place in quotes")]

@@ -3,16 +3,17 @@
 ghost use Rattle.std.specs.Prelude.{◌≡◌, ◌<◌, IfErr, IfOk, OnOk, length, map, string_bytes};
 ghost use Rattle.toml.specs.Data.{string};
 ghost use Rattle.toml.specs.View.{items_view, view};
+ghost use Rattle.plan_table.specs.Control.{HasNoControl};
 ghost use Rattle.plan_table.specs.Names.{AreNames, IsNew};
 ghost use Rattle.plan_file.specs.Plan.{IsNamesFault, strings_of};
 
 use crate::error::{NamesFault, PlanError};
 use crate::lookup::text_in;
-use plan_table::{MAX_NAMES, find_name};
+use plan_table::{MAX_NAMES, find_name, first_control};
 use std::alloc::Global;
 use toml::Value;
 
-/// The names of a list: 1 to 256, none empty and none twice.
+/// The names of a list: 1 to 256, none empty, none with a control character and none twice.
 pub fn names_of(alloc: Global, items: &[Value]) -> Result<Vec<String>, PlanError>
     ensures items { IfOk result (λ names. items_view items.now ≡ strings_of (map string_bytes names.items)) }
     ensures names { IfOk result (λ names. AreNames (map string_bytes names.items)) }
@@ -45,7 +46,7 @@ fn name_of(alloc: Global, item: &Value, number: usize) -> Result<String, PlanErr
     }
 }
 
-/// The name, where it isn't empty and none of the others is it.
+/// The name, where it isn't empty, has no control character, and none of the others is it.
 fn new_name(others: &[String], name: String, number: usize) -> Result<String, PlanError>
     ensures name { IfOk result (λ own. (own ≡ name) × IsNew (map string_bytes others.now) (string_bytes own)) }
     ensures refused { IfErr result IsNamesFault }
@@ -53,8 +54,23 @@ fn new_name(others: &[String], name: String, number: usize) -> Result<String, Pl
     if name.is_empty() {
         return Err(PlanError::Departments(NamesFault::EmptyName { number }));
     }
+    check_visible(name.as_str(), number)?;
     if find_name(others, name.as_str()).is_some() {
         return Err(PlanError::Departments(NamesFault::NameTwice { number, name }));
     }
     Ok(name)
+}
+
+/// Checks that a name has no control character.
+fn check_visible(name: &str, number: usize) -> Result<(), PlanError>
+    ensures visible { OnOk result (HasNoControl name.now) }
+    ensures refused { IfErr result IsNamesFault }
+{
+    match first_control(name) {
+        Some(control) => Err(PlanError::Departments(NamesFault::ControlInName {
+            number,
+            code: u32::from(control),
+        })),
+        None => Ok(()),
+    }
 }

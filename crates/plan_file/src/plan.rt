@@ -12,6 +12,7 @@ use crate::measuring::distances_of;
 use crate::place::TextPlace;
 use crate::source::Plan;
 use crate::values::{fixed_of, flows_of};
+use plan_table::shown;
 use std::alloc::Global;
 use toml::de::Error;
 use toml::{Table, table_from_slice};
@@ -48,7 +49,7 @@ fn syntax_error(alloc: Global, text: &[u8], error: &Error) -> PlanError
     let Some(span) = error.span() else {
         return PlanError::OutOfMemory;
     };
-    match String::from_str(alloc, error.message()) {
+    match shown(alloc, error.message()) {
         Ok(message) => PlanError::Syntax {
             place: TextPlace::behind(&text[..span.start.min(text.len())]),
             message,
@@ -64,7 +65,7 @@ fn check_keys(alloc: Global, table: &Table) -> Result<(), PlanError>
 {
     match unknown_key(table) {
         Some(key) => Err(PlanError::UnknownKey {
-            key: String::from_str(alloc, key)?,
+            key: shown(alloc, key)?,
         }),
         None => Ok(()),
     }

@@ -1,32 +1,41 @@
 //! What stands at the keys of a plan.
 
-ghost use Rattle.std.specs.Prelude.{◌≡◌, IfErr, IfOk, MatchOption, None, Some, codes, map, string_bytes};
-ghost use Rattle.toml.specs.Data.{array, get_member, string};
+ghost use Rattle.std.specs.Prelude.{◌≡◌, IfErr, IfOk, IfSome, MatchOption, None, OnOk, Some, codes, map, string_bytes};
+ghost use Rattle.toml.specs.Data.{array, get_member};
 ghost use Rattle.toml.specs.View.{table_view, view};
+ghost use Rattle.plan_table.specs.Control.{HasNoControl};
 ghost use Rattle.plan_table.specs.Names.{AreNames};
-ghost use Rattle.plan_file.specs.Plan.{ArePins, HasNone, HasText, IsFaultOf, IsFixingFault, SaysFixed, SaysFlows, strings_of};
+ghost use Rattle.plan_file.specs.Plan.{ArePins, HasNone, HasText, IsFaultOf, IsFixingFault, IsPin, SaysFixed, SaysFlows, strings_of};
 
 use crate::error::{NamesFault, PinsFault, PlanError};
 use crate::lookup::{items_in, table_in, text_in, value_at};
 use crate::names::names_of;
 use crate::source::{Flows, Pin};
+use plan_table::{first_control, shown};
 use std::alloc::Global;
 use toml::{Table, Value};
 
-/// The text at a key, where there is anything.
+/// The text at a key, where there is anything. It has no control character.
 pub fn text_of(alloc: Global, table: &Table, key: &'static str) -> Result<Option<String>, PlanError>
     ensures text { IfOk result (λ found. MatchOption found (HasNone (table_view table.now) key.now) (λ s. HasText (table_view table.now) key.now (string_bytes s))) }
+    ensures visible { IfOk result (λ found. IfSome found (λ s. HasNoControl (string_bytes s))) }
     ensures refused { IfErr result (IsFaultOf (table_view table.now)) }
 {
     let Some(value) = value_at(table, key) else {
         return Ok(None);
     };
-    match text_in(value) {
-        Some(text) => Ok(Some(String::from_str(alloc, text)?)),
-        None => Err(PlanError::NoText {
+    let Some(text) = text_in(value) else {
+        return Err(PlanError::NoText {
             key,
             found: value.type_str(),
+        });
+    };
+    match first_control(text) {
+        Some(control) => Err(PlanError::ControlInText {
+            key,
+            code: u32::from(control),
         }),
+        None => Ok(Some(String::from_str(alloc, text)?)),
     }
 }
 
@@ -105,18 +114,48 @@ fn pins_of(alloc: Global, table: &Table) -> Result<Vec<Pin>, PlanError>
 
 /// A department with its place.
 fn pin_of(alloc: Global, department: &str, value: &Value) -> Result<Pin, PlanError>
-    ensures pin { IfOk result (λ pin. (string_bytes pin.department ≡ department.now) × (view value.now ≡ string (string_bytes pin.place))) }
+    ensures pin { IfOk result (IsPin department.now (view value.now)) }
     ensures refused { IfErr result IsFixingFault }
 {
-    let department = String::from_str(alloc, department)?;
-    match text_in(value) {
-        Some(place) => Ok(Pin {
-            department,
-            place: String::from_str(alloc, place)?,
-        }),
-        None => Err(PlanError::Fixed(PinsFault::NoPlace {
-            department,
+    check_department(alloc, department)?;
+    let own = String::from_str(alloc, department)?;
+    let Some(place) = text_in(value) else {
+        return Err(PlanError::Fixed(PinsFault::NoPlace {
+            department: own,
             found: value.type_str(),
+        }));
+    };
+    check_place(alloc, department, place)?;
+    Ok(Pin {
+        department: own,
+        place: String::from_str(alloc, place)?,
+    })
+}
+
+/// Checks that the name of a department has no control character.
+fn check_department(alloc: Global, department: &str) -> Result<(), PlanError>
+    ensures visible { OnOk result (HasNoControl department.now) }
+    ensures refused { IfErr result IsFixingFault }
+{
+    match first_control(department) {
+        Some(control) => Err(PlanError::Fixed(PinsFault::ControlInDepartment {
+            department: shown(alloc, department)?,
+            code: u32::from(control),
         })),
+        None => Ok(()),
+    }
+}
+
+/// Checks that the name of a department's place has no control character.
+fn check_place(alloc: Global, department: &str, place: &str) -> Result<(), PlanError>
+    ensures visible { OnOk result (HasNoControl place.now) }
+    ensures refused { IfErr result IsFixingFault }
+{
+    match first_control(place) {
+        Some(control) => Err(PlanError::Fixed(PinsFault::ControlInPlace {
+            department: shown(alloc, department)?,
+            code: u32::from(control),
+        })),
+        None => Ok(()),
     }
 }

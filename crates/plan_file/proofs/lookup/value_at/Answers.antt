@@ -1,4 +1,3 @@
-use Rattle.std.proofs.Common.{ap}
 use Rattle.toml.proofs.Views.{table_get}
 use Rattle.toml.specs.View.{table_view}
 use Rattle.plan_file.proofs.Members.{found_at}

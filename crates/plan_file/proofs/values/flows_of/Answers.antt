@@ -1,4 +1,3 @@
-use Rattle.std.proofs.Common.{codes}
 use Rattle.plan_file.proofs.values.flows_of.Goals as goal
 
 pub returns-in-Some-None-Some-clause-refused : goal.returns-in-Some-None-Some-clause-refused

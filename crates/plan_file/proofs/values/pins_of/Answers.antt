@@ -1,8 +1,8 @@
 use Rattle.std.proofs.Common.{◌≡◌, ◌++◌, ◌∷◌, ◌∙◌, [], ap, append_assoc, arith, rules, subst, sym}
 use Rattle.std.proofs.lemmas.Grind.{common_steps}
 use Rattle.toml.proofs.Views.{Entry}
-use Rattle.toml.specs.View.{members_view}
-use Rattle.plan_file.specs.Plan.{ArePins}
+use Rattle.toml.specs.View.{members_view, view}
+use Rattle.plan_file.specs.Plan.{ArePins, IsPin}
 use Rattle.plan_file.proofs.Fixings.{ArePins-more}
 use Rattle.plan_file.proofs.values.pins_of.Goals as goal
 
@@ -21,5 +21,5 @@ pins-preserved c =
       whole = so_far.whole ∙ ap (λ t. done ++ t) iter ∙ sym (append_assoc done (e ∷ []) c.next.new.self);
       read =
           subst (λ l. ArePins (members_view (done ++ e ∷ [])) l) (sym pushed)
-          (ArePins-more done e c.pins.pins.items pin so_far.read (c.in_ok-pin.ensures.pin.0 ∙ c.as_str.ensures.value) c.in_ok-pin.ensures.pin.1);
+          (ArePins-more done e c.pins.pins.items pin so_far.read (subst (λ k. IsPin k (view e.1) pin) c.as_str.ensures.value c.in_ok-pin.ensures.pin));
     }
