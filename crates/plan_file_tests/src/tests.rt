@@ -23,7 +23,7 @@ fn told(rt: &HostRuntime, text: &[u8]) -> Result<String, Fail> {
 /// A text, and what it says.
 type Told = (&'static [u8], &'static str);
 
-const PLANS: [Told; 24] = [
+const PLANS: [Told; 29] = [
     (
         b"\xef\xbb\xbf# a plan\r\nflows = \"trips.csv\"\r\n\r\ndistances = 'metres.csv' # far\r\n",
         "trips.csv metres.csv 0",
@@ -119,6 +119,26 @@ const PLANS: [Told; 24] = [
     (
         b"flows = \"a.csv\"\ndistances = \"t.csv\"\n[fixed]\nSaw = 4\n",
         "the key \"fixed.Saw\" has the type integer: write the name of a place in quotes",
+    ),
+    (
+        b"flows = \"a\\u001b.csv\"\ndistances = \"t.csv\"\n",
+        "the key \"flows\" has the control character U+001B: write its text without line breaks, tabs and other control characters",
+    ),
+    (
+        b"trips = \"a.csv\"\ndistances = \"t.csv\"\ndepartments = [\"A\", \"B\\ncost 0\"]\n",
+        "the key \"departments[2]\" has the control character U+000A: write names without line breaks, tabs and other control characters",
+    ),
+    (
+        b"flows = \"a.csv\"\ndistances = \"t.csv\"\n[fixed]\n\"Saw\\u0007\" = \"A\"\n",
+        "the key \"fixed.Saw\\u{7}\" has the control character U+0007: write names without line breaks, tabs and other control characters",
+    ),
+    (
+        b"flows = \"a.csv\"\ndistances = \"t.csv\"\n[fixed]\nSaw = \"A\\u0085\"\n",
+        "the key \"fixed.Saw\": the place's name has the control character U+0085: write names without line breaks, tabs and other control characters",
+    ),
+    (
+        b"\"fl\\u001b[2Jows\" = \"a.csv\"\n",
+        "the key \"fl\\u{1b}[2Jows\" is unknown: a plan has the keys flows or trips, departments, distances or places, metric, decimals and fixed",
     ),
 ];
 
@@ -300,11 +320,11 @@ fn finds_the_dearest_pairs(rt: HostRuntime) -> Result<(), Fail> {
 }
 
 /// Boxes of 44 by 46 pixels: each name has at most 3 letters. The places lie 30 and 40 apart, so that 16 pixels stand for 1; an eighth of the way across is
-/// left above and below, and of the way down on either side.
+/// left above and below, and of the way down on either side. What no XML document may have in the title is replaced.
 const PICTURE: &str =
     "<svg xmlns=\"http://www.w3.org/2000/svg\" width=\"740\" height=\"902\" viewBox=\"0 0 740 902\" font-family=\"monospace\">
 <rect width=\"740\" height=\"902\" fill=\"white\"/>
-<text x=\"28\" y=\"34\" font-size=\"16\">cost &quot;28&quot;</text>
+<text x=\"28\" y=\"34\" font-size=\"16\">\u{fffd}cost &quot;28&quot;\u{fffd}</text>
 <g fill=\"none\" stroke=\"#3b6ea5\" stroke-opacity=\"0.6\">
 <path d=\"M 610 151 Q 210 350 130 791\" stroke-width=\"9.0\"/>
 </g>
@@ -332,7 +352,7 @@ fn draws_an_arrangement(rt: HostRuntime) -> Result<(), Fail> {
         panic!(rt; "these locations are a permutation");
     };
     assert!(rt; permutation.len() == problem.instance.size());
-    let text = picture(alloc, &problem, &permutation, "cost \"28\"")?;
+    let text = picture(alloc, &problem, &permutation, "\u{fffe}cost \"28\"\u{b}")?;
     let told = std::str::from_utf8(&text).unwrap_or("");
     assert_eq!(rt; told, PICTURE);
     Ok(())

@@ -1,11 +1,29 @@
 -- Names as text of an XML document (Extensible Markup Language 1.0, 2.2 and 2.4).
-use Rattle.std.specs.Prelude.{ℕ, List, [], ◌∷◌, ◌++◌, codes, ◌==◌, nat_lt, if◌then◌else◌}
+use Rattle.std.specs.Prelude.{ℕ, Bool, List, [], ◌∷◌, ◌++◌, codes, ◌==◌, ◌||◌, nat_lt, if◌then◌else◌}
+use Rattle.std.specs.Char.{encode_utf8}
+use Rattle.std.specs.Int.{is_in_range}
+use Rattle.std.specs.Str.{chars}
 
--- a byte that has a meaning of its own there is written as the entity that stands for it; a control character, which no document may have, as a blank
-abbrev pub escaped_byte : ℕ → List ℕ
-escaped_byte b =
-    if b == 38 then codes "&amp;" else if b == 60 then codes "&lt;" else if b == 62 then codes "&gt;" else if b == 34 then codes "&quot;" else if nat_lt b 32 then codes " " else b ∷ []
+-- a character that a document may have (production 2)
+abbrev pub is_xml_char : ℕ → Bool
+is_xml_char c = (c == 0x9) || (c == 0xA) || (c == 0xD) || is_in_range 0x20 0xD7FF c || is_in_range 0xE000 0xFFFD c || is_in_range 0x10000 0x10FFFF c
+
+-- U+FFFD, the replacement character
+abbrev pub replacement : List ℕ
+replacement = encode_utf8 0xFFFD
+
+-- one that no document may have is replaced; one that ends a line, or a tab, is a blank
+abbrev pub plain_char : ℕ → List ℕ
+plain_char c = if is_xml_char c then (if nat_lt c 0x20 then codes " " else encode_utf8 c) else replacement
+
+-- one that has a meaning of its own is written as the entity that stands for it
+abbrev pub escaped_char : ℕ → List ℕ
+escaped_char c =
+    if c == 38 then codes "&amp;" else if c == 60 then codes "&lt;" else if c == 62 then codes "&gt;" else if c == 34 then codes "&quot;" else plain_char c
+
+abbrev pub escaped_chars : List ℕ → List ℕ
+escaped_chars [] = []
+escaped_chars (c ∷ cs) = escaped_char c ++ escaped_chars cs
 
 abbrev pub escaped : List ℕ → List ℕ
-escaped [] = []
-escaped (b ∷ bs) = escaped_byte b ++ escaped bs
+escaped text = escaped_chars (chars text)

@@ -90,7 +90,7 @@ fn push_head(
 {
     let head = opening(alloc, width, height)?;
     text.extend_from_slice(head.as_bytes())?;
-    text.extend_from_slice(&escaped(alloc, title.as_bytes())?)?;
+    text.extend_from_slice(&escaped(alloc, title)?)?;
     text.extend_from_slice(b"</text>\n")?;
     Ok(())
 }

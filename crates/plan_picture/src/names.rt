@@ -17,13 +17,13 @@ pub fn push_shown(alloc: Global, text: &mut Vec<u8>, name: &str) -> Result<(), A
 {
     if name.width() > MAX_COLUMNS {
         text.extend_from_slice(b"<title>")?;
-        text.extend_from_slice(&escaped(alloc, name.as_bytes())?)?;
+        text.extend_from_slice(&escaped(alloc, name)?)?;
         text.extend_from_slice(b"</title>")?;
         let cut = cut_name(alloc, name)?;
-        text.extend_from_slice(&escaped(alloc, cut.as_bytes())?)?;
+        text.extend_from_slice(&escaped(alloc, cut.as_str())?)?;
         Ok(())
     } else {
-        text.extend_from_slice(&escaped(alloc, name.as_bytes())?)?;
+        text.extend_from_slice(&escaped(alloc, name)?)?;
         Ok(())
     }
 }

@@ -177,7 +177,13 @@ fn cost_at(alloc: Global, instance: &Instance, locations: &[u16]) -> Result<i128
 /// The least cost of the six arrangements that leave facility 1 of 4 at location 1.
 fn least_of_six(alloc: Global, instance: &Instance) -> Result<i128, Fail> {
     let mut least = cost_at(alloc, instance, &[0, 1, 2, 3])?;
-    for locations in [[0, 1, 3, 2], [2, 1, 0, 3], [2, 1, 3, 0], [3, 1, 0, 2], [3, 1, 2, 0]] {
+    for locations in [
+        [0, 1, 3, 2],
+        [2, 1, 0, 3],
+        [2, 1, 3, 0],
+        [3, 1, 0, 2],
+        [3, 1, 2, 0],
+    ] {
         least = least.min(cost_at(alloc, instance, &locations)?);
     }
     Ok(least)
@@ -190,8 +196,9 @@ fn moves_the_free_facilities_alone(rt: HostRuntime) -> Result<(), Fail> {
         let instance = instance_of(alloc, 4, seed, Range::Whole)?.ok_or("instance")?;
         let start = permutation_of(alloc, &[3, 1, 0, 2])?.ok_or("start")?;
         let may_move = [true, false, true, true];
-        let (locations, cost) =
-            told_search_among(alloc, &instance, &start, &may_move)?.ok_or("size")?;
+        let (locations, cost) = told_search_among(alloc, &instance, &start, &may_move)?.ok_or(
+            "size",
+        )?;
         assert_eq!(rt; locations.get(1).copied(), Some(1));
         assert_eq!(rt; cost, least_of_six(alloc, &instance)?, "by seed {seed}");
     }

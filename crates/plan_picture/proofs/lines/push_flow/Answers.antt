@@ -1,4 +1,4 @@
-use Rattle.std.proofs.Common.{◌≡◌, ◌≢◌, ◌<◌, ◌∙◌, List, ap, arith, get_or, sym, true, ℕ, [], rules}
+use Rattle.std.proofs.Common.{◌≡◌, ◌<◌, ◌∙◌, List, ap, arith, get_or, sym, true, ℕ, [], rules}
 use Rattle.std.specs.Prelude.{if◌then◌else◌, nat_lt, string_bytes}
 use Rattle.std.proofs.lemmas.Bool.{lt-ltb}
 use Rattle.qap_cost.specs.Instance.{Problem}
