@@ -1,0 +1,97 @@
+-- The least numbers of the rows and the columns of a matrix, one row after the other.
+use Rattle.std.proofs.Common.{◌≡◌, ◌≢◌, ℕ, suc, ◌+◌, ◌*◌, ◌<◌, ◌≤◌, arith, refl, sym, ◌∙◌, ap, subst, List, length, get_or, set, inl, inr, get_or-set_other, get_or-set_same}
+use Rattle.std.specs.Prelude.{ℤ, pos, ◌+ℤ◌, ◌-ℤ◌, ◌≤ℤ◌, ◌<ℤ◌, ◌⊎◌, unsigned_abs}
+use Rattle.std.proofs.lemmas.Int.{ints}
+use Rattle.std.proofs.lemmas.Bool.{cases_lt}
+use Rattle.std.proofs.lemmas.List.{length-set}
+use Rattle.qap_cost.specs.Instance.{entry}
+use Rattle.qap_cost.specs.Matrix.{total}
+use Rattle.qap_cost.specs.Range.{AllWithin}
+use Rattle.qap_cost.specs.Sum.{sum_to}
+use Rattle.pair_duals.specs.Filling.{AreEntries}
+use Rattle.pair_duals.specs.Lines.{AreLeastSoFar, IsSmaller, LowersBy, TakesRow}
+use Rattle.pair_duals.specs.Range.{IsSpread}
+use Rattle.pair_duals.specs.Reduced.{AreLeast, IsLeast, less_both, less_row}
+use Rattle.pair_duals.proofs.Widths.{entry-within, entry-apart, IsSpread-from_entries}
+
+-- one more, of which the smaller is taken
+pub IsLeast-more : (f : ℕ → ℤ) (n : ℕ) (old new : ℤ) → IsLeast f n old → IsSmaller old (f n) new → IsLeast f (n + 1) new
+IsLeast-more f n old new h s = record {
+  below = λ r hr.
+      elim (cases_lt r n) [
+        | inl less ↦ let b = h.below r less in let a = s.first in omega (arith, ints, a, b)
+        | inr more ↦
+            let e : r ≡ n = omega arith in
+            let a = s.second in
+            subst (λ (k : ℕ). new ≤ℤ f k) (sym e) a
+      ];
+  reached = elim s.one [
+    | inl same ↦ (h.reached.0, omega (arith, h.reached.1), same ∙ h.reached.2)
+    | inr same ↦ (n, omega arith, same)
+  ];
+}
+
+pub IsLeast-one : (f : ℕ → ℤ) (x : ℤ) → x ≡ f 0 → IsLeast f 1 x
+IsLeast-one f x is = record {
+  below = λ r hr. let e : r ≡ 0 = omega arith in let same = is ∙ ap f (sym e) in omega (arith, ints, same);
+  reached = (0, omega arith, is);
+}
+
+pub smaller_of : (x y least : ℤ) → (y <ℤ x) × (least ≡ y) → IsSmaller x y least
+smaller_of x y least h = record { first = omega (arith, ints, h); second = omega (arith, ints, h); one = inr h.1 }
+
+pub AreLeastSoFar-first : (m : ℕ) (entries u v : List ℤ) → length v ≡ m → TakesRow entries (get_or u 0 (pos 0)) v → AreLeastSoFar m entries u 1 v
+AreLeastSoFar-first m entries u v count h = record {
+  count = count;
+  least = λ c hc.
+      let at : 0 * m + c ≡ c = omega arith in
+      IsLeast-one (less_row m entries u c) (get_or v c (pos 0))
+      (h.each c (omega (arith, count)) ∙ ap (λ k. get_or entries k (pos 0) -ℤ get_or u 0 (pos 0)) (sym at));
+}
+
+pub AreLeastSoFar-more : (m : ℕ) (entries u : List ℤ) (r : ℕ) (old new : List ℤ) → AreLeastSoFar m entries u r old → LowersBy entries (r * m) (get_or u r (pos 0)) old new → AreLeastSoFar m entries u (r + 1) new
+AreLeastSoFar-more m entries u r old new h low = record {
+  count = low.same_length ∙ h.count;
+  least = λ c hc. IsLeast-more (less_row m entries u c) r (get_or old c (pos 0)) (get_or new c (pos 0)) (h.least c hc) (low.each c (omega (arith, h.count)));
+}
+
+-- as far as the rows have been taken
+pub record HasTaken (m : ℕ) (entries u : List ℤ) (rows : ℕ) (v : List ℤ) : Type 0 where
+  pub count : length v ≡ m
+  pub least : 0 < rows → AreLeastSoFar m entries u rows v
+
+pub AreLeast-taken : (m : ℕ) (entries u v : List ℤ) → HasTaken m entries u m v → AreLeast m entries u v
+AreLeast-taken m entries u v h = record { count = h.count; least = λ c hc. (h.least (omega arith)).least c hc }
+
+-- ---- what a line leaves
+
+-- how far from 0 the least numbers lie
+pub least-within : (far limit m : ℕ) (entries u v : List ℤ) (c : ℕ) → length entries ≡ m * m → IsSpread far entries → AllWithin limit u → length u ≡ m → AreLeast m entries u v → c < m → unsigned_abs (get_or v c (pos 0)) ≤ far + limit
+least-within far limit m entries u v c count s range long least hc =
+    let r = (least.least c hc).reached in
+    let e = entry-within far m entries r.0 c count s r.1 hc in
+    let x = range.each r.0 (omega (arith, long, r.1)) in
+    let is = r.2 in
+    omega (arith, ints, e, x, is)
+
+pub line-between : (far limit m : ℕ) (entries u v : List ℤ) (r c : ℕ) → length entries ≡ m * m → IsSpread far entries → AllWithin limit u → length u ≡ m → AreLeast m entries u v → r < m → c < m
+    → (pos 0 ≤ℤ less_both m entries u v r c) × (less_both m entries u v r c ≤ℤ pos (far + 2 * limit))
+line-between far limit m entries u v r c count s range long least hr hc =
+    let at = least.least c hc in
+    let q = at.reached in
+    let below = at.below r hr in
+    let apart = entry-apart far m entries r c q.0 c count s hr hc q.1 hc in
+    let x = range.each q.0 (omega (arith, long, q.1)) in
+    let y = range.each r (omega (arith, long)) in
+    let is = q.2 in (
+      omega (arith, ints, below),
+      omega (arith, ints, apart, x, y, is),
+    )
+
+pub IsSpread-line : (far limit m : ℕ) (entries u v new : List ℤ) → length entries ≡ m * m → length new ≡ m * m → IsSpread far entries → AllWithin limit u → length u ≡ m → AreLeast m entries u v → AreEntries m (less_both m entries u v) new → IsSpread (far + 2 * limit) new
+IsSpread-line far limit m entries u v new count new_count s range long least is =
+    let between : (r c : ℕ) → r < m → c < m → (pos 0 ≤ℤ entry m new r c) × (entry m new r c ≤ℤ pos (far + 2 * limit)) = λ r c hr hc.
+    subst (λ (z : ℤ). (pos 0 ≤ℤ z) × (z ≤ℤ pos (far + 2 * limit))) (sym (is.entries r c hr hc)) (line-between far limit m entries u v r c count s range long least hr hc) in
+    IsSpread-from_entries (far + 2 * limit) m new new_count
+    (λ r c hr hc. let b = between r c hr hc in omega (arith, ints, b))
+    (λ r c q d hr hc hq hd. let a = between r c hr hc in let b = between q d hq hd in omega (arith, ints, a, b))

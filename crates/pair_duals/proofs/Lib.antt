@@ -1,0 +1,11 @@
+pub mod CostSplits
+pub mod Fillings
+pub mod Forms
+pub mod Largests
+pub mod Leasts
+pub mod PairSums
+pub mod Products
+pub mod Seatings
+pub mod Steps
+pub mod Values
+pub mod Widths

@@ -1,0 +1,11 @@
+pub mod CostOfPair
+pub mod Filling
+pub mod Fitting
+pub mod Largest
+pub mod Limits
+pub mod Lines
+pub mod PairDuals
+pub mod Range
+pub mod Reduced
+pub mod Seats
+pub mod Start

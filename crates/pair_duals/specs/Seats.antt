@@ -1,0 +1,10 @@
+-- Where the free facilities of a node stand in a permutation that completes it.
+use Rattle.std.specs.Prelude.{◌≡◌, ℕ, ◌<◌, List, length, slice_index}
+use Rattle.qap_cost.specs.Bijection.{IsBijection}
+use Rattle.qap_cost.specs.Placement.{Placement, free_facilities, free_locations}
+
+-- the free facility of number r stands on the free location of number seat(r)
+pub record Seats (y : Placement) (p seat : List ℕ) : Type 0 where
+  pub bijection : IsBijection seat
+  pub count : length seat ≡ length (free_facilities y)
+  pub stands : (r : ℕ) → r < length seat → slice_index p (slice_index (free_facilities y) r) ≡ slice_index (free_locations y) (slice_index seat r)

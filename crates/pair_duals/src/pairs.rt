@@ -1,0 +1,78 @@
+//! What a pair costs, and what pair duals leave of it.
+
+ghost use Rattle.std.specs.Prelude.{◌≡◌, ◌*◌, ◌^◌, ◌<◌, ◌≤◌, pos, ◌*ℤ◌, length, unsigned_abs};
+ghost use Rattle.qap_cost.specs.Range.{InRange};
+ghost use Rattle.pair_duals.specs.CostOfPair.{cost_of_pair};
+ghost use Rattle.pair_duals.specs.PairDuals.{residual};
+ghost use Rattle.pair_duals.specs.Range.{IsInScale};
+
+use crate::duals::PairDuals;
+use crate::number::Number;
+use qap_cost::Instance;
+
+/// The product of two entries, scaled.
+pub fn scaled_product<N: Number>(scale: u32, a: i64, b: i64) -> N
+    requires scale { scale ≤ 2 ^ 20 }
+    requires a_range { InRange a }
+    requires small { scale * (unsigned_abs a * unsigned_abs b) ≤ N.limits.cost }
+    ensures value { N.value result ≡ pos scale *ℤ (a *ℤ b) }
+    ensures range { unsigned_abs (N.value result) ≤ N.limits.cost }
+{
+    N::product(i64::from(scale) * a, b)
+}
+
+/// What facilities `i` and `j` cost together at locations `k` and `l`, scaled.
+pub fn scaled_pair<N: Number>(
+    instance: &Instance,
+    scale: u32,
+    i: usize,
+    k: usize,
+    j: usize,
+    l: usize,
+) -> N
+    requires i_in { i < instance.now.size }
+    requires k_in { k < instance.now.size }
+    requires j_in { j < instance.now.size }
+    requires l_in { l < instance.now.size }
+    requires scale { scale ≤ 2 ^ 20 }
+    requires in_scale { IsInScale N.limits instance.now scale }
+    ensures value { N.value result ≡ pos scale *ℤ cost_of_pair instance.now i k j l }
+    ensures range { unsigned_abs (N.value result) ≤ 2 * N.limits.cost }
+{
+    let there: N = scaled_product(scale, instance.a(i, j), instance.b(k, l));
+    let back: N = scaled_product(scale, instance.a(j, i), instance.b(l, k));
+    there.plus(back)
+}
+
+/// What the pair duals leave of the scaled cost of facilities number `i` and `j` at locations number `k` and `l`.
+pub fn residual<N: Number>(
+    instance: &Instance,
+    duals: &PairDuals<N>,
+    i: usize,
+    k: usize,
+    j: usize,
+    l: usize,
+) -> N
+    requires size { instance.now.size ≡ duals.now.size }
+    requires in_scale { IsInScale N.limits instance.now duals.now.scale }
+    requires i_in { i < length duals.now.facilities }
+    requires k_in { k < length duals.now.locations }
+    requires j_in { j < length duals.now.facilities }
+    requires l_in { l < length duals.now.locations }
+    ensures value { N.value result ≡ residual instance.now duals.now i k j l }
+    ensures range { unsigned_abs (N.value result) ≤ N.limits.pair }
+{
+    let facility = duals.facility(i);
+    let location = duals.location(k);
+    let cost: N = scaled_pair(
+        instance,
+        duals.scale(),
+        facility,
+        location,
+        duals.facility(j),
+        duals.location(l),
+    );
+    let own = duals.alpha(i, k, j).plus(duals.beta(i, k, l));
+    let other = duals.alpha(j, l, i).plus(duals.beta(j, l, k));
+    cost.minus(own.plus(other))
+}
