@@ -16,9 +16,9 @@ use Rattle.gilmore_lawler.proofs.Skips.{skip, sum_to-apart, length-remove, get_o
 use Rattle.gilmore_lawler.proofs.Splits.{fixed_more}
 use Rattle.pair_duals.specs.CostOfPair.{cost_of_pair}
 use Rattle.pair_duals.specs.Reduced.{sum_of_pairs}
-use Rattle.pair_duals.specs.Seats.{Seats}
+use Rattle.pair_duals.specs.Seats.{Seats, child_at}
 use Rattle.pair_duals.proofs.PairSums.{sum_of_pairs-same, sum_of_pairs-apart}
-use Rattle.pair_duals.proofs.Seatings.{facilities_of, locations_of, same_count, Seats-completed, child_at, facilities_left, locations_left, SeatsFollow, SeatsFollow-child}
+use Rattle.pair_duals.proofs.Seatings.{facilities_of, locations_of, same_count, Seats-completed, facilities_left, locations_left, SeatsFollow, SeatsFollow-child}
 
 -- a pair is the same in either order
 pub cost_of_pair-both : (I : Problem) (i k j l : ℕ) → cost_of_pair I i k j l ≡ cost_of_pair I j l i k

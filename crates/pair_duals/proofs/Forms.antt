@@ -17,10 +17,10 @@ use Rattle.gilmore_lawler.proofs.Skips.{skip, skip-before, skip-after, skip-othe
 use Rattle.pair_duals.specs.CostOfPair.{cost_of_pair}
 use Rattle.pair_duals.specs.PairDuals.{Duals, Fit, alpha_of, beta_of, residual, scaled_cost}
 use Rattle.pair_duals.specs.Reduced.{Form, at, count_of, AreNumbers, AreUnder, IsFormOf, IsNonNegative, IsStart, IsLine, IsChild, dual_entry, left_of_pair, past, sum_but, sum_of_pairs}
-use Rattle.pair_duals.specs.Seats.{Seats}
+use Rattle.pair_duals.specs.Seats.{Seats, child_at}
 use Rattle.pair_duals.proofs.CostSplits.{cost_of_pair-both, cost_split, linear_at, linear_at-is, pair_at, pair_at-is}
 use Rattle.pair_duals.proofs.PairSums.{sum_of_pairs-same, sum_of_pairs-minus, sum_of_pairs-scale, sum_of_pairs-least, sum_of_pairs-apart, sum_to-but, sum_to-nonnegative}
-use Rattle.pair_duals.proofs.Seatings.{facilities_of, locations_of, same_count, one_of_each, Seats-completed, child_at, facilities_left, locations_left, SeatsFollow, SeatsFollow-child}
+use Rattle.pair_duals.proofs.Seatings.{facilities_of, locations_of, same_count, one_of_each, Seats-completed, facilities_left, locations_left, SeatsFollow, SeatsFollow-child}
 
 -- ---- a node's own form
 

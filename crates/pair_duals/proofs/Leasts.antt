@@ -95,3 +95,84 @@ IsSpread-line far limit m entries u v new count new_count s range long least is 
     IsSpread-from_entries (far + 2 * limit) m new new_count
     (λ r c hr hc. let b = between r c hr hc in omega (arith, ints, b))
     (λ r c q d hr hc hq hd. let a = between r c hr hc in let b = between q d hq hd in omega (arith, ints, a, b))
+
+-- ---- as loops go
+
+-- the first so many numbers are the entries less a number
+pub record TakesPart (entries : List ℤ) (own : ℤ) (count : ℕ) (least : List ℤ) : Type 0 where
+  pub each : (c : ℕ) → c < count → get_or least c (pos 0) ≡ get_or entries c (pos 0) -ℤ own
+
+pub TakesPart-more : (entries : List ℤ) (own : ℤ) (c : ℕ) (least : List ℤ) (x : ℤ) → TakesPart entries own c least → c < length least → x ≡ get_or entries c (pos 0) -ℤ own → TakesPart entries own (c + 1) (set least c x)
+TakesPart-more entries own c least x h inside is = record {
+  each = λ d hd.
+      elim (cases_lt d c) [
+        | inl less ↦ get_or-set_other least c d x (pos 0) (λ e. omega arith) ∙ h.each d less
+        | inr more ↦
+            let e : d ≡ c = omega arith in
+            ap (λ k. get_or (set least c x) k (pos 0)) e ∙ get_or-set_same least c x (pos 0) inside ∙ is ∙ ap (λ k. get_or entries k (pos 0) -ℤ own) (sym e)
+      ];
+}
+
+-- the first so many numbers were lowered
+pub record LowersPart (entries : List ℤ) (start : ℕ) (own : ℤ) (count : ℕ) (old new : List ℤ) : Type 0 where
+  pub same_length : length new ≡ length old
+  pub each : (c : ℕ) → c < count → IsSmaller (get_or old c (pos 0)) (get_or entries (start + c) (pos 0) -ℤ own) (get_or new c (pos 0))
+  pub after : (c : ℕ) → count ≤ c → get_or new c (pos 0) ≡ get_or old c (pos 0)
+
+pub LowersPart-none : (entries : List ℤ) (start : ℕ) (own : ℤ) (xs : List ℤ) → LowersPart entries start own 0 xs xs
+LowersPart-none entries start own xs = record { same_length = refl; each = λ c h. absurd (omega arith); after = λ c h. refl }
+
+-- the next one is written
+pub LowersPart-written : (entries : List ℤ) (start : ℕ) (own : ℤ) (c : ℕ) (old new : List ℤ) (x : ℤ) → LowersPart entries start own c old new → c < length new → IsSmaller (get_or new c (pos 0)) (get_or entries (start + c) (pos 0) -ℤ own) x → LowersPart entries start own (c + 1) old (set new c x)
+LowersPart-written entries start own c old new x h inside s = record {
+  same_length = length-set new c x ∙ h.same_length;
+  each = λ d hd.
+      elim (cases_lt d c) [
+        | inl less ↦ subst (λ (z : ℤ). IsSmaller (get_or old d (pos 0)) (get_or entries (start + d) (pos 0) -ℤ own) z) (sym (get_or-set_other new c d x (pos 0) (λ e. omega arith))) (h.each d less)
+        | inr more ↦
+            let e : c ≡ d = omega arith in
+            subst (λ (k : ℕ). IsSmaller (get_or old k (pos 0)) (get_or entries (start + k) (pos 0) -ℤ own) (get_or (set new c x) k (pos 0))) e
+            (subst (λ (z : ℤ). IsSmaller (get_or old c (pos 0)) (get_or entries (start + c) (pos 0) -ℤ own) z) (sym (get_or-set_same new c x (pos 0) inside))
+            (subst (λ (z : ℤ). IsSmaller z (get_or entries (start + c) (pos 0) -ℤ own) x) (h.after c (omega arith)) s))
+      ];
+  after = λ d hd. get_or-set_other new c d x (pos 0) (λ e. omega arith) ∙ h.after d (omega arith);
+}
+
+-- the next one stays
+pub LowersPart-kept : (entries : List ℤ) (start : ℕ) (own : ℤ) (c : ℕ) (old new : List ℤ) → LowersPart entries start own c old new → get_or new c (pos 0) ≤ℤ (get_or entries (start + c) (pos 0) -ℤ own) → LowersPart entries start own (c + 1) old new
+LowersPart-kept entries start own c old new h low = record {
+  same_length = h.same_length;
+  each = λ d hd.
+      elim (cases_lt d c) [
+        | inl less ↦ h.each d less
+        | inr more ↦
+            let e : c ≡ d = omega arith in
+            let is = h.after c (omega arith) in
+            subst (λ (k : ℕ). IsSmaller (get_or old k (pos 0)) (get_or entries (start + k) (pos 0) -ℤ own) (get_or new k (pos 0))) e
+            (record { first = omega (arith, ints, is); second = low; one = inl is })
+      ];
+  after = λ d hd. h.after d (omega arith);
+}
+
+pub LowersBy-all : (entries : List ℤ) (start : ℕ) (own : ℤ) (count : ℕ) (old new : List ℤ) → length old ≡ count → LowersPart entries start own count old new → LowersBy entries start own old new
+LowersBy-all entries start own count old new e h = record { same_length = h.same_length; each = λ c hc. h.each c (omega (arith, e)) }
+
+-- the first so many numbers are the least of their rows
+pub record HasRowLeasts (m : ℕ) (entries : List ℤ) (rows : ℕ) (u : List ℤ) : Type 0 where
+  pub count : length u ≡ m
+  pub least : (r : ℕ) → r < rows → IsLeast (entry m entries r) m (get_or u r (pos 0))
+
+pub HasRowLeasts-more : (m : ℕ) (entries : List ℤ) (r : ℕ) (u : List ℤ) (x : ℤ) → HasRowLeasts m entries r u → r < m → IsLeast (entry m entries r) m x → HasRowLeasts m entries (r + 1) (set u r x)
+HasRowLeasts-more m entries r u x h inside is = record {
+  count = length-set u r x ∙ h.count;
+  least = λ s hs.
+      elim (cases_lt s r) [
+        | inl less ↦ subst (IsLeast (entry m entries s) m) (sym (get_or-set_other u r s x (pos 0) (λ e. omega arith))) (h.least s less)
+        | inr more ↦
+            let e : r ≡ s = omega arith in
+            subst (λ (k : ℕ). IsLeast (entry m entries k) m (get_or (set u r x) k (pos 0))) e (subst (IsLeast (entry m entries r) m) (sym (get_or-set_same u r x (pos 0) (omega (arith, h.count)))) is)
+      ];
+}
+
+pub IsSmaller-kept : (x y least : ℤ) → x ≤ℤ y → least ≡ x → IsSmaller x y least
+IsSmaller-kept x y least low same = record { first = omega (arith, ints, same); second = omega (arith, ints, same, low); one = inl same }

@@ -44,10 +44,14 @@ pub record AreRoomy (m : Limits) : Type 0 where
   pub dual : 4 * m.dual ≤ m.sum
   pub start : 2 * m.start ≤ m.sum
   pub reach : 2 * m.reach ≤ m.sum
+  pub dual_reach : m.dual ≤ m.reach
+  pub wide : m.sum ≤ 10 ^ 34
 
 pub roomy : (m : Limits) → AreEnough m → AreRoomy m
 roomy m h =
     let a = h.pair in
     let b = h.reach in
     let c = h.sum in
-    record { cost = omega arith; pair = omega arith; dual = omega arith; start = omega arith; reach = omega arith }
+    let d = h.value in
+    let one : 1 * m.sum ≤ m.size * m.sum = mul-le _ _ _ _ h.positive (omega arith) in
+    record { cost = omega arith; pair = omega arith; dual = omega arith; start = omega arith; reach = omega arith; dual_reach = omega arith; wide = omega arith }

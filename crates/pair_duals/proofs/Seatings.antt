@@ -9,7 +9,7 @@ use Rattle.qap_cost.proofs.Placements.{ListsFree-free_below}
 use Rattle.gilmore_lawler.proofs.LeftOut.{free_below-more}
 use Rattle.gilmore_lawler.proofs.Lists.{list_of, length-list_of, get_or-list_of, IsBijection-list_of}
 use Rattle.gilmore_lawler.proofs.Skips.{skip, skip-within, length-remove, get_or-remove}
-use Rattle.pair_duals.specs.Seats.{Seats}
+use Rattle.pair_duals.specs.Seats.{Seats, child_at}
 
 -- the free facilities and locations of a node
 pub facilities_of : (y : Placement) → IsPlacement y → ListsFree y.size y.facilities (free_facilities y)
@@ -70,10 +70,6 @@ Seats-completed y p h done =
             sym (known r below).1 ∙ ap (λ c. get_or G c 0) (sym (get_or-list_of f m r below));
       },
     )
-
--- the child of y that puts its free facility number h at its free location number g
-abbrev pub child_at : Placement → ℕ → ℕ → Placement
-child_at y h g = placing y (get_or (free_facilities y) h 0) (get_or (free_locations y) g 0)
 
 pub facilities_left : (y : Placement) (h g : ℕ) → IsPlacement y → h < length (free_facilities y) → free_facilities (child_at y h g) ≡ remove (free_facilities y) h
 facilities_left y h g is below = free_below-more y.size y.facilities h is.facilities below

@@ -69,16 +69,16 @@ IsSpread-child m I D R h g new enough d scale size in_reach within hh hg count i
     let there = is.entries q e hq he in
     omega (arith, ints, old, x, y, here, there)))
 
-value-child : (m : Limits) (depth : ℕ) (lined : Bool) (z e : ℤ) → AreEnough m → 0 < m.size → unsigned_abs z ≤ value_reach depth lined → unsigned_abs e ≤ m.reach → unsigned_abs (z +ℤ e) ≤ value_reach (depth + 1) false
-value-child m depth true z e enough some hz he =
+value-child : (m : Limits) (depth : ℕ) (lined : Bool) (z e : ℤ) → AreEnough m → unsigned_abs z ≤ value_reach depth lined → unsigned_abs e ≤ m.reach → unsigned_abs (z +ℤ e) ≤ value_reach (depth + 1) false
+value-child m depth true z e enough hz he =
     let room = enough.value in
     let sum = enough.sum in
-    let step : 1 * m.sum ≤ m.size * m.sum = mul-le _ _ _ _ (omega arith) (omega arith) in
+    let step : 1 * m.sum ≤ m.size * m.sum = mul-le _ _ _ _ enough.positive (omega arith) in
     omega (arith, ints, hz, he, room, sum, step)
-value-child m depth false z e enough some hz he =
+value-child m depth false z e enough hz he =
     let room = enough.value in
     let sum = enough.sum in
-    let step : 1 * m.sum ≤ m.size * m.sum = mul-le _ _ _ _ (omega arith) (omega arith) in
+    let step : 1 * m.sum ≤ m.size * m.sum = mul-le _ _ _ _ enough.positive (omega arith) in
     omega (arith, ints, hz, he, room, sum, step)
 
 -- the form that was made of these parts is the child's
@@ -96,7 +96,7 @@ IsInReach-child m I D R h g z rows columns entries enough d scale size r within 
       count = count ∙ ap₂ ◌*◌ (sym k) (sym k);
       deep = omega (arith, r.deep, rows_left);
       entries = IsSpread-child m I D R h g entries enough d scale size r within hh hg count is;
-      value = subst (λ (x : ℤ). unsigned_abs x ≤ value_reach (R.depth + 1) false) (sym ez) (value-child m R.depth R.is_lined R.value (at R h g) enough (omega (arith, r.deep)) r.value (omega (arith, own, far)));
+      value = subst (λ (x : ℤ). unsigned_abs x ≤ value_reach (R.depth + 1) false) (sym ez) (value-child m R.depth R.is_lined R.value (at R h g) enough r.value (omega (arith, own, far)));
     }
 
 pub IsChild-made : (I : Problem) (D : Duals) (R : Form) (h g : ℕ) (z : ℤ) (rows columns : List ℕ) (entries : List ℤ) → h < count_of R → z ≡ R.value +ℤ at R h g → rows ≡ remove R.rows h → columns ≡ remove R.columns g → AreEntries (count_of R - 1) (child_entry I D R.rows R.columns R.entries h g) entries

@@ -24,3 +24,10 @@ place_in_layers m j i k hj hi hk =
     let inner = place_in_square m j i hj hi in
     let e : suc (j * m + i) * m ≤ (m * m) * m = mul-le _ _ _ _ inner (omega arith) in
     omega (arith, e)
+
+abbrev pub value_at : List ℤ → ℕ → ℤ
+value_at xs i = get_or xs i (pos 0)
+
+-- where a row of a square ends
+pub row_inside : (m r : ℕ) → r < m → r * m + m ≤ m * m
+row_inside m r h = let e : suc r * m ≤ m * m = mul-le _ _ _ _ h (omega arith) in omega (arith, e)

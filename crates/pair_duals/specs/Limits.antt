@@ -1,5 +1,5 @@
 -- How far from 0 the numbers of a width may lie, so that no sum leaves it.
-use Rattle.std.specs.Prelude.{ℕ, ◌+◌, ◌*◌, ◌^◌, ◌≤◌, Bool, if◌then◌else◌}
+use Rattle.std.specs.Prelude.{ℕ, ◌+◌, ◌*◌, ◌^◌, ◌<◌, ◌≤◌, Bool, if◌then◌else◌}
 
 -- the greatest size of an instance; how far from 0 may lie a scaled product of two entries; a dual, or a number of a line; what the duals
 -- leave of a pair; an entry of a node's own form; an entry of any form; and a sum
@@ -20,6 +20,7 @@ pub record AreEnough (m : Limits) : Type 0 where
   pub reach : 2 * m.start + (m.size + 1) * (2 * m.pair + 2 * m.dual) + 2 * m.dual ≤ m.reach
   pub sum : 2 * m.reach ≤ m.sum
   pub value : 2 * (m.size * m.sum) ≤ 10 ^ 34
+  pub positive : 0 < m.size
   pub small : m.size ≤ 256
 
 -- how far entries lie from 0, and from each other, so many children below a node, where a line was drawn or not

@@ -4,6 +4,7 @@
 mod duals;
 mod fitting;
 mod law;
+mod least;
 mod number;
 mod pairs;
 mod scale;

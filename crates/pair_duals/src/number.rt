@@ -1,7 +1,7 @@
 //! The numbers of pair duals: of 64 bits where the instance and the scale allow it, and else of 128.
 
 ghost use Rattle.std.specs.Prelude.{◌≡◌, ◌+◌, ◌*◌, ◌^◌, ◌≤◌, ℤ, ◌+ℤ◌, ◌-ℤ◌, ◌*ℤ◌, ◌<ℤ◌, ◌↔◌, IsTrue, unsigned_abs};
-ghost use Rattle.std.proofs.Common.{lit≤};
+ghost use Rattle.std.proofs.Common.{lit<, lit≤};
 ghost use Rattle.pair_duals.specs.Limits.{Limits, AreEnough};
 
 /// A whole number of some width, with limits that keep sums within it.
@@ -94,7 +94,7 @@ impl Number for i64 {
         self < other
     }
 
-    ghost enough = { record { pair = lit≤ tt; start = lit≤ tt; reach = lit≤ tt; sum = lit≤ tt; value = lit≤ tt; small = lit≤ tt } };
+    ghost enough = { record { pair = lit≤ tt; start = lit≤ tt; reach = lit≤ tt; sum = lit≤ tt; value = lit≤ tt; positive = lit< tt; small = lit≤ tt } };
 }
 
 impl Number for i128 {
@@ -138,5 +138,5 @@ impl Number for i128 {
         self < other
     }
 
-    ghost enough = { record { pair = lit≤ tt; start = lit≤ tt; reach = lit≤ tt; sum = lit≤ tt; value = lit≤ tt; small = lit≤ tt } };
+    ghost enough = { record { pair = lit≤ tt; start = lit≤ tt; reach = lit≤ tt; sum = lit≤ tt; value = lit≤ tt; positive = lit< tt; small = lit≤ tt } };
 }
