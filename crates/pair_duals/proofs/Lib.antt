@@ -6,6 +6,7 @@ pub mod Leasts
 pub mod PairSums
 pub mod Products
 pub mod Seatings
+pub mod Starts
 pub mod Steps
 pub mod Values
 pub mod Widths

@@ -218,3 +218,8 @@ IsInReach-start m I D x z rows columns entries enough d scale is size of first s
           (λ r c q e hr hc hq he. let a = within r c hr hc in let b = within q e hq he in omega (arith, ints, a, b));
       value = omega (arith, hz);
     }
+
+-- an entry of a form
+pub entry_in_reach : (m : Limits) (R : Form) (r c : ℕ) → AreEnough m → IsInReach m R → r < count_of R → c < count_of R → unsigned_abs (at R r c) + (2 * m.pair + 2 * m.dual) ≤ m.reach
+entry_in_reach m R r c enough h hr hc =
+    omega (arith, entry-within (reach m R.depth R.is_lined) (count_of R) R.entries r c h.count h.entries hr hc, reach-within m R.depth R.is_lined enough (omega (arith, h.deep)))

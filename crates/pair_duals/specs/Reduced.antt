@@ -68,9 +68,13 @@ pub record AreUnder (R : Form) (u v : List ℤ) : Type 0 where
 
 -- ---- a node's own form
 
+-- f, but 0 at k
+abbrev pub but : ℕ → (ℕ → ℤ) → ℕ → ℤ
+but k f j = (if j == k then pos 0 else f j)
+
 -- the sum of f over the numbers below n other than k
 abbrev pub sum_but : ℕ → (ℕ → ℤ) → ℕ → ℤ
-sum_but k f n = sum_to (λ j. (if j == k then pos 0 else f j)) n
+sum_but k f n = sum_to (but k f) n
 
 -- the linear cost, scaled, and the duals for each other free facility and each other free location of y
 abbrev pub dual_entry : Problem → Duals → Placement → List ℕ → List ℕ → ℕ → ℕ → ℤ

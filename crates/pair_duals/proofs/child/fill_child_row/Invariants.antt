@@ -1,0 +1,9 @@
+use Rattle.std.proofs.Common.{◌-◌, map}
+use Rattle.pair_duals.specs.Filling.{FillsPart}
+use Rattle.pair_duals.specs.Reduced.{child_entry, count_of}
+use Rattle.pair_duals.proofs.child.fill_child_row.Given as goal
+
+abbrev pub invariant-loop-c : goal.invariant-loop-c
+invariant-loop-c g l =
+    let value = g.N.Number.value in
+    FillsPart (count_of l.parent - 1) (child_entry l.instance l.duals l.parent.rows l.parent.columns l.parent.entries l.h l.g) l.r l.c (map value l.initial.entries) (map value l.entries)

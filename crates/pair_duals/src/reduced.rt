@@ -1,0 +1,190 @@
+//! The reduced form of a node: a number and a matrix that say, with pair duals, what each completion costs.
+
+ghost use Rattle.std.specs.Prelude.{◌≡◌, ◌+◌, ◌<◌, ◌↔◌, [], ℕ, ℤ, pos, ◌+ℤ◌, ◌<ℤ◌, false, length, map, IfOk, IsTrue, OnErr, OnOk};
+ghost use Rattle.qap_cost.specs.Instance.{Problem};
+ghost use Rattle.qap_cost.specs.Matrix.{total};
+ghost use Rattle.qap_cost.specs.Placement.{Placement, IsPlacement};
+ghost use Rattle.qap_cost.specs.Range.{AllWithin};
+ghost use Rattle.pair_duals.specs.PairDuals.{Duals, AreOf};
+ghost use Rattle.pair_duals.specs.Range.{IsInReach, IsInScale};
+ghost use Rattle.pair_duals.specs.Seats.{child_at};
+ghost use Rattle.pair_duals.specs.Reduced.{Form, AreLeast, AreLeastOfRows, AreWithin, IsChild, IsFormOf, IsLine, IsNonNegative, IsStart, at, count_of, empty_form};
+
+use crate::child::{child_entries, without};
+use crate::duals::PairDuals;
+use crate::least::{least_of_columns, least_of_rows, sum, take_both};
+use crate::number::Number;
+use crate::start::{first_numbers, start_entries};
+use qap_cost::{Instance, Partial};
+use std::alloc::{AllocError, Global};
+use std::marker::Model;
+use std::mem::replace;
+
+/// The reduced form of a node below the one that pair duals belong to: a value `z` and a matrix `R` with a row for each free
+/// facility and a column for each free location. Each completion `p` of the node costs, scaled, `z` and the entries
+/// `R(i, p(i))` and what the duals leave of the pairs of free facilities.
+#[derive(Drop)]
+pub struct Reduced<N: Number> {
+    value: i128,
+    rows: Vec<u16>,
+    columns: Vec<u16>,
+    entries: Vec<N>,
+    depth: usize,
+    is_lined: bool,
+}
+
+impl<N: Number> Model for Reduced<N> {
+    ghost Value = { Form };
+
+    ghost view = { λ s. record { value = s.value; rows = s.rows.items; columns = s.columns.items; entries = map N.value s.entries.items; depth = s.depth; is_lined = s.is_lined } };
+
+    ghost invariant = { λ s. IsInReach N.limits (record { value = s.value; rows = s.rows.items; columns = s.columns.items; entries = map N.value s.entries.items; depth = s.depth; is_lined = s.is_lined }) };
+}
+
+impl<N: Number> Reduced<N> {
+    /// The form with no rows, which has room for none. No memory is taken.
+    pub fn empty(alloc: Global) -> Reduced<N>
+        ensures { result ≡ empty_form }
+    {
+        Reduced { value: 0, rows: Vec::new(alloc), columns: Vec::new(alloc), entries: Vec::new(alloc), depth: 0, is_lined: false }
+    }
+
+    /// The value: where the pair duals fit and no entry is below 0, no completion costs less, scaled.
+    pub fn value(&self) -> i128
+        ensures value { result ≡ self.now.value }
+        ensures reach { IsInReach N.limits self.now }
+    {
+        self.value
+    }
+
+    /// The number of rows, and of columns.
+    pub fn free(&self) -> usize
+        ensures value { result ≡ count_of self.now }
+        ensures reach { IsInReach N.limits self.now }
+    {
+        self.rows.len()
+    }
+
+    /// For each row the number of its facility among those of the pair duals.
+    pub fn rows(&self) -> &[u16]
+        ensures value { result.now ≡ self.now.rows }
+        ensures reach { IsInReach N.limits self.now }
+    {
+        &self.rows
+    }
+
+    /// For each column the number of its location among those of the pair duals.
+    pub fn columns(&self) -> &[u16]
+        ensures value { result.now ≡ self.now.columns }
+        ensures reach { IsInReach N.limits self.now }
+    {
+        &self.columns
+    }
+
+    /// Whether a line has been drawn at the node.
+    pub fn is_lined(&self) -> bool
+        ensures { result ≡ self.now.is_lined }
+    {
+        self.is_lined
+    }
+
+    /// Row `r`, column `c`.
+    pub fn entry(&self, r: usize, c: usize) -> N
+        requires row { r < count_of self.now }
+        requires column { c < count_of self.now }
+        ensures { N.value result ≡ at self.now r c }
+    {
+        self.entries[r * self.rows.len() + c]
+    }
+
+    /// Makes it the form of the node that the pair duals belong to, in the memory that it has where that is enough. Refused
+    /// memory, it is the form with no rows.
+    pub fn start(&mut self, instance: &Instance, node: &Partial, duals: &PairDuals<N>) -> Result<(), AllocError>
+        requires size { instance.now.size ≡ node.now.size }
+        requires duals { AreOf node.now duals.now }
+        requires in_scale { IsInScale N.limits instance.now duals.now.scale }
+        ensures start { OnOk result (IsStart instance.now duals.now node.now self.new) }
+        ensures form { OnOk result (IsFormOf instance.now duals.now node.now self.new) }
+        ensures refused { OnErr result (self.new ≡ empty_form) }
+    {
+        let alloc = *self.rows.allocator();
+        let Reduced { rows, columns, entries, .. } = replace(self, Reduced::empty(alloc));
+        let rows = first_numbers(rows, duals.free())?;
+        let columns = first_numbers(columns, duals.free())?;
+        let entries = start_entries(entries, instance, node, duals)?;
+        let value = i128::from(duals.scale()) * node.fixed_cost(instance);
+        *self = Reduced { value, rows, columns, entries, depth: 0, is_lined: false };
+        Ok(())
+    }
+
+    /// Takes `u[r]` from each row, the least that is left of each column from it, and adds all these numbers to the value;
+    /// then no entry is below 0. Writes the numbers of the columns to `v`.
+    ///
+    /// A node has one line, which keeps the entries within their range at any depth.
+    pub fn line(&mut self, u: &[N], v: &mut [N])
+        requires first { self.old.is_lined ≡ false }
+        requires rows { length u.now ≡ count_of self.old }
+        requires columns { length v.old ≡ count_of self.old }
+        requires range { AllWithin N.limits.dual (map N.value u.now) }
+        ensures line { IsLine self.old self.new (map N.value u.now) (map N.value v.new) }
+        ensures least { IsNonNegative self.new }
+        ensures form { (I : Problem) (D : Duals) (y : Placement) → IsPlacement y → IsFormOf I D y self.old → IsFormOf I D y self.new }
+    {
+        least_of_columns(&self.entries, u, v);
+        take_both(&mut self.entries, u, v);
+        self.value += sum(u) + sum(v);
+        self.is_lined = true;
+    }
+
+    /// Makes `child` the form of the child that puts row `h` at column `g`, in the memory that `child` has where that is enough.
+    /// Refused memory, `child` is the form with no rows.
+    pub fn child(&self, instance: &Instance, duals: &PairDuals<N>, h: usize, g: usize, child: &mut Reduced<N>) -> Result<(), AllocError>
+        requires row { h < count_of self.now }
+        requires column { g < count_of self.now }
+        requires size { instance.now.size ≡ duals.now.size }
+        requires in_scale { IsInScale N.limits instance.now duals.now.scale }
+        requires within { AreWithin duals.now self.now.rows self.now.columns }
+        ensures child { OnOk result (IsChild instance.now duals.now self.now h g child.new) }
+        ensures form { OnOk result ((y : Placement) → IsPlacement y → IsFormOf instance.now duals.now y self.now → IsFormOf instance.now duals.now (child_at y h g) child.new) }
+        ensures refused { OnErr result (child.new ≡ empty_form) }
+    {
+        let alloc = *self.rows.allocator();
+        let Reduced { rows, columns, entries, .. } = replace(child, Reduced::empty(alloc));
+        let value = self.value + self.entry(h, g).widen();
+        let entries = child_entries(entries, instance, duals, self, h, g)?;
+        let rows = without(rows, &self.rows, h)?;
+        let columns = without(columns, &self.columns, g)?;
+        *child = Reduced { value, rows, columns, entries, depth: self.depth + 1, is_lined: false };
+        Ok(())
+    }
+
+    /// Whether the value is above the threshold.
+    pub fn closes(&self, threshold: i128) -> bool
+        ensures { IsTrue result ↔ threshold <ℤ self.now.value }
+    {
+        self.value > threshold
+    }
+
+    /// Whether the child that puts row `h` at column `g` has a value above the threshold.
+    pub fn prunes(&self, h: usize, g: usize, threshold: i128) -> bool
+        requires row { h < count_of self.now }
+        requires column { g < count_of self.now }
+        ensures { IsTrue result ↔ threshold <ℤ (self.now.value +ℤ at self.now h g) }
+    {
+        self.value + self.entry(h, g).widen() > threshold
+    }
+
+    /// Whether the value, the least entry of each row, and the least of what these leave in each column, are together above the
+    /// threshold. Writes these numbers to `u` and `v`.
+    pub fn closes_trivially(&self, threshold: i128, u: &mut [N], v: &mut [N]) -> bool
+        requires rows { length u.old ≡ count_of self.now }
+        requires columns { length v.old ≡ count_of self.now }
+        ensures rows { AreLeastOfRows (count_of self.now) self.now.entries (map N.value u.new) }
+        ensures columns { AreLeast (count_of self.now) self.now.entries (map N.value u.new) (map N.value v.new) }
+        ensures closes { IsTrue result ↔ threshold <ℤ (self.now.value +ℤ (total (map N.value u.new) +ℤ total (map N.value v.new))) }
+    {
+        least_of_rows(&self.entries, u);
+        least_of_columns(&self.entries, u, v);
+        self.value + (sum(u) + sum(v)) > threshold
+    }
+}
