@@ -5,6 +5,7 @@ pub mod Largests
 pub mod Leasts
 pub mod PairSums
 pub mod Products
+pub mod Reaches
 pub mod Seatings
 pub mod Starts
 pub mod Steps

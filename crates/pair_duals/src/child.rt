@@ -118,7 +118,14 @@ fn entry_of_child<N: Number>(
     let (rows, columns) = (parent.rows(), parent.columns());
     let row = past(h, r);
     let column = past(g, c);
-    let left = residual(instance, duals, usize::from(rows[row]), usize::from(columns[column]), usize::from(rows[h]), usize::from(columns[g]));
+    let left = residual(
+        instance,
+        duals,
+        usize::from(rows[row]),
+        usize::from(columns[column]),
+        usize::from(rows[h]),
+        usize::from(columns[g]),
+    );
     parent.entry(row, column).plus(left)
 }
 

@@ -5,7 +5,7 @@ ghost use Rattle.qap_cost.specs.Instance.{Problem};
 ghost use Rattle.qap_cost.specs.Matrix.{total};
 ghost use Rattle.qap_cost.specs.Placement.{Placement, IsPlacement};
 ghost use Rattle.qap_cost.specs.Range.{AllWithin};
-ghost use Rattle.pair_duals.specs.PairDuals.{Duals, AreOf};
+ghost use Rattle.pair_duals.specs.PairDuals.{Duals, AreDuals, AreOf};
 ghost use Rattle.pair_duals.specs.Range.{IsInReach, IsInScale};
 ghost use Rattle.pair_duals.specs.Seats.{child_at};
 ghost use Rattle.pair_duals.specs.Reduced.{Form, AreLeast, AreLeastOfRows, AreWithin, IsChild, IsFormOf, IsLine, IsNonNegative, IsStart, at, count_of, empty_form};
@@ -46,7 +46,14 @@ impl<N: Number> Reduced<N> {
     pub fn empty(alloc: Global) -> Reduced<N>
         ensures { result ≡ empty_form }
     {
-        Reduced { value: 0, rows: Vec::new(alloc), columns: Vec::new(alloc), entries: Vec::new(alloc), depth: 0, is_lined: false }
+        Reduced {
+            value: 0,
+            rows: Vec::new(alloc),
+            columns: Vec::new(alloc),
+            entries: Vec::new(alloc),
+            depth: 0,
+            is_lined: false,
+        }
     }
 
     /// The value: where the pair duals fit and no entry is below 0, no completion costs less, scaled.
@@ -99,7 +106,13 @@ impl<N: Number> Reduced<N> {
 
     /// Makes it the form of the node that the pair duals belong to, in the memory that it has where that is enough. Refused
     /// memory, it is the form with no rows.
-    pub fn start(&mut self, instance: &Instance, node: &Partial, duals: &PairDuals<N>) -> Result<(), AllocError>
+    pub fn start(
+        &mut self,
+        instance: &Instance,
+        node: &Partial,
+        duals: &PairDuals<N>,
+    ) -> Result<(), AllocError>
+        requires node { IsPlacement node.now }
         requires size { instance.now.size ≡ node.now.size }
         requires duals { AreOf node.now duals.now }
         requires in_scale { IsInScale N.limits instance.now duals.now.scale }
@@ -108,12 +121,24 @@ impl<N: Number> Reduced<N> {
         ensures refused { OnErr result (self.new ≡ empty_form) }
     {
         let alloc = *self.rows.allocator();
-        let Reduced { rows, columns, entries, .. } = replace(self, Reduced::empty(alloc));
+        let Reduced {
+            rows,
+            columns,
+            entries,
+            ..
+        } = replace(self, Reduced::empty(alloc));
         let rows = first_numbers(rows, duals.free())?;
         let columns = first_numbers(columns, duals.free())?;
         let entries = start_entries(entries, instance, node, duals)?;
         let value = i128::from(duals.scale()) * node.fixed_cost(instance);
-        *self = Reduced { value, rows, columns, entries, depth: 0, is_lined: false };
+        *self = Reduced {
+            value,
+            rows,
+            columns,
+            entries,
+            depth: 0,
+            is_lined: false,
+        };
         Ok(())
     }
 
@@ -138,23 +163,43 @@ impl<N: Number> Reduced<N> {
 
     /// Makes `child` the form of the child that puts row `h` at column `g`, in the memory that `child` has where that is enough.
     /// Refused memory, `child` is the form with no rows.
-    pub fn child(&self, instance: &Instance, duals: &PairDuals<N>, h: usize, g: usize, child: &mut Reduced<N>) -> Result<(), AllocError>
+    pub fn child(
+        &self,
+        instance: &Instance,
+        duals: &PairDuals<N>,
+        h: usize,
+        g: usize,
+        child: &mut Reduced<N>,
+    ) -> Result<(), AllocError>
         requires row { h < count_of self.now }
         requires column { g < count_of self.now }
         requires size { instance.now.size ≡ duals.now.size }
         requires in_scale { IsInScale N.limits instance.now duals.now.scale }
+        requires duals { AreDuals N.limits duals.now }
         requires within { AreWithin duals.now self.now.rows self.now.columns }
         ensures child { OnOk result (IsChild instance.now duals.now self.now h g child.new) }
         ensures form { OnOk result ((y : Placement) → IsPlacement y → IsFormOf instance.now duals.now y self.now → IsFormOf instance.now duals.now (child_at y h g) child.new) }
         ensures refused { OnErr result (child.new ≡ empty_form) }
     {
         let alloc = *self.rows.allocator();
-        let Reduced { rows, columns, entries, .. } = replace(child, Reduced::empty(alloc));
+        let Reduced {
+            rows,
+            columns,
+            entries,
+            ..
+        } = replace(child, Reduced::empty(alloc));
         let value = self.value + self.entry(h, g).widen();
         let entries = child_entries(entries, instance, duals, self, h, g)?;
         let rows = without(rows, &self.rows, h)?;
         let columns = without(columns, &self.columns, g)?;
-        *child = Reduced { value, rows, columns, entries, depth: self.depth + 1, is_lined: false };
+        *child = Reduced {
+            value,
+            rows,
+            columns,
+            entries,
+            depth: self.depth + 1,
+            is_lined: false,
+        };
         Ok(())
     }
 

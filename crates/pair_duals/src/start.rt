@@ -29,7 +29,12 @@ pub fn first_numbers(mut list: Vec<u16>, count: usize) -> Result<Vec<u16>, Alloc
 }
 
 /// The entries of the node that the pair duals belong to, in the memory of a list.
-pub fn start_entries<N: Number>(mut list: Vec<N>, instance: &Instance, node: &Partial, duals: &PairDuals<N>) -> Result<Vec<N>, AllocError>
+pub fn start_entries<N: Number>(
+    mut list: Vec<N>,
+    instance: &Instance,
+    node: &Partial,
+    duals: &PairDuals<N>,
+) -> Result<Vec<N>, AllocError>
     requires size { instance.now.size ≡ node.now.size }
     requires duals { AreOf node.now duals.now }
     requires in_scale { IsInScale N.limits instance.now duals.now.scale }
@@ -44,7 +49,12 @@ pub fn start_entries<N: Number>(mut list: Vec<N>, instance: &Instance, node: &Pa
 }
 
 /// Writes them.
-fn fill_start<N: Number>(instance: &Instance, node: &Partial, duals: &PairDuals<N>, entries: &mut [N])
+fn fill_start<N: Number>(
+    instance: &Instance,
+    node: &Partial,
+    duals: &PairDuals<N>,
+    entries: &mut [N],
+)
     requires size { instance.now.size ≡ node.now.size }
     requires duals { AreOf node.now duals.now }
     requires in_scale { IsInScale N.limits instance.now duals.now.scale }
@@ -57,7 +67,13 @@ fn fill_start<N: Number>(instance: &Instance, node: &Partial, duals: &PairDuals<
 }
 
 /// Writes row `r` of them.
-fn fill_start_row<N: Number>(instance: &Instance, node: &Partial, duals: &PairDuals<N>, r: usize, entries: &mut [N])
+fn fill_start_row<N: Number>(
+    instance: &Instance,
+    node: &Partial,
+    duals: &PairDuals<N>,
+    r: usize,
+    entries: &mut [N],
+)
     requires size { instance.now.size ≡ node.now.size }
     requires duals { AreOf node.now duals.now }
     requires in_scale { IsInScale N.limits instance.now duals.now.scale }
@@ -73,7 +89,13 @@ fn fill_start_row<N: Number>(instance: &Instance, node: &Partial, duals: &PairDu
 }
 
 /// Row `r`, column `c` of them.
-fn start_entry<N: Number>(instance: &Instance, node: &Partial, duals: &PairDuals<N>, r: usize, c: usize) -> N
+fn start_entry<N: Number>(
+    instance: &Instance,
+    node: &Partial,
+    duals: &PairDuals<N>,
+    r: usize,
+    c: usize,
+) -> N
     requires size { instance.now.size ≡ node.now.size }
     requires duals { AreOf node.now duals.now }
     requires in_scale { IsInScale N.limits instance.now duals.now.scale }
@@ -90,7 +112,13 @@ fn start_entry<N: Number>(instance: &Instance, node: &Partial, duals: &PairDuals
 }
 
 /// What facility `i` costs at location `k`, alone and with the placed facilities, scaled.
-fn scaled_linear<N: Number>(instance: &Instance, node: &Partial, scale: u32, i: usize, k: usize) -> N
+fn scaled_linear<N: Number>(
+    instance: &Instance,
+    node: &Partial,
+    scale: u32,
+    i: usize,
+    k: usize,
+) -> N
     requires size { instance.now.size ≡ node.now.size }
     requires small { node.now.size ≤ N.limits.size }
     requires i_in { i < instance.now.size }
@@ -104,7 +132,14 @@ fn scaled_linear<N: Number>(instance: &Instance, node: &Partial, scale: u32, i: 
     let (facilities, places) = (node.facilities(), node.places());
     let mut total: N = scaled_product(scale, instance.a(i, i), instance.b(k, k));
     for t in 0..facilities.len() {
-        let pair: N = scaled_pair(instance, scale, i, k, usize::from(facilities[t]), usize::from(places[t]));
+        let pair: N = scaled_pair(
+            instance,
+            scale,
+            i,
+            k,
+            usize::from(facilities[t]),
+            usize::from(places[t]),
+        );
         total = total.plus(pair);
     }
     total
