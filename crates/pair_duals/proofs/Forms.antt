@@ -1,26 +1,25 @@
 -- What keeps the form of a node: its start, a line, a child; and the bound that it gives.
-use Rattle.std.proofs.Common.{◌≡◌, ◌≢◌, ℕ, zero, suc, ◌+◌, ◌-◌, ◌<◌, ◌≤◌, cond, true, false, refl, sym, ◌∙◌, ap, ap₂, subst, arith, nat_eq, List, length, get_or, inl, inr}
-use Rattle.std.specs.Prelude.{ℤ, pos, ◌+ℤ◌, ◌-ℤ◌, ◌*ℤ◌, ◌≤ℤ◌, ◌<ℤ◌, remove, if◌then◌else◌, nat_lt}
+use Rattle.std.proofs.Common.{◌≡◌, ℕ, suc, ◌+◌, ◌<◌, cond, true, false, refl, sym, ◌∙◌, ap, ap₂, subst, arith, nat_eq, List, length, get_or, inl, inr}
+use Rattle.std.specs.Prelude.{ℤ, pos, ◌+ℤ◌, ◌-ℤ◌, ◌*ℤ◌, ◌≤ℤ◌, remove, nat_lt}
 use Rattle.std.proofs.lemmas.Int.{ints}
 use Rattle.std.proofs.lemmas.Bool.{cases_eq, cases_lt, eq-eqb, ne_eqb, cond-true, cond-false, lt-ltb, le-ltb}
 use Rattle.qap_cost.specs.Sum.{sum_to}
 use Rattle.qap_cost.specs.Bijection.{IsBijection}
-use Rattle.qap_cost.specs.Instance.{Problem, entry}
+use Rattle.qap_cost.specs.Instance.{Problem}
 use Rattle.qap_cost.specs.Objective.{cost_of}
 use Rattle.qap_cost.specs.Placement.{Placement, IsPlacement, Completes, free_facilities, free_locations, fixed_cost_of}
 use Rattle.qap_cost.proofs.Bijections.{sum_to-in_order}
 use Rattle.qap_cost.proofs.Nodes.{parent_of}
 use Rattle.qap_cost.proofs.Placements.{IsPlacement-placing}
 use Rattle.qap_cost.proofs.Sums.{sum_to-same, sum_to-add, sum_to-scale, sum_to-monotone, *ℤ-+ℤ}
-use Rattle.gilmore_lawler.specs.ReducedMatrix.{linear_cost}
 use Rattle.gilmore_lawler.proofs.Skips.{skip, skip-before, skip-after, skip-other, skip-within, sum_to-apart, length-remove, get_or-remove}
 use Rattle.pair_duals.specs.CostOfPair.{cost_of_pair}
-use Rattle.pair_duals.specs.PairDuals.{Duals, Fit, alpha_of, beta_of, residual, scaled_cost}
+use Rattle.pair_duals.specs.PairDuals.{Duals, Fit, alpha_of, beta_of, residual}
 use Rattle.pair_duals.specs.Reduced.{Form, at, count_of, AreNumbers, AreUnder, IsFormOf, IsNonNegative, IsStart, IsLine, IsChild, dual_entry, left_of_pair, past, sum_but, sum_of_pairs}
 use Rattle.pair_duals.specs.Seats.{Seats, child_at}
 use Rattle.pair_duals.proofs.CostSplits.{cost_of_pair-both, cost_split, linear_at, linear_at-is, pair_at, pair_at-is}
 use Rattle.pair_duals.proofs.PairSums.{sum_of_pairs-same, sum_of_pairs-minus, sum_of_pairs-scale, sum_of_pairs-least, sum_of_pairs-apart, sum_to-but, sum_to-nonnegative}
-use Rattle.pair_duals.proofs.Seatings.{facilities_of, locations_of, same_count, one_of_each, Seats-completed, facilities_left, locations_left, SeatsFollow, SeatsFollow-child}
+use Rattle.pair_duals.proofs.Seatings.{facilities_of, locations_of, same_count, one_of_each, Seats-completed, facilities_left, locations_left, SeatsFollow-child}
 
 -- ---- a node's own form
 

@@ -1,13 +1,11 @@
 -- The least numbers of the rows and the columns of a matrix, one row after the other.
-use Rattle.std.proofs.Common.{◌≡◌, ◌≢◌, ℕ, suc, ◌+◌, ◌*◌, ◌<◌, ◌≤◌, arith, refl, sym, ◌∙◌, ap, subst, List, length, get_or, set, inl, inr, get_or-set_other, get_or-set_same}
-use Rattle.std.specs.Prelude.{ℤ, pos, ◌+ℤ◌, ◌-ℤ◌, ◌≤ℤ◌, ◌<ℤ◌, ◌⊎◌, unsigned_abs}
+use Rattle.std.proofs.Common.{◌≡◌, ℕ, ◌+◌, ◌*◌, ◌<◌, ◌≤◌, arith, refl, sym, ◌∙◌, ap, subst, List, length, get_or, set, inl, inr, get_or-set_other, get_or-set_same}
+use Rattle.std.specs.Prelude.{ℤ, pos, ◌-ℤ◌, ◌≤ℤ◌, ◌<ℤ◌, unsigned_abs}
 use Rattle.std.proofs.lemmas.Int.{ints}
 use Rattle.std.proofs.lemmas.Bool.{cases_lt}
 use Rattle.std.proofs.lemmas.List.{length-set}
 use Rattle.qap_cost.specs.Instance.{entry}
-use Rattle.qap_cost.specs.Matrix.{total}
 use Rattle.qap_cost.specs.Range.{AllWithin}
-use Rattle.qap_cost.specs.Sum.{sum_to}
 use Rattle.pair_duals.specs.Filling.{AreEntries}
 use Rattle.pair_duals.specs.Lines.{AreLeastSoFar, IsSmaller, LowersBy, TakesRow}
 use Rattle.pair_duals.specs.Range.{IsSpread}

@@ -1,5 +1,5 @@
 -- Products of entries and a scale, as the code computes them.
-use Rattle.std.proofs.Common.{◌≡◌, ℕ, ◌+◌, ◌*◌, ◌^◌, ◌<◌, ◌≤◌, w64, to_z, of_z, lit<, arith, sym, ◌∙◌, ap, ap₂}
+use Rattle.std.proofs.Common.{◌≡◌, ℕ, ◌*◌, ◌^◌, ◌≤◌, w64, to_z, of_z, lit<, arith, sym, ◌∙◌, ap, ap₂}
 use Rattle.std.specs.Prelude.{ℤ, pos, ◌+ℤ◌, ◌*ℤ◌, unsigned_abs, FitsSigned}
 use Rattle.std.proofs.lemmas.Int.{ints, to_z-of_z, fits_signed_mul, fits_signed_from_abs}
 use Rattle.std.proofs.lemmas.Nat.{mul-le}

@@ -1,12 +1,12 @@
 -- What is known of the numbers of a form, as its calls ask for it.
-use Rattle.std.proofs.Common.{◌≡◌, ℕ, ◌+◌, ◌*◌, ◌^◌, ◌<◌, ◌≤◌, [], true, false, Bool, arith, refl, sym, ◌∙◌, ap, ap₂, subst, to_z, of_z, List, length, get_or}
-use Rattle.std.specs.Prelude.{ℤ, pos, ◌+ℤ◌, ◌*ℤ◌, ◌≤ℤ◌, unsigned_abs, FitsSigned}
+use Rattle.std.proofs.Common.{◌≡◌, ℕ, ◌+◌, ◌*◌, ◌^◌, ◌<◌, ◌≤◌, [], true, false, Bool, arith, refl, sym, ◌∙◌, ap, ap₂, subst, to_z, of_z, List, length}
+use Rattle.std.specs.Prelude.{ℤ, pos, ◌+ℤ◌, ◌*ℤ◌, unsigned_abs, FitsSigned}
 use Rattle.std.specs.Int.{w128}
 use Rattle.std.proofs.lemmas.Int.{ints, to_z-of_z, fits_signed_from_abs, unsigned_abs-mul}
 use Rattle.std.proofs.lemmas.Nat.{mul-le}
 use Rattle.qap_cost.specs.Range.{AllWithin}
 use Rattle.pair_duals.specs.Limits.{Limits, AreEnough, reach}
-use Rattle.pair_duals.specs.Range.{IsInReach, IsSpread, value_reach}
+use Rattle.pair_duals.specs.Range.{IsInReach, value_reach}
 use Rattle.pair_duals.specs.Reduced.{Form, at, count_of, AreLeast, AreLeastOfRows, less_both}
 use Rattle.pair_duals.proofs.Leasts.{least-within, line-between}
 use Rattle.pair_duals.proofs.Products.{roomy}

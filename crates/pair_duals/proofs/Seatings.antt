@@ -1,9 +1,8 @@
 -- Where the free facilities stand in a completion, at a node and at a child of it.
-use Rattle.std.proofs.Common.{◌≡◌, ◌≢◌, ℕ, suc, ◌+◌, ◌-◌, ◌<◌, ◌≤◌, ◌++◌, ◌∷◌, [], refl, sym, ◌∙◌, ap, subst, arith, List, length, get_or, inl, inr}
-use Rattle.std.specs.Prelude.{ℤ, ◌⊎◌, remove}
+use Rattle.std.proofs.Common.{◌≡◌, ℕ, ◌+◌, ◌<◌, ◌≤◌, sym, ◌∙◌, ap, arith, List, length, get_or, inl, inr}
+use Rattle.std.specs.Prelude.{◌⊎◌, remove}
 use Rattle.std.proofs.lemmas.Bool.{cases_lt}
-use Rattle.qap_cost.specs.Bijection.{IsBijection}
-use Rattle.qap_cost.specs.Placement.{Placement, IsPlacement, IsFreeFacility, IsFreeLocation, ListsFree, Completes, free_below, free_facilities, free_locations, placing}
+use Rattle.qap_cost.specs.Placement.{Placement, IsPlacement, ListsFree, Completes, free_facilities, free_locations}
 use Rattle.qap_cost.proofs.Nodes.{child_of, child_is}
 use Rattle.qap_cost.proofs.Placements.{ListsFree-free_below}
 use Rattle.gilmore_lawler.proofs.LeftOut.{free_below-more}

@@ -1,5 +1,5 @@
 -- Sums of a node's own form, term by term.
-use Rattle.std.proofs.Common.{◌≡◌, ◌≢◌, ℕ, ◌+◌, ◌*◌, ◌<◌, ◌≤◌, ◌++◌, ◌∷◌, [], cond, nat_eq, arith, sym, ◌∙◌, ap, List, length, get_or}
+use Rattle.std.proofs.Common.{◌≡◌, ◌≢◌, ℕ, ◌+◌, ◌*◌, ◌<◌, ◌≤◌, ◌++◌, ◌∷◌, [], nat_eq, arith, ◌∙◌, ap, List, length, get_or}
 use Rattle.std.specs.Prelude.{ℤ, pos, ◌+ℤ◌, ◌*ℤ◌, unsigned_abs}
 use Rattle.std.proofs.lemmas.Int.{ints}
 use Rattle.std.proofs.lemmas.Bool.{cond-true, cond-false, eq-eqb, ne_eqb}
@@ -10,13 +10,12 @@ use Rattle.qap_cost.specs.Placement.{Placement, IsPlacement, IsFreeFacility, fre
 use Rattle.qap_cost.specs.Sum.{sum_to}
 use Rattle.qap_cost.proofs.Placements.{AreDifferent-length, AreDifferent-more}
 use Rattle.qap_cost.proofs.Sums.{AddsUp, sum_to-more, *ℤ-+ℤ}
-use Rattle.gilmore_lawler.specs.ReducedMatrix.{cost_with, linear_cost}
+use Rattle.gilmore_lawler.specs.ReducedMatrix.{cost_with}
 use Rattle.pair_duals.specs.CostOfPair.{cost_of_pair}
 use Rattle.pair_duals.specs.Limits.{Limits, AreEnough}
 use Rattle.pair_duals.specs.PairDuals.{Duals, AreDuals, AreOf}
 use Rattle.pair_duals.specs.Range.{IsInScale}
 use Rattle.pair_duals.specs.Reduced.{but}
-use Rattle.pair_duals.proofs.Products.{roomy}
 use Rattle.pair_duals.proofs.Seatings.{facilities_of}
 use Rattle.pair_duals.proofs.Widths.{linear-within}
 

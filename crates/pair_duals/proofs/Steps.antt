@@ -1,7 +1,7 @@
 -- A start, a line and a child keep a form within its width, and are what they are said to be.
-use Rattle.std.proofs.Common.{◌≡◌, ◌≢◌, ℕ, suc, ◌+◌, ◌-◌, ◌*◌, ◌^◌, ◌<◌, ◌≤◌, true, false, Bool, cond, nat_eq, arith, refl, sym, ◌∙◌, ap, ap₂, subst, List, length, get_or}
-use Rattle.std.specs.Prelude.{ℤ, pos, ◌+ℤ◌, ◌-ℤ◌, ◌*ℤ◌, ◌≤ℤ◌, remove, unsigned_abs}
-use Rattle.std.proofs.lemmas.Int.{ints, unsigned_abs-mul}
+use Rattle.std.proofs.Common.{◌≡◌, ℕ, ◌+◌, ◌-◌, ◌*◌, ◌^◌, ◌<◌, ◌≤◌, true, false, Bool, cond, nat_eq, arith, refl, sym, ◌∙◌, ap, ap₂, subst, List, length, get_or}
+use Rattle.std.specs.Prelude.{ℤ, pos, ◌+ℤ◌, ◌*ℤ◌, ◌≤ℤ◌, remove, unsigned_abs}
+use Rattle.std.proofs.lemmas.Int.{ints}
 use Rattle.std.proofs.lemmas.Nat.{mul-le}
 use Rattle.qap_cost.specs.Instance.{Problem, entry}
 use Rattle.qap_cost.specs.Matrix.{total}
@@ -18,8 +18,8 @@ use Rattle.pair_duals.specs.Range.{IsInReach, IsInScale, IsSpread, value_reach}
 use Rattle.pair_duals.specs.Reduced.{Form, at, count_of, sum_but, AreLeast, AreNumbers, AreWithin, IsChild, IsLine, IsNonNegative, IsStart, child_entry, dual_entry, less_both, past}
 use Rattle.pair_duals.specs.Start.{AreFirst, own_entry}
 use Rattle.pair_duals.proofs.Forms.{past-skip}
-use Rattle.pair_duals.proofs.Leasts.{IsSpread-line, least-within, line-between}
-use Rattle.pair_duals.proofs.Seatings.{same_count, facilities_of, locations_of}
+use Rattle.pair_duals.proofs.Leasts.{IsSpread-line, line-between}
+use Rattle.pair_duals.proofs.Seatings.{facilities_of}
 use Rattle.pair_duals.proofs.Widths.{IsSpread-from_entries, entry-within, entry-apart, reach-within, residual-within, own_entry-within}
 
 IsSpread-wider : (far more : ℕ) (xs : List ℤ) → far ≤ more → IsSpread far xs → IsSpread more xs

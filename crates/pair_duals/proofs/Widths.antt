@@ -1,20 +1,18 @@
 -- No number of a form, and nothing that it is made of, leaves its width.
-use Rattle.std.proofs.Common.{◌≡◌, ◌≢◌, ℕ, suc, ◌+◌, ◌-◌, ◌*◌, ◌/◌, ◌%◌, ◌<◌, ◌≤◌, true, false, Bool, cond, nat_eq, arith, refl, sym, ◌∙◌, ap, ap₂, subst, List, length, get_or}
-use Rattle.std.specs.Prelude.{ℤ, pos, ◌+ℤ◌, ◌-ℤ◌, ◌*ℤ◌, ◌≤ℤ◌, unsigned_abs}
+use Rattle.std.proofs.Common.{◌≡◌, ℕ, ◌+◌, ◌*◌, ◌/◌, ◌%◌, ◌<◌, ◌≤◌, true, false, Bool, cond, nat_eq, arith, ◌∙◌, ap, subst, List, length, get_or}
+use Rattle.std.specs.Prelude.{ℤ, pos, ◌+ℤ◌, ◌*ℤ◌, ◌≤ℤ◌, unsigned_abs}
 use Rattle.std.proofs.lemmas.Int.{ints, unsigned_abs-mul}
 use Rattle.std.proofs.lemmas.Nat.{mul-le, mod_below}
-use Rattle.std.proofs.Math.Nat.{div-add-mod, mul_comm, mul-le-mul_left}
+use Rattle.std.proofs.Math.Nat.{div-add-mod, mul_comm}
 use Rattle.qap_cost.specs.Instance.{Problem, entry}
-use Rattle.qap_cost.specs.Placement.{Placement, IsPlacement, free_facilities, free_locations}
-use Rattle.qap_cost.specs.Range.{AllWithin}
+use Rattle.qap_cost.specs.Placement.{Placement, IsPlacement}
 use Rattle.qap_cost.specs.Sum.{sum_to}
 use Rattle.qap_cost.proofs.Sums.{sum_to-bound, sum_to-scale, *ℤ-+ℤ}
-use Rattle.gilmore_lawler.specs.ReducedMatrix.{cost_with, linear_cost}
+use Rattle.gilmore_lawler.specs.ReducedMatrix.{cost_with}
 use Rattle.gilmore_lawler.proofs.OneMatrix.{positive_root, row_below}
 use Rattle.pair_duals.specs.CostOfPair.{cost_of_pair}
-use Rattle.pair_duals.specs.Filling.{AreEntries}
 use Rattle.pair_duals.specs.Limits.{Limits, AreEnough, reach}
-use Rattle.pair_duals.specs.PairDuals.{Duals, AreDuals, AreOf, alpha_of, beta_of, residual, scaled_cost}
+use Rattle.pair_duals.specs.PairDuals.{Duals, AreDuals, alpha_of, beta_of, residual}
 use Rattle.pair_duals.specs.Range.{IsInScale, IsSpread}
 use Rattle.pair_duals.specs.Reduced.{sum_but}
 use Rattle.pair_duals.specs.Start.{own_entry}

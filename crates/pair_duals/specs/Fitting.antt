@@ -1,5 +1,5 @@
 -- Parts of what it takes for pair duals to fit.
-use Rattle.std.specs.Prelude.{◌≢◌, ℕ, ◌<◌, length, ℤ, pos, ◌≤ℤ◌}
+use Rattle.std.specs.Prelude.{◌≢◌, ℕ, ◌<◌, length, pos, ◌≤ℤ◌}
 use Rattle.qap_cost.specs.Instance.{Problem}
 use Rattle.pair_duals.specs.PairDuals.{Duals, residual}
 

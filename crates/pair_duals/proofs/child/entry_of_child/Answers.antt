@@ -1,8 +1,8 @@
-use Rattle.std.proofs.Common.{◌≡◌, ◌≤◌, ◌+◌, ℕ, get_or, arith, ap, ap₂, sym, subst, ◌∙◌, List}
-use Rattle.std.specs.Prelude.{ℤ, pos, ◌+ℤ◌, unsigned_abs}
+use Rattle.std.proofs.Common.{◌≡◌, ℕ, get_or, arith, ap, ap₂, ◌∙◌, List}
+use Rattle.std.specs.Prelude.{◌+ℤ◌}
 use Rattle.std.proofs.lemmas.Int.{ints}
 use Rattle.pair_duals.specs.PairDuals.{residual}
-use Rattle.pair_duals.specs.Reduced.{at, count_of, past}
+use Rattle.pair_duals.specs.Reduced.{at}
 use Rattle.pair_duals.proofs.Products.{roomy}
 use Rattle.pair_duals.proofs.Steps.{entry_in_reach}
 use Rattle.pair_duals.proofs.child.entry_of_child.Goals as goal

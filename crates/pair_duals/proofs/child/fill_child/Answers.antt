@@ -1,4 +1,4 @@
-use Rattle.std.proofs.Common.{◌≡◌, ◌-◌, ℕ, length, map, arith, subst}
+use Rattle.std.proofs.Common.{◌≡◌, ◌-◌, ℕ, map, arith, subst}
 use Rattle.pair_duals.specs.Filling.{FillsRows}
 use Rattle.pair_duals.specs.Reduced.{child_entry, count_of}
 use Rattle.pair_duals.proofs.Fillings.{FillsRows-none, FillsRows-more}

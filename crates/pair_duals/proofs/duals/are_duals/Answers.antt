@@ -1,5 +1,4 @@
-use Rattle.std.proofs.Common.{◌<◌, ◌≤◌, ◌≡◌, length, map, arith, below_more, get_or, sym, ap}
-use Rattle.std.specs.Prelude.{ℤ, pos, unsigned_abs}
+use Rattle.std.proofs.Common.{arith, below_more}
 use Rattle.std.proofs.lemmas.Int.{ints}
 use Rattle.pair_duals.proofs.Values.{value_read, value_within}
 use Rattle.pair_duals.proofs.duals.are_duals.Goals as goal

@@ -1,4 +1,4 @@
-use Rattle.std.proofs.Common.{length, map, arith}
+use Rattle.std.proofs.Common.{arith}
 use Rattle.pair_duals.proofs.Values.{value_within, place_in_layers}
 use Rattle.pair_duals.proofs.duals.in_layers.Goals as goal
 

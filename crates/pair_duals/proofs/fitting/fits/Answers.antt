@@ -1,7 +1,6 @@
-use Rattle.std.proofs.Common.{◌≡◌, ◌<◌, arith, rules, below_more, refl, length, inl, inr, subst, sym}
-use Rattle.std.specs.Prelude.{pos, ◌≤ℤ◌, IsTrue, true}
+use Rattle.std.proofs.Common.{◌<◌, arith, rules, below_more, refl, inl, inr, subst, sym}
+use Rattle.std.specs.Prelude.{pos, ◌≤ℤ◌}
 use Rattle.std.proofs.lemmas.Bool.{cases_lt}
-use Rattle.pair_duals.specs.PairDuals.{residual}
 use Rattle.pair_duals.proofs.Forms.{residual-both}
 use Rattle.pair_duals.proofs.fitting.fits.Goals as goal
 

@@ -1,7 +1,6 @@
 use Rattle.std.proofs.Common.{◌<◌, ◌≡◌, length, arith, below_more, refl, sym}
-use Rattle.std.specs.Prelude.{pos, ◌≤ℤ◌, true}
+use Rattle.std.specs.Prelude.{true}
 use Rattle.std.proofs.lemmas.Int.{ints, by_lt_z}
-use Rattle.pair_duals.specs.PairDuals.{residual}
 use Rattle.pair_duals.proofs.fitting.fits_location.Goals as goal
 use Rattle.pair_duals.proofs.fitting.fits_location.Goals.{else-l-k-via-then-l-k+else-is_less, else-l-k-via-else-l-k}
 

@@ -1,9 +1,9 @@
-use Rattle.std.proofs.Common.{◌≡◌, ◌<◌, ◌*◌, ◌+◌, ℕ, length, get_or, map, arith, ap, sym, subst, ◌∙◌, List}
+use Rattle.std.proofs.Common.{◌≡◌, ◌<◌, ◌*◌, ℕ, length, get_or, map, arith, ap, sym, subst, ◌∙◌, List}
 use Rattle.std.specs.Prelude.{ℤ, pos}
 use Rattle.std.proofs.lemmas.List.{length-map}
 use Rattle.pair_duals.specs.Lines.{AreLeastSoFar, LowersBy, TakesRow}
 use Rattle.pair_duals.proofs.Leasts.{AreLeast-taken, AreLeastSoFar-first, AreLeastSoFar-more, HasTaken}
-use Rattle.pair_duals.proofs.Values.{value_read, value_within, row_inside}
+use Rattle.pair_duals.proofs.Values.{value_read, value_within}
 use Rattle.pair_duals.proofs.least.least_of_columns.Goals as goal
 use Rattle.pair_duals.proofs.least.least_of_columns.Goals.{then-r-eq0, else-r-eq0}
 

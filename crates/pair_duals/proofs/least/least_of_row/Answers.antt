@@ -1,9 +1,7 @@
-use Rattle.std.proofs.Common.{◌≡◌, ◌<◌, ◌*◌, ◌+◌, ℕ, length, get_or, map, arith, ap, sym, subst, ◌∙◌, inl}
-use Rattle.std.specs.Prelude.{ℤ, pos, ◌≤ℤ◌, true}
+use Rattle.std.proofs.Common.{◌≡◌, ◌*◌, ◌+◌, ℕ, get_or, map, arith, ap, sym, subst, ◌∙◌}
+use Rattle.std.specs.Prelude.{pos, ◌≤ℤ◌, true}
 use Rattle.std.proofs.lemmas.Int.{ints, by_lt_z}
-use Rattle.std.proofs.lemmas.List.{length-map}
 use Rattle.qap_cost.specs.Instance.{entry}
-use Rattle.pair_duals.specs.Lines.{IsSmaller}
 use Rattle.pair_duals.specs.Reduced.{IsLeast}
 use Rattle.pair_duals.proofs.Leasts.{IsLeast-more, IsLeast-one, smaller_of, IsSmaller-kept}
 use Rattle.pair_duals.proofs.Values.{value_read, place_in_square}

@@ -1,4 +1,4 @@
-use Rattle.std.proofs.Common.{◌≡◌, length, map, arith, ◌∙◌}
+use Rattle.std.proofs.Common.{arith}
 use Rattle.std.proofs.lemmas.List.{length-map, map-set}
 use Rattle.pair_duals.proofs.Leasts.{HasRowLeasts-more}
 use Rattle.pair_duals.proofs.least.least_of_rows.Goals as goal

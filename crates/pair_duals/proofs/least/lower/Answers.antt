@@ -1,8 +1,7 @@
-use Rattle.std.proofs.Common.{◌≡◌, ◌<◌, ◌+◌, length, get_or, map, arith, ap, sym, subst, ◌∙◌, List}
+use Rattle.std.proofs.Common.{◌≡◌, ◌+◌, length, get_or, map, arith, ap, sym, subst, ◌∙◌, List}
 use Rattle.std.specs.Prelude.{ℤ, pos, ◌-ℤ◌, ◌≤ℤ◌, true}
 use Rattle.std.proofs.lemmas.Int.{ints, by_lt_z}
 use Rattle.std.proofs.lemmas.List.{length-map, map-set}
-use Rattle.pair_duals.specs.Lines.{IsSmaller}
 use Rattle.pair_duals.proofs.Leasts.{LowersPart, LowersPart-none, LowersPart-written, LowersPart-kept, LowersBy-all, smaller_of}
 use Rattle.pair_duals.proofs.Values.{value_read, value_within}
 use Rattle.pair_duals.proofs.least.lower.Goals as goal

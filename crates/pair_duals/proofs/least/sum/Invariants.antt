@@ -1,5 +1,4 @@
-use Rattle.std.proofs.Common.{get_or, map}
-use Rattle.std.specs.Prelude.{pos}
+use Rattle.std.proofs.Common.{map}
 use Rattle.qap_cost.proofs.Sums.{AddsUp}
 use Rattle.pair_duals.proofs.Values.{value_at}
 use Rattle.pair_duals.proofs.least.sum.Given as goal

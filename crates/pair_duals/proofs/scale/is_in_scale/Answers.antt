@@ -1,4 +1,4 @@
-use Rattle.std.proofs.Common.{◌≡◌, ◌*◌, ◌≤◌, ap₂, arith}
+use Rattle.std.proofs.Common.{◌≡◌, ◌*◌, ap₂, arith}
 use Rattle.std.proofs.lemmas.Bool.{leb-true, le-leb}
 use Rattle.pair_duals.proofs.Largests.{in_scale, from_scale}
 use Rattle.pair_duals.proofs.scale.is_in_scale.Goals as goal

@@ -1,4 +1,4 @@
-use Rattle.std.proofs.Common.{◌≡◌, ◌≤◌, ◌^◌, ◌∙◌, get_or, ap, arith, inl, inr}
+use Rattle.std.proofs.Common.{◌≡◌, ◌∙◌, get_or, ap, arith, inl, inr}
 use Rattle.std.specs.Prelude.{pos, unsigned_abs}
 use Rattle.qap_cost.proofs.Objectives.{reads_entry}
 use Rattle.pair_duals.proofs.Largests.{IsLargestOfRow-more}

@@ -1,4 +1,4 @@
-use Rattle.std.proofs.Common.{◌≡◌, ◌<◌, ◌*◌, ◌+◌, ℕ, length, map, set, arith, ap, ap₂, sym, subst, ◌∙◌, List}
+use Rattle.std.proofs.Common.{◌≡◌, ◌*◌, ◌+◌, ℕ, length, map, set, arith, ap, sym, subst, ◌∙◌, List}
 use Rattle.std.proofs.lemmas.List.{length-map, map-set}
 use Rattle.pair_duals.specs.Filling.{FillsPart}
 use Rattle.pair_duals.specs.Start.{own_entry}

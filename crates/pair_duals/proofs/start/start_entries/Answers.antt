@@ -1,5 +1,5 @@
-use Rattle.std.proofs.Common.{◌≡◌, length, map, arith, sym, subst, ap, ◌∙◌, List}
-use Rattle.std.proofs.lemmas.List.{take_at, length-map}
+use Rattle.std.proofs.Common.{◌≡◌, length, map, arith, sym, subst, List}
+use Rattle.std.proofs.lemmas.List.{take_at}
 use Rattle.pair_duals.specs.Filling.{AreEntries}
 use Rattle.pair_duals.specs.Start.{own_entry}
 use Rattle.pair_duals.proofs.Fillings.{AreEntries-filled}

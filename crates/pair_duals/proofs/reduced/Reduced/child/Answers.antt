@@ -1,10 +1,9 @@
-use Rattle.std.proofs.Common.{◌≡◌, ◌<◌, ◌+◌, ◌-◌, false, length, map, arith, ap, sym, subst, ◌∙◌, List, ℕ, to_z, of_z}
+use Rattle.std.proofs.Common.{◌≡◌, ◌+◌, false, map, arith, ap, sym, subst, ◌∙◌, List, ℕ, to_z, of_z}
 use Rattle.std.specs.Prelude.{remove, ◌+ℤ◌}
 use Rattle.std.specs.Int.{w128}
 use Rattle.std.proofs.lemmas.List.{length-map}
-use Rattle.pair_duals.specs.PairDuals.{AreDuals}
 use Rattle.pair_duals.specs.Range.{IsInReach}
-use Rattle.pair_duals.specs.Reduced.{Form, at, count_of, IsChild}
+use Rattle.pair_duals.specs.Reduced.{Form, at, IsChild}
 use Rattle.pair_duals.proofs.Forms.{IsFormOf-child}
 use Rattle.pair_duals.proofs.Reaches.{next_read}
 use Rattle.pair_duals.proofs.Steps.{IsChild-made, IsInReach-child}

@@ -3,7 +3,6 @@ use Rattle.std.specs.Prelude.{ℤ, ◌+ℤ◌}
 use Rattle.std.specs.Int.{w128}
 use Rattle.std.proofs.lemmas.Int.{ints, to_z-of_z}
 use Rattle.std.proofs.lemmas.List.{length-map}
-use Rattle.qap_cost.specs.Matrix.{total}
 use Rattle.qap_cost.specs.Range.{AllWithin}
 use Rattle.pair_duals.specs.Range.{IsInReach}
 use Rattle.pair_duals.specs.Reduced.{Form, count_of, AreLeast, AreLeastOfRows}

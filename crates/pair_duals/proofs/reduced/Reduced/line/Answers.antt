@@ -1,4 +1,4 @@
-use Rattle.std.proofs.Common.{◌≡◌, ◌<◌, ◌≤◌, ◌+◌, ◌*◌, ◌++◌, true, false, length, map, take, drop, arith, ap, ap₂, sym, subst, ◌∙◌, List, ℕ, to_z, of_z}
+use Rattle.std.proofs.Common.{◌≡◌, ◌<◌, ◌≤◌, ◌*◌, ◌++◌, true, length, map, take, drop, arith, ap, ap₂, sym, subst, ◌∙◌, List, ℕ, to_z, of_z}
 use Rattle.std.specs.Prelude.{ℤ, ◌+ℤ◌, unsigned_abs}
 use Rattle.std.specs.Int.{w128}
 use Rattle.std.proofs.lemmas.List.{length-map, take_at}

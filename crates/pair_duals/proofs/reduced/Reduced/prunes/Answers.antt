@@ -1,9 +1,8 @@
-use Rattle.std.proofs.Common.{◌≡◌, arith, ap, sym, subst, ◌∙◌}
-use Rattle.std.specs.Prelude.{◌+ℤ◌}
+use Rattle.std.proofs.Common.{arith, ap, subst, ◌∙◌}
 use Rattle.std.proofs.lemmas.Int.{ints, to_z-of_z}
 use Rattle.std.specs.Int.{w128}
 use Rattle.pair_duals.specs.Range.{IsInReach}
-use Rattle.pair_duals.specs.Reduced.{Form, at}
+use Rattle.pair_duals.specs.Reduced.{Form}
 use Rattle.pair_duals.proofs.Reaches.{next_read}
 use Rattle.pair_duals.proofs.reduced.Reduced.prunes.Goals as goal
 

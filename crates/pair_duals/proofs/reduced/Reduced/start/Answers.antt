@@ -1,11 +1,8 @@
-use Rattle.std.proofs.Common.{◌≡◌, ◌<◌, ◌+◌, ◌*◌, ◌^◌, ◌≤◌, false, length, map, arith, ap, ap₂, sym, subst, ◌∙◌, List, ℕ, to_z, of_z}
+use Rattle.std.proofs.Common.{◌≡◌, ◌^◌, ◌≤◌, length, map, ap, sym, subst, ◌∙◌, ℕ, to_z, of_z}
 use Rattle.std.specs.Prelude.{pos, ◌*ℤ◌, unsigned_abs}
 use Rattle.std.specs.Int.{w128}
 use Rattle.std.proofs.lemmas.List.{length-map}
 use Rattle.qap_cost.specs.Placement.{fixed_cost_of}
-use Rattle.pair_duals.specs.PairDuals.{AreDuals}
-use Rattle.pair_duals.specs.Range.{IsInReach}
-use Rattle.pair_duals.specs.Reduced.{Form, IsStart}
 use Rattle.pair_duals.specs.Start.{AreFirst}
 use Rattle.pair_duals.proofs.Forms.{IsFormOf-start}
 use Rattle.pair_duals.proofs.Reaches.{fixed_read}
