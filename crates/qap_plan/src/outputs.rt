@@ -115,12 +115,18 @@ impl<'a> Outputs<'a> {
     /// The first file of this name that has not been written yet.
     fn take(&mut self, name: Option<&str>) -> Option<NamedOutput<'a>> {
         let name = name?;
-        for at in 0..self.files.len() {
-            if self.files[at].name == name {
-                return Some(self.files.remove(at));
+        let mut at: usize = 0;
+        for file in &self.files {
+            if file.name == name {
+                break;
             }
+            at = at.saturating_add(1);
         }
-        None
+        if at < self.files.len() {
+            Some(self.files.remove(at))
+        } else {
+            None
+        }
     }
 }
 
