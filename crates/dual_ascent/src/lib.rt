@@ -1,0 +1,21 @@
+//! Finds pair duals of a node: dual ascent on the level-1 reformulation of the quadratic assignment problem (Adams and
+//! Johnson 1994; Hahn and Grant 1998).
+//!
+//! What is found is advice until one pass of the crate `pair_duals` has established that it fits. So the search computes
+//! with integers that wrap, and reads places of lists by `get`: it is safe whatever the numbers are.
+#![tactic(auto)]
+
+mod ascent;
+mod assigner;
+mod costs;
+mod inherited;
+mod paths;
+mod places;
+mod range;
+mod rounds;
+mod rows;
+mod state;
+mod trivial;
+
+pub use ascent::ascend;
+pub use range::has_range;

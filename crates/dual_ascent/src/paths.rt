@@ -1,0 +1,126 @@
+//! Shortest alternating paths (Jonker and Volgenant 1987).
+
+use crate::assigner::{LineDuals, Matching};
+use crate::places::{at, index_of, put, row_of};
+use crate::rows::nearest;
+use std::alloc::{AllocError, Global};
+
+/// What is known of each column while a path is sought.
+#[derive(Drop)]
+pub struct Search {
+    /// How far the column is; the greatest number there is where it is closed.
+    pub distances: Vec<i64>,
+    /// The row from which it is reached.
+    pub origins: Vec<usize>,
+    /// 0 while the column is open, and then the greatest number there is.
+    pub closed: Vec<i64>,
+    /// How far it was when it was closed.
+    pub lengths: Vec<i64>,
+}
+
+impl Search {
+    /// Lists for `n` columns.
+    pub fn with_size(alloc: Global, n: usize) -> Result<Search, AllocError> {
+        Ok(Search {
+            distances: vec![in alloc; 0; n]?,
+            origins: vec![in alloc; 0; n]?,
+            closed: vec![in alloc; 0; n]?,
+            lengths: vec![in alloc; 0; n]?,
+        })
+    }
+
+    /// Opens all columns, none of which has been reached.
+    fn reset(&mut self) {
+        self.distances.fill(i64::MAX);
+        self.closed.fill(0);
+    }
+
+    /// Closes a column, whose distance is known from then on.
+    fn close(&mut self, c: usize) {
+        let length = at(&self.distances, c);
+        put(&mut self.lengths, c, length);
+        put(&mut self.closed, c, i64::MAX);
+        put(&mut self.distances, c, i64::MAX);
+    }
+}
+
+/// Seeks the nearest column without a row from row `root`, and returns it.
+pub fn find_path(
+    n: usize,
+    matrix: &[i64],
+    root: usize,
+    duals: &LineDuals,
+    row_of_column: &[Option<usize>],
+    search: &mut Search,
+) -> usize {
+    search.reset();
+    let mut from = root;
+    let mut distance: i64 = 0;
+    let mut end = 0;
+    for _ in 0..n {
+        let base = distance.wrapping_sub(at(&duals.rows, from));
+        relax(
+            row_of(matrix, n, from),
+            base,
+            from,
+            &duals.columns,
+            &search.closed,
+            &mut search.distances,
+            &mut search.origins,
+        );
+        end = nearest(&search.distances);
+        let Some(row) = index_of(row_of_column, end) else {
+            return end;
+        };
+        distance = at(&search.distances, end);
+        search.close(end);
+        from = row;
+    }
+    end
+}
+
+/// Lets each open column be reached from row `from`, where that is shorter: `base` is the row's distance less its dual.
+fn relax(
+    row: &[i64],
+    base: i64,
+    from: usize,
+    columns: &[i64],
+    closed: &[i64],
+    distances: &mut [i64],
+    origins: &mut [usize],
+) {
+    if columns.len() != row.len()
+        || closed.len() != row.len()
+        || distances.len() != row.len()
+        || origins.len() != row.len()
+    {
+        return;
+    }
+    for c in 0..row.len() {
+        let reached = base.wrapping_add(row[c].wrapping_sub(columns[c])) | closed[c];
+        if reached < distances[c] {
+            distances[c] = reached;
+            origins[c] = from;
+        }
+    }
+}
+
+/// Exchanges what is joined along the path from row `root` to column `end`.
+pub fn turn(n: usize, root: usize, end: usize, origins: &[usize], matching: &mut Matching) {
+    let mut column = end;
+    for _ in 0..n {
+        let Some(row) = origins.get(column) else {
+            return;
+        };
+        let row = *row;
+        let next = index_of(&matching.column_of, row);
+        matching.join(row, column);
+        if row == root {
+            return;
+        }
+        let Some(before) = next else {
+            return;
+        };
+        column = before;
+    }
+}

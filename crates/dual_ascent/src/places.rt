@@ -1,0 +1,54 @@
+//! Places of lists, and rows of lists of rows; what isn't there is 0, or no row.
+
+/// Row `r` of rows of `n` numbers.
+pub fn row_of(numbers: &[i64], n: usize, r: usize) -> &[i64] {
+    let start = r.wrapping_mul(n);
+    match numbers.get(start..start.wrapping_add(n)) {
+        Some(row) => row,
+        None => &[],
+    }
+}
+
+/// Row `r` of rows of `n` numbers.
+pub fn row_of_mut(numbers: &mut [i64], n: usize, r: usize) -> &mut [i64] {
+    let start = r.wrapping_mul(n);
+    match numbers.get_mut(start..start.wrapping_add(n)) {
+        Some(row) => row,
+        None => &mut [],
+    }
+}
+
+/// The number at a place.
+pub fn at(numbers: &[i64], place: usize) -> i64 {
+    match numbers.get(place) {
+        Some(number) => *number,
+        None => 0,
+    }
+}
+
+/// Writes the number at a place.
+pub fn put(numbers: &mut [i64], place: usize, number: i64) {
+    if let Some(there) = numbers.get_mut(place) {
+        *there = number;
+    }
+}
+
+/// Adds to the number at a place.
+pub fn add_at(numbers: &mut [i64], place: usize, number: i64) {
+    if let Some(there) = numbers.get_mut(place) {
+        *there = there.wrapping_add(number);
+    }
+}
+
+/// The index at a place, if there is one.
+pub fn index_of(indices: &[Option<usize>], place: usize) -> Option<usize> {
+    match indices.get(place) {
+        Some(index) => *index,
+        None => None,
+    }
+}
+
+/// The number, among all, of the one of number `k` among those other than `h`.
+pub fn past(h: usize, k: usize) -> usize {
+    if k < h { k } else { k.wrapping_add(1) }
+}
