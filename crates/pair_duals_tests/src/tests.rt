@@ -3,7 +3,7 @@
 ghost use Rattle.std.specs.Prelude.{◌≡◌, ◌<◌, ◌↔◌, ℕ, length, slice_index, IfOk, IfSome, IsTrue};
 ghost use Rattle.pair_duals.specs.PairDuals.{AreOf};
 
-use pair_duals::{MAX_SCALE, Number, PairDuals, Reduced, are_duals, fits, is_in_scale, residual};
+use pair_duals::{Number, PairDuals, Reduced, are_duals, fits, is_in_scale, residual};
 use qap_cost::{Instance, Partial, Perm, cost};
 use std::alloc::{AllocError, Global};
 use std::mem::swap;
@@ -234,60 +234,6 @@ fn duals_that_fit(rt: HostRuntime) -> Result<(), Fail> {
             Vec::from_slice(alloc, &beta)?,
         );
         assert_eq!(rt; fits_worked(&rt, alloc, a, b)?, want, "{alpha:?} {beta:?}");
-    }
-    Ok(())
-}
-
-/// Whether these are taken as pair duals of the only facility and location of an instance of this size.
-fn taken<N: Number>(
-    alloc: Global,
-    size: usize,
-    scale: u32,
-    alpha: N,
-    beta: N,
-) -> Result<bool, AllocError> {
-    let facilities = vec![in alloc; 0u16]?;
-    let locations = vec![in alloc; 0u16]?;
-    let alpha = vec![in alloc; alpha]?;
-    let beta = vec![in alloc; beta]?;
-    Ok(PairDuals::new(size, facilities, locations, scale, alpha, beta).is_some())
-}
-
-#[test]
-fn limits_of_duals(rt: HostRuntime) -> Result<(), Fail> {
-    let alloc = rt.alloc();
-    for (size, scale, dual, want) in [
-        (1, 1, 35_184_372_088_832, true),
-        (64, MAX_SCALE, -35_184_372_088_832, true),
-        (1, 1, 35_184_372_088_833, false),
-        (1, 1, -35_184_372_088_833, false),
-        (1, 0, 0, false),
-        (1, MAX_SCALE + 1, 0, false),
-        (65, 1, 0, false),
-        (0, 1, 0, false),
-    ] {
-        assert_eq!(rt;
-            taken::<i64>(alloc, size, scale, dual, 0)?,
-            want,
-            "{dual} of {size} at {scale}"
-        );
-        assert_eq!(rt;
-            taken::<i64>(alloc, size, scale, 0, dual)?,
-            want,
-            "{dual} of {size} at {scale}"
-        );
-    }
-    for (size, dual, want) in [
-        (1, 1_000_000_000_000_000_000_000_000, true),
-        (256, -1_000_000_000_000_000_000_000_000, true),
-        (1, 1_000_000_000_000_000_000_000_001, false),
-        (257, 0, false),
-    ] {
-        assert_eq!(rt;
-            taken::<i128>(alloc, size, 1, dual, 0)?,
-            want,
-            "{dual} of {size}"
-        );
     }
     Ok(())
 }
