@@ -7,7 +7,7 @@ TRIPS = "from,to,amount\nSaw,Lathe,2\n"
 EMPTY = ",\n"
 
 SYNTAX = "write a key, `=` and a file in quotes on each line, as `flows = \"trips.csv\"`"
-KEYS = "a plan has the keys flows or trips, departments, distances or places, metric, decimals and fixed"
+KEYS = "a plan has the keys flows or trips, departments, distances or places, metric, decimals, decimal_mark and fixed"
 NOT_DECIMALS = 'the key "decimals" is to be a whole number from 0 to 9, without quotes, as `decimals = 2`'
 NEITHER = 'the keys "{0}" and "{1}" are both missing: name the file of that table by one of them, as `{0} = "{0}.csv"`'
 FIXED_TYPE = ("write `[fixed]` on a line of its own, and below it a line as `Saw = \"A\"` for each department that "
@@ -43,6 +43,8 @@ PLANS = [
      'the key "departments" goes with "trips", which is missing: take it away, or add that one'),
     (f"{MATRICES}metric = 'squared'\n",
      'the key "metric" goes with "places", which is missing: take it away, or add that one'),
+    (f"{MATRICES}decimal_mark = ';'\n", 'the key "decimal_mark" says ";": write "." or ","'),
+    (f"{MATRICES}decimal_mark = 1\n", 'the key "decimal_mark" has the type integer: write a text in quotes'),
     (f"{MATRICES}decimals = 2\n",
      'the key "decimals" goes with "places", which is missing: take it away, or add that one'),
     (SOME_PLACES,

@@ -4,13 +4,18 @@ MATRIX_HEAD = "begin with a line of an empty field and the names, as `,Saw,Lathe
 NO_NAME = "write an empty field and then 1 to 256 names, as `,Saw,Lathe`"
 EMPTY_NAME = "write a name there, or take its column or its line away"
 TWICE = "give each a name of its own"
-ORDER = "the rows have the columns' names, in their order"
+ORDER = "give the rows the columns' names, in any order"
 EACH_COLUMN = "write a number for each column"
-EXTRA_CELL = "is one too many: take it away, or quote a number's comma away"
-NO_NUMBER = "is no number: write digits and at most one point, as `12` or `-0.25`, with no blanks, exponent or comma"
+EXTRA_CELL = "is one too many: take it away, or put a number with a comma in quotes"
+NO_NUMBER = "is no number: write digits and at most one decimal mark, as `12` or `-0.25`, with no unit or exponent"
 TOO_LARGE = ("is too large: times the power of ten that makes all numbers whole it lies outside -10^9 to 10^9; round "
              "the numbers or choose a larger unit")
-NO_TEXT = 'is no UTF-8: save the table as "CSV UTF-8"'
+ALIKE = "differ only in capital letters or blanks: spell them alike, or give one another name"
+NO_NAMES = "where names should be: write an empty field and then the names, as `,Saw,Lathe`"
+TWO_READINGS = ("can be read in two ways, by a decimal point and by a decimal comma: say `decimal_mark = \".\"` or "
+                "`decimal_mark = \",\"` in the plan")
+TOTAL = "hold the sums of the others: take both away, since they would count as one more"
+WORKBOOK = "the file is a workbook, not a text: save its sheet as CSV"
 AFTER_QUOTE = ("text follows the closing quote: write a quote that belongs to the field twice, or take the quotes "
                "away")
 QUOTE_INSIDE = ("a quote stands inside a field without quotes: put the whole field in quotes, and write each quote "
@@ -31,29 +36,38 @@ MATRICES = [
     ("", f"the table is empty: {MATRIX_HEAD}"),
     ("\r\n\r\n", f"the table is empty: {MATRIX_HEAD}"),
     ("corner\n", f"line 1 has no name: {NO_NAME}"),
-    (";a;b\na;0;1\n", f"line 1 has no name: {NO_NAME}"),
+    ("|a|b\na|0|1\n", f"line 1 has no name: {NO_NAME}"),
     (f",{','.join(MANY)}\n", "line 1 has 257 names: at most 256 are read, so split the table"),
     (",a,,c", f"line 1, field 3 is empty: {EMPTY_NAME}"),
     (",a,b,a", f'line 1, field 4: the name "a" stands twice: {TWICE}'),
     ("\n\n,a,a", f'line 3, field 3: the name "a" stands twice: {TWICE}'),
-    (",a,b\na,0,1\n", 'the row "b" is missing: write a row for each column, in the columns\' order'),
-    (",a,b\nb,0,1\na,1,0\n", f'line 2, field 1: expected the name "a" and found "b": {ORDER}'),
-    (",a\na ,0\n", f'line 2, field 1: expected the name "a" and found "a ": {ORDER}'),
-    (",a\na,0\nb,0\n", 'line 3, field 1: the row "b" is one too many: take it away, or add its column'),
+    (",a,b\na,0,1\n", 'the row "b" is missing: write a row for each column'),
+    (";a;b\nb;0;1\n", 'the row "a" is missing: write a row for each column'),
+    (",a,b\na,0,1\nc,1,0\n", f'line 3, field 1: no column has the name "c": {ORDER}'),
+    (",a,b\na,0,1\na,1,0\n", f'line 3, field 1: the name "a" stands twice: {TWICE}'),
+    (",a\na,0\nb,0\n", f'line 3, field 1: no column has the name "b": {ORDER}'),
+    (",Saw,saw\nSaw,0,1\nsaw,1,0\n", f'the names "Saw" and "saw" {ALIKE}'),
+    (",Store room,A,Storeroom\n", f'the names "Store room" and "Storeroom" {ALIKE}'),
+    ("0,1,2\n1,0,3\n2,3,0\n", f'line 1 begins with the number "0" {NO_NAMES}'),
+    ("1.5;2\n2;0\n", f'line 1 begins with the number "1.5" {NO_NAMES}'),
+    (',a,b\na,0,"1,234"\nb,1,0\n', f'line 2, field 3: "1,234" {TWO_READINGS}'),
+    (";a;b\na;0;1\nb;1.000;0\n", f'line 3, field 2: "1.000" {TWO_READINGS}'),
+    (",a,b,Total\na,0,2,2\nb,3,0,3\nTotal,3,2,5\n", f'the row and the column "Total" {TOTAL}'),
+    (",SUMME,a,b\nSUMME,0,3,2\na,2,0,2\nb,3,3,0\n", f'the row and the column "SUMME" {TOTAL}'),
+    ("PK\x03\x04\x14\x00\x06\x00", WORKBOOK),
     (",a,b\na,0\nb,0,0\n", f"line 2, field 3 is missing: {EACH_COLUMN}"),
     (",a\na,3,5\n", f'line 2, field 3: the cell "5" {EXTRA_CELL}'),
     (",a\na,1e3\n", f'line 2, field 2: "1e3" {NO_NUMBER}'),
-    (',a\na,"3,5"\n', f'line 2, field 2: "3,5" {NO_NUMBER}'),
-    (",a\na, 1\n", f'line 2, field 2: " 1" {NO_NUMBER}'),
-    (",a\na,1.\n", f'line 2, field 2: "1." {NO_NUMBER}'),
-    (",a\na,.5\n", f'line 2, field 2: ".5" {NO_NUMBER}'),
+    (",a\na,12 34\n", f'line 2, field 2: "12 34" {NO_NUMBER}'),
+    (",a\na,.\n", f'line 2, field 2: "." {NO_NUMBER}'),
+    (",a,b\na,0,-\nb,1,0\n", f'line 2, field 3: "-" {NO_NUMBER}'),
     (",a\na,--1\n", f'line 2, field 2: "--1" {NO_NUMBER}'),
     (",a\na,NaN\n", f'line 2, field 2: "NaN" {NO_NUMBER}'),
-    (",a\na,\n", f'line 2, field 2: "" {NO_NUMBER}'),
+    (",a,b\na,0,1\nb,,0\n", f'line 3, field 2: "" {NO_NUMBER}'),
     (",a,b\na,0,0.1\nb,0,100000001\n", f'line 3, field 3: "100000001" {TOO_LARGE}'),
     (",a\na,-1000000001\n", f'line 2, field 2: "-1000000001" {TOO_LARGE}'),
     ("\xef\xbb\xbf,a,b\r\na,0,1\r\n\r\nb,x,0\r\n", f'line 4, field 2: "x" {NO_NUMBER}'),
-    (",a\na\xff,0\n", f"line 2 {NO_TEXT}"),
+    (",a\na\xff,0\n", f'line 2, field 1: no column has the name "\u00ff": {ORDER}'.replace("\u00ff", "a\u00ff")),
     (f",a\na,0.{'0' * 100}1\n", TOO_FINE),
     (',"a"x\n', f"line 1, field 2: {AFTER_QUOTE}"),
     (',a\na,"1" \n', f"line 2, field 2: {AFTER_QUOTE}"),
@@ -66,7 +80,7 @@ MATRICES = [
     (",a\xc2\x9b\n", f"line 1, field 2: {CONTROL.format('U+009B')}"),
     # Words that are no names are shown with their control characters escaped.
     (",a\na,\x1b[2J\n", f'line 2, field 2: "\\u{{1b}}[2J" {NO_NUMBER}'),
-    (",a\na\x7f,0\n", f'line 2, field 1: expected the name "a" and found "a\\u{{7f}}": {ORDER}'),
+    (",a\na\x7f,0\n", f'line 2, field 1: no column has the name "a\\u{{7f}}": {ORDER}'),
 ]
 
 # The text of a list of places, and what is said of it.
@@ -74,7 +88,7 @@ PLACES_HEAD = "the line `name,x,y`{0} and write a line for each place below it"
 PLACES = [
     ("", f"the table is empty: begin with {PLACES_HEAD.format(',')}"),
     ("name,x\nA,1\n", f"line 1: expected {PLACES_HEAD.format(': begin with it,')}"),
-    ("\nName,x,y\nA,1,2\n", f"line 2: expected {PLACES_HEAD.format(': begin with it,')}"),
+    ("\nplace,x,y\nA,1,2\n", f"line 2: expected {PLACES_HEAD.format(': begin with it,')}"),
     ("name,x,y\n", "the table has no place: write a line for each below the first"),
     ("name,x,y\n" + "".join(f"{name},1,2\n" for name in MANY),
      "the table has 257 places: at most 256 are read, so split the table"),
@@ -84,7 +98,8 @@ PLACES = [
     ("name,x,y\nA,1,2,3\n", f'line 2, field 4: the cell "3" {EXTRA_CELL}'),
     ("name,x,y\nA,1,y\n", f'line 2, field 3: "y" {NO_NUMBER}'),
     ("name,x,y\nA,1,0.5\nB,1,200000000\n", f'line 3, field 3: "200000000" {TOO_LARGE}'),
-    ("name,x,y\nA,1,\xff\n", f"line 2 {NO_TEXT}"),
+    ("name,x,y\nA,1,2\nB,1,2.0\n", 'the places "A" and "B" stand at one point: give each its own'),
+    ("name,x,y\nA,1,2\na,3,4\n", f'the names "A" and "a" {ALIKE}'),
     ("name,x,y\nA\tB,1,2\n", f"line 2, field 1: {CONTROL.format('U+0009')}"),
     ('name,x,y\nA,1,"2', f"line 2, field 3: {OPEN_QUOTE}"),
     ("name,x,y\nA,0,0\nB,0,0.0000000001\n", COORDINATES),
@@ -95,7 +110,7 @@ PLACES = [
 TRIPS_HEAD = "the line `from,to,amount`{0} and write a line for each pair below it"
 TRIPS = [
     ("", f"the table is empty: begin with {TRIPS_HEAD.format(',')}"),
-    ("from;to;amount\n", f"line 1: expected {TRIPS_HEAD.format(': begin with it,')}"),
+    ("from|to|amount\n", f"line 1: expected {TRIPS_HEAD.format(': begin with it,')}"),
     ("from,to,amount\n",
      "the list has no pair: write a line for each below the first, or name the departments in the plan"),
     ("from,to,amount\n" + "".join(f"{name},{name},1\n" for name in MANY),
@@ -109,7 +124,8 @@ TRIPS = [
     ("from,to,amount\nA,B,3\nB,A,4\nA,B,3\n",
      'line 4, field 1: the pair from "A" to "B" stands twice: write one line with the sum of both'),
     ("from,to,amount\nA,B,0.5\nB,A,500000001\n", f'line 3, field 3: "500000001" {TOO_LARGE}'),
-    ("from,to,amount\n\xff,B,1\n", f"line 2 {NO_TEXT}"),
+    ("From;To;Amount\nA;B;3;5\n", f'line 2, field 4: the cell "5" {EXTRA_CELL}'),
+    ("from,to,amount\nStore,B,1\nstore,B,2\n", f'the names "Store" and "store" {ALIKE}'),
     ("from,to,amount\nA,B\x00,3\n", f"line 2, field 2: {CONTROL.format('U+0000')}"),
     ('from,to,amount\nA,"B"x,3\n', f"line 2, field 2: {AFTER_QUOTE}"),
     (f"from,to,amount\nA,B,0.{'0' * 100}1\n", TOO_FINE),

@@ -3,7 +3,7 @@ use Rattle.std.proofs.Common.{List, ℕ, codes}
 use Rattle.toml.specs.Data.{Members}
 use Rattle.plan_file.specs.Plan.{HasSome, IsFaultOf, IsFixingFault, IsNamesFault, IsPlanFault, IsTable}
 use Rattle.plan_file.specs.declared.error.PlanError.{PlanError}
-use Rattle.plan_file.specs.declared.error.PlanError.TheVariants.{Syntax, UnknownKey, NoText, ControlInText, NeitherKey, BothKeys, MissingKey, LoneKey, OtherMetric, NoDecimals, ExactMetric, Departments, Fixed, OutOfMemory}
+use Rattle.plan_file.specs.declared.error.PlanError.TheVariants.{Syntax, UnknownKey, NoText, ControlInText, NeitherKey, BothKeys, MissingKey, LoneKey, OtherMetric, OtherMark, NoDecimals, ExactMetric, Departments, Fixed, OutOfMemory}
 
 pub fault_of_names : (ms : Members) (e : PlanError) → HasSome ms (codes "departments") → IsNamesFault e → IsFaultOf ms e
 fault_of_names ms (Departments fault) there h = there
@@ -17,6 +17,7 @@ fault_of_names ms (BothKeys key other) there h = absurd h
 fault_of_names ms (MissingKey key other) there h = absurd h
 fault_of_names ms (LoneKey key other) there h = absurd h
 fault_of_names ms (OtherMetric found) there h = absurd h
+fault_of_names ms (OtherMark found) there h = absurd h
 fault_of_names ms NoDecimals there h = absurd h
 fault_of_names ms (ExactMetric metric) there h = absurd h
 fault_of_names ms (Fixed fault) there h = absurd h
@@ -33,6 +34,7 @@ fault_of_fixing ms (BothKeys key other) there h = absurd h
 fault_of_fixing ms (MissingKey key other) there h = absurd h
 fault_of_fixing ms (LoneKey key other) there h = absurd h
 fault_of_fixing ms (OtherMetric found) there h = absurd h
+fault_of_fixing ms (OtherMark found) there h = absurd h
 fault_of_fixing ms NoDecimals there h = absurd h
 fault_of_fixing ms (ExactMetric metric) there h = absurd h
 fault_of_fixing ms (Departments fault) there h = absurd h
@@ -49,6 +51,7 @@ fault_of_table text ms (BothKeys key other) is h = (ms, is, h)
 fault_of_table text ms (MissingKey key other) is h = (ms, is, h)
 fault_of_table text ms (LoneKey key other) is h = (ms, is, h)
 fault_of_table text ms (OtherMetric found) is h = (ms, is, h)
+fault_of_table text ms (OtherMark found) is h = (ms, is, h)
 fault_of_table text ms NoDecimals is h = (ms, is, h)
 fault_of_table text ms (ExactMetric metric) is h = (ms, is, h)
 fault_of_table text ms (Departments fault) is h = (ms, is, h)

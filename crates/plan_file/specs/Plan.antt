@@ -5,6 +5,8 @@ use Rattle.toml.specs.Parse.{parse_document}
 use Rattle.std.specs.Str.{chars}
 use Rattle.plan_table.specs.Control.{HasNoControl, shown_chars}
 use Rattle.plan_table.specs.Names.{AreNames}
+use Rattle.plan_table.specs.declared.numeral.DecimalMark.{DecimalMark}
+use Rattle.plan_table.specs.declared.numeral.DecimalMark.TheVariants.{Point, Comma}
 use Rattle.plan_metric.specs.declared.metric.Metric.{Metric}
 use Rattle.plan_metric.specs.declared.metric.Metric.TheVariants.{Rectilinear, Euclidean, Squared}
 use Rattle.plan_file.specs.declared.error.PlanError.{PlanError}
@@ -24,7 +26,7 @@ abbrev pub IsKnownOfDistances : List ℕ → Type 0
 IsKnownOfDistances key = (key ≡ codes "distances") ⊎ ((key ≡ codes "places") ⊎ ((key ≡ codes "metric") ⊎ (key ≡ codes "decimals")))
 
 abbrev pub IsKnown : List ℕ → Type 0
-IsKnown key = IsKnownOfFlows key ⊎ (IsKnownOfDistances key ⊎ (key ≡ codes "fixed"))
+IsKnown key = IsKnownOfFlows key ⊎ (IsKnownOfDistances key ⊎ ((key ≡ codes "decimal_mark") ⊎ (key ≡ codes "fixed")))
 
 abbrev pub AreKnown : Members → Type 0
 AreKnown no_members = ⊤
@@ -78,6 +80,12 @@ SaysDistances ms (far.Matrix file) =
     NamesFile ms (codes "distances") (codes "places") (string_bytes file) × HasNone ms (codes "metric") × HasNone ms (codes "decimals")
 SaysDistances ms (far.Places file metric) = NamesFile ms (codes "places") (codes "distances") (string_bytes file) × SaysMetric ms metric
 
+-- what the decimal mark of the tables is, if anything is said of it
+abbrev pub SaysMark : Members → Option DecimalMark → Type 0
+SaysMark ms None = HasNone ms (codes "decimal_mark")
+SaysMark ms (Some Point) = HasText ms (codes "decimal_mark") (codes ".")
+SaysMark ms (Some Comma) = HasText ms (codes "decimal_mark") (codes ",")
+
 -- a key with its text, neither of which has a control character
 pub record IsPin (key : List ℕ) (d : Data) (pin : Pin) : Type 0 where
   pub department : string_bytes pin.department ≡ key
@@ -104,6 +112,7 @@ pub record IsPlanText (text : List ℕ) (plan : Plan) : Type 0 where
   pub known : AreKnown members
   pub flows : SaysFlows members plan.flows
   pub distances : SaysDistances members plan.distances
+  pub mark : SaysMark members plan.decimal_mark
   pub fixed : SaysFixed (get_member (codes "fixed") members) plan.fixed.items
 
 -- the table has something at a key
@@ -130,6 +139,8 @@ IsFaultOf ms (error.MissingKey key other) = HasNone ms key.now × HasSome ms oth
 IsFaultOf ms (error.LoneKey key other) = HasSome ms key.now × HasNone ms other.now
 IsFaultOf ms (error.OtherMetric found) =
     HasText ms (codes "metric") (string_bytes found) × (string_bytes found ≢ codes "rectilinear") × (string_bytes found ≢ codes "euclidean") × (string_bytes found ≢ codes "squared")
+IsFaultOf ms (error.OtherMark found) =
+    HasText ms (codes "decimal_mark") (string_bytes found) × (string_bytes found ≢ codes ".") × (string_bytes found ≢ codes ",")
 IsFaultOf ms error.NoDecimals = HasSome ms (codes "decimals")
 IsFaultOf ms (error.ExactMetric metric) = HasSome ms (codes "decimals") × HasText ms (codes "metric") metric.now
 IsFaultOf ms (error.Departments fault) = HasSome ms (codes "departments")

@@ -15,7 +15,7 @@ pub enum PlanError {
         message: String,
     },
     /// It has another key than a plan may have.
-    #[error("the key \"{key}\" is unknown: a plan has the keys flows or trips, departments, distances or places, metric, decimals and fixed")]
+    #[error("the key \"{key}\" is unknown: a plan has the keys flows or trips, departments, distances or places, metric, decimals, decimal_mark and fixed")]
     UnknownKey {
         key: String,
     },
@@ -58,6 +58,11 @@ pub enum PlanError {
     /// No metric has that name.
     #[error("the key \"metric\" says \"{found}\": write \"rectilinear\", \"euclidean\" or \"squared\"")]
     OtherMetric {
+        found: String,
+    },
+    /// No decimal mark is written so.
+    #[error("the key \"decimal_mark\" says \"{found}\": write \".\" or \",\"")]
+    OtherMark {
         found: String,
     },
     /// What is to be the number of decimals is none.

@@ -11,14 +11,14 @@ use crate::error::PlanError;
 use crate::measuring::distances_of;
 use crate::place::TextPlace;
 use crate::source::Plan;
-use crate::values::{fixed_of, flows_of};
+use crate::values::{fixed_of, flows_of, mark_of};
 use plan_table::shown;
 use std::alloc::Global;
 use toml::de::Error;
 use toml::{Table, table_from_slice};
 
-/// Reads a plan: a text in TOML with the keys `flows` or `trips`, `departments`, `distances` or `places`, `metric`, `decimals` and `fixed`,
-/// and no other.
+/// Reads a plan: a text in TOML with the keys `flows` or `trips`, `departments`, `distances` or `places`, `metric`, `decimals`, `decimal_mark`
+/// and `fixed`, and no other.
 ///
 /// `departments` goes with `trips` alone; `metric` goes with `places` and must be there; `decimals` goes with the Euclidean metric alone.
 pub fn read_plan(alloc: Global, text: &[u8]) -> Result<Plan, PlanError>
@@ -33,10 +33,12 @@ pub fn read_plan(alloc: Global, text: &[u8]) -> Result<Plan, PlanError>
     check_keys(alloc, &table)?;
     let flows = flows_of(alloc, &table)?;
     let distances = distances_of(alloc, &table)?;
+    let decimal_mark = mark_of(alloc, &table)?;
     let fixed = fixed_of(alloc, &table)?;
     Ok(Plan {
         flows,
         distances,
+        decimal_mark,
         fixed,
     })
 }
@@ -88,7 +90,7 @@ fn unknown_key(table: &Table) -> Option<&str>
 fn is_known(key: &str) -> bool
     ensures { IsTrue result ↔ IsKnown key.now }
 {
-    is_known_of_flows(key) || is_known_of_distances(key) || key == "fixed"
+    is_known_of_flows(key) || is_known_of_distances(key) || key == "decimal_mark" || key == "fixed"
 }
 
 /// Whether a plan may have a key that says of the flows.

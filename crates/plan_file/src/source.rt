@@ -1,12 +1,15 @@
 //! What a plan says.
 
 use plan_metric::Metric;
+use plan_table::DecimalMark;
 
-/// What a plan says: where its flows and distances stand, and what is fixed.
+/// What a plan says: where its flows and distances stand, how their numbers are written, and what is fixed.
 #[derive(Debug, Drop)]
 pub struct Plan {
     pub flows: Flows,
     pub distances: Distances,
+    /// The decimal mark of the tables, where the plan has one.
+    pub decimal_mark: Option<DecimalMark>,
     /// Departments that stand at places given beforehand.
     pub fixed: Vec<Pin>,
 }

@@ -14,7 +14,8 @@ use plan_metric::{
     DistanceError, MAX_PLACES as MAX_COORDINATE_PLACES, Metric, distance_matrix, distance_scale,
 };
 use plan_table::{
-    NamedMatrix, Point, TableError, read_matrix, read_places, read_trips, read_trips_between,
+    DecimalMark, NamedMatrix, Point, TableError, read_matrix, read_places, read_trips,
+    read_trips_between,
 };
 use qap_cost::{Instance, Partial};
 use std::alloc::{AllocError, Global};
@@ -58,11 +59,11 @@ pub fn read_tables(
     ensures tables { IfOk result (AreTablesOf plan.now flows.now distances.now) }
     ensures sizes { IfOk result HasSizes }
 {
-    let flows = read_flows(alloc, &plan.flows, flows)?;
+    let flows = read_flows(alloc, &plan.flows, plan.decimal_mark, flows)?;
     let Layout {
         matrix: distances,
         points,
-    } = read_layout(alloc, &plan.distances, distances)?;
+    } = read_layout(alloc, &plan.distances, plan.decimal_mark, distances)?;
     let instance = match problem_of(alloc, &flows, &distances) {
         Ok(instance) => instance,
         Err(error) => return Err(TablesError::Problem(error)),
@@ -83,17 +84,22 @@ pub fn read_tables(
 }
 
 /// The flows.
-fn read_flows(alloc: Global, source: &Flows, text: &[u8]) -> Result<NamedMatrix, TablesError>
+fn read_flows(
+    alloc: Global,
+    source: &Flows,
+    mark: Option<DecimalMark>,
+    text: &[u8],
+) -> Result<NamedMatrix, TablesError>
     requires { IsSoundFlows source.now }
-    ensures text { IfOk result (λ m. IsFlowText source.now text.now (map string_bytes m.names.items) m.scale m.entries.items) }
+    ensures text { IfOk result (λ m. IsFlowText source.now mark text.now (map string_bytes m.names.items) m.scale m.entries.items) }
     ensures square { IfOk result (λ m. IsNamedSquare (map string_bytes m.names.items) m.entries.items) }
     ensures fine { IfOk result (λ m. m.scale ≤ max_places) }
 {
     match source {
-        Flows::Matrix(_) => fine_flows(read_matrix(alloc, text)),
-        Flows::Trips(_) => fine_flows(read_trips(alloc, text)),
+        Flows::Matrix(_) => fine_flows(read_matrix(alloc, text, mark)),
+        Flows::Trips(_) => fine_flows(read_trips(alloc, text, mark)),
         Flows::TripsBetween(_, names) => {
-            fine_flows(read_trips_between(alloc, text, copied(alloc, names)?))
+            fine_flows(read_trips_between(alloc, text, mark, copied(alloc, names)?))
         }
     }
 }
@@ -122,25 +128,34 @@ fn copied(alloc: Global, names: &[String]) -> Result<Vec<String>, AllocError>
 }
 
 /// The distances.
-fn read_layout(alloc: Global, source: &Distances, text: &[u8]) -> Result<Layout, TablesError>
+fn read_layout(
+    alloc: Global,
+    source: &Distances,
+    mark: Option<DecimalMark>,
+    text: &[u8],
+) -> Result<Layout, TablesError>
     requires { IsSoundDistances source.now }
-    ensures text { IfOk result (λ l. IsDistanceText source.now text.now (map string_bytes l.matrix.names.items) l.matrix.scale l.points.items l.matrix.entries.items) }
+    ensures text { IfOk result (λ l. IsDistanceText source.now mark text.now (map string_bytes l.matrix.names.items) l.matrix.scale l.points.items l.matrix.entries.items) }
     ensures square { IfOk result (λ l. IsNamedSquare (map string_bytes l.matrix.names.items) l.matrix.entries.items) }
     ensures fine { IfOk result (λ l. l.matrix.scale ≤ max_places) }
 {
     match source {
-        Distances::Matrix(_) => read_distances(alloc, text),
-        Distances::Places(_, metric) => read_measured(alloc, *metric, text),
+        Distances::Matrix(_) => read_distances(alloc, mark, text),
+        Distances::Places(_, metric) => read_measured(alloc, *metric, mark, text),
     }
 }
 
 /// The matrix of distances.
-fn read_distances(alloc: Global, text: &[u8]) -> Result<Layout, TablesError>
-    ensures text { IfOk result (λ l. IsMatrixText text.now (map string_bytes l.matrix.names.items) l.matrix.scale l.matrix.entries.items × (l.points.items ≡ [])) }
+fn read_distances(
+    alloc: Global,
+    mark: Option<DecimalMark>,
+    text: &[u8],
+) -> Result<Layout, TablesError>
+    ensures text { IfOk result (λ l. IsMatrixText mark text.now (map string_bytes l.matrix.names.items) l.matrix.scale l.matrix.entries.items × (l.points.items ≡ [])) }
     ensures square { IfOk result (λ l. IsNamedSquare (map string_bytes l.matrix.names.items) l.matrix.entries.items) }
     ensures fine { IfOk result (λ l. l.matrix.scale ≤ max_places) }
 {
-    match read_matrix(alloc, text) {
+    match read_matrix(alloc, text, mark) {
         Ok(matrix) if matrix.scale > MAX_PLACES => Err(TablesError::DistancesTooFine),
         Ok(matrix) => Ok(Layout {
             matrix,
@@ -151,13 +166,18 @@ fn read_distances(alloc: Global, text: &[u8]) -> Result<Layout, TablesError>
 }
 
 /// The distances between the places that a text lists.
-fn read_measured(alloc: Global, metric: Metric, text: &[u8]) -> Result<Layout, TablesError>
+fn read_measured(
+    alloc: Global,
+    metric: Metric,
+    mark: Option<DecimalMark>,
+    text: &[u8],
+) -> Result<Layout, TablesError>
     requires { IsFine metric }
-    ensures text { IfOk result (λ l. IsMeasured metric text.now (map string_bytes l.matrix.names.items) l.matrix.scale l.points.items l.matrix.entries.items) }
+    ensures text { IfOk result (λ l. IsMeasured metric mark text.now (map string_bytes l.matrix.names.items) l.matrix.scale l.points.items l.matrix.entries.items) }
     ensures square { IfOk result (λ l. IsNamedSquare (map string_bytes l.matrix.names.items) l.matrix.entries.items) }
     ensures fine { IfOk result (λ l. l.matrix.scale ≤ max_places) }
 {
-    let table = match read_places(alloc, text) {
+    let table = match read_places(alloc, text, mark) {
         Ok(table) => table,
         Err(error) => return Err(TablesError::Distances(error)),
     };

@@ -42,7 +42,7 @@ const PLANS: [Told; 29] = [
     ),
     (
         b"flow = \"a.csv\"\ndistances = \"b.csv\"\n",
-        "the key \"flow\" is unknown: a plan has the keys flows or trips, departments, distances or places, metric, decimals and fixed",
+        "the key \"flow\" is unknown: a plan has the keys flows or trips, departments, distances or places, metric, decimals, decimal_mark and fixed",
     ),
     (
         b"distances = \"b.csv\"\nflows = 3\n",
@@ -138,7 +138,7 @@ const PLANS: [Told; 29] = [
     ),
     (
         b"\"fl\\u001b[2Jows\" = \"a.csv\"\n",
-        "the key \"fl\\u{1b}[2Jows\" is unknown: a plan has the keys flows or trips, departments, distances or places, metric, decimals and fixed",
+        "the key \"fl\\u{1b}[2Jows\" is unknown: a plan has the keys flows or trips, departments, distances or places, metric, decimals, decimal_mark and fixed",
     ),
 ];
 

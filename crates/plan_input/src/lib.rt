@@ -2,5 +2,7 @@
 #![tactic(auto)]
 
 mod loading;
+mod notes;
 
 pub use loading::{LoadError, Loaded, is_plan, load_problem};
+pub use notes::notes_of;

@@ -7,7 +7,7 @@ ghost use Rattle.plan_input.specs.declared.loading.LoadError.TheVariants.{OutOfM
 use plan_file::{
     FixingError, NamedProblem, PlanError, ProblemError, TablesError, read_plan, read_tables,
 };
-use plan_table::TableError;
+use plan_table::{Encoding, TableError, decode};
 use qap_io::{Counted, Status};
 use qap_text::{MAX_INPUT, TextError, read_all};
 use std::alloc::{AllocError, Global};
@@ -76,12 +76,14 @@ impl From<AllocError> for LoadError {
     }
 }
 
-/// The problem of a plan, and the files of the tables that it was read from.
+/// The problem of a plan, and the files of the tables that it was read from, with their encodings.
 #[derive(Drop)]
 pub struct Loaded {
     pub problem: NamedProblem,
     pub flows_file: String,
+    pub flows_encoding: Encoding,
     pub distances_file: String,
+    pub distances_encoding: Encoding,
 }
 
 /// Whether a file's name is that of a plan: it ends in `.toml`, in capital or small letters.
@@ -107,13 +109,15 @@ pub fn load_problem<R: Files + AllocGlobal>(rt: &R, file: &str) -> Result<Loaded
     };
     let flows_file = beside(alloc, file, plan.flows.file())?;
     let distances_file = beside(alloc, file, plan.distances.file())?;
-    let flows = read_file(rt, flows_file.as_str())?;
-    let distances = read_file(rt, distances_file.as_str())?;
-    match read_tables(alloc, &plan, &flows, &distances) {
+    let flows = decode(alloc, read_file(rt, flows_file.as_str())?)?;
+    let distances = decode(alloc, read_file(rt, distances_file.as_str())?)?;
+    match read_tables(alloc, &plan, &flows.text, &distances.text) {
         Ok(problem) => Ok(Loaded {
             problem,
             flows_file,
+            flows_encoding: flows.encoding,
             distances_file,
+            distances_encoding: distances.encoding,
         }),
         Err(error) => {
             let file = match fault_of(&error) {

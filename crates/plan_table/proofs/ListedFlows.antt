@@ -15,6 +15,7 @@ use Rattle.plan_table.specs.Scale.{AreScaled, IsLeastScale}
 use Rattle.plan_table.specs.Shape.{IsNamedSquare}
 use Rattle.plan_table.specs.Trips.{AppearInOrder, AreTrips, IsTripsMatrix, name_at, pair_row, row_at, words_of}
 use Rattle.plan_table.specs.declared.decimal.Decimal.{Decimal}
+use Rattle.plan_table.specs.declared.numeral.DecimalMark.{DecimalMark}
 use Rattle.plan_table.specs.declared.trips.Trip.{Trip}
 use Rattle.plan_table.proofs.Fields.{field_inside}
 
@@ -193,9 +194,9 @@ same_pair : (a b c d v w : List ℕ) → pair_row a b v ≡ pair_row c d w → (
 same_pair a b c d v w same = (ap (λ (l : List (List ℕ)). get_or l 0 []) same, ap (λ (l : List (List ℕ)). get_or l 1 []) same)
 
 -- the matrix of placed trips is what their records tell
-pub placed_trips : (names : List (List ℕ)) (rows : List (List (List ℕ))) (trips : List Trip) (amounts : List ℤ) (cells : List (Option ℤ)) → AreDifferent names → AreTripsOf names rows trips
-    → ArePlaced (length names) trips amounts (length trips) cells → AreTrips names rows (map (λ t. t.amount) trips) amounts (map filled cells)
-placed_trips names rows trips amounts cells different read placed =
+pub placed_trips : (mark : DecimalMark) (names : List (List ℕ)) (rows : List (List (List ℕ))) (trips : List Trip) (amounts : List ℤ) (cells : List (Option ℤ)) → AreDifferent names → AreTripsOf mark names rows trips
+    → ArePlaced (length names) trips amounts (length trips) cells → AreTrips mark names rows (map (λ t. t.amount) trips) amounts (map filled cells)
+placed_trips mark names rows trips amounts cells different read placed =
     let n = length names in
     let one = λ (k : ℕ) (below : k < length rows). read.each k (omega (arith, read.many, below)) in
     record {
@@ -235,18 +236,18 @@ placed_trips names rows trips amounts cells different read placed =
     }
 
 -- so do the numbers that it was made of
-pub listed_matrix : (names : List (List ℕ)) (rows : List (List (List ℕ))) (n scale : ℕ) (trips : List Trip) (decimals : List Decimal) (amounts entries : List ℤ) (cells : List (Option ℤ)) → n ≡ length names
-    → decimals ≡ map (λ t. t.amount) trips → entries ≡ map filled cells → AreDifferent names → AreTripsOf names rows trips → ArePlaced n trips amounts (length trips) cells → IsLeastScale decimals scale
-    → AreScaled scale decimals amounts → IsTripsMatrix names rows scale entries
-listed_matrix names rows n scale trips decimals amounts entries cells many numbers entries_is different read placed least scaled =
+pub listed_matrix : (mark : DecimalMark) (names : List (List ℕ)) (rows : List (List (List ℕ))) (n scale : ℕ) (trips : List Trip) (decimals : List Decimal) (amounts entries : List ℤ) (cells : List (Option ℤ)) → n ≡ length names
+    → decimals ≡ map (λ t. t.amount) trips → entries ≡ map filled cells → AreDifferent names → AreTripsOf mark names rows trips → ArePlaced n trips amounts (length trips) cells → IsLeastScale decimals scale
+    → AreScaled scale decimals amounts → IsTripsMatrix mark names rows scale entries
+listed_matrix mark names rows n scale trips decimals amounts entries cells many numbers entries_is different read placed least scaled =
     let here : ArePlaced (length names) trips amounts (length trips) cells = subst (λ (m : ℕ). ArePlaced m trips amounts (length trips) cells) many placed in
-    let all = placed_trips names rows trips amounts cells different read here in
+    let all = placed_trips mark names rows trips amounts cells different read here in
     record {
       decimals = decimals;
       amounts = amounts;
       trips =
-          subst (λ (l : List ℤ). AreTrips names rows decimals amounts l) (sym entries_is)
-          (subst (λ (l : List Decimal). AreTrips names rows l amounts (map filled cells)) (sym numbers) all);
+          subst (λ (l : List ℤ). AreTrips mark names rows decimals amounts l) (sym entries_is)
+          (subst (λ (l : List Decimal). AreTrips mark names rows l amounts (map filled cells)) (sym numbers) all);
       least = least;
       scaled = scaled;
     }
@@ -268,16 +269,16 @@ listed_square names n count trips amounts entries cells many named entries_is pl
 }
 
 -- one record more, and the trip that it says
-pub AreTripsOf-more : (names : List (List ℕ)) (rows : List (List (List ℕ))) (i : ℕ) (trips newer : List Trip) (t : Trip) → length trips ≡ i → ((k : ℕ) → k < length trips → IsTripOf names (row_at rows k) (trip_at trips k))
-    → IsTripOf names (row_at rows i) t → newer ≡ trips ++ t ∷ [] → (length newer ≡ i + 1) × ((k : ℕ) → k < length newer → IsTripOf names (row_at rows k) (trip_at newer k))
-AreTripsOf-more names rows i trips newer t many each is pushed =
+pub AreTripsOf-more : (mark : DecimalMark) (names : List (List ℕ)) (rows : List (List (List ℕ))) (i : ℕ) (trips newer : List Trip) (t : Trip) → length trips ≡ i → ((k : ℕ) → k < length trips → IsTripOf mark names (row_at rows k) (trip_at trips k))
+    → IsTripOf mark names (row_at rows i) t → newer ≡ trips ++ t ∷ [] → (length newer ≡ i + 1) × ((k : ℕ) → k < length newer → IsTripOf mark names (row_at rows k) (trip_at newer k))
+AreTripsOf-more mark names rows i trips newer t many each is pushed =
     let long : length newer ≡ i + 1 = omega (arith, ap (λ (l : List Trip). length l) pushed, length-append trips (t ∷ []), many) in (
       long,
       λ k below.
-          subst (λ (l : List Trip). IsTripOf names (row_at rows k) (trip_at l k)) (sym pushed) (elim (cases_lt k (length trips)) [
-            | inl inside ↦ subst (λ (u : Trip). IsTripOf names (row_at rows k) u) (sym (get_or_append_left trips (t ∷ []) _ k inside)) (each k inside)
+          subst (λ (l : List Trip). IsTripOf mark names (row_at rows k) (trip_at l k)) (sym pushed) (elim (cases_lt k (length trips)) [
+            | inl inside ↦ subst (λ (u : Trip). IsTripOf mark names (row_at rows k) u) (sym (get_or_append_left trips (t ∷ []) _ k inside)) (each k inside)
             | inr past ↦
                 let here : length trips ≡ k = omega (arith, long, below, many, past) in
-                subst (λ (u : Trip). IsTripOf names (row_at rows k) u) (sym (get_or_at trips t [] _ k here)) (subst (λ m. IsTripOf names (row_at rows m) t) (sym many ∙ here) is)
+                subst (λ (u : Trip). IsTripOf mark names (row_at rows k) u) (sym (get_or_at trips t [] _ k here)) (subst (λ m. IsTripOf mark names (row_at rows m) t) (sym many ∙ here) is)
           ]),
     )

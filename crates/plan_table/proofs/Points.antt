@@ -7,10 +7,11 @@ use Rattle.plan_table.specs.Decimal.{max_entry}
 use Rattle.plan_table.specs.Names.{AreNames}
 use Rattle.plan_table.specs.Places.{AreNamedPoints, IsNear, coordinates_of}
 use Rattle.plan_table.specs.Scale.{AreScaled, scaled}
-use Rattle.plan_table.specs.Table.{AreRows}
+use Rattle.plan_table.specs.Table.{AreRowsOf, in_order}
 use Rattle.plan_table.specs.declared.decimal.Decimal.{Decimal}
+use Rattle.plan_table.specs.declared.numeral.Reading.{Reading}
 use Rattle.plan_table.specs.declared.places.Point.{Point}
-use Rattle.plan_table.proofs.RowLists.{AreRows-counts}
+use Rattle.plan_table.proofs.RowLists.{AreRows-count}
 
 coordinates_push : (ps : List Point) (p : Point) → coordinates_of (ps ++ p ∷ []) ≡ coordinates_of ps ++ p.x ∷ p.y ∷ []
 coordinates_push [] p = refl
@@ -46,16 +47,16 @@ near_points (p ∷ ps) near =
     (near_points ps (All-tail P p.y (coordinates_of ps) behind_x))
 
 -- as many numbers as rows with two cells each
-pub two_a_row : (names : List (List ℕ)) (rows : List (List (List ℕ))) (decimals : List Decimal) → AreRows 2 names rows decimals → length decimals ≡ length names * 2
-two_a_row names rows decimals read = (AreRows-counts 2 names rows decimals read).1
+pub two_a_row : (reading : Reading) (names : List (List ℕ)) (rows : List (List (List ℕ))) (decimals : List Decimal) → AreRowsOf reading 2 names rows decimals → length decimals ≡ length names * 2
+two_a_row reading names rows decimals read = AreRows-count reading 0 2 names (in_order rows read.order) decimals read.read
 
 -- coordinates that are those of rows with names
-pub points_of_rows : (names : List (List ℕ)) (rows : List (List (List ℕ))) (decimals : List Decimal) (scale : ℕ) (points : List Point) → AreNames names → AreRows 2 names rows decimals
+pub points_of_rows : (reading : Reading) (names : List (List ℕ)) (rows : List (List (List ℕ))) (decimals : List Decimal) (scale : ℕ) (points : List Point) → AreNames names → AreRowsOf reading 2 names rows decimals
     → AreScaled scale decimals (coordinates_of points) → AreNamedPoints names points
-points_of_rows names rows decimals scale points named read is =
+points_of_rows reading names rows decimals scale points named read is =
     let numbers : length (coordinates_of points) ≡ length decimals = ap (λ (l : List ℤ). length l) is.exact ∙ length-map decimals (scaled scale) in
     record {
       named = named;
-      many = omega (arith, numbers, coordinates_length points, two_a_row names rows decimals read);
+      many = omega (arith, numbers, coordinates_length points, two_a_row reading names rows decimals read);
       near = near_points points is.in_range;
     }

@@ -1,25 +1,27 @@
 -- How the matrix of listed flows comes about.
 use Rattle.std.specs.Prelude.{◌≡◌, ◌≢◌, ℕ, ◌+◌, ◌*◌, ◌<◌, ◌≤◌, ◌⊎◌, List, [], ◌∷◌, ◌++◌, length, Option, None, Some, ℤ, pos, slice_index_or, unsigned_abs}
-use Rattle.plan_table.specs.Decimal.{decimal_of, max_entry}
+use Rattle.plan_table.specs.Decimal.{max_entry}
 use Rattle.plan_table.specs.Names.{HasName, IsNew}
+use Rattle.plan_table.specs.Numerals.{number_in}
 use Rattle.plan_table.specs.Trips.{name_at, pair_row, row_at}
+use Rattle.plan_table.specs.declared.numeral.DecimalMark.{DecimalMark}
 use Rattle.plan_table.specs.declared.trips.Trip.{Trip}
 
 -- a record says so much of this trip
-pub record IsTripOf (names : List (List ℕ)) (row : List (List ℕ)) (t : Trip) : Type 0 where
+pub record IsTripOf (mark : DecimalMark) (names : List (List ℕ)) (row : List (List ℕ)) (t : Trip) : Type 0 where
   pub from_inside : t.from < length names
   pub to_inside : t.to < length names
   pub word : List ℕ
   pub is : row ≡ pair_row (name_at names t.from) (name_at names t.to) word
-  pub spelled : decimal_of word ≡ Some t.amount
+  pub spelled : number_in mark word ≡ Some t.amount
 
 abbrev pub trip_at : List Trip → ℕ → Trip
 trip_at trips k = slice_index_or trips k (record { from = 0; to = 0; amount = record { number = pos 0; places = 0 } })
 
 -- each record says so much of the trip of its number
-pub record AreTripsOf (names : List (List ℕ)) (rows : List (List (List ℕ))) (trips : List Trip) : Type 0 where
+pub record AreTripsOf (mark : DecimalMark) (names : List (List ℕ)) (rows : List (List (List ℕ))) (trips : List Trip) : Type 0 where
   pub many : length trips ≡ length rows
-  pub each : (k : ℕ) → k < length trips → IsTripOf names (row_at rows k) (trip_at trips k)
+  pub each : (k : ℕ) → k < length trips → IsTripOf mark names (row_at rows k) (trip_at trips k)
 
 -- where a trip's amount stands in the matrix
 abbrev pub cell_of : ℕ → Trip → ℕ

@@ -1,7 +1,16 @@
--- What a byte is to CSV.
+-- What a byte is to a table's text, by what stands between its fields.
 use Rattle.std.specs.Prelude.{ℕ, ◌==◌, if◌then◌else◌}
 use Rattle.plan_table.specs.declared.csv_text.Mark.{Mark}
-use Rattle.plan_table.specs.declared.csv_text.Mark.TheVariants.{Quote, Comma, Feed, Return, Other}
+use Rattle.plan_table.specs.declared.csv_text.Mark.TheVariants.{Quote, Divider, Feed, Return, Other}
+use Rattle.plan_table.specs.declared.separator.Separator.{Separator}
+use Rattle.plan_table.specs.declared.separator.Separator.TheVariants.{Comma, Semicolon, Tab}
 
-abbrev pub mark_of : ℕ → Mark
-mark_of b = if b == 34 then Quote else if b == 44 then Comma else if b == 10 then Feed else if b == 13 then Return else Other
+-- the byte of a separator: a comma, a semicolon or a tab
+abbrev pub byte_of : Separator → ℕ
+byte_of Comma = 44
+byte_of Semicolon = 59
+byte_of Tab = 9
+
+abbrev pub mark_of : Separator → ℕ → Mark
+mark_of d b =
+    if b == 34 then Quote else if b == byte_of d then Divider else if b == 10 then Feed else if b == 13 then Return else Other

@@ -1,8 +1,9 @@
 -- What is wrong first with a text that is not CSV, and where: the line and the number of the field at fault.
 use Rattle.std.specs.Prelude.{ℕ, ◌+◌, ◌-◌, ◌^◌, ◌==◌, min, List, [], ◌∷◌, Result, Ok, Err, if◌then◌else◌}
-use Rattle.plan_table.specs.Marks.{mark_of}
+use Rattle.plan_table.specs.Marks.{byte_of, mark_of}
 use Rattle.plan_table.specs.declared.csv_text.Mark.{Mark}
-use Rattle.plan_table.specs.declared.csv_text.Mark.TheVariants.{Quote, Comma, Feed, Return, Other}
+use Rattle.plan_table.specs.declared.csv_text.Mark.TheVariants.{Quote, Divider, Feed, Return, Other}
+use Rattle.plan_table.specs.declared.separator.Separator.{Separator}
 use Rattle.plan_table.specs.declared.csv_text.Stand.{Stand}
 use Rattle.plan_table.specs.declared.csv_text.Stand.TheVariants.{Start, Bare, Quoted, Closed, Returned}
 use Rattle.plan_table.specs.declared.csv_text.Reached.{Reached}
@@ -14,27 +15,27 @@ use Rattle.plan_table.specs.declared.error.Misspelling.TheVariants.{AfterQuote, 
 -- where a text stands behind a byte more, or what is wrong with the byte
 abbrev pub next_stand : Stand → Mark → Result Stand Misspelling
 next_stand Start Quote = Ok Quoted
-next_stand Start Comma = Ok Start
+next_stand Start Divider = Ok Start
 next_stand Start Feed = Ok Start
 next_stand Start Return = Ok Returned
 next_stand Start Other = Ok Bare
 next_stand Bare Quote = Err QuoteInside
-next_stand Bare Comma = Ok Start
+next_stand Bare Divider = Ok Start
 next_stand Bare Feed = Ok Start
 next_stand Bare Return = Ok Returned
 next_stand Bare Other = Ok Bare
 next_stand Quoted Quote = Ok Closed
-next_stand Quoted Comma = Ok Quoted
+next_stand Quoted Divider = Ok Quoted
 next_stand Quoted Feed = Ok Quoted
 next_stand Quoted Return = Ok Quoted
 next_stand Quoted Other = Ok Quoted
 next_stand Closed Quote = Ok Quoted
-next_stand Closed Comma = Ok Start
+next_stand Closed Divider = Ok Start
 next_stand Closed Feed = Ok Start
 next_stand Closed Return = Ok Returned
 next_stand Closed Other = Err AfterQuote
 next_stand Returned Quote = Err LoneReturn
-next_stand Returned Comma = Err LoneReturn
+next_stand Returned Divider = Err LoneReturn
 next_stand Returned Feed = Ok Start
 next_stand Returned Return = Err LoneReturn
 next_stand Returned Other = Err LoneReturn
@@ -51,26 +52,26 @@ end_stand Closed = Ok tt
 abbrev pub next_number : ℕ → ℕ
 next_number n = min (n + 1) (2 ^ 64 - 1)
 
--- a field that begins behind a comma is the next one, and another one the first
-abbrev pub first_place : Place → ℕ → ℕ → Place
-first_place place byte line = record { line = line; field = if byte == 44 then next_number place.field else 1 }
+-- a field that begins behind a separator is the next one, and another one the first
+abbrev pub first_place : Separator → Place → ℕ → ℕ → Place
+first_place d place byte line = record { line = line; field = if byte == byte_of d then next_number place.field else 1 }
 
 -- where the field begins that is reached with a byte
-abbrev pub place_after : Place → ℕ → Stand → ℕ → Place
-place_after place byte Start line = first_place place byte line
-place_after place byte Bare line = place
-place_after place byte Quoted line = place
-place_after place byte Closed line = place
-place_after place byte Returned line = place
+abbrev pub place_after : Separator → Place → ℕ → Stand → ℕ → Place
+place_after d place byte Start line = first_place d place byte line
+place_after d place byte Bare line = place
+place_after d place byte Quoted line = place
+place_after d place byte Closed line = place
+place_after d place byte Returned line = place
 
 abbrev pub line_after : ℕ → ℕ → ℕ
 line_after line byte = if byte == 10 then next_number line else line
 
-abbrev pub moved : Reached → ℕ → Stand → Reached
-moved reached byte stand = record {
+abbrev pub moved : Separator → Reached → ℕ → Stand → Reached
+moved d reached byte stand = record {
   stand = stand;
   line = line_after reached.line byte;
-  place = place_after reached.place byte stand (line_after reached.line byte);
+  place = place_after d reached.place byte stand (line_after reached.line byte);
 }
 
 -- a fault of the field that has been reached
@@ -78,8 +79,8 @@ abbrev pub at_place : {A B : Type 0} → Place → (A → B) → Result A Misspe
 at_place place f (Ok a) = Ok (f a)
 at_place place f (Err fault) = Err (record { place = place; fault = fault })
 
-abbrev pub reached_after : Reached → ℕ → Result Reached CsvFault
-reached_after reached byte = at_place reached.place (moved reached byte) (next_stand reached.stand (mark_of byte))
+abbrev pub reached_after : Separator → Reached → ℕ → Result Reached CsvFault
+reached_after d reached byte = at_place reached.place (moved d reached byte) (next_stand reached.stand (mark_of d byte))
 
 abbrev pub check_end : Reached → Result (Unit {0}) CsvFault
 check_end reached = at_place reached.place (λ u. u) (end_stand reached.stand)
@@ -89,14 +90,14 @@ and_then (Ok a) f = f a
 and_then (Err e) f = Err e
 
 -- the rest of a text, from what has been reached
-abbrev pub scan : Reached → List ℕ → Result (Unit {0}) CsvFault
-scan reached [] = check_end reached
-scan reached (b ∷ bs) = and_then (reached_after reached b) (λ next. scan next bs)
+abbrev pub scan : Separator → Reached → List ℕ → Result (Unit {0}) CsvFault
+scan d reached [] = check_end reached
+scan d reached (b ∷ bs) = and_then (reached_after d reached b) (λ next. scan d next bs)
 
 -- at a text's front
 abbrev pub begun : Reached
 begun = record { stand = Start; line = 1; place = record { line = 1; field = 1 } }
 
 -- what is wrong first with a text
-abbrev pub first_fault : List ℕ → Result (Unit {0}) CsvFault
-first_fault text = scan begun text
+abbrev pub first_fault : Separator → List ℕ → Result (Unit {0}) CsvFault
+first_fault d text = scan d begun text

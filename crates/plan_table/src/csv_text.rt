@@ -1,4 +1,5 @@
-//! Whether a text is spelled as CSV is (RFC 4180), where a line may also end in a line feed alone.
+//! Whether a text is spelled as CSV is (RFC 4180), where a semicolon or a tab may stand in place of the comma, and a line may also end
+//! in a line feed alone.
 
 ghost use Rattle.std.specs.Prelude.{◌≡◌, MatchResult};
 ghost use Rattle.csv.specs.Reading.{strip_bom};
@@ -7,12 +8,14 @@ ghost use Rattle.plan_table.specs.Marks.{mark_of};
 ghost use Rattle.plan_table.specs.Scan.{check_end, first_fault, moved, next_stand, place_after, reached_after};
 
 use crate::error::{CsvFault, Misspelling, Place};
+use crate::separator::Separator;
 
 /// What a byte is to CSV.
 #[derive(Clone, Copy)]
 pub enum Mark {
     Quote,
-    Comma,
+    /// What stands between fields.
+    Divider,
     Feed,
     Return,
     Other,
@@ -43,16 +46,16 @@ pub struct Reached {
     pub place: Place,
 }
 
-/// Checks that a text is CSV, behind the byte order mark that it may begin with; else says what is wrong first.
-pub fn check_csv(text: &[u8]) -> Result<(), CsvFault>
-    ensures first { result ≡ first_fault (strip_bom text.now) }
-    ensures exactly { MatchResult result (λ _. IsCsv (strip_bom text.now)) (λ _. IsCsv (strip_bom text.now) → ⊥) }
+/// Checks that a text is CSV; else says what is wrong first.
+pub fn check_csv(separator: Separator, text: &[u8]) -> Result<(), CsvFault>
+    ensures first { result ≡ first_fault separator text.now }
+    ensures exactly { MatchResult result (λ _. IsCsv separator text.now) (λ _. IsCsv separator text.now → ⊥) }
 {
-    check(without_bom(text))
+    check(separator, text)
 }
 
 /// A text without the byte order mark that it may begin with.
-fn without_bom(text: &[u8]) -> &[u8]
+pub fn without_bom(text: &[u8]) -> &[u8]
     ensures { result.now ≡ strip_bom text.now }
 {
     match text.strip_prefix(&[0xEF, 0xBB, 0xBF]) {
@@ -62,8 +65,8 @@ fn without_bom(text: &[u8]) -> &[u8]
 }
 
 /// Checks that a text is CSV.
-fn check(text: &[u8]) -> Result<(), CsvFault>
-    ensures { result ≡ first_fault text.now }
+fn check(separator: Separator, text: &[u8]) -> Result<(), CsvFault>
+    ensures { result ≡ first_fault separator text.now }
 {
     let mut reached = Reached {
         stand: Stand::Start,
@@ -71,17 +74,17 @@ fn check(text: &[u8]) -> Result<(), CsvFault>
         place: Place { line: 1, field: 1 },
     };
     for byte in text {
-        reached = after(reached, *byte)?;
+        reached = after(separator, reached, *byte)?;
     }
     check_end(reached)
 }
 
 /// What is reached with a byte more.
-fn after(reached: Reached, byte: u8) -> Result<Reached, CsvFault>
-    ensures { result ≡ reached_after reached byte }
+fn after(separator: Separator, reached: Reached, byte: u8) -> Result<Reached, CsvFault>
+    ensures { result ≡ reached_after separator reached byte }
 {
-    match next_stand(reached.stand, mark_of(byte)) {
-        Ok(stand) => Ok(moved(reached, byte, stand)),
+    match next_stand(reached.stand, mark_of(separator, byte)) {
+        Ok(stand) => Ok(moved(separator, reached, byte, stand)),
         Err(fault) => Err(CsvFault {
             place: reached.place,
             fault,
@@ -90,8 +93,8 @@ fn after(reached: Reached, byte: u8) -> Result<Reached, CsvFault>
 }
 
 /// The line and the field that are reached with a byte, where it leads there.
-fn moved(reached: Reached, byte: u8, stand: Stand) -> Reached
-    ensures { result ≡ moved reached byte stand }
+fn moved(separator: Separator, reached: Reached, byte: u8, stand: Stand) -> Reached
+    ensures { result ≡ moved separator reached byte stand }
 {
     let line = if byte == b'\n' {
         reached.line.saturating_add(1)
@@ -101,16 +104,16 @@ fn moved(reached: Reached, byte: u8, stand: Stand) -> Reached
     Reached {
         stand,
         line,
-        place: place_after(reached.place, byte, stand, line),
+        place: place_after(separator, reached.place, byte, stand, line),
     }
 }
 
 /// Where the field begins that is reached with a byte: where it stands at a field's start, that is a new one.
-fn place_after(place: Place, byte: u8, stand: Stand, line: u64) -> Place
-    ensures { result ≡ place_after place byte stand line }
+fn place_after(separator: Separator, place: Place, byte: u8, stand: Stand, line: u64) -> Place
+    ensures { result ≡ place_after separator place byte stand line }
 {
     match stand {
-        Stand::Start if byte == b',' => Place {
+        Stand::Start if byte == separator.byte() => Place {
             line,
             field: place.field.saturating_add(1),
         },
@@ -120,15 +123,19 @@ fn place_after(place: Place, byte: u8, stand: Stand, line: u64) -> Place
 }
 
 /// What a byte is to CSV.
-fn mark_of(byte: u8) -> Mark
-    ensures { result ≡ mark_of byte }
+fn mark_of(separator: Separator, byte: u8) -> Mark
+    ensures { result ≡ mark_of separator byte }
 {
-    match byte {
-        b'"' => Mark::Quote,
-        b',' => Mark::Comma,
-        b'\n' => Mark::Feed,
-        b'\r' => Mark::Return,
-        _ => Mark::Other,
+    if byte == b'"' {
+        Mark::Quote
+    } else if byte == separator.byte() {
+        Mark::Divider
+    } else if byte == b'\n' {
+        Mark::Feed
+    } else if byte == b'\r' {
+        Mark::Return
+    } else {
+        Mark::Other
     }
 }
 

@@ -130,13 +130,15 @@ fn are_digits(text: &[u8]) -> bool
     !text.is_empty() && all_digits(text)
 }
 
-fn all_digits(text: &[u8]) -> bool
+/// Whether these are digits, and nothing else.
+pub fn all_digits(text: &[u8]) -> bool
     ensures { result ≡ list_all digit_of text.now }
 {
     text.iter().all(|byte| is_digit(*byte))
 }
 
-fn is_digit(byte: u8) -> bool
+/// Whether a byte is a digit.
+pub fn is_digit(byte: u8) -> bool
     ensures { result ≡ digit_of byte }
 {
     matches!(byte, b'0'..=b'9')

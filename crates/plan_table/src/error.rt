@@ -125,20 +125,13 @@ pub enum TableError {
         name: String,
     },
     /// The records end before that of a name.
-    #[error("the row \"{name}\" is missing: write a row for each column, in the columns' order")]
+    #[error("the row \"{name}\" is missing: write a row for each column")]
     MissingRow {
         name: String,
     },
-    /// A record begins with another name than is due.
-    #[error("{place}: expected the name \"{expected}\" and found \"{found}\": the rows have the columns' names, in their order")]
-    OtherName {
-        place: Place,
-        expected: String,
-        found: String,
-    },
-    /// There is a record more than names.
-    #[error("{place}: the row \"{found}\" is one too many: take it away, or add its column")]
-    ExtraRow {
+    /// A row begins with a name that no column has.
+    #[error("{place}: no column has the name \"{found}\": give the rows the columns' names, in any order")]
+    NoColumn {
         place: Place,
         found: String,
     },
@@ -147,14 +140,38 @@ pub enum TableError {
     MissingCell {
         place: Place,
     },
+    /// Names differ only in capital letters and blanks.
+    #[error("the names \"{first}\" and \"{second}\" differ only in capital letters or blanks: spell them alike, or give one another name")]
+    NamesAlike {
+        first: String,
+        second: String,
+    },
+    /// The first field is a number.
+    #[error("line {line} begins with the number \"{word}\" where names should be: write an empty field and then the names, as `,Saw,Lathe`")]
+    NoNames {
+        line: u64,
+        word: String,
+    },
+    /// Two places stand at one point.
+    #[error("the places \"{first}\" and \"{second}\" stand at one point: give each its own")]
+    SamePoint {
+        first: String,
+        second: String,
+    },
+    /// A number can be read by a point and by a comma.
+    #[error("{place}: \"{word}\" can be read in two ways, by a decimal point and by a decimal comma: say `decimal_mark = \".\"` or `decimal_mark = \",\"` in the plan")]
+    TwoReadings {
+        place: Place,
+        word: String,
+    },
     /// A record has a cell too many.
-    #[error("{place}: the cell \"{word}\" is one too many: take it away, or quote a number's comma away")]
+    #[error("{place}: the cell \"{word}\" is one too many: take it away, or put a number with a comma in quotes")]
     ExtraCell {
         place: Place,
         word: String,
     },
     /// A cell is no decimal number.
-    #[error("{place}: \"{word}\" is no number: write digits and at most one point, as `12` or `-0.25`, with no blanks, exponent or comma")]
+    #[error("{place}: \"{word}\" is no number: write digits and at most one decimal mark, as `12` or `-0.25`, with no unit or exponent")]
     NotANumber {
         place: Place,
         word: String,
@@ -165,6 +182,14 @@ pub enum TableError {
         place: Place,
         word: String,
     },
+    /// A row and a column hold the sums of the others.
+    #[error("the row and the column \"{name}\" hold the sums of the others: take both away, since they would count as one more")]
+    Total {
+        name: String,
+    },
+    /// The file is a workbook, or another archive.
+    #[error("the file is a workbook, not a text: save its sheet as CSV")]
+    Workbook,
     /// The text is no CSV.
     #[error("{0}")]
     NotCsv(#[from] CsvFault),

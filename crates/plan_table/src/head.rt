@@ -1,15 +1,18 @@
 //! First lines that say what the columns are.
 
-ghost use Rattle.std.specs.Prelude.{◌≡◌, ◌∷◌, [], IsTrue, OnOk};
+ghost use Rattle.std.specs.Prelude.{◌≡◌, ◌≤◌, ◌∷◌, [], length, map, IfOk, IsTrue, OnOk};
+ghost use Rattle.std.specs.Char.{to_ascii_lowercase};
 ghost use Rattle.csv.specs.Records.{fields_of};
+ghost use Rattle.plan_table.specs.Heads.{IsHead};
+ghost use Rattle.plan_table.specs.Table.{word_at};
 
 use crate::error::TableError;
 use crate::records::line_of;
-use crate::rows::has_field;
+use crate::rows::word_in;
 use csv::StringRecord;
-use std::alloc::Global;
+use std::alloc::{AllocError, Global};
 
-/// Checks that a record has just these three fields; below it stands a line for each item.
+/// Checks that the first three fields of a record are these words, in capital or small letters; below it stands a line for each item.
 pub fn check_head(
     alloc: Global,
     text: &[u8],
@@ -19,9 +22,9 @@ pub fn check_head(
     third: &str,
     item: &'static str,
 ) -> Result<(), TableError>
-    ensures { OnOk result (fields_of head.now ≡ first.now ∷ second.now ∷ third.now ∷ []) }
+    ensures { OnOk result (IsHead (first.now ∷ second.now ∷ third.now ∷ []) (fields_of head.now)) }
 {
-    if has_fields(head, first, second, third) {
+    if has_words(alloc, head, first, second, third)? {
         return Ok(());
     }
     Err(TableError::OtherHead {
@@ -31,18 +34,29 @@ pub fn check_head(
     })
 }
 
-/// Whether a record has just these three fields.
-fn has_fields(head: &StringRecord, first: &str, second: &str, third: &str) -> bool
-    ensures { IsTrue result → (fields_of head.now ≡ first.now ∷ second.now ∷ third.now ∷ []) }
+/// Whether the first three fields of a record are these words.
+fn has_words(
+    alloc: Global,
+    head: &StringRecord,
+    first: &str,
+    second: &str,
+    third: &str,
+) -> Result<bool, AllocError>
+    ensures { IfOk result (λ all. IsTrue all → IsHead (first.now ∷ second.now ∷ third.now ∷ []) (fields_of head.now)) }
 {
-    if head.len() != 3 {
-        return false;
+    if head.len() < 3 {
+        return Ok(false);
     }
-    if !has_field(head, 0, first) {
-        return false;
-    }
-    if !has_field(head, 1, second) {
-        return false;
-    }
-    has_field(head, 2, third)
+    let one = is_word(alloc, word_in(head, 0), first)?;
+    let two = is_word(alloc, word_in(head, 1), second)?;
+    let three = is_word(alloc, word_in(head, 2), third)?;
+    Ok(one && two && three)
+}
+
+/// Whether a field is a word, in capital or small letters.
+fn is_word(alloc: Global, field: &str, word: &str) -> Result<bool, AllocError>
+    ensures { IfOk result (λ same. IsTrue same → map to_ascii_lowercase field.now ≡ word.now) }
+{
+    let small = field.to_ascii_lowercase(alloc)?;
+    Ok(small.as_str() == word)
 }

@@ -1,13 +1,16 @@
 //! Places with coordinates.
 
-ghost use Rattle.std.specs.Prelude.{◌≡◌, ◌*◌, ◌∷◌, [], length, map, All, IfOk, unsigned_abs, ◌≤◌};
+ghost use Rattle.std.specs.Prelude.{◌≡◌, ◌≢◌, ◌*◌, ◌<◌, ◌≤◌, ◌∷◌, [], ℕ, length, map, All, IfOk, MatchOption, OnOk, unsigned_abs};
 ghost use Rattle.std.specs.String.{string_bytes};
 ghost use Rattle.plan_table.specs.Decimal.{max_entry};
-ghost use Rattle.plan_table.specs.Places.{AreNamedPoints, IsPlacesText, coordinates_of};
+ghost use Rattle.plan_table.specs.Places.{AreApart, AreNamedPoints, IsPlacesText, coordinates_of, point_at};
 
+use crate::alike::check_unlike;
 use crate::error::TableError;
 use crate::head::check_head;
+use crate::marking::mark_of_table;
 use crate::names::read_first_names;
+use crate::numeral::{DecimalMark, Reading};
 use crate::records::read_records;
 use crate::rows::{read_rows, too_large};
 use crate::scale::{ScaleError, least_scale, scaled_entries};
@@ -30,10 +33,15 @@ pub struct PlaceTable {
 
 /// Reads places with coordinates from a text in CSV, and each number exactly.
 ///
-/// The first record is `name,x,y`; each further one has a name and two numbers. There are 1 to 256 names, none empty and none twice. All
-/// numbers are multiplied by the least power of ten that makes them whole, and lie from -10^9 to 10^9 then.
-pub fn read_places(alloc: Global, text: &[u8]) -> Result<PlaceTable, TableError>
-    ensures text { IfOk result (λ t. IsPlacesText text.now (map string_bytes t.names.items) t.scale t.points.items) }
+/// The first record is `name,x,y`, in capital or small letters; each further one has a name and two numbers. There are 1 to 256 names, none
+/// empty, and no two that differ only in capital letters and blanks. All numbers are multiplied by the least power of ten that makes them
+/// whole, and lie from -10^9 to 10^9 then. No two places stand at one point.
+pub fn read_places(
+    alloc: Global,
+    text: &[u8],
+    given: Option<DecimalMark>,
+) -> Result<PlaceTable, TableError>
+    ensures text { IfOk result (λ t. IsPlacesText given text.now (map string_bytes t.names.items) t.scale t.points.items) }
     ensures points { IfOk result (λ t. AreNamedPoints (map string_bytes t.names.items) t.points.items) }
 {
     let records = read_records(alloc, text)?;
@@ -45,17 +53,55 @@ pub fn read_places(alloc: Global, text: &[u8]) -> Result<PlaceTable, TableError>
     };
     check_head(alloc, text, head, "name", "x", "y", "place")?;
     let names = read_first_names(alloc, text, rows)?;
-    let decimals = read_rows(alloc, text, rows, &names, 2)?;
+    check_unlike(alloc, &names)?;
+    let mark = mark_of_table(alloc, text, given, rows, 1, 3)?;
+    let reading = Reading {
+        mark,
+        is_square: false,
+    };
+    let decimals = read_rows(alloc, text, rows, &names, 2, reading)?;
     let scale = least_scale(&decimals);
-    match scaled_entries(alloc, &decimals, scale) {
-        Ok(entries) => Ok(PlaceTable {
-            points: points_of(alloc, &entries, names.len())?,
-            names,
-            scale,
-        }),
-        Err(ScaleError::TooLarge(i)) => Err(too_large(alloc, text, rows, 2, i)),
-        Err(ScaleError::OutOfMemory) => Err(TableError::OutOfMemory),
+    let entries = match scaled_entries(alloc, &decimals, scale) {
+        Ok(entries) => entries,
+        Err(ScaleError::TooLarge(i)) => return Err(too_large(alloc, text, rows, &names, 2, i)),
+        Err(ScaleError::OutOfMemory) => return Err(TableError::OutOfMemory),
+    };
+    let points = points_of(alloc, &entries, names.len())?;
+    check_apart(&names, &points)?;
+    Ok(PlaceTable {
+        points,
+        names,
+        scale,
+    })
+}
+
+/// Checks that no two places stand at one point.
+fn check_apart(names: &[String], points: &[Point]) -> Result<(), TableError>
+    requires { length names.now ≡ length points.now }
+    ensures { OnOk result (AreApart points.now) }
+{
+    for k in 0..points.len() {
+        if let Some(j) = same_before(points, k) {
+            return Err(TableError::SamePoint {
+                first: names[j].clone()?,
+                second: names[k].clone()?,
+            });
+        }
     }
+    Ok(())
+}
+
+/// The number of a point before the one of number `k` that is the same.
+fn same_before(points: &[Point], k: usize) -> Option<usize>
+    requires { k < length points.now }
+    ensures { MatchOption result ((j : ℕ) → j < k → point_at points.now j ≢ point_at points.now k) (λ j. j < k) }
+{
+    for j in 0..k {
+        if points[j] == points[k] {
+            return Some(j);
+        }
+    }
+    None
 }
 
 /// The points whose coordinates these are, one after another, x before y.

@@ -1,31 +1,76 @@
 //! The records of a text.
 
-ghost use Rattle.std.specs.Prelude.{◌≡◌, map, List, ℕ, IfOk};
+ghost use Rattle.std.specs.Prelude.{◌≡◌, ◌++◌, ◌↔◌, [], map, take, slice_index_or, IfOk, IsTrue, OnOk};
 ghost use Rattle.csv.specs.Records.{fields_of};
 ghost use Rattle.plan_table.specs.Table.{AreRecordsOf};
+ghost use Rattle.plan_table.specs.Tidy.{filled_front, tidied_record, unless_empty};
 
-use crate::csv_text::check_csv;
+use crate::csv_text::{check_csv, without_bom};
 use crate::error::TableError;
+use crate::separator::separator_of;
 use csv::{Error, ErrorKind, Position, ReaderBuilder, StringRecord};
-use std::alloc::Global;
+use std::alloc::{AllocError, Global};
 
-/// All records of a text, behind the byte order mark that it may begin with.
+/// All records of a text, behind the byte order mark that it may begin with, without what spreadsheets put around them: blanks around
+/// fields, empty fields at the end of a record, and records of such fields alone.
 pub fn read_records(alloc: Global, text: &[u8]) -> Result<Vec<StringRecord>, TableError>
     ensures { IfOk result (λ v. AreRecordsOf text.now (map fields_of v.items)) }
 {
-    check_csv(text)?;
+    if text.starts_with(b"PK\x03\x04") {
+        return Err(TableError::Workbook);
+    }
+    let content = without_bom(text);
+    let separator = separator_of(content);
+    check_csv(separator, content)?;
     let reader = ReaderBuilder::new()
         .has_headers(false)
         .flexible(true)
+        .delimiter(separator.byte())
         .from_reader(alloc, text);
     let mut records = Vec::new(alloc);
     for record in reader.into_records() {
         match record {
-            Ok(record) => records.push(record).map_err(|_| TableError::OutOfMemory)?,
+            Ok(record) => push_tidied(&mut records, record)?,
             Err(error) => return Err(refused(text, error)),
         }
     }
     Ok(records)
+}
+
+/// Puts a tidied record behind others, unless nothing is left of it.
+fn push_tidied(records: &mut Vec<StringRecord>, mut row: StringRecord) -> Result<(), AllocError>
+    ensures { OnOk result (map fields_of records.new.items ≡ map fields_of records.old.items ++ unless_empty (tidied_record (fields_of row))) }
+{
+    row.trim()?;
+    let filled = filled_fields(&row);
+    row.truncate(filled);
+    if !row.is_empty() {
+        records.push(row)?;
+    }
+    Ok(())
+}
+
+/// How many fields a record has without the empty ones at its end.
+fn filled_fields(row: &StringRecord) -> usize
+    ensures { take result (fields_of row.now) ≡ filled_front (fields_of row.now) }
+{
+    let mut filled = 0;
+    for i in 0..row.len() {
+        if !is_empty(row, i) {
+            filled = i + 1;
+        }
+    }
+    filled
+}
+
+/// Whether a field of a record is empty, or there is none.
+fn is_empty(row: &StringRecord, field: usize) -> bool
+    ensures { IsTrue result ↔ (slice_index_or (fields_of row.now) field [] ≡ []) }
+{
+    match row.get(field) {
+        Some(word) => word.is_empty(),
+        None => true,
+    }
 }
 
 fn refused(text: &[u8], error: Error) -> TableError {

@@ -1,103 +1,124 @@
 //! The rows of a table.
 
-ghost use Rattle.std.specs.Prelude.{◌≡◌, ◌↔◌, ◌/◌, ◌<◌, ◌≤◌, ◌+◌, ◌-◌, ◌^◌, ◌++◌, ℕ, List, length, map, IfOk, IsTrue, OnOk, Some};
+ghost use Rattle.std.specs.Prelude.{◌≡◌, ◌↔◌, ◌/◌, ◌<◌, ◌≤◌, ◌+◌, ◌-◌, ◌^◌, ◌++◌, ℕ, [], List, length, map, slice_index_or, IfOk, IfSome, IsTrue, OnOk, Some};
 ghost use Rattle.std.specs.String.{string_bytes};
 ghost use Rattle.csv.specs.Records.{fields_of, field_at};
-ghost use Rattle.plan_table.specs.Decimal.{decimal_of};
 ghost use Rattle.plan_table.specs.Names.{max_names};
-ghost use Rattle.plan_table.specs.Table.{AreRows, IsRow};
+ghost use Rattle.plan_table.specs.Numerals.{cell_in};
+ghost use Rattle.plan_table.specs.Table.{AreRowsOf, IsRow, word_at};
 ghost use Rattle.plan_table.specs.declared.decimal.Decimal.{Decimal};
 
 use crate::control::shown;
-use crate::decimal::{Decimal, NumberFault, parse_decimal};
+use crate::decimal::{Decimal, NumberFault};
 use crate::error::{Place, TableError};
+use crate::names::has_name;
+use crate::numeral::{Reading, is_nothing, read_number};
 use crate::records::line_of;
 use csv::StringRecord;
-use std::alloc::Global;
+use std::alloc::{AllocError, Global};
 
-/// The numbers of the rows of these names, by rows, so many in each.
+/// The numbers of the rows of these names, by rows, so many in each. The rows stand in any order.
 pub fn read_rows(
     alloc: Global,
     text: &[u8],
     rows: &[StringRecord],
     names: &[String],
     count: usize,
+    reading: Reading,
 ) -> Result<Vec<Decimal>, TableError>
     requires names { length names.now ≤ max_names }
     requires count { count ≤ max_names }
-    ensures { IfOk result (λ v. AreRows count (map string_bytes names.now) (map fields_of rows.now) v.items) }
+    ensures { IfOk result (λ v. AreRowsOf reading count (map string_bytes names.now) (map fields_of rows.now) v.items) }
 {
+    if rows.len() != names.len() {
+        return Err(fault_of_rows(alloc, text, rows, names));
+    }
     let mut decimals = Vec::new(alloc);
     for i in 0..names.len() {
-        if i == rows.len() {
-            return Err(TableError::MissingRow {
-                name: names[i].clone()?,
-            });
-        }
-        read_row(
-            alloc,
-            text,
-            &rows[i],
-            names[i].as_str(),
-            count,
-            &mut decimals,
-        )?;
-    }
-    if rows.len() > names.len() {
-        return Err(extra_row(alloc, text, &rows[names.len()]));
+        let Some(k) = row_of(rows, names[i].as_str()) else {
+            return Err(fault_of_rows(alloc, text, rows, names));
+        };
+        read_row(alloc, text, &rows[k], i, count, reading, &mut decimals)?;
     }
     Ok(decimals)
 }
 
-fn extra_row(alloc: Global, text: &[u8], record: &StringRecord) -> TableError {
-    match shown(alloc, record.get(0).unwrap_or("")) {
-        Ok(found) => TableError::ExtraRow {
-            place: place_of(text, record, 0),
-            found,
-        },
+/// The number of the first record that begins with a name.
+pub fn row_of(rows: &[StringRecord], name: &str) -> Option<usize>
+    ensures { IfSome result (λ k. (k < length rows.now) × (field_at (slice_index_or (map fields_of rows.now) k []) 0 ≡ Some name.now)) }
+{
+    for (k, row) in rows.iter().enumerate() {
+        if has_field(row, 0, name) {
+            return Some(k);
+        }
+    }
+    None
+}
+
+/// What is wrong with rows, where they aren't those of the names: a row has no column, a row stands twice, or a column has no row.
+fn fault_of_rows(
+    alloc: Global,
+    text: &[u8],
+    rows: &[StringRecord],
+    names: &[String],
+) -> TableError {
+    match find_fault(alloc, text, rows, names) {
+        Ok(fault) => fault,
         Err(_) => TableError::OutOfMemory,
     }
 }
 
-/// Reads the row of a name: its numbers are put behind those that were read before.
+fn find_fault(
+    alloc: Global,
+    text: &[u8],
+    rows: &[StringRecord],
+    names: &[String],
+) -> Result<TableError, AllocError> {
+    for (k, row) in rows.iter().enumerate() {
+        let word = row.get(0).unwrap_or("");
+        if !has_name(names, word) {
+            return Ok(TableError::NoColumn {
+                place: place_of(text, row, 0),
+                found: shown(alloc, word)?,
+            });
+        }
+        if row_of(rows, word) != Some(k) {
+            return Ok(TableError::NameTwice {
+                place: place_of(text, row, 0),
+                name: String::from_str(alloc, word)?,
+            });
+        }
+    }
+    for name in names {
+        if row_of(rows, name.as_str()).is_none() {
+            return Ok(TableError::MissingRow {
+                name: name.clone()?,
+            });
+        }
+    }
+    Ok(TableError::Empty)
+}
+
+/// Reads a row of a table, the row of number `i`: its numbers are put behind those that were read before.
 fn read_row(
     alloc: Global,
     text: &[u8],
-    record: &StringRecord,
-    name: &str,
+    row: &StringRecord,
+    i: usize,
     count: usize,
+    reading: Reading,
     decimals: &mut Vec<Decimal>,
 ) -> Result<(), TableError>
     requires { count ≤ max_names }
-    ensures { OnOk result ((row : List Decimal) × IsRow count name.now (fields_of record.now) row
-        × (decimals.new.items ≡ decimals.old.items ++ row)) }
+    ensures { OnOk result ((name : List ℕ) → field_at (fields_of row.now) 0 ≡ Some name →
+        (numbers : List Decimal) × IsRow reading i count name (fields_of row.now) numbers × (decimals.new.items ≡ decimals.old.items ++ numbers)) }
 {
-    check_name(alloc, text, record, name)?;
     for column in 0..count {
-        let decimal = read_cell(alloc, text, record, column)?;
+        let decimal = read_cell(alloc, text, row, i, column, reading)?;
         decimals.push(decimal).map_err(|_| TableError::OutOfMemory)?;
     }
-    check_end(alloc, text, record, count)?;
+    check_end(alloc, text, row, count)?;
     Ok(())
-}
-
-/// Checks that a record begins with a name.
-fn check_name(
-    alloc: Global,
-    text: &[u8],
-    record: &StringRecord,
-    name: &str,
-) -> Result<(), TableError>
-    ensures { OnOk result (field_at (fields_of record.now) 0 ≡ Some name.now) }
-{
-    if has_field(record, 0, name) {
-        return Ok(());
-    }
-    Err(TableError::OtherName {
-        place: place_of(text, record, 0),
-        expected: String::from_str(alloc, name)?,
-        found: shown(alloc, record.get(0).unwrap_or(""))?,
-    })
 }
 
 /// Whether a field of a record is this word.
@@ -117,7 +138,7 @@ pub fn check_end(
     record: &StringRecord,
     count: usize,
 ) -> Result<(), TableError>
-    requires { count ≤ max_names }
+    requires { count < 2 ^ 64 - 2 }
     ensures { OnOk result (length (fields_of record.now) ≤ count + 1) }
 {
     let Some(word) = record.get(count + 1) else {
@@ -129,28 +150,61 @@ pub fn check_end(
     })
 }
 
-/// The number in a column's cell.
+/// The number in a cell of the row of number `i`.
 pub fn read_cell(
     alloc: Global,
     text: &[u8],
-    record: &StringRecord,
+    row: &StringRecord,
+    i: usize,
     column: usize,
+    reading: Reading,
 ) -> Result<Decimal, TableError>
     requires { column < max_names }
-    ensures { IfOk result (λ d. (word : List ℕ) × (field_at (fields_of record.now) (column + 1) ≡ Some word) × (decimal_of word ≡ Some d)) }
+    ensures { IfOk result (λ d. cell_in reading i column (word_at (fields_of row.now) (column + 1)) ≡ Some d) }
 {
-    let Some(word) = record.get(column + 1) else {
-        return Err(TableError::MissingCell {
-            place: place_of(text, record, column + 1),
+    let word = word_in(row, column + 1);
+    if reading.is_square && i == column && is_nothing(word.as_bytes()) {
+        return Ok(Decimal {
+            number: 0,
+            places: 0,
         });
-    };
-    match parse_decimal(word.as_bytes()) {
+    }
+    match read_number(alloc, reading.mark, word.as_bytes())? {
         Ok(decimal) => Ok(decimal),
-        Err(NumberFault::NotANumber) => Err(TableError::NotANumber {
-            place: place_of(text, record, column + 1),
-            word: shown(alloc, word)?,
-        }),
-        Err(NumberFault::TooLarge) => Err(too_large_in(alloc, text, record, column + 1)),
+        Err(fault) => Err(cell_fault(alloc, text, row, column + 1, fault)),
+    }
+}
+
+/// A field of a record, or the empty word where the record has ended.
+pub fn word_in(row: &StringRecord, field: usize) -> &str
+    ensures { result.now ≡ word_at (fields_of row.now) field }
+{
+    match row.get(field) {
+        Some(word) => word,
+        None => "",
+    }
+}
+
+/// What is wrong with a cell, which stands in this field of a record.
+fn cell_fault(
+    alloc: Global,
+    text: &[u8],
+    row: &StringRecord,
+    field: usize,
+    fault: NumberFault,
+) -> TableError
+    requires { field < 2 ^ 64 - 1 }
+{
+    let place = place_of(text, row, field);
+    if row.len() <= field {
+        return TableError::MissingCell { place };
+    }
+    match shown(alloc, row.get(field).unwrap_or("")) {
+        Ok(word) => match fault {
+            NumberFault::NotANumber => TableError::NotANumber { place, word },
+            NumberFault::TooLarge => TableError::TooLarge { place, word },
+        },
+        Err(_) => TableError::OutOfMemory,
     }
 }
 
@@ -159,14 +213,18 @@ pub fn too_large(
     alloc: Global,
     text: &[u8],
     rows: &[StringRecord],
+    names: &[String],
     columns: usize,
     i: usize,
 ) -> TableError
     requires positive { 0 < columns }
     requires few { columns ≤ max_names }
-    requires there { i / columns < length rows.now }
+    requires there { i / columns < length names.now }
 {
-    too_large_in(alloc, text, &rows[i / columns], i % columns + 1)
+    match row_of(rows, names[i / columns].as_str()) {
+        Some(k) => too_large_in(alloc, text, &rows[k], i % columns + 1),
+        None => fault_of_rows(alloc, text, rows, names),
+    }
 }
 
 /// The error of a number that doesn't fit, where it stands in this field of a record.

@@ -1,15 +1,23 @@
 //! Matrices with names.
 
-ghost use Rattle.std.specs.Prelude.{map, IfOk};
+ghost use Rattle.std.specs.Prelude.{◌≡◌, map, IfOk, None, OnOk};
 ghost use Rattle.std.specs.String.{string_bytes};
+ghost use Rattle.csv.specs.Records.{fields_of};
+ghost use Rattle.plan_table.specs.Numerals.{number_in};
 ghost use Rattle.plan_table.specs.Shape.{IsNamedSquare};
-ghost use Rattle.plan_table.specs.Table.{IsMatrixText};
+ghost use Rattle.plan_table.specs.Table.{IsMatrixText, word_at};
 
+use crate::alike::check_unlike;
+use crate::control::shown;
 use crate::error::TableError;
+use crate::marking::mark_of_table;
 use crate::names::read_names;
-use crate::records::read_records;
-use crate::rows::{read_rows, too_large};
+use crate::numeral::{DecimalMark, Reading, plain_number};
+use crate::records::{line_of, read_records};
+use crate::rows::{read_rows, too_large, word_in};
 use crate::scale::{ScaleError, least_scale, scaled_entries};
+use crate::totals::check_no_total;
+use csv::StringRecord;
 use std::alloc::Global;
 
 /// A matrix whose rows and columns have the same names: `names.len()` by `names.len()` entries by rows. An entry `e` stands for
@@ -23,12 +31,19 @@ pub struct NamedMatrix {
 
 /// Reads a matrix with names from a text in CSV, and each number exactly.
 ///
-/// The first record has any first field and then 1 to 256 names; each further record has a name and as many numbers, the names
-/// in the columns' order. No name is empty or stands twice. A number has an optional sign, digits, and optionally a point with digits
-/// behind it; blanks count as parts of a name or a number. All numbers are multiplied by the least power of ten that makes them
-/// whole, and lie from -10^9 to 10^9 then. A byte order mark at the front is passed over.
-pub fn read_matrix(alloc: Global, text: &[u8]) -> Result<NamedMatrix, TableError>
-    ensures text { IfOk result (λ m. IsMatrixText text.now (map string_bytes m.names.items) m.scale m.entries.items) }
+/// The first record has a first field, which is no number, and then 1 to 256 names; each further record has a name and as many numbers, in
+/// the columns' order. The rows stand in any order. A row and a column called a total that are the sums of the others are refused. No name is empty, and no two differ only in capital letters and blanks. The separator
+/// is that of the first line. Blanks around fields, and empty fields at a record's end, count for nothing.
+///
+/// A number has an optional sign, digits, and optionally a decimal mark with digits; see `DecimalMark`. Without a given mark, it is the one by
+/// which all numbers can be read. A cell between a thing and itself may be empty, a dash or a cross, for 0. All numbers are multiplied by the
+/// least power of ten that makes them whole, and lie from -10^9 to 10^9 then. A byte order mark at the front is passed over.
+pub fn read_matrix(
+    alloc: Global,
+    text: &[u8],
+    given: Option<DecimalMark>,
+) -> Result<NamedMatrix, TableError>
+    ensures text { IfOk result (λ m. IsMatrixText given text.now (map string_bytes m.names.items) m.scale m.entries.items) }
     ensures square { IfOk result (λ m. IsNamedSquare (map string_bytes m.names.items) m.entries.items) }
 {
     let records = read_records(alloc, text)?;
@@ -36,16 +51,45 @@ pub fn read_matrix(alloc: Global, text: &[u8]) -> Result<NamedMatrix, TableError
         return Err(TableError::Empty);
     };
     let names = read_names(alloc, text, head)?;
+    check_unlike(alloc, &names)?;
     let columns = names.len();
-    let decimals = read_rows(alloc, text, rows, &names, columns)?;
+    let mark = mark_of_table(alloc, text, given, rows, 1, columns + 1)?;
+    check_corner(alloc, text, head, mark)?;
+    let reading = Reading {
+        mark,
+        is_square: true,
+    };
+    let decimals = read_rows(alloc, text, rows, &names, columns, reading)?;
     let scale = least_scale(&decimals);
     match scaled_entries(alloc, &decimals, scale) {
-        Ok(entries) => Ok(NamedMatrix {
-            names,
-            scale,
-            entries,
-        }),
-        Err(ScaleError::TooLarge(i)) => Err(too_large(alloc, text, rows, columns, i)),
+        Ok(entries) => {
+            check_no_total(alloc, &names, &entries)?;
+            Ok(NamedMatrix {
+                names,
+                scale,
+                entries,
+            })
+        }
+        Err(ScaleError::TooLarge(i)) => { Err(too_large(alloc, text, rows, &names, columns, i)) }
         Err(ScaleError::OutOfMemory) => Err(TableError::OutOfMemory),
+    }
+}
+
+/// Checks that the first field of the first record is no number, as it would be in a table without names.
+fn check_corner(
+    alloc: Global,
+    text: &[u8],
+    head: &StringRecord,
+    mark: DecimalMark,
+) -> Result<(), TableError>
+    ensures { OnOk result (number_in mark (word_at (fields_of head.now) 0) ≡ None) }
+{
+    let corner = word_in(head, 0);
+    match plain_number(alloc, mark, corner.as_bytes())? {
+        None => Ok(()),
+        Some(_) => Err(TableError::NoNames {
+            line: line_of(text, head),
+            word: shown(alloc, corner)?,
+        }),
     }
 }

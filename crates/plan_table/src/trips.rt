@@ -1,21 +1,27 @@
 //! Flows listed pair by pair.
 
-ghost use Rattle.std.specs.Prelude.{◌≡◌, ◌*◌, ◌<◌, ◌≤◌, ◌^◌, ◌-◌, ◌∷◌, length, map, replicate, unsigned_abs, All, None, Some, IfOk, OnOk};
+ghost use Rattle.std.specs.Prelude.{◌≡◌, ◌*◌, ◌<◌, ◌≤◌, ◌^◌, ◌-◌, length, map, replicate, take, unsigned_abs, All, None, Some, IfOk, OnOk};
 ghost use Rattle.std.specs.String.{string_bytes};
 ghost use Rattle.csv.specs.Records.{fields_of, field_at};
+ghost use Rattle.plan_table.specs.Alike.{AreUnlike};
 ghost use Rattle.plan_table.specs.Decimal.{max_entry};
 ghost use Rattle.plan_table.specs.Listing.{AreInside, ArePlaced, AreTripsOf, IsTripOf, cell_of as cell_number, filled as filled_with};
+ghost use Rattle.plan_table.specs.Marking.{IsMark};
 ghost use Rattle.plan_table.specs.Names.{AreNames, max_names};
 ghost use Rattle.plan_table.specs.Numbers.{AreNumbers};
 ghost use Rattle.plan_table.specs.Shape.{IsNamedSquare};
-ghost use Rattle.plan_table.specs.Trips.{AppearInOrder, IsTripsMatrix, IsTripsText, name_at, trips_head, words_of};
+ghost use Rattle.plan_table.specs.Trips.{AppearInOrder, IsList, IsTripsMatrix, IsTripsText, name_at, words_of};
+ghost use Rattle.plan_table.specs.declared.numeral.DecimalMark.{DecimalMark as MarkOf};
 
+use crate::alike::check_unlike;
 use crate::control::shown;
 use crate::decimal::Decimal;
 use crate::departments::appearing_names;
 use crate::error::TableError;
 use crate::head::check_head;
+use crate::marking::mark_of_table;
 use crate::numbers::{NameNumbers, number_of, numbers_of};
+use crate::numeral::{DecimalMark, Reading};
 use crate::records::read_records;
 use crate::rows::{check_end, place_of, read_cell, too_large_in};
 use crate::scale::{ScaleError, least_scale, scaled_entries};
@@ -34,17 +40,21 @@ pub struct Trip {
 /// Reads flows that are listed pair by pair from a text in CSV, and each number exactly; the departments are those of the list, in the order in
 /// which they first appear.
 ///
-/// The first record is `from,to,amount`; each further one has the names of two departments and a number. No pair stands twice; one that isn't
-/// listed has no flow. All numbers are multiplied by the least power of ten that makes them whole, and lie from -10^9 to 10^9 then.
-pub fn read_trips(alloc: Global, text: &[u8]) -> Result<NamedMatrix, TableError>
+/// The first record begins with `from,to,amount`, in capital or small letters; each further one has the names of two departments and a number.
+/// Further columns don't count. No pair stands twice; one that isn't listed has no flow. No two names differ only in capital letters and
+/// blanks. All numbers are multiplied by the least power of ten that makes them whole, and lie from -10^9 to 10^9 then.
+pub fn read_trips(
+    alloc: Global,
+    text: &[u8],
+    given: Option<DecimalMark>,
+) -> Result<NamedMatrix, TableError>
     ensures text { IfOk result (λ m. let names = map string_bytes m.names.items in
-        (t : IsTripsText text.now names m.scale m.entries.items) × AppearInOrder (words_of t.rows) names) }
+        (t : IsTripsText given text.now names m.scale m.entries.items) × AppearInOrder (words_of t.rows) names) }
     ensures square { IfOk result (λ m. IsNamedSquare (map string_bytes m.names.items) m.entries.items) }
 {
-    let records = read_records(alloc, text)?;
-    let rows = rows_below(alloc, text, &records)?;
-    let names = appearing_names(alloc, text, rows)?;
-    let matrix = matrix_of(alloc, text, rows, names)?;
+    let rows = read_list(alloc, text)?;
+    let names = appearing_names(alloc, text, &rows)?;
+    let matrix = matrix_of(alloc, text, given, &rows, names)?;
     Ok(matrix)
 }
 
@@ -52,50 +62,82 @@ pub fn read_trips(alloc: Global, text: &[u8]) -> Result<NamedMatrix, TableError>
 pub fn read_trips_between(
     alloc: Global,
     text: &[u8],
+    given: Option<DecimalMark>,
     departments: Vec<String>,
 ) -> Result<NamedMatrix, TableError>
     requires { AreNames (map string_bytes departments.items) }
-    ensures text { IfOk result (λ m. IsTripsText text.now (map string_bytes m.names.items) m.scale m.entries.items) }
+    ensures text { IfOk result (λ m. IsTripsText given text.now (map string_bytes m.names.items) m.scale m.entries.items) }
     ensures names { IfOk result (λ m. m.names ≡ departments) }
     ensures square { IfOk result (λ m. IsNamedSquare (map string_bytes m.names.items) m.entries.items) }
 {
-    let records = read_records(alloc, text)?;
-    let rows = rows_below(alloc, text, &records)?;
-    let matrix = matrix_of(alloc, text, rows, departments)?;
+    let rows = read_list(alloc, text)?;
+    let matrix = matrix_of(alloc, text, given, &rows, departments)?;
     Ok(matrix)
 }
 
-/// The records below the first, which says what the columns are.
-fn rows_below<'a>(
-    alloc: Global,
-    text: &[u8],
-    records: &'a [StringRecord],
-) -> Result<&'a [StringRecord], TableError>
-    ensures { IfOk result (λ rows. map fields_of records.now ≡ trips_head ∷ map fields_of rows.now) }
+/// The first three fields of each record below the first, which says what the columns are. No record is longer than the first.
+fn read_list(alloc: Global, text: &[u8]) -> Result<Vec<StringRecord>, TableError>
+    ensures { IfOk result (λ rows. IsList text.now (map fields_of rows.items)) }
 {
-    let Some((head, rows)) = records.split_first() else {
+    let records = read_records(alloc, text)?;
+    let Some((head, below)) = records.split_first() else {
         return Err(TableError::NoHead {
             head: "from,to,amount",
             item: "pair",
         });
     };
     check_head(alloc, text, head, "from", "to", "amount", "pair")?;
+    let mut rows = Vec::new(alloc);
+    for row in below {
+        check_length(alloc, text, row, head)?;
+        rows.push(front_of(row)?)
+            .map_err(|_| TableError::OutOfMemory)?;
+    }
     Ok(rows)
+}
+
+/// Checks that a record isn't longer than the first.
+fn check_length(
+    alloc: Global,
+    text: &[u8],
+    row: &StringRecord,
+    head: &StringRecord,
+) -> Result<(), TableError> {
+    let Some(word) = row.get(head.len()) else {
+        return Ok(());
+    };
+    Err(TableError::ExtraCell {
+        place: place_of(text, row, head.len()),
+        word: shown(alloc, word)?,
+    })
+}
+
+/// The first three fields of a record.
+fn front_of(row: &StringRecord) -> Result<StringRecord, AllocError>
+    ensures { IfOk result (λ front. fields_of front ≡ take 3 (fields_of row.now)) }
+{
+    let mut front = row.clone()?;
+    front.truncate(3);
+    Ok(front)
 }
 
 /// The matrix of the flows that rows list between departments of these names.
 fn matrix_of(
     alloc: Global,
     text: &[u8],
+    given: Option<DecimalMark>,
     rows: &[StringRecord],
     names: Vec<String>,
 ) -> Result<NamedMatrix, TableError>
     requires { AreNames (map string_bytes names.items) }
     ensures names { IfOk result (λ m. m.names ≡ names) }
-    ensures matrix { IfOk result (λ m. IsTripsMatrix (map string_bytes m.names.items) (map fields_of rows.now) m.scale m.entries.items) }
+    ensures unlike { IfOk result (λ m. AreUnlike (map string_bytes m.names.items)) }
+    ensures matrix { IfOk result (λ m. (mark : MarkOf) × IsMark given (map fields_of rows.now) 2 3 mark × IsTripsMatrix mark (map string_bytes m.names.items) (map fields_of rows.now) m.scale m.entries.items) }
     ensures square { IfOk result (λ m. IsNamedSquare (map string_bytes m.names.items) m.entries.items) }
 {
-    let trips = read_rows_of_trips(alloc, text, rows, &names)?;
+    check_unlike(alloc, &names)?;
+    let mark = mark_of_table(alloc, text, given, rows, 2, 3)?;
+    let trips = read_rows_of_trips(alloc, text, rows, &names, mark)?;
     let decimals = decimals_of(alloc, &trips)?;
     let scale = least_scale(&decimals);
     let amounts = match scaled_entries(alloc, &decimals, scale) {
@@ -117,13 +159,14 @@ fn read_rows_of_trips(
     text: &[u8],
     rows: &[StringRecord],
     names: &[String],
+    mark: DecimalMark,
 ) -> Result<Vec<Trip>, TableError>
-    ensures { IfOk result (λ v. AreTripsOf (map string_bytes names.now) (map fields_of rows.now) v.items) }
+    ensures { IfOk result (λ v. AreTripsOf mark (map string_bytes names.now) (map fields_of rows.now) v.items) }
 {
     let numbers = numbers_of(alloc, names)?;
     let mut trips = Vec::new(alloc);
     for row in rows {
-        let trip = read_trip(alloc, text, row, names, &numbers)?;
+        let trip = read_trip(alloc, text, row, names, &numbers, mark)?;
         trips.push(trip).map_err(|_| TableError::OutOfMemory)?;
     }
     Ok(trips)
@@ -136,16 +179,21 @@ fn read_trip(
     row: &StringRecord,
     names: &[String],
     numbers: &NameNumbers,
+    mark: DecimalMark,
 ) -> Result<Trip, TableError>
     requires { AreNumbers numbers.now (map string_bytes names.now) }
-    ensures { IfOk result (IsTripOf (map string_bytes names.now) (fields_of row.now)) }
+    ensures { IfOk result (IsTripOf mark (map string_bytes names.now) (fields_of row.now)) }
 {
     check_start(text, row)?;
     check_end(alloc, text, row, 2)?;
+    let reading = Reading {
+        mark,
+        is_square: false,
+    };
     Ok(Trip {
         from: department_in(alloc, text, row, 0, names, numbers)?,
         to: department_in(alloc, text, row, 1, names, numbers)?,
-        amount: read_cell(alloc, text, row, 1)?,
+        amount: read_cell(alloc, text, row, 0, 1, reading)?,
     })
 }
 

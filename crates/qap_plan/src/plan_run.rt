@@ -17,6 +17,7 @@ use crate::proof_file::proof_text;
 use crate::{bytes_of_json, end_of, faulty_file, refuse, refuse_with, start_of};
 use plan_answer::{answer_text, cost_text};
 use plan_file::NamedProblem;
+use plan_input::{Loaded, notes_of};
 use plan_picture::picture;
 use qap_cost::Perm;
 use qap_io::{Counted, Status};
@@ -37,6 +38,9 @@ where
         Ok(loaded) => loaded,
         Err(code) => return code,
     };
+    if !request.quiet {
+        tell_notes(rt, &loaded);
+    }
     let mut start = match start_of(rt, request) {
         Ok(start) => start,
         Err(name) => return refuse(rt, name, PlanError::Device),
@@ -63,6 +67,15 @@ where
             elapsed.milliseconds(),
         ),
         Err(error) => refuse(rt, faulty_file(request, error), error),
+    }
+}
+
+/// Says on standard error what the tables were understood as, and what may not be meant.
+fn tell_notes(rt: &HostRuntime, loaded: &Loaded) {
+    if let Ok(notes) = notes_of(rt.alloc(), loaded) {
+        for note in &notes {
+            let _ = rt.eprintln(format_args!("{note}"));
+        }
     }
 }
 

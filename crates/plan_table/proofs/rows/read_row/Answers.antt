@@ -4,15 +4,13 @@ use Rattle.plan_table.proofs.RowLists.{HasCells-all, HasCells-more, HasCells-non
 use Rattle.plan_table.proofs.rows.read_row.Goals as goal
 
 pub loop-column-init : goal.loop-column-init
-loop-column-init c =
-    HasCells-none c.args.name.now (fields_of c.args.record.now) c.args.decimals.now.items c.in_ok-check_name.ensures
+loop-column-init c = HasCells-none c.args.reading c.args.i (fields_of c.args.row.now) c.args.decimals.now.items
 
 pub loop-column-preserved : goal.loop-column-preserved
 loop-column-preserved c =
     let pushed : c.push.new.self.items ≡ c.loop-column.decimals.items ++ c.in_ok-decimal.decimal ∷ [] = search rules in
-    let (word, next, spells) = c.in_ok-decimal.ensures in
-    HasCells-more c.args.name.now (fields_of c.args.record.now) c.loop-column.column c.args.decimals.now.items c.loop-column.decimals.items _ word c.in_ok-decimal.decimal c.loop-column.invariant next spells pushed
+    HasCells-more c.args.reading c.args.i (fields_of c.args.row.now) c.loop-column.column c.args.decimals.now.items c.loop-column.decimals.items _ c.in_ok-decimal.decimal c.loop-column.invariant c.in_ok-decimal.ensures pushed
 
 pub returns : goal.returns
-returns c =
-    HasCells-all c.args.name.now (fields_of c.args.record.now) c.loop-column.column c.args.count c.args.decimals.now.items c.loop-column.decimals.items c.loop-column.invariant (omega arith) c.in_ok-check_end.ensures
+returns c name named =
+    HasCells-all c.args.reading c.args.i name (fields_of c.args.row.now) c.loop-column.column c.args.count c.args.decimals.now.items c.loop-column.decimals.items c.loop-column.invariant (omega arith) named c.in_ok-check_end.ensures

@@ -3,4 +3,4 @@ use Rattle.plan_table.proofs.RowLists.{HasCells}
 use Rattle.plan_table.proofs.rows.read_row.Given as goal
 
 abbrev pub invariant-loop-column : goal.invariant-loop-column
-invariant-loop-column l = HasCells l.name (fields_of l.record) l.column l.initial.decimals.items l.decimals.items
+invariant-loop-column l = HasCells l.reading l.i (fields_of l.row) l.column l.initial.decimals.items l.decimals.items

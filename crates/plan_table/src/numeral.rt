@@ -1,0 +1,238 @@
+//! Numbers as spreadsheets write them: by a point or a comma, and in groups of three digits.
+
+ghost use Rattle.std.specs.Prelude.{◌≡◌, ◌↔◌, ◌++◌, ◌==◌, ◌||◌, ◌<◌, length, position, IfOk, IfSome, IsTrue, OnOk, Some};
+ghost use Rattle.std.specs.List.{list_all};
+ghost use Rattle.std.specs.Option.{option_map};
+ghost use Rattle.plan_table.specs.Decimal.{is_digit as digit_of};
+ghost use Rattle.plan_table.specs.Marking.{IsUnmarked, IsWritten, is_no_mark};
+ghost use Rattle.plan_table.specs.Numerals.{are_groups, are_in_place, decimal_byte, fraction_of, group_byte, is_in_place, is_nothing, is_numeral, is_sign, is_whole, number_in, plain, plain_fraction, plain_whole, sign_of, whole_of, without_sign};
+
+use crate::decimal::{Decimal, NumberFault, all_digits, is_digit, parse_decimal};
+use std::alloc::{AllocError, Global};
+
+/// What stands before the fraction of a number.
+#[derive(Clone, Copy, Debug, PartialEq, Eq)]
+pub enum DecimalMark {
+    Point,
+    Comma,
+}
+
+impl DecimalMark {
+    /// Its byte.
+    fn byte(self) -> u8
+        ensures { result ≡ decimal_byte self }
+    {
+        match self {
+            DecimalMark::Point => b'.',
+            DecimalMark::Comma => b',',
+        }
+    }
+
+    /// The other one's byte, which may stand between groups of digits.
+    fn group(self) -> u8
+        ensures { result ≡ group_byte self }
+    {
+        match self {
+            DecimalMark::Point => b',',
+            DecimalMark::Comma => b'.',
+        }
+    }
+}
+
+/// How the cells of a table are read.
+#[derive(Clone, Copy, Debug, PartialEq, Eq)]
+pub struct Reading {
+    pub mark: DecimalMark,
+    /// Whether row `i` and column `i` are of the same thing, so that the cell there may say nothing.
+    pub is_square: bool,
+}
+
+/// The plain text of the number that a word spells: without marks between groups, with a point before the fraction.
+///
+/// A number has an optional sign, digits and optionally the mark with digits behind it; digits may lack on one side of the mark. The digits
+/// before the mark may stand in groups of three from the right, with the other mark, a blank or an apostrophe between them.
+pub fn plain_number(
+    alloc: Global,
+    mark: DecimalMark,
+    word: &[u8],
+) -> Result<Option<Vec<u8>>, AllocError>
+    ensures { IfOk result (λ found. option_map (λ v. v.items) found ≡ plain mark word.now) }
+{
+    let (sign, digits) = split_sign(word);
+    let (whole, fraction) = split_fraction(mark, digits);
+    if !is_numeral(mark, whole, fraction) {
+        return Ok(None);
+    }
+    let mut text = Vec::new(alloc);
+    text.extend_from_slice(sign)?;
+    push_whole(&mut text, whole)?;
+    push_fraction(&mut text, fraction)?;
+    Ok(Some(text))
+}
+
+/// The number that a word spells.
+pub fn read_number(
+    alloc: Global,
+    mark: DecimalMark,
+    word: &[u8],
+) -> Result<Result<Decimal, NumberFault>, AllocError>
+    ensures { IfOk result (λ read. IfOk read (λ d. number_in mark word.now ≡ Some d)) }
+{
+    match plain_number(alloc, mark, word)? {
+        Some(text) => Ok(parse_decimal(&text)),
+        None => Ok(Err(NumberFault::NotANumber)),
+    }
+}
+
+/// Whether a word is a number, or says nothing.
+pub fn is_written(mark: DecimalMark, word: &[u8]) -> bool
+    ensures { IsTrue result ↔ IsWritten mark word.now }
+{
+    let (_, digits) = split_sign(word);
+    let (whole, fraction) = split_fraction(mark, digits);
+    is_nothing(word) || is_numeral(mark, whole, fraction)
+}
+
+/// Whether a word has neither a point nor a comma.
+pub fn is_unmarked(word: &[u8]) -> bool
+    ensures { IsTrue result ↔ IsUnmarked word.now }
+{
+    let all = are_no_marks(word);
+    all
+}
+
+fn are_no_marks(word: &[u8]) -> bool
+    ensures { result ≡ list_all is_no_mark word.now }
+{
+    word.iter().all(|byte| is_no_mark(*byte))
+}
+
+fn is_no_mark(byte: u8) -> bool
+    ensures { result ≡ is_no_mark byte }
+{
+    !(byte == b'.' || byte == b',')
+}
+
+/// A word's sign, where it has one, and what follows it.
+fn split_sign(word: &[u8]) -> (&[u8], &[u8])
+    ensures sign { result.0.now ≡ sign_of word.now }
+    ensures rest { result.1.now ≡ without_sign word.now }
+{
+    match word.first() {
+        Some(first) if is_sign(*first) => word.split_at(1),
+        _ => (&[], word),
+    }
+}
+
+fn is_sign(byte: u8) -> bool
+    ensures { result ≡ is_sign byte }
+{
+    byte == b'+' || byte == b'-'
+}
+
+/// What stands before the first mark of a text, and what behind it.
+fn split_fraction(mark: DecimalMark, text: &[u8]) -> (&[u8], &[u8])
+    ensures whole { result.0.now ≡ whole_of mark text.now }
+    ensures fraction { result.1.now ≡ fraction_of mark text.now }
+{
+    match place_of_mark(mark, text) {
+        Some(place) => (&text[..place], &text[place + 1..]),
+        None => (text, &[]),
+    }
+}
+
+/// The place of the first mark of a text.
+fn place_of_mark(mark: DecimalMark, text: &[u8]) -> Option<usize>
+    ensures place { result ≡ position (λ b. b == decimal_byte mark) text.now }
+    ensures inside { IfSome result (λ i. i < length text.now) }
+{
+    let sought = mark.byte();
+    text.iter().position(|byte| *byte == sought)
+}
+
+/// Whether these are the parts of a number.
+fn is_numeral(mark: DecimalMark, whole: &[u8], fraction: &[u8]) -> bool
+    ensures { result ≡ is_numeral mark whole.now fraction.now }
+{
+    !(whole.is_empty() && fraction.is_empty()) && is_whole(mark, whole) && all_digits(fraction)
+}
+
+/// Whether these are the digits before a fraction.
+fn is_whole(mark: DecimalMark, text: &[u8]) -> bool
+    ensures { result ≡ is_whole mark text.now }
+{
+    all_digits(text)
+        || are_groups(mark.group(), text)
+        || are_groups(b' ', text)
+        || are_groups(b'\'', text)
+}
+
+/// Whether these are groups of three digits, the first of which may be shorter, with this mark between them.
+fn are_groups(group: u8, text: &[u8]) -> bool
+    ensures { result ≡ are_groups group text.now }
+{
+    !text.len().is_multiple_of(4) && are_in_place(group, text)
+}
+
+/// Whether each fourth byte from the right is the mark between groups, and the others are digits.
+fn are_in_place(group: u8, text: &[u8]) -> bool
+    ensures { result ≡ are_in_place group text.now }
+{
+    let mut rest = text;
+    while let Some((byte, behind)) = rest.split_first() {
+        if !is_in_place(group, *byte, rest.len()) {
+            return false;
+        }
+        rest = behind;
+    }
+    true
+}
+
+/// Whether a byte is in its place, with so many bytes from it on.
+fn is_in_place(group: u8, byte: u8, left: usize) -> bool
+    ensures { result ≡ is_in_place group byte left }
+{
+    if left % 4 == 0 {
+        byte == group
+    } else {
+        is_digit(byte)
+    }
+}
+
+/// Puts the digits of a whole part behind a text, or a zero where there is none.
+fn push_whole(text: &mut Vec<u8>, whole: &[u8]) -> Result<(), AllocError>
+    ensures { OnOk result (text.new.items ≡ text.old.items ++ plain_whole whole.now) }
+{
+    if whole.is_empty() {
+        text.push(b'0')?;
+        return Ok(());
+    }
+    for byte in whole {
+        if is_digit(*byte) {
+            text.push(*byte)?;
+        }
+    }
+    Ok(())
+}
+
+/// Puts a point and the digits of a fraction behind a text, where there are any.
+fn push_fraction(text: &mut Vec<u8>, fraction: &[u8]) -> Result<(), AllocError>
+    ensures { OnOk result (text.new.items ≡ text.old.items ++ plain_fraction fraction.now) }
+{
+    if fraction.is_empty() {
+        return Ok(());
+    }
+    text.push(b'.')?;
+    text.extend_from_slice(fraction)
+}
+
+/// Whether a cell says nothing: it is empty, a dash or a cross.
+pub fn is_nothing(word: &[u8]) -> bool
+    ensures { result ≡ is_nothing word.now }
+{
+    match word {
+        [] => true,
+        [byte] => *byte == b'-' || *byte == b'x' || *byte == b'X',
+        _ => false,
+    }
+}
