@@ -81,7 +81,9 @@ def plan_case(seed):
         files["d.csv"] = table(draw, places)
     else:
         keys += ['places = "d.csv"', 'metric = "' + ["rectilinear", "squared", "euclidean"][seed % 3] + '"']
-        files["d.csv"] = ["name,x,y"] + [f"{place},{number(draw)},{number(draw)}" for place in places]
+        files["d.csv"] = ["name,x,y"] + [f"{place},{x},{y}" for place, (x, y) in zip(places, points(draw, len(places)))]
+    if seed % 2 == 0:
+        keys += ['decimal_mark = "."']
     if seed % 5 == 1:
         keys += ["[fixed]", f'"{departments[0]}" = "{places[-1]}"']
     files["plan.toml"] = keys
@@ -103,6 +105,15 @@ check:
 
 def table(draw, names):
     return ["," + ",".join(names)] + [",".join([name] + [number(draw) for _ in names]) for name in names]
+
+
+def points(draw, count):
+    """So many points, no two of them the same."""
+    found = {}
+    while len(found) < count:
+        x, y = number(draw), number(draw)
+        found.setdefault((float(x), float(y)), (x, y))
+    return found.values()
 
 
 def number(draw):

@@ -240,7 +240,7 @@ const UNMADE: [Unmade; 8] = [
         MATRICES,
         b",a\na,3,5\n",
         DISTANCES,
-        "line 2, field 3: the cell \"5\" is one too many: take it away, or quote a number's comma away",
+        "line 2, field 3: the cell \"5\" is one too many: take it away, or put a number with a comma in quotes",
     ),
     (
         MATRICES,
