@@ -1,4 +1,5 @@
 pub mod CostOfPair
+pub mod CostStep
 pub mod Filling
 pub mod Fitting
 pub mod Largest

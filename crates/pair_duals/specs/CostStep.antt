@@ -1,0 +1,71 @@
+-- The cost step of an instance: a number that divides the cost of every permutation, so that costs lie at least that far apart.
+use Rattle.std.specs.Prelude.{◌≡◌, ℕ, zero, suc, ◌+◌, ◌*◌, ◌%◌, ◌==◌, ◌&&◌, Bool, true, max, if◌then◌else◌, List, ℤ, pos, ◌+ℤ◌, ◌*ℤ◌, unsigned_abs}
+use Rattle.std.specs.Ordering.{int_eq}
+use Rattle.qap_cost.specs.Instance.{Problem, entry}
+use Rattle.qap_cost.specs.Objective.{Permutes, cost_of}
+use Rattle.pair_duals.specs.Reduced.{but}
+
+-- x is a multiple of g
+abbrev pub Divides : ℕ → ℤ → Type 0
+Divides g x = (k : ℤ) × (x ≡ pos g *ℤ k)
+
+-- g divides the cost of every permutation of the instance
+pub record DividesCosts (I : Problem) (g : ℕ) : Type 0 where
+  pub each : (p : List ℕ) → Permutes I p → Divides g (cost_of I p)
+
+-- ---- common divisors
+
+-- the greatest of the numbers 1, .., n that divide both x and y; 0 where there is none
+abbrev pub greatest_divisor : ℕ → ℕ → ℕ → ℕ
+greatest_divisor zero x y = 0
+greatest_divisor (suc n) x y = (if (x % suc n == 0) && (y % suc n == 0) then suc n else greatest_divisor n x y)
+
+-- the greatest common divisor, which of x and 0 is x
+abbrev pub gcd : ℕ → ℕ → ℕ
+gcd x y = greatest_divisor (max x y) x y
+
+-- that of f(0), .., f(n - 1), by their absolute values; 0 where there is none, or where all are 0
+abbrev pub gcd_to : (ℕ → ℤ) → ℕ → ℕ
+gcd_to f zero = 0
+gcd_to f (suc n) = gcd (gcd_to f n) (unsigned_abs (f n))
+
+-- that of all f(i,j) with different i and j below n
+abbrev pub gcd_of_others : (ℕ → ℕ → ℤ) → ℕ → ℕ
+gcd_of_others f n = gcd_to (λ i. pos (gcd_to (but i (f i)) n)) n
+
+-- that of all f(i,i) with i below n
+abbrev pub gcd_of_diagonal : (ℕ → ℕ → ℤ) → ℕ → ℕ
+gcd_of_diagonal f n = gcd_to (λ i. f i i) n
+
+-- ---- symmetry
+
+-- row i, column j, and row j, column i
+abbrev pub both_ways : (ℕ → ℕ → ℤ) → ℕ → ℕ → ℤ
+both_ways f i j = f i j +ℤ f j i
+
+-- whether the test passes at 0, .., n - 1
+abbrev pub all_to : (ℕ → Bool) → ℕ → Bool
+all_to test zero = true
+all_to test (suc n) = all_to test n && test n
+
+-- whether f(i,j) is f(j,i) for all i and j below n
+abbrev pub is_symmetric : (ℕ → ℕ → ℤ) → ℕ → Bool
+is_symmetric f n = all_to (λ i. all_to (λ j. int_eq (f i j) (f j i)) n) n
+
+-- ---- the step
+
+-- what divides each product of an f(i,j) and a g(k,l), and what facilities cost alone
+abbrev pub product_step : Problem → (ℕ → ℕ → ℤ) → (ℕ → ℕ → ℤ) → ℕ
+product_step I f g =
+    gcd (gcd_of_others f I.size * gcd_of_others g I.size)
+    (gcd_of_diagonal (entry I.size I.a) I.size * gcd_of_diagonal (entry I.size I.b) I.size)
+
+-- the product of the entries of A and of B; where A is symmetric, a pair costs an entry of A times the sum of two of B, and where B
+-- is symmetric, the sum of two of A times an entry of B. The step is the greatest that applies; 1 where that is 0
+abbrev pub step_of : Problem → ℕ
+step_of I =
+    let a = entry I.size I.a in
+    let b = entry I.size I.b in
+    max 1 (max (product_step I a b)
+    (max (if is_symmetric a I.size then product_step I a (both_ways b) else 0)
+    (if is_symmetric b I.size then product_step I (both_ways a) b else 0)))
