@@ -1,96 +1,64 @@
 //! Duals of a least assignment, by shortest augmenting paths (Jonker and Volgenant 1987).
 
+use crate::matching::Matching;
 use crate::paths::{Search, find_path, turn};
-use crate::places::{add_at, at, index_of, put, row_of};
+use crate::places::{add_at, at, row_of};
 use crate::rows::{least, sum};
 use std::alloc::{AllocError, Global};
 
-/// A number for each row and one for each column.
-#[derive(Drop)]
-pub struct LineDuals {
-    pub rows: Vec<i64>,
-    pub columns: Vec<i64>,
-}
-
-/// Which rows and columns belong together.
-#[derive(Drop)]
-pub struct Matching {
-    /// The row of each column that has one.
-    pub row_of: Vec<Option<usize>>,
-    /// The column of each row that has one.
-    pub column_of: Vec<Option<usize>>,
-}
-
-/// Lists in which the duals of an `n` by `n` matrix are sought, and those found last.
+/// Finds duals of square matrices, in lists that it keeps from call to call.
+///
+/// The duals of an `m` by `m` matrix are numbers `u` of its rows and `v` of its columns, whose sums `u[r] + v[c]` are no more
+/// than the entries, and which add up to the cost of a least assignment. What is found is advice, of which no clause says
+/// anything but that lists keep their lengths: sums wrap, and whoever relies on duals has to establish that they fit.
 #[derive(Drop)]
 pub struct Assigner {
-    pub duals: LineDuals,
     matching: Matching,
     search: Search,
 }
 
 impl Assigner {
-    /// Lists for `n` rows and columns.
+    /// Lists for matrices of at most `n` rows and columns.
     pub fn with_size(alloc: Global, n: usize) -> Result<Assigner, AllocError> {
-        let rows = vec![in alloc; 0; n]?;
-        let columns = vec![in alloc; 0; n]?;
-        let row_of = vec![in alloc; None; n]?;
-        let column_of = vec![in alloc; None; n]?;
         Ok(Assigner {
-            duals: LineDuals { rows, columns },
-            matching: Matching { row_of, column_of },
+            matching: Matching::with_size(alloc, n)?,
             search: Search::with_size(alloc, n)?,
         })
     }
 
-    /// Finds the duals of an `n` by `n` matrix, listed by rows, and returns their sum. No memory is taken.
-    pub fn solve(&mut self, n: usize, matrix: &[i64]) -> i64 {
-        start_duals(n, matrix, &mut self.duals.rows, &mut self.duals.columns);
-        match_tight(n, matrix, &self.duals, &mut self.matching);
-        for root in 0..n {
-            if index_of(&self.matching.column_of, root).is_none() {
-                self.place(n, matrix, root);
-            }
-        }
-        sum(&self.duals.rows).wrapping_add(sum(&self.duals.columns))
+    /// Writes the duals of a matrix, listed by rows, to `u` and `v`, a number for each row and one for each column, and
+    /// returns their sum. Of time `m^3` for `m` rows; no memory is taken.
+    pub fn solve(&mut self, matrix: &[i64], u: &mut [i64], v: &mut [i64]) -> i64 {
+        start_duals(matrix, u, v);
+        self.matching.clear();
+        complete(matrix, &mut self.matching, &mut self.search, u, v, i64::MAX)
     }
 
-    /// Gives row `root` a column, along a shortest path.
-    fn place(&mut self, n: usize, matrix: &[i64], root: usize) {
-        let end = find_path(
-            n,
-            matrix,
-            root,
-            &self.duals,
-            &self.matching.row_of,
-            &mut self.search,
-        );
-        let length = at(&self.search.distances, end);
-        add_at(&mut self.duals.rows, root, length);
-        raise_rows(
-            length,
-            &self.search,
-            &self.matching.row_of,
-            &mut self.duals.rows,
-        );
-        lower_columns(
-            length,
-            &self.search.closed,
-            &self.search.lengths,
-            &mut self.duals.columns,
-        );
-        turn(n, root, end, &self.search.origins, &mut self.matching);
+    /// The same from duals that `u` and `v` are already, and from a matching of which what isn't tight is parted: of time
+    /// `m^2` for each row that has no column then. Ends as soon as the duals add up to more than `enough`, where they are
+    /// duals, though of no least assignment. Leaves the matching that it has found; no memory is taken.
+    pub fn solve_from(
+        &mut self,
+        matrix: &[i64],
+        matching: &mut Matching,
+        u: &mut [i64],
+        v: &mut [i64],
+        enough: i64,
+    ) -> i64 {
+        part_others(matrix, matching, u, v);
+        complete(matrix, matching, &mut self.search, u, v, enough)
     }
 }
 
 /// Makes the duals of the rows their least entries, and those of the columns the least that is left.
-fn start_duals(n: usize, matrix: &[i64], rows: &mut [i64], columns: &mut [i64]) {
-    columns.fill(i64::MAX);
-    for r in 0..n {
-        let row = row_of(matrix, n, r);
+fn start_duals(matrix: &[i64], u: &mut [i64], v: &mut [i64]) {
+    let m = u.len();
+    v.fill(i64::MAX);
+    for r in 0..m {
+        let row = row_of(matrix, m, r);
         let own = least(row);
-        put(rows, r, own);
-        lower(row, own, columns);
+        u[r] = own;
+        lower(row, own, v);
     }
 }
 
@@ -107,22 +75,58 @@ fn lower(row: &[i64], own: i64, columns: &mut [i64]) {
     }
 }
 
-/// Gives each row the first column that has none yet and whose entry is the sum of the two duals, where there is one.
-fn match_tight(n: usize, matrix: &[i64], duals: &LineDuals, matching: &mut Matching) {
-    matching.row_of.fill(None);
-    matching.column_of.fill(None);
-    for r in 0..n {
-        let own = at(&duals.rows, r);
-        let found = find_tight(row_of(matrix, n, r), own, &duals.columns, &matching.row_of);
-        if let Some(c) = found {
-            matching.join(r, c);
+/// Parts the rows and columns whose entry isn't the sum of the two duals.
+fn part_others(matrix: &[i64], matching: &mut Matching, u: &[i64], v: &[i64]) {
+    let m = u.len();
+    for r in 0..m {
+        if let Some(c) = matching.column_of(r)
+            && at(row_of(matrix, m, r), c).wrapping_sub(u[r]) != at(v, c)
+        {
+            matching.part(r, c);
+        }
+    }
+}
+
+/// Gives each row without a column one, until the duals add up to more than `enough`, and returns their sum.
+fn complete(
+    matrix: &[i64],
+    matching: &mut Matching,
+    search: &mut Search,
+    u: &mut [i64],
+    v: &mut [i64],
+    enough: i64,
+) -> i64 {
+    match_tight(matrix, matching, u, v);
+    let mut value = sum(u).wrapping_add(sum(v));
+    for root in 0..u.len() {
+        if value > enough {
+            return value;
+        }
+        if matching.column_of(root).is_none() {
+            let gap = enough.saturating_sub(value);
+            let raised = place(matrix, root, matching, search, u, v, gap);
+            value = value.wrapping_add(raised);
+        }
+    }
+    value
+}
+
+/// Gives each row without a column the first that has no row and whose entry is the sum of the two duals, if there is one.
+fn match_tight(matrix: &[i64], matching: &mut Matching, u: &[i64], v: &[i64]) {
+    let m = u.len();
+    for r in 0..m {
+        if matching.column_of(r).is_none() {
+            let found = find_tight(row_of(matrix, m, r), u[r], v, matching.rows());
+            if let Some(c) = found {
+                matching.join(r, c);
+            }
         }
     }
 }
 
 /// The first column without a row whose entry is the sum of the two duals.
 fn find_tight(row: &[i64], own: i64, columns: &[i64], row_of: &[Option<usize>]) -> Option<usize> {
-    if columns.len() != row.len() || row_of.len() != row.len() {
+    if columns.len() != row.len() || row_of.len() < row.len() {
         return None;
     }
     for c in 0..row.len() {
@@ -133,37 +137,46 @@ fn find_tight(row: &[i64], own: i64, columns: &[i64], row_of: &[Option<usize>]) 
     None
 }
 
-impl Matching {
-    /// Joins a row and a column.
-    pub fn join(&mut self, r: usize, c: usize) {
-        if let Some(row) = self.row_of.get_mut(c) {
-            *row = Some(r);
-        }
-        if let Some(column) = self.column_of.get_mut(r) {
-            *column = Some(c);
-        }
+/// Seeks a column for row `root` along a shortest path, but no further than `gap`, raises the sum of the duals by the length
+/// of the path, and returns it.
+fn place(
+    matrix: &[i64],
+    root: usize,
+    matching: &mut Matching,
+    search: &mut Search,
+    u: &mut [i64],
+    v: &mut [i64],
+    gap: i64,
+) -> i64 {
+    let path = find_path(matrix, root, u, v, matching.rows(), search, gap);
+    add_at(u, root, path.length);
+    raise_rows(path.length, search, matching.rows(), u);
+    lower_columns(path.length, &search.closed, &search.lengths, v);
+    if path.is_whole {
+        turn(u.len(), root, path.end, &search.origins, matching);
     }
+    path.length
 }
 
 /// Raises the duals of the rows of closed columns by what these columns lack of the path's length.
-fn raise_rows(length: i64, search: &Search, row_of: &[Option<usize>], rows: &mut [i64]) {
-    for c in 0..row_of.len() {
+fn raise_rows(length: i64, search: &Search, row_of: &[Option<usize>], u: &mut [i64]) {
+    for c in 0..u.len() {
         if at(&search.closed, c) != 0
-            && let Some(r) = row_of[c]
+            && let Some(Some(r)) = row_of.get(c)
         {
-            add_at(rows, r, length.wrapping_sub(at(&search.lengths, c)));
+            add_at(u, *r, length.wrapping_sub(at(&search.lengths, c)));
         }
     }
 }
 
 /// Lowers the duals of closed columns by what they lack of the path's length.
-fn lower_columns(length: i64, closed: &[i64], lengths: &[i64], columns: &mut [i64]) {
-    if closed.len() != columns.len() || lengths.len() != columns.len() {
+fn lower_columns(length: i64, closed: &[i64], lengths: &[i64], v: &mut [i64]) {
+    let (Some(closed), Some(lengths)) = (closed.get(..v.len()), lengths.get(..v.len())) else {
         return;
-    }
-    for c in 0..columns.len() {
+    };
+    for c in 0..v.len() {
         if closed[c] != 0 {
-            columns[c] = columns[c].wrapping_sub(length.wrapping_sub(lengths[c]));
+            v[c] = v[c].wrapping_sub(length.wrapping_sub(lengths[c]));
         }
     }
 }

@@ -9,6 +9,7 @@ mod ascent;
 mod assigner;
 mod costs;
 mod inherited;
+mod matching;
 mod paths;
 mod places;
 mod range;
@@ -18,4 +19,6 @@ mod state;
 mod trivial;
 
 pub use ascent::ascend;
+pub use assigner::Assigner;
+pub use matching::Matching;
 pub use range::has_range;

@@ -1,7 +1,7 @@
 //! Shortest alternating paths (Jonker and Volgenant 1987).
 
-use crate::assigner::{LineDuals, Matching};
-use crate::places::{at, index_of, put, row_of};
+use crate::matching::Matching;
+use crate::places::{at, first, index_of, put, row_of};
 use crate::rows::nearest;
 use std::alloc::{AllocError, Global};
 
@@ -16,6 +16,17 @@ pub struct Search {
     pub closed: Vec<i64>,
     /// How far it was when it was closed.
     pub lengths: Vec<i64>,
+}
+
+/// A path, or its beginning.
+#[derive(Drop)]
+pub struct Path {
+    /// The column that is nearest of those that aren't closed.
+    pub end: usize,
+    /// How far it is.
+    pub length: i64,
+    /// Whether the column has no row.
+    pub is_whole: bool,
 }
 
 impl Search {
@@ -44,39 +55,51 @@ impl Search {
     }
 }
 
-/// Seeks the nearest column without a row from row `root`, and returns it.
+/// Seeks the nearest column without a row from row `root`, until the nearest one is further than `gap`.
 pub fn find_path(
-    n: usize,
     matrix: &[i64],
     root: usize,
-    duals: &LineDuals,
+    u: &[i64],
+    v: &[i64],
     row_of_column: &[Option<usize>],
     search: &mut Search,
-) -> usize {
+    gap: i64,
+) -> Path {
     search.reset();
     let mut from = root;
-    let mut distance: i64 = 0;
+    let mut length: i64 = 0;
     let mut end = 0;
-    for _ in 0..n {
-        let base = distance.wrapping_sub(at(&duals.rows, from));
+    for _ in 0..v.len() {
+        let base = length.wrapping_sub(at(u, from));
         relax(
-            row_of(matrix, n, from),
+            row_of(matrix, v.len(), from),
             base,
             from,
-            &duals.columns,
+            v,
             &search.closed,
             &mut search.distances,
             &mut search.origins,
         );
-        end = nearest(&search.distances);
+        end = nearest(first(&search.distances, v.len()));
+        length = at(&search.distances, end);
         let Some(row) = index_of(row_of_column, end) else {
-            return end;
+            return Path {
+                end,
+                length,
+                is_whole: true,
+            };
         };
-        distance = at(&search.distances, end);
+        if length > gap {
+            break;
+        }
         search.close(end);
         from = row;
     }
-    end
+    Path {
+        end,
+        length,
+        is_whole: false,
+    }
 }
 
 /// Lets each open column be reached from row `from`, where that is shorter: `base` is the row's distance less its dual.
@@ -89,11 +112,15 @@ fn relax(
     distances: &mut [i64],
     origins: &mut [usize],
 ) {
-    if columns.len() != row.len()
-        || closed.len() != row.len()
-        || distances.len() != row.len()
-        || origins.len() != row.len()
-    {
+    let m = row.len();
+    let (Some(closed), Some(distances), Some(origins)) = (
+        closed.get(..m),
+        distances.get_mut(..m),
+        origins.get_mut(..m),
+    ) else {
+        return;
+    };
+    if columns.len() != m {
         return;
     }
     for c in 0..row.len() {
@@ -113,7 +140,7 @@ pub fn turn(n: usize, root: usize, end: usize, origins: &[usize], matching: &mut
             return;
         };
         let row = *row;
-        let next = index_of(&matching.column_of, row);
+        let next = matching.column_of(row);
         matching.join(row, column);
         if row == root {
             return;

@@ -18,6 +18,14 @@ pub fn row_of_mut(numbers: &mut [i64], n: usize, r: usize) -> &mut [i64] {
     }
 }
 
+/// The first `n` numbers.
+pub fn first(numbers: &[i64], n: usize) -> &[i64] {
+    match numbers.get(..n) {
+        Some(front) => front,
+        None => numbers,
+    }
+}
+
 /// The number at a place.
 pub fn at(numbers: &[i64], place: usize) -> i64 {
     match numbers.get(place) {

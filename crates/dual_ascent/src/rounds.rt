@@ -27,16 +27,10 @@ fn run_round(state: &mut State, workspace: &mut Workspace, is_ascending: bool) {
 
 /// Takes the duals of its least assignment from the matrix.
 fn reduce_matrix(state: &mut State, workspace: &mut Workspace) {
-    let m = state.m;
-    let _ = workspace.whole.solve(m, &state.matrix);
-    for i in 0..m {
-        let own = at(&workspace.whole.duals.rows, i);
-        take(
-            row_of_mut(&mut state.matrix, m, i),
-            own,
-            &workspace.whole.duals.columns,
-        );
-    }
+    let _ = workspace
+        .whole
+        .solve(&state.matrix, &mut workspace.rows, &mut workspace.columns);
+    take_duals(&mut state.matrix, &workspace.rows, &workspace.columns);
 }
 
 /// Gives each pair its share of what is left of its two facilities.
@@ -74,10 +68,14 @@ fn reduce_block(
     let place = i.wrapping_mul(m).wrapping_add(k);
     let left = row_of_mut(&mut state.pairs, square, place);
     copy_others(left, i, k, is_ascending, n, &mut workspace.block);
-    let value = workspace.others.solve(n, &workspace.block);
+    let value = workspace.others.solve(
+        &workspace.block,
+        &mut workspace.other_rows,
+        &mut workspace.other_columns,
+    );
     add_at(&mut state.matrix, place, value);
-    copy_with_zero(&workspace.others.duals.rows, i, &mut workspace.rows);
-    copy_with_zero(&workspace.others.duals.columns, k, &mut workspace.columns);
+    copy_with_zero(&workspace.other_rows, i, &mut workspace.rows);
+    copy_with_zero(&workspace.other_columns, k, &mut workspace.columns);
     take_duals(left, &workspace.rows, &workspace.columns);
     copy(left, &mut workspace.left);
     scatter(&workspace.left, place, square, &mut state.pairs);

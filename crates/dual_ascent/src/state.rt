@@ -76,6 +76,10 @@ pub struct Workspace {
     pub rows: Vec<i64>,
     /// A number for each location.
     pub columns: Vec<i64>,
+    /// A number for each facility but one.
+    pub other_rows: Vec<i64>,
+    /// A number for each location but one.
+    pub other_columns: Vec<i64>,
 }
 
 impl Workspace {
@@ -91,6 +95,8 @@ impl Workspace {
             shares: vec![in alloc; 0; square]?,
             rows: vec![in alloc; 0; m]?,
             columns: vec![in alloc; 0; m]?,
+            other_rows: vec![in alloc; 0; n]?,
+            other_columns: vec![in alloc; 0; n]?,
         })
     }
 }

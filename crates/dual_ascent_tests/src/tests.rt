@@ -1,0 +1,3 @@
+//! Assignments against a listing of all.
+
+mod assignments;
