@@ -145,7 +145,7 @@ fn assert_tight(rt: &impl Abort, matrix: &[i64], u: &[i64], v: &[i64], matching:
         let c = column.unwrap_or(0);
         assert!(rt; c < m);
         assert_eq!(rt; matching.row_of(c), Some(r));
-        assert_eq!(rt; u[r].wrapping_add(v[c % m]), at(m, matrix, r, c));
+        assert_eq!(rt; u[r].wrapping_add(at(m, v, 0, c)), at(m, matrix, r, c));
     }
 }
 
