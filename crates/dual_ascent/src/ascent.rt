@@ -6,8 +6,10 @@ ghost use Rattle.pair_duals.specs.PairDuals.{AreOf, Fit};
 ghost use Rattle.dual_ascent.specs.AscentRange.{HasRange};
 
 use crate::costs::{Free, fill_left};
+use crate::effort::Effort;
 use crate::inherited::inherit;
 use crate::rounds::run_rounds;
+use crate::softening::soften;
 use crate::state::{State, Workspace};
 use crate::trivial::trivial;
 use pair_duals::{PairDuals, fits};
@@ -33,7 +35,26 @@ pub fn ascend(
     ensures scale { IfOk result (λ D. D.scale ≡ scale) }
     ensures fits { IfOk result (Fit instance.now) }
 {
-    match find(alloc, instance, node, start, rounds, scale)? {
+    let effort = Effort::hard(rounds);
+    ascend_softly(alloc, instance, node, start, &effort, scale)
+}
+
+/// The same by soft sweeps, and hard rounds after them.
+pub fn ascend_softly(
+    alloc: Global,
+    instance: &Instance,
+    node: &Partial,
+    start: Option<&PairDuals<i64>>,
+    effort: &Effort,
+    scale: u32,
+) -> Result<PairDuals<i64>, AllocError>
+    requires size { instance.now.size ≡ node.now.size }
+    requires range { HasRange instance.now scale }
+    ensures of_node { IfOk result (AreOf node.now) }
+    ensures scale { IfOk result (λ D. D.scale ≡ scale) }
+    ensures fits { IfOk result (Fit instance.now) }
+{
+    match find(alloc, instance, node, start, effort, scale)? {
         Some(duals) if do_fit(instance, node, &duals, scale) => Ok(duals),
         _ => trivial(alloc, node, scale),
     }
@@ -56,9 +77,10 @@ fn find(
     instance: &Instance,
     node: &Partial,
     start: Option<&PairDuals<i64>>,
-    rounds: u32,
+    effort: &Effort,
     scale: u32,
 ) -> Result<Option<PairDuals<i64>>, AllocError>
+    requires size { instance.now.size ≡ node.now.size }
     ensures of_node { IfOk result (λ found. IfSome found (AreOf node.now)) }
     ensures scale { IfOk result (λ found. IfSome found (λ D. D.scale ≡ scale)) }
 {
@@ -69,19 +91,21 @@ fn find(
         locations: &locations,
         scale: i64::from(scale),
     };
-    let (alpha, beta) = search(alloc, instance, node, &free, start, rounds)?;
+    let (alpha, beta) = search(alloc, instance, node, &free, start, effort)?;
     Ok(PairDuals::new(node.size(), facilities, locations, scale, alpha, beta))
 }
 
-/// The duals that so many rounds yield.
+/// The duals that sweeps and rounds yield.
 fn search(
     alloc: Global,
     instance: &Instance,
     node: &Partial,
     free: &Free<'_>,
     start: Option<&PairDuals<i64>>,
-    rounds: u32,
-) -> Result<(Vec<i64>, Vec<i64>), AllocError> {
+    effort: &Effort,
+) -> Result<(Vec<i64>, Vec<i64>), AllocError>
+    requires size { instance.now.size ≡ node.now.size }
+{
     let m = free.facilities.len();
     let mut state = State::with_size(alloc, m)?;
     if let Some(duals) = start
@@ -92,7 +116,18 @@ fn search(
     fill_left(alloc, instance, node, free, &mut state)?;
     if m > 1 {
         let mut workspace = Workspace::with_size(alloc, m)?;
-        run_rounds(&mut state, &mut workspace, rounds.max(1));
+        if effort.sweeps > 0 {
+            soften(
+                alloc,
+                instance,
+                node,
+                free,
+                effort,
+                &mut state,
+                &mut workspace,
+            )?;
+        }
+        run_rounds(&mut state, &mut workspace, effort.rounds.max(1));
     }
     Ok(state.into_duals())
 }

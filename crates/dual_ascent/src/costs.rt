@@ -22,6 +22,7 @@ pub fn fill_left(
     free: &Free<'_>,
     state: &mut State,
 ) -> Result<(), AllocError> {
+    state.value = 0;
     fill_matrix(instance, node, free, state);
     fill_pairs(alloc, instance, free, state)
 }

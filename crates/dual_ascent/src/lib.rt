@@ -8,6 +8,7 @@
 mod ascent;
 mod assigner;
 mod costs;
+mod effort;
 mod inherited;
 mod matching;
 mod paths;
@@ -15,10 +16,14 @@ mod places;
 mod range;
 mod rounds;
 mod rows;
+mod softening;
 mod state;
+mod sweeps;
 mod trivial;
+mod weights;
 
-pub use ascent::ascend;
+pub use ascent::{ascend, ascend_softly};
 pub use assigner::Assigner;
+pub use effort::Effort;
 pub use matching::Matching;
 pub use range::has_range;

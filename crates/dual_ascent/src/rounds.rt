@@ -27,10 +27,11 @@ fn run_round(state: &mut State, workspace: &mut Workspace, is_ascending: bool) {
 
 /// Takes the duals of its least assignment from the matrix.
 fn reduce_matrix(state: &mut State, workspace: &mut Workspace) {
-    let _ = workspace
+    let value = workspace
         .whole
         .solve(&state.matrix, &mut workspace.rows, &mut workspace.columns);
     take_duals(&mut state.matrix, &workspace.rows, &workspace.columns);
+    state.value = state.value.wrapping_add(value);
 }
 
 /// Gives each pair its share of what is left of its two facilities.

@@ -9,6 +9,8 @@ use std::alloc::{AllocError, Global};
 pub struct State {
     /// How many facilities, and locations, are free.
     pub m: usize,
+    /// What was taken from the matrix.
+    pub value: i64,
     /// What is left of facility `i` at location `k` with `j` at `l`: a block for each `i` and `k`, listed by `j` and `l`.
     pub pairs: Vec<i64>,
     /// What is left of facility `i` at location `k`, by `i` and `k`.
@@ -26,6 +28,7 @@ impl State {
         let cube = square.wrapping_mul(m);
         Ok(State {
             m,
+            value: 0,
             pairs: vec![in alloc; 0; square.wrapping_mul(square)]?,
             matrix: vec![in alloc; 0; square]?,
             alpha: vec![in alloc; 0; cube]?,
@@ -33,16 +36,22 @@ impl State {
         })
     }
 
+    /// Makes the duals of facilities for themselves, and of locations for themselves, 0.
+    pub fn clear_own(&mut self) {
+        clear_own(self.m, &mut self.alpha, &mut self.beta);
+    }
+
     /// The duals, those for itself being 0.
-    pub fn into_duals(self) -> (Vec<i64>, Vec<i64>) {
+    pub fn into_duals(mut self) -> (Vec<i64>, Vec<i64>) {
+        self.clear_own();
         let State {
-            m,
+            m: _,
+            value: _,
             pairs: _,
             matrix: _,
-            mut alpha,
-            mut beta,
+            alpha,
+            beta,
         } = self;
-        clear_own(m, &mut alpha, &mut beta);
         (alpha, beta)
     }
 }
