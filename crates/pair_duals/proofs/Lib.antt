@@ -1,4 +1,6 @@
 pub mod CostSplits
+pub mod CostSteps
+pub mod Divisors
 pub mod Fillings
 pub mod Forms
 pub mod Largests

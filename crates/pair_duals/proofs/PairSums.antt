@@ -67,7 +67,7 @@ sum_of_pairs-apart f s (suc n) h both =
           omega (arith, ints, ih, row, here, rest)
     ]
 
-but_other : (k : ℕ) (f : ℕ → ℤ) (j : ℕ) → j ≢ k → cond (nat_eq j k) (pos 0) (f j) ≡ f j
+pub but_other : (k : ℕ) (f : ℕ → ℤ) (j : ℕ) → j ≢ k → cond (nat_eq j k) (pos 0) (f j) ≡ f j
 but_other k f j apart = cond-false (nat_eq j k) (pos 0) (f j) (ne_eqb j k apart)
 
 but_same : (k : ℕ) (f : ℕ → ℤ) (j : ℕ) → j ≡ k → cond (nat_eq j k) (pos 0) (f j) ≡ pos 0

@@ -1,5 +1,5 @@
 -- The cost step of an instance: a number that divides the cost of every permutation, so that costs lie at least that far apart.
-use Rattle.std.specs.Prelude.{◌≡◌, ℕ, zero, suc, ◌+◌, ◌*◌, ◌%◌, ◌==◌, ◌&&◌, Bool, true, max, if◌then◌else◌, List, ℤ, pos, ◌+ℤ◌, ◌*ℤ◌, unsigned_abs}
+use Rattle.std.specs.Prelude.{◌≡◌, ℕ, zero, suc, ◌*◌, ◌%◌, ◌==◌, ◌&&◌, Bool, true, max, if◌then◌else◌, List, ℤ, pos, ◌+ℤ◌, ◌*ℤ◌, unsigned_abs}
 use Rattle.std.specs.Ordering.{int_eq}
 use Rattle.qap_cost.specs.Instance.{Problem, entry}
 use Rattle.qap_cost.specs.Objective.{Permutes, cost_of}
@@ -29,13 +29,20 @@ abbrev pub gcd_to : (ℕ → ℤ) → ℕ → ℕ
 gcd_to f zero = 0
 gcd_to f (suc n) = gcd (gcd_to f n) (unsigned_abs (f n))
 
+-- that of f(i,0), .., f(i,n - 1), but for f(i,i)
+abbrev pub gcd_of_row : (ℕ → ℕ → ℤ) → ℕ → ℕ → ℤ
+gcd_of_row f n i = pos (gcd_to (but i (f i)) n)
+
 -- that of all f(i,j) with different i and j below n
 abbrev pub gcd_of_others : (ℕ → ℕ → ℤ) → ℕ → ℕ
-gcd_of_others f n = gcd_to (λ i. pos (gcd_to (but i (f i)) n)) n
+gcd_of_others f n = gcd_to (gcd_of_row f n) n
+
+abbrev pub on_diagonal : (ℕ → ℕ → ℤ) → ℕ → ℤ
+on_diagonal f i = f i i
 
 -- that of all f(i,i) with i below n
 abbrev pub gcd_of_diagonal : (ℕ → ℕ → ℤ) → ℕ → ℕ
-gcd_of_diagonal f n = gcd_to (λ i. f i i) n
+gcd_of_diagonal f n = gcd_to (on_diagonal f) n
 
 -- ---- symmetry
 
@@ -48,9 +55,17 @@ abbrev pub all_to : (ℕ → Bool) → ℕ → Bool
 all_to test zero = true
 all_to test (suc n) = all_to test n && test n
 
--- whether f(i,j) is f(j,i) for all i and j below n
+-- whether f(i,j) is f(j,i)
+abbrev pub is_mirrored : (ℕ → ℕ → ℤ) → ℕ → ℕ → Bool
+is_mirrored f i j = int_eq (f i j) (f j i)
+
+-- whether that is so for all j below n
+abbrev pub is_row_mirrored : (ℕ → ℕ → ℤ) → ℕ → ℕ → Bool
+is_row_mirrored f n i = all_to (is_mirrored f i) n
+
+-- whether that is so for all i below n
 abbrev pub is_symmetric : (ℕ → ℕ → ℤ) → ℕ → Bool
-is_symmetric f n = all_to (λ i. all_to (λ j. int_eq (f i j) (f j i)) n) n
+is_symmetric f n = all_to (is_row_mirrored f n) n
 
 -- ---- the step
 

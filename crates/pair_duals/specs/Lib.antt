@@ -5,6 +5,7 @@ pub mod Fitting
 pub mod Largest
 pub mod Limits
 pub mod Lines
+pub mod Numbers
 pub mod PairDuals
 pub mod Range
 pub mod Reduced

@@ -12,6 +12,7 @@ mod pairs;
 mod reduced;
 mod scale;
 mod start;
+mod step;
 
 pub use duals::{MAX_SCALE, PairDuals, are_duals};
 pub use fitting::fits;
@@ -20,3 +21,4 @@ pub use number::Number;
 pub use pairs::residual;
 pub use reduced::Reduced;
 pub use scale::is_in_scale;
+pub use step::{cost_step, step_law};

@@ -1,0 +1,10 @@
+use Rattle.std.proofs.Common.{arith}
+use Rattle.std.proofs.lemmas.Nat.Gcd.{IsGcd-from_zero, IsGcd-from_mod}
+use Rattle.pair_duals.proofs.Divisors.{gcd-unique}
+use Rattle.pair_duals.proofs.step.gcd.Goals as goal
+
+pub loop-rest-preserved : goal.loop-rest-preserved
+loop-rest-preserved c g h = c.loop-rest.invariant g (IsGcd-from_mod _ _ g h)
+
+pub returns : goal.returns
+returns c = gcd-unique _ _ _ (c.loop-rest.invariant _ (IsGcd-from_zero _ _ (omega arith)))
