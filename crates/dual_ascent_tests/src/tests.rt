@@ -1,3 +1,5 @@
-//! Assignments against a listing of all.
+//! Assignments against a listing, and bounds against the costs of all completions.
 
 mod assignments;
+mod bounds;
+mod published;

@@ -3,6 +3,8 @@
 ghost use Rattle.std.specs.Prelude.{◌≡◌, ◌<◌, ◌↔◌, ℕ, length, slice_index, IfOk, IfSome, IsTrue};
 ghost use Rattle.pair_duals.specs.PairDuals.{AreOf};
 
+mod steps;
+
 use pair_duals::{Number, PairDuals, Reduced, are_duals, fits, is_in_scale, residual};
 use qap_cost::{Instance, Partial, Perm, cost};
 use std::alloc::{AllocError, Global};
