@@ -10,7 +10,7 @@ use Rattle.pair_duals.specs.PairDuals.{Duals, Fit, alpha_of, beta_of, cube, in_l
 use Rattle.pair_duals.specs.Range.{IsInScale}
 use Rattle.pair_duals.proofs.Values.{place_in_layers}
 use Rattle.pair_duals.proofs.Widths.{pair-within}
-use Rattle.dual_ascent.specs.AscentRange.{AreSmall, HasRange}
+use Rattle.dual_ascent.specs.AscentRange.{AreSmall}
 
 -- the range of an ascent is within that of a width whose limit is no lower
 pub in_scale : (m : Limits) (I : Problem) (s : ℕ) → 35184372088832 ≤ m.cost → AreSmall I s → IsInScale m I s

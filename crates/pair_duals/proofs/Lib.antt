@@ -1,10 +1,12 @@
 pub mod CostSplits
 pub mod CostSteps
 pub mod Divisors
+pub mod DualRows
 pub mod Fillings
 pub mod Forms
 pub mod Largests
 pub mod Leasts
+pub mod PairLines
 pub mod PairSums
 pub mod Products
 pub mod Reaches

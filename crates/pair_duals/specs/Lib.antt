@@ -1,5 +1,6 @@
 pub mod CostOfPair
 pub mod CostStep
+pub mod DualRow
 pub mod Filling
 pub mod Fitting
 pub mod Largest

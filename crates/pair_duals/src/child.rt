@@ -8,7 +8,7 @@ ghost use Rattle.pair_duals.specs.Reduced.{AreWithin, child_entry, count_of, pas
 use crate::duals::PairDuals;
 use crate::filling::write;
 use crate::number::Number;
-use crate::pairs::residual;
+use crate::pairs::{left_of, scaled_entry};
 use crate::reduced::Reduced;
 use qap_cost::Instance;
 use std::alloc::AllocError;
@@ -90,43 +90,31 @@ fn fill_child_row<N: Number>(
     ensures { FillsPart (count_of parent.now - 1) (child_entry instance.now duals.now parent.now.rows parent.now.columns parent.now.entries h g) r (count_of parent.now - 1) (map N.value entries.old) (map N.value entries.new) }
 {
     let m = parent.free() - 1;
-    for c in 0..m {
-        let entry = entry_of_child(instance, duals, parent, h, g, r, c);
-        write(entries, m, r, c, entry);
-    }
-}
-
-/// Row `r`, column `c` of it.
-fn entry_of_child<N: Number>(
-    instance: &Instance,
-    duals: &PairDuals<N>,
-    parent: &Reduced<N>,
-    h: usize,
-    g: usize,
-    r: usize,
-    c: usize,
-) -> N
-    requires row { h < count_of parent.now }
-    requires column { g < count_of parent.now }
-    requires size { instance.now.size ≡ duals.now.size }
-    requires in_scale { IsInScale N.limits instance.now duals.now.scale }
-    requires within { AreWithin duals.now parent.now.rows parent.now.columns }
-    requires r_in { r + 1 < count_of parent.now }
-    requires c_in { c + 1 < count_of parent.now }
-    ensures { N.value result ≡ child_entry instance.now duals.now parent.now.rows parent.now.columns parent.now.entries h g r c }
-{
-    let (rows, columns) = (parent.rows(), parent.columns());
     let row = past(h, r);
-    let column = past(g, c);
-    let left = residual(
-        instance,
-        duals,
-        usize::from(rows[row]),
-        usize::from(columns[column]),
-        usize::from(rows[h]),
-        usize::from(columns[g]),
-    );
-    parent.entry(row, column).plus(left)
+    let (rows, columns) = (parent.rows(), parent.columns());
+    let (i, j) = (usize::from(rows[row]), usize::from(rows[h]));
+    let l = usize::from(columns[g]);
+    let (facility, other) = (duals.facility(i), duals.facility(j));
+    let to = duals.location(l);
+    let there = scaled_entry(duals.scale(), instance.a(facility, other));
+    let back = scaled_entry(duals.scale(), instance.a(other, facility));
+    let (alpha, beta) = (duals.alpha_row(i, j), duals.beta_row(i, l));
+    let own = duals.alpha(j, l, i);
+    let distances = instance.b_row(to);
+    for c in 0..m {
+        let column = past(g, c);
+        let k = usize::from(columns[column]);
+        let location = duals.location(k);
+        let left = left_of(
+            there,
+            instance.b(location, to),
+            back,
+            distances[location],
+            alpha[k].plus(beta[k]),
+            own.plus(duals.beta(j, l, k)),
+        );
+        write(entries, m, r, c, parent.entry(row, column).plus(left));
+    }
 }
 
 /// The number, among all, of the one of number `k` among those other than `h`.

@@ -2,6 +2,7 @@
 
 ghost use Rattle.std.specs.Prelude.{◌≡◌, ◌*◌, ◌<◌, ◌≤◌, ◌↔◌, ℕ, ℤ, ◌*ℤ◌, pos, length, map, slice_index, unsigned_abs, IsTrue, MatchOption};
 ghost use Rattle.qap_cost.specs.Range.{AllWithin};
+ghost use Rattle.pair_duals.specs.DualRow.{IsDualRow};
 ghost use Rattle.pair_duals.specs.PairDuals.{Duals, AreDuals, alpha_of, beta_of, cube, in_layers};
 
 use crate::number::Number;
@@ -141,6 +142,26 @@ impl<N: Number> PairDuals<N> {
     {
         in_layers(&self.beta, self.facilities.len(), l, i, k)
     }
+
+    /// The duals of facility number `i` for facility number `j`, at each location.
+    pub(crate) fn alpha_row(&self, i: usize, j: usize) -> &[N]
+        requires i_in { i < length self.now.facilities }
+        requires j_in { j < length self.now.facilities }
+        ensures row { IsDualRow N.limits.dual (length self.now.facilities) (in_layers (length self.now.facilities) self.now.alpha j i) (map N.value result.now) }
+        ensures duals { AreDuals N.limits self.now }
+    {
+        row_of_layer(&self.alpha, self.facilities.len(), j, i)
+    }
+
+    /// The duals of facility number `i` for location number `l`, at each location.
+    pub(crate) fn beta_row(&self, i: usize, l: usize) -> &[N]
+        requires i_in { i < length self.now.facilities }
+        requires l_in { l < length self.now.locations }
+        ensures row { IsDualRow N.limits.dual (length self.now.facilities) (in_layers (length self.now.facilities) self.now.beta l i) (map N.value result.now) }
+        ensures duals { AreDuals N.limits self.now }
+    {
+        row_of_layer(&self.beta, self.facilities.len(), l, i)
+    }
 }
 
 /// The number in layer `j`, row `i`, column `k` of `m` layers that are `m` by `m`.
@@ -155,6 +176,19 @@ fn in_layers<N: Number>(numbers: &[N], m: usize, j: usize, i: usize, k: usize) -
     ensures range { unsigned_abs (N.value result) ≤ N.limits.dual }
 {
     numbers[(j * m + i) * m + k]
+}
+
+/// Row `i` of layer `j`.
+fn row_of_layer<N: Number>(numbers: &[N], m: usize, j: usize, i: usize) -> &[N]
+    requires small { m ≤ 256 }
+    requires count { length numbers.now ≡ cube m }
+    requires j_in { j < m }
+    requires i_in { i < m }
+    requires range { AllWithin N.limits.dual (map N.value numbers.now) }
+    ensures { IsDualRow N.limits.dual m (in_layers m (map N.value numbers.now) j i) (map N.value result.now) }
+{
+    let start = (j * m + i) * m;
+    &numbers[start..start + m]
 }
 
 /// Whether each number is below `n`.

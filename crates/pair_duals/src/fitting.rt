@@ -1,13 +1,13 @@
 //! Whether pair duals fit.
 
-ghost use Rattle.std.specs.Prelude.{◌≡◌, ◌<◌, ◌↔◌, length, IsTrue};
+ghost use Rattle.std.specs.Prelude.{◌≡◌, ◌≢◌, ◌<◌, ◌↔◌, pos, ◌≤ℤ◌, length, IsTrue};
 ghost use Rattle.pair_duals.specs.Fitting.{FitsFacility, FitsLocation, FitsPair};
 ghost use Rattle.pair_duals.specs.PairDuals.{Fit};
 ghost use Rattle.pair_duals.specs.Range.{IsInScale};
 
 use crate::duals::PairDuals;
 use crate::number::Number;
-use crate::pairs::residual;
+use crate::pairs::{left_of, scaled_entry};
 use qap_cost::Instance;
 
 /// Whether the pair duals fit: whether they leave no pair of different free facilities at different free locations less than 0.
@@ -72,11 +72,33 @@ fn fits_location<N: Number>(
     requires j_in { j < length duals.now.facilities }
     ensures { IsTrue result ↔ FitsLocation instance.now duals.now i k j }
 {
-    let zero = N::narrow(0);
+    let (facility, other) = (duals.facility(i), duals.facility(j));
+    let location = duals.location(k);
+    let there = scaled_entry(duals.scale(), instance.a(facility, other));
+    let back = scaled_entry(duals.scale(), instance.a(other, facility));
+    let own = duals.alpha(i, k, j);
+    let (alpha, beta) = (duals.alpha_row(j, i), duals.beta_row(j, k));
+    let distances = instance.b_row(location);
     for l in 0..duals.free() {
-        if l != k && residual(instance, duals, i, k, j, l).is_less(zero) {
+        let to = duals.location(l);
+        let left = left_of(
+            there,
+            distances[to],
+            back,
+            instance.b(to, location),
+            own.plus(duals.beta(i, k, l)),
+            alpha[l].plus(beta[l]),
+        );
+        if !is_met(left, k, l) {
             return false;
         }
     }
     true
+}
+
+/// Whether what is left of a pair at two locations is no less than 0, or these are the same.
+fn is_met<N: Number>(left: N, k: usize, l: usize) -> bool
+    ensures { IsTrue result ↔ (k ≢ l → pos 0 ≤ℤ N.value left) }
+{
+    k == l || !left.is_less(N::narrow(0))
 }

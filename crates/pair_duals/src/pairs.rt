@@ -1,6 +1,6 @@
 //! What a pair costs, and what pair duals leave of it.
 
-ghost use Rattle.std.specs.Prelude.{◌≡◌, ◌*◌, ◌^◌, ◌<◌, ◌≤◌, pos, ◌*ℤ◌, length, unsigned_abs};
+ghost use Rattle.std.specs.Prelude.{◌≡◌, ◌*◌, ◌^◌, ◌<◌, ◌≤◌, pos, ◌+ℤ◌, ◌-ℤ◌, ◌*ℤ◌, length, unsigned_abs};
 ghost use Rattle.qap_cost.specs.Range.{InRange};
 ghost use Rattle.pair_duals.specs.CostOfPair.{cost_of_pair};
 ghost use Rattle.pair_duals.specs.PairDuals.{residual};
@@ -19,6 +19,28 @@ pub fn scaled_product<N: Number>(scale: u32, a: i64, b: i64) -> N
     ensures range { unsigned_abs (N.value result) ≤ N.limits.cost }
 {
     N::product(i64::from(scale) * a, b)
+}
+
+/// An entry of A, scaled.
+pub fn scaled_entry(scale: u32, a: i64) -> i64
+    requires scale { scale ≤ 2 ^ 20 }
+    requires a_range { InRange a }
+    ensures { result ≡ pos scale *ℤ a }
+{
+    i64::from(scale) * a
+}
+
+/// What two numbers, the sums of two duals each, leave of two products of a scaled entry of A and an entry of B.
+pub fn left_of<N: Number>(there: i64, b: i64, back: i64, b_back: i64, own: N, other: N) -> N
+    requires there { unsigned_abs (there *ℤ b) ≤ N.limits.cost }
+    requires back { unsigned_abs (back *ℤ b_back) ≤ N.limits.cost }
+    requires own { unsigned_abs (N.value own) ≤ 2 * N.limits.dual }
+    requires other { unsigned_abs (N.value other) ≤ 2 * N.limits.dual }
+    ensures value { N.value result ≡ (there *ℤ b +ℤ back *ℤ b_back) -ℤ (N.value own +ℤ N.value other) }
+    ensures range { unsigned_abs (N.value result) ≤ N.limits.pair }
+{
+    let cost = N::product(there, b).plus(N::product(back, b_back));
+    cost.minus(own.plus(other))
 }
 
 /// What facilities `i` and `j` cost together at locations `k` and `l`, scaled.

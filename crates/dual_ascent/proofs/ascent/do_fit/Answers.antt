@@ -1,4 +1,4 @@
-use Rattle.std.proofs.Common.{◌≤◌, arith, sym, ◌∙◌}
+use Rattle.std.proofs.Common.{arith, sym, ◌∙◌}
 use Rattle.dual_ascent.proofs.Trivials.{in_scale_along}
 use Rattle.dual_ascent.proofs.ascent.do_fit.Goals as goal
 

@@ -1,4 +1,4 @@
-use Rattle.std.proofs.Common.{◌*◌, ◌≤◌, arith}
+use Rattle.std.proofs.Common.{arith}
 use Rattle.dual_ascent.proofs.range.are_small.Goals as goal
 
 pub returns : goal.returns

@@ -1,4 +1,4 @@
-use Rattle.std.proofs.Common.{◌≡◌, ◌*◌, ◌<◌, ◌≤◌, ℕ, arith, rules, subst, sym, length, get_or, replicate}
+use Rattle.std.proofs.Common.{◌≡◌, arith, rules, subst, sym, length, replicate}
 use Rattle.std.specs.Prelude.{pos, negsuc}
 use Rattle.pair_duals.specs.PairDuals.{Duals, Fit, cube}
 use Rattle.dual_ascent.proofs.Trivials.{Fit-same}

@@ -1,0 +1,45 @@
+-- Rows of duals, as the code takes them from their list.
+use Rattle.std.proofs.Common.{◌≡◌, ℕ, suc, ◌+◌, ◌*◌, ◌<◌, ◌≤◌, arith, sym, ◌∙◌, ap, subst, List, length, get_or, map, take, drop}
+use Rattle.std.specs.Prelude.{ℤ, pos, unsigned_abs}
+use Rattle.std.proofs.lemmas.List.{drop-map, get_or-drop, get_or-take, length-drop, length-map, length-take-le, take-map}
+use Rattle.qap_cost.specs.Range.{AllWithin}
+use Rattle.pair_duals.specs.DualRow.{IsDualRow}
+use Rattle.pair_duals.specs.PairDuals.{cube}
+use Rattle.pair_duals.proofs.Values.{place_in_square, value_read, value_within}
+use Rattle.std.proofs.lemmas.Nat.{mul-le}
+
+-- what lies from a place on
+taken : (limit m s : ℕ) (xs : List ℤ) (f : ℕ → ℤ) → s + m ≤ length xs → AllWithin limit xs → ((k : ℕ) → k < m → get_or xs (s + k) (pos 0) ≡ f k) → IsDualRow limit m f (take m (drop s xs))
+taken limit m s xs f inside range same =
+    let room : m ≤ length (drop s xs) = omega (arith, length-drop s xs) in
+    let count : length (take m (drop s xs)) ≡ m = length-take-le m (drop s xs) room in
+    let at : (k : ℕ) → k < m → get_or (take m (drop s xs)) k (pos 0) ≡ get_or xs (s + k) (pos 0) = λ k below. get_or-take m (drop s xs) k (pos 0) below ∙ get_or-drop s xs k (pos 0) in
+    record {
+      count = count;
+      entries = λ k below. at k below ∙ same k below;
+      range = record {
+        each = λ k below.
+            let h : k < m = omega (arith, count) in
+            subst (λ z. unsigned_abs z ≤ limit) (sym (at k h)) (range.each (s + k) (omega arith));
+      };
+    }
+
+pub IsDualRow-taken : {X : Type 0} (value : X → ℤ) (limit m s n : ℕ) (xs : List X) (f : ℕ → ℤ) → n ≡ m → s + m ≤ length xs → AllWithin limit (map value xs) → ((k : ℕ) → k < m → get_or (map value xs) (s + k) (pos 0) ≡ f k)
+    → IsDualRow limit m f (map value (take n (drop s xs)))
+IsDualRow-taken value limit m s n xs f count inside range same =
+    let whole : take m (drop s (map value xs)) ≡ map value (take n (drop s xs)) =
+    ap (take m) (drop-map value s xs) ∙ take-map value m (drop s xs) ∙ ap (λ k. map value (take k (drop s xs))) (sym count) in
+    subst (IsDualRow limit m f) whole (taken limit m s (map value xs) f (omega (arith, length-map xs value)) range same)
+
+-- where a row of a layer ends
+pub row_in_layers : (m j i : ℕ) → j < m → i < m → (j * m + i) * m + m ≤ cube m
+row_in_layers m j i hj hi =
+    let inner = place_in_square m j i hj hi in
+    let e : suc (j * m + i) * m ≤ (m * m) * m = mul-le _ _ _ _ inner (omega arith) in
+    omega (arith, e)
+
+-- a dual of a row, as it was read
+pub dual_read : {X : Type 0} (value : X → ℤ) (limit m : ℕ) (f : ℕ → ℤ) (xs : List X) (k : ℕ) (x : X) → IsDualRow limit m f (map value xs) → x ≡ get_or xs k x → k < m → (value x ≡ f k) × (unsigned_abs (value x) ≤ limit)
+dual_read value limit m f xs k x row is below =
+    let inside : k < length xs = omega (arith, row.count, length-map xs value) in
+    (value_read value xs k x is inside ∙ row.entries k below, value_within value xs k x limit row.range is inside)
