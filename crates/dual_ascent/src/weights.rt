@@ -86,16 +86,22 @@ pub fn add_times(to: &mut [f64], factor: f64, xs: &[f64]) {
     }
 }
 
-/// The sum of the products of two rows.
+/// The sum of the products of two rows: of each half by itself, so that two sums run side by side.
 pub fn dot(xs: &[f64], ys: &[f64]) -> f64 {
     if xs.len() != ys.len() {
         return 0.0;
     }
-    let mut sum = 0.0;
-    for c in 0..xs.len() {
-        sum += xs[c] * ys[c];
+    let half = xs.len() / 2;
+    let mut front = 0.0;
+    let mut back = 0.0;
+    for c in 0..half {
+        front += xs[c] * ys[c];
+        back += xs[half + c] * ys[half + c];
     }
-    sum
+    if half + half < xs.len() {
+        back += xs[half + half] * ys[half + half];
+    }
+    front + back
 }
 
 /// A number within the range of weights.
