@@ -11,4 +11,5 @@ pub mod PairDuals
 pub mod Range
 pub mod Reduced
 pub mod Seats
+pub mod Shared
 pub mod Start

@@ -1,7 +1,9 @@
 //! The matrix of a child.
 
-ghost use Rattle.std.specs.Prelude.{◌≡◌, ◌+◌, ◌-◌, ◌*◌, ◌<◌, length, map, remove, unsigned_abs, ◌≤◌, IfOk};
+ghost use Rattle.std.specs.Prelude.{◌≡◌, ◌+◌, ◌-◌, ◌*◌, ◌<◌, length, map, remove, unsigned_abs, ◌≤◌, ◌^◌, IfOk, ℕ, slice_index};
+ghost use Rattle.pair_duals.specs.DualRow.{IsDualRow};
 ghost use Rattle.pair_duals.specs.Filling.{AreEntries, FillsPart, FillsRows};
+ghost use Rattle.pair_duals.specs.Shared.{beta_along, entry_from, entry_to};
 ghost use Rattle.pair_duals.specs.Range.{IsInScale};
 ghost use Rattle.pair_duals.specs.Reduced.{AreWithin, child_entry, count_of, past};
 
@@ -11,7 +13,7 @@ use crate::number::Number;
 use crate::pairs::{left_of, scaled_entry};
 use crate::reduced::Reduced;
 use qap_cost::Instance;
-use std::alloc::AllocError;
+use std::alloc::{AllocError, Global};
 
 /// The numbers without that at place `h`, in the memory of a list.
 pub fn without(mut list: Vec<u16>, numbers: &[u16], h: usize) -> Result<Vec<u16>, AllocError>
@@ -24,6 +26,114 @@ pub fn without(mut list: Vec<u16>, numbers: &[u16], h: usize) -> Result<Vec<u16>
     Ok(list)
 }
 
+/// For each column of a parent what all entries there share in a child that is put at some location: the entry of B that leads
+/// there, the entry that leads back, and the dual of the facility that is put there for the column's location.
+#[derive(Drop)]
+pub struct Shared<N: Number> {
+    pub there: Vec<i64>,
+    pub back: Vec<i64>,
+    pub own: Vec<N>,
+}
+
+impl<N: Number> Shared<N> {
+    /// Of no columns. No memory is taken.
+    pub fn empty(alloc: Global) -> Shared<N> {
+        Shared {
+            there: Vec::new(alloc),
+            back: Vec::new(alloc),
+            own: Vec::new(alloc),
+        }
+    }
+}
+
+/// The entries of B from the locations of columns to location number `l`, in the memory of a list.
+fn entries_to<N: Number>(
+    mut list: Vec<i64>,
+    instance: &Instance,
+    duals: &PairDuals<N>,
+    columns: &[u16],
+    l: usize,
+) -> Result<Vec<i64>, AllocError>
+    requires size { instance.now.size ≡ duals.now.size }
+    requires columns { (c : ℕ) → c < length columns.now → slice_index columns.now c < length duals.now.locations }
+    requires l_in { l < length duals.now.locations }
+    ensures { IfOk result (λ v. IsDualRow (10 ^ 9) (length columns.now) (entry_to instance.now duals.now columns.now l) v.items) }
+{
+    let to = duals.location(l);
+    list.clear();
+    for column in columns {
+        list.push(instance.b(duals.location(usize::from(*column)), to))?;
+    }
+    Ok(list)
+}
+
+/// The entries of B from location number `l` to the locations of columns, in the memory of a list.
+fn entries_from<N: Number>(
+    mut list: Vec<i64>,
+    instance: &Instance,
+    duals: &PairDuals<N>,
+    columns: &[u16],
+    l: usize,
+) -> Result<Vec<i64>, AllocError>
+    requires size { instance.now.size ≡ duals.now.size }
+    requires columns { (c : ℕ) → c < length columns.now → slice_index columns.now c < length duals.now.locations }
+    requires l_in { l < length duals.now.locations }
+    ensures { IfOk result (λ v. IsDualRow (10 ^ 9) (length columns.now) (entry_from instance.now duals.now columns.now l) v.items) }
+{
+    let from = duals.location(l);
+    list.clear();
+    for column in columns {
+        list.push(instance.b(from, duals.location(usize::from(*column))))?;
+    }
+    Ok(list)
+}
+
+/// The duals of facility number `j` at location number `l` for the locations of columns, in the memory of a list.
+fn betas_of<N: Number>(
+    mut list: Vec<N>,
+    duals: &PairDuals<N>,
+    columns: &[u16],
+    j: usize,
+    l: usize,
+) -> Result<Vec<N>, AllocError>
+    requires columns { (c : ℕ) → c < length columns.now → slice_index columns.now c < length duals.now.locations }
+    requires j_in { j < length duals.now.facilities }
+    requires l_in { l < length duals.now.locations }
+    ensures { IfOk result (λ v. IsDualRow N.limits.dual (length columns.now) (beta_along duals.now columns.now j l) (map N.value v.items)) }
+{
+    list.clear();
+    for column in columns {
+        list.push(duals.beta(j, l, usize::from(*column)))?;
+    }
+    Ok(list)
+}
+
+/// What the entries of each column of `parent` share where row `h` is put at column `g`, in the memory of another.
+pub fn share_columns<N: Number>(
+    shared: Shared<N>,
+    instance: &Instance,
+    duals: &PairDuals<N>,
+    parent: &Reduced<N>,
+    h: usize,
+    g: usize,
+) -> Result<Shared<N>, AllocError>
+    requires row { h < count_of parent.now }
+    requires column { g < count_of parent.now }
+    requires size { instance.now.size ≡ duals.now.size }
+    requires within { AreWithin duals.now parent.now.rows parent.now.columns }
+    ensures there { IfOk result (λ s. IsDualRow (10 ^ 9) (length parent.now.columns) (entry_to instance.now duals.now parent.now.columns (slice_index parent.now.columns g)) s.there.items) }
+    ensures back { IfOk result (λ s. IsDualRow (10 ^ 9) (length parent.now.columns) (entry_from instance.now duals.now parent.now.columns (slice_index parent.now.columns g)) s.back.items) }
+    ensures own { IfOk result (λ s. IsDualRow N.limits.dual (length parent.now.columns) (beta_along duals.now parent.now.columns (slice_index parent.now.rows h) (slice_index parent.now.columns g)) (map N.value s.own.items)) }
+{
+    let Shared { there, back, own } = shared;
+    let (rows, columns) = (parent.rows(), parent.columns());
+    let (j, l) = (usize::from(rows[h]), usize::from(columns[g]));
+    let there = entries_to(there, instance, duals, columns, l)?;
+    let back = entries_from(back, instance, duals, columns, l)?;
+    let own = betas_of(own, duals, columns, j, l)?;
+    Ok(Shared { there, back, own })
+}
+
 /// The entries of the child of `parent` that puts row `h` at column `g`, in the memory of a list.
 pub fn child_entries<N: Number>(
     mut list: Vec<N>,
@@ -32,41 +142,48 @@ pub fn child_entries<N: Number>(
     parent: &Reduced<N>,
     h: usize,
     g: usize,
+    shared: &Shared<N>,
 ) -> Result<Vec<N>, AllocError>
     requires row { h < count_of parent.now }
     requires column { g < count_of parent.now }
     requires size { instance.now.size ≡ duals.now.size }
     requires in_scale { IsInScale N.limits instance.now duals.now.scale }
     requires within { AreWithin duals.now parent.now.rows parent.now.columns }
+    requires there { IsDualRow (10 ^ 9) (length parent.now.columns) (entry_to instance.now duals.now parent.now.columns (slice_index parent.now.columns g)) shared.now.there.items }
+    requires back { IsDualRow (10 ^ 9) (length parent.now.columns) (entry_from instance.now duals.now parent.now.columns (slice_index parent.now.columns g)) shared.now.back.items }
+    requires own { IsDualRow N.limits.dual (length parent.now.columns) (beta_along duals.now parent.now.columns (slice_index parent.now.rows h) (slice_index parent.now.columns g)) (map N.value shared.now.own.items) }
     ensures length { IfOk result (λ v. length v.items ≡ (count_of parent.now - 1) * (count_of parent.now - 1)) }
     ensures entries { IfOk result (λ v. AreEntries (count_of parent.now - 1) (child_entry instance.now duals.now parent.now.rows parent.now.columns parent.now.entries h g) (map N.value v.items)) }
 {
     let m = parent.free() - 1;
     list.clear();
     list.resize(m * m, N::narrow(0))?;
-    fill_child(instance, duals, parent, h, g, &mut list);
+    fill_child(instance, duals, parent, &(h, g), shared, &mut list);
     Ok(list)
 }
 
-/// Writes the entries of the child of `parent` that puts row `h` at column `g`.
+/// Writes the entries of the child of `parent` that puts a row at a column.
 fn fill_child<N: Number>(
     instance: &Instance,
     duals: &PairDuals<N>,
     parent: &Reduced<N>,
-    h: usize,
-    g: usize,
+    seat: &(usize, usize),
+    shared: &Shared<N>,
     entries: &mut [N],
 )
-    requires row { h < count_of parent.now }
-    requires column { g < count_of parent.now }
+    requires row { seat.now.0 < count_of parent.now }
+    requires column { seat.now.1 < count_of parent.now }
     requires size { instance.now.size ≡ duals.now.size }
     requires in_scale { IsInScale N.limits instance.now duals.now.scale }
     requires within { AreWithin duals.now parent.now.rows parent.now.columns }
+    requires there { IsDualRow (10 ^ 9) (length parent.now.columns) (entry_to instance.now duals.now parent.now.columns (slice_index parent.now.columns seat.now.1)) shared.now.there.items }
+    requires back { IsDualRow (10 ^ 9) (length parent.now.columns) (entry_from instance.now duals.now parent.now.columns (slice_index parent.now.columns seat.now.1)) shared.now.back.items }
+    requires own { IsDualRow N.limits.dual (length parent.now.columns) (beta_along duals.now parent.now.columns (slice_index parent.now.rows seat.now.0) (slice_index parent.now.columns seat.now.1)) (map N.value shared.now.own.items) }
     requires room { length entries.old ≡ (count_of parent.now - 1) * (count_of parent.now - 1) }
-    ensures { FillsRows (count_of parent.now - 1) (child_entry instance.now duals.now parent.now.rows parent.now.columns parent.now.entries h g) (count_of parent.now - 1) (map N.value entries.old) (map N.value entries.new) }
+    ensures { FillsRows (count_of parent.now - 1) (child_entry instance.now duals.now parent.now.rows parent.now.columns parent.now.entries seat.now.0 seat.now.1) (count_of parent.now - 1) (map N.value entries.old) (map N.value entries.new) }
 {
     for r in 0..parent.free() - 1 {
-        fill_child_row(instance, duals, parent, h, g, r, entries);
+        fill_child_row(instance, duals, parent, seat, shared, r, entries);
     }
 }
 
@@ -75,43 +192,45 @@ fn fill_child_row<N: Number>(
     instance: &Instance,
     duals: &PairDuals<N>,
     parent: &Reduced<N>,
-    h: usize,
-    g: usize,
+    seat: &(usize, usize),
+    shared: &Shared<N>,
     r: usize,
     entries: &mut [N],
 )
-    requires row { h < count_of parent.now }
-    requires column { g < count_of parent.now }
+    requires row { seat.now.0 < count_of parent.now }
+    requires column { seat.now.1 < count_of parent.now }
     requires size { instance.now.size ≡ duals.now.size }
     requires in_scale { IsInScale N.limits instance.now duals.now.scale }
     requires within { AreWithin duals.now parent.now.rows parent.now.columns }
+    requires there { IsDualRow (10 ^ 9) (length parent.now.columns) (entry_to instance.now duals.now parent.now.columns (slice_index parent.now.columns seat.now.1)) shared.now.there.items }
+    requires back { IsDualRow (10 ^ 9) (length parent.now.columns) (entry_from instance.now duals.now parent.now.columns (slice_index parent.now.columns seat.now.1)) shared.now.back.items }
+    requires own { IsDualRow N.limits.dual (length parent.now.columns) (beta_along duals.now parent.now.columns (slice_index parent.now.rows seat.now.0) (slice_index parent.now.columns seat.now.1)) (map N.value shared.now.own.items) }
     requires room { length entries.old ≡ (count_of parent.now - 1) * (count_of parent.now - 1) }
     requires r_in { r < count_of parent.now - 1 }
-    ensures { FillsPart (count_of parent.now - 1) (child_entry instance.now duals.now parent.now.rows parent.now.columns parent.now.entries h g) r (count_of parent.now - 1) (map N.value entries.old) (map N.value entries.new) }
+    ensures { FillsPart (count_of parent.now - 1) (child_entry instance.now duals.now parent.now.rows parent.now.columns parent.now.entries seat.now.0 seat.now.1) r (count_of parent.now - 1) (map N.value entries.old) (map N.value entries.new) }
 {
+    let (h, g) = *seat;
     let m = parent.free() - 1;
     let row = past(h, r);
     let (rows, columns) = (parent.rows(), parent.columns());
     let (i, j) = (usize::from(rows[row]), usize::from(rows[h]));
     let l = usize::from(columns[g]);
     let (facility, other) = (duals.facility(i), duals.facility(j));
-    let to = duals.location(l);
-    let there = scaled_entry(duals.scale(), instance.a(facility, other));
-    let back = scaled_entry(duals.scale(), instance.a(other, facility));
+    let a_there = scaled_entry(duals.scale(), instance.a(facility, other));
+    let a_back = scaled_entry(duals.scale(), instance.a(other, facility));
     let (alpha, beta) = (duals.alpha_row(i, j), duals.beta_row(i, l));
     let own = duals.alpha(j, l, i);
-    let distances = instance.b_row(to);
+    let (there, back, owns): (&[i64], &[i64], &[N]) = (&shared.there, &shared.back, &shared.own);
     for c in 0..m {
         let column = past(g, c);
         let k = usize::from(columns[column]);
-        let location = duals.location(k);
         let left = left_of(
-            there,
-            instance.b(location, to),
-            back,
-            distances[location],
+            a_there,
+            there[column],
+            a_back,
+            back[column],
             alpha[k].plus(beta[k]),
-            own.plus(duals.beta(j, l, k)),
+            own.plus(owns[column]),
         );
         write(entries, m, r, c, parent.entry(row, column).plus(left));
     }

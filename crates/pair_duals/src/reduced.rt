@@ -10,7 +10,7 @@ ghost use Rattle.pair_duals.specs.Range.{IsInReach, IsInScale};
 ghost use Rattle.pair_duals.specs.Seats.{child_at};
 ghost use Rattle.pair_duals.specs.Reduced.{Form, AreLeast, AreLeastOfRows, AreWithin, IsChild, IsFormOf, IsLine, IsNonNegative, IsStart, at, count_of, empty_form};
 
-use crate::child::{child_entries, without};
+use crate::child::{Shared, child_entries, share_columns, without};
 use crate::duals::PairDuals;
 use crate::least::{least_of_columns, least_of_rows, sum, take_both};
 use crate::number::Number;
@@ -31,6 +31,7 @@ pub struct Reduced<N: Number> {
     entries: Vec<N>,
     depth: usize,
     is_lined: bool,
+    shared: Shared<N>,
 }
 
 impl<N: Number> Model for Reduced<N> {
@@ -53,6 +54,7 @@ impl<N: Number> Reduced<N> {
             entries: Vec::new(alloc),
             depth: 0,
             is_lined: false,
+            shared: Shared::empty(alloc),
         }
     }
 
@@ -125,6 +127,7 @@ impl<N: Number> Reduced<N> {
             rows,
             columns,
             entries,
+            shared,
             ..
         } = replace(self, Reduced::empty(alloc));
         let rows = first_numbers(rows, duals.free())?;
@@ -138,6 +141,7 @@ impl<N: Number> Reduced<N> {
             entries,
             depth: 0,
             is_lined: false,
+            shared,
         };
         Ok(())
     }
@@ -186,10 +190,12 @@ impl<N: Number> Reduced<N> {
             rows,
             columns,
             entries,
+            shared,
             ..
         } = replace(child, Reduced::empty(alloc));
         let value = self.value + self.entry(h, g).widen();
-        let entries = child_entries(entries, instance, duals, self, h, g)?;
+        let shared = share_columns(shared, instance, duals, self, h, g)?;
+        let entries = child_entries(entries, instance, duals, self, h, g, &shared)?;
         let rows = without(rows, &self.rows, h)?;
         let columns = without(columns, &self.columns, g)?;
         *child = Reduced {
@@ -199,6 +205,7 @@ impl<N: Number> Reduced<N> {
             entries,
             depth: self.depth + 1,
             is_lined: false,
+            shared,
         };
         Ok(())
     }
