@@ -1,9 +1,11 @@
-// The parts of dual ascent on the level-1 reformulation of the quadratic assignment problem (Adams and Johnson 1994; Hahn and Grant
-// 1998) in 64 bits: what the crates pair_duals and dual_ascent are compared with, in numbers and in time.
+// The parts of dual ascent on the level-1 reformulation of the quadratic assignment problem (Adams and Johnson 1994;
+// Hahn and Grant 1998) in 64 bits: what the crates pair_duals and dual_ascent are compared with, in numbers and in
+// time.
 //
-// It reads a size, A and B from standard input, and its arguments are a scale and how often each part is run. Of each part it prints
-// the name, the nanoseconds of one run and a number that it yields: whether pair duals fit; a child of the root; a hard round; a soft
-// sweep; and the root bound after 50 hard rounds, and after 200 soft sweeps and 10 hard rounds.
+// It reads a size, A and B from standard input, and its arguments are a scale and how often each part is run. Of each
+// part it prints the name, the nanoseconds of one run and a number that it yields: whether pair duals fit; a child of
+// the root; a hard round; a soft sweep; and the root bound after 50 hard rounds, and after 200 soft sweeps and 10 hard
+// rounds.
 #include <algorithm>
 #include <chrono>
 #include <cmath>
@@ -16,8 +18,8 @@
 typedef int64_t Number;
 typedef std::vector<Number> Numbers;
 
-// Assignment duals of a square matrix of n rows, by shortest augmenting paths (Jonker and Volgenant 1987). Returns the least cost;
-// u(r) + v(c) is at most every entry, and their sum is that cost.
+// Assignment duals of a square matrix of n rows, by shortest augmenting paths (Jonker and Volgenant 1987). Returns the
+// least cost; u(r) + v(c) is at most every entry, and their sum is that cost.
 struct Assigner {
     std::vector<int> row_of, column_of, origin, columns;
     Numbers distance;
@@ -108,8 +110,9 @@ bool fits(const Instance& in, const Duals& duals) {
                 const Number *alpha = &duals.alpha[i * square + j * m], *beta = &duals.beta[k * square + j * m];
                 Number x = in.a[i * m + j], y = in.a_back[i * m + j], mine = duals.alpha[j * square + i * m + k];
                 Number least = 0;
-                for (int l = 0; l < k; l++) least = std::min(least, x * there[l] + y * back[l] - mine - own[l] - alpha[l] - beta[l]);
-                for (int l = k + 1; l < m; l++) least = std::min(least, x * there[l] + y * back[l] - mine - own[l] - alpha[l] - beta[l]);
+                auto left = [&](int l) { return x * there[l] + y * back[l] - mine - own[l] - alpha[l] - beta[l]; };
+                for (int l = 0; l < k; l++) least = std::min(least, left(l));
+                for (int l = k + 1; l < m; l++) least = std::min(least, left(l));
                 if (least < 0) return false;
             }
         }
@@ -155,7 +158,8 @@ void child(const Instance& in, const Duals& duals, const Form& form, int h, int 
     for (int r = 0; r < n; r++) {
         if (r == h) continue;
         int i = form.rows[r];
-        const Number *row = &form.entries[r * n], *alpha = &duals.alpha[j * square + i * m], *beta = &duals.beta[l * square + i * m];
+        const Number* row = &form.entries[r * n];
+        const Number *alpha = &duals.alpha[j * square + i * m], *beta = &duals.beta[l * square + i * m];
         Number x = in.a[i * m + j], y = in.a_back[i * m + j], mine = duals.alpha[i * square + j * m + l];
         for (int c = 0; c < n - 1; c++) {
             int k = to.columns[c];
@@ -180,7 +184,8 @@ struct Ascent {
     Assigner assigner;
 
     explicit Ascent(const Instance& in)
-        : m(in.m), in(in), duals{Numbers(m * m * m), Numbers(m * m * m)}, pairs((size_t)m * m * m * m), matrix(m * m), block(m * m), u(m), v(m), t(m * m), assigner(m) {
+        : m(in.m), in(in), duals{Numbers(m * m * m), Numbers(m * m * m)}, pairs((size_t)m * m * m * m), matrix(m * m),
+          block(m * m), u(m), v(m), t(m * m), assigner(m) {
         fill();
     }
 
@@ -196,8 +201,9 @@ struct Ascent {
                 for (int j = 0; j < m; j++) {
                     Number* left = at(i, k) + j * m;
                     for (int l = 0; l < m; l++)
-                        left[l] = in.a[i * m + j] * in.b[k * m + l] + in.a_back[i * m + j] * in.b_back[k * m + l] - duals.alpha[j * square + i * m + k] -
-                                  duals.beta[l * square + i * m + k] - duals.alpha[i * square + j * m + l] - duals.beta[k * square + j * m + l];
+                        left[l] = in.a[i * m + j] * in.b[k * m + l] + in.a_back[i * m + j] * in.b_back[k * m + l] -
+                                  duals.alpha[j * square + i * m + k] - duals.beta[l * square + i * m + k] -
+                                  duals.alpha[i * square + j * m + l] - duals.beta[k * square + j * m + l];
                 }
     }
 
@@ -221,7 +227,8 @@ struct Ascent {
         }
     }
 
-    // The assignment of what is left of the pairs with i at k: whole with facilities that came before it in this round, else half.
+    // The assignment of what is left of the pairs with i at k: whole with facilities that came before it in this round,
+    // else half.
     void reduce_block(int i, int k, bool ascending) {
         Number* left = at(i, k);
         Number* to = block.data();
@@ -307,7 +314,9 @@ struct Sweeps {
     std::vector<double> kernel, alpha_moves, beta_moves, alpha, beta, logs, weights, rows, columns, sums;
 
     explicit Sweeps(Ascent& ascent)
-        : m(ascent.m), square(m * m), ascent(ascent), kernel((size_t)square * square), alpha_moves(square * m), beta_moves(square * m), alpha(square * m, 1), beta(square * m, 1), logs(square), weights(square), rows(m), columns(m), sums(m) {
+        : m(ascent.m), square(m * m), ascent(ascent), kernel((size_t)square * square), alpha_moves(square * m),
+          beta_moves(square * m), alpha(square * m, 1), beta(square * m, 1), logs(square), weights(square), rows(m),
+          columns(m), sums(m) {
         for (int p = 0; p < square; p++) logs[p] = -(double)ascent.matrix[p];
     }
 
@@ -326,7 +335,8 @@ struct Sweeps {
                 for (int l = 0; l < m; l++) columns[l] = beta_moves[l * square + place];
                 for (int j = i + 1; j < m; j++) {
                     double own = alpha_moves[j * square + place];
-                    double *row = &kernel[(size_t)place * square + j * m], *alpha = &alpha_moves[i * square + j * m], *beta = &beta_moves[k * square + j * m];
+                    double* row = &kernel[(size_t)place * square + j * m];
+                    double *alpha = &alpha_moves[i * square + j * m], *beta = &beta_moves[k * square + j * m];
                     const Number* left = &ascent.pairs[(size_t)place * square + j * m];
                     for (int l = 0; l < m; l++) {
                         double x = (own + columns[l] + alpha[l] + beta[l] - (double)left[l]) / to;

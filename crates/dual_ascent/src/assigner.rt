@@ -8,9 +8,10 @@ use std::alloc::{AllocError, Global};
 
 /// Finds duals of square matrices, in lists that it keeps from call to call.
 ///
-/// The duals of an `m` by `m` matrix are numbers `u` of its rows and `v` of its columns, whose sums `u[r] + v[c]` are no more
-/// than the entries, and which add up to the cost of a least assignment. What is found is advice, of which no clause says
-/// anything but that lists keep their lengths: sums wrap, and whoever relies on duals has to establish that they fit.
+/// The duals of an `m` by `m` matrix are numbers `u` of its rows and `v` of its columns, whose sums `u[r] + v[c]` are
+/// no more than the entries, and which add up to the cost of a least assignment. What is found is advice, of which no
+/// clause says anything but that lists keep their lengths: sums wrap, and whoever relies on duals has to establish that
+/// they fit.
 #[derive(Drop)]
 pub struct Assigner {
     matching: Matching,
@@ -34,9 +35,9 @@ impl Assigner {
         complete(matrix, &mut self.matching, &mut self.search, u, v, i64::MAX)
     }
 
-    /// The same from duals that `u` and `v` are already, and from a matching of which what isn't tight is parted: of time
-    /// `m^2` for each row that has no column then. Ends as soon as the duals add up to more than `enough`, where they are
-    /// duals, though of no least assignment. Leaves the matching that it has found; no memory is taken.
+    /// The same from duals that `u` and `v` are already, and from a matching of which what isn't tight is parted: of
+    /// time `m^2` for each row that has no column then. Ends as soon as the duals add up to more than `enough`, where
+    /// they are duals, though of no least assignment. Leaves the matching that it has found; no memory is taken.
     pub fn solve_from(
         &mut self,
         matrix: &[i64],
@@ -111,7 +112,8 @@ fn complete(
     value
 }
 
-/// Gives each row without a column the first that has no row and whose entry is the sum of the two duals, if there is one.
+/// Gives each row without a column the first that has no row and whose entry is the sum of the two duals, if there is
+/// one.
 fn match_tight(matrix: &[i64], matching: &mut Matching, u: &[i64], v: &[i64]) {
     let m = u.len();
     for r in 0..m {
@@ -137,8 +139,8 @@ fn find_tight(row: &[i64], own: i64, columns: &[i64], row_of: &[Option<usize>]) 
     None
 }
 
-/// Seeks a column for row `root` along a shortest path, but no further than `gap`, raises the sum of the duals by the length
-/// of the path, and returns it.
+/// Seeks a column for row `root` along a shortest path, but no further than `gap`, raises the sum of the duals by the
+/// length of the path, and returns it.
 fn place(
     matrix: &[i64],
     root: usize,

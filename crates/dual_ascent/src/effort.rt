@@ -36,8 +36,8 @@ impl Effort {
         }
     }
 
-    /// For a node below it, which starts from the pair duals of a node above: 20 sweeps, which cool from 1/2,000 to 1/50,000 of
-    /// the cost, and 3 rounds.
+    /// For a node below it, which starts from the pair duals of a node above: 20 sweeps, which cool from 1/2,000 to
+    /// 1/50,000 of the cost, and 3 rounds.
     pub fn inner() -> Effort {
         Effort {
             sweeps: 20,

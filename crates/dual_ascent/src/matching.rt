@@ -41,7 +41,8 @@ impl Matching {
         &self.row_of
     }
 
-    /// Makes it that of `m` rows and columns in `parent`, without row `h` and column `g`, whose partners are left alone.
+    /// Makes it that of `m` rows and columns in `parent`, without row `h` and column `g`, whose partners are left
+    /// alone.
     pub fn copy_without(&mut self, parent: &Matching, m: usize, h: usize, g: usize) {
         self.clear();
         for r in 0..m.saturating_sub(1) {

@@ -12,8 +12,8 @@ const MAX_ASCENT_SIZE: usize = 64;
 /// Whether an ascent takes the instance at this scale: whether its size is from 1 to 64, the scale from 1 to 2^20, and
 /// no product of an entry of A and one of B, scaled, further from 0 than 2^45.
 ///
-/// That is the limit of a dual, and lower than that of products in the crate `pair_duals`, 2^52: the pair duals that an ascent
-/// falls back on charge a pair the least that its products can be.
+/// That is the limit of a dual, and lower than that of products in the crate `pair_duals`, 2^52: the pair duals that an
+/// ascent falls back on charge a pair the least that its products can be.
 pub fn has_range(instance: &Instance, scale: u32) -> bool
     ensures { IsTrue result ↔ HasRange instance.now scale }
 {

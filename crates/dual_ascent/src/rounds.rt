@@ -52,8 +52,8 @@ fn spread(state: &mut State, shares: &mut [i64]) {
     }
 }
 
-/// Takes the duals of a least assignment from what is left of the pairs with facility number `i` at location number `k`:
-/// from all of it with facilities that came before `i` in this round, and from half of it with the others.
+/// Takes the duals of a least assignment from what is left of the pairs with facility number `i` at location number
+/// `k`: from all of it with facilities that came before `i` in this round, and from half of it with the others.
 ///
 /// Without the halves, the facilities that come first would take what later ones need.
 fn reduce_block(

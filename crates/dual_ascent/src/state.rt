@@ -11,7 +11,8 @@ pub struct State {
     pub m: usize,
     /// What was taken from the matrix.
     pub value: i64,
-    /// What is left of facility `i` at location `k` with `j` at `l`: a block for each `i` and `k`, listed by `j` and `l`.
+    /// What is left of facility `i` at location `k` with `j` at `l`: a block for each `i` and `k`, listed by `j` and
+    /// `l`.
     pub pairs: Vec<i64>,
     /// What is left of facility `i` at location `k`, by `i` and `k`.
     pub matrix: Vec<i64>,

@@ -1,9 +1,10 @@
-//! Soft sweeps: block coordinate ascent on the dual of the level-1 reformulation with entropy, as Sinkhorn's scaling of a matrix is
-//! on that of the assignment problem (Cuturi 2013).
+//! Soft sweeps: block coordinate ascent on the dual of the level-1 reformulation with entropy, as Sinkhorn's scaling of
+//! a matrix is on that of the assignment problem (Cuturi 2013).
 //!
-//! At a temperature t a pair has the weight exp(-E / t), where E is what the duals leave of it, and a facility at a location the
-//! weight exp(-R / t), where R is what is left there. A sweep moves the duals of each facility i at each location k so that the
-//! weights of its pairs with each other facility, and with each other location, add up to its own weight.
+//! At a temperature t a pair has the weight exp(-E / t), where E is what the duals leave of it, and a facility at a
+//! location the weight exp(-R / t), where R is what is left there. A sweep moves the duals of each facility i at each
+//! location k so that the weights of its pairs with each other facility, and with each other location, add up to its
+//! own weight.
 
 use crate::state::State;
 use crate::weights::{
@@ -108,8 +109,8 @@ impl Sweeps {
         }
     }
 
-    /// Writes the weights of the pairs of facility number `i` at location number `k` with later facilities, there and where the
-    /// other one looks for them.
+    /// Writes the weights of the pairs of facility number `i` at location number `k` with later facilities, there and
+    /// where the other one looks for them.
     fn fill_kernel(&mut self, state: &State, i: usize, k: usize) {
         let m = self.m;
         let square = m.wrapping_mul(m);
@@ -250,8 +251,9 @@ fn sum_columns(weights: &[f64], rows: &[f64], columns: &[f64], sums: &mut [f64])
     multiply_limited(sums, columns);
 }
 
-/// Moves the duals of a facility at a location whose weight has a given logarithm, for other facilities or for other locations, so
-/// that each of the sums but that of number `own` becomes its weight, and returns the logarithm of its weight then.
+/// Moves the duals of a facility at a location whose weight has a given logarithm, for other facilities or for other
+/// locations, so that each of the sums but that of number `own` becomes its weight, and returns the logarithm of its
+/// weight then.
 fn balance(own: usize, log: f64, count: f64, sums: &mut [f64], factors: &mut [f64]) -> f64 {
     put(sums, own, 1.0);
     let mean = limited_log((log + log_of_product(sums)) / count);

@@ -180,7 +180,8 @@ pub fn absorb(moves: &mut [f64], factors: &mut [f64], temperature: f64) {
     }
 }
 
-/// Writes the weights of a row of pairs: the exponentials of what is left of them after all moves, divided by the temperature.
+/// Writes the weights of a row of pairs: the exponentials of what is left of them after all moves, divided by the
+/// temperature.
 pub fn write_weights(
     to: &mut [f64],
     left: &[i64],

@@ -26,8 +26,9 @@ pub fn without(mut list: Vec<u16>, numbers: &[u16], h: usize) -> Result<Vec<u16>
     Ok(list)
 }
 
-/// For each column of a parent what all entries there share in a child that is put at some location: the entry of B that leads
-/// there, the entry that leads back, and the dual of the facility that is put there for the column's location.
+/// For each column of a parent what all entries there share in a child that is put at some location: the entry of B
+/// that leads there, the entry that leads back, and the dual of the facility that is put there for the column's
+/// location.
 #[derive(Drop)]
 pub struct Shared<N: Number> {
     pub there: Vec<i64>,

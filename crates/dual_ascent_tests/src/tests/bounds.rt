@@ -84,8 +84,8 @@ fn power(base: u64, n: usize) -> u64 {
     power
 }
 
-/// What the digits of a number to base `n` cost as locations; `None` where two are the same, or one of a placed facility isn't its
-/// place.
+/// What the digits of a number to base `n` cost as locations; `None` where two are the same, or one of a placed
+/// facility isn't its place.
 fn cost_of(instance: &Instance, node: &Partial, number: u64) -> Option<i128> {
     let n = instance.size();
     let mut total: i128 = 0;
@@ -121,8 +121,8 @@ pub fn least_cost(instance: &Instance, node: &Partial) -> i128 {
     least
 }
 
-/// The node whose digits to base `n + 1` are 0 for a free facility, and else one more than its location; `None` where two are the
-/// same.
+/// The node whose digits to base `n + 1` are 0 for a free facility, and else one more than its location; `None` where
+/// two are the same.
 fn node_of(alloc: Global, n: u16, number: u64) -> Result<Option<Partial>, AllocError> {
     if n == 0 || n > 256 {
         return Ok(None);
@@ -141,8 +141,8 @@ fn node_of(alloc: Global, n: u16, number: u64) -> Result<Option<Partial>, AllocE
     Ok(Some(node))
 }
 
-/// Asserts that the bound of a node is no more than the least cost of its completions, and that it is that cost, rounded up, where
-/// at most two facilities are free.
+/// Asserts that the bound of a node is no more than the least cost of its completions, and that it is that cost,
+/// rounded up, where at most two facilities are free.
 fn assert_bound(
     rt: &impl Abort,
     alloc: Global,
@@ -165,8 +165,8 @@ fn assert_bound(
     Ok(())
 }
 
-/// The entries at `i` and `j` of A and of B, for each kind of instance: signed and asymmetric, symmetric, of zeros, and with great
-/// entries on the diagonal.
+/// The entries at `i` and `j` of A and of B, for each kind of instance: signed and asymmetric, symmetric, of zeros, and
+/// with great entries on the diagonal.
 fn entries_at(i: i64, j: i64, kind: u32) -> (i64, i64) {
     let one = i.wrapping_mul(377).wrapping_add(j.wrapping_mul(221)) % 19;
     let (low, high) = (i.min(j), i.max(j));
