@@ -1,0 +1,5 @@
+pub mod Images
+pub mod Multiples
+pub mod Reaching
+pub mod Splits
+pub mod Validity

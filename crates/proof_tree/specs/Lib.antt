@@ -1,0 +1,6 @@
+pub mod Claim
+pub mod Image
+pub mod Shape
+pub mod Text
+pub mod Tree
+pub mod Valid
