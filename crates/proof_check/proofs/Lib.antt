@@ -1,0 +1,11 @@
+pub mod Accepting
+pub mod Closing
+pub mod Heads
+pub mod ImageLines
+pub mod Layers
+pub mod Lines
+pub mod ListedDuals
+pub mod Multiples
+pub mod RowLists
+pub mod Splits
+pub mod TreeWalks

@@ -1,0 +1,223 @@
+-- Trees that were walked along, one child after another.
+use Rattle.std.proofs.Common.{◌≡◌, ℕ, ◌+◌, ◌<◌, ◌++◌, List, [], ◌∷◌, length, take, get_or, ℤ, pos, refl, sym, ◌∙◌, ap, ap₂, subst, arith, append_assoc, append-nil}
+use Rattle.std.specs.Prelude.{Bool, codes, Option, None, Some, true}
+use Rattle.std.specs.Io.KnownBytes.{Consumes}
+use Rattle.std.proofs.KnownBytes.{Consumes-nil, Consumes-trans}
+use Rattle.std.proofs.lemmas.List.{take_all, take_more}
+use Rattle.qap_cost.specs.Instance.{Problem}
+use Rattle.qap_cost.specs.Placement.{Placement}
+use Rattle.qap_lines.specs.LineText.{line_text, numbers_text}
+use Rattle.pair_duals.specs.PairDuals.{Duals, Fit}
+use Rattle.pair_duals.specs.Reduced.{Form, IsChild, IsLine, IsStart}
+use Rattle.qap_proof.specs.Shape.{free_count}
+use Rattle.qap_proof.specs.declared.side.Side.{Side}
+use Rattle.proof_tree.specs.Shape.{AreLimited, ArePairRows, AreNodeDuals, HasShape, AllHaveShape}
+use Rattle.proof_tree.specs.Text.{image_text, own_text, rows_text, tree_text, children_text, split_text, marks}
+use Rattle.proof_tree.specs.Tree.{PairRows, NodeDuals, Tree, leaf, split, Children, no_children, closed, image, grown, child_count, row_of, column_of, child_on}
+use Rattle.proof_tree.specs.Valid.{AreListed, Begins, IsClosed, IsLined, ReachesBound, Under, under, Valid, AllValid}
+use Rattle.proof_check.specs.Walk.{SaysImage, WalksChild, WalksChildren, WalksLined, WalksSplit, WalksTree, is_there, own_of}
+use Rattle.proof_check.proofs.Lines.{line_text-named}
+
+abbrev pub duals_without : List ℤ → NodeDuals
+duals_without u = record { own = None; u = u }
+
+lined : (I : Problem) (y : Placement) (D : Duals) (old new : Form) (u v : List ℤ) → IsLine old new u v → IsLined I y (Some (under D old)) (duals_without u) (under D new)
+lined I y D old new u v line = record { start = old; v = v; begins = (refl, refl); line = line }
+
+stated : (y : Placement) (m : ℕ) (u : List ℤ) → m ≡ free_count y → AreLimited m u → AreNodeDuals true (free_count y) (duals_without u)
+stated y m u same limited = record { own = refl; u = subst (λ (k : ℕ). AreLimited k u) same limited }
+
+-- a leaf
+pub WalksLined-leaf : (I : Problem) (step : ℕ) (bound : ℤ) (y : Placement) (D : Duals) (old new : Form) (m : ℕ) (u v : List ℤ) (line : List ℕ) (a : Option (List ℕ)) → m ≡ free_count y → AreLimited m u → line ≡ codes "x" ++ numbers_text u → IsLine old new u v
+    → ReachesBound step bound D.scale new.value → WalksLined I step bound y (under D old) line a a
+WalksLined-leaf I step bound y D old new m u v line a same limited is drawn reaches = record {
+  walked = record {
+    text = [];
+    consumed = Consumes-nil a;
+    tree = leaf (duals_without u);
+    is = line_text-named (codes "x") line u is;
+    shape = stated y m u same limited;
+    valid = (under D new, lined I y D old new u v drawn, reaches);
+  };
+  bare = refl;
+}
+
+-- a split and its children
+pub WalksLined-split : (I : Problem) (step : ℕ) (bound : ℤ) (y : Placement) (D : Duals) (old new : Form) (m : ℕ) (u v : List ℤ) (side : Side) (number : ℕ) (marked line : List ℕ) (a b : Option (List ℕ)) → m ≡ free_count y → length y.facilities + free_count y ≡ y.size
+    → AreLimited m u → length marked ≡ m → line ++ 10 ∷ [] ≡ split_text side number marked u → IsLine old new u v → WalksSplit I step bound y (under D new) side number marked a b → WalksLined I step bound y (under D old) line a b
+WalksLined-split I step bound y D old new m u v side number marked line a b same whole limited long is drawn h =
+    let w = h.walked in
+    let all : take (length marked) marked ≡ marked = take_whole marked in
+    let marked_is : marks w.children ≡ marked = w.marks_are ∙ all in
+    let count : child_count w.children ≡ free_count y = w.counted ∙ long ∙ same in
+    record {
+      walked = record {
+        text = w.text;
+        consumed = w.consumed;
+        tree = split (duals_without u) side number w.children;
+        is = sym (append_assoc line (10 ∷ []) w.text) ∙ ap (λ l. l ++ w.text) is ∙ ap (λ l. split_text side number l u ++ w.text) (sym marked_is) ∙ ap (λ l. split_text side number (marks w.children) u ++ l) w.is;
+        shape = (stated y m u same limited, h.own, h.place, count, w.shapes);
+        valid = (under D new, h.own, lined I y D old new u v drawn, h.place, omega (arith, count, whole), w.valid);
+      };
+      bare = refl;
+    }
+  where
+    take_whole : (xs : List ℕ) → take (length xs) xs ≡ xs
+    take_whole xs = take_all (length xs) xs (omega arith)
+
+-- ---- pair duals of its own
+
+abbrev with_own : PairRows → Tree → Tree
+with_own P (leaf d) = leaf (record { own = Some P; u = d.u })
+with_own P (split d side number ts) = split (record { own = Some P; u = d.u }) side number ts
+
+with_own-text : (P : PairRows) (t : Tree) → own_of t ≡ None → tree_text (with_own P t) ≡ own_text (Some P) ++ tree_text t
+with_own-text P (leaf d) bare = ap (λ o. own_text (Some P) ++ (own_text o ++ line_text (codes "x") d.u)) (sym bare)
+with_own-text P (split d side number ts) bare =
+    append_assoc (own_text (Some P)) (split_text side number (marks ts) d.u) (children_text ts)
+    ∙ ap (λ o. own_text (Some P) ++ ((own_text o ++ split_text side number (marks ts) d.u) ++ children_text ts)) (sym bare)
+
+with_own-shape : (P : PairRows) (t : Tree) (y : Placement) (above : Bool) → ArePairRows (free_count y) P → HasShape y true t → HasShape y above (with_own P t)
+with_own-shape P (leaf d) y above rows h = record { own = rows; u = h.u }
+with_own-shape P (split d side number ts) y above rows h = (record { own = rows; u = h.0.u }, h.1, h.2, h.3, h.4)
+
+begun : (I : Problem) (y : Placement) (D : Duals) (R : Form) (P : PairRows) (d : NodeDuals) (above : Option Under) (now : Under) → d.own ≡ None → AreListed y P D → Fit I D → IsStart I D y R → IsLined I y (Some (under D R)) d now → IsLined I y above (record { own = Some P; u = d.u }) now
+begun I y D R P d above now bare listed fit start h =
+    let b = subst (λ (o : Option PairRows). Begins I y (Some (under D R)) o now.duals h.start) bare h.begins in
+    let D_is = sym b.0 in
+    let R_is = sym b.1 in
+    record {
+      start = h.start;
+      v = h.v;
+      begins = begins_own I y above P now.duals h.start (subst (λ (E : Duals). AreListed y P E) D_is listed) (subst (λ (E : Duals). Fit I E) D_is fit) (subst (λ (Q : Form). IsStart I now.duals y Q) R_is (subst (λ (E : Duals). IsStart I E y R) D_is start));
+      line = h.line;
+    }
+  where
+    begins_own : (I : Problem) (y : Placement) (above : Option Under) (P : PairRows) (D : Duals) (R : Form) → AreListed y P D → Fit I D → IsStart I D y R → Begins I y above (Some P) D R
+    begins_own I y None P D R a b c = (a, b, c)
+    begins_own I y (Some x) P D R a b c = (a, b, c)
+
+with_own-valid : (P : PairRows) (t : Tree) (I : Problem) (step : ℕ) (bound : ℤ) (y : Placement) (D : Duals) (R : Form) (above : Option Under) → own_of t ≡ None → AreListed y P D → Fit I D → IsStart I D y R → Valid I step bound y (Some (under D R)) t → Valid I step bound y above (with_own P t)
+with_own-valid P (leaf d) I step bound y D R above bare listed fit start h = (h.0, begun I y D R P d above h.0 bare listed fit start h.1, h.2)
+with_own-valid P (split d side number ts) I step bound y D R above bare listed fit start h = (h.0, h.1, begun I y D R P d above h.0 bare listed fit start h.2, h.3, h.4, h.5)
+
+-- the line of the scale, the rows, and the tree by them
+pub WalksTree-own : (I : Problem) (step : ℕ) (bound : ℤ) (y : Placement) (above : Option Under) (D : Duals) (R : Form) (P : PairRows) (line next : List ℕ) (a b c d : Option (List ℕ)) → line ≡ codes "p" ++ numbers_text (pos P.scale ∷ []) → ArePairRows (free_count y) P → Consumes a b (rows_text P.rows)
+    → Consumes b c (next ++ 10 ∷ []) → AreListed y P D → Fit I D → IsStart I D y R → WalksLined I step bound y (under D R) next c d → WalksTree I step bound y above line a d
+WalksTree-own I step bound y above D R P line next a b c d is rows read advanced listed fit start h =
+    let w = h.walked in
+    let rest = (next ++ 10 ∷ []) ++ w.text in
+    let tree_is : rest ≡ tree_text w.tree = append_assoc next (10 ∷ []) w.text ∙ w.is in
+    record {
+      text = rows_text P.rows ++ rest;
+      consumed = Consumes-trans a b d (rows_text P.rows) rest read (Consumes-trans b c d (next ++ 10 ∷ []) w.text advanced w.consumed);
+      tree = with_own P w.tree;
+      is = sym (append_assoc line (10 ∷ []) (rows_text P.rows ++ rest)) ∙ ap (λ l. l ++ (rows_text P.rows ++ rest)) (line_text-named (codes "p") line (pos P.scale ∷ []) is)
+          ∙ sym (append_assoc (line_text (codes "p") (pos P.scale ∷ [])) (rows_text P.rows) rest) ∙ ap (λ l. own_text (Some P) ++ l) tree_is ∙ sym (with_own-text P w.tree h.bare);
+      shape = with_own-shape P w.tree y (is_there above) rows w.shape;
+      valid = with_own-valid P w.tree I step bound y D R above h.bare listed fit start w.valid;
+    }
+
+-- ---- one child
+
+pub WalksChild-closed : (I : Problem) (step : ℕ) (bound : ℤ) (y : Placement) (now : Under) (side : Side) (own c : ℕ) (a : Option (List ℕ)) → IsClosed I step bound now (row_of side own c) (column_of side own c) → WalksChild I step bound y now side own c 46 a a
+WalksChild-closed I step bound y now side own c a h = record {
+  text = [];
+  consumed = Consumes-nil a;
+  children = closed no_children;
+  counted = refl;
+  marks_are = refl;
+  is = refl;
+  shapes = tt;
+  valid = (h, tt);
+}
+
+pub WalksChild-image : (I : Problem) (step : ℕ) (bound : ℤ) (y : Placement) (now : Under) (side : Side) (own c : ℕ) (line : List ℕ) (a b : Option (List ℕ)) → Consumes a b (line ++ 10 ∷ []) → SaysImage I y side own c line → WalksChild I step bound y now side own c 43 a b
+WalksChild-image I step bound y now side own c line a b read h = record {
+  text = line ++ 10 ∷ [];
+  consumed = read;
+  children = image h.moved no_children;
+  counted = refl;
+  marks_are = refl;
+  is = h.is ∙ sym (append-nil (image_text h.moved));
+  shapes = (h.shape, tt);
+  valid = (h.takes, tt);
+}
+
+pub WalksChild-grown : (I : Problem) (step : ℕ) (bound : ℤ) (y : Placement) (now : Under) (side : Side) (own c : ℕ) (R : Form) (line : List ℕ) (a b d : Option (List ℕ)) → Consumes a b (line ++ 10 ∷ []) → IsChild I now.duals now.form (row_of side own c) (column_of side own c) R
+    → WalksTree I step bound (child_on side y own c) (Some (under now.duals R)) line b d → WalksChild I step bound y now side own c 43 a d
+WalksChild-grown I step bound y now side own c R line a b d read child h = record {
+  text = (line ++ 10 ∷ []) ++ h.text;
+  consumed = Consumes-trans a b d (line ++ 10 ∷ []) h.text read h.consumed;
+  children = grown h.tree no_children;
+  counted = refl;
+  marks_are = refl;
+  is = append_assoc line (10 ∷ []) h.text ∙ h.is ∙ sym (append-nil (tree_text h.tree));
+  shapes = (h.shape, tt);
+  valid = (R, child, h.valid, tt);
+}
+
+-- ---- one child more
+
+abbrev joined : Children → Children → Children
+joined no_children others = others
+joined (closed rest) others = closed (joined rest others)
+joined (image m rest) others = image m (joined rest others)
+joined (grown t rest) others = grown t (joined rest others)
+
+joined-count : (ts others : Children) → child_count (joined ts others) ≡ child_count ts + child_count others
+joined-count no_children others = omega arith
+joined-count (closed rest) others = omega (arith, joined-count rest others)
+joined-count (image m rest) others = omega (arith, joined-count rest others)
+joined-count (grown t rest) others = omega (arith, joined-count rest others)
+
+joined-marks : (ts others : Children) → marks (joined ts others) ≡ marks ts ++ marks others
+joined-marks no_children others = refl
+joined-marks (closed rest) others = ap (λ l. 46 ∷ l) (joined-marks rest others)
+joined-marks (image m rest) others = ap (λ l. 43 ∷ l) (joined-marks rest others)
+joined-marks (grown t rest) others = ap (λ l. 43 ∷ l) (joined-marks rest others)
+
+joined-text : (ts others : Children) → children_text (joined ts others) ≡ children_text ts ++ children_text others
+joined-text no_children others = refl
+joined-text (closed rest) others = joined-text rest others
+joined-text (image m rest) others = ap (λ l. image_text m ++ l) (joined-text rest others) ∙ sym (append_assoc (image_text m) (children_text rest) (children_text others))
+joined-text (grown t rest) others = ap (λ l. tree_text t ++ l) (joined-text rest others) ∙ sym (append_assoc (tree_text t) (children_text rest) (children_text others))
+
+joined-shapes : (ts others : Children) (y : Placement) (side : Side) (own c d : ℕ) → d ≡ c + child_count ts → AllHaveShape y side own c ts → AllHaveShape y side own d others → AllHaveShape y side own c (joined ts others)
+joined-shapes no_children others y side own c d at h k = let same : d ≡ c = omega (arith, at) in subst (λ (i : ℕ). AllHaveShape y side own i others) same k
+joined-shapes (closed rest) others y side own c d at h k = joined-shapes rest others y side own (c + 1) d (omega (arith, at)) h k
+joined-shapes (image m rest) others y side own c d at h k = (h.0, joined-shapes rest others y side own (c + 1) d (omega (arith, at)) h.1 k)
+joined-shapes (grown t rest) others y side own c d at h k = (h.0, joined-shapes rest others y side own (c + 1) d (omega (arith, at)) h.1 k)
+
+joined-valid : (ts others : Children) (I : Problem) (step : ℕ) (bound : ℤ) (y : Placement) (now : Under) (side : Side) (own c d : ℕ) → d ≡ c + child_count ts → AllValid I step bound y now side own c ts → AllValid I step bound y now side own d others → AllValid I step bound y now side own c (joined ts others)
+joined-valid no_children others I step bound y now side own c d at h k = let same : d ≡ c = omega (arith, at) in subst (λ (i : ℕ). AllValid I step bound y now side own i others) same k
+joined-valid (closed rest) others I step bound y now side own c d at h k = (h.0, joined-valid rest others I step bound y now side own (c + 1) d (omega (arith, at)) h.1 k)
+joined-valid (image m rest) others I step bound y now side own c d at h k = (h.0, joined-valid rest others I step bound y now side own (c + 1) d (omega (arith, at)) h.1 k)
+joined-valid (grown t rest) others I step bound y now side own c d at h k = (h.0, h.1, h.2, joined-valid rest others I step bound y now side own (c + 1) d (omega (arith, at)) h.3 k)
+
+pub WalksChildren-none : (I : Problem) (step : ℕ) (bound : ℤ) (y : Placement) (now : Under) (side : Side) (own : ℕ) (marked : List ℕ) (a : Option (List ℕ)) → WalksChildren I step bound y now side own 0 marked a a
+WalksChildren-none I step bound y now side own marked a = record {
+  text = [];
+  consumed = Consumes-nil a;
+  children = no_children;
+  counted = refl;
+  marks_are = refl;
+  is = refl;
+  shapes = tt;
+  valid = tt;
+}
+
+pub WalksChildren-more : (I : Problem) (step : ℕ) (bound : ℤ) (y : Placement) (now : Under) (side : Side) (own c mark : ℕ) (marked : List ℕ) (a b d : Option (List ℕ)) → c < length marked → get_or marked c 0 ≡ mark
+    → WalksChildren I step bound y now side own c marked a b → WalksChild I step bound y now side own c mark b d → WalksChildren I step bound y now side own (c + 1) marked a d
+WalksChildren-more I step bound y now side own c mark marked a b d inside is h k =
+    let at : c ≡ 0 + child_count h.children = omega (arith, h.counted) in
+    record {
+      text = h.text ++ k.text;
+      consumed = Consumes-trans a b d h.text k.text h.consumed k.consumed;
+      children = joined h.children k.children;
+      counted = omega (arith, joined-count h.children k.children, h.counted, k.counted);
+      marks_are = joined-marks h.children k.children ∙ ap₂ (λ x z. x ++ z) h.marks_are k.marks_are ∙ ap (λ z. take c marked ++ z ∷ []) (sym is) ∙ sym (take_more marked c 0 inside);
+      is = ap₂ (λ x z. x ++ z) h.is k.is ∙ sym (joined-text h.children k.children);
+      shapes = joined-shapes h.children k.children y side own 0 c at h.shapes k.shapes;
+      valid = joined-valid h.children k.children I step bound y now side own 0 c at h.valid k.valid;
+    }

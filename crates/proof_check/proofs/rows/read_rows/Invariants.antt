@@ -1,0 +1,5 @@
+use Rattle.proof_check.specs.Rows.{HasRows, lists_of}
+use Rattle.proof_check.proofs.rows.read_rows.Given as goal
+
+abbrev pub invariant-loop : goal.invariant-loop
+invariant-loop g l = HasRows l.width l.counter (lists_of l.rows.items) (g.R.Read.remaining l.fn.reader) (g.R.Read.remaining l.reader)

@@ -1,0 +1,48 @@
+-- What a text with pair duals shows of an instance's costs.
+use Rattle.std.specs.Prelude.{◌≡◌, ℕ, ◌<◌, ◌++◌, ◌∷◌, [], List, length, ℤ, pos, codes, ◌<ℤ◌, Option, IfSome}
+use Rattle.std.specs.Io.KnownBytes.{Consumes}
+use Rattle.qap_cost.specs.Bijection.{IsPerm}
+use Rattle.qap_cost.specs.Instance.{Problem}
+use Rattle.qap_cost.specs.Placement.{Placement}
+use Rattle.qap_cost.specs.Range.{IsLimited}
+use Rattle.qap_io.specs.Number.{from_one}
+use Rattle.qap_lines.specs.Bound.{IsBoundFor}
+use Rattle.qap_lines.specs.LineText.{line_text}
+use Rattle.qap_proof.specs.Claim.{IsRoot}
+use Rattle.qap_proof.specs.Text.{root_text, bound_text}
+use Rattle.qap_proof.specs.declared.acceptance.Verdict.{Verdict}
+use Rattle.qap_proof.specs.declared.acceptance.Verdict.TheVariants.{Optimal, Gap, Part}
+use Rattle.proof_tree.specs.Claim.{PairClaim, PairProves, IsPairProofText}
+
+-- the verdict of what a proof states: where its root is empty its cost, if that is its bound, and else both; and else its bound
+abbrev pub IsPairVerdictOf : PairClaim → Verdict → Type 0
+IsPairVerdictOf C (Optimal c) = (length C.root.facilities ≡ 0) × (C.bound ≡ C.cost) × (C.cost ≡ c)
+IsPairVerdictOf C (Gap g c) = (length C.root.facilities ≡ 0) × (C.bound ≡ g) × (C.cost ≡ c) × (g <ℤ c)
+IsPairVerdictOf C (Part g) = (0 < length C.root.facilities) × (C.bound ≡ g)
+
+-- the text is that of a proof which proves what the verdict says
+pub record ShowsPairVerdict (I : Problem) (text : List ℕ) (verdict : Verdict) : Type 0 where
+  pub proof : PairClaim
+  pub is_text : IsPairProofText text proof
+  pub proved : PairProves I proof
+  pub says : IsPairVerdictOf proof verdict
+
+-- the text, which is all that the reader had where that is known, is such a text
+pub record ReadsVerdict (I : Problem) (old : Option (List ℕ)) (verdict : Verdict) : Type 0 where
+  pub text : List ℕ
+  pub whole : IfSome old (λ xs. xs ≡ text)
+  pub shows : ShowsPairVerdict I text verdict
+
+-- the lines before the tree, which state a root, a cost, a bound and a permutation
+abbrev pub pair_head_text : Placement → ℤ → ℤ → List ℕ → List ℕ
+pair_head_text x c g p =
+    line_text (codes "qapproof") (pos 2 ∷ []) ++ line_text (codes "n") (pos (length p) ∷ []) ++ line_text (codes "cost") (c ∷ [])
+    ++ line_text (codes "perm") (from_one p) ++ root_text x.facilities x.places ++ bound_text c g
+
+-- they were read, and the line behind them
+pub record ReadsHead (x : Placement) (c g : ℤ) (p line : List ℕ) (old new : Option (List ℕ)) : Type 0 where
+  pub cost : IsLimited c
+  pub bound : IsBoundFor c g
+  pub permutation : IsPerm p
+  pub root : IsRoot (length p) x
+  pub consumed : Consumes old new (pair_head_text x c g p ++ line ++ 10 ∷ [])

@@ -1,0 +1,6 @@
+pub mod Acceptance
+pub mod Image
+pub mod Judge
+pub mod Lines
+pub mod Rows
+pub mod Walk

@@ -1,0 +1,19 @@
+-- What the lines of a tree say.
+use Rattle.std.specs.Prelude.{◌≡◌, ℕ, ◌++◌, ◌∷◌, [], List, length, codes}
+use Rattle.qap_lines.specs.LineText.{numbers_text}
+use Rattle.proof_tree.specs.Shape.{AreLimited}
+use Rattle.proof_tree.specs.Text.{split_text}
+use Rattle.proof_check.specs.declared.node_line.SplitLine.{SplitLine}
+use Rattle.proof_check.specs.declared.node_line.NodeLine.{NodeLine}
+use Rattle.proof_check.specs.declared.node_line.NodeLine.TheVariants.{Leaf, Split}
+
+-- the line of a split, where m facilities are free
+pub record IsSplitLine (m : ℕ) (line : List ℕ) (s : SplitLine) : Type 0 where
+  pub u : AreLimited m s.u.items
+  pub marks : length s.marks.items ≡ m
+  pub is : line ++ 10 ∷ [] ≡ split_text s.side s.number s.marks.items s.u.items
+
+-- the line of a leaf or a split
+abbrev pub IsNodeLine : ℕ → List ℕ → NodeLine → Type 0
+IsNodeLine m line (Leaf u) = AreLimited m u.items × (line ≡ codes "x" ++ numbers_text u.items)
+IsNodeLine m line (Split s) = IsSplitLine m line s

@@ -1,0 +1,75 @@
+-- What walking along the lines of a tree finds, where no tree is kept.
+use Rattle.std.specs.Prelude.{◌≡◌, ℕ, ◌++◌, ◌∷◌, [], List, length, take, ℤ, Bool, true, false, Option, None, Some}
+use Rattle.std.specs.Io.KnownBytes.{Consumes}
+use Rattle.qap_cost.specs.Instance.{Problem}
+use Rattle.qap_cost.specs.Placement.{Placement}
+use Rattle.qap_proof.specs.Cell.{IsPlaceOf, own_on}
+use Rattle.qap_proof.specs.declared.side.Side.{Side}
+use Rattle.proof_tree.specs.Image.{IsImage}
+use Rattle.proof_tree.specs.Shape.{IsImageOf, HasShape, AllHaveShape}
+use Rattle.proof_tree.specs.Text.{image_text, tree_text, children_text, marks}
+use Rattle.proof_tree.specs.Tree.{PairRows, Image, Tree, leaf, split, Children, child_count}
+use Rattle.proof_tree.specs.Valid.{Under, Valid, AllValid}
+
+-- whether pair duals come from above
+abbrev pub is_there : Option Under → Bool
+is_there None = false
+is_there (Some above) = true
+
+-- this line and what was read behind it are the text of a tree that is valid at y
+pub record WalksTree (I : Problem) (step : ℕ) (bound : ℤ) (y : Placement) (above : Option Under) (line : List ℕ) (old new : Option (List ℕ)) : Type 0 where
+  pub text : List ℕ
+  pub consumed : Consumes old new text
+  pub tree : Tree
+  pub is : line ++ 10 ∷ text ≡ tree_text tree
+  pub shape : HasShape y (is_there above) tree
+  pub valid : Valid I step bound y above tree
+
+-- the pair duals that the root of a tree has of its own
+abbrev pub own_of : Tree → Option PairRows
+own_of (leaf d) = d.own
+own_of (split d _ _ _) = d.own
+
+-- the same under what comes from above, without pair duals of its own
+pub record WalksLined (I : Problem) (step : ℕ) (bound : ℤ) (y : Placement) (now : Under) (line : List ℕ) (old new : Option (List ℕ)) : Type 0 where
+  pub walked : WalksTree I step bound y (Some now) line old new
+  pub bare : own_of walked.tree ≡ None
+
+-- what was read is the text of the first so many children, which have these marks, of a split of y
+pub record WalksChildren (I : Problem) (step : ℕ) (bound : ℤ) (y : Placement) (now : Under) (side : Side) (own count : ℕ) (marked : List ℕ) (old new : Option (List ℕ)) : Type 0 where
+  pub text : List ℕ
+  pub consumed : Consumes old new text
+  pub children : Children
+  pub counted : child_count children ≡ count
+  pub marks_are : marks children ≡ take count marked
+  pub is : text ≡ children_text children
+  pub shapes : AllHaveShape y side own 0 children
+  pub valid : AllValid I step bound y now side own 0 children
+
+-- what was read is the text of all children, which have these marks, of a split of y on this facility or location
+pub record WalksSplit (I : Problem) (step : ℕ) (bound : ℤ) (y : Placement) (now : Under) (side : Side) (number : ℕ) (marked : List ℕ) (old new : Option (List ℕ)) : Type 0 where
+  pub own : ℕ
+  pub place : IsPlaceOf (own_on side y) number own
+  pub walked : WalksChildren I step bound y now side own (length marked) marked old new
+
+-- what was read is the text of one child, of this number and with this mark
+pub record WalksChild (I : Problem) (step : ℕ) (bound : ℤ) (y : Placement) (now : Under) (side : Side) (own c mark : ℕ) (old new : Option (List ℕ)) : Type 0 where
+  pub text : List ℕ
+  pub consumed : Consumes old new text
+  pub children : Children
+  pub counted : child_count children ≡ 1
+  pub marks_are : marks children ≡ mark ∷ []
+  pub is : text ≡ children_text children
+  pub shapes : AllHaveShape y side own c children
+  pub valid : AllValid I step bound y now side own c children
+
+-- the line is that of an image of an earlier child, which child number c is
+pub record SaysImage (I : Problem) (y : Placement) (side : Side) (own c : ℕ) (line : List ℕ) : Type 0 where
+  pub moved : Image
+  pub is : line ++ 10 ∷ [] ≡ image_text moved
+  pub shape : IsImageOf y.size c moved
+  pub takes : IsImage I y side own c moved
+
+-- the line that was current, and what was read behind it, are a text and the line that is current now
+abbrev pub ReadsBehind : List ℕ → List ℕ → List ℕ → Option (List ℕ) → Option (List ℕ) → Type 0
+ReadsBehind before text line old new = (bytes : List ℕ) × Consumes old new bytes × (before ++ 10 ∷ bytes ≡ text ++ line ++ 10 ∷ [])

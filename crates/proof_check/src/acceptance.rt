@@ -1,0 +1,102 @@
+//! Judges texts of proofs with pair duals.
+
+ghost use Rattle.std.specs.Prelude.{◌≡◌, ◌^◌, ◌<◌, ◌≤◌, ℕ, List, length, codes, IfOk, OnOk};
+ghost use Rattle.qap_cost.specs.Objective.{cost_of};
+ghost use Rattle.qap_cost.specs.Range.{IsLimited};
+ghost use Rattle.qap_lines.specs.Bound.{IsBoundFor};
+ghost use Rattle.pair_duals.specs.CostStep.{step_of};
+ghost use Rattle.proof_tree.specs.Claim.{pair_claim};
+ghost use Rattle.proof_tree.specs.Tree.{Tree};
+ghost use Rattle.proof_check.specs.Acceptance.{IsPairVerdictOf, ReadsVerdict};
+ghost use Rattle.proof_check.specs.Judge.{IsGreatestBelow};
+
+use crate::cursor::{Cursor, advance, end};
+use crate::head::{Head, read_head};
+use crate::walking::{Judge, walk_root};
+use qap_cost::{Instance, Partial, Perm, cost};
+use qap_proof::{ProofError, Verdict};
+use std::alloc::Global;
+use std::io::BufRead;
+
+/// What a text shows of an instance's costs, where it is that of a proof with pair duals which proves its bound for it: all that the
+/// reader has. Of the tree no more is held than the forms of the nodes above the line that is read, and the pair duals in force there.
+///
+/// `step` is the instance's cost step. Otherwise the first fault that was found is told, by its line.
+pub fn accept<R: BufRead>(
+    alloc: Global,
+    instance: &Instance,
+    step: u64,
+    reader: &mut R,
+) -> Result<Verdict, ProofError>
+    requires step { step ≡ step_of instance.now }
+    ensures verdict { IfOk result (ReadsVerdict instance.now (R.remaining reader.old)) }
+{
+    let mut cursor = Cursor::new(alloc);
+    let head = read_head(alloc, reader, &mut cursor)?;
+    check_permutation(instance, &head.perm, head.cost)?;
+    let below = below(head.bound, step);
+    let judge = Judge {
+        alloc,
+        instance,
+        step,
+        bound: head.bound,
+        below,
+    };
+    walk_root(reader, &judge, &head.root, &mut cursor)?;
+    advance(reader, &mut cursor)?;
+    check_end(&cursor.line, cursor.number)?;
+    end(reader, &mut cursor)?;
+    let verdict = verdict_of(&head.root, head.bound, head.cost);
+    Ok(verdict)
+}
+
+/// The greatest multiple of the step that is below the bound.
+fn below(bound: i128, step: u64) -> i128
+    requires bound { IsLimited bound }
+    requires positive { 0 < step }
+    ensures { IsGreatestBelow step bound result }
+{
+    let step = i128::from(step);
+    let last = bound - 1;
+    last - last.rem_euclid(step)
+}
+
+/// Makes sure that the permutation is of the instance's size and has this cost.
+fn check_permutation(instance: &Instance, perm: &Perm, stated: i128) -> Result<(), ProofError>
+    ensures size { OnOk result (length perm.now ≡ instance.now.size) }
+    ensures cost { OnOk result (cost_of instance.now perm.now ≡ stated) }
+{
+    if perm.len() != instance.size() {
+        return Err(ProofError::SizeDiffers(2));
+    }
+    if cost(instance, perm) != stated {
+        return Err(ProofError::CostDiffers(3));
+    }
+    Ok(())
+}
+
+/// Makes sure that a line is the last one of a proof.
+fn check_end(line: &[u8], number: u64) -> Result<(), ProofError>
+    ensures { OnOk result (line.now ≡ codes "end") }
+{
+    if line == b"end".as_slice() {
+        Ok(())
+    } else {
+        Err(ProofError::BadLine(number))
+    }
+}
+
+/// What a proof of this root, this bound and this cost states.
+fn verdict_of(root: &Partial, bound: i128, cost: i128) -> Verdict
+    requires cost { IsLimited cost }
+    requires bound { IsBoundFor cost bound }
+    ensures { (p : List ℕ) (t : Tree) → IsPairVerdictOf (pair_claim root.now cost bound p t) result }
+{
+    if root.depth() > 0 {
+        Verdict::Part(bound)
+    } else if bound < cost {
+        Verdict::Gap(bound, cost)
+    } else {
+        Verdict::Optimal(cost)
+    }
+}

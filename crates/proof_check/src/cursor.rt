@@ -1,0 +1,79 @@
+//! The lines of a text, one after the other.
+
+ghost use Rattle.std.specs.Prelude.{◌≡◌, ◌++◌, ◌∷◌, [], OnOk};
+ghost use Rattle.std.specs.Io.KnownBytes.{Consumes, IsAtEnd};
+
+use qap_proof::ProofError;
+use std::alloc::Global;
+use std::io::{BufRead, Error, ErrorKind};
+
+/// The line that was read last, without the line feed that ends it, and its number, from 1.
+#[derive(Drop)]
+pub(crate) struct Cursor {
+    pub(crate) line: Vec<u8>,
+    pub(crate) number: u64,
+}
+
+impl Cursor {
+    /// Before the first line.
+    pub(crate) fn new(alloc: Global) -> Cursor {
+        Cursor {
+            line: Vec::new(alloc),
+            number: 0,
+        }
+    }
+}
+
+/// Reads the next line, in the memory that the last one had where that is enough.
+pub(crate) fn advance<R: BufRead>(reader: &mut R, cursor: &mut Cursor) -> Result<(), ProofError>
+    ensures { OnOk result (Consumes (R.remaining reader.old) (R.remaining reader.new) (cursor.new.line.items ++ 10 ∷ [])) }
+{
+    cursor.line.clear();
+    cursor.number = cursor.number.saturating_add(1);
+    let number = cursor.number;
+    read_line(reader, &mut cursor.line, number)
+}
+
+/// Reads a line into an empty list.
+fn read_line<R: BufRead>(reader: &mut R, line: &mut Vec<u8>, number: u64) -> Result<(), ProofError>
+    requires { line.old.items ≡ [] }
+    ensures { OnOk result (Consumes (R.remaining reader.old) (R.remaining reader.new) (line.new.items ++ 10 ∷ [])) }
+{
+    if let Err(error) = reader.read_until(b'\n', line) {
+        return Err(told(&error));
+    }
+    match line.pop() {
+        Some(b'\n') => Ok(()),
+        _ => Err(ProofError::Truncated(number)),
+    }
+}
+
+/// Makes sure that nothing follows the last line.
+pub(crate) fn end<R: BufRead>(reader: &mut R, cursor: &mut Cursor) -> Result<(), ProofError>
+    ensures { OnOk result (IsAtEnd (R.remaining reader.old)) }
+{
+    cursor.line.clear();
+    let number = cursor.number.saturating_add(1);
+    nothing(reader, &mut cursor.line, number)
+}
+
+/// The same, with an empty list for what follows.
+fn nothing<R: BufRead>(reader: &mut R, line: &mut Vec<u8>, number: u64) -> Result<(), ProofError>
+    requires { line.old.items ≡ [] }
+    ensures { OnOk result (IsAtEnd (R.remaining reader.old)) }
+{
+    match reader.read_until(b'\n', line) {
+        Ok(0) => Ok(()),
+        Ok(_) => Err(ProofError::TrailingText(number)),
+        Err(error) => Err(told(&error)),
+    }
+}
+
+/// What is told of a read that failed.
+fn told(error: &Error) -> ProofError {
+    if error.kind() == ErrorKind::OutOfMemory {
+        ProofError::OutOfMemory
+    } else {
+        ProofError::Device
+    }
+}

@@ -1,0 +1,405 @@
+//! Judges a tree as its lines come, and holds none of it: of each node above the line that is read its reduced form, and of those with
+//! pair duals of their own these.
+
+ghost use Rattle.std.specs.Prelude.{◌≡◌, ◌+◌, ◌^◌, ◌<◌, ◌≤◌, ℤ, pos, ◌*ℤ◌, Option, None, Some, IsTrue, List, length, false, IfOk, IfSome, OnOk, unsigned_abs};
+ghost use Rattle.qap_cost.specs.Instance.{Problem};
+ghost use Rattle.qap_cost.specs.Placement.{IsPlacement, Placement, free_facilities, free_locations};
+ghost use Rattle.qap_cost.specs.Range.{AllLimited};
+ghost use Rattle.pair_duals.specs.PairDuals.{AreDuals, Duals};
+ghost use Rattle.pair_duals.specs.Range.{IsInScale};
+ghost use Rattle.pair_duals.specs.Reduced.{IsFormOf, IsLine, count_of};
+ghost use Rattle.pair_duals.specs.Seats.{child_at};
+ghost use Rattle.qap_proof.specs.Cell.{IsPlaceOf};
+ghost use Rattle.proof_tree.specs.Tree.{column_of, row_of};
+ghost use Rattle.proof_tree.specs.Valid.{IsClosed, Under, under};
+ghost use Rattle.proof_check.specs.Judge.{ClosesByLeasts, IsGreatestBelow, IsParent, wide};
+ghost use Rattle.proof_check.specs.Walk.{WalksChild, WalksChildren, WalksLined, WalksSplit, WalksTree};
+
+use crate::cursor::{Cursor, advance};
+use crate::image_line::{SplitOf, judge_image};
+use crate::listed::listed;
+use crate::node_line::{NodeLine, SplitLine, read_node_line};
+use crate::rows::{read_rows, scale_of};
+use pair_duals::{PairDuals, Reduced};
+use qap_cost::{Instance, Partial};
+use qap_proof::{ProofError, Side};
+use std::alloc::{AllocError, Global};
+use std::io::BufRead;
+
+/// What a tree is judged by: the instance, its cost step, the bound, and the greatest multiple of the step that is below it.
+#[derive(Clone, Copy)]
+pub(crate) struct Judge<'a> {
+    pub(crate) alloc: Global,
+    pub(crate) instance: &'a Instance,
+    pub(crate) step: u64,
+    pub(crate) bound: i128,
+    pub(crate) below: i128,
+}
+
+/// A split whose children are walked along, with the pair duals in force and the form after its line, and the value that is to be
+/// exceeded; and the number of its line.
+#[derive(Clone, Copy)]
+pub(crate) struct Parent<'a> {
+    pub(crate) split: SplitOf<'a>,
+    pub(crate) duals: &'a PairDuals<i128>,
+    pub(crate) form: &'a Reduced<i128>,
+    pub(crate) threshold: i128,
+    pub(crate) line: u64,
+}
+
+/// Judges the tree of a root, whose first line is current.
+pub(crate) fn walk_root<R: BufRead>(
+    reader: &mut R,
+    judge: &Judge<'_>,
+    node: &Partial,
+    cursor: &mut Cursor,
+) -> Result<(), ProofError>
+    requires size { judge.now.instance.now.size ≡ node.now.size }
+    requires placement { IsPlacement node.now }
+    requires judge { IsGreatestBelow judge.now.step judge.now.bound judge.now.below }
+    ensures { OnOk result (WalksTree judge.now.instance.now judge.now.step judge.now.bound node.now None cursor.old.line.items (R.remaining reader.old) (R.remaining reader.new)) }
+{
+    if cursor.line.starts_with(b"p") {
+        walk_own(reader, judge, node, cursor)
+    } else {
+        Err(ProofError::BadLine(cursor.number))
+    }
+}
+
+/// Judges a tree below a node, whose first line is current.
+#[cycle(walking)]
+fn walk_below<R: BufRead>(
+    reader: &mut R,
+    judge: &Judge<'_>,
+    node: &Partial,
+    duals: &PairDuals<i128>,
+    form: &mut Reduced<i128>,
+    cursor: &mut Cursor,
+) -> Result<(), ProofError>
+    requires size { judge.now.instance.now.size ≡ node.now.size }
+    requires placement { IsPlacement node.now }
+    requires judge { IsGreatestBelow judge.now.step judge.now.bound judge.now.below }
+    requires duals_size { duals.now.size ≡ node.now.size }
+    requires in_scale { IsInScale wide judge.now.instance.now duals.now.scale }
+    requires form { IsFormOf judge.now.instance.now duals.now node.now form.old }
+    requires fresh { form.old.is_lined ≡ false }
+    ensures { OnOk result (WalksTree judge.now.instance.now judge.now.step judge.now.bound node.now (Some (under duals.now form.old)) cursor.old.line.items (R.remaining reader.old) (R.remaining reader.new)) }
+{
+    if cursor.line.starts_with(b"p") {
+        walk_own(reader, judge, node, cursor)
+    } else {
+        walk_lined(reader, judge, node, duals, form, cursor)
+    }
+}
+
+/// Judges a tree that begins with pair duals of its own.
+#[cycle(walking)]
+fn walk_own<R: BufRead>(
+    reader: &mut R,
+    judge: &Judge<'_>,
+    node: &Partial,
+    cursor: &mut Cursor,
+) -> Result<(), ProofError>
+    requires size { judge.now.instance.now.size ≡ node.now.size }
+    requires placement { IsPlacement node.now }
+    requires judge { IsGreatestBelow judge.now.step judge.now.bound judge.now.below }
+    ensures { (above : Option Under) → OnOk result (WalksTree judge.now.instance.now judge.now.step judge.now.bound node.now above cursor.old.line.items (R.remaining reader.old) (R.remaining reader.new)) }
+{
+    let number = cursor.number;
+    let Some(scale) = scale_of(&cursor.line) else {
+        return Err(ProofError::BadLine(number));
+    };
+    let m = node.size() - node.depth();
+    let rows = read_rows(judge.alloc, reader, cursor, m)?;
+    let Some(duals) = listed(judge.alloc, judge.instance, node, scale, &rows)? else {
+        return Err(ProofError::NotFeasible(number));
+    };
+    let mut form = Reduced::empty(judge.alloc);
+    form.start(judge.instance, node, &duals)?;
+    advance(reader, cursor)?;
+    walk_lined(reader, judge, node, &duals, &mut form, cursor)
+}
+
+/// Judges a tree by the pair duals in force at its root, and the form there.
+#[cycle(walking)]
+fn walk_lined<R: BufRead>(
+    reader: &mut R,
+    judge: &Judge<'_>,
+    node: &Partial,
+    duals: &PairDuals<i128>,
+    form: &mut Reduced<i128>,
+    cursor: &mut Cursor,
+) -> Result<(), ProofError>
+    requires size { judge.now.instance.now.size ≡ node.now.size }
+    requires placement { IsPlacement node.now }
+    requires judge { IsGreatestBelow judge.now.step judge.now.bound judge.now.below }
+    requires duals_size { duals.now.size ≡ node.now.size }
+    requires in_scale { IsInScale wide judge.now.instance.now duals.now.scale }
+    requires form { IsFormOf judge.now.instance.now duals.now node.now form.old }
+    requires fresh { form.old.is_lined ≡ false }
+    ensures { OnOk result (WalksLined judge.now.instance.now judge.now.step judge.now.bound node.now (under duals.now form.old) cursor.old.line.items (R.remaining reader.old) (R.remaining reader.new)) }
+{
+    let number = cursor.number;
+    let line = read_node_line(judge.alloc, &cursor.line, number, form.free(), node.size())?;
+    match line {
+        NodeLine::Leaf(u) => {
+            draw(judge.alloc, form, &u)?;
+            if form.closes(threshold(judge, duals)) {
+                Ok(())
+            } else {
+                Err(ProofError::BoundTooLow(number))
+            }
+        }
+        NodeLine::Split(split) => {
+            draw(judge.alloc, form, &split.u)?;
+            walk_split(reader, judge, node, duals, form, &split, cursor)
+        }
+    }
+}
+
+/// Judges the children of a split, whose line is current and has been drawn.
+#[cycle(walking)]
+fn walk_split<'a, R: BufRead>(
+    reader: &mut R,
+    judge: &Judge<'_>,
+    node: &'a Partial,
+    duals: &'a PairDuals<i128>,
+    form: &'a Reduced<i128>,
+    split: &SplitLine,
+    cursor: &mut Cursor,
+) -> Result<(), ProofError>
+    requires size { judge.now.instance.now.size ≡ node.now.size }
+    requires placement { IsPlacement node.now }
+    requires judge { IsGreatestBelow judge.now.step judge.now.bound judge.now.below }
+    requires duals_size { duals.now.size ≡ node.now.size }
+    requires in_scale { IsInScale wide judge.now.instance.now duals.now.scale }
+    requires form { IsFormOf judge.now.instance.now duals.now node.now form.now }
+    requires marks { length split.now.marks.items + length node.now.facilities ≡ node.now.size }
+    ensures { OnOk result (WalksSplit judge.now.instance.now judge.now.step judge.now.bound node.now (under duals.now form.now) split.now.side split.now.number split.now.marks.items (R.remaining reader.old) (R.remaining reader.new)) }
+{
+    let facilities = node.free_facilities()?;
+    let locations = node.free_locations()?;
+    let own = match split.side {
+        Side::Facility => place_of(&facilities, split.number),
+        Side::Location => place_of(&locations, split.number),
+    };
+    let Some(own) = own else {
+        return Err(taken(split.side, cursor.number));
+    };
+    let parent = Parent {
+        split: SplitOf {
+            node,
+            facilities: &facilities,
+            locations: &locations,
+            side: split.side,
+            own,
+        },
+        duals,
+        form,
+        threshold: threshold(judge, duals),
+        line: cursor.number,
+    };
+    walk_children(reader, judge, &parent, &split.marks, cursor)
+}
+
+/// Judges the children of a split, which have these marks.
+#[cycle(walking)]
+fn walk_children<R: BufRead>(
+    reader: &mut R,
+    judge: &Judge<'_>,
+    parent: &Parent<'_>,
+    marks: &[u8],
+    cursor: &mut Cursor,
+) -> Result<(), ProofError>
+    requires judge { IsGreatestBelow judge.now.step judge.now.bound judge.now.below }
+    requires parent { IsParent judge.now.instance.now judge.now.below parent.now.split.node.now (under parent.now.duals.now parent.now.form.now) parent.now.split.facilities.now parent.now.split.locations.now parent.now.split.side parent.now.split.own parent.now.threshold }
+    requires marks { length marks.now + length parent.now.split.node.now.facilities ≡ parent.now.split.node.now.size }
+    ensures { OnOk result (WalksChildren judge.now.instance.now judge.now.step judge.now.bound parent.now.split.node.now (under parent.now.duals.now parent.now.form.now) parent.now.split.side parent.now.split.own (length marks.now) marks.now (R.remaining reader.old) (R.remaining reader.new)) }
+{
+    let mut below = Reduced::empty(judge.alloc);
+    for child in 0..marks.len() {
+        walk_marked(
+            reader,
+            judge,
+            parent,
+            child,
+            marks[child],
+            &mut below,
+            cursor,
+        )?;
+    }
+    Ok(())
+}
+
+/// Judges a child, which has this mark.
+#[cycle(walking)]
+fn walk_marked<R: BufRead>(
+    reader: &mut R,
+    judge: &Judge<'_>,
+    parent: &Parent<'_>,
+    child: usize,
+    mark: u8,
+    below: &mut Reduced<i128>,
+    cursor: &mut Cursor,
+) -> Result<(), ProofError>
+    requires judge { IsGreatestBelow judge.now.step judge.now.bound judge.now.below }
+    requires parent { IsParent judge.now.instance.now judge.now.below parent.now.split.node.now (under parent.now.duals.now parent.now.form.now) parent.now.split.facilities.now parent.now.split.locations.now parent.now.split.side parent.now.split.own parent.now.threshold }
+    requires child { child + length parent.now.split.node.now.facilities < parent.now.split.node.now.size }
+    ensures { OnOk result (WalksChild judge.now.instance.now judge.now.step judge.now.bound parent.now.split.node.now (under parent.now.duals.now parent.now.form.now) parent.now.split.side parent.now.split.own child mark (R.remaining reader.old) (R.remaining reader.new)) }
+{
+    if mark == b'.' {
+        check_closed(judge, parent, child, below)?;
+        Ok(())
+    } else if mark == b'+' {
+        walk_child(reader, judge, parent, child, below, cursor)
+    } else {
+        Err(ProofError::BadLine(parent.line))
+    }
+}
+
+/// Judges a child that has a text.
+#[cycle(walking)]
+fn walk_child<R: BufRead>(
+    reader: &mut R,
+    judge: &Judge<'_>,
+    parent: &Parent<'_>,
+    child: usize,
+    below: &mut Reduced<i128>,
+    cursor: &mut Cursor,
+) -> Result<(), ProofError>
+    requires judge { IsGreatestBelow judge.now.step judge.now.bound judge.now.below }
+    requires parent { IsParent judge.now.instance.now judge.now.below parent.now.split.node.now (under parent.now.duals.now parent.now.form.now) parent.now.split.facilities.now parent.now.split.locations.now parent.now.split.side parent.now.split.own parent.now.threshold }
+    requires child { child + length parent.now.split.node.now.facilities < parent.now.split.node.now.size }
+    ensures { OnOk result (WalksChild judge.now.instance.now judge.now.step judge.now.bound parent.now.split.node.now (under parent.now.duals.now parent.now.form.now) parent.now.split.side parent.now.split.own child 43 (R.remaining reader.old) (R.remaining reader.new)) }
+{
+    advance(reader, cursor)?;
+    if cursor.line.starts_with(b"m") || cursor.line.starts_with(b"g") {
+        return judge_image(
+            judge.alloc,
+            judge.instance,
+            &parent.split,
+            child,
+            &cursor.line,
+            cursor.number,
+        );
+    }
+    let (h, g) = cell(&parent.split, child);
+    let node = child_node(&parent.split, h, g)?;
+    parent
+        .form
+        .child(judge.instance, parent.duals, h, g, below)?;
+    walk_below(reader, judge, &node, parent.duals, below, cursor)
+}
+
+/// Makes sure that a child reaches the bound without a text.
+fn check_closed(
+    judge: &Judge<'_>,
+    parent: &Parent<'_>,
+    child: usize,
+    below: &mut Reduced<i128>,
+) -> Result<(), ProofError>
+    requires judge { IsGreatestBelow judge.now.step judge.now.bound judge.now.below }
+    requires parent { IsParent judge.now.instance.now judge.now.below parent.now.split.node.now (under parent.now.duals.now parent.now.form.now) parent.now.split.facilities.now parent.now.split.locations.now parent.now.split.side parent.now.split.own parent.now.threshold }
+    requires child { child + length parent.now.split.node.now.facilities < parent.now.split.node.now.size }
+    ensures { OnOk result (IsClosed judge.now.instance.now judge.now.step judge.now.bound (under parent.now.duals.now parent.now.form.now) (row_of parent.now.split.side parent.now.split.own child) (column_of parent.now.split.side parent.now.split.own child)) }
+{
+    let (h, g) = cell(&parent.split, child);
+    if parent.form.prunes(h, g, parent.threshold) {
+        return Ok(());
+    }
+    parent
+        .form
+        .child(judge.instance, parent.duals, h, g, below)?;
+    if closes_trivially(judge.alloc, below, parent.threshold)? {
+        Ok(())
+    } else {
+        Err(ProofError::CutTooLow(parent.line))
+    }
+}
+
+/// Whether the least numbers of the rows, and then of the columns, close a node.
+fn closes_trivially(
+    alloc: Global,
+    form: &Reduced<i128>,
+    threshold: i128,
+) -> Result<bool, AllocError>
+    ensures { IfOk result (λ b. IsTrue b → ClosesByLeasts form.now threshold) }
+{
+    let mut u = zeros(alloc, form.free())?;
+    let mut v = zeros(alloc, form.free())?;
+    Ok(form.closes_trivially(threshold, &mut u, &mut v))
+}
+
+/// Draws a line.
+fn draw(alloc: Global, form: &mut Reduced<i128>, u: &[i128]) -> Result<(), AllocError>
+    requires first { form.old.is_lined ≡ false }
+    requires rows { length u.now ≡ count_of form.old }
+    requires range { AllLimited u.now }
+    ensures line { OnOk result ((v : List ℤ) × IsLine form.old form.new u.now v) }
+    ensures form { OnOk result ((I : Problem) (D : Duals) (y : Placement) → IsPlacement y → IsFormOf I D y form.old → IsFormOf I D y form.new) }
+{
+    let mut v = zeros(alloc, form.free())?;
+    form.line(u, &mut v);
+    Ok(())
+}
+
+fn zeros(alloc: Global, count: usize) -> Result<Vec<i128>, AllocError>
+    ensures { IfOk result (λ v. length v.items ≡ count) }
+{
+    let mut list = Vec::new(alloc);
+    list.resize(count, 0)?;
+    Ok(list)
+}
+
+/// The value that is to be exceeded under pair duals.
+fn threshold(judge: &Judge<'_>, duals: &PairDuals<i128>) -> i128
+    requires { unsigned_abs judge.now.below ≤ 10 ^ 30 }
+    ensures value { result ≡ pos duals.now.scale *ℤ judge.now.below }
+    ensures small { unsigned_abs result ≤ 10 ^ 37 }
+    ensures duals { AreDuals wide duals.now }
+{
+    i128::from(duals.scale()) * judge.below
+}
+
+/// The place of a number in a list.
+fn place_of(list: &[u16], number: u16) -> Option<usize>
+    ensures { IfSome result (IsPlaceOf list.now number) }
+{
+    for place in 0..list.len() {
+        if list[place] == number {
+            return Some(place);
+        }
+    }
+    None
+}
+
+/// What is told of a split on what is not free.
+fn taken(side: Side, number: u64) -> ProofError {
+    match side {
+        Side::Facility => ProofError::FacilityTaken(number),
+        Side::Location => ProofError::LocationTaken(number),
+    }
+}
+
+/// The row and the column of the pair that a child puts together.
+fn cell(split: &SplitOf<'_>, child: usize) -> (usize, usize)
+    ensures row { result.0 ≡ row_of split.now.side split.now.own child }
+    ensures column { result.1 ≡ column_of split.now.side split.now.own child }
+{
+    match split.side {
+        Side::Facility => (split.own, child),
+        Side::Location => (child, split.own),
+    }
+}
+
+/// The node of the child that puts row `h` at column `g`.
+fn child_node(split: &SplitOf<'_>, h: usize, g: usize) -> Result<Partial, AllocError>
+    requires placement { IsPlacement split.now.node.now }
+    requires facilities { split.now.facilities.now ≡ free_facilities split.now.node.now }
+    requires locations { split.now.locations.now ≡ free_locations split.now.node.now }
+    requires row { h < length split.now.facilities.now }
+    requires column { g < length split.now.locations.now }
+    ensures { IfOk result (λ y. y ≡ child_at split.now.node.now h g) }
+{
+    split.node.place(split.facilities[h], split.locations[g])
+}
