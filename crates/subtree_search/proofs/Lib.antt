@@ -1,0 +1,5 @@
+pub mod Closings
+pub mod Covers
+pub mod Nodes
+pub mod Progress
+pub mod Wholes

@@ -1,0 +1,6 @@
+pub mod Best
+pub mod Closed
+pub mod Lines
+pub mod Outcomes
+pub mod Path
+pub mod Premises

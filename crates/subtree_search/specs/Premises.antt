@@ -1,0 +1,27 @@
+-- What a search rests on.
+use Rattle.std.specs.Prelude.{◌≡◌, ℕ, ◌+◌, ◌^◌}
+use Rattle.qap_cost.specs.Instance.{Problem}
+use Rattle.qap_cost.specs.Placement.{Placement, IsPlacement}
+use Rattle.pair_duals.specs.Limits.{Limits}
+use Rattle.pair_duals.specs.PairDuals.{Duals, Fit}
+use Rattle.pair_duals.specs.Range.{IsInScale}
+use Rattle.pair_duals.specs.Reduced.{Form, IsFormOf}
+use Rattle.subtree_search.specs.Closed.{DividesCosts}
+
+-- the limits of numbers of 64 bits
+abbrev pub limits_of_64 : Limits
+limits_of_64 = record { size = 64; cost = 2 ^ 52; dual = 2 ^ 45; pair = 2 ^ 53 + 2 ^ 48; start = 2 ^ 59 + 2 ^ 53; reach = 2 ^ 61 + 2 ^ 57; sum = 2 ^ 62 + 2 ^ 61 }
+
+-- the pair duals fit, the numbers are in scale, and the step divides every cost
+pub record AreSound (I : Problem) (D : Duals) (step : ℕ) : Type 0 where
+  pub size : I.size ≡ D.size
+  pub in_scale : IsInScale limits_of_64 I D.scale
+  pub fit : Fit I D
+  pub divides : DividesCosts I step
+
+-- a node of the instance, and its form under the pair duals
+pub record IsNode (I : Problem) (D : Duals) (step : ℕ) (y : Placement) (R : Form) : Type 0 where
+  pub placement : IsPlacement y
+  pub size : I.size ≡ y.size
+  pub sound : AreSound I D step
+  pub form : IsFormOf I D y R

@@ -1,0 +1,19 @@
+//! Depth-first search of the whole subtree below a node, under pair duals of that node.
+#![tactic(auto)]
+
+mod incumbent;
+mod law;
+mod level;
+mod line;
+mod outcome;
+mod path;
+mod search;
+mod stop;
+mod subtree;
+mod threshold;
+
+pub use incumbent::Incumbent;
+pub use outcome::Outcome;
+pub use search::SubtreeSearch;
+pub use stop::{Never, Stop};
+pub use subtree::Subtree;

@@ -1,0 +1,135 @@
+//! A node with pair duals of its own, and single steps of a search below it.
+
+ghost use Rattle.std.specs.Prelude.{◌≡◌, ◌<◌, ◌≤ℤ◌, false, IfOk, IsTrue, OnOk};
+ghost use Rattle.pair_duals.specs.Reduced.{IsNonNegative, count_of};
+ghost use Rattle.pair_duals.specs.Seats.{child_at};
+ghost use Rattle.subtree_search.specs.Best.{IsIncumbent};
+ghost use Rattle.subtree_search.specs.Closed.{IsClosed, threshold_of};
+ghost use Rattle.subtree_search.specs.Premises.{IsNode};
+
+use crate::incumbent::Incumbent;
+use crate::level::Level;
+use crate::path::Path;
+use crate::threshold::threshold;
+use pair_duals::PairDuals;
+use qap_cost::{Instance, Partial};
+use std::alloc::AllocError;
+
+/// A node of an instance, with pair duals of its own, and a number that divides the cost of every permutation.
+#[derive(Drop)]
+pub struct Subtree<'a> {
+    pub instance: &'a Instance,
+    pub node: &'a Partial,
+    pub duals: &'a PairDuals<i64>,
+    pub step: u64,
+}
+
+impl Subtree<'_> {
+    /// The threshold above which a node's value closes it.
+    pub(crate) fn threshold(&self, incumbent: &Incumbent) -> i128
+        ensures { result ≡ threshold_of self.now.duals.now.scale self.now.step incumbent.now.cost }
+    {
+        threshold(self.duals.scale(), self.step, incumbent.cost())
+    }
+
+    /// Whether the node that the path leads to prunes the child that puts row `h` at column `g`.
+    pub(crate) fn prunes(
+        &self,
+        level: &Level,
+        path: &Path,
+        incumbent: &Incumbent,
+        h: usize,
+        g: usize,
+    ) -> bool
+        requires node { IsNode self.now.instance.now self.now.duals.now self.now.step path.now level.now.form }
+        requires least { IsNonNegative level.now.form }
+        requires incumbent { IsIncumbent self.now.instance.now incumbent.now }
+        requires row { h < count_of level.now.form }
+        requires column { g < count_of level.now.form }
+        ensures { IsTrue result → IsClosed self.now.instance.now (child_at path.now h g) incumbent.now.cost }
+    {
+        let prunes = level.form.prunes(h, g, self.threshold(incumbent));
+        prunes
+    }
+
+    /// Goes to that child, whose form is made in `next`.
+    pub(crate) fn descend(
+        &self,
+        level: &Level,
+        next: &mut Level,
+        path: &mut Path,
+        h: usize,
+        g: usize,
+    ) -> Result<(), AllocError>
+        requires node { IsNode self.now.instance.now self.now.duals.now self.now.step path.old level.now.form }
+        requires row { h < count_of level.now.form }
+        requires column { g < count_of level.now.form }
+        ensures path { OnOk result (path.new ≡ child_at path.old h g) }
+        ensures node { OnOk result (IsNode self.now.instance.now self.now.duals.now self.now.step path.new next.new.form) }
+        ensures first { OnOk result (next.new.form.is_lined ≡ false) }
+        ensures fewer { OnOk result (count_of next.new.form < count_of level.now.form) }
+    {
+        // Its clause says within which limits the duals are.
+        let _free = self.duals.free();
+        level
+            .form
+            .child(self.instance, self.duals, h, g, &mut next.form)?;
+        let facility = self.duals.facility(usize::from(level.form.rows()[h]));
+        let location = self.duals.location(usize::from(level.form.columns()[g]));
+        path.push(facility as u16, location as u16)?;
+        Ok(())
+    }
+
+    /// Whether the node that the path leads to is closed: by least entries, or once a line is drawn in its form, or since it is a
+    /// permutation, by which the incumbent is improved then.
+    pub(crate) fn closes(
+        &self,
+        level: &mut Level,
+        path: &Path,
+        incumbent: &mut Incumbent,
+    ) -> Result<bool, AllocError>
+        requires node { IsNode self.now.instance.now self.now.duals.now self.now.step path.now level.old.form }
+        requires first { level.old.form.is_lined ≡ false }
+        requires incumbent { IsIncumbent self.now.instance.now incumbent.old }
+        ensures closed { IfOk result (λ closes. IsTrue closes → IsClosed self.now.instance.now path.now incumbent.new.cost) }
+        ensures left { IfOk result (λ closes. closes ≡ false → 0 < count_of level.new.form) }
+        ensures least { IfOk result (λ closes. closes ≡ false → IsNonNegative level.new.form) }
+        ensures node { IfOk result (λ closes. closes ≡ false → IsNode self.now.instance.now self.now.duals.now self.now.step path.now level.new.form) }
+        ensures same { IfOk result (λ closes. closes ≡ false → count_of level.new.form ≡ count_of level.old.form) }
+        ensures incumbent { IsIncumbent self.now.instance.now incumbent.new }
+        ensures no_worse { incumbent.new.cost ≤ℤ incumbent.old.cost }
+    {
+        let threshold = self.threshold(incumbent);
+        if level.closes_trivially(threshold)? {
+            return Ok(true);
+        }
+        level.draw_line()?;
+        if level.closes(threshold) {
+            return Ok(true);
+        }
+        if level.form.free() > 0 {
+            return Ok(false);
+        }
+        self.finish(level, path, incumbent)?;
+        Ok(true)
+    }
+
+    /// Improves the incumbent by the permutation that a node with no free facility is, where that costs less.
+    fn finish(
+        &self,
+        level: &Level,
+        path: &Path,
+        incumbent: &mut Incumbent,
+    ) -> Result<(), AllocError>
+        requires node { IsNode self.now.instance.now self.now.duals.now self.now.step path.now level.now.form }
+        requires whole { count_of level.now.form ≡ 0 }
+        requires incumbent { IsIncumbent self.now.instance.now incumbent.old }
+        ensures closed { OnOk result (IsClosed self.now.instance.now path.now incumbent.new.cost) }
+        ensures incumbent { IsIncumbent self.now.instance.now incumbent.new }
+        ensures no_worse { incumbent.new.cost ≤ℤ incumbent.old.cost }
+    {
+        let candidate = path.completion()?;
+        incumbent.offer(self.instance, candidate);
+        Ok(())
+    }
+}
