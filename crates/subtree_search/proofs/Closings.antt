@@ -10,13 +10,14 @@ use Rattle.qap_cost.specs.Sum.{sum_to}
 use Rattle.qap_cost.proofs.Nodes.{parent_of}
 use Rattle.qap_cost.proofs.Placements.{IsPlacement-placing}
 use Rattle.qap_cost.proofs.Sums.{only_at, sum_to-monotone, sum_to-only_at, *ℤ-+ℤ}
+use Rattle.pair_duals.specs.CostStep.{DividesCosts}
 use Rattle.pair_duals.specs.PairDuals.{Duals, Fit}
 use Rattle.pair_duals.specs.Reduced.{Form, AreLeast, AreLeastOfRows, AreUnder, IsFormOf, IsNonNegative, at, count_of}
 use Rattle.pair_duals.specs.Seats.{child_at}
 use Rattle.pair_duals.proofs.Forms.{seats-le, value-le, row_duals-le}
 use Rattle.pair_duals.proofs.Seatings.{Seats-completed, SeatsFollow-child, facilities_of, locations_of, same_count}
 use Rattle.subtree_search.specs.Best.{Best, IsIncumbent}
-use Rattle.subtree_search.specs.Closed.{IsClosed, CostsMore, Exceeds, DividesCosts, threshold_of}
+use Rattle.subtree_search.specs.Closed.{IsClosed, CostsMore, Exceeds, threshold_of}
 
 -- by the value of a form with no entry below 0
 pub Exceeds-value : (R : Form) (t : ℤ) → IsNonNegative R → t <ℤ R.value → Exceeds R t

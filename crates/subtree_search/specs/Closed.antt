@@ -1,7 +1,7 @@
 -- Nodes that no better permutation completes.
-use Rattle.std.specs.Prelude.{◌≡◌, ℕ, List, ℤ, pos, ◌-ℤ◌, ◌*ℤ◌, ◌≤ℤ◌, ◌<ℤ◌}
+use Rattle.std.specs.Prelude.{ℕ, List, ℤ, pos, ◌-ℤ◌, ◌*ℤ◌, ◌≤ℤ◌, ◌<ℤ◌}
 use Rattle.qap_cost.specs.Instance.{Problem}
-use Rattle.qap_cost.specs.Objective.{Permutes, cost_of}
+use Rattle.qap_cost.specs.Objective.{cost_of}
 use Rattle.qap_cost.specs.Placement.{Placement, IsPlacement, Completes}
 use Rattle.pair_duals.specs.PairDuals.{Duals, Fit}
 use Rattle.pair_duals.specs.Reduced.{Form, IsFormOf}
@@ -17,10 +17,6 @@ pub record CostsMore (I : Problem) (D : Duals) (y : Placement) (threshold : ℤ)
 -- so does each one of any node whose form it is, where the pair duals fit
 pub record Exceeds (R : Form) (threshold : ℤ) : Type 0 where
   pub each : (I : Problem) (D : Duals) (y : Placement) → IsPlacement y → Fit I D → IsFormOf I D y R → CostsMore I D y threshold
-
--- the cost of every permutation is a multiple of the step
-pub record DividesCosts (I : Problem) (step : ℕ) : Type 0 where
-  pub each : (p : List ℕ) → Permutes I p → (k : ℤ) × (cost_of I p ≡ pos step *ℤ k)
 
 -- what a cost of at least c exceeds, scaled, where costs are multiples of the step
 abbrev pub threshold_of : ℕ → ℕ → ℤ → ℤ

@@ -2,11 +2,11 @@
 use Rattle.std.specs.Prelude.{◌≡◌, ℕ, ◌+◌, ◌^◌}
 use Rattle.qap_cost.specs.Instance.{Problem}
 use Rattle.qap_cost.specs.Placement.{Placement, IsPlacement}
+use Rattle.pair_duals.specs.CostStep.{DividesCosts}
 use Rattle.pair_duals.specs.Limits.{Limits}
 use Rattle.pair_duals.specs.PairDuals.{Duals, Fit}
 use Rattle.pair_duals.specs.Range.{IsInScale}
 use Rattle.pair_duals.specs.Reduced.{Form, IsFormOf}
-use Rattle.subtree_search.specs.Closed.{DividesCosts}
 
 -- the limits of numbers of 64 bits
 abbrev pub limits_of_64 : Limits
