@@ -1,6 +1,6 @@
 //! What a search keeps of a node on its way.
 
-ghost use Rattle.std.specs.Prelude.{◌≡◌, ◌^◌, ◌≤◌, ℕ, IfOk, IsTrue, OnOk, false, unsigned_abs};
+ghost use Rattle.std.specs.Prelude.{◌≡◌, ◌^◌, ◌≤◌, ℕ, IfOk, IsTrue, OnOk, false, length, unsigned_abs};
 ghost use Rattle.qap_cost.specs.Instance.{Problem};
 ghost use Rattle.qap_cost.specs.Placement.{Placement, IsPlacement};
 ghost use Rattle.pair_duals.specs.PairDuals.{Duals};
@@ -9,28 +9,50 @@ ghost use Rattle.subtree_search.specs.Closed.{Exceeds};
 ghost use Rattle.subtree_search.specs.Premises.{limits_of_64};
 ghost use Rattle.qap_cost.specs.Range.{AllWithin};
 
+use dual_ascent::{Assigner, Matching};
 use pair_duals::Reduced;
 use std::alloc::{AllocError, Global};
 
 /// How far from 0 a number of a line may lie: 2^45.
 const MOST: i64 = 35_184_372_088_832;
 
-/// The form of a node, and lists for its rows and columns.
+/// The form of a node, and what is found of its assignments.
 #[derive(Drop)]
 pub(crate) struct Level {
     pub form: Reduced<i64>,
     u: Vec<i64>,
     v: Vec<i64>,
+    entries: Vec<i64>,
+    matching: Matching,
+    assigner: Assigner,
 }
 
 impl Level {
-    /// With no rows. No memory is taken.
-    pub fn new(alloc: Global) -> Level {
-        Level {
+    /// With no rows, and lists for nodes with at most `n` free facilities.
+    pub fn with_size(alloc: Global, n: usize) -> Result<Level, AllocError> {
+        Ok(Level {
             form: Reduced::empty(alloc),
-            u: Vec::new(alloc),
-            v: Vec::new(alloc),
-        }
+            u: Vec::with_capacity(alloc, n)?,
+            v: Vec::with_capacity(alloc, n)?,
+            entries: Vec::new(alloc),
+            matching: Matching::with_size(alloc, n)?,
+            assigner: Assigner::with_size(alloc, n)?,
+        })
+    }
+
+    /// Forgets which rows and columns belong together.
+    pub fn part(&mut self)
+        ensures { self.new.form ≡ self.old.form }
+    {
+        self.matching.clear();
+    }
+
+    /// Takes which rows and columns belong together from the parent that puts row `h` at column `g`.
+    pub fn inherit(&mut self, parent: &Level, h: usize, g: usize)
+        ensures { self.new.form ≡ self.old.form }
+    {
+        let m = parent.form.free();
+        self.matching.copy_without(&parent.matching, m, h, g);
     }
 
     /// Whether the least numbers of rows and columns close the node.
@@ -56,8 +78,9 @@ impl Level {
         closes
     }
 
-    /// Draws a line by the least numbers of the rows.
-    pub fn draw_line(&mut self) -> Result<(), AllocError>
+    /// Draws a line by the duals of a least assignment, which are sought from those of the last trivial test, and no further than
+    /// it takes to exceed the threshold.
+    pub fn draw_line(&mut self, threshold: i128) -> Result<(), AllocError>
         requires { self.old.form.is_lined ≡ false }
         ensures count { OnOk result (count_of self.new.form ≡ count_of self.old.form) }
         ensures least { OnOk result (IsNonNegative self.new.form) }
@@ -66,9 +89,48 @@ impl Level {
         let m = self.form.free();
         self.u.resize(m, 0)?;
         self.v.resize(m, 0)?;
+        self.assign(threshold)?;
         limit(&mut self.u);
         self.form.line(&self.u, &mut self.v);
         Ok(())
+    }
+
+    /// Makes the numbers of rows and columns the duals of a least assignment.
+    fn assign(&mut self, threshold: i128) -> Result<(), AllocError>
+        ensures form { self.new.form ≡ self.old.form }
+        ensures rows { length self.new.u.items ≡ length self.old.u.items }
+        ensures columns { length self.new.v.items ≡ length self.old.v.items }
+    {
+        copy_entries(&self.form, &mut self.entries)?;
+        let enough = gap_to(&self.form, threshold);
+        let _ = self.assigner.solve_from(
+            &self.entries,
+            &mut self.matching,
+            &mut self.u,
+            &mut self.v,
+            enough,
+        );
+        Ok(())
+    }
+}
+
+/// Copies the entries of a form, by rows.
+fn copy_entries(form: &Reduced<i64>, entries: &mut Vec<i64>) -> Result<(), AllocError> {
+    entries.clear();
+    for r in 0..form.free() {
+        for c in 0..form.free() {
+            entries.push(form.entry(r, c))?;
+        }
+    }
+    Ok(())
+}
+
+/// How far the value of a form lies below the threshold.
+pub(crate) fn gap_to(form: &Reduced<i64>, threshold: i128) -> i64 {
+    let gap = threshold.saturating_sub(form.value());
+    match i64::try_from(gap) {
+        Ok(gap) => gap,
+        Err(_) => i64::MAX,
     }
 }
 

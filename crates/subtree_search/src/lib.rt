@@ -1,6 +1,7 @@
 //! Depth-first search of the whole subtree below a node, under pair duals of that node.
 #![tactic(auto)]
 
+mod ground;
 mod incumbent;
 mod law;
 mod level;
@@ -9,11 +10,9 @@ mod outcome;
 mod path;
 mod search;
 mod stop;
-mod subtree;
 mod threshold;
 
 pub use incumbent::Incumbent;
 pub use outcome::Outcome;
-pub use search::SubtreeSearch;
+pub use search::{Subtree, SubtreeSearch};
 pub use stop::{Never, Stop};
-pub use subtree::Subtree;

@@ -3,7 +3,7 @@ use Rattle.std.specs.Int.{w128}
 use Rattle.std.proofs.lemmas.Int.{ints}
 use Rattle.pair_duals.specs.Reduced.{Form, IsFormOf}
 use Rattle.subtree_search.proofs.Nodes.{IsClosed-exceeds, IsNode-same}
-use Rattle.subtree_search.proofs.subtree.Subtree.closes.Goals as goal
+use Rattle.subtree_search.proofs.ground.Ground.closes.Goals as goal
 
 pub returns-then-branch-clause-closed : goal.returns-then-branch-clause-closed
 returns-then-branch-clause-closed c = λ _.

@@ -1,7 +1,7 @@
 use Rattle.std.proofs.Common.{◌≡◌, List, ℕ, get_or, ◌∙◌, ap, arith}
 use Rattle.qap_cost.specs.Placement.{free_facilities, free_locations}
 use Rattle.subtree_search.proofs.Nodes.{IsNode-child, facility_free, facility_is, fewer_rows, location_free, location_is}
-use Rattle.subtree_search.proofs.subtree.Subtree.descend.Goals as goal
+use Rattle.subtree_search.proofs.ground.Ground.descend.Goals as goal
 
 facility : (c : goal.After-push-arg-1) → c.facility-facility.result ≡ get_or (free_facilities c.args.path.now) c.args.h 0
 facility c =

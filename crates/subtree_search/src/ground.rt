@@ -1,4 +1,4 @@
-//! A node with pair duals of its own, and single steps of a search below it.
+//! What a search stands on, and its single steps.
 
 ghost use Rattle.std.specs.Prelude.{◌≡◌, ◌<◌, ◌≤ℤ◌, false, IfOk, IsTrue, OnOk};
 ghost use Rattle.pair_duals.specs.Reduced.{IsNonNegative, count_of};
@@ -12,28 +12,27 @@ use crate::level::Level;
 use crate::path::Path;
 use crate::threshold::threshold;
 use pair_duals::PairDuals;
-use qap_cost::{Instance, Partial};
+use qap_cost::Instance;
 use std::alloc::AllocError;
 
-/// A node of an instance, with pair duals of its own, and a number that divides the cost of every permutation.
+/// An instance, pair duals of one of its nodes, and a number that divides the cost of every permutation.
 #[derive(Drop)]
-pub struct Subtree<'a> {
+pub(crate) struct Ground<'a> {
     pub instance: &'a Instance,
-    pub node: &'a Partial,
     pub duals: &'a PairDuals<i64>,
     pub step: u64,
 }
 
-impl Subtree<'_> {
+impl Ground<'_> {
     /// The threshold above which a node's value closes it.
-    pub(crate) fn threshold(&self, incumbent: &Incumbent) -> i128
+    pub fn threshold(&self, incumbent: &Incumbent) -> i128
         ensures { result ≡ threshold_of self.now.duals.now.scale self.now.step incumbent.now.cost }
     {
         threshold(self.duals.scale(), self.step, incumbent.cost())
     }
 
     /// Whether the node that the path leads to prunes the child that puts row `h` at column `g`.
-    pub(crate) fn prunes(
+    pub fn prunes(
         &self,
         level: &Level,
         path: &Path,
@@ -53,7 +52,7 @@ impl Subtree<'_> {
     }
 
     /// Goes to that child, whose form is made in `next`.
-    pub(crate) fn descend(
+    pub fn descend(
         &self,
         level: &Level,
         next: &mut Level,
@@ -82,7 +81,7 @@ impl Subtree<'_> {
 
     /// Whether the node that the path leads to is closed: by least entries, or once a line is drawn in its form, or since it is a
     /// permutation, by which the incumbent is improved then.
-    pub(crate) fn closes(
+    pub fn closes(
         &self,
         level: &mut Level,
         path: &Path,
@@ -103,7 +102,7 @@ impl Subtree<'_> {
         if level.closes_trivially(threshold)? {
             return Ok(true);
         }
-        level.draw_line()?;
+        level.draw_line(threshold)?;
         if level.closes(threshold) {
             return Ok(true);
         }

@@ -1,5 +1,5 @@
 use Rattle.subtree_search.proofs.Nodes.{IsClosed-whole, whole_from_form}
-use Rattle.subtree_search.proofs.subtree.Subtree.finish.Goals as goal
+use Rattle.subtree_search.proofs.ground.Ground.finish.Goals as goal
 
 pub completion-requires : goal.completion-requires
 completion-requires c = whole_from_form _ _ _ _ _ c.requires.node c.requires.whole

@@ -1,7 +1,7 @@
 use Rattle.std.proofs.Common.{arith}
 use Rattle.std.proofs.lemmas.Int.{ints}
 use Rattle.subtree_search.proofs.Nodes.{IsClosed-pruned}
-use Rattle.subtree_search.proofs.subtree.Subtree.prunes.Goals as goal
+use Rattle.subtree_search.proofs.ground.Ground.prunes.Goals as goal
 
 pub returns : goal.returns
 returns c = λ prunes.

@@ -1,0 +1,293 @@
+//! Searches against a listing of all completions.
+
+ghost use Rattle.std.specs.Prelude.{◌≡◌, true};
+
+use dual_ascent::{ascend, has_range};
+use itertools::Itertools;
+use pair_duals::{cost_step, is_in_scale};
+use qap_cost::{Instance, Partial, Perm, cost};
+use std::alloc::{AllocError, Global};
+use std::process::Abort;
+use std::test::Fail;
+use subtree_search::{Incumbent, Never, Outcome, Stop, Subtree, SubtreeSearch};
+
+/// Stops a search as soon as it asks.
+#[derive(Clone, Copy, Debug)]
+struct AtOnce;
+
+impl Stop for AtOnce {
+    ghost says = { λ _ b. b ≡ true };
+
+    fn is_requested(&self) -> bool {
+        true
+    }
+}
+
+/// The kinds of generated matrices.
+#[derive(Clone, Copy, Debug, PartialEq)]
+enum Kind {
+    /// Any entries from -9 to 9.
+    Signed,
+    /// The same, but symmetric, with no diagonal.
+    Symmetric,
+    /// From 0 to 2.
+    Small,
+    /// 0 everywhere.
+    Zero,
+}
+
+/// The next number of Knuth's linear congruential generator of 64 bits.
+fn next(state: &mut u64) -> u64 {
+    *state = state
+        .wrapping_mul(6364136223846793005)
+        .wrapping_add(1442695040888963407);
+    *state >> 33
+}
+
+/// An entry of a kind of matrix.
+fn entry(kind: Kind, i: usize, j: usize, state: &mut u64) -> i64 {
+    let number = next(state);
+    let signed = (number % 19) as i64 - 9;
+    match kind {
+        Kind::Signed => signed,
+        Kind::Symmetric => {
+            if i == j {
+                0
+            } else {
+                signed
+            }
+        }
+        Kind::Small => (number % 3) as i64,
+        Kind::Zero => 0,
+    }
+}
+
+/// The entries of such a matrix, by rows.
+fn matrix(alloc: Global, n: usize, kind: Kind, state: &mut u64) -> Result<Vec<i64>, AllocError> {
+    let mut entries: Vec<i64> = Vec::new(alloc);
+    for i in 0..n {
+        for j in 0..n {
+            let own = entry(kind, i, j, state);
+            let other = entries.get(j.wrapping_mul(n).wrapping_add(i)).copied();
+            let is_copied = kind == Kind::Symmetric && j < i;
+            entries.push(if is_copied { other.unwrap_or(own) } else { own })?;
+        }
+    }
+    Ok(entries)
+}
+
+/// The instance that this seed gives.
+fn instance(
+    alloc: Global,
+    n: usize,
+    a: Kind,
+    b: Kind,
+    seed: u64,
+) -> Result<Option<Instance>, AllocError> {
+    let mut state = seed;
+    let flows = matrix(alloc, n, a, &mut state)?;
+    let distances = matrix(alloc, n, b, &mut state)?;
+    Ok(Instance::new(n, flows, distances).ok())
+}
+
+/// Whether a permutation completes a node.
+fn completes(node: &Partial, permutation: &Perm) -> bool {
+    for (f, k) in node.facilities().iter().zip(node.places()) {
+        if permutation.locations().get(usize::from(*f)) != Some(k) {
+            return false;
+        }
+    }
+    true
+}
+
+/// Every permutation with its cost.
+fn listing(alloc: Global, instance: &Instance) -> Result<Vec<(Perm, i128)>, AllocError> {
+    let mut all = Vec::new(alloc);
+    for locations in (0..instance.size() as u16).permutations(alloc, instance.size())? {
+        if let Ok(found) = Perm::new(locations?)
+            && found.len() == instance.size()
+        {
+            let own = cost(instance, &found);
+            all.push((found, own))?;
+        }
+    }
+    Ok(all)
+}
+
+/// The least cost of a completion of the node.
+fn least_of(node: &Partial, all: &[(Perm, i128)]) -> Option<i128> {
+    let mut least = None;
+    for (permutation, own) in all {
+        if completes(node, permutation) {
+            least = match least {
+                Some(other) if other <= *own => Some(other),
+                _ => Some(*own),
+            };
+        }
+    }
+    least
+}
+
+/// The scale of the pair duals.
+const SCALE: u32 = 64;
+
+/// What a search found.
+#[derive(Clone, Copy, Debug, PartialEq)]
+struct Found {
+    outcome: Outcome,
+    cost: i128,
+    nodes: u64,
+}
+
+/// Searches below the node from a permutation, under the pair duals of so many rounds.
+fn search_below<S: Stop>(
+    rt: &impl Abort,
+    alloc: Global,
+    (instance, node): (&Instance, &Partial),
+    start: &Perm,
+    rounds: u32,
+    (limit, stop): (u64, &S),
+) -> Result<Found, Fail> {
+    assert_eq!(rt; instance.size(), node.size());
+    assert!(rt; has_range(instance, SCALE));
+    let duals = ascend(alloc, instance, node, None, rounds, SCALE)?;
+    assert!(rt; is_in_scale::<i64>(instance, duals.scale()));
+    let start = start.copy()?;
+    assert_eq!(rt; start.len(), instance.size());
+    let mut incumbent = Incumbent::new(instance, start);
+    let subtree = Subtree {
+        instance,
+        node,
+        duals: &duals,
+        step: cost_step(instance),
+    };
+    let mut search = SubtreeSearch::new(alloc);
+    let outcome = search.search(&subtree, &mut incumbent, limit, stop)?;
+    assert_eq!(rt; incumbent.permutation().len(), instance.size());
+    assert_eq!(rt; incumbent.cost(), cost(instance, incumbent.permutation()));
+    Ok(Found {
+        outcome,
+        cost: incumbent.cost(),
+        nodes: search.nodes(),
+    })
+}
+
+/// Asserts what a search without a limit finds from a permutation, and what searches with each lower limit do.
+fn assert_found(
+    rt: &impl Abort,
+    alloc: Global,
+    place: (&Instance, &Partial),
+    (start, own): (&Perm, i128),
+    least: i128,
+) -> Result<(), Fail> {
+    let whole = search_below(rt, alloc, place, start, 2, (u64::MAX, &Never))?;
+    assert_eq!(rt; (whole.outcome, whole.cost), (Outcome::Closed, own.min(least)));
+    for limit in [0, 1, whole.nodes.saturating_sub(1)] {
+        if limit < whole.nodes {
+            let part = search_below(rt, alloc, place, start, 2, (limit, &Never))?;
+            assert_eq!(rt; (part.outcome, part.nodes), (Outcome::LimitReached, limit));
+        }
+    }
+    let same = search_below(rt, alloc, place, start, 2, (whole.nodes, &Never))?;
+    assert_eq!(rt; same, whole);
+    Ok(())
+}
+
+/// Asserts it from the best permutation, from the worst, and from another.
+fn assert_searched(
+    rt: &impl Abort,
+    alloc: Global,
+    (instance, node): (&Instance, &Partial),
+    all: &[(Perm, i128)],
+) -> Result<(), Fail> {
+    let least = least_of(node, all).ok_or("no completion")?;
+    let mut picks = [0, 0, all.len() / 2];
+    for k in 0..all.len() {
+        if all[k].1 < all.get(picks[0]).ok_or("none")?.1 {
+            picks[0] = k;
+        }
+        if all[k].1 > all.get(picks[1]).ok_or("none")?.1 {
+            picks[1] = k;
+        }
+    }
+    for pick in picks {
+        let (start, own) = all.get(pick).ok_or("none")?;
+        assert_found(rt, alloc, (instance, node), (start, *own), least)?;
+    }
+    Ok(())
+}
+
+/// The node with one facility more.
+fn child(node: &Partial, f: u16, k: u16) -> Result<Option<Partial>, AllocError> {
+    if usize::from(f) < node.size() && !node.is_placed(f) && node.is_free(k) {
+        Ok(Some(node.place(f, k)?))
+    } else {
+        Ok(None)
+    }
+}
+
+/// Asserts it at the node and at each node with so many facilities more, each of them behind the last.
+fn assert_below(
+    rt: &impl Abort,
+    alloc: Global,
+    (instance, node): (&Instance, &Partial),
+    all: &[(Perm, i128)],
+    depth: u32,
+) -> Result<(), Fail> {
+    assert_searched(rt, alloc, (instance, node), all)?;
+    if depth == 0 {
+        return Ok(());
+    }
+    let last = node.facilities().last().map_or(0, |f| f + 1);
+    for f in last..node.size() as u16 {
+        for k in 0..node.size() as u16 {
+            if let Some(next) = child(node, f, k)? {
+                assert_below(rt, alloc, (instance, &next), all, depth - 1)?;
+            }
+        }
+    }
+    Ok(())
+}
+
+/// Sizes, kinds, seeds, and to which depth nodes are searched.
+static CASES: [(usize, Kind, Kind, u64, u32); 12] = [
+    (1, Kind::Signed, Kind::Signed, 1, 1),
+    (2, Kind::Signed, Kind::Signed, 2, 2),
+    (3, Kind::Signed, Kind::Signed, 3, 3),
+    (3, Kind::Zero, Kind::Signed, 4, 3),
+    (4, Kind::Signed, Kind::Signed, 5, 4),
+    (4, Kind::Small, Kind::Symmetric, 6, 2),
+    (4, Kind::Symmetric, Kind::Symmetric, 7, 2),
+    (5, Kind::Signed, Kind::Signed, 8, 1),
+    (5, Kind::Symmetric, Kind::Small, 9, 1),
+    (5, Kind::Small, Kind::Small, 10, 1),
+    (6, Kind::Signed, Kind::Symmetric, 11, 1),
+    (7, Kind::Symmetric, Kind::Symmetric, 12, 0),
+];
+
+#[test]
+fn searches_find_the_least(rt: HostRuntime) -> Result<(), Fail> {
+    let alloc = rt.alloc();
+    for (n, a, b, seed, depth) in CASES {
+        let instance = instance(alloc, n, a, b, seed)?.ok_or("instance")?;
+        let root = Partial::root(alloc, instance.size())?;
+        let all = listing(alloc, &instance)?;
+        assert_below(&rt, alloc, (&instance, &root), &all, depth)?;
+    }
+    Ok(())
+}
+
+#[test]
+fn a_stop_ends_a_search(rt: HostRuntime) -> Result<(), Fail> {
+    let alloc = rt.alloc();
+    let instance = instance(alloc, 9, Kind::Signed, Kind::Signed, 13)?.ok_or("instance")?;
+    let root = Partial::root(alloc, instance.size())?;
+    let start = Perm::new(Vec::from_slice(alloc, &[0, 1, 2, 3, 4, 5, 6, 7, 8])?);
+    let start = start.ok().ok_or("permutation")?;
+    let place = (&instance, &root);
+    let stopped = search_below(&rt, alloc, place, &start, 1, (u64::MAX, &AtOnce))?;
+    assert_eq!(rt; (stopped.outcome, stopped.nodes), (Outcome::Stopped, 1000));
+    let limited = search_below(&rt, alloc, place, &start, 1, (999, &AtOnce))?;
+    assert_eq!(rt; (limited.outcome, limited.nodes), (Outcome::LimitReached, 999));
+    Ok(())
+}
