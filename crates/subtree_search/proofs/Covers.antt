@@ -1,13 +1,15 @@
 -- The children on a line, one of which each completion completes.
-use Rattle.std.proofs.Common.{ℕ, ◌<◌, List, length, get_or, subst, arith}
-use Rattle.std.specs.Prelude.{ℤ}
+use Rattle.std.proofs.Common.{◌≡◌, ℕ, ◌<◌, List, length, get_or, subst, arith}
+use Rattle.std.specs.Prelude.{ℤ, ◌≤ℤ◌}
 use Rattle.qap_cost.specs.Instance.{Problem}
-use Rattle.qap_cost.specs.Placement.{Placement, IsPlacement, Completes, placing, free_facilities}
+use Rattle.qap_cost.specs.Placement.{Placement, IsPlacement, Completes, placing, free_facilities, free_locations}
 use Rattle.qap_cost.proofs.Bijections.{each_reached}
-use Rattle.qap_cost.proofs.Nodes.{child_of}
+use Rattle.qap_cost.proofs.Nodes.{child_of, child_is, parent_of}
 use Rattle.pair_duals.specs.Seats.{Seats, child_at}
-use Rattle.pair_duals.proofs.Seatings.{Seats-completed, facilities_of}
+use Rattle.pair_duals.proofs.Seatings.{Seats-completed, facilities_of, locations_of, same_count}
+use Rattle.qap_proof.proofs.Images.{HasFellow-by_locations, HasFellow-by_facilities}
 use Rattle.subtree_search.specs.Closed.{IsClosed}
+use Rattle.subtree_search.specs.Images.{IsImage, table_of}
 use Rattle.subtree_search.specs.Lines.{IsLineOf, child_on}
 use Rattle.subtree_search.specs.declared.line.Line.{Line}
 use Rattle.subtree_search.specs.declared.line.Line.TheVariants.{Row, Column}
@@ -36,4 +38,33 @@ IsClosed-cover I y c (Column g) is below each = record {
       let r : ℕ = found.0 in
       let inside : r < length (free_facilities y) = omega (arith, found.1, seated.1.count) in
       (each r inside).least p (subst (λ (k : ℕ). Completes (child_at y r k) p) found.2 (completes_at_seat y p seat r is done seated.1 inside));
+}
+
+-- ---- images
+
+-- where an earlier child is closed, so is the one that a permutation takes it to
+pub IsClosed-image : (I : Problem) (y : Placement) (line : Line) (k : ℕ) (c : ℤ) → IsPlacement y → I.size ≡ y.size → IsLineOf (length (free_facilities y)) line → k < length (free_facilities y) → IsImage I y (table_of line) k
+    → ((j : ℕ) → j < k → IsClosed I (child_on y line j) c) → IsClosed I (child_on y line k) c
+IsClosed-image I y (Row h) k c is size on below image closed = record {
+  least = λ p done.
+      let i = get_or (free_facilities y) h 0 in
+      let here = get_or (free_locations y) k 0 in
+      let there = get_or (free_locations y) image.earlier 0 in
+      let free = (facilities_of y is).each h on in
+      let at = (locations_of y is).each image.earlier (omega (arith, image.before, below, same_count y is)) in
+      let fellow = HasFellow-by_locations I y image.permutation p i there here is size image.takes (parent_of y i here p is done) free.within (child_is y i here p is done) at.within in
+      let next = (child_of y i fellow.other is free fellow.completes).1 in
+      let least = (closed image.earlier image.before).least fellow.other (subst (λ (l : ℕ). Completes (placing y i l) fellow.other) fellow.stands next) in
+      subst (λ z. c ≤ℤ z) fellow.cost least;
+}
+IsClosed-image I y (Column g) k c is size on below image closed = record {
+  least = λ p done.
+      let l = get_or (free_locations y) g 0 in
+      let here = get_or (free_facilities y) k 0 in
+      let there = get_or (free_facilities y) image.earlier 0 in
+      let free = (facilities_of y is).each image.earlier (omega (arith, image.before, below)) in
+      let fellow = HasFellow-by_facilities I y image.permutation p there here l is size image.takes (parent_of y here l p is done) (child_is y here l p is done) free.within in
+      let next = (child_of y there fellow.other is free fellow.completes).1 in
+      let least = (closed image.earlier image.before).least fellow.other (subst (λ (a : ℕ). Completes (placing y there a) fellow.other) fellow.stands next) in
+      subst (λ z. c ≤ℤ z) fellow.cost least;
 }

@@ -4,15 +4,23 @@ use Rattle.std.specs.Prelude.{ℤ, ◌+ℤ◌, ◌≤ℤ◌, ◌<ℤ◌}
 use Rattle.qap_cost.specs.Instance.{Problem}
 use Rattle.qap_cost.specs.Objective.{cost_of}
 use Rattle.qap_cost.specs.Placement.{Placement, IsPlacement, IsFreeFacility, IsFreeLocation, Completes, free_facilities, free_locations, placing}
+use Rattle.qap_cost.specs.Symmetry.{Keeps}
 use Rattle.qap_cost.proofs.Nodes.{whole_only}
 use Rattle.gilmore_lawler.proofs.Skips.{length-remove}
+use Rattle.qap_symmetry.specs.Table.{matrix_of}
+use Rattle.qap_symmetry.specs.declared.table.Table.{Table}
+use Rattle.qap_symmetry.specs.declared.table.Table.TheVariants.{Flows, Distances}
 use Rattle.pair_duals.specs.PairDuals.{Duals}
 use Rattle.pair_duals.specs.Reduced.{Form, IsChild, IsFormOf, IsNonNegative, at, count_of}
 use Rattle.pair_duals.specs.Seats.{child_at}
 use Rattle.pair_duals.proofs.Seatings.{facilities_of, locations_of, same_count}
 use Rattle.subtree_search.specs.Best.{Best, IsIncumbent}
 use Rattle.subtree_search.specs.Closed.{IsClosed, Exceeds, threshold_of}
+use Rattle.subtree_search.specs.Images.{IsImage, free_of, table_of, taken_of}
+use Rattle.subtree_search.specs.Lines.{IsLineOf, child_on}
 use Rattle.subtree_search.specs.Premises.{AreSound, IsNode}
+use Rattle.subtree_search.specs.declared.line.Line.{Line}
+use Rattle.subtree_search.proofs.Covers.{IsClosed-image}
 use Rattle.subtree_search.proofs.Closings.{CostsMore-pruned, IsClosed-step, IsPlacement-child}
 
 -- by a value above the threshold
@@ -74,3 +82,31 @@ IsNode-child I D step y x R S h g f k n hh hg facility location is form =
 pub IsNode-start : (I : Problem) (D : Duals) (step : ℕ) (y x : Placement) (R : Form) → x ≡ y → IsPlacement y → I.size ≡ y.size → AreSound I D step → IsFormOf I D y R → IsNode I D step x R
 IsNode-start I D step y x R is placement size sound form =
     subst (λ (z : Placement). IsNode I D step z R) (sym is) (record { placement = placement; size = size; sound = sound; form = form })
+
+-- ---- images
+
+pub IsClosed-child_image : (I : Problem) (D : Duals) (step : ℕ) (y : Placement) (R : Form) (line : Line) (k : ℕ) (c : ℤ) → IsNode I D step y R → IsLineOf (count_of R) line → k < count_of R → IsImage I y (table_of line) k
+    → ((j : ℕ) → j < k → IsClosed I (child_on y line j) c) → IsClosed I (child_on y line k) c
+IsClosed-child_image I D step y R line k c n on below image closed =
+    let count = n.form.numbers.row_count in
+    IsClosed-image I y line k c n.placement n.size (subst (λ (m : ℕ). IsLineOf m line) count on) (omega (arith, below, count)) image closed
+
+-- the permutation that takes an earlier free number to number k
+pub IsImage-taken : (I : Problem) (y : Placement) (table : Table) (m taken locations : List ℕ) (j k from to : ℕ) → I.size ≡ y.size → Keeps I.size (matrix_of table I) m → j < k → locations ≡ m → taken ≡ taken_of table y
+    → from ≡ get_or (free_of table y) j 0 → to ≡ get_or (free_of table y) k 0 → get_or locations from 0 ≡ to → ((t : ℕ) → t < length taken → get_or locations (get_or taken t 0) 0 ≡ get_or taken t 0) → IsImage I y table k
+IsImage-taken I y table m taken locations j k from to size keeps before is placed from_is to_is takes stays = record {
+  earlier = j;
+  before = before;
+  permutation = m;
+  takes = record {
+    keeps = subst (λ (n : ℕ). Keeps n (matrix_of table I) m) size keeps;
+    stays = subst (λ (l : List ℕ). (t : ℕ) → t < length (taken_of table y) → get_or l (get_or (taken_of table y) t 0) 0 ≡ get_or (taken_of table y) t 0) is
+        (subst (λ (l : List ℕ). (t : ℕ) → t < length l → get_or locations (get_or l t 0) 0 ≡ get_or l t 0) placed stays);
+    takes = ap (λ (i : ℕ). get_or m i 0) (sym from_is) ∙ ap (λ (l : List ℕ). get_or l from 0) (sym is) ∙ takes ∙ to_is;
+  };
+}
+
+-- what is placed is below the size
+pub taken-within : (y : Placement) (table : Table) → IsPlacement y → (t : ℕ) → t < length (taken_of table y) → get_or (taken_of table y) t 0 < y.size
+taken-within y Flows is t below = is.facilities.within t below
+taken-within y Distances is t below = is.places.within t below

@@ -1,5 +1,6 @@
 pub mod Best
 pub mod Closed
+pub mod Images
 pub mod Lines
 pub mod Outcomes
 pub mod Path

@@ -1,7 +1,8 @@
 -- What a search rests on.
-use Rattle.std.specs.Prelude.{◌≡◌, ℕ, ◌+◌, ◌^◌}
+use Rattle.std.specs.Prelude.{◌≡◌, ℕ, ◌+◌, ◌^◌, List, All}
 use Rattle.qap_cost.specs.Instance.{Problem}
 use Rattle.qap_cost.specs.Placement.{Placement, IsPlacement}
+use Rattle.qap_cost.specs.Symmetry.{Keeps}
 use Rattle.pair_duals.specs.CostStep.{DividesCosts}
 use Rattle.pair_duals.specs.Limits.{Limits}
 use Rattle.pair_duals.specs.PairDuals.{Duals, Fit}
@@ -25,3 +26,8 @@ pub record IsNode (I : Problem) (D : Duals) (step : ℕ) (y : Placement) (R : Fo
   pub size : I.size ≡ y.size
   pub sound : AreSound I D step
   pub form : IsFormOf I D y R
+
+-- permutations that keep the flows, and others that keep the distances
+pub record AreSymmetries (I : Problem) (flows distances : List (List ℕ)) : Type 0 where
+  pub keep_flows : All (Keeps I.size I.a) flows
+  pub keep_distances : All (Keeps I.size I.b) distances

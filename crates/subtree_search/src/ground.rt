@@ -1,18 +1,20 @@
 //! What a search stands on, and its single steps.
 
-ghost use Rattle.std.specs.Prelude.{◌≡◌, ◌<◌, ◌≤ℤ◌, false, IfOk, IsTrue, OnOk};
+ghost use Rattle.std.specs.Prelude.{◌≡◌, ◌<◌, ◌≤ℤ◌, ℕ, false, IfOk, IsTrue, OnOk};
 ghost use Rattle.pair_duals.specs.Reduced.{IsNonNegative, count_of};
 ghost use Rattle.pair_duals.specs.Seats.{child_at};
 ghost use Rattle.subtree_search.specs.Best.{IsIncumbent};
 ghost use Rattle.subtree_search.specs.Closed.{IsClosed, threshold_of};
-ghost use Rattle.subtree_search.specs.Premises.{IsNode};
+ghost use Rattle.subtree_search.specs.Lines.{IsLineOf, child_on};
+ghost use Rattle.subtree_search.specs.Premises.{AreSymmetries, IsNode};
 
 use crate::incumbent::Incumbent;
 use crate::level::Level;
+use crate::line::Line;
 use crate::path::Path;
 use crate::threshold::threshold;
 use pair_duals::PairDuals;
-use qap_cost::Instance;
+use qap_cost::{Instance, Perm};
 use std::alloc::AllocError;
 
 /// An instance, pair duals of one of its nodes, and a number that divides the cost of every permutation.
@@ -21,6 +23,10 @@ pub(crate) struct Ground<'a> {
     pub instance: &'a Instance,
     pub duals: &'a PairDuals<i64>,
     pub step: u64,
+    /// Permutations that keep the flows.
+    pub flows: &'a [Perm],
+    /// Permutations that keep the distances.
+    pub distances: &'a [Perm],
 }
 
 impl Ground<'_> {
@@ -29,6 +35,31 @@ impl Ground<'_> {
         ensures { result ≡ threshold_of self.now.duals.now.scale self.now.step incumbent.now.cost }
     {
         threshold(self.duals.scale(), self.step, incumbent.cost())
+    }
+
+    /// Whether the child of number `k` on a line needs no search: the node prunes it, or it is the image of an earlier one.
+    pub fn skips(
+        &self,
+        level: &Level,
+        path: &Path,
+        incumbent: &Incumbent,
+        line: Line,
+        k: usize,
+    ) -> bool
+        requires node { IsNode self.now.instance.now self.now.duals.now self.now.step path.now level.now.form }
+        requires least { IsNonNegative level.now.form }
+        requires incumbent { IsIncumbent self.now.instance.now incumbent.now }
+        requires line { IsLineOf (count_of level.now.form) line }
+        requires k_in { k < count_of level.now.form }
+        requires symmetries { AreSymmetries self.now.instance.now self.now.flows.now self.now.distances.now }
+        requires earlier { (j : ℕ) → j < k → IsClosed self.now.instance.now (child_on path.now line j) incumbent.now.cost }
+        ensures { IsTrue result → IsClosed self.now.instance.now (child_on path.now line k) incumbent.now.cost }
+    {
+        if self.prunes(level, path, incumbent, line.row(k), line.column(k)) {
+            return true;
+        }
+        let is_image = self.is_image(level, path, line.table(), k);
+        is_image
     }
 
     /// Whether the node that the path leads to prunes the child that puts row `h` at column `g`.
@@ -68,13 +99,15 @@ impl Ground<'_> {
         ensures first { OnOk result (next.new.form.is_lined ≡ false) }
         ensures fewer { OnOk result (count_of next.new.form < count_of level.now.form) }
     {
+        let facility = self.duals.facility(usize::from(level.form.rows()[h]));
+        let location = self.duals.location(usize::from(level.form.columns()[g]));
+        next.match_below(level, h, g);
+        next.keep_below(level, self.flows, self.distances, facility, location)?;
         // Its clause says within which limits the duals are.
         let _free = self.duals.free();
         level
             .form
             .child(self.instance, self.duals, h, g, &mut next.form)?;
-        let facility = self.duals.facility(usize::from(level.form.rows()[h]));
-        let location = self.duals.location(usize::from(level.form.columns()[g]));
         path.push(facility as u16, location as u16)?;
         Ok(())
     }

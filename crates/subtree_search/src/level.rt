@@ -11,6 +11,8 @@ ghost use Rattle.qap_cost.specs.Range.{AllWithin};
 
 use dual_ascent::{Assigner, Matching};
 use pair_duals::Reduced;
+use qap_cost::{Partial, Perm};
+use qap_symmetry::Table;
 use std::alloc::{AllocError, Global};
 
 /// How far from 0 a number of a line may lie: 2^45.
@@ -25,6 +27,8 @@ pub(crate) struct Level {
     entries: Vec<i64>,
     matching: Matching,
     assigner: Assigner,
+    kept_flows: Vec<u16>,
+    kept_distances: Vec<u16>,
 }
 
 impl Level {
@@ -37,22 +41,60 @@ impl Level {
             entries: Vec::new(alloc),
             matching: Matching::with_size(alloc, n)?,
             assigner: Assigner::with_size(alloc, n)?,
+            kept_flows: Vec::new(alloc),
+            kept_distances: Vec::new(alloc),
         })
     }
 
-    /// Forgets which rows and columns belong together.
-    pub fn part(&mut self)
+    /// Begins anew at a node: no row and column belong together, and the permutations are kept that leave alone what it places and
+    /// move something.
+    pub fn begin(
+        &mut self,
+        node: &Partial,
+        flows: &[Perm],
+        distances: &[Perm],
+    ) -> Result<(), AllocError>
         ensures { self.new.form ≡ self.old.form }
     {
         self.matching.clear();
+        keep(&mut self.kept_flows, flows, node.facilities())?;
+        keep(&mut self.kept_distances, distances, node.places())
     }
 
     /// Takes which rows and columns belong together from the parent that puts row `h` at column `g`.
-    pub fn inherit(&mut self, parent: &Level, h: usize, g: usize)
+    pub fn match_below(&mut self, parent: &Level, h: usize, g: usize)
         ensures { self.new.form ≡ self.old.form }
     {
         let m = parent.form.free();
         self.matching.copy_without(&parent.matching, m, h, g);
+    }
+
+    /// Keeps those permutations of the parent's that leave alone this facility or this location.
+    pub fn keep_below(
+        &mut self,
+        parent: &Level,
+        flows: &[Perm],
+        distances: &[Perm],
+        facility: usize,
+        location: usize,
+    ) -> Result<(), AllocError>
+        ensures { self.new.form ≡ self.old.form }
+    {
+        keep_some(&mut self.kept_flows, &parent.kept_flows, flows, facility)?;
+        keep_some(
+            &mut self.kept_distances,
+            &parent.kept_distances,
+            distances,
+            location,
+        )
+    }
+
+    /// The kept permutations of the facilities or of the locations, by number.
+    pub fn kept(&self, table: Table) -> &[u16] {
+        match table {
+            Table::Flows => &self.kept_flows,
+            Table::Distances => &self.kept_distances,
+        }
     }
 
     /// Whether the least numbers of rows and columns close the node.
@@ -112,6 +154,59 @@ impl Level {
         );
         Ok(())
     }
+}
+
+/// Makes the list the numbers of the permutations that leave alone what is taken, and move something.
+fn keep(list: &mut Vec<u16>, permutations: &[Perm], taken: &[u16]) -> Result<(), AllocError> {
+    list.clear();
+    for (index, permutation) in permutations.iter().enumerate() {
+        if let Ok(number) = u16::try_from(index)
+            && moves(permutation.locations())
+            && leaves_alone(permutation.locations(), taken)
+        {
+            list.push(number)?;
+        }
+    }
+    Ok(())
+}
+
+/// Whether a permutation moves something.
+fn moves(locations: &[u16]) -> bool {
+    for (i, location) in locations.iter().enumerate() {
+        if usize::from(*location) != i {
+            return true;
+        }
+    }
+    false
+}
+
+/// Whether a permutation leaves each of these alone.
+fn leaves_alone(locations: &[u16], taken: &[u16]) -> bool {
+    for number in taken {
+        if locations.get(usize::from(*number)) != Some(number) {
+            return false;
+        }
+    }
+    true
+}
+
+/// Makes the list the numbers among the parent's of the permutations that leave this one alone.
+fn keep_some(
+    list: &mut Vec<u16>,
+    parent: &[u16],
+    permutations: &[Perm],
+    number: usize,
+) -> Result<(), AllocError> {
+    list.clear();
+    for index in parent {
+        if let Some(permutation) = permutations.get(usize::from(*index))
+            && let Some(location) = permutation.locations().get(number)
+            && usize::from(*location) == number
+        {
+            list.push(*index)?;
+        }
+    }
+    Ok(())
 }
 
 /// Copies the entries of a form, by rows.

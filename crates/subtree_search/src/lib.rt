@@ -2,6 +2,7 @@
 #![tactic(auto)]
 
 mod ground;
+mod images;
 mod incumbent;
 mod law;
 mod level;

@@ -3,9 +3,11 @@
 ghost use Rattle.std.specs.Prelude.{◌≡◌, ◌<◌, ℕ, IfOk, OnErr, OnOk, length, slice_index};
 ghost use Rattle.qap_cost.specs.Bijection.{IsPerm};
 ghost use Rattle.qap_cost.specs.Placement.{Completes, Placement, IsFreeFacility, IsFreeLocation, IsPlacement, placing, root_of};
+ghost use Rattle.subtree_search.specs.Images.{taken_of};
 ghost use Rattle.subtree_search.specs.Path.{before_last};
 
 use qap_cost::{Partial, Perm};
+use qap_symmetry::Table;
 use std::alloc::{AllocError, Global};
 use std::marker::Model;
 use std::mem::replace;
@@ -35,6 +37,17 @@ impl Path {
             size: 1,
             facilities: Vec::new(alloc),
             places: Vec::new(alloc),
+        }
+    }
+
+    /// The facilities or the locations that are taken.
+    pub fn taken(&self, table: Table) -> &[u16]
+        ensures value { result.now ≡ taken_of table self.now }
+        ensures placement { IsPlacement self.now }
+    {
+        match table {
+            Table::Flows => &self.facilities,
+            Table::Distances => &self.places,
         }
     }
 

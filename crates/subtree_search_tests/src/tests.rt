@@ -6,6 +6,7 @@ use dual_ascent::{ascend, has_range};
 use itertools::Itertools;
 use pair_duals::{cost_step, is_in_scale};
 use qap_cost::{Instance, Partial, Perm, cost};
+use qap_symmetry::{Table, symmetries_of};
 use std::alloc::{AllocError, Global};
 use std::process::Abort;
 use std::test::Fail;
@@ -50,13 +51,7 @@ fn entry(kind: Kind, i: usize, j: usize, state: &mut u64) -> i64 {
     let signed = (number % 19) as i64 - 9;
     match kind {
         Kind::Signed => signed,
-        Kind::Symmetric => {
-            if i == j {
-                0
-            } else {
-                signed
-            }
-        }
+        Kind::Symmetric => { if i == j { 0 } else { signed } }
         Kind::Small => (number % 3) as i64,
         Kind::Zero => 0,
     }
@@ -155,11 +150,15 @@ fn search_below<S: Stop>(
     let start = start.copy()?;
     assert_eq!(rt; start.len(), instance.size());
     let mut incumbent = Incumbent::new(instance, start);
+    let flows = symmetries_of(alloc, instance, Table::Flows)?;
+    let distances = symmetries_of(alloc, instance, Table::Distances)?;
     let subtree = Subtree {
         instance,
         node,
         duals: &duals,
         step: cost_step(instance),
+        flows: &flows.permutations,
+        distances: &distances.permutations,
     };
     let mut search = SubtreeSearch::new(alloc);
     let outcome = search.search(&subtree, &mut incumbent, limit, stop)?;
@@ -181,7 +180,10 @@ fn assert_found(
     least: i128,
 ) -> Result<(), Fail> {
     let whole = search_below(rt, alloc, place, start, 2, (u64::MAX, &Never))?;
-    assert_eq!(rt; (whole.outcome, whole.cost), (Outcome::Closed, own.min(least)));
+    assert_eq!(rt;
+        (whole.outcome, whole.cost),
+        (Outcome::Closed, own.min(least))
+    );
     for limit in [0, 1, whole.nodes.saturating_sub(1)] {
         if limit < whole.nodes {
             let part = search_below(rt, alloc, place, start, 2, (limit, &Never))?;
@@ -288,6 +290,9 @@ fn a_stop_ends_a_search(rt: HostRuntime) -> Result<(), Fail> {
     let stopped = search_below(&rt, alloc, place, &start, 1, (u64::MAX, &AtOnce))?;
     assert_eq!(rt; (stopped.outcome, stopped.nodes), (Outcome::Stopped, 1000));
     let limited = search_below(&rt, alloc, place, &start, 1, (999, &AtOnce))?;
-    assert_eq!(rt; (limited.outcome, limited.nodes), (Outcome::LimitReached, 999));
+    assert_eq!(rt;
+        (limited.outcome, limited.nodes),
+        (Outcome::LimitReached, 999)
+    );
     Ok(())
 }
