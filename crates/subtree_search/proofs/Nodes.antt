@@ -1,6 +1,6 @@
 -- The nodes of a search: when they are closed, and their children.
 use Rattle.std.proofs.Common.{◌≡◌, ℕ, ◌+◌, ◌<◌, List, length, get_or, sym, ◌∙◌, ap, ap₂, subst, arith}
-use Rattle.std.specs.Prelude.{ℤ, ◌+ℤ◌, ◌≤ℤ◌, ◌<ℤ◌}
+use Rattle.std.specs.Prelude.{ℤ, ◌+ℤ◌, ◌≤ℤ◌, ◌<ℤ◌, pos, ◌*ℤ◌}
 use Rattle.qap_cost.specs.Instance.{Problem}
 use Rattle.qap_cost.specs.Objective.{cost_of}
 use Rattle.qap_cost.specs.Placement.{Placement, IsPlacement, IsFreeFacility, IsFreeLocation, Completes, free_facilities, free_locations, placing}
@@ -13,13 +13,16 @@ use Rattle.qap_symmetry.specs.declared.table.Table.TheVariants.{Flows, Distances
 use Rattle.pair_duals.specs.PairDuals.{Duals}
 use Rattle.pair_duals.specs.Reduced.{Form, IsChild, IsFormOf, IsNonNegative, at, count_of}
 use Rattle.pair_duals.specs.Seats.{child_at}
+use Rattle.pair_duals.proofs.Forms.{value-le}
 use Rattle.pair_duals.proofs.Seatings.{facilities_of, locations_of, same_count}
 use Rattle.subtree_search.specs.Best.{Best, IsIncumbent}
 use Rattle.subtree_search.specs.Closed.{IsClosed, Exceeds, threshold_of}
 use Rattle.subtree_search.specs.Images.{IsImage, free_of, table_of, taken_of}
+use Rattle.subtree_search.specs.Opens.{IsOpenAt}
 use Rattle.subtree_search.specs.Lines.{IsLineOf, child_on}
 use Rattle.subtree_search.specs.Premises.{AreSound, IsNode}
 use Rattle.subtree_search.specs.declared.line.Line.{Line}
+use Rattle.subtree_search.specs.declared.split.OpenChild.{OpenChild}
 use Rattle.subtree_search.proofs.Covers.{IsClosed-image}
 use Rattle.subtree_search.proofs.Closings.{CostsMore-pruned, IsClosed-step, IsPlacement-child}
 
@@ -110,3 +113,20 @@ IsImage-taken I y table m taken locations j k from to size keeps before is place
 pub taken-within : (y : Placement) (table : Table) → IsPlacement y → (t : ℕ) → t < length (taken_of table y) → get_or (taken_of table y) t 0 < y.size
 taken-within y Flows is t below = is.facilities.within t below
 taken-within y Distances is t below = is.places.within t below
+
+-- ---- open children
+
+pub IsOpenAt-child : (I : Problem) (D : Duals) (step : ℕ) (y : Placement) (R S : Form) (h g : ℕ) (child : OpenChild) → IsNode I D step y R → h < count_of R → g < count_of R → child.facility ≡ get_or (free_facilities y) h 0 → child.location ≡ get_or (free_locations y) g 0 → child.value ≡ S.value
+    → IsNode I D step (child_at y h g) S → IsNonNegative S → IsOpenAt I D.scale y (child_at y h g) child
+IsOpenAt-child I D step y R S h g child n hh hg facility location value next least =
+    let is : placing y child.facility child.location ≡ child_at y h g = ap₂ (placing y) facility location in
+    record {
+      is = is;
+      opened = record {
+        facility = facility_free I D step y R h child.facility n hh facility;
+        location = location_free I D step y R g child.location n hg location;
+        least = λ p done.
+            let below = value-le I D (child_at y h g) S p next.placement next.sound.fit next.form least (subst (λ (x : Placement). Completes x p) is done) in
+            subst (λ (z : ℤ). z ≤ℤ (pos D.scale *ℤ cost_of I p)) (sym value) below;
+      };
+    }

@@ -1,10 +1,12 @@
 -- How a search goes on.
-use Rattle.std.proofs.Common.{◌≡◌, ◌≢◌, ℕ, ◌+◌, ◌<◌, ◌≤◌, refl, ◌∙◌, ap, ap₂, subst, arith, inl, inr}
+use Rattle.std.proofs.Common.{◌≡◌, ◌≢◌, ℕ, ◌+◌, ◌<◌, ◌≤◌, refl, ◌∙◌, ap, ap₂, subst, arith, inl, inr, List, [], ◌∷◌, ◌++◌, ◌-◌, length, take, get_or}
 use Rattle.std.specs.Prelude.{Bool, ℤ, ◌≤ℤ◌}
 use Rattle.std.proofs.lemmas.Int.{ints}
+use Rattle.std.proofs.Math.Seq.{take-append_seam}
 use Rattle.std.proofs.lemmas.Bool.{cases_lt}
+use Rattle.std.proofs.lemmas.List.{length_push}
 use Rattle.qap_cost.specs.Instance.{Problem}
-use Rattle.qap_cost.specs.Placement.{Placement}
+use Rattle.qap_cost.specs.Placement.{Placement, free_facilities, free_locations}
 use Rattle.pair_duals.specs.PairDuals.{Duals}
 use Rattle.pair_duals.specs.Reduced.{Form, count_of}
 use Rattle.pair_duals.specs.Seats.{child_at}
@@ -12,6 +14,7 @@ use Rattle.subtree_search.specs.Best.{Best}
 use Rattle.subtree_search.specs.Closed.{IsClosed}
 use Rattle.subtree_search.specs.Lines.{IsLineOf, child_on, row_on, column_on}
 use Rattle.subtree_search.specs.Outcomes.{Advances, Holds}
+use Rattle.subtree_search.specs.Path.{before_last}
 use Rattle.subtree_search.specs.Premises.{IsNode}
 use Rattle.subtree_search.specs.declared.line.Line.{Line}
 use Rattle.subtree_search.specs.declared.line.Line.TheVariants.{Row, Column}
@@ -61,3 +64,18 @@ pub closed_here : (I : Problem) (x y : Placement) (line : Line) (r c k limit : �
 closed_here I x y line r c k limit says b nodes o same row column is h =
     let closed : IsClosed I (child_at x r c) b.cost = subst (λ (p : Outcome). Holds I (child_at x r c) limit says b nodes p) is h in
     subst (λ (z : Placement). IsClosed I z b.cost) (ap (λ (z : Placement). child_at z r c) same ∙ ap₂ (child_at y) row column) closed
+
+-- ---- back to the parent
+
+front : (xs : List ℕ) (x : ℕ) → take (length (xs ++ x ∷ []) - 1) (xs ++ x ∷ []) ≡ xs
+front xs x =
+    let count : length (xs ++ x ∷ []) - 1 ≡ length xs = omega (arith, length_push xs x) in
+    ap (λ (k : ℕ). take k (xs ++ x ∷ [])) count ∙ take-append_seam xs (x ∷ [])
+
+pub before_last-child : (y : Placement) (h g : ℕ) → before_last (child_at y h g) ≡ y
+before_last-child y h g =
+    ap₂ (λ (F G : List ℕ). record { size = y.size; facilities = F; places = G }) (front y.facilities (get_or (free_facilities y) h 0)) (front y.places (get_or (free_locations y) g 0))
+
+-- the path after a child is searched, and left again
+pub back_at : (y above below after : Placement) (h g : ℕ) → below ≡ above → above ≡ child_at y h g → after ≡ before_last below → after ≡ y
+back_at y above below after h g same at popped = popped ∙ ap before_last (same ∙ at) ∙ before_last-child y h g

@@ -1,20 +1,23 @@
 //! What a search stands on, and its single steps.
 
-ghost use Rattle.std.specs.Prelude.{◌≡◌, ◌<◌, ◌≤ℤ◌, ℕ, false, IfOk, IsTrue, OnOk};
+ghost use Rattle.std.specs.Prelude.{◌≡◌, ◌<◌, ◌≤ℤ◌, ℕ, false, IfOk, IsTrue, OnOk, length};
+ghost use Rattle.pair_duals.specs.PairDuals.{AreOf};
 ghost use Rattle.pair_duals.specs.Reduced.{IsNonNegative, count_of};
 ghost use Rattle.pair_duals.specs.Seats.{child_at};
 ghost use Rattle.subtree_search.specs.Best.{IsIncumbent};
 ghost use Rattle.subtree_search.specs.Closed.{IsClosed, threshold_of};
+ghost use Rattle.subtree_search.specs.Opens.{IsOpenAt};
 ghost use Rattle.subtree_search.specs.Lines.{IsLineOf, child_on};
-ghost use Rattle.subtree_search.specs.Premises.{AreSymmetries, IsNode};
+ghost use Rattle.subtree_search.specs.Premises.{AreSound, AreSymmetries, IsNode};
 
 use crate::incumbent::Incumbent;
 use crate::level::Level;
 use crate::line::Line;
 use crate::path::Path;
+use crate::split::OpenChild;
 use crate::threshold::threshold;
 use pair_duals::PairDuals;
-use qap_cost::{Instance, Perm};
+use qap_cost::{Instance, Partial, Perm};
 use std::alloc::AllocError;
 
 /// An instance, pair duals of one of its nodes, and a number that divides the cost of every permutation.
@@ -35,6 +38,54 @@ impl Ground<'_> {
         ensures { result ≡ threshold_of self.now.duals.now.scale self.now.step incumbent.now.cost }
     {
         threshold(self.duals.scale(), self.step, incumbent.cost())
+    }
+
+    /// Goes to the node that the pair duals belong to, whose form is made in the level.
+    pub fn begin(
+        &self,
+        node: &Partial,
+        level: &mut Level,
+        path: &mut Path,
+    ) -> Result<(), AllocError>
+        requires size { self.now.instance.now.size ≡ node.now.size }
+        requires duals { AreOf node.now self.now.duals.now }
+        requires sound { AreSound self.now.instance.now self.now.duals.now self.now.step }
+        ensures path { OnOk result (path.new ≡ node.now) }
+        ensures node { OnOk result (IsNode self.now.instance.now self.now.duals.now self.now.step path.new level.new.form) }
+        ensures first { OnOk result (level.new.form.is_lined ≡ false) }
+        ensures count { OnOk result (count_of level.new.form ≡ length self.now.duals.now.facilities) }
+    {
+        // Its clause says that the node is one.
+        let _depth = node.depth();
+        path.start(node)?;
+        level.begin(node, self.flows, self.distances)?;
+        level.form.start(self.instance, node, self.duals)?;
+        Ok(())
+    }
+
+    /// The open child that puts row `h` at column `g`, whose form after a line is in `next`.
+    pub fn open_child(
+        &self,
+        level: &Level,
+        next: &Level,
+        path: &Path,
+        h: usize,
+        g: usize,
+    ) -> OpenChild
+        requires node { IsNode self.now.instance.now self.now.duals.now self.now.step path.now level.now.form }
+        requires row { h < count_of level.now.form }
+        requires column { g < count_of level.now.form }
+        requires next { IsNode self.now.instance.now self.now.duals.now self.now.step (child_at path.now h g) next.now.form }
+        requires least { IsNonNegative next.now.form }
+        ensures { IsOpenAt self.now.instance.now self.now.duals.now.scale path.now (child_at path.now h g) result }
+    {
+        let facility = self.duals.facility(usize::from(level.form.rows()[h]));
+        let location = self.duals.location(usize::from(level.form.columns()[g]));
+        OpenChild {
+            facility: facility as u16,
+            location: location as u16,
+            value: next.form.value(),
+        }
     }
 
     /// Whether the child of number `k` on a line needs no search: the node prunes it, or it is the image of an earlier one.

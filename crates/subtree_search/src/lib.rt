@@ -10,10 +10,12 @@ mod line;
 mod outcome;
 mod path;
 mod search;
+mod split;
 mod stop;
 mod threshold;
 
 pub use incumbent::Incumbent;
 pub use outcome::Outcome;
 pub use search::{Subtree, SubtreeSearch};
+pub use split::OpenChild;
 pub use stop::{Never, Stop};

@@ -296,3 +296,74 @@ fn a_stop_ends_a_search(rt: HostRuntime) -> Result<(), Fail> {
     );
     Ok(())
 }
+
+/// Splits a node and asserts that a better permutation than the incumbent is one of an open child, and that no value is above what the
+/// child's completions cost.
+fn assert_split<S: Stop>(
+    rt: &impl Abort,
+    alloc: Global,
+    (instance, node): (&Instance, &Partial),
+    start: &Perm,
+    all: &[(Perm, i128)],
+    stop: &S,
+) -> Result<usize, Fail> {
+    assert_eq!(rt; instance.size(), node.size());
+    assert!(rt; has_range(instance, SCALE));
+    let duals = ascend(alloc, instance, node, None, 1, SCALE)?;
+    assert!(rt; is_in_scale::<i64>(instance, duals.scale()));
+    let start = start.copy()?;
+    assert_eq!(rt; start.len(), instance.size());
+    let mut incumbent = Incumbent::new(instance, start);
+    let flows = symmetries_of(alloc, instance, Table::Flows)?;
+    let distances = symmetries_of(alloc, instance, Table::Distances)?;
+    let subtree = Subtree {
+        instance,
+        node,
+        duals: &duals,
+        step: cost_step(instance),
+        flows: &flows.permutations,
+        distances: &distances.permutations,
+    };
+    let mut search = SubtreeSearch::new(alloc);
+    let children = search.split(&subtree, &mut incumbent, stop)?;
+    let least = least_of(node, all).ok_or("no completion")?;
+    let mut reached = incumbent.cost();
+    for open_child in &children {
+        let next = child(node, open_child.facility, open_child.location)?.ok_or("child")?;
+        let own = least_of(&next, all).ok_or("no completion")?;
+        let scaled = i128::from(SCALE).wrapping_mul(own);
+        assert!(rt; open_child.value <= scaled);
+        reached = reached.min(own);
+    }
+    assert!(rt; reached <= least);
+    Ok(children.len())
+}
+
+/// Sizes, kinds and seeds of splits.
+static SPLITS: [(usize, Kind, Kind, u64); 5] = [
+    (2, Kind::Signed, Kind::Signed, 21),
+    (4, Kind::Signed, Kind::Signed, 22),
+    (5, Kind::Small, Kind::Small, 23),
+    (6, Kind::Symmetric, Kind::Small, 24),
+    (6, Kind::Signed, Kind::Signed, 25),
+];
+
+#[test]
+fn splits_leave_open_what_is_better(rt: HostRuntime) -> Result<(), Fail> {
+    let alloc = rt.alloc();
+    let mut left: usize = 0;
+    for (n, a, b, seed) in SPLITS {
+        let instance = instance(alloc, n, a, b, seed)?.ok_or("instance")?;
+        let root = Partial::root(alloc, instance.size())?;
+        let all = listing(alloc, &instance)?;
+        for (start, _) in all.iter().take(3) {
+            let place = (&instance, &root);
+            let untried = assert_split(&rt, alloc, place, start, &all, &AtOnce)?;
+            let tried = assert_split(&rt, alloc, place, start, &all, &Never)?;
+            assert_eq!(rt; tried, 0);
+            left = left.wrapping_add(untried);
+        }
+    }
+    assert!(rt; left > 0);
+    Ok(())
+}

@@ -1,0 +1,79 @@
+use Rattle.std.proofs.Common.{◌<◌, refl, sym, ◌∙◌, subst, arith}
+use Rattle.std.proofs.lemmas.Int.{ints}
+use Rattle.qap_cost.specs.Placement.{Placement}
+use Rattle.qap_symmetry.specs.declared.table.Table.{Table}
+use Rattle.pair_duals.specs.Reduced.{count_of}
+use Rattle.pair_duals.specs.Seats.{child_at}
+use Rattle.subtree_search.specs.Images.{IsImage}
+use Rattle.subtree_search.specs.Lines.{child_on}
+use Rattle.subtree_search.specs.Opens.{Becomes}
+use Rattle.subtree_search.specs.Premises.{IsNode}
+use Rattle.subtree_search.proofs.Progress.{column_within, row_within}
+use Rattle.subtree_search.proofs.Settling.{All-add, IsSettled-add, IsSettled-child, IsSettled-image, settled_all, settled_more}
+use Rattle.subtree_search.proofs.split.split_children.Goals as goal
+
+pub loop-k-preserved-then-is_image : goal.loop-k-preserved-then-is_image
+loop-k-preserved-then-is_image g c =
+    let I = c.args.task.now.ground.now.instance.now in
+    let y = c.args.path.now in
+    let R = c.args.level.now.form in
+    let line = c.best_line-line.result in
+    let kept = c.loop-k.invariant in
+    let below : c.loop-k.k < count_of R = omega (arith, c.loop-k-test.true, c.free-k-end.ensures.value) in
+    let image = subst (λ (t : Table). IsImage I y t c.loop-k.k) c.table.ensures (subst (λ (z : Placement). IsImage I z c.table.result c.loop-k.k) kept.path (c.if-is_image.ensures refl)) in
+    record {
+      incumbent = kept.incumbent;
+      no_worse = kept.no_worse;
+      path = kept.path;
+      opened = kept.opened;
+      settled = settled_more I y line c.loop-k.incumbent.cost c.loop-k.children.items c.loop-k.k kept.settled
+          (IsSettled-image I c.args.task.now.ground.now.duals.now c.args.task.now.ground.now.step y R line c.loop-k.k c.loop-k.incumbent.cost c.loop-k.children.items c.requires.node c.best_line-line.ensures below image kept.settled);
+    }
+
+pub loop-k-preserved : goal.loop-k-preserved
+loop-k-preserved g c =
+    let I = c.args.task.now.ground.now.instance.now in
+    let s = c.args.task.now.ground.now.duals.now.scale in
+    let y = c.args.path.now in
+    let line = c.best_line-line.result in
+    let kept = c.loop-k.invariant in
+    let ensures = c.in_ok-child.ensures in
+    let child = c.in_ok-child.child in
+    let cost = c.try_child.new.incumbent.cost in
+    let old = c.loop-k.children.items in
+    let new = c.add.new.children.items in
+    record {
+      incumbent = ensures.incumbent;
+      no_worse = (let one = ensures.no_worse in let other = kept.no_worse in omega (arith, ints, one, other));
+      path = ensures.path ∙ kept.path;
+      opened = All-add I s y (child_at y c.row.result c.column.result) cost child old new
+          (subst (λ (z : Placement). Becomes I s z (child_at z c.row.result c.column.result) cost child) kept.path ensures.child) c.in_ok-add.ensures kept.opened;
+      settled = settled_more I y line cost new c.loop-k.k (λ j below. IsSettled-add I y (child_on y line j) c.loop-k.incumbent.cost cost child old new c.in_ok-add.ensures ensures.no_worse (kept.settled j below))
+          (IsSettled-child I s c.loop-k.path y line c.row.result c.column.result c.loop-k.k cost child old new kept.path c.row.ensures c.column.ensures ensures.child c.in_ok-add.ensures);
+    }
+
+pub try_child-requires : goal.try_child-requires
+try_child-requires g c =
+    let I = c.args.task.now.ground.now.instance.now in
+    let D = c.args.task.now.ground.now.duals.now in
+    let s = c.args.task.now.ground.now.step in
+    let R = c.args.level.now.form in
+    let kept = c.loop-k.invariant in
+    let below : c.loop-k.k < count_of R = omega (arith, c.loop-k-test.true, c.free-k-end.ensures.value) in
+    let row = row_within (count_of R) c.loop-k.k c.best_line-line.result c.best_line-line.ensures below in
+    let column = column_within (count_of R) c.loop-k.k c.best_line-line.result c.best_line-line.ensures below in
+    record {
+      node = subst (λ (z : Placement). IsNode I D s z R) (sym kept.path) c.requires.node;
+      least = c.requires.least;
+      row = omega (arith, row, c.row.ensures);
+      column = omega (arith, column, c.column.ensures);
+      room = omega (arith, c.requires.room, c.loop-k.auto.deeper);
+      symmetries = c.requires.symmetries;
+      incumbent = kept.incumbent;
+    }
+
+pub returns-clause-settled : goal.returns-clause-settled
+returns-clause-settled g c =
+    let kept = c.loop-k.invariant in
+    settled_all c.args.task.now.ground.now.instance.now c.args.task.now.ground.now.duals.now c.args.task.now.ground.now.step c.args.path.now c.args.level.now.form c.best_line-line.result c.loop-k.incumbent.cost c.loop-k.children.items c.loop-k.k
+    c.requires.node c.best_line-line.ensures (omega (arith, c.loop-k-test.false, c.free-k-end.ensures.value)) kept.settled

@@ -1,0 +1,251 @@
+//! The split of a node whose children are tried, each within a limit.
+
+ghost use Rattle.std.specs.Prelude.{◌≡◌, ◌<◌, ◌≤◌, ◌≤ℤ◌, pos, false, All, IfOk, IsTrue, OnOk, length};
+ghost use Rattle.pair_duals.specs.CostStep.{step_of};
+ghost use Rattle.pair_duals.specs.PairDuals.{AreOf, Fit};
+ghost use Rattle.pair_duals.specs.Range.{IsInScale};
+ghost use Rattle.pair_duals.specs.Reduced.{IsNonNegative, count_of};
+ghost use Rattle.pair_duals.specs.Seats.{child_at};
+ghost use Rattle.subtree_search.specs.Best.{IsIncumbent};
+ghost use Rattle.subtree_search.specs.Closed.{IsClosed};
+ghost use Rattle.subtree_search.specs.Opens.{Adds, Becomes, IsOpen, IsSettled};
+ghost use Rattle.subtree_search.specs.Premises.{AreSound, AreSymmetries, IsNode, limits_of_64};
+
+use crate::ground::Ground;
+use crate::incumbent::Incumbent;
+use crate::level::Level;
+use crate::line::best_line;
+use crate::outcome::Outcome;
+use crate::path::Path;
+use crate::search::{Subtree, SubtreeSearch, Task, explore_children, make_room, step_within};
+use crate::stop::Stop;
+use qap_cost::Partial;
+use std::alloc::{AllocError, Global};
+
+/// A child that a split leaves open: a free facility at a free location, by their numbers in the instance. No completion costs,
+/// scaled as the pair duals are, less than its value.
+#[derive(Clone, Copy, Debug)]
+pub struct OpenChild {
+    pub facility: u16,
+    pub location: u16,
+    pub value: i128,
+}
+
+/// The least and the greatest limit of a trial.
+const LEAST_TRIAL: u64 = 200;
+
+const MOST_TRIAL: u64 = 100_000;
+
+impl SubtreeSearch {
+    /// Splits a node on a row or column, tries each child that is neither pruned nor symmetric to an earlier one, and returns those
+    /// whose trials end at their limit, or by the stop; none where the node is closed.
+    ///
+    /// The trial of a child with `m` free facilities evaluates `m^4 / 8` nodes at most, but 200 at least and 100,000 at most. Once the
+    /// stop says so, children are left open untried.
+    pub fn split<S: Stop>(
+        &mut self,
+        subtree: &Subtree<'_>,
+        incumbent: &mut Incumbent,
+        stop: &S,
+    ) -> Result<Vec<OpenChild>, AllocError>
+        requires size { subtree.now.instance.now.size ≡ subtree.now.node.now.size }
+        requires duals { AreOf subtree.now.node.now subtree.now.duals.now }
+        requires in_scale { IsInScale limits_of_64 subtree.now.instance.now subtree.now.duals.now.scale }
+        requires fit { Fit subtree.now.instance.now subtree.now.duals.now }
+        requires step { subtree.now.step ≡ pos (step_of subtree.now.instance.now) }
+        requires symmetries { AreSymmetries subtree.now.instance.now subtree.now.flows.now subtree.now.distances.now }
+        requires incumbent { IsIncumbent subtree.now.instance.now incumbent.old }
+        ensures settled { IfOk result (λ children. IsSettled subtree.now.instance.now subtree.now.node.now incumbent.new.cost children.items subtree.now.node.now) }
+        ensures opened { IfOk result (λ children. All (IsOpen subtree.now.instance.now subtree.now.duals.now.scale subtree.now.node.now) children.items) }
+        ensures incumbent { IsIncumbent subtree.now.instance.now incumbent.new }
+        ensures no_worse { incumbent.new.cost ≤ℤ incumbent.old.cost }
+    {
+        let alloc = *self.levels.allocator();
+        let ground = Ground {
+            instance: subtree.instance,
+            duals: subtree.duals,
+            step: step_within(subtree.step),
+            flows: subtree.flows,
+            distances: subtree.distances,
+        };
+        let task = Task {
+            ground: &ground,
+            limit: 0,
+            stop,
+        };
+        make_room(&mut self.levels, &mut self.size, subtree.duals.free())?;
+        let mut nodes = 0;
+        let children = split_node(
+            alloc,
+            &task,
+            subtree.node,
+            &mut self.levels,
+            &mut self.path,
+            incumbent,
+            &mut nodes,
+        )?;
+        self.nodes = nodes;
+        Ok(children)
+    }
+}
+
+/// Splits the node that the pair duals belong to.
+fn split_node<S: Stop>(
+    alloc: Global,
+    task: &Task<'_, S>,
+    node: &Partial,
+    levels: &mut [Level],
+    path: &mut Path,
+    incumbent: &mut Incumbent,
+    nodes: &mut u64,
+) -> Result<Vec<OpenChild>, AllocError>
+    requires size { task.now.ground.now.instance.now.size ≡ node.now.size }
+    requires duals { AreOf node.now task.now.ground.now.duals.now }
+    requires sound { AreSound task.now.ground.now.instance.now task.now.ground.now.duals.now task.now.ground.now.step }
+    requires room { length task.now.ground.now.duals.now.facilities < length levels.old }
+    requires symmetries { AreSymmetries task.now.ground.now.instance.now task.now.ground.now.flows.now task.now.ground.now.distances.now }
+    requires incumbent { IsIncumbent task.now.ground.now.instance.now incumbent.old }
+    ensures settled { IfOk result (λ children. IsSettled task.now.ground.now.instance.now node.now incumbent.new.cost children.items node.now) }
+    ensures opened { IfOk result (λ children. All (IsOpen task.now.ground.now.instance.now task.now.ground.now.duals.now.scale node.now) children.items) }
+    ensures incumbent { IsIncumbent task.now.ground.now.instance.now incumbent.new }
+    ensures no_worse { incumbent.new.cost ≤ℤ incumbent.old.cost }
+{
+    let (first, deeper) = levels.split_at_mut(1);
+    let level = &mut first[0];
+    task.ground.begin(node, level, path)?;
+    if task.ground.closes(level, path, incumbent)? {
+        return Ok(Vec::new(alloc));
+    }
+    let children = split_children(alloc, task, level, deeper, path, incumbent, nodes)?;
+    Ok(children)
+}
+
+/// Tries the children on a row or column, and lists those that are left open.
+fn split_children<S: Stop>(
+    alloc: Global,
+    task: &Task<'_, S>,
+    level: &Level,
+    deeper: &mut [Level],
+    path: &mut Path,
+    incumbent: &mut Incumbent,
+    nodes: &mut u64,
+) -> Result<Vec<OpenChild>, AllocError>
+    requires node { IsNode task.now.ground.now.instance.now task.now.ground.now.duals.now task.now.ground.now.step path.old level.now.form }
+    requires least { IsNonNegative level.now.form }
+    requires left { 0 < count_of level.now.form }
+    requires room { count_of level.now.form ≤ length deeper.old }
+    requires symmetries { AreSymmetries task.now.ground.now.instance.now task.now.ground.now.flows.now task.now.ground.now.distances.now }
+    requires incumbent { IsIncumbent task.now.ground.now.instance.now incumbent.old }
+    ensures settled { IfOk result (λ children. IsSettled task.now.ground.now.instance.now path.old incumbent.new.cost children.items path.old) }
+    ensures opened { IfOk result (λ children. All (IsOpen task.now.ground.now.instance.now task.now.ground.now.duals.now.scale path.old) children.items) }
+    ensures incumbent { IsIncumbent task.now.ground.now.instance.now incumbent.new }
+    ensures no_worse { incumbent.new.cost ≤ℤ incumbent.old.cost }
+{
+    let line = best_line(&level.form, task.ground.threshold(incumbent));
+    let mut children = Vec::new(alloc);
+    for k in 0..level.form.free() {
+        let place = (line.row(k), line.column(k));
+        if task.ground.is_image(level, path, line.table(), k) {
+            continue;
+        }
+        let child = try_child(task, level, place, deeper, path, incumbent, nodes)?;
+        add(&mut children, child)?;
+    }
+    Ok(children)
+}
+
+/// Adds a child, where there is one.
+fn add(children: &mut Vec<OpenChild>, child: Option<OpenChild>) -> Result<(), AllocError>
+    ensures { OnOk result (Adds child children.old.items children.new.items) }
+{
+    if let Some(child) = child {
+        children.push(child)?;
+    }
+    Ok(())
+}
+
+/// The child that puts a row at a column, where it is left open; `None` where it is closed.
+fn try_child<S: Stop>(
+    task: &Task<'_, S>,
+    level: &Level,
+    place: (usize, usize),
+    deeper: &mut [Level],
+    path: &mut Path,
+    incumbent: &mut Incumbent,
+    nodes: &mut u64,
+) -> Result<Option<OpenChild>, AllocError>
+    requires node { IsNode task.now.ground.now.instance.now task.now.ground.now.duals.now task.now.ground.now.step path.old level.now.form }
+    requires least { IsNonNegative level.now.form }
+    requires row { place.0 < count_of level.now.form }
+    requires column { place.1 < count_of level.now.form }
+    requires room { count_of level.now.form ≤ length deeper.old }
+    requires symmetries { AreSymmetries task.now.ground.now.instance.now task.now.ground.now.flows.now task.now.ground.now.distances.now }
+    requires incumbent { IsIncumbent task.now.ground.now.instance.now incumbent.old }
+    ensures child { IfOk result (Becomes task.now.ground.now.instance.now task.now.ground.now.duals.now.scale path.old (child_at path.old place.0 place.1) incumbent.new.cost) }
+    ensures path { OnOk result (path.new ≡ path.old) }
+    ensures incumbent { IsIncumbent task.now.ground.now.instance.now incumbent.new }
+    ensures no_worse { incumbent.new.cost ≤ℤ incumbent.old.cost }
+{
+    let (h, g) = place;
+    if task.ground.prunes(level, path, incumbent, h, g) {
+        return Ok(None);
+    }
+    *nodes = nodes.saturating_add(1);
+    let (first, rest) = deeper.split_at_mut(1);
+    let next = &mut first[0];
+    task.ground.descend(level, next, path, h, g)?;
+    let is_closed = try_node(task, next, rest, path, incumbent, nodes)?;
+    path.pop();
+    if is_closed {
+        return Ok(None);
+    }
+    Ok(Some(task.ground.open_child(level, next, path, h, g)))
+}
+
+/// Whether the node that the path leads to is closed, or becomes so within the limit of its trial.
+fn try_node<S: Stop>(
+    task: &Task<'_, S>,
+    level: &mut Level,
+    deeper: &mut [Level],
+    path: &mut Path,
+    incumbent: &mut Incumbent,
+    nodes: &mut u64,
+) -> Result<bool, AllocError>
+    requires node { IsNode task.now.ground.now.instance.now task.now.ground.now.duals.now task.now.ground.now.step path.old level.old.form }
+    requires first { level.old.form.is_lined ≡ false }
+    requires room { count_of level.old.form ≤ length deeper.old }
+    requires symmetries { AreSymmetries task.now.ground.now.instance.now task.now.ground.now.flows.now task.now.ground.now.distances.now }
+    requires incumbent { IsIncumbent task.now.ground.now.instance.now incumbent.old }
+    ensures closed { IfOk result (λ closed. IsTrue closed → IsClosed task.now.ground.now.instance.now path.old incumbent.new.cost) }
+    ensures node { IfOk result (λ closed. closed ≡ false → IsNode task.now.ground.now.instance.now task.now.ground.now.duals.now task.now.ground.now.step path.old level.new.form) }
+    ensures least { IfOk result (λ closed. closed ≡ false → IsNonNegative level.new.form) }
+    ensures path { OnOk result (path.new ≡ path.old) }
+    ensures incumbent { IsIncumbent task.now.ground.now.instance.now incumbent.new }
+    ensures no_worse { incumbent.new.cost ≤ℤ incumbent.old.cost }
+{
+    if task.ground.closes(level, path, incumbent)? {
+        return Ok(true);
+    }
+    let most = if task.stop.is_requested() {
+        0
+    } else {
+        trial_limit(level.form.free())
+    };
+    let trial = Task {
+        ground: task.ground,
+        limit: nodes.saturating_add(most),
+        stop: task.stop,
+    };
+    match explore_children(&trial, level, deeper, path, incumbent, nodes)? {
+        Outcome::Closed => Ok(true),
+        _ => Ok(false),
+    }
+}
+
+/// How many nodes the trial of a child with `m` free facilities evaluates at most.
+fn trial_limit(m: usize) -> u64 {
+    let m = m as u64;
+    let square = m.saturating_mul(m);
+    let limit = square.saturating_mul(square) / 8;
+    limit.max(LEAST_TRIAL).min(MOST_TRIAL)
+}
