@@ -1,6 +1,7 @@
 //! Depth-first search of the whole subtree below a node, under pair duals of that node.
 #![tactic(auto)]
 
+mod dives;
 mod ground;
 mod images;
 mod incumbent;

@@ -14,7 +14,6 @@ ghost use Rattle.subtree_search.specs.Premises.{AreSound, AreSymmetries, IsNode,
 use crate::ground::Ground;
 use crate::incumbent::Incumbent;
 use crate::level::Level;
-use crate::line::best_line;
 use crate::outcome::Outcome;
 use crate::path::Path;
 use crate::search::{Subtree, SubtreeSearch, Task, explore_children, make_room, step_within};
@@ -141,7 +140,7 @@ fn split_children<S: Stop>(
     ensures incumbent { IsIncumbent task.now.ground.now.instance.now incumbent.new }
     ensures no_worse { incumbent.new.cost ≤ℤ incumbent.old.cost }
 {
-    let line = best_line(&level.form, task.ground.threshold(incumbent));
+    let line = task.ground.sampled_line(level, deeper, path, incumbent)?;
     let mut children = Vec::new(alloc);
     for k in 0..level.form.free() {
         let place = (line.row(k), line.column(k));
@@ -226,11 +225,16 @@ fn try_node<S: Stop>(
     if task.ground.closes(level, path, incumbent)? {
         return Ok(true);
     }
-    let most = if task.stop.is_requested() {
-        0
-    } else {
-        trial_limit(level.form.free())
-    };
+    if task.stop.is_requested() {
+        return Ok(false);
+    }
+    let most = trial_limit(level.form.free());
+    if task
+        .ground
+        .is_hopeless(level, deeper, path, incumbent, most)?
+    {
+        return Ok(false);
+    }
     let trial = Task {
         ground: task.ground,
         limit: nodes.saturating_add(most),

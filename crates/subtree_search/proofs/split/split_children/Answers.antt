@@ -17,7 +17,7 @@ loop-k-preserved-then-is_image g c =
     let I = c.args.task.now.ground.now.instance.now in
     let y = c.args.path.now in
     let R = c.args.level.now.form in
-    let line = c.best_line-line.result in
+    let line = c.in_ok-line.line in
     let kept = c.loop-k.invariant in
     let below : c.loop-k.k < count_of R = omega (arith, c.loop-k-test.true, c.free-k-end.ensures.value) in
     let image = subst (λ (t : Table). IsImage I y t c.loop-k.k) c.table.ensures (subst (λ (z : Placement). IsImage I z c.table.result c.loop-k.k) kept.path (c.if-is_image.ensures refl)) in
@@ -27,7 +27,7 @@ loop-k-preserved-then-is_image g c =
       path = kept.path;
       opened = kept.opened;
       settled = settled_more I y line c.loop-k.incumbent.cost c.loop-k.children.items c.loop-k.k kept.settled
-          (IsSettled-image I c.args.task.now.ground.now.duals.now c.args.task.now.ground.now.step y R line c.loop-k.k c.loop-k.incumbent.cost c.loop-k.children.items c.requires.node c.best_line-line.ensures below image kept.settled);
+          (IsSettled-image I c.args.task.now.ground.now.duals.now c.args.task.now.ground.now.step y R line c.loop-k.k c.loop-k.incumbent.cost c.loop-k.children.items c.requires.node c.in_ok-line.ensures.line below image kept.settled);
     }
 
 pub loop-k-preserved : goal.loop-k-preserved
@@ -35,7 +35,7 @@ loop-k-preserved g c =
     let I = c.args.task.now.ground.now.instance.now in
     let s = c.args.task.now.ground.now.duals.now.scale in
     let y = c.args.path.now in
-    let line = c.best_line-line.result in
+    let line = c.in_ok-line.line in
     let kept = c.loop-k.invariant in
     let ensures = c.in_ok-child.ensures in
     let child = c.in_ok-child.child in
@@ -60,8 +60,8 @@ try_child-requires g c =
     let R = c.args.level.now.form in
     let kept = c.loop-k.invariant in
     let below : c.loop-k.k < count_of R = omega (arith, c.loop-k-test.true, c.free-k-end.ensures.value) in
-    let row = row_within (count_of R) c.loop-k.k c.best_line-line.result c.best_line-line.ensures below in
-    let column = column_within (count_of R) c.loop-k.k c.best_line-line.result c.best_line-line.ensures below in
+    let row = row_within (count_of R) c.loop-k.k c.in_ok-line.line c.in_ok-line.ensures.line below in
+    let column = column_within (count_of R) c.loop-k.k c.in_ok-line.line c.in_ok-line.ensures.line below in
     record {
       node = subst (λ (z : Placement). IsNode I D s z R) (sym kept.path) c.requires.node;
       least = c.requires.least;
@@ -75,5 +75,8 @@ try_child-requires g c =
 pub returns-clause-settled : goal.returns-clause-settled
 returns-clause-settled g c =
     let kept = c.loop-k.invariant in
-    settled_all c.args.task.now.ground.now.instance.now c.args.task.now.ground.now.duals.now c.args.task.now.ground.now.step c.args.path.now c.args.level.now.form c.best_line-line.result c.loop-k.incumbent.cost c.loop-k.children.items c.loop-k.k
-    c.requires.node c.best_line-line.ensures (omega (arith, c.loop-k-test.false, c.free-k-end.ensures.value)) kept.settled
+    settled_all c.args.task.now.ground.now.instance.now c.args.task.now.ground.now.duals.now c.args.task.now.ground.now.step c.args.path.now c.args.level.now.form c.in_ok-line.line c.loop-k.incumbent.cost c.loop-k.children.items c.loop-k.k
+    c.requires.node c.in_ok-line.ensures.line (omega (arith, c.loop-k-test.false, c.free-k-end.ensures.value)) kept.settled
+
+pub returns-in_err-add-clause-no_worse : goal.returns-in_err-add-clause-no_worse
+returns-in_err-add-clause-no_worse g c = let one = c.try_child.ensures.no_worse in let other = c.loop-k.invariant.no_worse in omega (arith, ints, one, other)

@@ -1,0 +1,23 @@
+use Rattle.std.proofs.Common.{◌+◌, ◌*◌, ◌<◌, ◌≤◌, arith}
+use Rattle.std.proofs.lemmas.Int.{ints}
+use Rattle.subtree_search.proofs.Progress.{back_at}
+use Rattle.subtree_search.proofs.ground.Ground.+diving.Goals as goal
+
+pub dive-dive_below-requires : goal.dive-dive_below-requires
+dive-dive_below-requires t c =
+    let ensures = c.in_ok-descend.ensures in
+    let rest = c.split_at_mut-first.ensures.back_len in
+    (omega (arith, c.decreases, rest), (ensures.node, (ensures.first, (omega (arith, ensures.fewer, c.requires.room, rest), (c.requires.symmetries, c.requires.incumbent)))))
+
+pub dive-returns-clause-path : goal.dive-returns-clause-path
+dive-returns-clause-path t c =
+    back_at c.args.path.now c.descend.new.path c.dive_below.new.path c.pop.new.self c.row-h.result c.column-g.result c.in_ok-below.ensures.path c.in_ok-descend.ensures.path c.pop.ensures
+
+pub dive_below-dive-requires : goal.dive_below-dive-requires
+dive_below-dive-requires t c =
+    let ensures = c.in_ok-closes.ensures in
+    let left = c.if-branch.false in
+    (omega (arith, c.decreases), (ensures.node left, (ensures.least left, (c.best_line-line.ensures, (omega (arith, c.requires.room, ensures.same left), (c.requires.symmetries, ensures.incumbent))))))
+
+pub dive_below-returns-clause-no_worse : goal.dive_below-returns-clause-no_worse
+dive_below-returns-clause-no_worse t c = let one = c.closes.ensures.no_worse in let other = c.dive.ensures.no_worse in omega (arith, ints, one, other)
