@@ -10,7 +10,7 @@ use qap_symmetry::{Table, symmetries_of};
 use std::alloc::{AllocError, Global};
 use std::process::Abort;
 use std::test::Fail;
-use subtree_search::{Incumbent, Never, Outcome, Stop, Subtree, SubtreeSearch};
+use subtree_search::{Incumbent, Never, OpenChild, Outcome, Stop, Subtree, SubtreeSearch};
 
 /// Stops a search as soon as it asks.
 #[derive(Clone, Copy, Debug)]
@@ -297,16 +297,14 @@ fn a_stop_ends_a_search(rt: HostRuntime) -> Result<(), Fail> {
     Ok(())
 }
 
-/// Splits a node and asserts that a better permutation than the incumbent is one of an open child, and that no value is above what the
-/// child's completions cost.
-fn assert_split<S: Stop>(
+/// The children that a split below the node leaves open, and the cost of the incumbent.
+fn split_below<S: Stop>(
     rt: &impl Abort,
     alloc: Global,
     (instance, node): (&Instance, &Partial),
     start: &Perm,
-    all: &[(Perm, i128)],
     stop: &S,
-) -> Result<usize, Fail> {
+) -> Result<(Vec<OpenChild>, i128), Fail> {
     assert_eq!(rt; instance.size(), node.size());
     assert!(rt; has_range(instance, SCALE));
     let duals = ascend(alloc, instance, node, None, 1, SCALE)?;
@@ -326,16 +324,36 @@ fn assert_split<S: Stop>(
     };
     let mut search = SubtreeSearch::new(alloc);
     let children = search.split(&subtree, &mut incumbent, stop)?;
-    let least = least_of(node, all).ok_or("no completion")?;
-    let mut reached = incumbent.cost();
+    Ok((children, incumbent.cost()))
+}
+
+/// The least cost of a completion of an open child, whose value is no more than that.
+fn least_of_child(
+    rt: &impl Abort,
+    node: &Partial,
+    open_child: &OpenChild,
+    all: &[(Perm, i128)],
+) -> Result<i128, Fail> {
+    let next = child(node, open_child.facility, open_child.location)?.ok_or("child")?;
+    let own = least_of(&next, all).ok_or("no completion")?;
+    assert!(rt; open_child.value <= i128::from(SCALE).wrapping_mul(own));
+    Ok(own)
+}
+
+/// Asserts that the least cost of a completion is the incumbent's or that of an open child, and returns how many these are.
+fn assert_split<S: Stop>(
+    rt: &impl Abort,
+    alloc: Global,
+    (instance, node): (&Instance, &Partial),
+    start: &Perm,
+    all: &[(Perm, i128)],
+    stop: &S,
+) -> Result<usize, Fail> {
+    let (children, mut reached) = split_below(rt, alloc, (instance, node), start, stop)?;
     for open_child in &children {
-        let next = child(node, open_child.facility, open_child.location)?.ok_or("child")?;
-        let own = least_of(&next, all).ok_or("no completion")?;
-        let scaled = i128::from(SCALE).wrapping_mul(own);
-        assert!(rt; open_child.value <= scaled);
-        reached = reached.min(own);
+        reached = reached.min(least_of_child(rt, node, open_child, all)?);
     }
-    assert!(rt; reached <= least);
+    assert!(rt; reached <= least_of(node, all).ok_or("no completion")?);
     Ok(children.len())
 }
 
