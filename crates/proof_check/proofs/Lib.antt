@@ -2,6 +2,7 @@ pub mod Accepting
 pub mod Closing
 pub mod Heads
 pub mod ImageLines
+pub mod Laws
 pub mod Layers
 pub mod Lines
 pub mod ListedDuals

@@ -6,6 +6,7 @@ mod cursor;
 mod head;
 mod image;
 mod image_line;
+mod law;
 mod listed;
 mod node_line;
 mod numbers;
@@ -13,3 +14,4 @@ mod rows;
 mod walking;
 
 pub use acceptance::accept;
+pub use law::verdict_law;
