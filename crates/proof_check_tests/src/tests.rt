@@ -10,9 +10,11 @@ use std::test::Fail;
 
 /// Three departments in a corridor of three rooms: 24 is least, by listing all 6 arrangements.
 const FLOWS: [i64; 9] = [0, 5, 2, 5, 0, 3, 2, 3, 0];
+
 const WAYS: [i64; 9] = [0, 1, 2, 1, 0, 1, 2, 1, 0];
 
-const PROOF: &[u8] = b"qapproof 2\nn 3\ncost 24\nperm 1 2 3\np 1\n0 4 0 0\n0 4 0 0\n0 4 0 0\n0 0 0 0\n0 0 0 0\n0 0 0 0\n0 0 0 0\n0 0 0 0\n0 0 0 0\ns 2 .++ 4 0 0\ns 1 .. 10 6\nm 1 3 2 1\nend\n";
+const PROOF: &[u8] =
+    b"qapproof 2\nn 3\ncost 24\nperm 1 2 3\np 1\n0 4 0 0\n0 4 0 0\n0 4 0 0\n0 0 0 0\n0 0 0 0\n0 0 0 0\n0 0 0 0\n0 0 0 0\n0 0 0 0\ns 2 .++ 4 0 0\ns 1 .. 10 6\nm 1 3 2 1\nend\n";
 
 /// A line in the place of another, and the fault that this makes.
 const FAULTS: [(usize, &[u8], ProofError); 24] = [
@@ -53,7 +55,12 @@ const RIGHT: [(usize, &[u8]); 6] = [
 ];
 
 fn corridor(alloc: Global) -> Result<Option<Instance>, AllocError> {
-    Ok(Instance::new(3, Vec::from_slice(alloc, &FLOWS)?, Vec::from_slice(alloc, &WAYS)?).ok())
+    Ok(Instance::new(
+        3,
+        Vec::from_slice(alloc, &FLOWS)?,
+        Vec::from_slice(alloc, &WAYS)?,
+    )
+    .ok())
 }
 
 /// What a text shows of an instance.
@@ -72,7 +79,12 @@ fn judged(
 }
 
 /// A text with another line in the place of this one.
-fn with_line(alloc: Global, text: &[u8], number: usize, line: &[u8]) -> Result<Vec<u8>, AllocError> {
+fn with_line(
+    alloc: Global,
+    text: &[u8],
+    number: usize,
+    line: &[u8],
+) -> Result<Vec<u8>, AllocError> {
     let mut new = Vec::new(alloc);
     let mut at = 1;
     for byte in text {
@@ -95,13 +107,23 @@ fn a_worked_example(rt: HostRuntime) -> Result<(), Fail> {
     let Some(corridor) = corridor(alloc)? else {
         panic!(rt; "an instance is refused");
     };
-    assert_eq!(rt; judged(&rt, alloc, &corridor, PROOF), Ok(Verdict::Optimal(24)));
+    assert_eq!(rt;
+        judged(&rt, alloc, &corridor, PROOF),
+        Ok(Verdict::Optimal(24))
+    );
     for (number, line) in RIGHT {
         let text = with_line(alloc, PROOF, number, line)?;
-        assert_eq!(rt; judged(&rt, alloc, &corridor, &text), Ok(Verdict::Optimal(24)), "line {number}");
+        assert_eq!(rt;
+            judged(&rt, alloc, &corridor, &text),
+            Ok(Verdict::Optimal(24)),
+            "line {number}"
+        );
     }
     let text = with_line(alloc, PROOF, 4, b"perm 1 2 3\nbound 23")?;
-    assert_eq!(rt; judged(&rt, alloc, &corridor, &text), Ok(Verdict::Gap(23, 24)));
+    assert_eq!(rt;
+        judged(&rt, alloc, &corridor, &text),
+        Ok(Verdict::Gap(23, 24))
+    );
     Ok(())
 }
 
@@ -113,7 +135,11 @@ fn each_fault(rt: HostRuntime) -> Result<(), Fail> {
     };
     for (number, line, fault) in FAULTS {
         let text = with_line(alloc, PROOF, number, line)?;
-        assert_eq!(rt; judged(&rt, alloc, &corridor, &text), Err(fault), "line {number}");
+        assert_eq!(rt;
+            judged(&rt, alloc, &corridor, &text),
+            Err(fault),
+            "line {number}"
+        );
     }
     Ok(())
 }
@@ -154,7 +180,10 @@ fn each_byte_changed(rt: HostRuntime) -> Result<(), Fail> {
 #[test]
 fn a_part_with_one_free(rt: HostRuntime) -> Result<(), Fail> {
     let alloc = rt.alloc();
-    let (a, b) = (Vec::from_slice(alloc, &[0, 4, 1, 0])?, Vec::from_slice(alloc, &[0, 2, 7, 0])?);
+    let (a, b) = (
+        Vec::from_slice(alloc, &[0, 4, 1, 0])?,
+        Vec::from_slice(alloc, &[0, 2, 7, 0])?,
+    );
     let Ok(two) = Instance::new(2, a, b) else {
         panic!(rt; "an instance is refused");
     };
@@ -163,8 +192,14 @@ fn a_part_with_one_free(rt: HostRuntime) -> Result<(), Fail> {
     let above = with_line(alloc, part, 5, b"node 1 2")?;
     assert_eq!(rt; judged(&rt, alloc, &two, &above), Ok(Verdict::Part(15)));
     let root = with_line(alloc, part, 5, b"node 1 3")?;
-    assert_eq!(rt; judged(&rt, alloc, &two, &root), Err(ProofError::RootBad(5)));
+    assert_eq!(rt;
+        judged(&rt, alloc, &two, &root),
+        Err(ProofError::RootBad(5))
+    );
     let spaced = with_line(alloc, part, 7, b" ")?;
-    assert_eq!(rt; judged(&rt, alloc, &two, &spaced), Err(ProofError::BadLine(7)));
+    assert_eq!(rt;
+        judged(&rt, alloc, &two, &spaced),
+        Err(ProofError::BadLine(7))
+    );
     Ok(())
 }
