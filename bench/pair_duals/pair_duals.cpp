@@ -410,7 +410,7 @@ struct Sweeps {
     }
 };
 
-// Pair duals of the root, after so many soft sweeps and hard rounds, and whether they fit.
+// Pair duals of the root, after a number of soft sweeps and hard rounds, and whether they fit.
 Duals ascend(const Instance& in, int sweeps, int rounds) {
     Ascent ascent(in);
     if (sweeps > 0) {
