@@ -15,7 +15,7 @@ build:             ## prove and build the four programs from source (needs rt; a
 install:           ## install the programs and manual pages into PREFIX
 	bin/install $(PREFIX)
 
-bench:             ## measure against C++ (needs a C++ compiler and the programs)
+bench:             ## measure against C++ (needs a C++ compiler; most scripts need rt, some a folder or an instance)
 	for run in bench/*/run; do $$run; done
 
 package:           ## make the release archive

@@ -1,5 +1,5 @@
-/* Loaded before a program by LD_PRELOAD: refuses the allocation whose number, counted from 1, stands in REFUSE, and where REFUSE_REST
- * isn't empty all behind it too. Where COUNT names a file, how many were asked for is written there when the program ends. */
+/* Loaded before a program by LD_PRELOAD: refuses the allocation whose number, counted from 1, is in REFUSE, and if REFUSE_REST isn't
+ * empty all after it too. If COUNT names a file, the number of allocations requested is written there when the program ends. */
 #define _GNU_SOURCE
 #include <dlfcn.h>
 #include <errno.h>
@@ -10,11 +10,11 @@
 #include <sys/syscall.h>
 #include <unistd.h>
 
-static atomic_long asked;
+static atomic_long requested;
 
 static int is_refused(void)
 {
-    long number = atomic_fetch_add(&asked, 1) + 1;
+    long number = atomic_fetch_add(&requested, 1) + 1;
     const char *first = getenv("REFUSE");
     const char *rest = getenv("REFUSE_REST");
     if (first == NULL || number < atol(first))
@@ -41,20 +41,20 @@ void *realloc(void *block, size_t size)
     return is_refused() ? NULL : next(block, size);
 }
 
-__attribute__((destructor)) static void tell(void)
+__attribute__((destructor)) static void report(void)
 {
     const char *name = getenv("COUNT");
     int file = name == NULL ? -1 : open(name, O_WRONLY | O_CREAT | O_TRUNC, 0666);
     if (file >= 0) {
-        dprintf(file, "%ld\n", atomic_load(&asked));
+        dprintf(file, "%ld\n", atomic_load(&requested));
         close(file);
     }
 }
 
-/* A program that ends so runs no destructors. */
+/* A program that ends by this call runs no destructors. */
 void _exit(int status)
 {
-    tell();
+    report();
     for (;;)
         syscall(SYS_exit_group, status);
 }

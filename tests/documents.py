@@ -1,7 +1,8 @@
-"""Checks the documents: documents.py links FILE.. | length FILE.. | commands FILE..
+"""Checks the documents: documents.py links FILE.. | length FILE.. | commands FILE.. | words FILE..
 
-Prints a line for each link that names nothing, for each document that is too long, and for each command that does not
-exist. The cases run it on the documents of the project; those in docs/reference/ are also checked to be current.
+Prints a line for each link that names nothing, for each document, line and cell of a table that is too long, for each command
+that does not exist, and if all documents together have too many words. The cases run it on the documents of the project; docs/reference/ and docs/SPEED.md, which scripts write, are also
+checked to be current.
 """
 
 import pathlib
@@ -12,8 +13,13 @@ import sys
 ROOT = pathlib.Path(__file__).resolve().parent.parent
 README_LINES = 120
 LINES = 500
+COLUMNS = 100  # Of a line that is neither of a table nor of a block of code.
+CELL = 200  # Characters of a cell of a table.
+WORDS = 40_000  # Of all documents together.
 MADE = ROOT / "dist", ROOT / "docs" / "reference"  # Written by commands, and perhaps not yet.
 FENCE = re.compile(r"^\s*```.*?^\s*```", re.M | re.S)
+WRITTEN = re.compile(r"^<!-- [^\n]*written by [^\n]*-->$.*?^<!-- end -->$", re.M | re.S)  # A part that a script writes.
+FREE = "docs/reference/", "docs/history/"  # Documents of any length.
 
 
 def documents():
@@ -46,11 +52,27 @@ def links(name):
 
 
 def length(name):
-    """Whether a document is too long."""
-    lines = len((ROOT / name).read_text().splitlines())
-    most = README_LINES if name == "README.md" else LINES
-    if lines > most and not name.startswith(("docs/reference/", "docs/history/")):
+    """Whether a document, a line of it or a cell of a table is too long."""
+    if name.startswith(FREE):
+        return
+    text = (ROOT / name).read_text()
+    lines, most = len(text.splitlines()), README_LINES if name == "README.md" else LINES
+    if lines > most:
         yield f"{name}: {lines} lines, where {most} are the most"
+    for line in WRITTEN.sub("", FENCE.sub("", text)).splitlines():
+        if line.startswith("|"):
+            if any(len(cell.strip()) > CELL for cell in re.split(r"(?<!\\)\|", line)):
+                yield f"{name}: a cell of more than {CELL} characters: {line}"
+        elif len(line) > COLUMNS and not line.startswith("<!--"):
+            yield f"{name}: a line of more than {COLUMNS} columns: {line}"
+
+
+def words(*names):
+    """Whether the documents that people write have too many words together."""
+    written = [name for name in names if not name.startswith((*FREE, "docs/SPEED.md"))]
+    count = sum(len((ROOT / name).read_text().split()) for name in written)
+    if count > WORDS:
+        yield f"{count} words, where {WORDS} are the most"
 
 
 def commands(name):
@@ -89,14 +111,17 @@ def cases():
     names = " ".join(map(shlex.quote, documents()))
     yield f"case: links\nrun: {command} links {names}"
     yield f"case: length\nrun: {command} length {names}"
+    yield f"case: words\nrun: {command} words {names}"
     yield f"case: commands of the README\nrun: {command} commands README.md"
     yield from checker_cases()
     if (ROOT / "docs" / "reference").exists():
         yield f"case: the reference is current\nrun: {shlex.quote(str(ROOT / 'bin' / 'reference'))} --check"
+    yield f"case: the results are current\nrun: {shlex.quote(str(ROOT / 'bin' / 'speed'))} --check"
 
 
 if __name__ == "__main__":
     kinds = {"links": links, "length": length, "commands": commands}
-    for name in sys.argv[2:]:
-        for fault in kinds[sys.argv[1]](name):
-            print(fault)
+    faults = words(*sys.argv[2:]) if sys.argv[1] == "words" else (
+        fault for name in sys.argv[2:] for fault in kinds[sys.argv[1]](name))
+    for fault in faults:
+        print(fault)

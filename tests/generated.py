@@ -6,7 +6,7 @@ INSTANCES = 24
 PLANS = 12
 LARGEST = 6
 
-# How entries are drawn, one way for each instance in turn.
+# How entries are drawn; the instances use these ways alternately.
 ENTRIES = [
     lambda draw: draw.randint(0, 9),
     lambda draw: draw.randint(-3, 3),
@@ -108,7 +108,7 @@ def table(draw, names):
 
 
 def points(draw, count):
-    """So many points, no two of them the same."""
+    """This many points, no two of them the same."""
     found = {}
     while len(found) < count:
         x, y = number(draw), number(draw)

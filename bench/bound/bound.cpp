@@ -3,7 +3,7 @@
 //
 // Rows are sorted once and kept in 32 bits, and picked without a branch; those of the facilities are kept from one node to the
 // next where the same are placed, and in a walk those of the locations are made from the parent's. Products are added up in 64 bits
-// where no sum of them can leave these, as the instance's greatest entries tell; else eight at a time, and then in 128, so that the
+// where no sum of them can leave these, as the instance's largest entries show; else eight at a time, and then in 128, so that the
 // whole range of entries is taken. Assignments are in 64 bits where the matrix's entries allow it, and else in 128; lists are kept from call to call.
 #include <algorithm>
 #include <chrono>

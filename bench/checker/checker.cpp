@@ -1,7 +1,7 @@
 // A plain checker of certificates: the same mathematics as qapcheck optimal in the best form that we know, with no proof. Rows are
 // sorted once and kept in 32 bits, and picked without a branch; those of the facilities are kept for each depth, at which the
-// same ones are always placed. Products are added up in 64 bits where no sum of them can leave these, as the instance's greatest
-// entries tell; else eight at a time, and then in 128. The cost of what is placed has 128 bits, duals have 64. A line is read
+// same ones are always placed. Products are added up in 64 bits where no sum of them can leave these, as the instance's largest
+// entries show; else eight at a time, and then in 128. The cost of what is placed has 128 bits, duals have 64. A line is read
 // where it stands, each list has one buffer, and what is placed costs what its parent does and what the last one adds.
 // It prints "optimal C", or "refused" and a status of 1. Usage: checker INSTANCE CERTIFICATE
 #include <algorithm>
@@ -89,7 +89,7 @@ struct Checker {
     Number cost = 0;
     std::vector<int> places;
     std::vector<char> taken;
-    std::vector<std::vector<Entry>> a_rows;  // for each depth; empty until they are asked for
+    std::vector<std::vector<Entry>> a_rows;  // for each depth; empty until they are needed
     std::vector<Entry> b_rows;
     std::vector<std::vector<Entry>> parents;  // the rows of the locations at each depth, where they are made
     std::vector<char> made;

@@ -13,7 +13,7 @@
 using Field = std::variant<__int128, std::string, std::vector<__int128>>;
 using Tuple = std::vector<Field>;
 
-// A field that is asked for, or the kind of any field.
+// A field that has this value, or any field of this kind.
 struct Pattern {
     std::optional<Field> is;
     std::size_t kind;

@@ -10,6 +10,7 @@ SYNTAX = "write a key, `=` and a file in quotes on each line, as `flows = \"trip
 KEYS = "a plan has the keys flows or trips, departments, distances or places, metric, decimals, decimal_mark and fixed"
 NOT_DECIMALS = 'the key "decimals" is to be a whole number from 0 to 9, without quotes, as `decimals = 2`'
 NEITHER = 'the keys "{0}" and "{1}" are both missing: name the file of that table by one of them, as `{0} = "{0}.csv"`'
+AMONG_FIXED = 'the key "{0}" stands under `[fixed]`: move `[fixed]` and the lines that belong to it to the end of the plan'
 FIXED_TYPE = ("write `[fixed]` on a line of its own, and below it a line as `Saw = \"A\"` for each department that "
               "stays at its place")
 LIST = 'write a list of names, as `departments = ["Saw", "Lathe"]`'
@@ -31,6 +32,10 @@ PLANS = [
     ("# nothing\n", NEITHER.format("flows", "trips")),
     ("distances = 'd.csv'\n", NEITHER.format("flows", "trips")),
     ("flows = 'f.csv'\n", NEITHER.format("distances", "places")),
+    ("[fixed]\nSaw = 'A'\nflows = 'f.csv'\ndistances = 'd.csv'\n", AMONG_FIXED.format("flows")),
+    ("distances = 'd.csv'\n[fixed]\ntrips = 't.csv'\n", AMONG_FIXED.format("trips")),
+    ("flows = 'f.csv'\n[fixed]\nSaw = 'A'\ndistances = 'd.csv'\n", AMONG_FIXED.format("distances")),
+    ("flows = 'f.csv'\nfixed = 3\n", NEITHER.format("distances", "places")),
     (f"{MATRICES}trips = 't.csv'\n", 'the keys "flows" and "trips" are both there: keep one of them'),
     (f"{MATRICES}places = 'p.csv'\n", 'the keys "distances" and "places" are both there: keep one of them'),
     ("flows = 3\ndistances = 'd.csv'\n", 'the key "flows" has the type integer: write a text in quotes'),
@@ -118,6 +123,8 @@ def cases():
         yield f"case: plan {number}: {message or 'no TOML'}".replace("\n", " ")
         yield "bytes plan.toml: " + text.replace("\n", "\\n").replace("\xff", "\\xff")
         yield "run: qapplan solve plan.toml\nstatus: 1"
+        if message and "stands under" in message:
+            yield "unshipped:"
         if message:
             yield f"stderr: error: plan.toml: {message}"
         else:

@@ -62,6 +62,7 @@ IsPartial-same M rows matching row_of u v same_matching same_u same_v is e f g =
     (subst (λ (x : List ℤ). IsPartial M rows matching row_of x same_v) (sym f)
     (subst (λ (x : List ℤ). IsPartial M rows matching row_of u x) (sym g) is))
 
+-- a partial assignment of all rows gives each row a column of its own
 pub Assigns-partial : (M : Square) (matching : List ℕ) (row_of : List (Option ℕ)) (u v : List ℤ) → IsPartial M M.size matching row_of u v → Assigns M matching
 Assigns-partial M matching row_of u v is = record {
   bijection = record {
@@ -76,6 +77,7 @@ Assigns-partial M matching row_of u v is = record {
   same_size = is.matches.matching_count;
 }
 
+-- the duals of a partial assignment of all rows fit the matrix
 pub DualsFit-partial : (M : Square) (matching : List ℕ) (row_of : List (Option ℕ)) (u v : List ℤ) → IsPartial M M.size matching row_of u v → DualsFit M u v
 DualsFit-partial M matching row_of u v is = record {
   u_count = is.fits.u_count;
@@ -100,6 +102,7 @@ dual_value-is M matching row_of u v is =
     sum_to-same (λ i. row i +ℤ column i) (assigned M matching) n (λ i h. is.tight i h) in
     omega (arith, ints, rows, columns, sums, same)
 
+-- no assignment costs less than a partial assignment of all rows
 pub least-partial : (M : Square) (matching : List ℕ) (row_of : List (Option ℕ)) (u v : List ℤ) → IsPartial M M.size matching row_of u v →
     (p : List ℕ) → Assigns M p → assignment_cost M matching ≤ℤ assignment_cost M p
 least-partial M matching row_of u v is p other =

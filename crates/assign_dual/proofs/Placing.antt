@@ -33,6 +33,7 @@ tree_row : (M : Square) (root : ℕ) (row_of : List (Option ℕ)) (u v : List �
 tree_row M root row_of u v columns tree_rows row_distances distances origins done tree own left q h =
     own.within (get_or columns q 0) (get_or tree_rows (q + 1) 0) (omega (arith, tree.order.within q, tree.columns_count)) (tree.joined q h)
 
+-- each row of the tree is its root or one before that
 pub tree_rows-within : (M : Square) (root : ℕ) (row_of : List (Option ℕ)) (u v : List ℤ) (columns tree_rows : List ℕ) (row_distances distances : List ℤ) (origins : List ℕ) (done : ℕ) →
     IsTree M root row_of u v columns tree_rows row_distances distances origins done → OwnersDiffer M.size root row_of → done < M.size →
     (p : ℕ) → p < done + 1 → get_or tree_rows p 0 ≤ root
@@ -46,6 +47,7 @@ tree_rows-within M root row_of u v columns tree_rows row_distances distances ori
           omega (arith, ap (λ j. get_or tree_rows j 0) at, less)
     ]
 
+-- no row stands in the tree twice
 pub tree_rows-differ : (M : Square) (root : ℕ) (row_of : List (Option ℕ)) (u v : List ℤ) (columns tree_rows : List ℕ) (row_distances distances : List ℤ) (origins : List ℕ) (done : ℕ) →
     IsTree M root row_of u v columns tree_rows row_distances distances origins done → OwnersDiffer M.size root row_of → done < M.size →
     (p q : ℕ) → p < done + 1 → q < done + 1 → get_or tree_rows p 0 ≡ get_or tree_rows q 0 → p ≡ q
@@ -98,6 +100,7 @@ row_distances-within M root row_of u v columns tree_rows row_distances distances
           (range.each (get_or columns q 0) (omega (arith, tree.order.within q, tree.columns_count, tree.distances_count)))
     ]
 
+-- a tree whose next column is free has a path from that column back to the root
 pub IsPath-tree : (M : Square) (root : ℕ) (row_of : List (Option ℕ)) (u v : List ℤ) (columns tree_rows : List ℕ) (row_distances distances : List ℤ) (origins : List ℕ) (done : ℕ) →
     IsTree M root row_of u v columns tree_rows row_distances distances origins done → done < M.size → owner_of row_of (get_or columns done 0) ≡ None →
     IsPath columns tree_rows origins done row_of

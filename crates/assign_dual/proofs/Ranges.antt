@@ -28,6 +28,7 @@ pub owner_cases : (o : Option ℕ) → ((i : ℕ) × (o ≡ Some i)) ⊎ (o ≡ 
 owner_cases None = inr refl
 owner_cases (Some i) = inl (i, refl)
 
+-- in a matching each column that has a row has one of the first rows, and no two have the same
 pub OwnersDiffer-from : (n rows : ℕ) (matching : List ℕ) (row_of : List (Option ℕ)) → IsMatching n rows matching row_of → OwnersDiffer n rows row_of
 OwnersDiffer-from n rows matching row_of is = record {
   within = λ k i hk e. (is.owned k i hk e).0;
@@ -56,6 +57,7 @@ u_within M rows matching row_of u v m is range = record {
       ];
 }
 
+-- where entries lie within m of 0, the duals of the columns lie within 2 * m
 pub v_within : (M : Square) (rows : ℕ) (matching : List ℕ) (row_of : List (Option ℕ)) (u v : List ℤ) (m : ℕ) → rows ≤ M.size →
     IsPartial M rows matching row_of u v → AllWithin m M.entries → AllWithin (2 * m) v
 v_within M rows matching row_of u v m few is range = record {
@@ -74,6 +76,7 @@ v_within M rows matching row_of u v m few is range = record {
       ];
 }
 
+-- no column's dual is above 0
 pub v_NoneAbove : (M : Square) (rows : ℕ) (matching : List ℕ) (row_of : List (Option ℕ)) (u v : List ℤ) → IsPartial M rows matching row_of u v → NoneAbove v
 v_NoneAbove M rows matching row_of u v is = record {
   each = λ k h. is.fits.falls k (omega (arith, is.fits.v_count));

@@ -1,4 +1,4 @@
--- What the relaxation of a row has done by the time that it comes to a place of the columns.
+-- What the relaxation of a row has done by the time that it reaches a place of the columns.
 use Rattle.std.proofs.Common.{◌≡◌, ◌≢◌, ℕ, ◌+◌, ◌<◌, ◌≤◌, List, length, get_or, set, arith, refl, sym, ◌∙◌, subst, inl, inr, get_or-set_other, get_or-set_same}
 use Rattle.std.specs.Prelude.{ℤ, pos, ◌+ℤ◌, ◌-ℤ◌, ◌≤ℤ◌, ◌<ℤ◌}
 use Rattle.std.proofs.lemmas.Int.{ints}
@@ -6,21 +6,26 @@ use Rattle.std.proofs.lemmas.Bool.{cases_eq}
 use Rattle.qap_cost.specs.Bijection.{IsBijection}
 use Rattle.assign_dual.specs.Steps.{TakesShorter}
 
+-- column k keeps its distance and its origin
 abbrev pub Stays : List ℤ → List ℕ → List ℤ → List ℕ → ℕ → Type 0
 Stays distances origins new_distances new_origins k = (get_or new_distances k (pos 0) ≡ get_or distances k (pos 0)) × (get_or new_origins k 0 ≡ get_or origins k 0)
 
+-- the distance of column k by way of the row
 abbrev pub candidate : List ℤ → List ℤ → ℤ → ℕ → ℤ
 candidate row v base k = (base +ℤ get_or row k (pos 0)) -ℤ get_or v k (pos 0)
 
+-- column k has the shorter of the way that it had and the one by the row at this place
 abbrev pub Shorter : List ℤ → List ℤ → ℤ → ℕ → List ℤ → List ℕ → List ℤ → List ℕ → ℕ → Type 0
 Shorter row v base place distances origins new_distances new_origins k =
     TakesShorter (get_or distances k (pos 0)) (get_or new_distances k (pos 0)) (candidate row v base k) (get_or origins k 0) (get_or new_origins k 0) place
 
+-- the columns from place `place` to before place `now` have the shorter way, and all others stay
 pub record Relaxing (row v : List ℤ) (base : ℤ) (place now : ℕ) (columns : List ℕ) (distances : List ℤ) (origins : List ℕ) (new_distances : List ℤ) (new_origins : List ℕ) : Type 0 where
   pub before : (s : ℕ) → s < place → s < length columns → Stays distances origins new_distances new_origins (get_or columns s 0)
   pub passed : (s : ℕ) → place ≤ s → s < now → s < length columns → Shorter row v base place distances origins new_distances new_origins (get_or columns s 0)
   pub ahead : (s : ℕ) → now ≤ s → s < length columns → Stays distances origins new_distances new_origins (get_or columns s 0)
 
+-- before the first of its columns the relaxation has changed nothing
 pub Relaxing-none : (row v : List ℤ) (base : ℤ) (place : ℕ) (columns : List ℕ) (distances : List ℤ) (origins : List ℕ) →
     Relaxing row v base place place columns distances origins distances origins
 Relaxing-none row v base place columns distances origins = record {

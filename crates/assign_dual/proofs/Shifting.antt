@@ -7,6 +7,7 @@ use Rattle.qap_cost.specs.Bijection.{IsBijection}
 use Rattle.assign_dual.specs.Steps.{RaisesRows, LowersColumns}
 use Rattle.assign_dual.specs.Number.{number_at}
 
+-- with the dual of the tree's row at place p raised, those of its first p + 1 rows are
 pub RaisesRows-more : (tree_rows : List ℕ) (row_distances : List ℤ) (p : ℕ) (path : ℤ) (u new : List ℤ) (value : ℤ) →
     RaisesRows tree_rows row_distances p path u new → get_or tree_rows p 0 < length new →
     ((s : ℕ) → s < p → get_or tree_rows s 0 ≢ get_or tree_rows p 0) →
@@ -29,6 +30,7 @@ RaisesRows-more tree_rows row_distances p path u new value h within apart is =
       others = λ j none. get_or-set_other new i j value (pos 0) (λ e. none p (omega arith) (sym e)) ∙ h.others j (λ s lt. none s (omega arith));
     }
 
+-- with the dual of the column at place q lowered, those of the first q + 1 columns are
 pub LowersColumns-more : (columns : List ℕ) (distances : List ℤ) (q : ℕ) (path : ℤ) (v new : List ℤ) (value : ℤ) →
     IsBijection columns → length new ≡ length columns → q < length columns → LowersColumns columns distances q path v new →
     value ≡ number_at new (get_or columns q 0) -ℤ (path -ℤ number_at distances (get_or columns q 0)) →

@@ -7,6 +7,7 @@ use Rattle.assign_dual.specs.declared.assignment.Assignment.{Assignment}
 use Rattle.assign_dual.proofs.Least.{IsPartial-same, Assigns-partial, DualsFit-partial, dual_value-is, least-partial}
 use Rattle.assign_dual.proofs.Ranges.{u_within, v_within, v_NoneAbove}
 
+-- an assignment in whose lists all rows are placed at the least cost is a least assignment
 pub IsLeast-placed : (M : Square) (a : Assignment) (matching : List ℕ) (u v : List ℤ) → IsPlacedWhole M matching u v →
     a.matching.items ≡ matching → a.u.items ≡ u → a.v.items ≡ v → IsLeast M a
 IsLeast-placed M a matching u v whole e f g =

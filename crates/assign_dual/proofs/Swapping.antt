@@ -60,6 +60,7 @@ source_within n a b i s ha hb hi f =
       ]
     ]
 
+-- a permutation with two of its numbers swapped is a permutation
 pub IsBijection-swapped : (xs ys : List ℕ) (a b : ℕ) → IsBijection xs → length ys ≡ length xs → a < length xs → b < length xs →
     Swapped (λ i. get_or xs i 0) (λ i. get_or ys i 0) a b → IsBijection ys
 IsBijection-swapped xs ys a b order count ha hb sw = record {
@@ -75,6 +76,7 @@ IsBijection-swapped xs ys a b order count ha hb sw = record {
       same_place a b i j r.0 t.0 r.2 t.2 (order.distinct r.0 t.0 hs ht (sym r.1 ∙ e ∙ t.1));
 }
 
+-- to swap the next column with a later one keeps those that are scanned
 pub KeepsScanned-swapped : (xs ys : List ℕ) (done b : ℕ) → done ≤ b → b < length xs →
     Swapped (λ i. get_or xs i 0) (λ i. get_or ys i 0) done b → KeepsScanned xs ys done
 KeepsScanned-swapped xs ys done b from hb sw = record {

@@ -200,6 +200,7 @@ Walk-matching r columns tree_rows origins done matching row_of new new_row_of co
           ];
     }
 
+-- a walk that has arrived at the root augments, once the root's row takes the column at hand
 pub Walk-augments : (r : ℕ) (columns tree_rows origins : List ℕ) (done : ℕ) (matching : List ℕ) (row_of : List (Option ℕ)) (new : List ℕ) (new_row_of : List (Option ℕ)) (column place : ℕ) →
     IsPath columns tree_rows origins done row_of → length row_of ≡ length columns → r < length columns → r ≡ get_or tree_rows 0 0 →
     Walk (length columns) r columns tree_rows origins done matching row_of new new_row_of column place → place ≡ 0 →

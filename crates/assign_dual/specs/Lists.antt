@@ -8,6 +8,7 @@ use Rattle.assign_dual.specs.declared.lists.TreeLists.{TreeLists}
 abbrev pub HoldsTrees : ℕ → TreeLists → Type 0
 HoldsTrees n lists = (n ≤ vec_capacity lists.row_of) × (3 * n ≤ vec_capacity lists.indices)
 
+-- the same for the lists of numbers: the n * n entries, and four numbers for each column
 abbrev pub HoldsNumbers : {X : Type 0} → ℕ → NumberLists X → Type 0
 HoldsNumbers n lists = (n * n ≤ vec_capacity lists.entries) × (4 * n ≤ vec_capacity lists.zeros)
 

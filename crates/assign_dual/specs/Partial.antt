@@ -29,6 +29,7 @@ pub record IsMatching (n rows : ℕ) (matching : List ℕ) (row_of : List (Optio
 abbrev pub IsTight : Square → List ℤ → List ℤ → ℕ → ℕ → Type 0
 IsTight M u v i k = (number_at u i +ℤ number_at v k) ≡ entry_of M i k
 
+-- the duals fit the first rows, each with a column of its own at no reduced cost; a column without a row has dual 0
 pub record IsPartial (M : Square) (rows : ℕ) (matching : List ℕ) (row_of : List (Option ℕ)) (u v : List ℤ) : Type 0 where
   pub fits : FitsRows M rows u v
   pub matches : IsMatching M.size rows matching row_of

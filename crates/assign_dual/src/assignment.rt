@@ -30,7 +30,7 @@ pub struct Assignment {
 }
 
 impl Assignment {
-    /// An assignment of no rows, with memory for so many.
+    /// An assignment of no rows, with memory for this many.
     pub fn with_room(alloc: Global, rows: usize) -> Result<Assignment, AllocError>
         ensures room { IfOk result (HasRoomFor rows) }
         ensures free { rows ≡ 0 → IsOk result }
@@ -42,7 +42,7 @@ impl Assignment {
         })
     }
 
-    /// Makes its lists those of so many rows and columns, with any numbers.
+    /// Makes its lists those of this many rows and columns, with any numbers.
     fn make_ready(&mut self, rows: usize) -> Result<(), AllocError>
         ensures matching { OnOk result (length self.new.matching.items ≡ rows) }
         ensures u { OnOk result (length self.new.u.items ≡ rows) }

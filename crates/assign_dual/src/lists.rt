@@ -25,7 +25,7 @@ pub struct NumberLists<N> {
 }
 
 impl TreeLists {
-    /// Lists with memory for so many columns.
+    /// Lists with memory for this many columns.
     pub fn with_room(alloc: Global, columns: usize) -> Result<TreeLists, AllocError>
         requires { columns ≤ 256 }
         ensures holds { IfOk result (HoldsTrees columns) }
@@ -37,7 +37,7 @@ impl TreeLists {
         })
     }
 
-    /// Makes them lists of so many columns, none of which has a row.
+    /// Makes them lists of this many columns, none of which has a row.
     pub fn make_ready(&mut self, columns: usize) -> Result<(), AllocError>
         requires { columns ≤ 256 }
         ensures row_of { OnOk result (self.new.row_of.items ≡ replicate columns None) }
@@ -52,7 +52,7 @@ impl TreeLists {
 }
 
 impl<N: Number> NumberLists<N> {
-    /// Lists with memory for so many columns.
+    /// Lists with memory for this many columns.
     pub fn with_room(alloc: Global, columns: usize) -> Result<NumberLists<N>, AllocError>
         requires { columns ≤ 256 }
         ensures holds { IfOk result (HoldsNumbers columns) }
@@ -64,7 +64,7 @@ impl<N: Number> NumberLists<N> {
         })
     }
 
-    /// Makes them lists of so many columns; the entries may be any.
+    /// Makes them lists of this many columns; the entries may be any.
     pub fn make_ready(&mut self, columns: usize) -> Result<(), AllocError>
         requires { columns ≤ 256 }
         ensures entries { OnOk result (length self.new.entries.items ≡ columns * columns) }
@@ -79,7 +79,7 @@ impl<N: Number> NumberLists<N> {
     }
 }
 
-/// Makes the list so many of the item.
+/// Makes the list this many copies of the item.
 fn refill<T: Copy>(list: &mut Vec<T>, count: usize, item: T) -> Result<(), AllocError>
     ensures items { OnOk result (list.new.items ≡ replicate count item) }
     ensures there { count ≤ vec_capacity list.old → IsOk result }

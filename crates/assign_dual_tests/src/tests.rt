@@ -189,7 +189,7 @@ fn assert_same(
     Ok(())
 }
 
-/// Matrices of many sizes, whose entries take 64 bits and 128 by turns.
+/// Matrices of many sizes, whose entries take 64 bits and 128 alternately.
 #[test]
 fn a_solver_serves_many(rt: HostRuntime) -> Result<(), Fail> {
     let alloc = rt.alloc();

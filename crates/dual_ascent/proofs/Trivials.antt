@@ -16,9 +16,11 @@ use Rattle.dual_ascent.specs.AscentRange.{AreSmall}
 pub in_scale : (m : Limits) (I : Problem) (s : ℕ) → 35184372088832 ≤ m.cost → AreSmall I s → IsInScale m I s
 in_scale m I s room h = record { below = λ i j k l hi hj hk hl. omega (arith, room, h.each i j k l hi hj hk hl) }
 
+-- the same for a scale that is the same number
 pub in_scale_along : (m : Limits) (I : Problem) (s t : ℕ) → t ≡ s → 35184372088832 ≤ m.cost → AreSmall I s → IsInScale m I t
 in_scale_along m I s t same room h = subst (λ (r : ℕ). IsInScale m I r) (sym same) (in_scale m I s room h)
 
+-- copies of a number within a limit are within it
 pub AllWithin-same : (limit n : ℕ) (x : ℤ) → unsigned_abs x ≤ limit → AllWithin limit (replicate n x)
 AllWithin-same limit n x h = record {
   each = λ j below.

@@ -16,7 +16,7 @@ use pair_duals::{PairDuals, fits};
 use qap_cost::{Instance, Partial};
 use std::alloc::{AllocError, Global};
 
-/// Pair duals of a node, which fit: those that so many rounds find, one at least, from those of the node itself or
+/// Pair duals of a node, which fit: those that this many rounds find, one at least, from those of the node itself or
 /// of a node that it extends.
 ///
 /// Whatever `start` is, what is returned fits; it isn't looked at where its scale is another, or where a free facility

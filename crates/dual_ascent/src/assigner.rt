@@ -10,8 +10,8 @@ use std::alloc::{AllocError, Global};
 ///
 /// The duals of an `m` by `m` matrix are numbers `u` of its rows and `v` of its columns, whose sums `u[r] + v[c]` are
 /// no more than the entries, and which add up to the cost of a least assignment. What is found is advice, of which no
-/// clause says anything but that lists keep their lengths: sums wrap, and whoever relies on duals has to establish that
-/// they fit.
+/// clause says anything but that lists keep their lengths: sums wrap, and code that relies on duals has to establish
+/// that they fit.
 #[derive(Drop)]
 pub struct Assigner {
     matching: Matching,

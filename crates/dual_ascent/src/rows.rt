@@ -117,7 +117,7 @@ pub fn gather(from: &[i64], start: usize, step: usize, to: &mut [i64]) {
     }
 }
 
-/// Takes from each number its share, the number divided by `parts`, so many times, and writes the shares.
+/// Takes from each number its share, the number divided by `parts`, that many times, and writes the shares.
 pub fn share(numbers: &mut [i64], parts: i64, shares: &mut [i64]) {
     if shares.len() != numbers.len() {
         return;

@@ -27,6 +27,7 @@ linear_row-more n matrix placed i k =
     ap (λ l. entry n matrix i i ∷ l)
     (ap (λ l. pairs ++ l) (sym (append-nil (pair_with n matrix i k))) ∙ sym (flat_map-append (pair_with n matrix i) placed (k ∷ [])))
 
+-- the list of free locations has each of them once, ascending
 pub listed : (I : Problem) (places free : List ℕ) (rows : List ℤ) → HasLocationRows I places free rows → ListsFree I.size places free
 listed I places free rows h = subst (ListsFree I.size places) (sym h.are_free) (ListsFree-free_below I.size places h.different)
 
@@ -35,6 +36,7 @@ pub theirs : (I : Problem) (places free : List ℕ) (rows : List ℤ) → HasLoc
 theirs I places free rows h =
     subst (λ (fs : List ℕ). IsTable (2 * length places + length fs) (length fs) (IsFactorRow I Distance places fs) rows) (sym h.are_free) h.are_theirs.table
 
+-- no more than 256 locations are taken or free
 pub few : (I : Problem) (places free : List ℕ) (rows : List ℤ) → IsInstance I → HasLocationRows I places free rows → length places + length free ≤ 256
 few I places free rows instance h = let count = (listed I places free rows h).count in omega (arith, count, instance.small)
 
@@ -46,6 +48,7 @@ from_skip s r q before after =
       | inr more ↦ omega (arith, after more, skip-after s r more)
     ]
 
+-- the number of a row among the parent's is below how many rows the parent has
 pub from_below : (s r q m : ℕ) → (r < s → q ≡ r) → (s ≤ r → q ≡ r + 1) → r < m - 1 → q < m
 from_below s r q m before after h =
     elim (cases_lt r s) [
@@ -62,6 +65,7 @@ parts I places free q row f =
       ap (drop (1 + 2 * length places)) f.is ∙ drop_at linear f.sorted (1 + 2 * length places) count,
     )
 
+-- behind its entries with itself and with the taken locations, each row of the distances descends
 pub row_falls : (I : Problem) (places free : List ℕ) (rows row : List ℤ) (q : ℕ) → HasLocationRows I places free rows → q < length free → row ≡ segment (2 * length places + length free) rows q → IsDescending (drop (1 + 2 * length places) row)
 row_falls I places free rows row q h below is =
     let f : IsFactorRow I Distance places free q row = subst (IsFactorRow I Distance places free q) (sym is) ((theirs I places free rows h).rows q below) in

@@ -261,6 +261,8 @@ pub record IsSeated (I : Problem) (x : Placement) (M : Square) (p : List ℕ) : 
   pub seating : IsSeating x p seat
   pub below : (fixed_cost_of I x +ℤ assignment_cost M seat) ≤ℤ cost_of I p
 
+-- a permutation that completes a node assigns the free facilities to the free locations, and costs no less than the
+-- node's fixed cost and that assignment of the reduced matrix
 pub IsSeated-from_completes : (I : Problem) (x : Placement) (M : Square) (p : List ℕ) → IsPlacement x → I.size ≡ x.size → IsReduced I x M → Completes x p → IsSeated I x M p
 IsSeated-from_completes I x M p placement same reduced done =
     let node : Halves I.size x = Halves-from_placement I.size x placement same in
@@ -276,6 +278,7 @@ IsSeated-from_completes I x M p placement same reduced done =
     let cost = cost_in_parts I x p node done in
     record { seat = seat; seating = s; below = omega (arith, ints, below, rows, cost) }
 
+-- where duals fit the reduced matrix, no permutation that completes the node costs less than fixed cost and duals
 pub fixed_and_duals-le : (I : Problem) (x : Placement) (M : Square) (u v : List ℤ) (p : List ℕ) → IsPlacement x → I.size ≡ x.size → IsReduced I x M → DualsFit M u v → Completes x p → (fixed_cost_of I x +ℤ dual_value u v) ≤ℤ cost_of I p
 fixed_and_duals-le I x M u v p placement same reduced fit done =
     let seated = IsSeated-from_completes I x M p placement same reduced done in

@@ -17,12 +17,15 @@ use Rattle.gilmore_lawler.proofs.Skips.{sum_to-split}
 pub reads_narrow : (x : ℤ) → InRange x → to_z w32 (of_z w32 x) ≡ x
 reads_narrow x h = to_z-of_z w32 x (fits_signed_from_abs w32 x (omega arith))
 
+-- an entry held in 64 bits is held in 32
 pub narrowed : (x y : ℤ) → InRange x → y ≡ to_z w64 (of_z w64 x) → to_z w32 (of_z w32 y) ≡ x
 narrowed x y h is = ap (λ (z : ℤ). to_z w32 (of_z w32 z)) (is ∙ reads_entry x h) ∙ reads_narrow x h
 
+-- a number no further from 0 than 8 * 10^18 is held in 64 bits
 pub reads_sum : (z : ℤ) → unsigned_abs z ≤ 8000000000000000000 → to_z w64 (of_z w64 z) ≡ z
 reads_sum z h = to_z-of_z w64 z (fits_signed_from_abs w64 z (omega arith))
 
+-- a number no further from 0 than 10^21 is held in 128 bits
 pub reads_total : (z : ℤ) → unsigned_abs z ≤ 1000000000000000000000 → to_z w128 (of_z w128 z) ≡ z
 reads_total z h = to_z-of_z w128 z (fits_signed_from_abs w128 z (omega arith))
 

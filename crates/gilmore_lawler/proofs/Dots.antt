@@ -18,6 +18,7 @@ use Rattle.gilmore_lawler.proofs.Rearrangement.{product_along, IsLeastProduct-so
 use Rattle.gilmore_lawler.proofs.Skips.{sum_to-split}
 use Rattle.gilmore_lawler.proofs.Tables.{length-others, length-linear_row}
 
+-- the sum of products of lists in two parts is the sum of those of both parts
 pub dot-append : (xs ys us vs : List ℤ) → length xs ≡ length us → dot (xs ++ ys) (us ++ vs) ≡ dot xs us +ℤ dot ys vs
 dot-append xs ys us vs same =
     let f = product_along (xs ++ ys) (us ++ vs) in
@@ -29,6 +30,7 @@ dot-append xs ys us vs same =
     (sum_to-same (λ j. f (length xs + j)) (product_along ys vs) (length ys) (λ j h.
     ap₂ ◌*ℤ◌ (get_or-append-add xs ys j (pos 0)) (ap (λ k. get_or (us ++ vs) (k + j) (pos 0)) same ∙ get_or-append-add us vs j (pos 0))))
 
+-- of lists of one number each it is their product
 pub dot-one : (x y : ℤ) → dot (x ∷ []) (y ∷ []) ≡ x *ℤ y
 dot-one x y = omega (arith, ints)
 
@@ -39,6 +41,7 @@ dot-two x y u v = omega (arith, ints)
 abbrev pairs_along : (f f' g g' : ℕ → ℤ) (ps qs : List ℕ) → ℕ → ℤ
 pairs_along f f' g g' ps qs t = f (get_or ps t 0) *ℤ g (get_or qs t 0) +ℤ f' (get_or ps t 0) *ℤ g' (get_or qs t 0)
 
+-- of lists of pairs it is the sum of what each pair gives
 pub dot-pairs : (f f' g g' : ℕ → ℤ) (ps qs : List ℕ) → length qs ≡ length ps → dot (flat_map (λ h. f h ∷ f' h ∷ []) ps) (flat_map (λ h. g h ∷ g' h ∷ []) qs) ≡ sum_to (pairs_along f f' g g' ps qs) (length ps)
 dot-pairs f f' g g' [] [] same = refl
 dot-pairs f f' g g' [] (q ∷ qs) same = absurd (omega arith)
@@ -56,6 +59,7 @@ dot-pairs f f' g g' (p ∷ ps) (q ∷ qs) same =
     ∙ ap₂ ◌+ℤ◌ (dot-two (f p) (f' p) (g q) (g' q)) (dot-pairs f f' g g' ps qs (omega arith))
     ∙ sym (ap (sum_to all) (sym e) ∙ sum_to-split all 1 n ∙ ap₂ ◌+ℤ◌ first rest)
 
+-- a sum of products of entries is no further from 0 than 10^18 for each place
 pub dot-bound : (xs ys : List ℤ) → AllInRange xs → AllInRange ys → length xs ≤ length ys → unsigned_abs (dot xs ys) ≤ length xs * 1000000000000000000
 dot-bound xs ys x y h =
     sum_to-bound (product_along xs ys) (length xs) 1000000000000000000 (λ j below.

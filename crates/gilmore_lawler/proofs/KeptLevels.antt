@@ -1,4 +1,4 @@
--- Levels that are kept, of which one is made anew.
+-- Levels that are kept, of which one is made again.
 use Rattle.std.proofs.Common.{◌≡◌, ℕ, ◌-◌, ◌<◌, ◌++◌, ◌∙◌, sym, ap, subst, arith, List, take, drop, set, length, get_or}
 use Rattle.std.specs.Prelude.{Result, Ok, Err, OnOk}
 use Rattle.std.specs.List.{All}
@@ -23,6 +23,7 @@ level_there above below own d k at some =
     ∙ ap (λ (j : ℕ). get_or (set below 0 own) j d) first
     ∙ get_or-set_same below 0 own d some
 
+-- with its own rows put at the level of its depth, the levels have the node's rows
 pub HasLevel-made : (I : Problem) (x : Placement) (above below : List Level) (own : Level) → length above ≡ length x.places → 0 < length below → HasFlowRows (record { instance = I; facilities = x.facilities }) own.flows.rows.items
     → HasDistanceRows I x.places own.distances.known.rows.items → HasLevel I x (above ++ set below 0 own)
 HasLevel-made I x above below own at some flows distances = record {

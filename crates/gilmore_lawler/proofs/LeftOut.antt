@@ -58,6 +58,7 @@ IsArranged-remove xs ys s a h =
       },
     )
 
+-- a list that falls still falls without one of its numbers
 pub IsDescending-remove : (xs : List ℤ) (t : ℕ) → t < length xs → IsDescending xs → IsDescending (remove xs t)
 IsDescending-remove xs t h down = record {
   falls = λ i j ij below.
@@ -151,6 +152,7 @@ pub record Crossed (s r : ℕ) : Type 0 where
   pub crossed : (j : ℕ) → skip (skip s r) (skip place j) ≡ skip s (skip r j)
   pub within : (n : ℕ) → s < n → r + 1 < n → place + 1 < n
 
+-- number s and the one at place r of the others may be left out in either order: each has its place in what is left
 pub crossed_at : (s r : ℕ) → Crossed s r
 crossed_at s r =
     elim (cases_lt r s) [
@@ -173,6 +175,7 @@ crossed_at s r =
           }
     ]
 
+-- the entries of a parent's row, in order, are those of the child's row and the one with the location that it takes
 pub LeavesOut-of : (n : ℕ) (matrix : List ℤ) (free : List ℕ) (s r : ℕ) (sorted : List ℤ) → s < length free → r + 1 < length free → IsArranged (others n matrix free (skip s r)) sorted → LeavesOut n matrix free s r sorted
 LeavesOut-of n matrix free s r sorted hs hr a =
     let q = skip s r in

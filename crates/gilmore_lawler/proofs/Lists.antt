@@ -14,10 +14,12 @@ use Rattle.gilmore_lawler.specs.Order.{IsArranged}
 pub list_of : (ℕ → ℕ) → ℕ → List ℕ
 list_of f n = map f (range_with_len 0 n)
 
+-- the list of f at n numbers has n numbers
 pub length-list_of : (f : ℕ → ℕ) (n : ℕ) → length (list_of f n) ≡ n
 unfolding list_of
 length-list_of f n = length-map-range_with_len f 0 n
 
+-- at place i it has f(i)
 pub get_or-list_of : (f : ℕ → ℕ) (n i : ℕ) → i < n → get_or (list_of f n) i 0 ≡ f i
 unfolding list_of
 get_or-list_of f n i h = get_or-map-range_with_len f 0 n i i 0 h (omega arith)
@@ -40,14 +42,17 @@ IsBijection-list_of f n within distinct =
 pub composed : List ℕ → List ℕ → List ℕ
 composed p q = list_of (λ i. get_or p (get_or q i 0) 0) (length q)
 
+-- the composed list is as long as q
 pub length-composed : (p q : List ℕ) → length (composed p q) ≡ length q
 unfolding composed
 length-composed p q = length-list_of (λ i. get_or p (get_or q i 0) 0) (length q)
 
+-- at place i it has what p has at q(i)
 pub get_or-composed : (p q : List ℕ) (i : ℕ) → i < length q → get_or (composed p q) i 0 ≡ get_or p (get_or q i 0) 0
 unfolding composed
 get_or-composed p q i h = get_or-list_of (λ i. get_or p (get_or q i 0) 0) (length q) i h
 
+-- one permutation after another is a permutation
 pub IsBijection-composed : (p q : List ℕ) → IsBijection p → IsBijection q → length p ≡ length q → IsBijection (composed p q)
 unfolding composed
 IsBijection-composed p q bp bq same =

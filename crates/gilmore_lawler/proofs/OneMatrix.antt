@@ -23,10 +23,12 @@ IsReducedEntry-unique : (I : Problem) (x : Placement) (r c : ℕ) (s t : ℤ) �
 IsReducedEntry-unique I x r c s t a b =
     a.sum ∙ ap (λ z. linear_cost I x (get_or (free_facilities x) r 0) (get_or (free_locations x) c 0) +ℤ z) (IsLeastProduct-unique _ _ a.least b.least a.is_least b.is_least) ∙ sym b.sum
 
+-- a square above some number is that of a positive number
 pub positive_root : (n k : ℕ) → k < n * n → 0 < n
 positive_root zero k h = omega arith
 positive_root (suc n) k h = omega arith
 
+-- the row of an entry of an n by n matrix is below n
 pub row_below : (n r c k : ℕ) → k < n * n → r * n + c ≡ k → r < n
 row_below n r c k h e =
     elim (cases_lt r n) [

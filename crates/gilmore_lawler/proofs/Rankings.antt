@@ -122,9 +122,11 @@ filter-map f p (y ∷ ys) = filter-map_step f y (p (f y)) (filter p (map f ys)) 
 
 -- two lists that rise and have the same numbers are one
 
+-- each number is above all those before it
 abbrev pub Rises : List ℕ → Type 0
 Rises xs = (i j : ℕ) → i < j → j < length xs → get_or xs i 0 < get_or xs j 0
 
+-- each number of xs is one of ys
 abbrev pub IsWithin : List ℕ → List ℕ → Type 0
 IsWithin xs ys = (i : ℕ) → i < length xs → (j : ℕ) × (j < length ys) × (get_or ys j 0 ≡ get_or xs i 0)
 
@@ -138,6 +140,7 @@ first-le : (x y : ℕ) (ys : List ℕ) → Rises (y ∷ ys) → (j : ℕ) → j 
 first-le x y ys up zero below e = omega arith
 first-le x y ys up (suc j) below e = omega (arith, up 0 (suc j) (omega arith) below)
 
+-- two lists that rise and have the same numbers are one
 pub same_rising : (xs ys : List ℕ) → Rises xs → Rises ys → IsWithin xs ys → IsWithin ys xs → xs ≡ ys
 same_rising [] [] up_x up_y there back = refl
 same_rising [] (y ∷ ys) up_x up_y there back = absurd (omega (arith, (back 0 (omega arith)).1))
@@ -229,6 +232,7 @@ PicksBelow-remove n free r flags small h up below f =
 no_entry : Ranked
 no_entry = record { value = pos 0; column = 0 }
 
+-- of a facility's row in order, the entries in the free columns other than its own are those with the other free ones
 pub IsPermutation-others_in : (I : Problem) (side : Side) (free : List ℕ) (r : ℕ) (flags : List Bool) (row : List Ranked) → I.size ≤ 256 → r < length free → IsStrictlyIncreasing free → AllBelow I.size free → Flags free flags → IsRanking I side (get_or free r 0) row → IsPermutation (others I.size (matrix_of I side) free r) (others_in flags (get_or free r 0) row)
 unfolding is_other_column
 IsPermutation-others_in I side free r flags row small h up below f ranking =
@@ -265,6 +269,7 @@ kept_in_order R p row h i j before below =
     let here = AllPairs-filter (λ (x y : Ranked). R x.value y.value) p row all i j no_entry before (omega (arith, kept_count)) in
     rw (get_or-values kept i (omega arith) no_entry, get_or-values kept j below no_entry) here
 
+-- a row in order is still in order once some of its entries are left out
 pub IsOrdered-filter : (side : Side) (p : Ranked → Bool) (row : List Ranked) → IsOrdered side (values_of row) → IsOrdered side (values_of (filter p row))
 IsOrdered-filter Flow p row up = record {
   rises = λ i j h below.
@@ -293,6 +298,7 @@ IsAscending-from_keys row sorted = record {
       rw (get_or-values row i (omega arith) no_entry, get_or-values row j below no_entry) (not_below x y (int_cmp x y) (int_ranks x y) last);
 }
 
+-- a row whose entries ascend, reversed, is one whose entries descend
 pub IsDescending-values_reverse : (row : List Ranked) → IsAscending (values_of row) → IsDescending (values_of (reverse row))
 IsDescending-values_reverse row up =
     record {
@@ -327,10 +333,12 @@ entries_more f old now new x j before pushed is =
     ∙ append_assoc old (map f (range_with_len 0 j)) (f j ∷ [])
     ∙ ap (λ xs. old ++ xs) (sym (map-range_with_len_more f 0 j j (omega arith)))
 
+-- a row in order has an entry for each column
 pub length-ranking : (I : Problem) (side : Side) (i : ℕ) (row : List Ranked) → IsRanking I side i row → length row ≡ I.size
 length-ranking I side i row ranking =
     length_permutation (map (entry_with_column I.size (matrix_of I side) i) (range_with_len 0 I.size)) row ranking.moved
     ∙ length-map-range_with_len (entry_with_column I.size (matrix_of I side) i) 0 I.size
 
+-- a number with its column
 abbrev pub with_column : ℕ → ℤ → Ranked
 with_column j x = record { value = x; column = j }

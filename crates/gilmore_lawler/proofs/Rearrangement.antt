@@ -95,6 +95,7 @@ diagonal-le f p m b =
     (λ i h. duals_below f n i (get_or p i 0) m h (b.within i h)) in
     omega (arith, ints, diagonal, split, joined, order, below)
 
+-- where x is found not to be below y, y is at most x
 pub not_below : (x y : ℤ) (o : Ordering) → MatchOrdering o (x <ℤ y) (x ≡ y) (y <ℤ x) → is_lt o ≡ false → y ≤ℤ x
 not_below x y Less h e = cc
 not_below x y Equal h e = omega (arith, ints)
@@ -109,6 +110,7 @@ IsAscending-from_sort xs sorted = record {
       not_below (get_or xs j (pos 0)) (get_or xs i (pos 0)) (int_cmp (get_or xs j (pos 0)) (get_or xs i (pos 0))) (int_ranks (get_or xs j (pos 0)) (get_or xs i (pos 0))) last;
 }
 
+-- a list that ascends, reversed, descends
 pub IsDescending-reverse : (xs : List ℤ) → IsAscending xs → IsDescending (reverse xs)
 IsDescending-reverse xs up = record {
   falls = λ i j h below.
@@ -224,5 +226,6 @@ AllWithin-arranged l xs ys a h = record {
       rw (a.reads j here) (h.each (get_or a.order j 0) (omega (arith, a.count, a.bijection.within j (omega (arith, a.count)))));
 }
 
+-- a reordering of a copy of a list is the list in another order
 pub IsArranged-from_copy : (xs copy ys : List ℤ) → copy ≡ xs → IsPermutation copy ys → IsArranged xs ys
 IsArranged-from_copy xs copy ys same moved = IsArranged-from_permutation xs ys (subst (λ (zs : List ℤ). IsPermutation zs ys) same moved)

@@ -24,6 +24,7 @@ use Rattle.gilmore_lawler.proofs.Tables.{get_or-segment, length-segment, AllWith
 pub AllBelow-different : (n : ℕ) (xs : List ℕ) → AreDifferent n xs → AllBelow n xs
 AllBelow-different n xs h = record { each = h.within }
 
+-- the numbers of a list of the free ones are below n
 pub AllBelow-listed : (n : ℕ) (taken free : List ℕ) → ListsFree n taken free → AllBelow n free
 AllBelow-listed n taken free h = record { each = λ j below. (h.each j below).within }
 
@@ -48,6 +49,7 @@ entry_is I x a b entries r c h hr hc =
     ∙ ap (λ xs. get_or xs c (pos 0)) (h.products.rows r hr)
     ∙ get_or-map-range_with_len (λ k. dot (segment w a r) (segment w b k)) 0 m c c (pos 0) hc (omega arith)
 
+-- the products of the rows of the two tables of a node are its reduced matrix
 pub IsReduced-from_products : (I : Problem) (x : Placement) (a b entries : List ℤ) → IsPlacement x → HasProducts I x a b entries → IsReduced I x (record { size = x.size - length x.facilities; entries = entries })
 IsReduced-from_products I x a b entries node h =
     let d = length x.facilities in
@@ -69,6 +71,7 @@ IsReduced-from_products I x a b entries node h =
           (IsReducedEntry-from_rows I x r c (segment w a r) (segment w b c) node.paired (omega (arith, columns, rows, node.paired)) (omega (arith, free_count)) (omega (arith, free_count)) ra rb);
     }
 
+-- the entries of that matrix are no further from 0 than 512 * 10^18
 pub AllWithin-from_products : (I : Problem) (x : Placement) (a b entries : List ℤ) → IsPlacement x → HasProducts I x a b entries → AllWithin 512000000000000000000 entries
 AllWithin-from_products I x a b entries node h =
     let d = length x.facilities in
@@ -115,11 +118,12 @@ HasProducts-from_calls I x n d placed facilities places locations a b a' b' entr
           (subst (λ (l : ℕ). IsTable (l - d) (l - d) (IsProductRow (l + d) (l - d) a' b') entries) en te)));
     }
 
+-- the same numbers are below the same bound
 pub AllBelow-along : (n m : ℕ) (xs ys : List ℕ) → n ≡ m → xs ≡ ys → AllBelow m ys → AllBelow n xs
 AllBelow-along n m xs ys e f h =
     subst (λ (k : ℕ). AllBelow k xs) (sym e) (subst (AllBelow m) (sym f) h)
 
--- the matrix that was made of so many rows
+-- the matrix that was made of this many rows
 pub made_is : (o : Option Square) (n d n' d' : ℕ) (entries : List ℤ) (M : Square) → MatchOption o (IsMatrix (record { size = n - d; entries = entries }) → ⊥) (λ N. (N ≡ record { size = n - d; entries = entries }) × IsMatrix (record { size = n - d; entries = entries })) → o ≡ Some M → n ≡ n' → d ≡ d' → M ≡ record { size = n' - d'; entries = entries }
 made_is o n d n' d' entries M h e en ed =
     let made : Square = record { size = n - d; entries = entries } in
@@ -133,6 +137,7 @@ length-flow_rows I x n d a node same en ed h =
     let count : free + length x.facilities ≡ x.size = subst (λ (k : ℕ). length (free_below k x.facilities) + length x.facilities ≡ x.size) (sym same) (ListsFree-free_below x.size x.facilities node.facilities).count in
     h.table.size ∙ ap₂ ◌*◌ (omega (arith, count, same, en, ed)) (omega (arith, count, same, en, ed))
 
+-- the rows of the n - d free locations have n + d numbers each
 pub length-distance_rows : (I : Problem) (x : Placement) (n d : ℕ) (b : List ℤ) → IsPlacement x → I.size ≡ x.size → n ≡ I.size → d ≡ length x.facilities → HasDistanceRows I x.places b → length b ≡ (n - d) * (n + d)
 length-distance_rows I x n d b node same en ed h =
     let free = length (free_below I.size x.places) in
@@ -151,7 +156,7 @@ products_of w m a b (suc r) =
           (IsTable-more m r (IsProductRow w m a b) before.0 row before.1 (length-map-range_with_len (λ k. dot (segment w a r) (segment w b k)) 0 m) refl),
     )
 
--- whether the products fit tells whether the duals fit the matrix that they are
+-- the products fit if and only if the duals fit the matrix that they are
 pub TellsFit-from_products : (I : Problem) (x : Placement) (a b u v : List ℤ) (fit : Bool) → IsPlacement x → I.size ≡ x.size → IsInstance I → HasFlowRows (record { instance = I; facilities = x.facilities }) a → HasDistanceRows I x.places b → length u ≡ x.size - length x.facilities → length v ≡ x.size - length x.facilities
     → (IsTrue fit ↔ ProductsFit (x.size + length x.facilities) a b u v) → TellsFit I x u v fit
 TellsFit-from_products I x a b u v fit node same instance flows distances u_count v_count told =

@@ -19,18 +19,21 @@ unskip zero t = t - 1
 unskip (suc r) zero = zero
 unskip (suc r) (suc t) = suc (unskip r t)
 
+-- before place r the number at each place is that place
 pub skip-before : (r j : ℕ) → j < r → skip r j ≡ j
 unfolding skip
 skip-before zero j h = absurd (omega arith)
 skip-before (suc r) zero h = refl
 skip-before (suc r) (suc j) h = ap suc (skip-before r j (omega arith))
 
+-- from place r on it is one more
 pub skip-after : (r j : ℕ) → r ≤ j → skip r j ≡ suc j
 unfolding skip
 skip-after zero j h = refl
 skip-after (suc r) zero h = absurd (omega arith)
 skip-after (suc r) (suc j) h = ap suc (skip-after r j (omega arith))
 
+-- it is never r
 pub skip-other : (r j : ℕ) → skip r j ≢ r
 skip-other r j e =
     elim (cases_lt j r) [
@@ -38,6 +41,7 @@ skip-other r j e =
       | inr more ↦ omega (arith, skip-after r j more)
     ]
 
+-- no two places have the same number
 pub skip-injective : (r i j : ℕ) → skip r i ≡ skip r j → i ≡ j
 skip-injective r i j e =
     elim (cases_lt i r) [
@@ -59,6 +63,7 @@ skip-skip (suc a) zero j h = absurd (omega arith)
 skip-skip (suc a) (suc b) zero h = refl
 skip-skip (suc a) (suc b) (suc j) h = ap suc (skip-skip a b j (omega arith))
 
+-- the first n places have numbers up to n
 pub skip-within : (r j n : ℕ) → j < n → skip r j < suc n
 skip-within r j n h =
     elim (cases_lt j r) [
@@ -74,6 +79,7 @@ skip-unskip zero (suc t) n = omega arith
 skip-unskip (suc r) zero n = refl
 skip-unskip (suc r) (suc t) n = ap suc (skip-unskip r t (λ e. n (ap suc e)))
 
+-- where r is at most n, a number up to n other than r has one of the first n places
 pub unskip-within : (r t n : ℕ) → r ≤ n → t ≤ n → t ≢ r → unskip r t < n
 unskip-within r t n hr ht other =
     let e = skip-unskip r t other in
@@ -114,10 +120,12 @@ sum_to-split f d (suc m) =
     let ih = sum_to-split f d m in
     omega (arith, ints, same, ih)
 
+-- a list without one of its items is one item shorter
 pub length-remove : {X : Type 0} (xs : List X) (r : ℕ) → r < length xs → length (remove xs r) + 1 ≡ length xs
 length-remove xs r h =
     omega (arith, length-append (take r xs) (drop (suc r) xs), length-take-le r xs (omega arith), length-drop (suc r) xs)
 
+-- its item at each place is that at the same one of the places other than r
 pub get_or-remove : {X : Type 0} (xs : List X) (r j : ℕ) (d : X) → r < length xs → get_or (remove xs r) j d ≡ get_or xs (skip r j) d
 get_or-remove xs r j d h =
     let front = length-take-le r xs (omega arith) in

@@ -39,6 +39,7 @@ count_of s flows linear places free distances fixed k m h at count =
     let here = stands s flows linear places free distances fixed k h at in
     omega (arith, counts, here.1, count, h.same_size)
 
+-- the rows of the flows that all children of a split have are m rows of n + d + 1 numbers
 pub flows_count : (s : Split) (flows linear : List ℤ) (places free : List ℕ) (distances : List ℤ) (fixed : ℤ) (k m n d : ℕ) → HasSplitRows s flows linear places free distances fixed → IsFreeLocation s.node k → m + length s.node.facilities + 1 ≡ s.node.size → n ≡ s.instance.size → d ≡ length s.node.facilities → length flows ≡ m * (n + d + 1)
 flows_count s flows linear places free distances fixed k m n d h at count en ed =
     let x = placing s.node s.facility k in
@@ -46,6 +47,7 @@ flows_count s flows linear places free distances fixed k m n d h at count en ed 
     length-flow_rows s.instance x n (d + 1) flows (IsPlacement-placing s.node s.facility k h.placement h.facility at) h.same_size en (omega (arith, deep, ed)) h.flows_are
     ∙ ap₂ ◌*◌ (omega (arith, count, en, ed, h.same_size)) (omega arith)
 
+-- so are the rows of the distances of a child
 pub distances_count : (s : Split) (flows linear : List ℤ) (places free : List ℕ) (distances : List ℤ) (fixed : ℤ) (k m n d : ℕ) (b : List ℤ) → HasSplitRows s flows linear places free distances fixed → IsFreeLocation s.node k → m + length s.node.facilities + 1 ≡ s.node.size → n ≡ s.instance.size → d ≡ length s.node.facilities
     → HasDistanceRows s.instance (places ++ k ∷ []) b → length b ≡ m * (n + d + 1)
 distances_count s flows linear places free distances fixed k m n d b h at count en ed made =
@@ -54,7 +56,7 @@ distances_count s flows linear places free distances fixed k m n d b h at count 
     length-distance_rows s.instance x n (d + 1) b (IsPlacement-placing s.node s.facility k h.placement h.facility at) h.same_size en (omega (arith, deep, ed)) (subst (λ (taken : List ℕ). HasDistanceRows s.instance (taken ++ k ∷ []) b) h.at made)
     ∙ ap₂ ◌*◌ (omega (arith, count, en, ed, h.same_size)) (omega arith)
 
--- whether the products fit tells whether the duals fit the child's reduced matrix
+-- the products fit if and only if the duals fit the child's reduced matrix
 pub child_fits : (s : Split) (flows linear : List ℤ) (places free : List ℕ) (distances : List ℤ) (fixed : ℤ) (k n d : ℕ) (b u v : List ℤ) (fit : Bool) → HasSplitRows s flows linear places free distances fixed → IsInstance s.instance → IsFreeLocation s.node k
     → length u + length s.node.facilities + 1 ≡ s.node.size → length v + length s.node.facilities + 1 ≡ s.node.size → n ≡ s.instance.size → d ≡ length s.node.facilities
     → HasDistanceRows s.instance (places ++ k ∷ []) b → (IsTrue fit ↔ ProductsFit (n + d + 1) flows b u v) → TellsFit s.instance (placing s.node s.facility k) u v fit
@@ -121,6 +123,7 @@ linear_part s flows linear places free distances fixed k j n d row h below at en
     ∙ (parts s.instance places free j row known).0
     ∙ ap₂ (λ (taken : List ℕ) (l : ℕ). linear_row s.instance.size s.instance.b taken l) h.at at
 
+-- the fixed cost of a child is that of its node and the products of the facility's flows with the location's distances
 pub fixed_child : (s : Split) (flows linear : List ℤ) (places free : List ℕ) (distances : List ℤ) (fixed : ℤ) (k : ℕ) (part : List ℤ) → HasSplitRows s flows linear places free distances fixed → part ≡ linear_row s.instance.size s.instance.b s.node.places k
     → fixed +ℤ dot linear part ≡ fixed_cost_of s.instance (placing s.node s.facility k)
 fixed_child s flows linear places free distances fixed k part h is =

@@ -32,6 +32,7 @@ segment-before w k r xs row h count =
 segment-last : {X : Type 0} (w k : ℕ) (xs row : List X) → length xs ≡ k * w → length row ≡ w → segment w (xs ++ row) k ≡ row
 segment-last w k xs row count width = ap (take w) (drop_at xs row (k * w) count) ∙ take_all w row (omega arith)
 
+-- the empty list is a table of no rows
 pub IsTable-none : {X : Type 0} (w : ℕ) (P : ℕ → List X → Type 0) → IsTable w 0 P []
 IsTable-none w P = record { size = omega arith; rows = λ r h. absurd (omega arith) }
 
@@ -50,6 +51,7 @@ IsTable-more w k P xs row t width here = record {
       ];
 }
 
+-- each row of a table has its width
 pub length-segment : {X : Type 0} (w k r : ℕ) (xs : List X) → r < k → length xs ≡ k * w → length (segment w xs r) ≡ w
 length-segment w k r xs h count =
     let inside = row_end-le r k w h in
@@ -59,9 +61,11 @@ length-segment w k r xs h count =
 pub get_or-segment : (w r j : ℕ) (xs : List ℤ) → j < w → get_or (segment w xs r) j (pos 0) ≡ get_or xs (r * w + j) (pos 0)
 get_or-segment w r j xs h = get_or-take w (drop (r * w) xs) j (pos 0) h ∙ get_or-drop (r * w) xs j (pos 0)
 
+-- the numbers of the empty list are within any limit
 pub AllWithin-none : (l : ℕ) → AllWithin l []
 AllWithin-none l = record { each = λ j h. absurd (omega arith) }
 
+-- where the numbers of two lists are within a limit, so are those of both together
 pub AllWithin-append : (l : ℕ) (xs ys : List ℤ) → AllWithin l xs → AllWithin l ys → AllWithin l (xs ++ ys)
 AllWithin-append l xs ys x y = record {
   each = λ j h.
@@ -77,6 +81,7 @@ AllWithin-map l f xs h = record {
   each = λ j below. subst (λ (z : ℤ). unsigned_abs z ≤ l) (sym (get_or-map f xs j 0 (pos 0) (omega (arith, length-map xs f)))) (h (get_or xs j 0));
 }
 
+-- where the numbers of a table are within a limit, so are those of each row
 pub AllWithin-segment : (l w k r : ℕ) (xs : List ℤ) → r < k → length xs ≡ k * w → AllWithin l xs → AllWithin l (segment w xs r)
 AllWithin-segment l w k r xs h count x = record {
   each = λ j below.
@@ -101,6 +106,7 @@ AllWithin-pairs l n matrix (g ∷ placed) i h =
     (AllWithin-append l (entry n matrix i g ∷ []) (entry n matrix g i ∷ []) there back)
     (AllWithin-pairs l n matrix placed i h)
 
+-- the entries of i with itself and with the placed ones are within the limit of the matrix
 pub AllWithin-linear_row : (l n : ℕ) (matrix : List ℤ) (placed : List ℕ) (i : ℕ) → AllWithin l matrix → AllWithin l (linear_row n matrix placed i)
 AllWithin-linear_row l n matrix placed i h =
     let own : AllWithin l (entry n matrix i i ∷ []) = AllWithin-map l (λ k. entry n matrix i k) (i ∷ []) (λ k. within-read l matrix (i * n + k) h) in
@@ -115,6 +121,7 @@ pub AllInRange-matrix : (I : Problem) (side : Side) → IsInstance I → AllInRa
 AllInRange-matrix I Flow h = record { each = λ j below. h.a_range j (omega (arith, h.a_count)) }
 AllInRange-matrix I Distance h = record { each = λ j below. h.b_range j (omega (arith, h.b_count)) }
 
+-- the matrix of either side has an entry for each pair
 pub length-matrix : (I : Problem) (side : Side) → IsInstance I → length (matrix_of I side) ≡ I.size * I.size
 length-matrix I Flow h = h.a_count
 length-matrix I Distance h = h.b_count
@@ -135,9 +142,11 @@ length-pairs n matrix [] i = refl
 length-pairs n matrix (h ∷ placed) i =
     omega (arith, length-append (pair_with n matrix i h) (flat_map (pair_with n matrix i) placed), length-pairs n matrix placed i)
 
+-- it has one entry of i with itself, and two with each placed one
 pub length-linear_row : (n : ℕ) (matrix : List ℤ) (placed : List ℕ) (i : ℕ) → length (linear_row n matrix placed i) ≡ 1 + 2 * length placed
 length-linear_row n matrix placed i = omega (arith, length-pairs n matrix placed i)
 
+-- a free one has one other fewer than there are free ones
 pub length-others : (n : ℕ) (matrix : List ℤ) (free : List ℕ) (r : ℕ) → r < length free → length (others n matrix free r) + 1 ≡ length free
 length-others n matrix free r h =
     omega (arith, length-map (remove free r) (entry n matrix (get_or free r 0)), length-remove free r h)
@@ -147,12 +156,14 @@ pub record HasFactors (I : Problem) (side : Side) (placed free : List ℕ) (r : 
   pub rows : IsTable (2 * length placed + length free) r (IsFactorRow I side placed free) table
   pub range : (l : ℕ) → AllWithin l (matrix_of I side) → AllWithin l table
 
+-- before the first free one the table is empty
 pub HasFactors-none : (I : Problem) (side : Side) (placed free : List ℕ) → HasFactors I side placed free 0 []
 HasFactors-none I side placed free = record {
   rows = IsTable-none (2 * length placed + length free) (IsFactorRow I side placed free);
   range = λ l h. AllWithin-none l;
 }
 
+-- with its linear part and its others in order added, the table has the row of free one r
 pub HasFactors-more : (I : Problem) (side : Side) (placed free : List ℕ) (r i : ℕ) (table linear sorted new : List ℤ) → HasFactors I side placed free r table → r < length free → i ≡ get_or free r 0 → linear ≡ table ++ linear_row I.size (matrix_of I side) placed i → IsArranged (others I.size (matrix_of I side) free r) sorted → IsOrdered side sorted → new ≡ linear ++ sorted → HasFactors I side placed free (r + 1) new
 HasFactors-more I side placed free r i table linear sorted new h below e first moved ordered whole =
     let n = I.size in

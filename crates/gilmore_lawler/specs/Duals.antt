@@ -18,7 +18,7 @@ pub record RowProductsFit (row others : List ℤ) (x : ℤ) (v : List ℤ) : Typ
 pub record ProductsFit (width : ℕ) (rows others u v : List ℤ) : Type 0 where
   pub below : (i k : ℕ) → i < length u → k < length v → (slice_index_or u i (pos 0) +ℤ slice_index_or v k (pos 0)) ≤ℤ dot (segment width rows i) (segment width others k)
 
--- it tells whether the duals fit the node's reduced matrix
+-- it is true if and only if the duals fit the node's reduced matrix
 pub record TellsFit (I : Problem) (x : Placement) (u v : List ℤ) (fit : Bool) : Type 0 where
   pub matrix : Square
   pub square : IsMatrix matrix

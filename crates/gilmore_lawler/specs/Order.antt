@@ -2,9 +2,11 @@
 use Rattle.std.specs.Prelude.{◌≡◌, ℕ, ◌<◌, ◌≤◌, List, length, ℤ, pos, ◌≤ℤ◌, slice_index, slice_index_or}
 use Rattle.qap_cost.specs.Bijection.{IsBijection}
 
+-- no number of the list is below one that stands before it
 pub record IsAscending (xs : List ℤ) : Type 0 where
   pub rises : (i j : ℕ) → i ≤ j → j < length xs → slice_index_or xs i (pos 0) ≤ℤ slice_index_or xs j (pos 0)
 
+-- no number of the list is above one that stands before it
 pub record IsDescending (xs : List ℤ) : Type 0 where
   pub falls : (i j : ℕ) → i ≤ j → j < length xs → slice_index_or xs j (pos 0) ≤ℤ slice_index_or xs i (pos 0)
 

@@ -5,6 +5,7 @@ use Rattle.qap_cost.specs.Placement.{Placement, IsPlacement, IsFreeFacility, fix
 use Rattle.gilmore_lawler.specs.FlowRows.{HasFlowRows, HasLocationRows}
 use Rattle.gilmore_lawler.specs.Table.{linear_row}
 
+-- an instance, a node of it, and the facility that the node is split on
 pub record Split : Type 0 where
   pub instance : Problem
   pub node : Placement

@@ -12,7 +12,7 @@ use Rattle.gilmore_lawler.specs.ReducedMatrix.{others}
 abbrev pub segment : {X : Type 0} → ℕ → List X → ℕ → List X
 segment width xs r = take width (drop (r * width) xs)
 
--- so many rows of this length, of which each has its property
+-- this many rows of this length, of which each has its property
 pub record IsTable {X : Type 0} (width count : ℕ) (P : ℕ → List X → Type 0) (xs : List X) : Type 0 where
   pub size : length xs ≡ count * width
   pub rows : (r : ℕ) → r < count → P r (segment width xs r)
@@ -25,6 +25,7 @@ dot xs ys = sum_to (λ j. slice_index_or xs j (pos 0) *ℤ slice_index_or ys j (
 pub record AllBelow (n : ℕ) (xs : List ℕ) : Type 0 where
   pub each : (j : ℕ) → j < length xs → slice_index xs j < n
 
+-- the matrix of a side: the flows or the distances
 abbrev pub matrix_of : Problem → Side → List ℤ
 matrix_of I Flow = I.a
 matrix_of I Distance = I.b
@@ -49,7 +50,7 @@ pub record IsFactorRow (I : Problem) (side : Side) (placed free : List ℕ) (r :
   pub ordered : IsOrdered side sorted
   pub is : row ≡ linear_row I.size (matrix_of I side) placed (slice_index free r) ++ sorted
 
--- the products of one row with each of so many others
+-- the products of one row with each of this many others
 abbrev pub product_row : ℕ → ℕ → List ℤ → List ℤ → List ℤ
 product_row width count row others = map (λ c. dot row (segment width others c)) (range_with_len 0 count)
 

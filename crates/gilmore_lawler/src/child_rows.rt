@@ -144,7 +144,7 @@ pub(crate) fn child_rows(
     Ok(())
 }
 
-/// Writes these rows from the front on, and tells the place behind them.
+/// Writes these rows from the front on, and returns the place behind them.
 fn fill_child_rows(
     instance: &Instance,
     places: &[u16],
@@ -172,7 +172,7 @@ fn fill_child_rows(
     end
 }
 
-/// Row `q` of so many of this width.
+/// Row `q` of `count` rows of this width.
 pub(crate) fn row_at(rows: &[i32], width: usize, count: usize, q: usize) -> &[i32]
     requires count { count ≤ 256 }
     requires width { width ≤ 512 }
@@ -194,7 +194,8 @@ fn behind_gap(s: usize, r: usize) -> usize
     r + usize::from(r >= s)
 }
 
-/// Writes a free location's row where one more is taken, from that where this one is free, and tells the place behind it.
+/// Writes a free location's row where one more is taken, from that where this one is free, and returns the place behind
+/// it.
 ///
 /// The first `linear` numbers stay, the pair with the location that is taken comes behind them, and of those in order its
 /// distance is left out.
@@ -225,7 +226,7 @@ fn write_child_row(
     write_without(&row[linear..], gone, numbers, second)
 }
 
-/// Writes these numbers from this place on, and tells the place behind them.
+/// Writes these numbers from this place on, and returns the place behind them.
 fn write_all(xs: &[i32], numbers: &mut [i32], start: usize) -> usize
     requires room { start + length xs.now ≤ length numbers.old }
     ensures end { result ≡ start + length xs.now }

@@ -1,4 +1,4 @@
-//! Whether duals fit a matrix, and what they come to.
+//! Whether duals fit a matrix, and what they sum to.
 
 ghost use Rattle.std.specs.Prelude.{◌≡◌, ◌↔◌, ◌≤◌, ◌*◌, ◌^◌, length, unsigned_abs, IsTrue};
 ghost use Rattle.qap_cost.specs.Matrix.{DualsFit, dual_value, total};

@@ -42,7 +42,8 @@ pub fn factor_rows(
     Ok(())
 }
 
-/// Writes these rows from the front on, and tells the place behind them. There is room for one more row of the matrix.
+/// Writes these rows from the front on, and returns the place behind them. There is room for one more row of the
+/// matrix.
 fn fill_rows(
     instance: &Instance,
     side: Side,
@@ -72,7 +73,8 @@ fn fill_rows(
     end
 }
 
-/// Writes the entry of `i` with itself, and the pairs with each placed one, from this place on, and tells the place behind them.
+/// Writes the entry of `i` with itself, and the pairs with each placed one, from this place on, and returns the place
+/// behind them.
 pub(crate) fn write_linear(
     instance: &Instance,
     side: Side,
@@ -94,7 +96,8 @@ pub(crate) fn write_linear(
     write_pairs(instance, side, own, placed, numbers, first)
 }
 
-/// Writes the entries of `i` with each of these and theirs with it from this place on, and tells the place behind them.
+/// Writes the entries of `i` with each of these and theirs with it from this place on, and returns the place behind
+/// them.
 fn write_pairs(
     instance: &Instance,
     side: Side,
@@ -117,7 +120,7 @@ fn write_pairs(
     place
 }
 
-/// Writes the entry of `i` with another one, and of that one with it, at this place, and tells the place behind them.
+/// Writes the entry of `i` with another one, and of that one with it, at this place, and returns the place behind them.
 pub(crate) fn write_pair(
     instance: &Instance,
     side: Side,
@@ -139,7 +142,7 @@ pub(crate) fn write_pair(
     write_one(back, numbers, middle)
 }
 
-/// Writes one number at this place, and tells the place behind it.
+/// Writes one number at this place, and returns the place behind it.
 fn write_one(number: i32, numbers: &mut [i32], start: usize) -> usize
     requires room { start < length numbers.old }
     ensures end { result ≡ start + 1 }

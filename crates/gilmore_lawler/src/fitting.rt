@@ -8,8 +8,8 @@ ghost use Rattle.gilmore_lawler.specs.Table.{dot, segment};
 
 use crate::blocks::dot_product;
 
-/// Whether no product of a row of the one table with one of the other, which have rows of this width, is below the duals of
-/// both together: so many rows as there are duals.
+/// Whether no product of a row of the one table with one of the other, which have rows of this width, is below the
+/// duals of both together: as many rows as there are duals.
 pub(crate) fn products_fit(
     a_rows: &[i32],
     b_rows: &[i32],

@@ -79,8 +79,8 @@ impl<'a> FlowRows<'a> {
         Ok(matrix)
     }
 
-    /// Whether `(u, v)` fits the reduced matrix of a node that places these facilities: as `fits` tells it of the matrix, which
-    /// isn't made here.
+    /// Whether `(u, v)` fits the reduced matrix of a node that places these facilities: as `fits` says it of the
+    /// matrix, which isn't made here.
     pub fn fits(
         &self,
         workspace: &mut Workspace,

@@ -153,8 +153,9 @@ fn make_level(
     own[0].make(ranked, above.last(), node, free)
 }
 
-/// Makes the rows of the distances at each level above the node with these locations those of its ancestor there, from the lowest
-/// ancestor on whose rows are kept. Siblings that come later find those of their parent, whoever thought on that.
+/// Makes the rows of the distances at each level above the node with these locations those of its ancestor there, from
+/// the lowest ancestor on whose rows are kept. Siblings that come later find those of their parent, regardless of who
+/// thought on that.
 fn make_ancestors(
     ranked: &RankedInstance,
     places: &[u16],
@@ -185,7 +186,8 @@ fn first_missing(places: &[u16], levels: &[Level]) -> usize
     depth
 }
 
-/// Makes the rows of the distances at the level of so many locations those where these are taken, where they aren't yet.
+/// Makes the rows of the distances at the level of this many locations those where these are taken, where they aren't
+/// yet.
 fn make_distances(
     ranked: &RankedInstance,
     places: &[u16],

@@ -69,7 +69,7 @@ impl<'a> NodeRows<'a> {
         Ok(matrix)
     }
 
-    /// Whether `(u, v)` fits the reduced matrix of the node: as `fits` tells it of the matrix, which isn't made here.
+    /// Whether `(u, v)` fits the reduced matrix of the node: as `fits` says it of the matrix, which isn't made here.
     pub fn fits(&mut self, node: &Partial, u: &[i128], v: &[i128]) -> Result<bool, AllocError>
         requires size { self.old.size ≡ node.now.size }
         requires u_count { length u.now ≡ node.now.size - length node.now.facilities }

@@ -102,8 +102,8 @@ pub fn ranking_of<'a>(
     &rankings[start..start + n]
 }
 
-/// Writes the values of a row in order, but those in column `own` and in columns that aren't free, from this place on, and
-/// tells the place behind them. What stands behind that is of no meaning.
+/// Writes the values of a row in order, but those in column `own` and in columns that aren't free, from this place on,
+/// and returns the place behind them. What stands behind that is of no meaning.
 ///
 /// Each value is written, and the place behind it kept where it belongs there, so that no branch waits for the test.
 pub fn pick_others(

@@ -325,7 +325,7 @@ fn fit_from(
     products_fit(a_rows, b_rows, n + depth, are_small, u, v)
 }
 
-/// The products of each row of the one table with each of the other, in this memory: so many rows of this width each.
+/// The products of each row of the one table with each of the other, in this memory: this many rows of this width each.
 fn products(
     memory: Vec<i128>,
     a_rows: &[i32],
@@ -354,7 +354,7 @@ fn products(
     Ok(entries)
 }
 
-/// Adds the products of this row with each of so many others.
+/// Adds the products of this row with each of this many others.
 fn push_products(
     row: &[i32],
     others: &[i32],

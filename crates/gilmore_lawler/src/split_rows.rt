@@ -76,7 +76,7 @@ impl<'a> SplitRows<'a> {
         self.node.place(self.facility, location)
     }
 
-    /// Whether `(u, v)` fits the reduced matrix of the child at this location, as `fits` tells it of the matrix.
+    /// Whether `(u, v)` fits the reduced matrix of the child at this location, as `fits` says it of the matrix.
     pub fn fits(
         &self,
         workspace: &mut Workspace,

@@ -14,7 +14,7 @@ use Rattle.std.specs.declared.cmp.Ordering.TheVariants.{Less, Equal, Greater}
 nat_cmp-int_cmp : (x y : ℕ) → nat_cmp x y ≡ int_cmp (pos x) (pos y)
 nat_cmp-int_cmp x y = grind (arith, ints, nat_tests)
 
--- and so do lists of them
+-- lists of numbers from 0 on compare as they do as lists of whole numbers
 pub naturals_in_order : (xs ys : List ℕ) → slice_cmp nat_cmp xs ys ≡ slice_cmp int_cmp (map pos xs) (map pos ys)
 naturals_in_order [] [] = refl
 naturals_in_order [] (y ∷ ys) = refl

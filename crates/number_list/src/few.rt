@@ -45,7 +45,7 @@ impl FewBytes {
         }
     }
 
-    /// The numbers of both rows by turns in place, or `None` where there are too many or one of them is above 255.
+    /// The numbers of both rows alternately in place, or `None` where there are too many or one of them is above 255.
     pub(crate) fn by_turns(first: &[u16], second: &[u16]) -> Option<FewBytes>
         requires { length second.now ≡ length first.now }
         ensures { IfSome result (λ few. map pos few ≡ by_turns first.now second.now) }

@@ -44,7 +44,8 @@ impl NumberList {
         }
     }
 
-    /// The numbers of both rows by turns, or `AllocError` where they don't lie in place and there is no memory for them.
+    /// The numbers of both rows alternately, or `AllocError` where they don't lie in place and there is no memory for
+    /// them.
     pub fn by_turns(alloc: Global, first: &[u16], second: &[u16]) -> Result<NumberList, AllocError>
         requires { length second.now ≡ length first.now }
         ensures { IfOk result (λ list. numbers_held list ≡ by_turns first.now second.now) }
@@ -119,7 +120,7 @@ fn narrow(alloc: Global, numbers: &[i128]) -> Result<Option<NumberList>, AllocEr
     }
 }
 
-/// The numbers of both rows by turns.
+/// The numbers of both rows alternately.
 fn narrow_by_turns(alloc: Global, first: &[u16], second: &[u16]) -> Result<Vec<i32>, AllocError>
     requires { length second.now ≡ length first.now }
     ensures { IfOk result (λ numbers. numbers.items ≡ by_turns first.now second.now) }

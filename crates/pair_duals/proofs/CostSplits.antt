@@ -50,10 +50,12 @@ pub pair_at : Problem → Placement → List ℕ → ℕ → ℕ → ℤ
 pair_at I y seat r t =
     cost_of_pair I (get_or (free_facilities y) r 0) (get_or (free_locations y) (get_or seat r 0) 0) (get_or (free_facilities y) t 0) (get_or (free_locations y) (get_or seat t 0) 0)
 
+-- that is its linear cost at the location of its seat
 pub linear_at-is : (I : Problem) (y : Placement) (seat : List ℕ) (r : ℕ) → linear_at I y seat r ≡ linear_cost I y (get_or (free_facilities y) r 0) (get_or (free_locations y) (get_or seat r 0) 0)
 unfolding linear_at
 linear_at-is I y seat r = refl
 
+-- that is the cost of the two as a pair at the locations of their seats
 pub pair_at-is : (I : Problem) (y : Placement) (seat : List ℕ) (r t : ℕ)
     → pair_at I y seat r t ≡ cost_of_pair I (get_or (free_facilities y) r 0) (get_or (free_locations y) (get_or seat r 0) 0) (get_or (free_facilities y) t 0) (get_or (free_locations y) (get_or seat t 0) 0)
 unfolding pair_at
@@ -93,6 +95,7 @@ Follows-child I y h g seat next m is hh hg count s =
           ∙ ap₂ (λ i j. cost_of_pair I (get_or F (skip h r) 0) i (get_or F (skip h t) 0) j) (location r hr) (location t ht);
     }
 
+-- a completion costs the fixed cost, the linear costs of the free ones and the costs of their pairs
 pub cost_split : (m : ℕ) (I : Problem) (y : Placement) (p seat : List ℕ) → IsPlacement y → I.size ≡ y.size → length (free_facilities y) ≡ m → Completes y p → Seats y p seat
     → cost_of I p ≡ (fixed_cost_of I y +ℤ sum_to (linear_at I y seat) m) +ℤ sum_of_pairs (pair_at I y seat) m
 cost_split zero I y p seat is size count done s =

@@ -183,6 +183,7 @@ if-divides : (I : Problem) (applies : Bool) (d : ℕ) → (applies ≡ true → 
 if-divides I true d h some = h refl
 if-divides I false d h some = absurd (omega arith)
 
+-- the cost step divides the cost of each permutation
 pub step-divides : (I : Problem) → DividesCosts I (step_of I)
 step-divides I =
     let a = entry I.size I.a in

@@ -64,6 +64,7 @@ gcd-is x y = let found = euclid y x y (omega arith) in subst (λ g. IsGcd x y g)
 pub gcd-unique : (x y g : ℕ) → IsGcd x y g → g ≡ gcd x y
 gcd-unique x y g is = sym (gcd-same x y g is)
 
+-- the greatest common divisor is no larger than the larger of the two
 pub gcd-within : (x y : ℕ) → gcd x y ≤ max x y
 gcd-within x y = greatest-within x y (gcd x y) (gcd-is x y)
 
@@ -81,25 +82,31 @@ gcd_to-divides f (suc n) i below =
 pub gcd_to-more : (f : ℕ → ℤ) (n d x new : ℕ) → d ≡ gcd_to f n → x ≡ unsigned_abs (f n) → new ≡ gcd d x → new ≡ gcd_to f (n + 1)
 gcd_to-more f n d x new before this is = is ∙ ap₂ gcd before this ∙ ap (gcd_to f) (sym (add-one n))
 
+-- the greatest common divisor is within a limit that both are within
 pub gcd-below : (x y g limit : ℕ) → g ≡ gcd x y → x ≤ limit → y ≤ limit → g ≤ limit
 gcd-below x y g limit is hx hy = omega (arith, gcd-within x y, max-le {a = x} {b = y} hx hy)
 
 -- ---- multiples
 
+-- what divides the absolute value divides the number
 pub Divides-from : (g : ℕ) (x : ℤ) → g ∣ unsigned_abs x → Divides g x
 Divides-from g (pos n) h = (pos (n / g), let e = mul-div_cancel' g h in omega (arith, ints, e))
 Divides-from g (negsuc n) h = (neg_ℤ (pos (suc n / g)), let e = mul-div_cancel' g h in let opposite = neg_is (pos (suc n / g)) in omega (arith, ints, e, opposite, product_is (pos g) (neg_ℤ (pos (suc n / g))), ap (λ z. g * z) opposite.0, ap (λ z. g * z) opposite.1))
 
+-- what divides two numbers divides their sum
 pub Divides-add : (g : ℕ) (x y : ℤ) → Divides g x → Divides g y → Divides g (x +ℤ y)
 Divides-add g x y h k = (h.0 +ℤ k.0, ap₂ ◌+ℤ◌ h.1 k.1 ∙ sym (*ℤ-+ℤ (pos g) h.0 k.0))
 
+-- each number divides 0
 pub Divides-zero : (g : ℕ) → Divides g (pos 0)
 Divides-zero g = (pos 0, omega (arith, ints))
 
+-- what divides each term divides the sum
 pub Divides-sum : (g : ℕ) (f : ℕ → ℤ) (n : ℕ) → ((i : ℕ) → i < n → Divides g (f i)) → Divides g (sum_to f n)
 Divides-sum g f zero h = Divides-zero g
 Divides-sum g f (suc n) h = Divides-add g (sum_to f n) (f n) (Divides-sum g f n (λ i below. h i (omega arith))) (h n (omega arith))
 
+-- a divisor of one number times a divisor of another divides their product
 pub Divides-product : (d e : ℕ) (x y : ℤ) → d ∣ unsigned_abs x → e ∣ unsigned_abs y → d * e ∣ unsigned_abs (x *ℤ y)
 Divides-product d e x y h k =
     subst (λ n. d * e ∣ n) (sym (unsigned_abs-mul x y))

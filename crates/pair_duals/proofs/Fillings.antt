@@ -7,6 +7,7 @@ use Rattle.std.proofs.lemmas.Nat.{mul-le}
 use Rattle.qap_cost.specs.Instance.{entry}
 use Rattle.pair_duals.specs.Filling.{AreEntries, FillsPart, FillsRows}
 
+-- no entry of the row was written yet
 pub FillsPart-none : (m : ℕ) (f : ℕ → ℕ → ℤ) (r : ℕ) (xs : List ℤ) → FillsPart m f r 0 xs xs
 FillsPart-none m f r xs = record {
   same_length = refl;
@@ -15,6 +16,7 @@ FillsPart-none m f r xs = record {
   after = λ k h. refl;
 }
 
+-- one entry more was written
 pub FillsPart-more : (m : ℕ) (f : ℕ → ℕ → ℤ) (r c : ℕ) (old new : List ℤ) (x : ℤ) → FillsPart m f r c old new → r * m + c < length new → x ≡ f r c → FillsPart m f r (c + 1) old (set new (r * m + c) x)
 FillsPart-more m f r c old new x h inside is =
     let other : (k : ℕ) → k ≢ r * m + c → get_or (set new (r * m + c) x) k (pos 0) ≡ get_or new k (pos 0) = λ k apart. get_or-set_other new (r * m + c) k x (pos 0) apart in
@@ -31,6 +33,7 @@ FillsPart-more m f r c old new x h inside is =
       after = λ k hk. other k (λ e. omega arith) ∙ h.after k (omega arith);
     }
 
+-- the same for numbers that are the same in what was written of the row
 pub FillsPart-along : (m : ℕ) (f g : ℕ → ℕ → ℤ) (r count : ℕ) (old new : List ℤ) → FillsPart m f r count old new → ((c : ℕ) → c < count → f r c ≡ g r c) → FillsPart m g r count old new
 FillsPart-along m f g r count old new h same = record {
   same_length = h.same_length;
@@ -39,6 +42,7 @@ FillsPart-along m f g r count old new h same = record {
   after = h.after;
 }
 
+-- no row was written yet
 pub FillsRows-none : (m : ℕ) (f : ℕ → ℕ → ℤ) (xs : List ℤ) → FillsRows m f 0 xs xs
 FillsRows-none m f xs = record { same_length = refl; rows = λ r c hr hc. absurd (omega arith); after = λ k h. refl }
 
@@ -46,6 +50,7 @@ FillsRows-none m f xs = record { same_length = refl; rows = λ r c hr hc. absurd
 row_before : (m r s : ℕ) → r < s → r * m + m ≤ s * m
 row_before m r s h = let e : suc r * m ≤ s * m = mul-le _ _ _ _ h (omega arith) in omega (arith, e)
 
+-- one row more was written
 pub FillsRows-more : (m : ℕ) (f : ℕ → ℕ → ℤ) (r : ℕ) (old mid new : List ℤ) → FillsRows m f r old mid → FillsPart m f r m mid new → FillsRows m f (r + 1) old new
 FillsRows-more m f r old mid new h part = record {
   same_length = part.same_length ∙ h.same_length;
@@ -61,5 +66,6 @@ FillsRows-more m f r old mid new h part = record {
       part.after k far ∙ h.after k (omega (arith, far));
 }
 
+-- once all rows were written, they are the entries
 pub AreEntries-filled : (m : ℕ) (f : ℕ → ℕ → ℤ) (old new : List ℤ) → FillsRows m f m old new → AreEntries m f new
 AreEntries-filled m f old new h = record { entries = h.rows }

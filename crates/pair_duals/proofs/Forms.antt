@@ -132,6 +132,7 @@ start_identity I D y rows columns p seat is size n done s =
     let scale = sum_of_pairs-scale s' P m in
     omega (arith, ints, scaled, own, apart, linear, duals, left, minus, scale)
 
+-- the form by the duals alone is a form of the node
 pub IsFormOf-start : (I : Problem) (D : Duals) (y : Placement) (R : Form) → IsPlacement y → I.size ≡ y.size → IsStart I D y R → IsFormOf I D y R
 IsFormOf-start I D y R is size start = record {
   numbers = start.numbers;
@@ -157,6 +158,7 @@ start-le I D y rows columns p seat is size fit n done s =
 
 -- ---- a line
 
+-- a line leads from a form of the node to another
 pub IsFormOf-line : (I : Problem) (D : Duals) (y : Placement) (old new : Form) (u v : List ℤ) → IsPlacement y → IsFormOf I D y old → IsLine old new u v → IsFormOf I D y new
 IsFormOf-line I D y old new u v is h line = record {
   numbers = subst (λ (rows : List ℕ). AreNumbers D y rows new.columns) (sym line.rows) (subst (AreNumbers D y old.rows) (sym line.columns) h.numbers);
@@ -184,6 +186,7 @@ IsFormOf-line I D y old new u v is h line = record {
 
 -- ---- a child
 
+-- both ways of counting past a number are the same
 pub past-skip : (h k : ℕ) → past h k ≡ skip h k
 past-skip h k =
     elim (cases_lt k h) [
@@ -191,6 +194,7 @@ past-skip h k =
       | inr more ↦ cond-false (nat_lt k h) k (k + 1) (le-ltb k h more) ∙ omega (arith, skip-after h k more)
     ]
 
+-- what the duals leave of a pair is the same in either order
 pub residual-both : (I : Problem) (D : Duals) (i k j l : ℕ) → residual I D i k j l ≡ residual I D j l i k
 residual-both I D i k j l =
     let cost = ap (λ q. pos D.scale *ℤ q) (cost_of_pair-both I (get_or D.facilities i 0) (get_or D.locations k 0) (get_or D.facilities j 0) (get_or D.locations l 0)) in
@@ -222,6 +226,7 @@ AreNumbers-child D y rows columns h g is hh hg n =
           ∙ sym (ap (λ (l : List ℕ). get_or l c 0) left_columns ∙ get_or-remove G g c 0 (omega (arith, n.column_count)));
     }
 
+-- the form of a child is a form of the child's node
 pub IsFormOf-child : (I : Problem) (D : Duals) (y : Placement) (old new : Form) (h g : ℕ) → IsPlacement y → h < length old.rows → g < length old.columns → IsFormOf I D y old → IsChild I D old h g new → IsFormOf I D (child_at y h g) new
 IsFormOf-child I D y old new h g is hh hg form c =
     let n = form.numbers in
@@ -312,6 +317,7 @@ row_duals-le I D y R u v p is fit form under done =
 
 -- ---- what a child keeps
 
+-- where no entry is less than nothing, and the duals fit, no entry of a child is
 pub IsNonNegative-child : (I : Problem) (D : Duals) (y : Placement) (old new : Form) (h g : ℕ) → IsPlacement y → h < length old.rows → g < length old.columns → Fit I D → AreNumbers D y old.rows old.columns → IsNonNegative old → IsChild I D old h g new → IsNonNegative new
 IsNonNegative-child I D y old new h g is hh hg fit n least c = record {
   each = λ r k hr hk.

@@ -11,6 +11,7 @@ use Rattle.pair_duals.specs.Largest.{IsLargest, IsLargestSoFar, IsLargestOfRow}
 use Rattle.pair_duals.specs.Limits.{Limits}
 use Rattle.pair_duals.specs.Range.{IsInScale}
 
+-- no row yet: the greatest absolute value is 0
 pub IsLargestSoFar-none : (n : ℕ) (matrix : List ℤ) → IsLargestSoFar n matrix 0 0
 IsLargestSoFar-none n matrix = record {
   above = λ i j hi hj. absurd (omega arith);
@@ -18,6 +19,7 @@ IsLargestSoFar-none n matrix = record {
   small = lit≤ tt;
 }
 
+-- one row more
 pub IsLargestSoFar-more : (n : ℕ) (matrix : List ℤ) (i before largest : ℕ) (row : List ℤ) → IsLargestSoFar n matrix i before → IsRow n matrix i row → IsLargestOfRow row before largest → IsLargestSoFar n matrix (i + 1) largest
 IsLargestSoFar-more n matrix i before largest row h is r = record {
   above = λ k j hk hj.
@@ -38,6 +40,7 @@ IsLargestSoFar-more n matrix i before largest row h is r = record {
   small = r.small;
 }
 
+-- once all rows were seen, it is the greatest of the matrix
 pub IsLargest-all : (n : ℕ) (matrix : List ℤ) (largest : ℕ) → 0 < n → IsLargestSoFar n matrix n largest → IsLargest n matrix largest
 IsLargest-all n matrix largest h is = record {
   above = is.above;
@@ -56,6 +59,7 @@ in_scale m I scale a b ha hb h = record {
       omega (arith, h, mul-le-mul_left scale product);
 }
 
+-- and where all products are within the limit, the greatest one is
 pub from_scale : (m : Limits) (I : Problem) (scale a b : ℕ) → IsLargest I.size I.a a → IsLargest I.size I.b b → IsInScale m I scale → scale * (a * b) ≤ m.cost
 from_scale m I scale a b ha hb h =
     let ra = ha.reached in
@@ -64,6 +68,7 @@ from_scale m I scale a b ha hb h =
     (subst (λ (z : ℕ). scale * (unsigned_abs (entry I.size I.a ra.0 ra.1) * z) ≤ m.cost) (sym rb.4)
     (h.below ra.0 ra.1 rb.0 rb.1 ra.2 ra.3 rb.2 rb.3))
 
+-- of a number and an empty row it is the number
 pub IsLargestOfRow-none : (row : List ℤ) (before : ℕ) → before ≤ 10 ^ 9 → length row ≡ 0 → IsLargestOfRow row before before
 IsLargestOfRow-none row before small none = record {
   above_before = omega arith;

@@ -29,15 +29,18 @@ IsLeast-more f n old new h s = record {
   ];
 }
 
+-- one number alone is the least
 pub IsLeast-one : (f : ℕ → ℤ) (x : ℤ) → x ≡ f 0 → IsLeast f 1 x
 IsLeast-one f x is = record {
   below = λ r hr. let e : r ≡ 0 = omega arith in let same = is ∙ ap f (sym e) in omega (arith, ints, same);
   reached = (0, omega arith, is);
 }
 
+-- the second number is the smaller one where it is less
 pub smaller_of : (x y least : ℤ) → (y <ℤ x) × (least ≡ y) → IsSmaller x y least
 smaller_of x y least h = record { first = omega (arith, ints, h); second = omega (arith, ints, h); one = inr h.1 }
 
+-- the first row, less its number
 pub AreLeastSoFar-first : (m : ℕ) (entries u v : List ℤ) → length v ≡ m → TakesRow entries (get_or u 0 (pos 0)) v → AreLeastSoFar m entries u 1 v
 AreLeastSoFar-first m entries u v count h = record {
   count = count;
@@ -47,6 +50,7 @@ AreLeastSoFar-first m entries u v count h = record {
       (h.each c (omega (arith, count)) ∙ ap (λ k. get_or entries k (pos 0) -ℤ get_or u 0 (pos 0)) (sym at));
 }
 
+-- one row more, by which the numbers are lowered
 pub AreLeastSoFar-more : (m : ℕ) (entries u : List ℤ) (r : ℕ) (old new : List ℤ) → AreLeastSoFar m entries u r old → LowersBy entries (r * m) (get_or u r (pos 0)) old new → AreLeastSoFar m entries u (r + 1) new
 AreLeastSoFar-more m entries u r old new h low = record {
   count = low.same_length ∙ h.count;
@@ -58,6 +62,7 @@ pub record HasTaken (m : ℕ) (entries u : List ℤ) (rows : ℕ) (v : List ℤ)
   pub count : length v ≡ m
   pub least : 0 < rows → AreLeastSoFar m entries u rows v
 
+-- once all rows were taken, they are the least numbers of the columns
 pub AreLeast-taken : (m : ℕ) (entries u v : List ℤ) → HasTaken m entries u m v → AreLeast m entries u v
 AreLeast-taken m entries u v h = record { count = h.count; least = λ c hc. (h.least (omega arith)).least c hc }
 
@@ -72,6 +77,7 @@ least-within far limit m entries u v c count s range long least hc =
     let is = r.2 in
     omega (arith, ints, e, x, is)
 
+-- an entry less both numbers is at least 0, and no more than the spread and twice the limit
 pub line-between : (far limit m : ℕ) (entries u v : List ℤ) (r c : ℕ) → length entries ≡ m * m → IsSpread far entries → AllWithin limit u → length u ≡ m → AreLeast m entries u v → r < m → c < m
     → (pos 0 ≤ℤ less_both m entries u v r c) × (less_both m entries u v r c ≤ℤ pos (far + 2 * limit))
 line-between far limit m entries u v r c count s range long least hr hc =
@@ -86,6 +92,7 @@ line-between far limit m entries u v r c count s range long least hr hc =
       omega (arith, ints, apart, x, y, is),
     )
 
+-- so the entries that a line leaves are spread no further than that
 pub IsSpread-line : (far limit m : ℕ) (entries u v new : List ℤ) → length entries ≡ m * m → length new ≡ m * m → IsSpread far entries → AllWithin limit u → length u ≡ m → AreLeast m entries u v → AreEntries m (less_both m entries u v) new → IsSpread (far + 2 * limit) new
 IsSpread-line far limit m entries u v new count new_count s range long least is =
     let between : (r c : ℕ) → r < m → c < m → (pos 0 ≤ℤ entry m new r c) × (entry m new r c ≤ℤ pos (far + 2 * limit)) = λ r c hr hc.
@@ -100,6 +107,7 @@ IsSpread-line far limit m entries u v new count new_count s range long least is 
 pub record TakesPart (entries : List ℤ) (own : ℤ) (count : ℕ) (least : List ℤ) : Type 0 where
   pub each : (c : ℕ) → c < count → get_or least c (pos 0) ≡ get_or entries c (pos 0) -ℤ own
 
+-- one number more
 pub TakesPart-more : (entries : List ℤ) (own : ℤ) (c : ℕ) (least : List ℤ) (x : ℤ) → TakesPart entries own c least → c < length least → x ≡ get_or entries c (pos 0) -ℤ own → TakesPart entries own (c + 1) (set least c x)
 TakesPart-more entries own c least x h inside is = record {
   each = λ d hd.
@@ -117,6 +125,7 @@ pub record LowersPart (entries : List ℤ) (start : ℕ) (own : ℤ) (count : �
   pub each : (c : ℕ) → c < count → IsSmaller (get_or old c (pos 0)) (get_or entries (start + c) (pos 0) -ℤ own) (get_or new c (pos 0))
   pub after : (c : ℕ) → count ≤ c → get_or new c (pos 0) ≡ get_or old c (pos 0)
 
+-- no number was lowered yet
 pub LowersPart-none : (entries : List ℤ) (start : ℕ) (own : ℤ) (xs : List ℤ) → LowersPart entries start own 0 xs xs
 LowersPart-none entries start own xs = record { same_length = refl; each = λ c h. absurd (omega arith); after = λ c h. refl }
 
@@ -152,6 +161,7 @@ LowersPart-kept entries start own c old new h low = record {
   after = λ d hd. h.after d (omega arith);
 }
 
+-- once all were lowered, the whole list is
 pub LowersBy-all : (entries : List ℤ) (start : ℕ) (own : ℤ) (count : ℕ) (old new : List ℤ) → length old ≡ count → LowersPart entries start own count old new → LowersBy entries start own old new
 LowersBy-all entries start own count old new e h = record { same_length = h.same_length; each = λ c hc. h.each c (omega (arith, e)) }
 
@@ -160,6 +170,7 @@ pub record HasRowLeasts (m : ℕ) (entries : List ℤ) (rows : ℕ) (u : List �
   pub count : length u ≡ m
   pub least : (r : ℕ) → r < rows → IsLeast (entry m entries r) m (get_or u r (pos 0))
 
+-- one row more
 pub HasRowLeasts-more : (m : ℕ) (entries : List ℤ) (r : ℕ) (u : List ℤ) (x : ℤ) → HasRowLeasts m entries r u → r < m → IsLeast (entry m entries r) m x → HasRowLeasts m entries (r + 1) (set u r x)
 HasRowLeasts-more m entries r u x h inside is = record {
   count = length-set u r x ∙ h.count;
@@ -172,5 +183,6 @@ HasRowLeasts-more m entries r u x h inside is = record {
       ];
 }
 
+-- the first number is the smaller one where it is no more than the second
 pub IsSmaller-kept : (x y least : ℤ) → x ≤ℤ y → least ≡ x → IsSmaller x y least
 IsSmaller-kept x y least low same = record { first = omega (arith, ints, same); second = omega (arith, ints, same, low); one = inl same }

@@ -8,15 +8,18 @@ use Rattle.qap_cost.proofs.Sums.{sum_to-same, sum_to-zero, sum_to-add, sum_to-sc
 use Rattle.gilmore_lawler.proofs.Skips.{skip, skip-before, skip-after, sum_to-apart}
 use Rattle.pair_duals.specs.Reduced.{sum_of_pairs, sum_but}
 
+-- the same terms have the same sum
 pub sum_of_pairs-same : (f g : ℕ → ℕ → ℤ) (m : ℕ) → ((r t : ℕ) → t < r → r < m → f r t ≡ g r t) → sum_of_pairs f m ≡ sum_of_pairs g m
 sum_of_pairs-same f g m same =
     sum_to-same (λ r. sum_to (f r) r) (λ r. sum_to (g r) r) m (λ r hr. sum_to-same (f r) (g r) r (λ t ht. same r t ht hr))
 
+-- a sum of sums of two terms is the two sums added
 pub sum_of_pairs-add : (f g : ℕ → ℕ → ℤ) (m : ℕ) → sum_of_pairs (λ r t. f r t +ℤ g r t) m ≡ sum_of_pairs f m +ℤ sum_of_pairs g m
 sum_of_pairs-add f g m =
     sum_to-same (λ r. sum_to (λ t. f r t +ℤ g r t) r) (λ r. sum_to (f r) r +ℤ sum_to (g r) r) m (λ r hr. sum_to-add (f r) (g r) r)
     ∙ sum_to-add (λ r. sum_to (f r) r) (λ r. sum_to (g r) r) m
 
+-- a sum of differences of two terms is the difference of the two sums
 pub sum_of_pairs-minus : (f g : ℕ → ℕ → ℤ) (m : ℕ) → sum_of_pairs (λ r t. f r t -ℤ g r t) m ≡ sum_of_pairs f m -ℤ sum_of_pairs g m
 sum_of_pairs-minus f g m =
     let whole = sum_of_pairs-add (λ r t. f r t -ℤ g r t) g m in
@@ -24,6 +27,7 @@ sum_of_pairs-minus f g m =
     sum_of_pairs-same (λ r t. (f r t -ℤ g r t) +ℤ g r t) f m (λ r t ht hr. omega (arith, ints)) in
     omega (arith, ints, whole, back)
 
+-- a factor of each term is a factor of the sum
 pub sum_of_pairs-scale : (c : ℤ) (f : ℕ → ℕ → ℤ) (m : ℕ) → sum_of_pairs (λ r t. c *ℤ f r t) m ≡ c *ℤ sum_of_pairs f m
 sum_of_pairs-scale c f m =
     sum_to-same (λ r. sum_to (λ t. c *ℤ f r t) r) (λ r. c *ℤ sum_to (f r) r) m (λ r hr. sum_to-scale c (f r) r)
@@ -35,10 +39,12 @@ sum_to-least f n h =
     let more = sum_to-monotone (λ i. pos 0) f n h in
     omega (arith, ints, none, more)
 
+-- where no term is less than nothing, the sum isn't
 pub sum_of_pairs-least : (f : ℕ → ℕ → ℤ) (m : ℕ) → ((r t : ℕ) → t < r → r < m → pos 0 ≤ℤ f r t) → pos 0 ≤ℤ sum_of_pairs f m
 sum_of_pairs-least f m h =
     sum_to-least (λ r. sum_to (f r) r) m (λ r hr. sum_to-least (f r) r (λ t ht. h r t ht hr))
 
+-- the same for a sum over numbers
 pub sum_to-nonnegative : (f : ℕ → ℤ) (n : ℕ) → ((i : ℕ) → i < n → pos 0 ≤ℤ f i) → pos 0 ≤ℤ sum_to f n
 sum_to-nonnegative f n h = sum_to-least f n h
 
@@ -67,6 +73,7 @@ sum_of_pairs-apart f s (suc n) h both =
           omega (arith, ints, ih, row, here, rest)
     ]
 
+-- a term for another number than the one left out stays
 pub but_other : (k : ℕ) (f : ℕ → ℤ) (j : ℕ) → j ≢ k → cond (nat_eq j k) (pos 0) (f j) ≡ f j
 but_other k f j apart = cond-false (nat_eq j k) (pos 0) (f j) (ne_eqb j k apart)
 

@@ -11,6 +11,7 @@ use Rattle.qap_cost.proofs.Sums.{*ℤ-+ℤ}
 use Rattle.pair_duals.specs.CostOfPair.{cost_of_pair}
 use Rattle.pair_duals.specs.Limits.{Limits, AreEnough}
 
+-- a scale times one factor, times the other, is the scale times the product
 pub scale-assoc : (s : ℕ) (a b : ℤ) → (pos s *ℤ a) *ℤ b ≡ pos s *ℤ (a *ℤ b)
 scale-assoc s a b =
     let q = product_is (pos s) a in
@@ -47,6 +48,7 @@ pub record AreRoomy (m : Limits) : Type 0 where
   pub dual_reach : m.dual ≤ m.reach
   pub wide : m.sum ≤ 10 ^ 34
 
+-- where limits are enough, every one is within that of sums
 pub roomy : (m : Limits) → AreEnough m → AreRoomy m
 roomy m h =
     let a = h.pair in

@@ -31,18 +31,22 @@ IsInReach-none m R er ec ee ez ed =
 far_within : (m : Limits) (R : Form) → AreEnough m → IsInReach m R → reach m R.depth R.is_lined + (2 * m.pair + 2 * m.dual) ≤ m.reach
 far_within m R enough h = reach-within m R.depth R.is_lined enough (omega (arith, h.deep))
 
+-- the entries of a form are within the reach
 pub entries-within : (m : Limits) (R : Form) → AreEnough m → IsInReach m R → AllWithin m.reach R.entries
 entries-within m R enough h = record { each = λ j below. omega (arith, h.entries.each j below, far_within m R enough h) }
 
+-- numbers within a limit are within a larger one
 pub wider : (small large : ℕ) (xs : List ℤ) → small ≤ large → AllWithin small xs → AllWithin large xs
 wider small large xs h range = record { each = λ j below. omega (arith, range.each j below, h) }
 
+-- the least numbers of the columns are within the limit of sums
 pub leasts-within : (m : Limits) (R : Form) (limit : ℕ) (u v : List ℤ) → AreEnough m → IsInReach m R → limit ≤ m.reach → AllWithin limit u → length u ≡ count_of R → AreLeast (count_of R) R.entries u v → AllWithin m.sum v
 leasts-within m R limit u v enough h small range long least = record {
   each = λ c below.
       omega (arith, least-within (reach m R.depth R.is_lined) limit (count_of R) R.entries u v c h.count h.entries range long least (omega (arith, least.count)), far_within m R enough h, enough.sum, small);
 }
 
+-- an entry less both numbers is within the limit of sums
 pub line_room : (m : Limits) (R : Form) (u v : List ℤ) → AreEnough m → IsInReach m R → AllWithin m.dual u → length u ≡ count_of R → AreLeast (count_of R) R.entries u v → (r c : ℕ) → r < count_of R → c < count_of R → unsigned_abs (less_both (count_of R) R.entries u v r c) ≤ m.sum
 line_room m R u v enough h range long least r c hr hc =
     let between = line-between (reach m R.depth R.is_lined) m.dual (count_of R) R.entries u v r c h.count h.entries range long least hr hc in
@@ -50,6 +54,7 @@ line_room m R u v enough h range long least r c hr hc =
     let sum = enough.sum in
     omega (arith, ints, between, far, sum)
 
+-- the least numbers of the rows are within the reach
 pub rows-within : (m : Limits) (R : Form) (u : List ℤ) → AreEnough m → IsInReach m R → AreLeastOfRows (count_of R) R.entries u → AllWithin m.reach u
 rows-within m R u enough h least = record {
   each = λ r below.
@@ -69,6 +74,7 @@ at_most z depth false small v = omega (arith, small, v)
 value_most : (m : Limits) (R : Form) → AreEnough m → IsInReach m R → unsigned_abs R.value ≤ 514 * 10 ^ 34
 value_most m R enough h = at_most R.value R.depth R.is_lined (omega (arith, h.deep, enough.small)) h.value
 
+-- two sums, and the value with both, fit into 128 bits
 pub sums_fit : (m : Limits) (R : Form) (a b : ℤ) (k l : ℕ) → AreEnough m → IsInReach m R → k ≤ 256 → l ≤ 256 → unsigned_abs a ≤ k * m.sum → unsigned_abs b ≤ l * m.sum
     → FitsSigned w128 (a +ℤ b) × FitsSigned w128 (R.value +ℤ (a +ℤ b))
 sums_fit m R a b k l enough h hk hl ha hb =
@@ -80,6 +86,7 @@ sums_fit m R a b k l enough h hk hl ha hb =
       fits_signed_from_abs w128 (R.value +ℤ (a +ℤ b)) (omega (arith, ints, ha, hb, ka, lb, wide, v)),
     )
 
+-- the value and an entry together fit into 128 bits
 pub next_fits : (m : Limits) (R : Form) (r c : ℕ) (e : ℤ) → AreEnough m → IsInReach m R → r < count_of R → c < count_of R → e ≡ at R r c → FitsSigned w128 (R.value +ℤ e)
 next_fits m R r c e enough h hr hc is =
     let v = value_most m R enough h in

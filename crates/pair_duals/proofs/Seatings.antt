@@ -14,9 +14,11 @@ use Rattle.pair_duals.specs.Seats.{Seats, child_at}
 pub facilities_of : (y : Placement) → IsPlacement y → ListsFree y.size y.facilities (free_facilities y)
 facilities_of y h = ListsFree-free_below y.size y.facilities h.facilities
 
+-- the same for the free locations
 pub locations_of : (y : Placement) → IsPlacement y → ListsFree y.size y.places (free_locations y)
 locations_of y h = ListsFree-free_below y.size y.places h.places
 
+-- there are as many free locations as free facilities
 pub same_count : (y : Placement) → IsPlacement y → length (free_locations y) ≡ length (free_facilities y)
 same_count y h = omega (arith, (facilities_of y h).count, (locations_of y h).count, h.paired)
 
@@ -47,6 +49,7 @@ unfolding seat_at
 seat_at-stands y p h done r (inl below) inside = ((found y p r h done below).1, (found y p r h done below).2)
 seat_at-stands y p h done r (inr past) inside = absurd (omega arith)
 
+-- in a completion each free facility has its seat
 pub Seats-completed : (y : Placement) (p : List ℕ) → IsPlacement y → Completes y p → (seat : List ℕ) × Seats y p seat
 Seats-completed y p h done =
     let F = free_facilities y in
@@ -70,9 +73,11 @@ Seats-completed y p h done =
       },
     )
 
+-- free at a child are the free facilities of the node but the one that it places
 pub facilities_left : (y : Placement) (h g : ℕ) → IsPlacement y → h < length (free_facilities y) → free_facilities (child_at y h g) ≡ remove (free_facilities y) h
 facilities_left y h g is below = free_below-more y.size y.facilities h is.facilities below
 
+-- the same for the free locations
 pub locations_left : (y : Placement) (h g : ℕ) → IsPlacement y → g < length (free_locations y) → free_locations (child_at y h g) ≡ remove (free_locations y) g
 locations_left y h g is below = free_below-more y.size y.places g is.places below
 
@@ -81,6 +86,7 @@ pub record SeatsFollow (h g : ℕ) (seat next : List ℕ) : Type 0 where
   pub here : get_or seat h 0 ≡ g
   pub others : (r : ℕ) → r < length next → get_or seat (skip h r) 0 ≡ skip g (get_or next r 0)
 
+-- the seats of a completion at a child follow from those at the node
 pub SeatsFollow-child : (y : Placement) (h g : ℕ) (p seat next : List ℕ) → IsPlacement y → h < length (free_facilities y) → g < length (free_locations y) → Completes (child_at y h g) p → Seats y p seat → Seats (child_at y h g) p next → SeatsFollow h g seat next
 SeatsFollow-child y h g p seat next is hh hg done s t =
     let F = free_facilities y in

@@ -19,9 +19,11 @@ use Rattle.pair_duals.specs.Reduced.{but}
 use Rattle.pair_duals.proofs.Seatings.{facilities_of}
 use Rattle.pair_duals.proofs.Widths.{linear-within}
 
+-- a term for another number than the one left out stays
 pub but-at : (k : ℕ) (f : ℕ → ℤ) (j : ℕ) → j ≢ k → but k f j ≡ f j
 but-at k f j apart = cond-false (nat_eq j k) (pos 0) (f j) (ne_eqb j k apart)
 
+-- the term of the one left out is 0
 pub but-there : (k : ℕ) (f : ℕ → ℤ) (j : ℕ) → j ≡ k → but k f j ≡ pos 0
 but-there k f j same = cond-true (nat_eq j k) (pos 0) (f j) (eq-eqb j k same)
 
@@ -38,6 +40,7 @@ AddsUp-over total k f n limit h same =
 abbrev pub linear_so_far : Problem → Placement → ℕ → ℕ → ℕ → ℤ
 linear_so_far I x i k t = entry I.size I.a i i *ℤ entry I.size I.b k k +ℤ sum_to (cost_with I x i k) t
 
+-- one placed facility more
 pub linear_so_far-more : (I : Problem) (x : Placement) (s i k t : ℕ) → pos s *ℤ linear_so_far I x i k (t + 1) ≡ pos s *ℤ linear_so_far I x i k t +ℤ pos s *ℤ cost_of_pair I i k (get_or x.facilities t 0) (get_or x.places t 0)
 linear_so_far-more I x s i k t =
     let own = entry I.size I.a i i *ℤ entry I.size I.b k k in

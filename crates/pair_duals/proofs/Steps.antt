@@ -30,6 +30,7 @@ IsSpread-wider far more xs h s = record {
 
 -- ---- a child
 
+-- how far from 0 an entry of a child lies
 pub child-within : (m : Limits) (I : Problem) (D : Duals) (R : Form) (h g r c : ℕ) → AreEnough m → AreDuals m D → IsInScale m I D.scale → I.size ≡ D.size → IsInReach m R → AreWithin D R.rows R.columns → h < count_of R → g < count_of R → r + 1 < count_of R → c + 1 < count_of R
     → unsigned_abs (child_entry I D R.rows R.columns R.entries h g r c) ≤ reach m R.depth R.is_lined + m.pair
 child-within m I D R h g r c enough d scale size in_reach within hh hg hr hc =
@@ -99,6 +100,7 @@ IsInReach-child m I D R h g z rows columns entries enough d scale size r within 
       value = subst (λ (x : ℤ). unsigned_abs x ≤ value_reach (R.depth + 1) false) (sym ez) (value-child m R.depth R.is_lined R.value (at R h g) enough r.value (omega (arith, own, far)));
     }
 
+-- and that form is the child's
 pub IsChild-made : (I : Problem) (D : Duals) (R : Form) (h g : ℕ) (z : ℤ) (rows columns : List ℕ) (entries : List ℤ) → h < count_of R → z ≡ R.value +ℤ at R h g → rows ≡ remove R.rows h → columns ≡ remove R.columns g → AreEntries (count_of R - 1) (child_entry I D R.rows R.columns R.entries h g) entries
     → IsChild I D R h g (record { value = z; rows = rows; columns = columns; entries = entries; depth = R.depth + 1; is_lined = false })
 IsChild-made I D R h g z rows columns entries hh ez er ec is =
@@ -119,6 +121,7 @@ totals-within m xs n h count bound =
     let more : length xs * m.sum ≤ m.size * m.sum = mul-le _ _ _ _ (omega (arith, count, h)) (omega arith) in
     omega (arith, bound, more)
 
+-- the form that a line leads to is within its width
 pub IsInReach-line : (m : Limits) (R : Form) (z : ℤ) (u v entries : List ℤ) → AreEnough m → IsInReach m R → R.is_lined ≡ false → length u ≡ count_of R → AllWithin m.dual u → AreLeast (count_of R) R.entries u v
     → unsigned_abs (total u) ≤ length u * m.sum → unsigned_abs (total v) ≤ length v * m.sum → z ≡ R.value +ℤ (total u +ℤ total v) → length entries ≡ count_of R * count_of R → AreEntries (count_of R) (less_both (count_of R) R.entries u v) entries
     → IsInReach m (record { value = z; rows = R.rows; columns = R.columns; entries = entries; depth = R.depth; is_lined = true })
@@ -138,6 +141,7 @@ IsInReach-line m R z u v entries enough r first long range least hu hv ez count 
       value = omega (arith, ints, value, tu, tv, room, ez);
     }
 
+-- and that form is the one that the line leads to
 pub IsLine-made : (R : Form) (z : ℤ) (u v entries : List ℤ) → length u ≡ count_of R → AreLeast (count_of R) R.entries u v → z ≡ R.value +ℤ (total u +ℤ total v) → AreEntries (count_of R) (less_both (count_of R) R.entries u v) entries
     → IsLine R (record { value = z; rows = R.rows; columns = R.columns; entries = entries; depth = R.depth; is_lined = true }) u v
 IsLine-made R z u v entries long least ez is = record {
@@ -150,6 +154,7 @@ IsLine-made R z u v entries long least ez is = record {
   entries = is.entries;
 }
 
+-- and none of its entries is less than nothing
 pub IsNonNegative-line : (m : Limits) (R : Form) (z : ℤ) (u v entries : List ℤ) → IsInReach m R → length u ≡ count_of R → AllWithin m.dual u → AreLeast (count_of R) R.entries u v → AreEntries (count_of R) (less_both (count_of R) R.entries u v) entries
     → IsNonNegative (record { value = z; rows = R.rows; columns = R.columns; entries = entries; depth = R.depth; is_lined = true })
 IsNonNegative-line m R z u v entries r long range least is = record {
@@ -159,6 +164,7 @@ IsNonNegative-line m R z u v entries r long range least is = record {
 
 -- ---- a start
 
+-- at the node of the duals, rows and columns have the numbers of the free ones
 pub AreNumbers-first : (D : Duals) (x : Placement) (rows columns : List ℕ) → AreOf x D → AreFirst (length D.facilities) rows → AreFirst (length D.locations) columns → AreNumbers D x rows columns
 AreNumbers-first D x rows columns of first second = record {
   row_count = first.count ∙ ap length of.facilities;
@@ -187,6 +193,7 @@ own_is I D x rows columns r c of first second hr hc =
     ap₂ (λ (f g : List ℕ). pos D.scale *ℤ linear_cost I x (get_or f r 0) (get_or g c 0)) of.facilities of.locations in
     omega (arith, ints, alphas, betas, linear)
 
+-- the form that was made of these parts is that of the node by the duals alone
 pub IsStart-made : (I : Problem) (D : Duals) (x : Placement) (z : ℤ) (rows columns : List ℕ) (entries : List ℤ) → length D.locations ≡ length D.facilities → AreOf x D → AreFirst (length D.facilities) rows → AreFirst (length D.locations) columns
     → z ≡ pos D.scale *ℤ fixed_cost_of I x → AreEntries (length D.facilities) (own_entry I D x) entries
     → IsStart I D x (record { value = z; rows = rows; columns = columns; entries = entries; depth = 0; is_lined = false })
@@ -201,6 +208,7 @@ IsStart-made I D x z rows columns entries same of first second ez is = record {
       ap (λ n. entry n entries r c) first.count ∙ is.entries r c below inside ∙ own_is I D x rows columns r c of first second below (omega (arith, same));
 }
 
+-- and it is within its width
 pub IsInReach-start : (m : Limits) (I : Problem) (D : Duals) (x : Placement) (z : ℤ) (rows columns : List ℕ) (entries : List ℤ) → AreEnough m → AreDuals m D → IsInScale m I D.scale → IsPlacement x → I.size ≡ x.size → AreOf x D → AreFirst (length D.facilities) rows → AreFirst (length D.locations) columns
     → unsigned_abs z ≤ 10 ^ 34 → length entries ≡ length D.facilities * length D.facilities → AreEntries (length D.facilities) (own_entry I D x) entries
     → IsInReach m (record { value = z; rows = rows; columns = columns; entries = entries; depth = 0; is_lined = false })

@@ -19,12 +19,14 @@ value_within value xs k x m range is below =
 pub place_in_square : (m i k : ℕ) → i < m → k < m → i * m + k < m * m
 place_in_square m i k hi hk = let e : suc i * m ≤ m * m = mul-le _ _ _ _ hi (omega arith) in omega (arith, e)
 
+-- the place of a row and a column of a layer is within the layers
 pub place_in_layers : (m j i k : ℕ) → j < m → i < m → k < m → (j * m + i) * m + k < cube m
 place_in_layers m j i k hj hi hk =
     let inner = place_in_square m j i hj hi in
     let e : suc (j * m + i) * m ≤ (m * m) * m = mul-le _ _ _ _ inner (omega arith) in
     omega (arith, e)
 
+-- the number at a place; 0 where there is none
 abbrev pub value_at : List ℤ → ℕ → ℤ
 value_at xs i = get_or xs i (pos 0)
 

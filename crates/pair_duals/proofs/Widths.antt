@@ -34,10 +34,12 @@ pair-within m I s i k j l h hi hk hj hl =
     let split = *ℤ-+ℤ (pos s) (entry I.size I.a i j *ℤ entry I.size I.b k l) (entry I.size I.a j i *ℤ entry I.size I.b l k) in
     omega (arith, ints, there, back, split)
 
+-- a dual alpha(i,k,j)
 pub alpha-within : (m : Limits) (D : Duals) (i k j : ℕ) → AreDuals m D → i < length D.facilities → k < length D.locations → j < length D.facilities → unsigned_abs (alpha_of D i k j) ≤ m.dual
 alpha-within m D i k j d hi hk hj =
     d.alpha_range.each ((j * length D.facilities + i) * length D.facilities + k) (omega (arith, d.alpha_count, place_in_layers (length D.facilities) j i k hj hi (omega (arith, d.same_count))))
 
+-- a dual beta(i,k,l)
 pub beta-within : (m : Limits) (D : Duals) (i k l : ℕ) → AreDuals m D → i < length D.facilities → k < length D.locations → l < length D.locations → unsigned_abs (beta_of D i k l) ≤ m.dual
 beta-within m D i k l d hi hk hl =
     d.beta_range.each ((l * length D.facilities + i) * length D.facilities + k) (omega (arith, d.beta_count, place_in_layers (length D.facilities) l i k (omega (arith, d.same_count)) hi (omega (arith, d.same_count))))
@@ -98,6 +100,7 @@ square_place m j h =
       at,
     )
 
+-- numbers are spread no further than the entries of their square lie from 0 and from one another
 pub IsSpread-from_entries : (far m : ℕ) (xs : List ℤ) → length xs ≡ m * m → ((r c : ℕ) → r < m → c < m → unsigned_abs (entry m xs r c) ≤ far)
     → ((r c q d : ℕ) → r < m → c < m → q < m → d < m → entry m xs r c ≤ℤ (entry m xs q d +ℤ pos far)) → IsSpread far xs
 IsSpread-from_entries far m xs count each apart = record {
@@ -115,6 +118,7 @@ IsSpread-from_entries far m xs count each apart = record {
 pub entry-within : (far m : ℕ) (xs : List ℤ) (r c : ℕ) → length xs ≡ m * m → IsSpread far xs → r < m → c < m → unsigned_abs (entry m xs r c) ≤ far
 entry-within far m xs r c count s hr hc = s.each (r * m + c) (omega (arith, count, place_in_square m r c hr hc))
 
+-- no two of them are further from each other than the spread
 pub entry-apart : (far m : ℕ) (xs : List ℤ) (r c q d : ℕ) → length xs ≡ m * m → IsSpread far xs → r < m → c < m → q < m → d < m → entry m xs r c ≤ℤ (entry m xs q d +ℤ pos far)
 entry-apart far m xs r c q d count s hr hc hq hd =
     s.apart (r * m + c) (q * m + d) (omega (arith, count, place_in_square m r c hr hc)) (omega (arith, count, place_in_square m q d hq hd))

@@ -37,6 +37,7 @@ gcd_of_row f n i = pos (gcd_to (but i (f i)) n)
 abbrev pub gcd_of_others : (ℕ → ℕ → ℤ) → ℕ → ℕ
 gcd_of_others f n = gcd_to (gcd_of_row f n) n
 
+-- the entry f(i,i) of the diagonal
 abbrev pub on_diagonal : (ℕ → ℕ → ℤ) → ℕ → ℤ
 on_diagonal f i = f i i
 

@@ -7,6 +7,7 @@ use Rattle.qap_cost.specs.Range.{AllWithin}
 use Rattle.pair_duals.specs.CostOfPair.{cost_of_pair}
 use Rattle.pair_duals.specs.Limits.{Limits}
 
+-- how many numbers there are in m layers that are m by m
 abbrev pub cube : ℕ → ℕ
 cube m = (m * m) * m
 
@@ -44,9 +45,11 @@ pub record AreDuals (m : Limits) (D : Duals) : Type 0 where
 abbrev pub in_layers : ℕ → List ℤ → ℕ → ℕ → ℕ → ℤ
 in_layers m xs j i k = slice_index_or xs ((j * m + i) * m + k) (pos 0)
 
+-- the dual alpha(i,k,j), of facility number i at location number k for facility number j
 abbrev pub alpha_of : Duals → ℕ → ℕ → ℕ → ℤ
 alpha_of D i k j = in_layers (length D.facilities) D.alpha j i k
 
+-- the dual beta(i,k,l), of facility number i at location number k for location number l
 abbrev pub beta_of : Duals → ℕ → ℕ → ℕ → ℤ
 beta_of D i k l = in_layers (length D.facilities) D.beta l i k
 

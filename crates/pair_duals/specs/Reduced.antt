@@ -22,6 +22,7 @@ pub record Form : Type 0 where
 abbrev pub empty_form : Form
 empty_form = record { value = pos 0; rows = []; columns = []; entries = []; depth = 0; is_lined = false }
 
+-- how many rows a form has
 abbrev pub count_of : Form → ℕ
 count_of R = length R.rows
 

@@ -47,66 +47,57 @@ impl<N: Number> Shared<N> {
     }
 }
 
-/// The entries of B from the locations of columns to location number `l`, in the memory of a list.
-fn entries_to<N: Number>(
-    mut list: Vec<i64>,
+/// Writes the entries of B from the locations of columns to location number `l`.
+fn write_entries_to<N: Number>(
     instance: &Instance,
     duals: &PairDuals<N>,
     columns: &[u16],
     l: usize,
-) -> Result<Vec<i64>, AllocError>
+    list: &mut [i64],
+)
     requires size { instance.now.size ≡ duals.now.size }
     requires columns { (c : ℕ) → c < length columns.now → slice_index columns.now c < length duals.now.locations }
     requires l_in { l < length duals.now.locations }
-    ensures { IfOk result (λ v. IsDualRow (10 ^ 9) (length columns.now) (entry_to instance.now duals.now columns.now l) v.items) }
+    requires room { length list.old ≡ length columns.now }
+    ensures { IsDualRow (10 ^ 9) (length columns.now) (entry_to instance.now duals.now columns.now l) list.new }
 {
     let to = duals.location(l);
-    list.clear();
-    for column in columns {
-        list.push(instance.b(duals.location(usize::from(*column)), to))?;
+    for c in 0..columns.len() {
+        list[c] = instance.b(duals.location(usize::from(columns[c])), to);
     }
-    Ok(list)
 }
 
-/// The entries of B from location number `l` to the locations of columns, in the memory of a list.
-fn entries_from<N: Number>(
-    mut list: Vec<i64>,
+/// Writes the entries of B from location number `l` to the locations of columns.
+fn write_entries_from<N: Number>(
     instance: &Instance,
     duals: &PairDuals<N>,
     columns: &[u16],
     l: usize,
-) -> Result<Vec<i64>, AllocError>
+    list: &mut [i64],
+)
     requires size { instance.now.size ≡ duals.now.size }
     requires columns { (c : ℕ) → c < length columns.now → slice_index columns.now c < length duals.now.locations }
     requires l_in { l < length duals.now.locations }
-    ensures { IfOk result (λ v. IsDualRow (10 ^ 9) (length columns.now) (entry_from instance.now duals.now columns.now l) v.items) }
+    requires room { length list.old ≡ length columns.now }
+    ensures { IsDualRow (10 ^ 9) (length columns.now) (entry_from instance.now duals.now columns.now l) list.new }
 {
     let from = duals.location(l);
-    list.clear();
-    for column in columns {
-        list.push(instance.b(from, duals.location(usize::from(*column))))?;
+    for c in 0..columns.len() {
+        list[c] = instance.b(from, duals.location(usize::from(columns[c])));
     }
-    Ok(list)
 }
 
-/// The duals of facility number `j` at location number `l` for the locations of columns, in the memory of a list.
-fn betas_of<N: Number>(
-    mut list: Vec<N>,
-    duals: &PairDuals<N>,
-    columns: &[u16],
-    j: usize,
-    l: usize,
-) -> Result<Vec<N>, AllocError>
+/// Writes the duals of facility number `j` at location number `l` for the locations of columns.
+fn write_betas<N: Number>(duals: &PairDuals<N>, columns: &[u16], j: usize, l: usize, list: &mut [N])
     requires columns { (c : ℕ) → c < length columns.now → slice_index columns.now c < length duals.now.locations }
     requires j_in { j < length duals.now.facilities }
     requires l_in { l < length duals.now.locations }
-    ensures { IfOk result (λ v. IsDualRow N.limits.dual (length columns.now) (beta_along duals.now columns.now j l) (map N.value v.items)) }
+    requires room { length list.old ≡ length columns.now }
+    ensures { IsDualRow N.limits.dual (length columns.now) (beta_along duals.now columns.now j l) (map N.value list.new) }
 {
-    list.clear();
-    for column in columns {
-        list.push(duals.beta(j, l, usize::from(*column)))?;
+    for c in 0..columns.len() {
+        list[c] = duals.beta(j, l, usize::from(columns[c]));
     }
-    Ok(list)
 }
 
 /// What the entries of each column of `parent` share where row `h` is put at column `g`, in the memory of another.
@@ -126,12 +117,19 @@ pub fn share_columns<N: Number>(
     ensures back { IfOk result (λ s. IsDualRow (10 ^ 9) (length parent.now.columns) (entry_from instance.now duals.now parent.now.columns (slice_index parent.now.columns g)) s.back.items) }
     ensures own { IfOk result (λ s. IsDualRow N.limits.dual (length parent.now.columns) (beta_along duals.now parent.now.columns (slice_index parent.now.rows h) (slice_index parent.now.columns g)) (map N.value s.own.items)) }
 {
-    let Shared { there, back, own } = shared;
+    let Shared {
+        mut there,
+        mut back,
+        mut own,
+    } = shared;
     let (rows, columns) = (parent.rows(), parent.columns());
     let (j, l) = (usize::from(rows[h]), usize::from(columns[g]));
-    let there = entries_to(there, instance, duals, columns, l)?;
-    let back = entries_from(back, instance, duals, columns, l)?;
-    let own = betas_of(own, duals, columns, j, l)?;
+    there.resize(columns.len(), 0)?;
+    back.resize(columns.len(), 0)?;
+    own.resize(columns.len(), N::narrow(0))?;
+    write_entries_to(instance, duals, columns, l, &mut there);
+    write_entries_from(instance, duals, columns, l, &mut back);
+    write_betas(duals, columns, j, l, &mut own);
     Ok(Shared { there, back, own })
 }
 
@@ -157,7 +155,6 @@ pub fn child_entries<N: Number>(
     ensures entries { IfOk result (λ v. AreEntries (count_of parent.now - 1) (child_entry instance.now duals.now parent.now.rows parent.now.columns parent.now.entries h g) (map N.value v.items)) }
 {
     let m = parent.free() - 1;
-    list.clear();
     list.resize(m * m, N::narrow(0))?;
     fill_child(instance, duals, parent, &(h, g), shared, &mut list);
     Ok(list)

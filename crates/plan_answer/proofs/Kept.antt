@@ -1,4 +1,4 @@
--- The dearest of the pairs that were looked at so far.
+-- The costliest of the pairs that were looked at so far.
 use Rattle.std.proofs.Common.{◌≡◌, refl, sym, ◌∙◌, subst, ap, arith, ℕ, suc, zero, ◌+◌, ◌<◌, ◌≤◌, ◌⊎◌, inl, inr, ⊎_elim, Bool, true, false, cond, List, [], ◌∷◌, length, take}
 use Rattle.std.specs.Prelude.{⊤, ℤ, pos, ◌<ℤ◌, ◌≤ℤ◌, int_lt}
 use Rattle.std.specs.List.{AllByRecursion, AllPairs, Contains}
@@ -16,14 +16,16 @@ abbrev pub Sorted : List Pair → Type 0
 Sorted [] = ⊤
 Sorted (x ∷ xs) = AllByRecursion (IsBefore x) xs × Sorted xs
 
+-- the pair is one of the list
 abbrev pub Among : Pair → List Pair → Type 0
 Among z [] = ⊥
 Among z (y ∷ ys) = (y ≡ z) ⊎ Among z ys
 
+-- the pair comes behind each of the list
 abbrev pub Behind : Pair → List Pair → Type 0
 Behind z xs = AllByRecursion (λ y. IsBefore y z) xs
 
--- of those that were looked at the dearest, at most so many
+-- of those that were looked at the costliest, at most this many
 pub record AreKept (Seen : Pair → Type 0) (most : ℕ) (xs : List Pair) : Type 0 where
   pub seen : AllByRecursion Seen xs
   pub ordered : Sorted xs
@@ -141,6 +143,7 @@ pub record IsSeen (I : Problem) (p : List ℕ) (row column : ℕ) (x : Pair) : T
   pub dear : pos 0 <ℤ x.cost
   pub earlier : (x.from < row) ⊎ ((x.from ≡ row) × (x.to < column))
 
+-- the costliest of the pairs in rows below one, and in that one below a column
 abbrev pub AreDearestUpTo : Problem → List ℕ → ℕ → ℕ → ℕ → List Pair → Type 0
 AreDearestUpTo I p most row column xs = AreKept (IsSeen I p row column) most xs
 
@@ -149,6 +152,7 @@ same_pair x y e f g =
     let made : ℕ → ℕ → ℤ → Pair = λ a b c. record { from = a; to = b; cost = c } in
     ap (λ (v : ℕ). made v x.to x.cost) e ∙ ap (λ (v : ℕ). made y.from v x.cost) f ∙ ap (λ (v : ℤ). made y.from y.to v) g
 
+-- before any pair was looked at, none is kept
 pub none_seen : (I : Problem) (p : List ℕ) (most : ℕ) → AreDearestUpTo I p most 0 0 []
 none_seen I p most = record {
   seen = tt;
@@ -157,6 +161,7 @@ none_seen I p most = record {
   others = λ z s. absurd (⊎_elim (λ l. omega arith) (λ r. let l = r.1 in omega arith) s.earlier);
 }
 
+-- those kept at the end of a row are those kept at the beginning of the next one
 pub next_row : (I : Problem) (p : List ℕ) (most row : ℕ) (xs : List Pair) → AreDearestUpTo I p most row I.size xs → AreDearestUpTo I p most (row + 1) 0 xs
 next_row I p most row xs k =
     same_seen _ _ most xs
@@ -195,6 +200,7 @@ next_pair_by I p most x xs a k false is =
     (λ y s. let dear = s.dear in ⊎_elim (λ old. old) (λ e. let same = ap (λ (v : Pair). v.cost) e in absurd (omega (arith, ints))) (new_or_old I p x y a s))
     k
 
+-- with the pair that comes next, the costliest are those that are kept with it
 pub next_pair : (I : Problem) (p : List ℕ) (most : ℕ) (x : Pair) (xs : List Pair) → IsPairOf I p x → AreDearestUpTo I p most x.from x.to xs → AreDearestUpTo I p most x.from (x.to + 1) (kept_with most x xs)
 next_pair I p most x xs a k = next_pair_by I p most x xs a k (int_lt (pos 0) x.cost) refl
 
@@ -207,6 +213,7 @@ contains_among z [] m = absurd m
 contains_among z (y ∷ ys) (inl e) = (0, omega arith, e)
 contains_among z (y ∷ ys) (inr m) = let c = contains_among z ys m in let l = c.1 in (suc c.0, omega arith, c.2)
 
+-- once all rows were looked at, those kept are the costliest of all pairs
 pub all_seen : (I : Problem) (p : List ℕ) (most : ℕ) (xs : List Pair) → AreDearestUpTo I p most I.size 0 xs → AreDearest I p most xs
 all_seen I p most xs k = record {
   pairs = All-from_recursion _ xs (all_map _ (IsPairOf I p) (λ x s. s.pair) xs k.seen);

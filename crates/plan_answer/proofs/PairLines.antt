@@ -9,6 +9,7 @@ use Rattle.plan_answer.specs.declared.pairs.Pair.{Pair}
 abbrev pub GoesBefore : List (List ℕ) → ℕ → List Pair → List Pair → List ℕ → Type 0
 GoesBefore names scale all left done = (rest : List ℕ) → ArePairLines names scale left rest → ArePairLines names scale all (done ++ rest)
 
+-- with the line of the next pair, what is written goes in front of the lines of the pairs behind that one
 pub one_more : (names : List (List ℕ)) (scale : ℕ) (xs : List Pair) (i : ℕ) (d : Pair) (done from to cost : List ℕ) → i < length xs
     → from ≡ get_or names (get_or xs i d).from [] → to ≡ get_or names (get_or xs i d).to [] → Spells cost (get_or xs i d).cost scale
     → GoesBefore names scale xs (drop i xs) done → GoesBefore names scale xs (drop (i + 1) xs) (done ++ pair_line from to cost)

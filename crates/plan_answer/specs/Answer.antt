@@ -22,7 +22,7 @@ places_text P p =
 abbrev pub has_fixed : NamedProblem → Bool
 has_fixed P = nat_lt 0 (length P.fixed.facilities)
 
--- how many of the dearest pairs an answer tells
+-- how many of the costliest pairs an answer lists
 abbrev pub told_pairs : ℕ
 told_pairs = 5
 

@@ -4,7 +4,7 @@ use Rattle.std.specs.Int.{div_ceil}
 use Rattle.qap_cost.specs.Limits.{max_value}
 use Rattle.plan_table.specs.Spelling.{Spells}
 
--- it is told where the bound lies above zero and no higher than the cost, which is no larger than a cost can be
+-- it is stated where the bound lies above zero and no higher than the cost, which is no larger than a cost can be
 abbrev pub is_told : ℤ → ℤ → Bool
 is_told c g = int_lt (pos 0) g && not (int_lt c g) && not (int_lt (pos max_value) c)
 
@@ -12,12 +12,12 @@ is_told c g = int_lt (pos 0) g && not (int_lt c g) && not (int_lt (pos max_value
 abbrev pub tenths_above : ℤ → ℤ → ℕ
 tenths_above c g = div_ceil (unsigned_abs (c -ℤ g) * 1000) (unsigned_abs g)
 
--- so many tenths of a percent
+-- this many tenths of a percent
 pub record IsPercentText (tenths : ℤ) (text : List ℕ) : Type 0 where
   pub percent : List ℕ
   pub spelled : Spells percent tenths 1
   pub is : text ≡ codes ", at most " ++ percent ++ codes "% above the least"
 
--- the percentage where it is told, and else nothing
+-- the percentage where it is stated, and else nothing
 abbrev pub IsApartText : ℤ → ℤ → List ℕ → Type 0
 IsApartText c g text = MatchBool (is_told c g) (IsPercentText (pos (tenths_above c g)) text) (text ≡ [])

@@ -1,4 +1,4 @@
--- The lines of the dearest pairs.
+-- The lines of the costliest pairs.
 use Rattle.std.specs.Prelude.{◌≡◌, ℕ, List, [], ◌∷◌, ◌++◌, codes, slice_index_or}
 use Rattle.plan_table.specs.Spelling.{Spells}
 use Rattle.plan_answer.specs.declared.pairs.Pair.{Pair}
@@ -7,8 +7,8 @@ use Rattle.plan_answer.specs.declared.pairs.Pair.{Pair}
 abbrev pub pair_line : List ℕ → List ℕ → List ℕ → List ℕ
 pair_line from to cost = from ++ codes " to " ++ to ++ codes ": " ++ cost ++ codes "\n"
 
--- a line for each pair, in order: with the names of its two departments, of which an added one has none, and what it costs, in units with so many places
--- behind the point
+-- a line for each pair, in order: with the names of its two departments, of which an added one has none, and what it
+-- costs, in units with this many places behind the point
 abbrev pub ArePairLines : List (List ℕ) → ℕ → List Pair → List ℕ → Type 0
 ArePairLines names scale [] text = text ≡ []
 ArePairLines names scale (x ∷ xs) text =

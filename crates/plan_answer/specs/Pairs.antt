@@ -19,8 +19,9 @@ IsEarlier x y = (x.from < y.from) ⊎ ((x.from ≡ y.from) × (x.to < y.to))
 abbrev pub IsBefore : Pair → Pair → Type 0
 IsBefore x y = (y.cost <ℤ x.cost) ⊎ ((x.cost ≡ y.cost) × IsEarlier x y)
 
--- of the pairs that cost something the first so many, the dearest first, or all where there are fewer (the k largest of a list, in a stable order: Knuth,
--- The Art of Computer Programming, volume 3, 1998, 5): each that is left out comes behind each that is there
+-- of the pairs that cost something the first `most`, the costliest first, or all where there are fewer (the k largest
+-- of a list, in a stable order: Knuth, The Art of Computer Programming, volume 3, 1998, 5): each that is left out comes
+-- behind each that is there
 pub record AreDearest (I : Problem) (p : List ℕ) (most : ℕ) (xs : List Pair) : Type 0 where
   pub pairs : All (IsPairOf I p) xs
   pub dear : All (λ x. pos 0 <ℤ x.cost) xs

@@ -5,6 +5,7 @@ use Rattle.plan_file.specs.declared.tables.NamedProblem.{NamedProblem}
 use Rattle.plan_answer.specs.Answer.{IsPairsText, cost_scale, has_fixed, places_text}
 use Rattle.plan_answer.specs.Lines.{kept_text}
 
+-- the words for the bound, ` to `, and those for the cost
 abbrev pub between : List ℕ → List ℕ → List ℕ
 between cost bound = bound ++ codes " to " ++ cost
 

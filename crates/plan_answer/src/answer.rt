@@ -12,7 +12,7 @@ use plan_file::NamedProblem;
 use qap_cost::Perm;
 use std::alloc::{AllocError, Global};
 
-/// How many of the dearest pairs an answer tells.
+/// How many of the costliest pairs an answer lists.
 const PAIRS: usize = 5;
 
 /// The text of an answer: a line for each department with its place, one for each place that stays empty, one for the cost in the
@@ -34,7 +34,8 @@ pub fn answer_text(
     Ok(text)
 }
 
-/// The line that tells what is proved of the cost, in the plan's own units: that it is optimal, or between which bounds the least cost lies.
+/// The line that states what is proved of the cost, in the plan's own units: that it is optimal, or between which
+/// bounds the least cost lies.
 pub fn verdict_text(
     alloc: Global,
     problem: &NamedProblem,
@@ -74,7 +75,7 @@ pub(crate) fn dearest_text(
     pairs_text(alloc, problem, &pairs)
 }
 
-/// The lines that tell where each department stands, and which places stay empty.
+/// The lines that say where each department stands, and which places stay empty.
 pub(crate) fn places_text(
     alloc: Global,
     problem: &NamedProblem,

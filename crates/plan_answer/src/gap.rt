@@ -19,7 +19,7 @@ pub fn apart_text(alloc: Global, cost: i128, bound: i128) -> Result<Vec<u8>, All
     }
 }
 
-/// What is told of so many tenths of a percent.
+/// What an answer says of this many tenths of a percent.
 fn percent_text(alloc: Global, tenths: i128) -> Result<Vec<u8>, AllocError>
     ensures { IfOk result (λ text. IsPercentText tenths text.items) }
 {

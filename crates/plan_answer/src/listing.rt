@@ -1,4 +1,4 @@
-//! The lines of the dearest pairs.
+//! The lines of the costliest pairs.
 
 ghost use Rattle.std.specs.Prelude.{◌≡◌, ◌++◌, [], IfOk, OnOk, map, slice_index_or, string_bytes};
 ghost use Rattle.plan_table.specs.Spelling.{Spells};

@@ -17,8 +17,8 @@ pub struct Pair {
     pub cost: i64,
 }
 
-/// The pairs of facilities that cost most, at most so many, the dearest first, and of equal ones the first by rows; none that costs
-/// nothing.
+/// The pairs of facilities that cost most, at most this many, the costliest first, and of equal ones the first by rows;
+/// none that costs nothing.
 pub fn dearest_pairs(
     alloc: Global,
     instance: &Instance,
@@ -56,7 +56,7 @@ fn pair_cost(instance: &Instance, permutation: &Perm, from: usize, to: usize) ->
     product(flow, instance.b(here, there))
 }
 
-/// Puts a pair that costs something where it belongs among the dearest, so that at most so many are left.
+/// Puts a pair that costs something where it belongs among the costliest, so that at most this many are left.
 fn put_pair(pairs: &mut Vec<Pair>, pair: Pair, most: usize) -> Result<(), AllocError>
     requires { length pairs.old.items ≤ most }
     ensures { OnOk result (pairs.new.items ≡ kept_with most pair pairs.old.items) }

@@ -11,7 +11,7 @@ use plan_file::NamedProblem;
 use qap_cost::Perm;
 use std::alloc::{AllocError, Global};
 
-/// The text of an answer as `answer_text` gives it, where nothing shows the bound: it is told as stated.
+/// The text of an answer as `answer_text` gives it, where nothing shows the bound: it is reported as stated.
 pub fn stated_text(
     alloc: Global,
     problem: &NamedProblem,
@@ -40,7 +40,7 @@ pub fn cost_line(alloc: Global, problem: &NamedProblem, cost: i128) -> Result<Ve
     Ok(text)
 }
 
-/// The line that tells what is stated of the cost.
+/// The line that reports what is stated of the cost.
 fn stated_line(
     alloc: Global,
     problem: &NamedProblem,

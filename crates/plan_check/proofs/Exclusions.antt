@@ -217,6 +217,7 @@ no_answer_to_plan P text e (inr (d, json, why)) other = λ p c g answer.
       ]
     ]
 
+-- the same for an answer to an instance
 pub no_answer_to_instance : (I : Problem) (text : List ℕ) (e : AnswerError) → IsRefusedByInstance I text e → e ≢ OutOfMemory → (p : List ℕ) (c g : ℤ) → ¬ IsAnswerToInstance I text p c g
 no_answer_to_instance I text e (inl none) other = λ p c g answer. no_json text e answer.value none other answer.json
 no_answer_to_instance I text e (inr (d, json, why)) other = λ p c g answer.

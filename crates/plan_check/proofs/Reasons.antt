@@ -16,6 +16,7 @@ use Rattle.plan_check.specs.declared.error.AnswerError.TheVariants.{NoLocation}
 pub at_place : {A B : Type 0} (f : A → B) (xs : List A) (i : ℕ) (x : A) → i < length xs → x ≡ get_or xs i x → slice_get (map f xs) i ≡ Some (f x)
 at_place f xs i x inside at = slice_get-map f xs i ∙ ap (option_map f) (slice_get_read xs (length xs) i x refl inside at)
 
+-- in a list of names as JSON, each name stands at its place
 pub name_at : (names : List (String Global)) (i : ℕ) (s : String Global) → i < length names → s ≡ get_or names i s → slice_get (map string (map string_bytes names)) i ≡ Some (string (string_bytes s))
 name_at names i s inside at = slice_get-map string (map string_bytes names) i ∙ ap (option_map string) (at_place string_bytes names i s inside at)
 

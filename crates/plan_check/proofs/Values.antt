@@ -30,6 +30,7 @@ whole_of (object ms) n is = absurd (cc)
 no_whole : (d : Data) (n : ℕ) → None ≡ option_and_then as_u64 (as_number d) → d ≢ number (unsigned n)
 no_whole d n none = λ is. let some : option_and_then as_u64 (as_number d) ≡ Some n = ap (λ x. option_and_then as_u64 (as_number x)) is in absurd (cc)
 
+-- a value of which items are found is the list of these
 pub list_of : (d : Data) (items : Items) → Some items ≡ as_array d → d ≡ array items
 list_of null items is = absurd (cc)
 list_of (boolean b) items is = absurd (cc)
@@ -38,6 +39,7 @@ list_of (string t) items is = absurd (cc)
 list_of (array ds) items is = cc
 list_of (object ms) items is = absurd (cc)
 
+-- a value of which none are found is no list
 pub no_list : (d : Data) (ds : List Data) → None ≡ as_array d → d ≢ array (items_of ds)
 no_list d ds none = λ is. let some : as_array d ≡ Some (items_of ds) = ap as_array is in absurd (cc)
 
@@ -46,10 +48,12 @@ pub text_found : (d : Data) (found : Option (Bor (List ℕ))) → option_map (λ
 text_found d None is = λ s. no_text d s is
 text_found d (Some s) is = text_of d s.now is
 
+-- a value is the whole number that is found of it, or it is none
 pub whole_found : (d : Data) (found : Option ℕ) → found ≡ option_and_then as_u64 (as_number d) → MatchOption found ((n : ℕ) → d ≢ number (unsigned n)) (λ n. d ≡ number (unsigned n))
 whole_found d None is = λ n. no_whole d n is
 whole_found d (Some n) is = whole_of d n is
 
+-- what a lookup finds is what was wanted: a value, or none
 pub value_found : (wanted : Option Data) (found : Option (Bor Value)) → option_map (λ v. view v.now) found ≡ wanted → MatchOption found (wanted ≡ None) (λ v. wanted ≡ Some (view v.now))
 value_found wanted None is = sym is
 value_found wanted (Some v) is = sym is

@@ -5,9 +5,11 @@ use Rattle.serde_json.specs.Find.{get}
 use Rattle.plan_file.specs.declared.tables.NamedProblem.{NamedProblem}
 use Rattle.plan_check.specs.Stated.{ListsTexts}
 
+-- the names of a problem's departments, in order
 abbrev pub department_names : NamedProblem → List (List ℕ)
 department_names P = map string_bytes P.departments.items
 
+-- the names of its places, in order
 abbrev pub place_names : NamedProblem → List (List ℕ)
 place_names P = map string_bytes P.places.items
 
@@ -29,6 +31,7 @@ pub record HasNamesOf (P : NamedProblem) (p : List ℕ) (d : Data) : Type 0 wher
   pub places : MayList d (codes "places") (place_names P)
   pub arrangement : MayList d (codes "arrangement") (arrangement_of P p)
 
+-- there are no names: none of the three keys is there
 pub record HasNoNames (d : Data) : Type 0 where
   pub departments : get (codes "departments") d ≡ None
   pub places : get (codes "places") d ≡ None

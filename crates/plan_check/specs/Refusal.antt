@@ -71,6 +71,7 @@ IsOtherCost scale word c (OtherCost told) = ¬ Spells word c scale
 IsOtherCost scale word c OutOfMemory = Unit {0}
 IsOtherCost scale word c _ = ⊥
 
+-- the key `cost` has no text, or one that doesn't spell this cost
 abbrev pub StatesOtherCost : ℕ → Data → ℤ → AnswerError → Type 0
 StatesOtherCost scale d c e = HasNoText d (codes "cost") e ⊎ ((word : List ℕ) × StatesText d (codes "cost") word × IsOtherCost scale word c e)
 
@@ -85,6 +86,8 @@ abbrev pub IsOtherStatus : Data → List ℕ → AnswerError → Type 0
 IsOtherStatus d status (OtherStatus told) = (told.now ≡ status) × ¬ StatesText d (codes "status") status
 IsOtherStatus d status _ = ⊥
 
+-- no bound of this cost is stated with its status: `bound` or `status` has no text, the bound's word spells none, or
+-- the status is not that of the bound
 abbrev pub StatesNoBound : ℕ → Data → ℤ → AnswerError → Type 0
 StatesNoBound scale d c e =
     HasNoText d (codes "bound") e
@@ -98,7 +101,7 @@ IsUnstated I x scale d e =
     ListsNoneKept x d e
     ⊎ ((p : List ℕ) × IsListed I x d p × (StatesOtherCost scale d (cost_of I p) e ⊎ StatesNoBound scale d (cost_of I p) e))
 
--- a key is there, and has no list of so many values, or one of them is another than the name at its place
+-- a key is there, and has no list of this many values, or one of them is another than the name at its place
 abbrev pub IsMisnamed : Data → List ℕ → List (List ℕ) → AnswerError → Type 0
 IsMisnamed d key names (OtherNames named count) =
     (named.now ≡ key) × (count ≡ length names) × (found : Data) × (get key d ≡ Some found) × (HasNoList d key ⊎ ((ds : List Data) × Lists d key ds × (length ds ≢ count)))

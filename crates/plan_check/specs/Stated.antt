@@ -5,6 +5,7 @@ use Rattle.serde_json.specs.Find.{get}
 use Rattle.serde_json.specs.View.{items_of}
 use Rattle.plan_table.specs.Spelling.{Spells}
 
+-- a whole number as a value of JSON
 abbrev pub whole : ℕ → Data
 whole n = number (unsigned n)
 

@@ -61,7 +61,7 @@ pub fn stated_bound(
     Ok(bound)
 }
 
-/// A cost over so many places behind the point, as it is told.
+/// A cost with this many places behind the point, as it is reported.
 pub fn cost_text(alloc: Global, cost: i128, scale: usize) -> Result<String, AllocError>
     requires { scale < 2 ^ 32 }
 {

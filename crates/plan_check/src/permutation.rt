@@ -9,7 +9,7 @@ use crate::error::AnswerError;
 use qap_cost::Perm;
 use std::alloc::Global;
 
-/// The permutation of so many facilities whose locations are these, counted from 1.
+/// The permutation of this many facilities whose locations are these, counted from 1.
 pub fn permutation_of(alloc: Global, numbers: &[u64], size: usize) -> Result<Perm, AnswerError>
     requires positive { 0 < size }
     requires small { size ≤ 256 }

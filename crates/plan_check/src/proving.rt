@@ -14,8 +14,9 @@ use qap_cost::{Instance, Partial, Perm, cost};
 use qap_proof::{ProofError, Stated, accept_over};
 use std::alloc::Global;
 
-/// What no arrangement that keeps what is fixed costs less than, where a text is that of a proof which proves it for the instance, over just these
-/// arrangements, and with the cost of this permutation. Else why it isn't. The cost of another proof is told over so many places behind the point.
+/// What no arrangement that keeps what is fixed costs less than, where a text is that of a proof which proves it for
+/// the instance, over exactly these arrangements, and with the cost of this permutation. Else why it isn't. The cost of
+/// another proof is reported with this many places behind the point.
 pub fn proved_bound(
     alloc: Global,
     instance: &Instance,

@@ -1,4 +1,4 @@
-//! What is told of an answer to a plan that was judged.
+//! What is reported of an answer to a plan that was judged.
 
 ghost use Rattle.std.specs.Prelude.{IfOk, MatchOption};
 ghost use Rattle.plan_answer.specs.Stated.{IsCostLine};
@@ -14,8 +14,8 @@ use plan_file::NamedProblem;
 use qap_cost::{Perm, cost};
 use std::alloc::Global;
 
-/// The line that tells what an arrangement which keeps what is fixed costs, in the plan's own units, and where there is the text of a proof, what that
-/// shows.
+/// The line that reports what an arrangement which keeps what is fixed costs, in the plan's own units, and where there
+/// is the text of a proof, what that shows.
 pub fn checked_line(
     alloc: Global,
     problem: &NamedProblem,

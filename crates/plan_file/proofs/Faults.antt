@@ -3,8 +3,9 @@ use Rattle.std.proofs.Common.{List, ℕ, codes}
 use Rattle.toml.specs.Data.{Members}
 use Rattle.plan_file.specs.Plan.{HasSome, IsFaultOf, IsFixingFault, IsNamesFault, IsPlanFault, IsTable}
 use Rattle.plan_file.specs.declared.error.PlanError.{PlanError}
-use Rattle.plan_file.specs.declared.error.PlanError.TheVariants.{Syntax, UnknownKey, NoText, ControlInText, NeitherKey, BothKeys, MissingKey, LoneKey, OtherMetric, OtherMark, NoDecimals, ExactMetric, Departments, Fixed, OutOfMemory}
+use Rattle.plan_file.specs.declared.error.PlanError.TheVariants.{Syntax, UnknownKey, NoText, ControlInText, NeitherKey, AmongFixed, BothKeys, MissingKey, LoneKey, OtherMetric, OtherMark, NoDecimals, ExactMetric, Departments, Fixed, OutOfMemory}
 
+-- what is wrong with a list of names is a fault of a table that gives the departments
 pub fault_of_names : (ms : Members) (e : PlanError) → HasSome ms (codes "departments") → IsNamesFault e → IsFaultOf ms e
 fault_of_names ms (Departments fault) there h = there
 fault_of_names ms OutOfMemory there h = tt
@@ -13,6 +14,7 @@ fault_of_names ms (UnknownKey key) there h = absurd h
 fault_of_names ms (NoText key found) there h = absurd h
 fault_of_names ms (ControlInText key code) there h = absurd h
 fault_of_names ms (NeitherKey key other) there h = absurd h
+fault_of_names ms (AmongFixed key) there h = absurd h
 fault_of_names ms (BothKeys key other) there h = absurd h
 fault_of_names ms (MissingKey key other) there h = absurd h
 fault_of_names ms (LoneKey key other) there h = absurd h
@@ -22,6 +24,7 @@ fault_of_names ms NoDecimals there h = absurd h
 fault_of_names ms (ExactMetric metric) there h = absurd h
 fault_of_names ms (Fixed fault) there h = absurd h
 
+-- what is wrong with what is fixed is a fault of a table that has it
 pub fault_of_fixing : (ms : Members) (e : PlanError) → HasSome ms (codes "fixed") → IsFixingFault e → IsFaultOf ms e
 fault_of_fixing ms (Fixed fault) there h = there
 fault_of_fixing ms OutOfMemory there h = tt
@@ -30,6 +33,7 @@ fault_of_fixing ms (UnknownKey key) there h = absurd h
 fault_of_fixing ms (NoText key found) there h = absurd h
 fault_of_fixing ms (ControlInText key code) there h = absurd h
 fault_of_fixing ms (NeitherKey key other) there h = absurd h
+fault_of_fixing ms (AmongFixed key) there h = absurd h
 fault_of_fixing ms (BothKeys key other) there h = absurd h
 fault_of_fixing ms (MissingKey key other) there h = absurd h
 fault_of_fixing ms (LoneKey key other) there h = absurd h
@@ -47,6 +51,7 @@ fault_of_table text ms (UnknownKey key) is h = (ms, is, h)
 fault_of_table text ms (NoText key found) is h = (ms, is, h)
 fault_of_table text ms (ControlInText key code) is h = (ms, is, h)
 fault_of_table text ms (NeitherKey key other) is h = (ms, is, h)
+fault_of_table text ms (AmongFixed key) is h = (ms, is, h)
 fault_of_table text ms (BothKeys key other) is h = (ms, is, h)
 fault_of_table text ms (MissingKey key other) is h = (ms, is, h)
 fault_of_table text ms (LoneKey key other) is h = (ms, is, h)

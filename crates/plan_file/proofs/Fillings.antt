@@ -15,6 +15,7 @@ filled_entry departments flows places filled i j filled_up row column =
     filled_up.flow (i * places + j) (mul-add-lt i places j places row column)
     ∙ ap₂ (flow_of departments flows) (div-mul-add i places j column) (mod-mul-add i places j column)
 
+-- of the flows that are to be filled up, the first 0 are none
 pub IsFilledUp-none : (departments : ℕ) (flows : List ℤ) (places : ℕ) (filled : List ℤ) → filled ≡ [] → IsFilledUp departments flows places 0 filled
 IsFilledUp-none departments flows places filled none = record {
   many = ap (λ (l : List ℤ). length l) none;

@@ -11,10 +11,12 @@ use Rattle.plan_file.specs.Fixing.{AreFixed, AreNamed, IsNameAt}
 use Rattle.plan_file.specs.Plan.{ArePins, IsPin, strings_of}
 use Rattle.plan_file.specs.declared.source.Pin.{Pin}
 
+-- texts as items, with one more at the end of either
 pub strings_push : (ss : List (List ℕ)) (s : List ℕ) → strings_of (ss ++ s ∷ []) ≡ push_item (strings_of ss) (string s)
 strings_push [] s = refl
 strings_push (t ∷ ss) s = ap (item (string t)) (strings_push ss s)
 
+-- one pin more, with the numbers of its department and its place at the ends of the lists
 pub AreNamed-more : (departments places : List (List ℕ)) (pins : List Pin) (fs ks : List ℕ) (pin : Pin) (f k : ℕ) → AreNamed departments places pins fs ks → IsNameAt departments f (string_bytes pin.department)
     → IsNameAt places k (string_bytes pin.place) → AreNamed departments places (pins ++ pin ∷ []) (fs ++ f ∷ []) (ks ++ k ∷ [])
 AreNamed-more departments places [] [] [] pin f k so_far department place = (department, place, tt)

@@ -8,6 +8,7 @@ use Rattle.toml.specs.declared.value.Value.{Value}
 use Rattle.toml.proofs.Views.{Entry}
 use Rattle.plan_file.specs.Plan.{AreKnown, IsKnown}
 
+-- a value of which a text is found is that text
 pub text_of : (d : Data) (s : List ℕ) → Some s ≡ as_str d → d ≡ string s
 text_of (string t) s is = cc
 text_of (integer z) s is = absurd (cc)
@@ -17,6 +18,7 @@ text_of (datetime t) s is = absurd (cc)
 text_of (array ds) s is = absurd (cc)
 text_of (table ms) s is = absurd (cc)
 
+-- a value of which none is found is no text
 pub no_text : (d : Data) (s : List ℕ) → None ≡ as_str d → d ≡ string s → ⊥
 no_text (string t) s none is = absurd (cc)
 no_text (integer z) s none is = absurd (cc)
@@ -37,6 +39,7 @@ pub text_or_none : (d : Data) (found : Option (Bor (List ℕ))) → option_copie
 text_or_none d None is = λ s same. no_text d s is same
 text_or_none d (Some s) is = text_of d s.now is
 
+-- a value is the integer that is found of it, or it is none
 pub number_or_none : (d : Data) (found : Option ℤ) → found ≡ as_integer d → MatchOption found ((z : ℤ) → d ≡ integer z → ⊥) (λ z. d ≡ integer z)
 number_or_none d None is = λ z same. absurd (let differs = is ∙ ap as_integer same in cc)
 number_or_none (integer y) (Some z) is = cc
@@ -47,6 +50,7 @@ number_or_none (datetime t) (Some z) is = absurd (cc)
 number_or_none (array ds) (Some z) is = absurd (cc)
 number_or_none (table ms) (Some z) is = absurd (cc)
 
+-- a value is the table that is found of it, or it is none
 pub table_or_none : (d : Data) (found : Option (Bor (BTreeMap (String Global) Value))) → option_map (λ m. table_view m.now) found ≡ as_table d
     → MatchOption found ((ms : Members) → d ≡ table ms → ⊥) (λ m. d ≡ table (table_view m.now))
 table_or_none d None is = λ ms same. absurd (let differs = is ∙ ap as_table same in cc)
@@ -73,10 +77,12 @@ abbrev pub AreKnownNames : List (String Global) → Type 0
 AreKnownNames [] = ⊤
 AreKnownNames (k ∷ ks) = IsKnown (string_bytes k) × AreKnownNames ks
 
+-- where all keys of a table are known, so are the names of its entries
 pub names_known : (es : List Entry) → AreKnown (members_view es) → AreKnownNames (keys_of es)
 names_known [] known = tt
 names_known (e ∷ es) known = (known.0, names_known es known.1)
 
+-- and conversely
 pub keys_known : (es : List Entry) → AreKnownNames (keys_of es) → AreKnown (members_view es)
 keys_known [] known = tt
 keys_known (e ∷ es) known = (known.0, keys_known es known.1)

@@ -11,6 +11,7 @@ use Rattle.plan_file.specs.declared.source.Distances.TheVariants as far
 use Rattle.plan_file.specs.declared.source.Flows.{Flows}
 use Rattle.plan_file.specs.declared.source.Flows.TheVariants as flow
 
+-- what a plan says of the flows is sound
 pub sound_flows : (ms : Members) (flows : Flows) → SaysFlows ms flows → IsSoundFlows flows
 sound_flows ms (flow.Matrix file) says = tt
 sound_flows ms (flow.Trips file) says = tt
@@ -25,6 +26,7 @@ fine_metric ms Rectilinear says = tt
 fine_metric ms (Euclidean n) says = fine_decimals (get_member (codes "decimals") ms) n says.1
 fine_metric ms Squared says = tt
 
+-- what it says of the distances is sound
 pub sound_distances : (ms : Members) (distances : Distances) → SaysDistances ms distances → IsSoundDistances distances
 sound_distances ms (far.Matrix file) says = tt
 sound_distances ms (far.Places file metric) says = fine_metric ms metric says.1

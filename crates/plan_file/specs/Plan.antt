@@ -18,16 +18,19 @@ use Rattle.plan_file.specs.declared.source.Flows.TheVariants as flow
 use Rattle.plan_file.specs.declared.source.Pin.{Pin}
 use Rattle.plan_file.specs.declared.source.Plan.{Plan}
 
--- what a plan may say of the flows, of the distances, and besides
+-- the keys by which a plan gives the flows
 abbrev pub IsKnownOfFlows : List ℕ → Type 0
 IsKnownOfFlows key = (key ≡ codes "flows") ⊎ ((key ≡ codes "trips") ⊎ (key ≡ codes "departments"))
 
+-- the keys by which it gives the distances
 abbrev pub IsKnownOfDistances : List ℕ → Type 0
 IsKnownOfDistances key = (key ≡ codes "distances") ⊎ ((key ≡ codes "places") ⊎ ((key ≡ codes "metric") ⊎ (key ≡ codes "decimals")))
 
+-- the keys that a plan may have: of the flows, of the distances, for the decimal mark, and for what is fixed
 abbrev pub IsKnown : List ℕ → Type 0
 IsKnown key = IsKnownOfFlows key ⊎ (IsKnownOfDistances key ⊎ ((key ≡ codes "decimal_mark") ⊎ (key ≡ codes "fixed")))
 
+-- each key of a table is one that a plan may have
 abbrev pub AreKnown : Members → Type 0
 AreKnown no_members = ⊤
 AreKnown (member k d ms) = IsKnown k × AreKnown ms
@@ -127,13 +130,18 @@ HasNoText ms key = (d : Data) × (get_member key ms ≡ Some d) × ((text : List
 abbrev pub HasControl : Members → List ℕ → Type 0
 HasControl ms key = (text : List ℕ) × HasText ms key text × (HasNoControl text → ⊥)
 
--- what an error says of the table; the key that it tells is shown as messages show it
+-- its table of what is fixed has something there
+abbrev pub IsAmongFixed : Members → List ℕ → Type 0
+IsAmongFixed ms key = (pins : Members) × (get_member (codes "fixed") ms ≡ Some (table pins)) × HasSome pins key
+
+-- what an error says of the table; the key that it names is shown as messages show it
 abbrev pub IsFaultOf : Members → PlanError → Type 0
 IsFaultOf ms (error.Syntax place message) = ⊥
 IsFaultOf ms (error.UnknownKey key) = (raw : List ℕ) × (string_bytes key ≡ shown_chars (chars raw)) × (IsKnown raw → ⊥) × (AreKnown ms → ⊥)
 IsFaultOf ms (error.NoText key found) = HasNoText ms key.now
 IsFaultOf ms (error.ControlInText key code) = HasControl ms key.now
 IsFaultOf ms (error.NeitherKey key other) = HasNone ms key.now × HasNone ms other.now
+IsFaultOf ms (error.AmongFixed key) = HasNone ms key.now × IsAmongFixed ms key.now
 IsFaultOf ms (error.BothKeys key other) = HasSome ms key.now × HasSome ms other.now
 IsFaultOf ms (error.MissingKey key other) = HasNone ms key.now × HasSome ms other.now
 IsFaultOf ms (error.LoneKey key other) = HasSome ms key.now × HasNone ms other.now
@@ -153,12 +161,13 @@ IsSyntaxError (error.Syntax place message) = ⊤
 IsSyntaxError error.OutOfMemory = ⊤
 IsSyntaxError _ = ⊥
 
--- what is wrong with a list of names, or with a table of what is fixed; or no memory
+-- what is wrong with a list of names; or no memory
 abbrev pub IsNamesFault : PlanError → Type 0
 IsNamesFault (error.Departments fault) = ⊤
 IsNamesFault error.OutOfMemory = ⊤
 IsNamesFault _ = ⊥
 
+-- what is wrong with a table of what is fixed; or no memory
 abbrev pub IsFixingFault : PlanError → Type 0
 IsFixingFault (error.Fixed fault) = ⊤
 IsFixingFault error.OutOfMemory = ⊤

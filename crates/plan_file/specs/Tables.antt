@@ -23,15 +23,17 @@ use Rattle.plan_file.specs.declared.tables.NamedProblem.{NamedProblem}
 abbrev pub max_places : ℕ
 max_places = 100
 
--- the departments that a plan names are names, and the number of decimals is one that is kept
+-- the departments that a plan names, if it names any, are names
 abbrev pub IsSoundFlows : Flows → Type 0
 IsSoundFlows (flow.TripsBetween file names) = AreNames (map string_bytes names.items)
 IsSoundFlows _ = ⊤
 
+-- the number of decimals of a plan's metric, if it has one, is one that is kept
 abbrev pub IsSoundDistances : Distances → Type 0
 IsSoundDistances (far.Places file metric) = IsFine metric
 IsSoundDistances (far.Matrix file) = ⊤
 
+-- the flows and the distances of a plan are sound
 pub record IsSound (plan : Plan) : Type 0 where
   pub flows : IsSoundFlows plan.flows
   pub distances : IsSoundDistances plan.distances

@@ -37,6 +37,11 @@ pub enum PlanError {
         key: &'static str,
         other: &'static str,
     },
+    /// A key is missing, and stands in the table of what is fixed.
+    #[error("the key \"{key}\" stands under `[fixed]`: move `[fixed]` and the lines that belong to it to the end of the plan")]
+    AmongFixed {
+        key: &'static str,
+    },
     /// Two keys are there, of which each stands for the other.
     #[error("the keys \"{key}\" and \"{other}\" are both there: keep one of them")]
     BothKeys {
@@ -115,7 +120,7 @@ pub enum PinsFault {
     NoTable {
         found: &'static str,
     },
-    /// The name of a department has a control character; it is told as messages show it.
+    /// The name of a department has a control character; it is given as messages show it.
     #[error("the key \"fixed.{department}\" has the control character U+{code:04X}: write names without line breaks, tabs and other control characters")]
     ControlInDepartment {
         department: String,

@@ -8,7 +8,7 @@ ghost use Rattle.plan_file.specs.Plan.{HasNone, HasSome, HasText, IsFaultOf, Say
 use crate::error::PlanError;
 use crate::lookup::{number_in, value_at};
 use crate::source::Distances;
-use crate::values::text_of;
+use crate::values::{neither_of, text_of};
 use plan_metric::Metric;
 use std::alloc::Global;
 use toml::Table;
@@ -28,10 +28,7 @@ pub fn distances_of(alloc: Global, table: &Table) -> Result<Distances, PlanError
             key: "distances",
             other: "places",
         }),
-        (None, None) => Err(PlanError::NeitherKey {
-            key: "distances",
-            other: "places",
-        }),
+        (None, None) => Err(neither_of(table, "distances", "places")),
         (Some(file), None) => {
             check_unmeasured(table)?;
             Ok(Distances::Matrix(file))

@@ -1,11 +1,11 @@
 //! What stands at the keys of a plan.
 
-ghost use Rattle.std.specs.Prelude.{◌≡◌, IfErr, IfOk, IfSome, MatchOption, None, OnOk, Some, codes, map, string_bytes};
+ghost use Rattle.std.specs.Prelude.{◌≡◌, ◌↔◌, IfErr, IfOk, IfSome, IsTrue, MatchOption, None, OnOk, Some, codes, map, string_bytes};
 ghost use Rattle.toml.specs.Data.{array, get_member};
 ghost use Rattle.toml.specs.View.{table_view, view};
 ghost use Rattle.plan_table.specs.Control.{HasNoControl};
 ghost use Rattle.plan_table.specs.Names.{AreNames};
-ghost use Rattle.plan_file.specs.Plan.{ArePins, HasNone, HasText, IsFaultOf, IsFixingFault, IsPin, SaysFixed, SaysFlows, SaysMark, strings_of};
+ghost use Rattle.plan_file.specs.Plan.{ArePins, HasNone, HasText, IsAmongFixed, IsFaultOf, IsFixingFault, IsPin, SaysFixed, SaysFlows, SaysMark, strings_of};
 
 use crate::error::{NamesFault, PinsFault, PlanError};
 use crate::lookup::{items_in, table_in, text_in, value_at};
@@ -39,6 +39,34 @@ pub fn text_of(alloc: Global, table: &Table, key: &'static str) -> Result<Option
     }
 }
 
+/// What is wrong where neither of two keys is there: one of them may stand in the table of what is fixed.
+pub fn neither_of(table: &Table, key: &'static str, other: &'static str) -> PlanError
+    requires key { HasNone (table_view table.now) key.now }
+    requires other { HasNone (table_view table.now) other.now }
+    ensures { IsFaultOf (table_view table.now) result }
+{
+    if is_among_fixed(table, key) {
+        return PlanError::AmongFixed { key };
+    }
+    if is_among_fixed(table, other) {
+        return PlanError::AmongFixed { key: other };
+    }
+    PlanError::NeitherKey { key, other }
+}
+
+/// Whether a key stands in the table of what is fixed.
+fn is_among_fixed(table: &Table, key: &str) -> bool
+    ensures { IsTrue result ↔ IsAmongFixed (table_view table.now) key.now }
+{
+    match value_at(table, "fixed") {
+        Some(value) => match table_in(value) {
+            Some(pins) => value_at(pins, key).is_some(),
+            None => false,
+        },
+        None => false,
+    }
+}
+
 /// Where the flows stand.
 pub fn flows_of(alloc: Global, table: &Table) -> Result<Flows, PlanError>
     ensures flows { IfOk result (SaysFlows (table_view table.now)) }
@@ -52,10 +80,7 @@ pub fn flows_of(alloc: Global, table: &Table) -> Result<Flows, PlanError>
             key: "flows",
             other: "trips",
         }),
-        (None, None, _) => Err(PlanError::NeitherKey {
-            key: "flows",
-            other: "trips",
-        }),
+        (None, None, _) => Err(neither_of(table, "flows", "trips")),
         (Some(_), None, Some(_)) => Err(PlanError::LoneKey {
             key: "departments",
             other: "trips",

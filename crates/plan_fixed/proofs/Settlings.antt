@@ -40,6 +40,7 @@ settled_by_exchange p new f k other perm first second at apart is =
       same = λ here. absurd (apart (perm.bijection.distinct f other first second (here ∙ sym at)));
     })
 
+-- a facility that stands at its location is settled there without a move
 pub settled_already : (p : List ℕ) (f k : ℕ) → IsPerm p → get_or p f 0 ≡ k → IsSettled p f k p
 settled_already p f k perm at = record {
   permutation = perm;

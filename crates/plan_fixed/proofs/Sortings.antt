@@ -6,6 +6,7 @@ use Rattle.std.proofs.lemmas.List.{get_or_append_left, get_or_at}
 use Rattle.qap_cost.specs.Placement.{Completes, IsFreeFacility, IsFreeLocation, IsPlacement, Placement, StandsAt, placing, root_of}
 use Rattle.plan_fixed.specs.Sorting.{IsSortedTo}
 
+-- the empty node places, ascending, what x places of the facilities below 0: none
 pub IsSortedTo-none : (x : Placement) (n : ℕ) → n ≡ x.size → IsPlacement (root_of n) → IsSortedTo x 0 (root_of n)
 IsSortedTo-none x n same placement = record {
   placement = placement;
@@ -16,6 +17,7 @@ IsSortedTo-none x n same placement = record {
   all = λ g k none. absurd (omega (arith, none));
 }
 
+-- where x doesn't place facility f, y already has those below f + 1
 pub IsSortedTo-skip : (x y : Placement) (f : ℕ) → IsSortedTo x f y → ((k : ℕ) → StandsAt x f k → ⊥) → IsSortedTo x (f + 1) y
 IsSortedTo-skip x y f sorted free = record {
   placement = sorted.placement;
@@ -32,6 +34,7 @@ IsSortedTo-skip x y f sorted free = record {
       ];
 }
 
+-- facility f is still free in y
 pub free_facility : (x y : Placement) (f : ℕ) → f < x.size → IsSortedTo x f y → IsFreeFacility y f
 free_facility x y f inside sorted = record {
   within = omega (arith, inside, sorted.size);
@@ -45,6 +48,7 @@ same_facility x f g k placement one other =
     placement.places.distinct one.turn other.turn (omega (arith, one.placed, placement.paired)) (omega (arith, other.placed, placement.paired)) (one.location ∙ sym other.location) in
     sym one.facility ∙ ap (λ t. get_or x.facilities t 0) turn ∙ other.facility
 
+-- the location at which x places facility f is still free in y
 pub free_location : (x y : Placement) (f k : ℕ) → IsPlacement x → StandsAt x f k → IsSortedTo x f y → IsFreeLocation y k
 free_location x y f k placement there sorted = record {
   within =
@@ -65,6 +69,7 @@ one_place x f k l placement one other =
     placement.facilities.distinct one.turn other.turn one.placed other.placed (one.facility ∙ sym other.facility) in
     sym one.location ∙ ap (λ t. get_or x.places t 0) turn ∙ other.location
 
+-- with facility f placed in y as in x, y has those below f + 1
 pub IsSortedTo-more : (x y newer : Placement) (f k : ℕ) → IsPlacement x → IsSortedTo x f y → StandsAt x f k → newer ≡ placing y f k → IsPlacement newer → IsSortedTo x (f + 1) newer
 IsSortedTo-more x y newer f k own sorted there is placement =
     let n = length y.facilities in

@@ -10,6 +10,7 @@ use Rattle.plan_table.specs.declared.places.Point.{Point}
 use Rattle.plan_metric.specs.Distances.{AreDistances, AreMeasured, IsDistanceAt, point_at}
 use Rattle.plan_metric.specs.declared.metric.Metric.{Metric}
 
+-- of the distances, the first 0 are none
 pub AreMeasured-none : (metric : Metric) (scale : ℕ) (points : List Point) (n : ℕ) (entries : List ℤ) → entries ≡ [] → AreMeasured metric scale points n 0 entries
 AreMeasured-none metric scale points n entries none = record {
   many = ap (λ (l : List ℤ). length l) none;

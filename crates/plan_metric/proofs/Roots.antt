@@ -3,9 +3,11 @@ use Rattle.std.proofs.Common.{◌≡◌, ◌∙◌, ℕ, ◌+◌, ◌-◌, ◌*�
 use Rattle.std.proofs.Math.Nat.{mul-le-mul, mul-le-mul_right, one-le-pow, pow-le-pow_right}
 use Rattle.plan_metric.specs.Metric.{IsNearestRoot}
 
+-- the power of a hundred for k places, of which there are at most 9, is at most 10^18
 pub power_small : (k : ℕ) → k ≤ 9 → 10 ^ (2 * k) ≤ 10 ^ 18
 power_small k few = pow-le-pow_right {n = 10} (omega arith) {i = 2 * k} {j = 18} (omega (arith, few))
 
+-- and it is above 0
 pub power_positive : (k : ℕ) → 0 < 10 ^ (2 * k)
 power_positive k = one-le-pow (2 * k) 10 (omega arith)
 

@@ -7,6 +7,7 @@ use Rattle.plan_metric.specs.declared.distances.DistanceError.{DistanceError}
 use Rattle.plan_metric.specs.declared.distances.DistanceError.TheVariants.{TooFar, OutOfMemory}
 use Rattle.plan_metric.specs.declared.metric.Metric.{Metric}
 
+-- the point at this place of a list, or the origin behind its end
 abbrev pub point_at : List Point → ℕ → Point
 point_at points i = slice_index_or points i (record { x = pos 0; y = pos 0 })
 

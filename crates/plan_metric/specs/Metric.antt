@@ -8,6 +8,7 @@ use Rattle.plan_metric.specs.declared.metric.Metric.TheVariants.{Rectilinear, Eu
 abbrev pub max_places : ℕ
 max_places = 9
 
+-- how far apart two numbers lie
 abbrev pub apart : ℤ → ℤ → ℕ
 apart a b = unsigned_abs (a -ℤ b)
 

@@ -15,7 +15,7 @@ pub const MAX_PLACES: usize = 9;
 pub enum Metric {
     /// Along the axes: how far the points lie apart in x, and that in y besides.
     Rectilinear,
-    /// In a straight line, rounded to the nearest number with so many places behind the point, from 0 to 9.
+    /// In a straight line, rounded to the nearest number with this many places behind the point, from 0 to 9.
     Euclidean(u32),
     /// The square of the straight line's length.
     Squared,

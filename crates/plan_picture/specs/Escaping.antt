@@ -21,9 +21,11 @@ abbrev pub escaped_char : ℕ → List ℕ
 escaped_char c =
     if c == 38 then codes "&amp;" else if c == 60 then codes "&lt;" else if c == 62 then codes "&gt;" else if c == 34 then codes "&quot;" else plain_char c
 
+-- the same for each of a list of characters, one behind the other
 abbrev pub escaped_chars : List ℕ → List ℕ
 escaped_chars [] = []
 escaped_chars (c ∷ cs) = escaped_char c ++ escaped_chars cs
 
+-- a text with its characters escaped
 abbrev pub escaped : List ℕ → List ℕ
 escaped text = escaped_chars (chars text)

@@ -13,7 +13,7 @@ bent a b c d = a / 2 + b / 2 + (c - d) / 4 - (d - c) / 4
 abbrev pub point_text : ℕ → ℕ → List ℕ
 point_text x y = decimal x ++ codes " " ++ decimal y
 
--- a line from one point to another, a little bent, so many tenths of a pixel wide
+-- a line from one point to another, a little bent, this many tenths of a pixel wide
 abbrev pub line_mark : Centre → Centre → ℕ → List ℕ
 line_mark from to tenths =
     codes "<path d=\"M " ++ point_text from.x from.y ++ codes " Q " ++ point_text (bent from.x to.x from.y to.y) (bent from.y to.y to.x from.x)

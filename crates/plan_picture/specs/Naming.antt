@@ -13,7 +13,7 @@ max_columns = 24
 abbrev pub columns_of : ℕ → ℕ
 columns_of c = unwrap_or (char_width false c) 0
 
--- the bytes of the characters up to the first that would leave none of so many columns
+-- the bytes of the characters up to the first that would leave none of this many columns
 abbrev pub beginning : ℕ → List ℕ → List ℕ
 beginning room [] = []
 beginning room (c ∷ cs) = if nat_lt (columns_of c) room then encode_utf8 c ++ beginning (room - columns_of c) cs else []

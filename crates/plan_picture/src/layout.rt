@@ -42,8 +42,8 @@ pub struct Layout {
     pub centres: Vec<Centre>,
 }
 
-/// Where so many boxes stand: at their points, x to the right and y upwards, magnified so that no two boxes overlap, or in rows where there isn't a
-/// point for each, or these lie too close together.
+/// Where this many boxes stand: at their points, x to the right and y upwards, magnified so that no two boxes overlap,
+/// or in rows where there isn't a point for each, or these lie too close together.
 pub fn layout_of(
     alloc: Global,
     count: usize,
@@ -122,7 +122,7 @@ fn factor_between(p: &Point, q: &Point, size: BoxSize) -> Option<u128> {
     }
 }
 
-/// The least factor that makes a length so many pixels; `None` where there is no length.
+/// The least factor that makes a length this many pixels; `None` where there is no length.
 fn factor_for(pixels: u128, length: u128) -> Option<u128> {
     if length == 0 {
         return None;
@@ -172,7 +172,7 @@ fn in_rows(alloc: Global, count: usize, size: BoxSize) -> Result<Layout, AllocEr
     framed(alloc, &centres, size)
 }
 
-/// How many pixels so many boxes and gaps take.
+/// How many pixels this many boxes and gaps take.
 fn steps(count: usize, length: u32) -> u32 {
     let step = u64::from(length) + u64::from(GAP);
     (count as u64).saturating_mul(step).min(u64::from(u32::MAX)) as u32

@@ -8,6 +8,7 @@ use Rattle.csv.specs.Reading.{is_bom, strip_bom}
 abbrev pub bom : List ℕ
 bom = 0xEF ∷ 0xBB ∷ 0xBF ∷ []
 
+-- a text that begins with the mark loses it
 pub strip_bom-there : (rest : List ℕ) → strip_bom (bom ++ rest) ≡ rest
 unfolding strip_bom
 strip_bom-there rest = refl
@@ -26,6 +27,7 @@ not_marked : (marked : Bool) (whole rest : List ℕ) → (marked ≡ true → �
 not_marked true whole rest none = absurd (none refl)
 not_marked false whole rest none = refl
 
+-- a text that doesn't stays as it is
 pub strip_bom-none : (text : List ℕ) → ((rest : List ℕ) → text ≢ bom ++ rest) → strip_bom text ≡ text
 unfolding strip_bom
 strip_bom-none [] none = refl

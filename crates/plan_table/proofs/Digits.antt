@@ -10,6 +10,7 @@ use Rattle.plan_table.specs.Decimal.{before_kept, held_magnitude, held_unsigned,
 use Rattle.plan_table.specs.declared.decimal.Unsigned.{Unsigned}
 use Rattle.plan_table.specs.declared.decimal.NumberFault.TheVariants.{TooLarge}
 
+-- one digit more at the end
 pub magnitude_of-push : (front : List ℕ) (digit : ℕ) → magnitude_of (front ++ digit ∷ []) ≡ magnitude_of front * 10 + (digit - 48)
 magnitude_of-push front digit =
     ap (number_from_digits 10) (map-append (λ b. b - 48) front (digit ∷ [])) ∙ number_push 10 (map (λ b. b - 48) front) (digit - 48)
@@ -35,6 +36,7 @@ pub without_zeros-other : (xs : List ℕ) (b : ℕ) → (b == 48) ≡ false → 
 without_zeros-other [] b other = ap (λ t. if t then [] else b ∷ []) other
 without_zeros-other (x ∷ xs) b other = ap (before_kept x) (without_zeros-other xs b other) ∙ before_last x xs b
 
+-- a held magnitude and the count of the fraction's digits make the held number
 pub held-made : (whole fraction : List ℕ) (m p : ℕ) (u : Unsigned) → u ≡ record { magnitude = m; places = p } → m ≡ held_magnitude (whole ++ fraction) → p ≡ length fraction → u ≡ held_unsigned (unsigned whole fraction)
 held-made whole fraction m p u is magnitude places =
     let both : ℕ → ℕ → Unsigned = λ m p. record { magnitude = m; places = p } in

@@ -6,6 +6,7 @@ use Rattle.std.proofs.lemmas.List.{get_or_past, take_all, take_more}
 use Rattle.csv.specs.Records.{field_at}
 use Rattle.csv.proofs.RecordFacts.{field-get, field-none, field-there}
 
+-- the number of a field that is there is less than the count of fields
 pub field_inside : (fields : List (List ℕ)) (i : ℕ) (x : List ℕ) → field_at fields i ≡ Some x → i < length fields
 field_inside fields i x is =
     elim (cases_lt i (length fields)) [

@@ -29,6 +29,7 @@ before_kept-ends b (k ∷ ks) low high (inl none) = absurd (cc)
 before_kept-ends b (k ∷ ks) low high (inr ends) =
     let (front, last, is, above, below) = ends in inr (b ∷ front, last, ap (λ l. b ∷ l) is, above, below)
 
+-- where two tests pass together, each passes
 pub and_parts : (a b : Bool) → (a && b) ≡ true → (a ≡ true) × (b ≡ true)
 and_parts true b both = (refl, both)
 and_parts false b both = absurd (false≢true both)
@@ -84,6 +85,7 @@ unsigned_at-reduced word None u spelled =
     ]
 unsigned_at-reduced word (Some point) u spelled = pointed-reduced (take point word) (drop (point + 1) word) u spelled
 
+-- a number with its sign is a number that was spelled, given that sign
 pub signed-parts : (negative : Bool) (spelled : Option Unsigned) (d : Decimal) → option_map (with_sign negative) spelled ≡ Some d → (u : Unsigned) × (spelled ≡ Some u) × (with_sign negative u ≡ d)
 signed-parts negative None d is = absurd (cc)
 signed-parts negative (Some u) d is = (u, refl, cc)
@@ -146,8 +148,10 @@ made-least d power z is_made is_whole =
       ]
     ]
 
+-- a number spelled behind its sign is whole at no power of ten below its places
 pub signed-least : (negative : Bool) (word : List ℕ) (d : Decimal) (power : ℕ) (z : ℤ) → signed_of negative word ≡ Some d → IsWholeAt d power z → d.places ≤ power
 signed-least negative word d power z spelled is_whole = made-least d power z (signed-made negative word d spelled) is_whole
 
+-- a number that a word spells is whole at no power of ten below its places
 pub places-least : (word : List ℕ) (d : Decimal) (power : ℕ) (z : ℤ) → decimal_of word ≡ Some d → IsWholeAt d power z → d.places ≤ power
 places-least word d power z spelled is_whole = made-least d power z (decimal-made word d spelled) is_whole

@@ -89,6 +89,7 @@ AppearInOrder-more words names newer word order (inr (new, pushed)) =
           ];
     })
 
+-- among no words there are no names
 pub AppearInOrder-none : AppearInOrder [] []
 AppearInOrder-none = record {
   all = λ k below. absurd (omega arith);
@@ -185,6 +186,7 @@ one_pair n i j k l first second same =
           absurd (omega (arith, same, first, further, second))
     ]
 
+-- the cell of two departments lies in the matrix
 pub cell_inside : (n i j : ℕ) → i < n → j < n → i * n + j < n * n
 cell_inside n i j first second =
     let further : (i + 1) * n ≤ n * n = mul-le-mul_right n (omega (arith, first)) in omega (arith, further, second)

@@ -7,6 +7,7 @@ use Rattle.plan_table.proofs.Fields.{take_field}
 use Rattle.plan_table.specs.Control.{HasNoControl}
 use Rattle.plan_table.specs.Names.{AreDifferent, IsNew}
 
+-- where there are no names, none is empty and none stands twice
 pub AreDifferent-none : AreDifferent []
 AreDifferent-none = record {
   some = λ k below. absurd (omega arith);
@@ -14,6 +15,7 @@ AreDifferent-none = record {
   once = λ j k before below. absurd (omega arith);
 }
 
+-- different names and a new one are different
 pub AreDifferent-more : (names : List (List ℕ)) (name : List ℕ) → AreDifferent names → IsNew names name → AreDifferent (names ++ name ∷ [])
 AreDifferent-more names name different new =
     let long = length-append names (name ∷ []) in

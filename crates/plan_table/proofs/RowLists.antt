@@ -16,6 +16,7 @@ pub record HasCells (reading : Reading) (i : ℕ) (fields : List (List ℕ)) (co
   pub spelled : (c : ℕ) → c < count → cell_in reading i c (word_at fields (c + 1)) ≡ Some (decimal_at row c)
   pub pushed : new ≡ old ++ row
 
+-- no cell yet
 pub HasCells-none : (reading : Reading) (i : ℕ) (fields : List (List ℕ)) (old : List Decimal) → HasCells reading i fields 0 old old
 HasCells-none reading i fields old = record {
   row = [];
@@ -24,6 +25,7 @@ HasCells-none reading i fields old = record {
   pushed = sym (append-nil old);
 }
 
+-- one cell more
 pub HasCells-more : (reading : Reading) (i : ℕ) (fields : List (List ℕ)) (count : ℕ) (old new newer : List Decimal) (d : Decimal) → HasCells reading i fields count old new
     → cell_in reading i count (word_at fields (count + 1)) ≡ Some d → newer ≡ new ++ d ∷ [] → HasCells reading i fields (count + 1) old newer
 HasCells-more reading i fields count old new newer d read spells pushed = record {
@@ -55,6 +57,7 @@ HasCells-all reading i name fields read_so_far count old new read all named ends
   read.pushed,
 )
 
+-- one row more, behind the others
 pub AreRows-push : (reading : Reading) (i count : ℕ) (names : List (List ℕ)) (rows : List (List (List ℕ))) (decimals row : List Decimal) (name : List ℕ) (fields : List (List ℕ)) → AreRows reading i count names rows decimals
     → IsRow reading (i + length names) count name fields row → AreRows reading i count (names ++ name ∷ []) (rows ++ fields ∷ []) (decimals ++ row)
 AreRows-push reading i count [] [] decimals row name fields none last =

@@ -10,9 +10,11 @@ use Rattle.plan_table.specs.Least.{IsWholeAt}
 use Rattle.plan_table.specs.Scale.{scaled, shifted, AreScaled, IsLeastScale}
 use Rattle.plan_table.specs.declared.decimal.Decimal.{Decimal}
 
+-- the next power of ten is ten times as large
 pub power_more : (i : ℕ) → 10 ^ (i + 1) ≡ 10 ^ i * 10
 power_more i = ap (λ k. 10 ^ k) (add-one i) ∙ pow-suc 10 i
 
+-- a negated number times another is their product negated
 pub neg_times : (k b : ℕ) → neg_ℤ (pos k) *ℤ pos b ≡ neg_ℤ (pos (k * b))
 neg_times zero b =
     let none : 0 * b ≡ 0 = omega arith in
@@ -25,6 +27,7 @@ times_assoc (negsuc n) a b =
     let same : suc n * a * b ≡ suc n * (a * b) = omega arith in
     neg_times (suc n * a) b ∙ ap (λ k. neg_ℤ (pos k)) same
 
+-- a number times the next power of ten is ten times as large
 pub shifted-more : (number value : ℤ) (i : ℕ) → value ≡ shifted number i → value *ℤ pos 10 ≡ shifted number (i + 1)
 shifted-more number value i is =
     ap (λ z. z *ℤ pos 10) is ∙ times_assoc number (10 ^ i) 10 ∙ ap (λ k. number *ℤ pos k) (sym (power_more i))
@@ -46,6 +49,7 @@ far_stays number value i power le is far =
     let larger = mul-le-mul_left (unsigned_abs number) (pow-le-pow_right {n = 10} (omega arith) {i = i} {j = power} le) in
     omega arith
 
+-- one number more: the least scale is the larger of the old one and its places
 pub IsLeastScale-more : (xs : List Decimal) (i s m : ℕ) (d : Decimal) → i < length xs → IsLeastScale (take i xs) s
     → (get_or xs i d).places ≤ m → s ≤ m → ((t : ℕ) → (get_or xs i d).places ≤ t → s ≤ t → m ≤ t) → IsLeastScale (take (i + 1) xs) m
 IsLeastScale-more xs i s m d inside so_far places scale most =
@@ -57,6 +61,7 @@ IsLeastScale-more xs i s m d inside so_far places scale most =
           most t parts.1 (so_far.least t parts.0);
     })
 
+-- one number more, scaled
 pub AreScaled-more : (scale : ℕ) (xs : List Decimal) (i : ℕ) (d : Decimal) (old new : List ℤ) (z : ℤ) → i < length xs → AreScaled scale (take i xs) old
     → z ≡ scaled scale (get_or xs i d) → unsigned_abs z ≤ max_entry → new ≡ old ++ z ∷ [] → AreScaled scale (take (i + 1) xs) new
 AreScaled-more scale xs i d old new z inside so_far is small pushed =

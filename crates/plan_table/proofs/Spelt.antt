@@ -67,6 +67,7 @@ before_kept-cut b [] cut =
     ]
 before_kept-cut b (c ∷ cs) cut = ap (before_kept b) cut
 
+-- where the zeros at the end are cut, there are none left to cut
 pub without_zeros-cut : (xs : List ℕ) → without_zeros (without_zeros xs) ≡ without_zeros xs
 without_zeros-cut [] = refl
 without_zeros-cut (b ∷ bs) = before_kept-cut b (without_zeros bs) (without_zeros-cut bs)
@@ -203,9 +204,11 @@ more_digits n digits large (all, value) = (
   magnitude_of-push digits (48 + n % 10) ∙ omega (arith, value),
 )
 
+-- the decimal text of a number below 10^64 is of digits that stand for it
 pub decimal_written : (n : ℕ) → n < 10 ^ 64 → IsWrittenAs n (decimal n)
 decimal_written n small = decimal_by_steps_wide IsWrittenAs one_digit more_digits n small
 
+-- zeros in front of a number's digits leave what they stand for
 pub zeros_in_front : (k n : ℕ) (digits : List ℕ) → IsWrittenAs n digits → IsWrittenAs n (replicate k 48 ++ digits)
 zeros_in_front zero n digits written = written
 zeros_in_front (suc k) n digits written = zeros_in_front k n digits written

@@ -19,6 +19,7 @@ filled_front-filled [] b bs = refl
 filled_front-filled (f ∷ fs) b bs =
     ap (before_filled f) (filled_front-filled fs b bs) ∙ before_more f fs (b ∷ bs)
 
+-- one record more at the end is tidied, and left out where nothing of it is left
 pub tidied-more : (rs : List (List (List ℕ))) (r : List (List ℕ)) → tidied (rs ++ r ∷ []) ≡ tidied rs ++ unless_empty (tidied_record r)
 tidied-more [] r = append-nil (unless_empty (tidied_record r))
 tidied-more (q ∷ rs) r =

@@ -23,9 +23,11 @@ at_least m power =
     let one : 1 ≤ 10 ^ power = omega (arith, ten_power power) in
     omega (arith, mul-le-mul_left m one)
 
+-- a magnitude raised once more is ten times as large
 pub raised-more : (m value i : ℕ) → value ≡ m * 10 ^ i → value * 10 ≡ m * 10 ^ (i + 1)
 raised-more m value i is = omega (arith, ap (λ k. m * k) (power_more i), ap (λ k. k * 10) is)
 
+-- a magnitude beyond a limit at one power is beyond it at each larger one
 pub beyond : (limit m value i power : ℕ) → i < power → value ≡ m * 10 ^ i → limit < value * 10 → limit < m * 10 ^ power
 beyond limit m value i power less is far =
     let more = mul-le-mul_left m (pow-le-pow_right {n = 10} (omega arith) {i = i + 1} {j = power} (omega arith)) in
@@ -65,6 +67,7 @@ same_factor (negsuc a) (negsuc b) m some same =
 worth_once : (d : Decimal) (places : ℕ) (y z : ℤ) → IsWholeAt d places y → IsWholeAt d places z → y ≡ z
 worth_once d places y z first second = same_factor y z (10 ^ d.places) (ten_power d.places) (sym first ∙ second)
 
+-- where no number is spelled, there is no worth over a power of ten
 pub none_worth : (negative : Bool) (spelled : Option Unsigned) (places : ℕ) → None ≡ option_map held_unsigned spelled → IsWorthNone (option_map (with_sign negative) spelled) places
 none_worth negative None places is = λ d some. absurd (cc)
 none_worth negative (Some u) places is = absurd (cc)
@@ -122,6 +125,7 @@ size_signed false m = refl
 size_signed true zero = refl
 size_signed true (suc m) = refl
 
+-- a magnitude raised to the power, within range and with its sign, is what the number is worth
 pub worth_of : (negative : Bool) (spelled : Option Unsigned) (u : Unsigned) (places m : ℕ) (z : ℤ) → Some u ≡ option_map held_unsigned spelled → u.places ≤ places
     → m ≡ u.magnitude * 10 ^ (places - u.places) → m ≤ max_number → z ≡ (if negative then neg_ℤ (pos m) else pos m) → IsWorth (option_map (with_sign negative) spelled) places z
 worth_of negative None u places m z is enough worth small signed = absurd (cc)
@@ -158,6 +162,7 @@ spells_just word places z worth =
     whole_same : (a b : Decimal) (k : ℕ) (y : ℤ) → a ≡ b → IsWholeAt a k y → IsWholeAt b k y
     whole_same a b k y same is_whole = rw same at is_whole
 
+-- what a word's number is worth over a power of ten is what the word spells
 pub spelled_of : (word : List ℕ) (places : ℕ) (found : Option ℤ) → MatchOption found (IsWorthNone (decimal_of word) places) (IsWorth (decimal_of word) places)
     → MatchOption found (SpellsNone word places) (SpellsJust word places)
 spelled_of word places None none = spells_none word places none

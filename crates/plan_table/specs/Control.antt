@@ -12,6 +12,7 @@ HasNoControl text = find is_control (chars text) ≡ None
 abbrev pub shown_char : ℕ → List ℕ
 shown_char c = if is_control c then codes "\\u{" ++ digits 16 false c ++ codes "}" else encode_utf8 c
 
+-- the same for characters in a row
 abbrev pub shown_chars : List ℕ → List ℕ
 shown_chars [] = []
 shown_chars (c ∷ cs) = shown_char c ++ shown_chars cs

@@ -24,6 +24,7 @@ abbrev pub doubled : List ℕ → List ℕ
 doubled [] = []
 doubled (b ∷ bs) = if b == 34 then 34 ∷ 34 ∷ doubled bs else b ∷ doubled bs
 
+-- a field's bytes as they are, or in quotes, with each quote twice
 abbrev pub field_text : Field → List ℕ
 field_text (bare bs) = bs
 field_text (quoted bs) = 34 ∷ doubled bs ++ 34 ∷ []
@@ -34,6 +35,7 @@ pub data Ending : Type 0 where
   feed : Ending
   return_feed : Ending
 
+-- the bytes of what follows a field
 abbrev pub ending_text : Separator → Ending → List ℕ
 ending_text d divider = byte_of d ∷ []
 ending_text d feed = 10 ∷ []
@@ -44,6 +46,7 @@ pub record Piece : Type 0 where
   pub field : Field
   pub ending : Ending
 
+-- each field that has a quote, a separator or an end of a line in it is in quotes
 abbrev pub ArePieces : Separator → List Piece → Type 0
 ArePieces d [] = Unit {0}
 ArePieces d (p ∷ ps) = IsField d p.field × ArePieces d ps

@@ -17,6 +17,7 @@ max_entry = 1_000_000_000
 abbrev pub max_number : ℕ
 max_number = 10 ^ 36
 
+-- a byte is a decimal digit
 abbrev pub is_digit : ℕ → Bool
 is_digit b = nat_le 48 b && nat_le b 57
 
@@ -46,6 +47,7 @@ without_zeros (b ∷ bs) = before_kept b (without_zeros bs)
 abbrev pub unsigned : List ℕ → List ℕ → Unsigned
 unsigned whole fraction = record { magnitude = magnitude_of (whole ++ fraction); places = length fraction }
 
+-- a number whose magnitude is held to one above the largest number
 abbrev pub held_unsigned : Unsigned → Unsigned
 held_unsigned u = record { magnitude = min u.magnitude (max_number + 1); places = u.places }
 
@@ -54,9 +56,11 @@ abbrev pub pointed : List ℕ → List ℕ → Option Unsigned
 pointed whole fraction =
     if are_digits whole && are_digits fraction then Some (unsigned whole (without_zeros fraction)) else None
 
+-- a byte is a point
 abbrev pub is_point : ℕ → Bool
 is_point b = b == 46
 
+-- the number that digits alone spell; none where a word is empty or has another byte
 abbrev pub whole : List ℕ → Option Unsigned
 whole digits = if are_digits digits then Some (unsigned digits []) else None
 
@@ -65,15 +69,18 @@ abbrev pub unsigned_at : List ℕ → Option ℕ → Option Unsigned
 unsigned_at word None = whole word
 unsigned_at word (Some point) = pointed (take point word) (drop (point + 1) word)
 
+-- the number that a word without a sign spells; none where it spells none
 abbrev pub unsigned_of : List ℕ → Option Unsigned
 unsigned_of word = unsigned_at word (position is_point word)
 
+-- a number, negated where the sign says so
 abbrev pub with_sign : Bool → Unsigned → Decimal
 with_sign negative u = record {
   number = if negative then neg_ℤ (pos u.magnitude) else pos u.magnitude;
   places = u.places;
 }
 
+-- the number that a word spells behind its sign; none where it spells none
 abbrev pub signed_of : Bool → List ℕ → Option Decimal
 signed_of negative word = option_map (with_sign negative) (unsigned_of word)
 

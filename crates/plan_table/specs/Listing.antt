@@ -15,6 +15,7 @@ pub record IsTripOf (mark : DecimalMark) (names : List (List ℕ)) (row : List (
   pub is : row ≡ pair_row (name_at names t.from) (name_at names t.to) word
   pub spelled : number_in mark word ≡ Some t.amount
 
+-- a trip, by its number
 abbrev pub trip_at : List Trip → ℕ → Trip
 trip_at trips k = slice_index_or trips k (record { from = 0; to = 0; amount = record { number = pos 0; places = 0 } })
 
@@ -27,6 +28,7 @@ pub record AreTripsOf (mark : DecimalMark) (names : List (List ℕ)) (rows : Lis
 abbrev pub cell_of : ℕ → Trip → ℕ
 cell_of n t = t.from * n + t.to
 
+-- a cell of the matrix, by its place
 abbrev pub cell_at : List (Option ℤ) → ℕ → Option ℤ
 cell_at cells c = slice_index_or cells c None
 

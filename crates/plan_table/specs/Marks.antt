@@ -11,6 +11,7 @@ byte_of Comma = 44
 byte_of Semicolon = 59
 byte_of Tab = 9
 
+-- a byte is a quote, the separator, a line feed, a carriage return, or another byte
 abbrev pub mark_of : Separator → ℕ → Mark
 mark_of d b =
     if b == 34 then Quote else if b == byte_of d then Divider else if b == 10 then Feed else if b == 13 then Return else Other

@@ -12,21 +12,28 @@ abbrev pub decimal_byte : DecimalMark → ℕ
 decimal_byte Point = 46
 decimal_byte Comma = 44
 
+-- the mark that may stand between groups of digits: the other one
 abbrev pub group_byte : DecimalMark → ℕ
 group_byte Point = 44
 group_byte Comma = 46
 
--- a byte of a number with so many bytes from it on: each fourth from the right is the mark between groups, and the others are digits
+-- a byte of a number with `left` bytes from it on: each fourth from the right is the mark between groups, and the others are digits
 abbrev pub is_in_place : ℕ → ℕ → ℕ → Bool
 is_in_place group byte left = if left % 4 == 0 then byte == group else is_digit byte
 
+-- the same for all bytes of a number
 abbrev pub are_in_place : ℕ → List ℕ → Bool
 are_in_place group [] = true
 are_in_place group (b ∷ bs) = is_in_place group b (length bs + 1) && are_in_place group bs
 
--- groups of three digits, of which the first may be shorter, with this mark between them
+-- a text begins with the digit 0
+abbrev pub leads_with_zero : List ℕ → Bool
+leads_with_zero [] = false
+leads_with_zero (b ∷ bs) = b == 48
+
+-- groups of three digits, of which the first may be shorter and doesn't begin with 0, with this mark between them
 abbrev pub are_groups : ℕ → List ℕ → Bool
-are_groups group text = not (length text % 4 == 0) && are_in_place group text
+are_groups group text = not (length text % 4 == 0) && (not (leads_with_zero text) && are_in_place group text)
 
 -- the digits before a fraction: with nothing between them, or in groups with the other mark, a blank or an apostrophe between
 abbrev pub is_whole : DecimalMark → List ℕ → Bool
@@ -37,10 +44,12 @@ is_whole mark text =
 abbrev pub is_sign : ℕ → Bool
 is_sign b = b == 43 || b == 45
 
+-- the sign at the front of a text, if there is one
 abbrev pub sign_of : List ℕ → List ℕ
 sign_of [] = []
 sign_of (b ∷ bs) = if is_sign b then b ∷ [] else []
 
+-- a text without the sign at its front
 abbrev pub without_sign : List ℕ → List ℕ
 without_sign [] = []
 without_sign (b ∷ bs) = if is_sign b then bs else b ∷ bs
@@ -50,13 +59,16 @@ abbrev pub front_to : List ℕ → Option ℕ → List ℕ
 front_to text None = text
 front_to text (Some i) = take i text
 
+-- what stands behind the first decimal mark; nothing where there is none
 abbrev pub behind_at : List ℕ → Option ℕ → List ℕ
 behind_at text None = []
 behind_at text (Some i) = drop (i + 1) text
 
+-- the whole part of a number: what stands before its first decimal mark
 abbrev pub whole_of : DecimalMark → List ℕ → List ℕ
 whole_of mark text = front_to text (position (λ b. b == decimal_byte mark) text)
 
+-- the fraction of a number: what stands behind its first decimal mark
 abbrev pub fraction_of : DecimalMark → List ℕ → List ℕ
 fraction_of mark text = behind_at text (position (λ b. b == decimal_byte mark) text)
 
@@ -70,10 +82,12 @@ abbrev pub plain_whole : List ℕ → List ℕ
 plain_whole [] = 48 ∷ []
 plain_whole (b ∷ bs) = filter is_digit (b ∷ bs)
 
+-- a point and the digits of a fraction; nothing where there is no fraction
 abbrev pub plain_fraction : List ℕ → List ℕ
 plain_fraction [] = []
 plain_fraction (b ∷ bs) = 46 ∷ b ∷ bs
 
+-- the plain text of a sign, a whole part and a fraction; none where they make no number
 abbrev pub plain_parts : DecimalMark → List ℕ → List ℕ → List ℕ → Option (List ℕ)
 plain_parts mark sign whole fraction =
     if is_numeral mark whole fraction then Some (sign ++ (plain_whole whole ++ plain_fraction fraction)) else None
@@ -83,10 +97,12 @@ abbrev pub plain : DecimalMark → List ℕ → Option (List ℕ)
 plain mark word =
     plain_parts mark (sign_of word) (whole_of mark (without_sign word)) (fraction_of mark (without_sign word))
 
+-- the decimal number that a plain text spells, where there is one
 abbrev pub decimal_of_plain : Option (List ℕ) → Option Decimal
 decimal_of_plain None = None
 decimal_of_plain (Some text) = decimal_of text
 
+-- the decimal number that a word spells by this mark; none where it spells none
 abbrev pub number_in : DecimalMark → List ℕ → Option Decimal
 number_in mark word = decimal_of_plain (plain mark word)
 

@@ -15,6 +15,7 @@ use Rattle.plan_table.specs.declared.places.Point.{Point}
 abbrev pub places_head : List (List ℕ)
 places_head = codes "name" ∷ codes "x" ∷ codes "y" ∷ []
 
+-- a point, by its number
 abbrev pub point_at : List Point → ℕ → Point
 point_at points i = slice_index_or points i (record { x = pos 0; y = pos 0 })
 

@@ -64,9 +64,11 @@ place_after d place byte Quoted line = place
 place_after d place byte Closed line = place
 place_after d place byte Returned line = place
 
+-- the number of the line behind a byte: the next one behind a line feed
 abbrev pub line_after : ℕ → ℕ → ℕ
 line_after line byte = if byte == 10 then next_number line else line
 
+-- what has been reached with a byte more, where the text then stands so
 abbrev pub moved : Separator → Reached → ℕ → Stand → Reached
 moved d reached byte stand = record {
   stand = stand;
@@ -79,12 +81,15 @@ abbrev pub at_place : {A B : Type 0} → Place → (A → B) → Result A Misspe
 at_place place f (Ok a) = Ok (f a)
 at_place place f (Err fault) = Err (record { place = place; fault = fault })
 
+-- what has been reached with a byte more, or the fault of the field that it makes
 abbrev pub reached_after : Separator → Reached → ℕ → Result Reached CsvFault
 reached_after d reached byte = at_place reached.place (moved d reached byte) (next_stand reached.stand (mark_of d byte))
 
+-- the fault, if there is one, of a text that ends there
 abbrev pub check_end : Reached → Result (Unit {0}) CsvFault
 check_end reached = at_place reached.place (λ u. u) (end_stand reached.stand)
 
+-- the next step on a value; an error stays as it is
 abbrev pub and_then : {A B E : Type 0} → Result A E → (A → Result B E) → Result B E
 and_then (Ok a) f = f a
 and_then (Err e) f = Err e

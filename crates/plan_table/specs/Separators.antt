@@ -14,5 +14,6 @@ abbrev pub separator_by : ℕ → ℕ → ℕ → Separator
 separator_by commas semicolons tabs =
     if nat_lt commas (max semicolons tabs) then (if nat_lt semicolons tabs then Tab else Semicolon) else Comma
 
+-- a text's separator, by the bytes of its first line outside quotes
 abbrev pub separator_of : List ℕ → Separator
 separator_of text = separator_by (count_outside 44 false text) (count_outside 59 false text) (count_outside 9 false text)

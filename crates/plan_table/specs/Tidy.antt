@@ -22,6 +22,7 @@ abbrev pub unless_empty : List (List ℕ) → List (List (List ℕ))
 unless_empty [] = []
 unless_empty (f ∷ fs) = (f ∷ fs) ∷ []
 
+-- the records of a text, each tidied, without the empty ones
 abbrev pub tidied : List (List (List ℕ)) → List (List (List ℕ))
 tidied [] = []
 tidied (r ∷ rs) = unless_empty (tidied_record r) ++ tidied rs

@@ -1,6 +1,6 @@
 //! Which decimal mark a table has.
 
-ghost use Rattle.std.specs.Prelude.{◌≡◌, ◌↔◌, ◌<◌, ◌≤◌, ℕ, [], length, map, slice_index_or, IfOk, IsTrue};
+ghost use Rattle.std.specs.Prelude.{◌≡◌, ◌↔◌, ◌<◌, ◌≤◌, ◌-◌, ◌^◌, ℕ, [], length, map, slice_index_or, IfOk, IsTrue, MatchOption};
 ghost use Rattle.csv.specs.Records.{fields_of};
 ghost use Rattle.plan_table.specs.Marking.{AreEach, IsMark, IsUnmarked, IsWritten};
 ghost use Rattle.plan_table.specs.Table.{word_at};
@@ -33,10 +33,10 @@ pub fn mark_of_table(
     if !are_written(DecimalMark::Point, rows, first, end) {
         return Ok(DecimalMark::Comma);
     }
-    if are_unmarked(rows, first, end) {
-        return Ok(DecimalMark::Point);
+    match first_marked(rows, first, end) {
+        None => Ok(DecimalMark::Point),
+        Some((i, k)) => Err(two_readings(alloc, text, &rows[i], k)),
     }
-    Err(two_readings(alloc, text, rows, first, end))
 }
 
 /// Whether all fields there are numbers by a mark, or say nothing.
@@ -63,51 +63,39 @@ fn is_row_written(mark: DecimalMark, row: &StringRecord, first: usize, end: usiz
     true
 }
 
-/// Whether no field there has a point or a comma.
-fn are_unmarked(rows: &[StringRecord], first: usize, end: usize) -> bool
-    ensures { IsTrue result ↔ AreEach IsUnmarked (map fields_of rows.now) first end }
+/// The number of the first record that has a point or a comma in a field there, and the number of that field.
+fn first_marked(rows: &[StringRecord], first: usize, end: usize) -> Option<(usize, usize)>
+    ensures { MatchOption result (AreEach IsUnmarked (map fields_of rows.now) first end) (λ at. (at.0 < length rows.now) × (at.1 < end)) }
 {
-    for row in rows {
-        if !is_row_unmarked(row, first, end) {
-            return false;
+    for (i, row) in rows.iter().enumerate() {
+        if let Some(k) = first_marked_in(row, first, end) {
+            return Some((i, k));
         }
     }
-    true
+    None
 }
 
-/// Whether none of a row has.
-fn is_row_unmarked(row: &StringRecord, first: usize, end: usize) -> bool
-    ensures { IsTrue result ↔ ((k : ℕ) → first ≤ k → k < end → IsUnmarked (word_at (fields_of row.now) k)) }
+/// The number of the first field there that has one.
+fn first_marked_in(row: &StringRecord, first: usize, end: usize) -> Option<usize>
+    ensures { MatchOption result ((k : ℕ) → first ≤ k → k < end → IsUnmarked (word_at (fields_of row.now) k)) (λ k. k < end) }
 {
     for k in first..end {
         if !is_unmarked(word_in(row, k).as_bytes()) {
-            return false;
+            return Some(k);
         }
     }
-    true
+    None
 }
 
-/// The error of a table that can be read by both marks: it names the first number that would be another one.
-fn two_readings(
-    alloc: Global,
-    text: &[u8],
-    rows: &[StringRecord],
-    first: usize,
-    end: usize,
-) -> TableError {
-    for row in rows {
-        for k in first..end.min(row.len()) {
-            let word = word_in(row, k);
-            if !is_unmarked(word.as_bytes()) {
-                return match shown(alloc, word) {
-                    Ok(word) => TableError::TwoReadings {
-                        place: place_of(text, row, k),
-                        word,
-                    },
-                    Err(_) => TableError::OutOfMemory,
-                };
-            }
-        }
+/// The error of a table that can be read by both marks: it names a number that would be another one.
+fn two_readings(alloc: Global, text: &[u8], row: &StringRecord, k: usize) -> TableError
+    requires { k < 2 ^ 64 - 1 }
+{
+    match shown(alloc, word_in(row, k)) {
+        Ok(word) => TableError::TwoReadings {
+            place: place_of(text, row, k),
+            word,
+        },
+        Err(_) => TableError::OutOfMemory,
     }
-    TableError::OutOfMemory
 }

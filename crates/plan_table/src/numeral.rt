@@ -5,7 +5,7 @@ ghost use Rattle.std.specs.List.{list_all};
 ghost use Rattle.std.specs.Option.{option_map};
 ghost use Rattle.plan_table.specs.Decimal.{is_digit as digit_of};
 ghost use Rattle.plan_table.specs.Marking.{IsUnmarked, IsWritten, is_no_mark};
-ghost use Rattle.plan_table.specs.Numerals.{are_groups, are_in_place, decimal_byte, fraction_of, group_byte, is_in_place, is_nothing, is_numeral, is_sign, is_whole, number_in, plain, plain_fraction, plain_whole, sign_of, whole_of, without_sign};
+ghost use Rattle.plan_table.specs.Numerals.{are_groups, are_in_place, decimal_byte, fraction_of, group_byte, is_in_place, is_nothing, is_numeral, is_sign, is_whole, leads_with_zero, number_in, plain, plain_fraction, plain_whole, sign_of, whole_of, without_sign};
 
 use crate::decimal::{Decimal, NumberFault, all_digits, is_digit, parse_decimal};
 use std::alloc::{AllocError, Global};
@@ -50,7 +50,8 @@ pub struct Reading {
 /// The plain text of the number that a word spells: without marks between groups, with a point before the fraction.
 ///
 /// A number has an optional sign, digits and optionally the mark with digits behind it; digits may lack on one side of the mark. The digits
-/// before the mark may stand in groups of three from the right, with the other mark, a blank or an apostrophe between them.
+/// before the mark may stand in groups of three from the right, with the other mark, a blank or an apostrophe between them, unless the first
+/// of them is 0.
 pub fn plain_number(
     alloc: Global,
     mark: DecimalMark,
@@ -167,11 +168,21 @@ fn is_whole(mark: DecimalMark, text: &[u8]) -> bool
         || are_groups(b'\'', text)
 }
 
-/// Whether these are groups of three digits, the first of which may be shorter, with this mark between them.
+/// Whether these are groups of three digits, the first of which may be shorter and doesn't begin with 0, with this mark between them.
 fn are_groups(group: u8, text: &[u8]) -> bool
     ensures { result ≡ are_groups group text.now }
 {
-    !text.len().is_multiple_of(4) && are_in_place(group, text)
+    !text.len().is_multiple_of(4) && !leads_with_zero(text) && are_in_place(group, text)
+}
+
+/// Whether a text begins with the digit 0.
+fn leads_with_zero(text: &[u8]) -> bool
+    ensures { result ≡ leads_with_zero text.now }
+{
+    match text {
+        [first, ..] => *first == b'0',
+        [] => false,
+    }
 }
 
 /// Whether each fourth byte from the right is the mark between groups, and the others are digits.
@@ -188,7 +199,7 @@ fn are_in_place(group: u8, text: &[u8]) -> bool
     true
 }
 
-/// Whether a byte is in its place, with so many bytes from it on.
+/// Whether a byte is in its place, with `left` bytes from it on.
 fn is_in_place(group: u8, byte: u8, left: usize) -> bool
     ensures { result ≡ is_in_place group byte left }
 {

@@ -15,9 +15,11 @@ use Rattle.proof_tree.specs.Valid.{Valid}
 use Rattle.proof_check.specs.Acceptance.{IsPairVerdictOf, ReadsHead, ReadsVerdict, pair_head_text}
 use Rattle.proof_check.specs.Walk.{WalksTree}
 
+-- the cost step is positive
 pub step-positive : (I : Problem) (step : ℕ) → step ≡ step_of I → 0 < step
 step-positive I step is = omega (arith, is)
 
+-- a proof's head, its tree and its last line were read, and with them its verdict
 pub ReadsVerdict-all : (I : Problem) (step : ℕ) (x : Placement) (cost bound : ℤ) (p line last : List ℕ) (a b c d : Option (List ℕ)) (verdict : Verdict) → step ≡ step_of I → ReadsHead x cost bound p line a b → length p ≡ I.size → cost_of I p ≡ cost
     → WalksTree I step bound x None line b c → Consumes c d (last ++ 10 ∷ []) → last ≡ codes "end" → IsAtEnd d → ((p : List ℕ) (t : Tree) → IsPairVerdictOf (pair_claim x cost bound p t) verdict) → ReadsVerdict I a verdict
 ReadsVerdict-all I step x cost bound p line last a b c d verdict step_is head size costs w read end at_end says =

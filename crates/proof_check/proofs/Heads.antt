@@ -31,9 +31,11 @@ turns_line (f ∷ fs) [] line text paired is some front = absurd (omega (arith, 
 turns_line (f ∷ fs) (k ∷ ks) line text paired is some front =
     line_text-named (codes "node") line (by_turns (f ∷ fs) (k ∷ ks)) (front ∙ ap (λ l. codes "node " ++ l) is)
 
+-- the line of a root that places facilities is that of the head
 pub root_line : (n : ℕ) (x : Placement) (line text : List ℕ) → IsRoot n x → text ≡ node_text x → 0 < length text → line ≡ codes "node " ++ text → line ++ 10 ∷ [] ≡ root_text x.facilities x.places
 root_line n x line text root is some front = turns_line x.facilities x.places line text root.placement.paired is some front
 
+-- the line of a bound below the cost is that of the head
 pub bound_line : (c g : ℤ) (line : List ℕ) → IsBelow c g → IsNamed (codes "bound") line (g ∷ []) → line ++ 10 ∷ [] ≡ bound_text c g
 bound_line c g line below named =
     line_text-named (codes "bound") line (g ∷ []) (named-is (codes "bound") line (g ∷ []) named (AllLimited-one g below.limited))

@@ -28,9 +28,11 @@ empty_root n x root none =
 whole : (I : Problem) (text : List ℕ) (v : Verdict) (h : ShowsPairVerdict I text v) → length h.proof.root.facilities ≡ 0 → h.proof.root ≡ root_of I.size
 whole I text v h none = subst (λ (n : ℕ). h.proof.root ≡ root_of n) h.proved.same_size (empty_root (length h.proof.permutation) h.proof.root h.is_text.proof.root none)
 
+-- where a text shows an optimum, that cost is the least
 pub optimal : (I : Problem) (text : List ℕ) (c : ℤ) → DividesCosts I (step_of I) → ShowsPairVerdict I text (Optimal c) → IsLeast I c
 optimal I text c divides h = subst (IsLeast I) h.says.2 (Proves-IsLeast I h.proof h.is_text.proof divides h.proved (whole I text (Optimal c) h h.says.0) h.says.1)
 
+-- where a text shows a gap, a permutation has the cost, and none costs less than the bound
 pub gap : (I : Problem) (text : List ℕ) (g c : ℤ) → DividesCosts I (step_of I) → ShowsPairVerdict I text (Gap g c) → ((p : List ℕ) × Permutes I p × (cost_of I p ≡ c)) × NoneCostsLess I g × (g <ℤ c)
 gap I text g c divides h = (
   (h.proof.permutation, record { bijection = h.is_text.proof.permutation.bijection; same_size = h.proved.same_size }, h.proved.cost ∙ h.says.2),
@@ -41,5 +43,6 @@ gap I text g c divides h = (
   h.says.3,
 )
 
+-- where a text shows a bound for a part, no completion of its root costs less
 pub part : (I : Problem) (text : List ℕ) (g : ℤ) → DividesCosts I (step_of I) → (h : ShowsPairVerdict I text (Part g)) → NoneCompletesForLess I h.proof.root g
 part I text g divides h = subst (NoneCompletesForLess I h.proof.root) h.says.1 (Proves-NoneCompletesForLess I h.proof h.is_text.proof divides h.proved)

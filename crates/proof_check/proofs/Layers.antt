@@ -30,9 +30,11 @@ place_parts m j i k hi hk =
     let middle : (j * m + i) % m ≡ i = ap (λ p. p % m) turned' ∙ add-mul-mod_self_right i j m ∙ mod-eq_of_lt hi in
     (ap (λ p. p / m) low ∙ high, ap (λ p. p % m) low ∙ middle, ap (λ p. p % m) turned ∙ add-mul-mod_self_right k (j * m + i) m ∙ mod-eq_of_lt hk)
 
+-- no number yet
 pub IsFilled-none : (m : ℕ) (f : ℕ → ℕ → ℕ → ℤ) (xs : List ℤ) → xs ≡ [] → IsFilled m f 0 xs
 IsFilled-none m f xs e = record { counted = ap length e; each = λ place below. absurd (omega arith) }
 
+-- one number more
 pub IsFilled-more : (m : ℕ) (f : ℕ → ℕ → ℕ → ℤ) (count : ℕ) (xs : List ℤ) (x : ℤ) → IsFilled m f count xs → x ≡ f (count / m / m) (count / m % m) (count % m) → IsFilled m f (count + 1) (xs ++ x ∷ [])
 IsFilled-more m f count xs x h is = record {
   counted = omega (arith, length_push xs x, h.counted);
@@ -45,6 +47,7 @@ IsFilled-more m f count xs x h is = record {
       ];
 }
 
+-- once all numbers are there, the layers are
 pub IsLayers-filled : (m : ℕ) (f : ℕ → ℕ → ℕ → ℤ) (count : ℕ) (xs : List ℤ) → count ≡ cube m → IsFilled m f count xs → IsLayers m f xs
 IsLayers-filled m f count xs all h = record {
   count = h.counted ∙ all;
@@ -54,6 +57,7 @@ IsLayers-filled m f count xs all h = record {
       ∙ ap (λ a. f a (((j * m + i) * m + k) / m % m) (((j * m + i) * m + k) % m)) parts.0 ∙ ap (λ b. f j b (((j * m + i) * m + k) % m)) parts.1 ∙ ap (λ d. f j i d) parts.2;
 }
 
+-- where there is a place, m is positive
 pub positive : (m place : ℕ) → place < (m * m) * m → 0 < m
 positive zero place below = absurd (omega (arith, below))
 positive (suc m) place below = omega arith
@@ -71,6 +75,7 @@ row_within m place below =
     let some : 0 < m = positive m place below in
     place_in_square m (place / m % m) (place % m) (mod-lt (place / m) some) (mod-lt place some)
 
+-- a number for another in a row, or 0, lies within -10^24 to 10^24
 pub number_of-limited : (rows : List (List ℤ)) (m own other row start : ℕ) → All (AreLimited (2 * (m - 1))) rows → row < length rows → own < m → other < m → start ≤ m - 1 → unsigned_abs (number_of rows own other row start) ≤ 10 ^ 24
 number_of-limited rows m own other row start all inside own_in other_in start_in =
     let here = all row [] inside in

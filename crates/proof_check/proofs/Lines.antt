@@ -17,6 +17,7 @@ use Rattle.proof_tree.specs.Shape.{AreLimited}
 pub named-is : (name line : List ℕ) (zs : List ℤ) → IsNamed name line zs → AllLimited zs → line ≡ name ++ numbers_text zs
 named-is name line zs named limited = named.is ∙ ap (λ l. name ++ l) (numbers_text-is named.numbers zs named.spelled limited)
 
+-- such a line and its line feed are the text of that line
 pub line_text-named : (name line : List ℕ) (zs : List ℤ) → line ≡ name ++ numbers_text zs → line ++ 10 ∷ [] ≡ line_text name zs
 line_text-named name line zs is = ap (λ l. l ++ 10 ∷ []) is
 
@@ -27,6 +28,7 @@ one_limited name line v h small =
     let same : h.0 ≡ v = sym (held-within h.0 limited) ∙ sym h.2 in
     named-is name line (h.0 ∷ []) h.1 (AllLimited-one h.0 limited) ∙ ap (λ (z : ℤ). name ++ numbers_text (z ∷ [])) same
 
+-- a line of one limited number that was read
 pub one_line : (a b : Option (List ℕ)) (name line : List ℕ) (v : ℤ) → Consumes a b (line ++ 10 ∷ []) → ((z : ℤ) × IsNamed name line (z ∷ []) × (v ≡ held z)) → unsigned_abs v ≤ 10 ^ 24 → Consumes a b (line_text name (v ∷ []))
 one_line a b name line v read h small = subst (Consumes a b) (line_text-named name line (v ∷ []) (one_limited name line v h small)) read
 

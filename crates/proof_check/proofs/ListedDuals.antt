@@ -8,6 +8,7 @@ use Rattle.pair_duals.specs.Reduced.{past}
 use Rattle.proof_tree.specs.Valid.{AreListed}
 use Rattle.proof_check.specs.Rows.{IsLayers, number_of, rows_of}
 
+-- numbers that are each left as they are
 pub map-itself : (xs : List ℤ) → map (λ x. x) xs ≡ xs
 map-itself [] = refl
 map-itself (x ∷ xs) = ap (λ l. x ∷ l) (map-itself xs)
@@ -42,6 +43,7 @@ number_of-itself : (rows : List (List ℤ)) (own row start : ℕ) → number_of 
 number_of-itself rows own row start =
     cond-true (nat_eq own own) (pos 0) (get_or (get_or rows row []) (start + cond (nat_lt own own) own (own - 1)) (pos 0)) (eq-eqb own own refl)
 
+-- the pair duals of these parts
 abbrev pub duals_of : ℕ → List ℕ → List ℕ → ℕ → List ℤ → List ℤ → Duals
 duals_of size facilities locations scale alpha beta = record { size = size; facilities = facilities; locations = locations; scale = scale; alpha = alpha; beta = beta }
 
@@ -52,6 +54,7 @@ past-in m own t ho ht =
       | inr more ↦ let is = cond-false (nat_lt t own) t (t + 1) (le-ltb t own more) in omega (arith, is, ht)
     ]
 
+-- pair duals whose layers were made from the rows are those that the rows list
 pub AreListed-made : (y : Placement) (scale : ℕ) (rows : List (List ℤ)) (facilities locations : List ℕ) (alpha beta : List ℤ) → facilities ≡ free_facilities y → locations ≡ free_locations y
     → IsLayers (length facilities) (λ j i k. number_of rows i j (i * length facilities + k) 0) alpha → IsLayers (length facilities) (λ l i k. number_of rows k l (i * length facilities + k) (length facilities - 1)) beta
     → AreListed y (rows_of scale rows) (duals_of y.size facilities locations scale alpha beta)
@@ -68,6 +71,7 @@ AreListed-made y scale rows facilities locations alpha beta fs ls a b =
       beta_itself = λ i k hi hk. b.each k i k hk hi hk ∙ number_of-itself rows k (i * m + k) (m - 1);
     }
 
+-- the same where the count of the free facilities is given by itself
 pub AreListed-counted : (y : Placement) (scale m : ℕ) (rows : List (List ℤ)) (facilities locations : List ℕ) (alpha beta : List ℤ) → m ≡ length facilities → facilities ≡ free_facilities y → locations ≡ free_locations y
     → IsLayers m (λ j i k. number_of rows i j (i * m + k) 0) alpha → IsLayers m (λ l i k. number_of rows k l (i * m + k) (m - 1)) beta → AreListed y (rows_of scale rows) (duals_of y.size facilities locations scale alpha beta)
 AreListed-counted y scale m rows facilities locations alpha beta same fs ls a b =

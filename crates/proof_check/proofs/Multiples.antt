@@ -14,6 +14,7 @@ pub record IsRemainder (step : ℕ) (z rest : ℤ) : Type 0 where
   pub least : pos 0 ≤ℤ rest
   pub less : rest <ℤ pos step
 
+-- the Euclidean remainder of a number is such a remainder
 pub IsRemainder-euclid : (step : ℕ) (z : ℤ) → 0 < step → IsRemainder step z (int_rem_euclid z (pos step))
 IsRemainder-euclid step (pos a) some =
     let q = a / step in
@@ -34,6 +35,7 @@ IsRemainder-euclid step (negsuc a) some =
     let nothing : pos step *ℤ pos 0 ≡ pos 0 = omega (arith, ints) in
     record { times = negsuc q; multiple = omega (arith, ints, parts, product, one, both, up, none, nothing, small); least = omega (arith, ints, small); less = omega (arith, ints, small) }
 
+-- the greatest multiple below a bound is the bound less 1, less the remainder of that
 pub IsGreatestBelow-remainder : (step : ℕ) (bound rest below : ℤ) → 0 < step → step ≤ 10 ^ 25 → unsigned_abs bound ≤ 10 ^ 24 → IsRemainder step (bound -ℤ pos 1) rest → below ≡ (bound -ℤ pos 1) -ℤ rest → IsGreatestBelow step bound below
 IsGreatestBelow-remainder step bound rest below some small limited h is =
     let multiple = h.multiple in

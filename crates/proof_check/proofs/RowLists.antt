@@ -14,9 +14,11 @@ rows_text-push [] row = refl
 rows_text-push (r ∷ rows) row =
     ap (λ l. drop 1 (numbers_text r) ++ 10 ∷ l) (rows_text-push rows row) ∙ sym (append_assoc (drop 1 (numbers_text r)) (10 ∷ rows_text rows) (drop 1 (numbers_text row) ++ 10 ∷ []))
 
+-- no row yet
 pub HasRows-none : (width : ℕ) (a : Option (List ℕ)) → HasRows width 0 [] a a
 HasRows-none width a = record { counted = refl; each = All-nil (AreLimited width); consumed = Consumes-nil a }
 
+-- one row more, whose line was read
 pub HasRows-more : (width count : ℕ) (rows : List (List ℤ)) (row : List ℤ) (line : List ℕ) (a b c : Option (List ℕ)) → HasRows width count rows a b → Consumes b c (line ++ 10 ∷ []) → AreLimited width row → line ≡ drop 1 (numbers_text row)
     → HasRows width (count + 1) (rows ++ row ∷ []) a c
 HasRows-more width count rows row line a b c h read limited is = record {

@@ -11,22 +11,27 @@ use Rattle.proof_check.specs.Image.{IsSplitOf}
 pub in_rows : (y : Placement) (facilities : List ℕ) (c : ℕ) → IsPlacement y → facilities ≡ free_facilities y → c + length y.facilities < y.size → c < length facilities
 in_rows y facilities c is rows few = omega (arith, (facilities_of y is).count, ap length rows)
 
+-- the same for the free locations
 pub in_columns : (y : Placement) (locations : List ℕ) (c : ℕ) → IsPlacement y → locations ≡ free_locations y → c + length y.facilities < y.size → c < length locations
 in_columns y locations c is columns few = omega (arith, (locations_of y is).count, is.paired, ap length columns)
 
+-- each facility of the list is free
 pub row_free : (y : Placement) (facilities : List ℕ) (h : ℕ) → IsPlacement y → facilities ≡ free_facilities y → h < length facilities → IsFreeFacility y (get_or facilities h 0)
 row_free y facilities h is rows inside =
     subst (λ (xs : List ℕ). IsFreeFacility y (get_or xs h 0)) (sym rows) ((facilities_of y is).each h (omega (arith, ap length rows)))
 
+-- each location of the list is free
 pub column_free : (y : Placement) (locations : List ℕ) (g : ℕ) → IsPlacement y → locations ≡ free_locations y → g < length locations → IsFreeLocation y (get_or locations g 0)
 column_free y locations g is columns inside =
     subst (λ (xs : List ℕ). IsFreeLocation y (get_or xs g 0)) (sym columns) ((locations_of y is).each g (omega (arith, ap length columns)))
 
+-- the facility that a split is on is in the list
 pub own_in_rows : (y : Placement) (facilities locations : List ℕ) (side : Side) (own : ℕ) → side ≡ Facility → IsSplitOf y facilities locations side own → own < length facilities
 own_in_rows y facilities locations side own is split =
     let inside = subst (λ (s : Side). own < length (own_on s y)) is split.own_in in
     omega (arith, ap length split.rows, inside)
 
+-- the location that a split is on is in the list
 pub own_in_columns : (y : Placement) (facilities locations : List ℕ) (side : Side) (own : ℕ) → side ≡ Location → IsSplitOf y facilities locations side own → own < length locations
 own_in_columns y facilities locations side own is split =
     let inside = subst (λ (s : Side). own < length (own_on s y)) is split.own_in in

@@ -18,6 +18,7 @@ use Rattle.proof_tree.specs.Valid.{AreListed, Begins, IsClosed, IsLined, Reaches
 use Rattle.proof_check.specs.Walk.{SaysImage, WalksChild, WalksChildren, WalksLined, WalksSplit, WalksTree, is_there, own_of}
 use Rattle.proof_check.proofs.Lines.{line_text-named}
 
+-- the duals of a node that has no pair duals of its own
 abbrev pub duals_without : List ℤ → NodeDuals
 duals_without u = record { own = None; u = u }
 
@@ -120,6 +121,7 @@ WalksTree-own I step bound y above D R P line next a b c d is rows read advanced
 
 -- ---- one child
 
+-- a child that is closed without a text
 pub WalksChild-closed : (I : Problem) (step : ℕ) (bound : ℤ) (y : Placement) (now : Under) (side : Side) (own c : ℕ) (a : Option (List ℕ)) → IsClosed I step bound now (row_of side own c) (column_of side own c) → WalksChild I step bound y now side own c 46 a a
 WalksChild-closed I step bound y now side own c a h = record {
   text = [];
@@ -132,6 +134,7 @@ WalksChild-closed I step bound y now side own c a h = record {
   valid = (h, tt);
 }
 
+-- a child that is the image of an earlier one
 pub WalksChild-image : (I : Problem) (step : ℕ) (bound : ℤ) (y : Placement) (now : Under) (side : Side) (own c : ℕ) (line : List ℕ) (a b : Option (List ℕ)) → Consumes a b (line ++ 10 ∷ []) → SaysImage I y side own c line → WalksChild I step bound y now side own c 43 a b
 WalksChild-image I step bound y now side own c line a b read h = record {
   text = line ++ 10 ∷ [];
@@ -144,6 +147,7 @@ WalksChild-image I step bound y now side own c line a b read h = record {
   valid = (h.takes, tt);
 }
 
+-- a child with a tree
 pub WalksChild-grown : (I : Problem) (step : ℕ) (bound : ℤ) (y : Placement) (now : Under) (side : Side) (own c : ℕ) (R : Form) (line : List ℕ) (a b d : Option (List ℕ)) → Consumes a b (line ++ 10 ∷ []) → IsChild I now.duals now.form (row_of side own c) (column_of side own c) R
     → WalksTree I step bound (child_on side y own c) (Some (under now.duals R)) line b d → WalksChild I step bound y now side own c 43 a d
 WalksChild-grown I step bound y now side own c R line a b d read child h = record {
@@ -195,6 +199,7 @@ joined-valid (closed rest) others I step bound y now side own c d at h k = (h.0,
 joined-valid (image m rest) others I step bound y now side own c d at h k = (h.0, joined-valid rest others I step bound y now side own (c + 1) d (omega (arith, at)) h.1 k)
 joined-valid (grown t rest) others I step bound y now side own c d at h k = (h.0, h.1, h.2, joined-valid rest others I step bound y now side own (c + 1) d (omega (arith, at)) h.3 k)
 
+-- no child yet
 pub WalksChildren-none : (I : Problem) (step : ℕ) (bound : ℤ) (y : Placement) (now : Under) (side : Side) (own : ℕ) (marked : List ℕ) (a : Option (List ℕ)) → WalksChildren I step bound y now side own 0 marked a a
 WalksChildren-none I step bound y now side own marked a = record {
   text = [];
@@ -207,6 +212,7 @@ WalksChildren-none I step bound y now side own marked a = record {
   valid = tt;
 }
 
+-- one child more
 pub WalksChildren-more : (I : Problem) (step : ℕ) (bound : ℤ) (y : Placement) (now : Under) (side : Side) (own c mark : ℕ) (marked : List ℕ) (a b d : Option (List ℕ)) → c < length marked → get_or marked c 0 ≡ mark
     → WalksChildren I step bound y now side own c marked a b → WalksChild I step bound y now side own c mark b d → WalksChildren I step bound y now side own (c + 1) marked a d
 WalksChildren-more I step bound y now side own c mark marked a b d inside is h k =

@@ -11,6 +11,7 @@ use Rattle.proof_tree.specs.Tree.{PairRows}
 abbrev pub lists_of : List (Vec ℤ) → List (List ℤ)
 lists_of rows = map (λ row. row.items) rows
 
+-- the pair duals of this scale and these rows
 abbrev pub rows_of : ℕ → List (List ℤ) → PairRows
 rows_of scale rows = record { scale = scale; rows = rows }
 
@@ -20,7 +21,7 @@ pub record ReadsRows (m : ℕ) (rows : List (List ℤ)) (old new : Option (List 
   pub each : All (AreLimited (2 * (m - 1))) rows
   pub consumed : Consumes old new (rows_text rows)
 
--- so many rows of that many numbers, whose lines were read
+-- this many rows of that many numbers, whose lines were read
 pub record HasRows (width count : ℕ) (rows : List (List ℤ)) (old new : Option (List ℕ)) : Type 0 where
   pub counted : length rows ≡ count
   pub each : All (AreLimited width) rows
@@ -36,7 +37,7 @@ pub record IsLayers (m : ℕ) (f : ℕ → ℕ → ℕ → ℤ) (xs : List ℤ) 
   pub count : length xs ≡ cube m
   pub each : (j i k : ℕ) → j < m → i < m → k < m → in_layers m xs j i k ≡ f j i k
 
--- of m layers that are m by m the first so many numbers, by rows and layers: f(j,i,k) in layer j, row i, column k
+-- of m layers that are m by m the first numbers, this many, by rows and layers: f(j,i,k) in layer j, row i, column k
 pub record IsFilled (m : ℕ) (f : ℕ → ℕ → ℕ → ℤ) (count : ℕ) (xs : List ℤ) : Type 0 where
   pub counted : length xs ≡ count
   pub each : (place : ℕ) → place < count → slice_index_or xs place (pos 0) ≡ f (place / m / m) (place / m % m) (place % m)

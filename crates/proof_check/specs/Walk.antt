@@ -35,7 +35,7 @@ pub record WalksLined (I : Problem) (step : ℕ) (bound : ℤ) (y : Placement) (
   pub walked : WalksTree I step bound y (Some now) line old new
   pub bare : own_of walked.tree ≡ None
 
--- what was read is the text of the first so many children, which have these marks, of a split of y
+-- what was read is the text of the first children of a split of y, this many, which have these marks
 pub record WalksChildren (I : Problem) (step : ℕ) (bound : ℤ) (y : Placement) (now : Under) (side : Side) (own count : ℕ) (marked : List ℕ) (old new : Option (List ℕ)) : Type 0 where
   pub text : List ℕ
   pub consumed : Consumes old new text

@@ -21,7 +21,7 @@ use std::io::BufRead;
 /// What a text shows of an instance's costs, where it is that of a proof with pair duals which proves its bound for it: all that the
 /// reader has. Of the tree no more is held than the forms of the nodes above the line that is read, and the pair duals in force there.
 ///
-/// `step` is the instance's cost step. Otherwise the first fault that was found is told, by its line.
+/// `step` is the instance's cost step. Otherwise the first fault that was found is reported, by its line.
 pub fn accept<R: BufRead>(
     alloc: Global,
     instance: &Instance,

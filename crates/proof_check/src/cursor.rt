@@ -69,7 +69,7 @@ fn nothing<R: BufRead>(reader: &mut R, line: &mut Vec<u8>, number: u64) -> Resul
     }
 }
 
-/// What is told of a read that failed.
+/// What is reported of a read that failed.
 fn told(error: &Error) -> ProofError {
     if error.kind() == ErrorKind::OutOfMemory {
         ProofError::OutOfMemory

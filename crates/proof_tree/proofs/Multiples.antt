@@ -9,6 +9,7 @@ scaled-least : (s : ℕ) (z : ℤ) → pos 0 ≤ℤ z → pos 0 ≤ℤ (pos s *�
 scaled-least s (pos d) h = let is : pos s *ℤ pos d ≡ pos (s * d) = refl in omega (arith, ints, is)
 scaled-least s (negsuc d) h = absurd (omega (arith, ints, h))
 
+-- a number that is no larger than another isn't once both are scaled
 pub scaled-monotone : (s : ℕ) (a b : ℤ) → a ≤ℤ b → (pos s *ℤ a) ≤ℤ (pos s *ℤ b)
 scaled-monotone s a b h =
     let split = *ℤ-+ℤ (pos s) a (b -ℤ a) in

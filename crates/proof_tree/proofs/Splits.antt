@@ -23,6 +23,7 @@ pub record IsCellOf (y : Placement) (h g : ℕ) : Type 0 where
   pub row : h < length (free_facilities y)
   pub column : g < length (free_locations y)
 
+-- each child of a split puts a free facility and a free location together
 pub IsCellOf-child : (side : Side) (y : Placement) (own c : ℕ) → IsPlacement y → own < length (own_on side y) → c + length y.facilities < y.size → IsCellOf y (row_of side own c) (column_of side own c)
 IsCellOf-child Facility y own c is free few =
     let listed = facilities_of y is in
@@ -31,6 +32,7 @@ IsCellOf-child Location y own c is free few =
     let listed = facilities_of y is in
     record { row = omega (arith, listed.count); column = free }
 
+-- a placement with one more pair of free ones is a placement
 pub IsPlacement-cell : (y : Placement) (h g : ℕ) → IsPlacement y → IsCellOf y h g → IsPlacement (child_at y h g)
 IsPlacement-cell y h g is cell =
     IsPlacement-placing y (get_or (free_facilities y) h 0) (get_or (free_locations y) g 0) is ((facilities_of y is).each h cell.row) ((locations_of y is).each g cell.column)

@@ -96,6 +96,7 @@ mutual
       let here = valid_bounds t I step bound (child_on side y own c) (Some (under now.duals h.0)) (IsPlacement-cell y row column is cell) same divides (record { fit = good.fit; form = form }) h.2 in
       all_bounded rest I step bound y now side own (c + 1) is same divides good least free (omega (arith, count)) (earlier_more I bound y side own c earlier here) h.3 j (omega arith)
 
+-- where a tree is valid, no completion of its node costs less than the bound
 pub Valid-NoneCompletesForLess : (I : Problem) (step : ℕ) (bound : ℤ) (y : Placement) (above : Option Under) (t : Tree) → IsPlacement y → I.size ≡ y.size → DividesCosts I step → MayBeGood I y above → Valid I step bound y above t → NoneCompletesForLess I y bound
 Valid-NoneCompletesForLess I step bound y above t is same divides good valid p permutes done = valid_bounds t I step bound y above is same divides good valid p done
 
@@ -123,11 +124,13 @@ closed_smaller I step bound smaller now h g less (inr more) =
     })
 
 mutual
+  -- a tree that is valid for a bound is valid for each smaller one
   pub Valid-smaller : (t : Tree) (I : Problem) (step : ℕ) (bound smaller : ℤ) (y : Placement) (above : Option Under) → smaller ≤ℤ bound → Valid I step bound y above t → Valid I step smaller y above t
   Valid-smaller (leaf d) I step bound smaller y above less h = (h.0, h.1, reaches_smaller step h.0.duals.scale bound smaller h.0.form.value less h.2)
   Valid-smaller (split d side number children) I step bound smaller y above less h =
       (h.0, h.1, h.2, h.3, h.4, AllValid-smaller children I step bound smaller y h.0 side h.1 0 less h.5)
 
+  -- the same for the children of a split
   pub AllValid-smaller : (ts : Children) (I : Problem) (step : ℕ) (bound smaller : ℤ) (y : Placement) (now : Under) (side : Side) (own c : ℕ) → smaller ≤ℤ bound → AllValid I step bound y now side own c ts → AllValid I step smaller y now side own c ts
   AllValid-smaller no_children I step bound smaller y now side own c less h = tt
   AllValid-smaller (closed rest) I step bound smaller y now side own c less h =
@@ -142,6 +145,7 @@ mutual
 
 -- ---- proofs
 
+-- where a proof proves its bound, no completion of its root costs less
 pub Proves-NoneCompletesForLess : (I : Problem) (C : PairClaim) → IsPairProof C → DividesCosts I (step_of I) → PairProves I C → NoneCompletesForLess I C.root C.bound
 Proves-NoneCompletesForLess I C proof divides h =
     Valid-NoneCompletesForLess I (step_of I) C.bound C.root None C.tree proof.root.placement (sym h.same_size ∙ sym proof.root.size) divides tt h.tree

@@ -24,6 +24,7 @@ pub record PairClaim : Type 0 where
   pub permutation : List ℕ
   pub tree : Tree
 
+-- the claim of this cost and bound over this root, with this permutation and this tree
 abbrev pub pair_claim : Placement → ℤ → ℤ → List ℕ → Tree → PairClaim
 pair_claim root cost bound permutation tree = record { root = root; cost = cost; bound = bound; permutation = permutation; tree = tree }
 

@@ -30,7 +30,7 @@ pub record AreNodeDuals (above : Bool) (m : ℕ) (d : NodeDuals) : Type 0 where
   pub own : MayBePairRows above m d.own
   pub u : AreLimited m d.u
 
--- the image of one of so many earlier children under permutations of n numbers
+-- the image of one of this many earlier children under permutations of n numbers
 abbrev pub IsImageOf : ℕ → ℕ → Image → Type 0
 IsImageOf n earlier (by_one j m) = (j < earlier) × IsPermOf n m
 IsImageOf n earlier (by_both j s t) = (j < earlier) × IsPermOf n s × IsPermOf n t

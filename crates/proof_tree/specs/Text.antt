@@ -38,6 +38,7 @@ abbrev mutual
   tree_text (leaf d) = own_text d.own ++ line_text (codes "x") d.u
   tree_text (split d side number children) = own_text d.own ++ split_text side number (marks children) d.u ++ children_text children
 
+  -- the texts of the children that have one, in order
   pub children_text : Children → List ℕ
   children_text no_children = []
   children_text (closed rest) = children_text rest

@@ -25,16 +25,19 @@ pub data Image : Type 0 where
 -- a leaf reaches the bound by its duals; a split has a child for each free one of the other side, ascending, which is closed without
 -- a text, the image of an earlier child, or a tree
 mutual
+  -- a node with its duals: a leaf, or a split on the facility or location of this number
   pub data Tree : Type 0 where
     leaf : NodeDuals → Tree
     split : NodeDuals → Side → ℕ → Children → Tree
 
+  -- the children of a split, in order
   pub data Children : Type 0 where
     no_children : Children
     closed : Children → Children
     image : Image → Children → Children
     grown : Tree → Children → Children
 
+-- how many children there are
 abbrev pub child_count : Children → ℕ
 child_count no_children = 0
 child_count (closed rest) = 1 + child_count rest
@@ -47,9 +50,11 @@ abbrev pub row_of : Side → ℕ → ℕ → ℕ
 row_of Facility own c = own
 row_of Location own c = c
 
+-- the column of that pair
 abbrev pub column_of : Side → ℕ → ℕ → ℕ
 column_of Facility own c = c
 column_of Location own c = own
 
+-- child number c of a split of y, where own is the number of what the split is on
 abbrev pub child_on : Side → Placement → ℕ → ℕ → Placement
 child_on side y own c = child_at y (row_of side own c) (column_of side own c)

@@ -33,6 +33,7 @@ pub record Under : Type 0 where
   pub duals : Duals
   pub form : Form
 
+-- these pair duals in force at a node, with its form under them
 abbrev pub under : Duals → Form → Under
 under D R = record { duals = D; form = R }
 

@@ -23,6 +23,7 @@ pub record Checked (I : Problem) (g : ℤ) (x : Placement) (f line next : ℕ) (
   pub small : next ≤ 18446744073709551615
   pub shape : AllHaveShape Second x.size (x.facilities ++ f ∷ []) rest
 
+-- the first of the rest is valid: those behind it are still to be checked
 pub Checked-more : (I : Problem) (g : ℤ) (x : Placement) (f line next after : ℕ) (ks : List ℕ) (all : Nodes) (k : ℕ) (ls : List ℕ) (t : Node) (rest : Nodes) → Checked I g x f line next ks all (k ∷ ls) (node t rest) → Valid I g (placing x f k) t → after ≡ line_after next (node_count t) → Checked I g x f line after ks all ls rest
 Checked-more I g x f line next after ks all k ls t rest h valid is = record {
   valid = λ others. h.valid (valid, others);
@@ -42,5 +43,6 @@ Checked-at I g x f line next ks ts i child in_ts in_ks is h =
     subst (λ (us : List Tree). Checked I g x f line next ks (nodes_of ts) (k ∷ drop (i + 1) ks) (nodes_of us)) at_t
     (subst (λ (js : List ℕ). Checked I g x f line next ks (nodes_of ts) js (nodes_of (drop i ts))) at_k h)
 
+-- a fault of the first of the rest is one among all children
 pub Checked-fault : (I : Problem) (g : ℤ) (x : Placement) (f line next : ℕ) (ks : List ℕ) (all : Nodes) (k : ℕ) (ls : List ℕ) (t : Node) (rest : Nodes) (e : CertError) → Checked I g x f line next ks all (k ∷ ls) (node t rest) → IsTreeFault I g (placing x f k) next t e → IsTreeFaultAmong I g x f ks line all e
 Checked-fault I g x f line next ks all k ls t rest e h fault = h.fault e (inl fault)

@@ -23,6 +23,7 @@ dual_fault m line u v e fault h =
     ]
 
 mutual
+  -- a tree with a fault of shape doesn't have the shape
   pub shape_fault : (t : Node) (n : ℕ) (placed : List ℕ) (line : ℕ) (e : CertError) → IsShapeFault n placed line t e → HasShape Second n placed t → ⊥
   shape_fault (split f children) n placed line e fault h =
       elim fault [
@@ -45,6 +46,7 @@ mutual
         | inr later ↦ shape_fault_among rest n placed (line_after line (node_count t)) e later.1 h.1
       ]
 
+-- a claim that has a fault of its own isn't a certificate
 pub claim_fault : (C : Claim) (e : CertError) → IsClaimFault C e → IsCertificate C → ⊥
 claim_fault C e fault h =
     elim fault [
@@ -66,6 +68,7 @@ bound_fault I g x line u v e fault h =
     ]
 
 mutual
+  -- a tree with a fault isn't valid
   pub tree_fault : (t : Node) (I : Problem) (g : ℤ) (x : Placement) (line : ℕ) (e : CertError) → IsTreeFault I g x line t e → Valid I g x t → ⊥
   tree_fault (split f children) I g x line e fault h =
       tree_fault_among children I g x f (free_locations x) (line_after line 1) e fault h.2
@@ -81,6 +84,7 @@ mutual
         | inr later ↦ tree_fault_among rest I g x f ks (line_after line (node_count t)) e later.1 h.1
       ]
 
+-- a claim that has a fault for an instance doesn't certify its bound
 pub certificate_fault : (I : Problem) (C : Claim) (e : CertError) → IsFault I C e → Certifies I C → ⊥
 certificate_fault I C e fault h =
     elim fault [

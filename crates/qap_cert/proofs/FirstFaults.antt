@@ -95,6 +95,7 @@ mutual
         ]
       ]
 
+-- a claim has one first fault of its own at most
 pub one_claim_fault : (C : Claim) (e f : CertError) → IsClaimFault C e → IsClaimFault C f → e ≡ f
 one_claim_fault C e f a b =
     elim a [
@@ -158,6 +159,7 @@ mutual
         ]
       ]
 
+-- a claim has one first fault for an instance at most
 pub one_fault : (I : Problem) (C : Claim) (e f : CertError) → IsFault I C e → IsFault I C f → e ≡ f
 one_fault I C e f a b =
     elim a [

@@ -207,6 +207,7 @@ right_version : (text rest : List ℕ) (v : Version) (e : CertError) → text �
 right_version text rest v e is fault =
     header_line v e (named_fault (Truncated 1) text (codes "qapcert") rest (pos (version_number v) ∷ []) IsHeaderFault e no_line-version (version_limited v) is fault)
 
+-- a text has one first fault at most
 pub one_text_fault : (text : List ℕ) (d e : CertError) → IsTextFault text d → IsTextFault text e → d ≡ e
 one_text_fault text d e (inl a) (inl b) = one_line_fault (Truncated 1) text IsHeaderFault d e (λ line. one_header_fault line d e) a b
 one_text_fault text d e (inl a) (inr b) = absurd (right_version text b.1.rest b.0 d b.1.is a)

@@ -31,28 +31,35 @@ use Rattle.qap_cert.specs.declared.version.Version.TheVariants.{First, Second}
 
 -- the names of the lines
 
+-- the name of the version's line has no line feed
 pub no_line-version : HasNoLine (codes "qapcert")
 no_line-version = HasNoLine-cons 113 _ (λ e. omega arith) (HasNoLine-cons 97 _ (λ e. omega arith) (HasNoLine-cons 112 _ (λ e. omega arith)
     (HasNoLine-cons 99 _ (λ e. omega arith) (HasNoLine-cons 101 _ (λ e. omega arith) (HasNoLine-cons 114 _ (λ e. omega arith) (HasNoLine-cons 116 _ (λ e. omega arith) no_line-nil))))))
 
+-- nor has that of the size's line
 pub no_line-size : HasNoLine (codes "n")
 no_line-size = HasNoLine-cons 110 _ (λ e. omega arith) no_line-nil
 
+-- nor has that of the cost's line
 pub no_line-cost : HasNoLine (codes "cost")
 no_line-cost = HasNoLine-cons 99 _ (λ e. omega arith) (HasNoLine-cons 111 _ (λ e. omega arith) (HasNoLine-cons 115 _ (λ e. omega arith) (HasNoLine-cons 116 _ (λ e. omega arith) no_line-nil)))
 
+-- nor has that of the permutation's line
 pub no_line-perm : HasNoLine (codes "perm")
 no_line-perm = HasNoLine-cons 112 _ (λ e. omega arith) (HasNoLine-cons 101 _ (λ e. omega arith) (HasNoLine-cons 114 _ (λ e. omega arith) (HasNoLine-cons 109 _ (λ e. omega arith) no_line-nil)))
 
 no_line-bound : HasNoLine (codes "b")
 no_line-bound = HasNoLine-cons 98 _ (λ e. omega arith) no_line-nil
 
+-- nor has that of a split's line
 pub no_line-split : HasNoLine (codes "s")
 no_line-split = HasNoLine-cons 115 _ (λ e. omega arith) no_line-nil
 
+-- nor has that of the bound's line
 pub no_line-below : HasNoLine (codes "bound")
 no_line-below = HasNoLine-cons 98 _ (λ e. omega arith) (HasNoLine-cons 111 _ (λ e. omega arith) (HasNoLine-cons 117 _ (λ e. omega arith) (HasNoLine-cons 110 _ (λ e. omega arith) (HasNoLine-cons 100 _ (λ e. omega arith) no_line-nil))))
 
+-- nor has the last line
 pub no_line-end : HasNoLine (codes "end")
 no_line-end = HasNoLine-cons 101 _ (λ e. omega arith) (HasNoLine-cons 110 _ (λ e. omega arith) (HasNoLine-cons 100 _ (λ e. omega arith) no_line-nil))
 
@@ -66,6 +73,7 @@ split_differs : (bs cs : List ℕ) → 115 ∷ bs ≡ 98 ∷ cs → ⊥
 split_differs bs cs e = differ 115 98 bs cs (λ (same : 115 ≡ 98). omega arith) e
 
 mutual
+  -- where two texts that begin with trees of a shape are one text, the trees are the same, and so is what follows
   pub tree_front : (t s : Node) (w : Version) (n : ℕ) (placed : List ℕ) (rest more : List ℕ) → n ≤ 256 → HasShape w n placed t → HasShape w n placed s → tree_text w t ++ rest ≡ tree_text w s ++ more → (t ≡ s) × (rest ≡ more)
   tree_front (split f ts) (split g ss) w n placed rest more small h k e =
       let first = line_front (codes "s") (split_numbers w f) (split_numbers w g) (trees_text w ts ++ rest) (trees_text w ss ++ more) no_line-split
@@ -82,6 +90,7 @@ mutual
       let q = same_halves u v y x (h.rows ∙ sym k.rows) p.0 in
       (ap₂ bound q.0 q.1, p.1)
 
+  -- the same for as many trees in a row
   pub trees_front : (ts ss : Nodes) (w : Version) (n : ℕ) (placed : List ℕ) (rest more : List ℕ) → n ≤ 256 → AllHaveShape w n placed ts → AllHaveShape w n placed ss → child_count ts ≡ child_count ss
       → trees_text w ts ++ rest ≡ trees_text w ss ++ more → (ts ≡ ss) × (rest ≡ more)
   trees_front no_nodes no_nodes w n placed rest more small h k same e = (refl, e)
@@ -114,9 +123,11 @@ one_split : (w : Version) (n : ℕ) (placed line : List ℕ) (f g : ℕ) → IsS
 one_split w n placed line f g a b =
     same_facility w n placed f g a.allowed b.allowed (IsNamed-unique (codes "s") line (split_numbers w f) (split_numbers w g) a.named b.named)
 
+-- no line is both a split's and that of duals
 pub split_or_bound : (w : Version) (n : ℕ) (placed line : List ℕ) (f : ℕ) (zs : List ℤ) → IsSplitLine w n placed line f → IsNamed (codes "b") line zs → ⊥
 split_or_bound w n placed line f zs a b = split_differs _ _ (sym a.named.is ∙ b.is)
 
+-- a split's line that names a free facility has no fault
 pub split_line : (w : Version) (n : ℕ) (placed line : List ℕ) (number f : ℕ) (e : CertError) → length placed < n → IsFree n placed f → IsSplitLine w n placed line f → IsNodeFault w n placed number line e → ⊥
 split_line w n placed line number f (BadLine at) some free is h = h.1 f is
 split_line w n placed line number f (SplitTooDeep at) some free is h = absurd (omega (arith, h.3, some))
@@ -149,6 +160,7 @@ no_node_fault w n placed number (split f children) text rest e small h is fault 
 no_node_fault w n placed number (bound u v) text rest e small h is fault =
     bound_line w n placed number u v e h (named_fault (Truncated number) text (codes "b") rest (u ++ v) (IsNodeFault w n placed number) e no_line-bound (AllLimited-append u v h.u_range h.v_range) is fault)
 
+-- a text that begins with that of a tree of the right shape has no fault of a tree
 pub no_tree_fault : (w : Version) (n m : ℕ) (placed : List ℕ) (number : ℕ) (t : Node) (text rest : List ℕ) (e : CertError) → n ≤ 256 → HasShape w n placed t → text ≡ tree_text w t ++ rest → IsTreeTextFault w n m placed number text e → ⊥
 no_tree_fault w n zero placed number t text rest e small h is fault = no_node_fault w n placed number t text rest e small h is fault
 no_tree_fault w n (suc m) placed number t text rest e small h is (inl fault) = no_node_fault w n placed number t text rest e small h is fault
@@ -172,6 +184,7 @@ no_end_fault number text e is (inr fault) = fault.2 (ap (drop 4) (sym fault.3 �
 
 -- the text of a certificate has no fault
 
+-- the line of a version has no fault
 pub header_line : (v : Version) (e : CertError) → IsHeaderFault (codes "qapcert" ++ numbers_text (pos (version_number v) ∷ [])) e → ⊥
 header_line v BadHeader h = h (version_number v) (version_small v).0 (IsNamed-numbers_text (codes "qapcert") (pos (version_number v) ∷ []) (version_limited v))
 header_line v BadVersion h =
@@ -180,6 +193,7 @@ header_line v BadVersion h =
     omega (arith, h.1, same, (version_small v).1)
 header_line v _ h = absurd h
 
+-- the line of a permutation of n numbers has no fault
 pub perm_line : (n : ℕ) (p : List ℕ) (e : CertError) → IsPerm p → length p ≡ n → IsPermFault n (codes "perm" ++ numbers_text (from_one p)) e → ⊥
 perm_line n p (BadLine at) perm size h =
     h.1 (from_one p) (length-map p (λ k. pos (k + 1)) ∙ size) (IsNamed-numbers_text (codes "perm") (from_one p) (AllLimited-permutation p perm))
@@ -291,6 +305,7 @@ fault_from_cost w n C text e small h may shape size is (inr f) =
     let cost_is : C.cost ≡ f.0 = ap (λ l. get_or l 0 (pos 0)) same.0 in
     fault_from_perm w n C b.rest e small h may shape size (sym same.1) (subst (λ (z : ℤ). IsFaultFromPerm w n z b.rest e) (sym cost_is) b.holds)
 
+-- a number up to 256 is within the limits of a line
 pub small_number : (n : ℕ) → n ≤ 256 → AllLimited (pos n ∷ [])
 small_number n h = AllLimited-one (pos n) (omega (arith, h))
 
@@ -321,11 +336,13 @@ in_parts a b c d l t z =
     append_assoc ((((a ++ b) ++ c) ++ d) ++ l) t z ∙ append_assoc (((a ++ b) ++ c) ++ d) l (t ++ z) ∙ append_assoc ((a ++ b) ++ c) d (l ++ (t ++ z)) ∙ append_assoc (a ++ b) c (d ++ (l ++ (t ++ z)))
     ∙ append_assoc a b (c ++ (d ++ (l ++ (t ++ z))))
 
+-- a certificate's text is the line of its version and what is behind that
 pub certificate_parts : (w : Version) (C : Claim) → certificate_text w C ≡ line_text (codes "qapcert") (pos (version_number w) ∷ []) ++ behind_version w C
 certificate_parts w C =
     in_parts (line_text (codes "qapcert") (pos (version_number w) ∷ [])) (line_text (codes "n") (pos (length C.permutation) ∷ [])) (line_text (codes "cost") (C.cost ∷ []))
     (line_text (codes "perm") (from_one C.permutation)) (bound_text C.cost C.bound) (tree_text w C.tree) (codes "end\n")
 
+-- the text of a certificate has no fault
 pub no_text_fault : (text : List ℕ) (C : Claim) (e : CertError) → IsCertificateText text C → IsTextFault text e → ⊥
 no_text_fault text C e h (inl fault) =
     let w = h.version in
@@ -372,6 +389,7 @@ one_tail w n c g b t s small h k x y e = by (standing_of c g h) (standing_of c b
     by (equal is none) (equal same nil) =
         (is ∙ sym same, (tree_front t s w n [] (codes "end\n") (codes "end\n") small x y (sym (ap (λ l. l ++ front) none) ∙ e ∙ ap (λ l. l ++ other) nil)).0)
 
+-- a text is that of one certificate at most
 pub one_certificate : (text : List ℕ) (C D : Claim) → IsCertificateText text C → IsCertificateText text D → C ≡ D
 one_certificate text C D h k =
     let w = h.version in

@@ -27,6 +27,7 @@ pub record Lines (v : Version) (n : ℕ) (c g : ℤ) (p : List ℕ) (t : Node) :
   pub bound : IsBoundFor c g
   pub tree : HasShape v n [] t
 
+-- what stands in such lines is a certificate
 pub IsCertificate-read : (v : Version) (n : ℕ) (c g : ℤ) (p : List ℕ) (t : Node) → Lines v n c g p t → IsCertificate (claim_of c g p t)
 IsCertificate-read v n c g p t h = record {
   cost = h.cost;
@@ -35,6 +36,7 @@ IsCertificate-read v n c g p t h = record {
   tree = HasShape-second t v (length p) [] (subst (λ (k : ℕ). HasShape v k [] t) (sym h.size) h.tree);
 }
 
+-- a text of such lines in succession is that of the certificate
 pub IsCertificateText-read : (v : Version) (n : ℕ) (c g : ℤ) (p : List ℕ) (t : Node) (text size cost perm behind : List ℕ) → Lines v n c g p t
     → text ≡ line_text (codes "qapcert") (pos (version_number v) ∷ []) ++ size → size ≡ line_text (codes "n") (pos n ∷ []) ++ cost → cost ≡ line_text (codes "cost") (c ∷ []) ++ perm
     → perm ≡ line_text (codes "perm") (from_one p) ++ behind → behind ≡ bound_text c g ++ (tree_text v t ++ codes "end\n") → IsCertificateText text (claim_of c g p t)

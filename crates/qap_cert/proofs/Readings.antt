@@ -25,33 +25,39 @@ abbrev pub with_last : Nodes → Node → Nodes
 with_last no_nodes t = node t no_nodes
 with_last (node x rest) t = node x (with_last rest t)
 
+-- what trees and one more behind them say
 pub nodes_of-push : (xs : List Tree) (t : Tree) → nodes_of (xs ++ t ∷ []) ≡ with_last (nodes_of xs) (node_of t)
 nodes_of-push [] t = refl
 nodes_of-push (x ∷ xs) t = ap (node (node_of x)) (nodes_of-push xs t)
 
+-- trees of a shape, and one more that has it
 pub AllHaveShape-with_last : (w : Version) (n : ℕ) (placed : List ℕ) (ts : Nodes) (t : Node) → AllHaveShape w n placed ts → HasShape w n placed t → AllHaveShape w n placed (with_last ts t)
 AllHaveShape-with_last w n placed no_nodes t h k = (k, tt)
 AllHaveShape-with_last w n placed (node x rest) t h k = (h.0, AllHaveShape-with_last w n placed rest t h.1 k)
 
+-- there is one tree more
 pub child_count-with_last : (ts : Nodes) (t : Node) → child_count (with_last ts t) ≡ child_count ts + 1
 child_count-with_last no_nodes t = omega arith
 child_count-with_last (node x rest) t = omega (arith, child_count-with_last rest t)
 
+-- there are the nodes of that tree more
 pub nodes_count-with_last : (ts : Nodes) (t : Node) → nodes_count (with_last ts t) ≡ nodes_count ts + node_count t
 nodes_count-with_last no_nodes t = omega arith
 nodes_count-with_last (node x rest) t = omega (arith, nodes_count-with_last rest t)
 
+-- its text stands behind that of the others
 pub trees_text-with_last : (w : Version) (ts : Nodes) (t : Node) → trees_text w (with_last ts t) ≡ trees_text w ts ++ tree_text w t
 trees_text-with_last w no_nodes t = append-nil (tree_text w t)
 trees_text-with_last w (node x rest) t = ap (λ l. tree_text w x ++ l) (trees_text-with_last w rest t) ∙ sym (append_assoc (tree_text w x) (trees_text w rest) (tree_text w t))
 
--- so many trees were read from a text, whose first line has this number; rest and next are what is behind them
+-- this many trees were read from a text, whose first line has this number; rest and next are what is behind them
 pub record HaveRead (w : Version) (n : ℕ) (placed : List ℕ) (line : ℕ) (text : List ℕ) (ts : Nodes) (count : ℕ) (rest : List ℕ) (next : ℕ) : Type 0 where
   pub shapes : AllHaveShape w n placed ts
   pub counted : child_count ts ≡ count
   pub is : text ≡ trees_text w ts ++ rest
   pub next_is : next ≡ line_after line (nodes_count ts)
 
+-- one tree more was read
 pub HaveRead-more : (w : Version) (n : ℕ) (placed : List ℕ) (line : ℕ) (text : List ℕ) (xs ys : List Tree) (t : Tree) (count : ℕ) (rest : List ℕ) (next : ℕ) (behind : List ℕ) (after : ℕ)
     → HaveRead w n placed line text (nodes_of xs) count rest next → HasShape w n placed (node_of t) → rest ≡ tree_text w (node_of t) ++ behind
     → after ≡ line_after next (node_count (node_of t)) → ys ≡ xs ++ t ∷ [] → HaveRead w n placed line text (nodes_of ys) (count + 1) behind after
@@ -80,6 +86,7 @@ IsNodeFault-facility : (w : Version) (n : ℕ) (placed : List ℕ) (number : ℕ
 IsNodeFault-facility w n placed number line f e is (inl deep) = subst (IsNodeFault w n placed number line) (sym deep.0) (refl, f, is, deep.1)
 IsNodeFault-facility w n placed number line f e is (inr taken) = subst (IsNodeFault w n placed number line) (sym taken.0) (refl, f, is, taken.1, taken.2)
 
+-- a fault of the facility that the first line names is one of the tree
 pub IsTreeTextFault-facility : (w : Version) (n m : ℕ) (placed : List ℕ) (number : ℕ) (text line rest : List ℕ) (f : ℕ) (e : CertError) → IsLine text line rest → IsSplitLine w n placed line f → IsFacilityFault n placed number f e → IsTreeTextFault w n m placed number text e
 IsTreeTextFault-facility w n m placed number text line rest f e first is fault =
     IsTreeTextFault-line w n m placed number text e (inr (line, rest, first, IsNodeFault-facility w n placed number line f e is fault))

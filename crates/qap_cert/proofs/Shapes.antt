@@ -26,6 +26,7 @@ Judged-split n placed inner line below t f children (Err e) is more some free co
     subst (λ (x : Node). IsShapeFault n placed line x e) (sym is)
     (inr (some, free, count, subst (λ (xs : List ℕ). IsShapeFaultAmong n xs (line_after line 1) children e) more (subst (λ (k : ℕ). IsShapeFaultAmong n inner k children e) start h)))
 
+-- a fault of a split's facility or count of children is one of the tree
 pub IsShapeFault-split : (n : ℕ) (placed : List ℕ) (line : ℕ) (t : Node) (f k : ℕ) (children : Nodes) (e : CertError) → t ≡ split f children → child_count children ≡ k → IsSplitFault n placed line f k e → IsShapeFault n placed line t e
 IsShapeFault-split n placed line t f k children e is count fault =
     subst (λ (x : Node). IsShapeFault n placed line x e) (sym is) (inl (subst (λ (j : ℕ). IsSplitFault n placed line f j e) (sym count) fault))

@@ -15,6 +15,7 @@ use Rattle.qap_cert.specs.declared.tree.Tree.TheFolds.{fold-roll-Tree}
 pub node_of-Split : (t : Tree) (f : ℕ) (children : Vec Tree Global) → t ≡ Split f children → node_of t ≡ split f (nodes_of children.items)
 node_of-Split t f children is = ap node_of is ∙ ap node_of (sym (rolls-Split f children)) ∙ fold-roll-Tree Node node_step (Layer f children)
 
+-- there are as many nodes in the row as trees
 pub child_count-nodes_of : (ts : List Tree) → child_count (nodes_of ts) ≡ length ts
 child_count-nodes_of [] = omega arith
 child_count-nodes_of (t ∷ ts) = omega (arith, child_count-nodes_of ts)
@@ -23,6 +24,7 @@ child_count-nodes_of (t ∷ ts) = omega (arith, child_count-nodes_of ts)
 pub line_after-more : (line a b : ℕ) → line_after (line_after line a) b ≡ line_after line (a + b)
 line_after-more line a b = omega arith
 
+-- behind no nodes the line stays the same
 pub line_after-none : (line : ℕ) → line ≤ 18446744073709551615 → line ≡ line_after line 0
 line_after-none line h = omega arith
 

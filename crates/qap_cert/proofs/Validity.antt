@@ -14,6 +14,7 @@ use Rattle.qap_cert.specs.Tree.{Node, split, bound, Nodes, no_nodes, node}
 use Rattle.qap_cert.specs.Valid.{Valid, AllValid}
 
 mutual
+  -- a completion of a node whose tree is valid costs at least the bound
   pub valid_bounds : (t : Node) (I : Problem) (g : ℤ) (x : Placement) (p : List ℕ) → IsPlacement x → I.size ≡ x.size → Valid I g x t → Completes x p → g ≤ℤ cost_of I p
   valid_bounds (bound u v) I g x p placement same h q =
       let least : (fixed_cost_of I x +ℤ dual_value u v) ≤ℤ cost_of I p = fixed_and_duals-le I x h.closes.fits.matrix u v p placement same h.closes.fits.reduced h.closes.fits.fits q in
@@ -28,6 +29,7 @@ mutual
       (λ j less. IsPlacement-placing x f (get_or free j 0) placement h.1 (listed.each j less)) same h.2 at.1
       (subst (λ (k : ℕ). Completes (placing x f k) p) (sym at.2) child.1)
 
+  -- the same for a completion of a child
   pub all_valid_bounds : (ts : Nodes) (I : Problem) (g : ℤ) (x : Placement) (f : ℕ) (ks p : List ℕ) (i : ℕ) → ((j : ℕ) → j < length ks → IsPlacement (placing x f (get_or ks j 0))) → I.size ≡ x.size → AllValid I g x f ks ts → i < length ks → Completes (placing x f (get_or ks i 0)) p → g ≤ℤ cost_of I p
   all_valid_bounds no_nodes I g x f [] p i xs same h below q = absurd (omega arith)
   all_valid_bounds no_nodes I g x f (k ∷ ks) p i xs same h below q = absurd h

@@ -15,6 +15,7 @@ use Rattle.qap_cert.specs.declared.acceptance.Verdict.{Verdict}
 use Rattle.qap_cert.specs.declared.acceptance.Verdict.TheVariants.{Optimal, Gap}
 use Rattle.qap_cert.specs.declared.version.Version.{Version}
 
+-- the verdict of a certified claim is so where no permutation costs less than its bound
 pub IsSo-certified : (I : Problem) (C : Claim) (v : Verdict) → IsPerm C.permutation → Certifies I C → NoneCostsLess I C.bound → (C.bound ≡ C.cost → IsLeast I C.cost) → IsVerdictOf C v → IsSo I v
 IsSo-certified I C (Optimal c) perm h bound least says = subst (IsLeast I) says.1 (least says.0)
 IsSo-certified I C (Gap g c) perm h bound least says = (
@@ -33,6 +34,7 @@ ShowsVerdict-judged I text v c g p line rest verdict head size cost h says = rec
   says = says p h.tree;
 }
 
+-- a verdict that a text shows is so
 pub IsSo-shown : (I : Problem) (text : List ℕ) (verdict : Verdict) → IsInstance I → ShowsVerdict I text verdict → IsSo I verdict
 IsSo-shown I text verdict instance h =
     let C = h.certificate in

@@ -97,6 +97,7 @@ trees_text-joined : (w : Version) (ts us : Nodes) → trees_text w (joined ts us
 trees_text-joined w no_nodes us = refl
 trees_text-joined w (node t rest) us = ap (λ l. tree_text w t ++ l) (trees_text-joined w rest us) ∙ sym (append_assoc (tree_text w t) (trees_text w rest) (trees_text w us))
 
+-- trees, and others behind them
 pub BeginsWithTrees-joined : (w : Version) (n : ℕ) (placed : List ℕ) (count more all line : ℕ) (text rest : List ℕ) (next : ℕ) (P Q R : Nodes → Type 0) (behind : List ℕ) (after : ℕ)
     → (h : BeginsWithTrees w n placed count line text rest next P) → (k : BeginsWithTrees w n placed more next rest behind after Q) → all ≡ count + more
     → R (joined h.trees k.trees) → BeginsWithTrees w n placed all line text behind after R

@@ -13,6 +13,7 @@ use Rattle.qap_cert.specs.declared.tree.Tree.TheOpen.{Split as Layer}
 use Rattle.qap_cert.specs.declared.tree.Tree.TheFolds.{fold-roll-Tree}
 use Rattle.qap_cert.specs.declared.version.Version.TheVariants.{Second}
 
+-- the text of trees and of others behind them is their two texts
 pub trees_text-append : (xs ys : List Tree) → trees_text Second (nodes_of (xs ++ ys)) ≡ trees_text Second (nodes_of xs) ++ trees_text Second (nodes_of ys)
 trees_text-append [] ys = refl
 trees_text-append (x ∷ xs) ys =

@@ -18,6 +18,7 @@ pub record Claim : Type 0 where
   pub permutation : List ℕ
   pub tree : Node
 
+-- the claim of this cost and bound with this permutation and this tree
 abbrev pub claim_of : ℤ → ℤ → List ℕ → Node → Claim
 claim_of cost bound permutation tree = record { cost = cost; bound = bound; permutation = permutation; tree = tree }
 

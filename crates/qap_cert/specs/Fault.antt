@@ -28,7 +28,7 @@ abbrev pub IsFacilityFault : ℕ → List ℕ → ℕ → ℕ → CertError → 
 IsFacilityFault n placed line f e =
     ((e ≡ SplitTooDeep line) × (n ≤ length placed)) ⊎ ((e ≡ FacilityTaken line) × (length placed < n) × (IsFree n placed f → ⊥))
 
--- the first fault of a split on this facility with so many children
+-- the first fault of a split on this facility with this many children
 abbrev pub IsSplitFault : ℕ → List ℕ → ℕ → ℕ → ℕ → CertError → Type 0
 IsSplitFault n placed line f children e =
     IsFacilityFault n placed line f e
@@ -58,7 +58,7 @@ IsClaimFault C e =
     ⊎ (IsLimited C.cost × IsBoundFor C.cost C.bound
     × IsShapeFault (length C.permutation) [] (tree_line C.cost C.bound) C.tree e))
 
--- the duals don't fit; or they do, and with what the placed facilities cost they come to less than g
+-- the duals don't fit; or they do, and with what the placed facilities cost their sum is less than g
 abbrev pub IsBoundFault : Problem → ℤ → Placement → ℕ → List ℤ → List ℤ → CertError → Type 0
 IsBoundFault I g x line u v e =
     ((e ≡ NotFeasible line) × (Fits I x u v → ⊥))

@@ -7,6 +7,7 @@ use Rattle.qap_cert.specs.Tree.{Node, split, bound, Nodes, no_nodes, node}
 use Rattle.qap_cert.specs.Version.{MayName}
 use Rattle.qap_cert.specs.declared.version.Version.{Version}
 
+-- how many nodes stand in a row
 abbrev pub child_count : Nodes → ℕ
 child_count no_nodes = 0
 child_count (node t rest) = 1 + child_count rest
@@ -30,6 +31,7 @@ abbrev mutual
       × AllHaveShape v n (placed ++ f ∷ []) children
   HasShape v n placed (bound u w) = AreDuals (n - length placed) u w
 
+  -- the same for nodes in a row
   pub AllHaveShape : Version → ℕ → List ℕ → Nodes → Type 0
   AllHaveShape v n placed no_nodes = Unit {0}
   AllHaveShape v n placed (node t rest) = HasShape v n placed t × AllHaveShape v n placed rest

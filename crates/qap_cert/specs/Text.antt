@@ -15,6 +15,7 @@ abbrev mutual
   tree_text v (split f children) = line_text (codes "s") (split_numbers v f) ++ trees_text v children
   tree_text v (bound u w) = line_text (codes "b") (u ++ w)
 
+  -- the same for nodes in a row
   pub trees_text : Version → Nodes → List ℕ
   trees_text v no_nodes = []
   trees_text v (node t rest) = tree_text v t ++ trees_text v rest

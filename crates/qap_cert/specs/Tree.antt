@@ -8,10 +8,12 @@ use Rattle.qap_cert.specs.declared.tree.Tree.TheFolds.{fold-Tree}
 
 -- a split on a facility, with a child for each of its locations; a bound by duals
 mutual
+  -- a tree: a split on a facility with its children, or a bound by duals of rows and columns
   pub data Node : Type 0 where
     split : ℕ → Nodes → Node
     bound : List ℤ → List ℤ → Node
 
+  -- nodes in a row, as the children of a split
   pub data Nodes : Type 0 where
     no_nodes : Nodes
     node : Node → Nodes → Nodes
@@ -40,6 +42,7 @@ abbrev mutual
   node_count (split f children) = 1 + nodes_count children
   node_count (bound u v) = 1
 
+  -- the same for nodes in a row
   pub nodes_count : Nodes → ℕ
   nodes_count no_nodes = 0
   nodes_count (node t rest) = node_count t + nodes_count rest

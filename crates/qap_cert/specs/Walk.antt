@@ -22,7 +22,7 @@ pub record BeginsWithTree (v : Version) (n : ℕ) (placed : List ℕ) (line : �
   pub next_is : next ≡ line_after line (node_count tree)
   pub holds : P tree
 
--- the same for so many trees one after another
+-- the same for this many trees one after another
 pub record BeginsWithTrees (v : Version) (n : ℕ) (placed : List ℕ) (count line : ℕ) (text rest : List ℕ) (next : ℕ) (P : Nodes → Type 0) : Type 0 where
   pub trees : Nodes
   pub shapes : AllHaveShape v n placed trees
@@ -52,7 +52,7 @@ abbrev pub IsToldOfAll : Problem → ℤ → Placement → ℕ → List ℕ → 
 IsToldOfAll I g x f ks line None ts = AllValid I g x f ks ts
 IsToldOfAll I g x f ks line (Some e) ts = IsTreeFaultAmong I g x f ks line ts e
 
--- the line is spelled by duals for the node, and whether they close it is told, and what keeps them from it
+-- the line is spelled by duals for the node, and whether they close it is reported, and what keeps them from it
 pub record ClosesOrTells (I : Problem) (g : ℤ) (x : Placement) (line : ℕ) (bytes : List ℕ) (fault : Option CertError) : Type 0 where
   pub u : List ℤ
   pub v : List ℤ
@@ -60,7 +60,7 @@ pub record ClosesOrTells (I : Problem) (g : ℤ) (x : Placement) (line : ℕ) (b
   pub spelled : bytes ≡ codes "b" ++ numbers_text (u ++ v)
   pub told : IsToldOf I g x line fault (bound u v)
 
--- fewer than so many trees stand at the front, and behind them there is a fault
+-- fewer than this many trees stand at the front, and behind them there is a fault
 abbrev pub IsFaultBefore : Version → ℕ → List ℕ → ℕ → ℕ → List ℕ → CertError → Type 0
 IsFaultBefore v n placed count line text e =
     (before : Nodes) × (rest : List ℕ) × (text ≡ trees_text v before ++ rest) × AllHaveShape v n placed before × (child_count before < count)

@@ -32,7 +32,7 @@ pub enum Verdict {
 
 /// What a text shows of an instance's least cost, where it is that of a certificate for it.
 ///
-/// Else the first fault is told: every fault that `read` tells comes before every fault that `check` tells.
+/// Else the first fault is reported: every fault that `read` reports comes before every fault that `check` reports.
 pub fn accept(alloc: Global, instance: &Instance, text: &[u8]) -> Result<Verdict, CertError>
     ensures verdict { MatchResult result
         (ShowsVerdict instance.now text.now)
@@ -62,7 +62,7 @@ fn skim_to_end(alloc: Global, head: &Head<'_>) -> Result<(), CertError>
     read_end(behind.rest, behind.next)
 }
 
-/// Judges the tree and the last line, and tells the first bound that fails, if one does.
+/// Judges the tree and the last line, and reports the first bound that fails, if one does.
 fn judge_to_end(
     alloc: Global,
     instance: &Instance,

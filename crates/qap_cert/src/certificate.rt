@@ -42,12 +42,13 @@ impl Model for Certificate {
 impl Certificate {
     /// The certificate of this cost, this bound, this permutation and this tree, where they have the shape of one.
     ///
-    /// No memory is taken. Where the call refuses, it tells the first fault in order of the lines that the certificate's
-    /// text would have, and the permutation and the tree come back: `BadLine(3)` for a cost outside -10^24 to 10^24,
-    /// `BadLine(5)` for a bound that is above the cost or outside that range, `SplitTooDeep` for a split where no facility
-    /// is free, `FacilityTaken` for a split on a facility that is placed or isn't below the size, `SplitWidth` for one with
-    /// another number of children than there are free locations, `DualCount` for a bound with another number of duals than
-    /// there are free facilities or free locations, and `DualRange` for a dual outside -10^24 to 10^24.
+    /// No memory is taken. Where the call refuses, it reports the first fault in order of the lines that the
+    /// certificate's text would have, and the permutation and the tree come back: `BadLine(3)` for a cost outside
+    /// -10^24 to 10^24, `BadLine(5)` for a bound that is above the cost or outside that range, `SplitTooDeep` for a
+    /// split where no facility is free, `FacilityTaken` for a split on a facility that is placed or isn't below the
+    /// size, `SplitWidth` for one with another number of children than there are free locations, `DualCount` for a
+    /// bound with another number of duals than there are free facilities or free locations, and `DualRange` for a dual
+    /// outside -10^24 to 10^24.
     pub fn new(
         cost: i128,
         bound: i128,

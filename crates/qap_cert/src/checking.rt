@@ -40,10 +40,11 @@ pub(crate) struct Parent<'a> {
 /// Whether the certificate shows, by what it says alone, that no permutation of the instance costs less than its bound. Where
 /// the bound is the cost, that is the least cost.
 ///
-/// The permutation is to be of the instance's size (`SizeDiffers(2)` if not) and to have the cost (`CostDiffers(3)`). Then
-/// the bounds of the tree, in preorder, are each to have duals that fit the reduced matrix of their part (`NotFeasible`)
-/// and that come, with the cost of the placed facilities, to the certificate's bound at least (`BoundTooLow`). The first that
-/// fails is told by the line that it has in the certificate's text. `OutOfMemory` says nothing of the certificate.
+/// The permutation is to be of the instance's size (`SizeDiffers(2)` if not) and to have the cost (`CostDiffers(3)`).
+/// Then the bounds of the tree, in preorder, are each to have duals that fit the reduced matrix of their part
+/// (`NotFeasible`) and that reach, with the cost of the placed facilities, the certificate's bound at least
+/// (`BoundTooLow`). The first that fails is reported by the line that it has in the certificate's text. `OutOfMemory`
+/// says nothing of the certificate.
 pub fn check(alloc: Global, instance: &Instance, certificate: &Certificate) -> Result<(), CertError>
     ensures verdict { MatchResult result
         (λ done. Certifies instance.now certificate.now)

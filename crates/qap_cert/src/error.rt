@@ -5,7 +5,7 @@ use qap_lines::WriteError;
 use std::alloc::AllocError;
 use thiserror::Error;
 
-/// Why a certificate is refused. Lines are counted from 1; a line past 2^64 - 1 is told by that number.
+/// Why a certificate is refused. Lines are counted from 1; a line past 2^64 - 1 is reported by that number.
 #[derive(Clone, Copy, Debug, PartialEq, Eq, Error)]
 pub enum CertError {
     /// The certificate is of another size than the instance.
@@ -65,7 +65,7 @@ impl CertError {
     ghost use Rattle.std.specs.Prelude.{◌≡◌};
     ghost use Rattle.qap_cert.specs.Refusal.{certificate_refusal};
 
-    /// The refusal that the fault is told as: its number, its name, and its line where it has one.
+    /// The refusal that the fault is reported as: its number, its name, and its line where it has one.
     pub fn refusal(self) -> Refusal
         ensures { result ≡ certificate_refusal self }
     {

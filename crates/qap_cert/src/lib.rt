@@ -1,5 +1,5 @@
-//! Certificates of least costs and of bounds on them: what a tree has to show, why that is enough, and what tells whether it
-//! does.
+//! Certificates of least costs and of bounds on them: what a tree has to show, why that is enough, and what decides
+//! whether it does.
 #![tactic(auto)]
 
 mod acceptance;

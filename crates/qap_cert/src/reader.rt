@@ -48,7 +48,7 @@ struct Bounded<'a> {
 ///
 /// A text has one line each for the version, the size, the cost and the permutation, in version 2 a line for a bound that is
 /// below the cost, a line for each node of the tree in preorder, and a last line. Each certificate has one text in each
-/// version that can hold it. The first fault in order of lines is told.
+/// version that can hold it. The first fault in order of lines is reported.
 pub fn read(alloc: Global, text: &[u8]) -> Result<Certificate, CertError>
     ensures { MatchResult result
         (IsCertificateText text.now)

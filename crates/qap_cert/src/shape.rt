@@ -16,7 +16,7 @@ use crate::tree::Tree;
 use number_list::Numbers;
 use qap_lines::are_limited;
 
-/// The line behind those of a tree that begins at this line, in which these of so many facilities are placed; or what is
+/// The line behind those of a tree that begins at this line, in which these of `size` facilities are placed; or what is
 /// wrong with its shape.
 #[cycle(shape)]
 pub(crate) fn judge_tree(
@@ -60,7 +60,7 @@ fn judge_trees(trees: &[Tree], size: usize, placed: &Placed, line: u64) -> Resul
     Ok(next)
 }
 
-/// Whether a split may be on this facility and have so many children.
+/// Whether a split may be on this facility and have this many children.
 fn judge_split(
     facility: u16,
     children: usize,
@@ -100,14 +100,14 @@ pub(crate) fn judge_facility(
     Ok(())
 }
 
-/// Whether the facility is one of so many, and not among those placed.
+/// Whether the facility is one of `size`, and not among those placed.
 fn is_free(facility: u16, size: usize, placed: &Placed) -> bool
     ensures { IsTrue result ↔ IsFree size placed.now facility }
 {
     usize::from(facility) < size && !placed.has(facility)
 }
 
-/// Whether there is a dual for each of so many facilities and locations, and all are within -10^24 to 10^24.
+/// Whether there is a dual for each of `free` facilities and locations, and all are within -10^24 to 10^24.
 fn judge_duals(u: &Numbers<'_>, v: &Numbers<'_>, free: usize, line: u64) -> Result<(), CertError>
     ensures { MatchResult result
         (λ done. AreDuals free (numbers_in u.now) (numbers_in v.now))

@@ -45,7 +45,7 @@ pub(crate) fn skim_tree<'a>(
     skim_trees(alloc, first.rest, grammar, &inner, next, count)
 }
 
-/// The same for so many children of a split, behind which these facilities are placed.
+/// The same for this many children of a split, behind which these facilities are placed.
 #[cycle(skimming)]
 pub(crate) fn skim_trees<'a>(
     alloc: Global,

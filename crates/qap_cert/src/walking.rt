@@ -174,7 +174,7 @@ fn judge_child<'a>(
     judge_tree(buffers, task, &part, text, placed, line)
 }
 
-/// Judges the line of a bound, and tells what keeps its duals from closing the node, if something does.
+/// Judges the line of a bound, and reports what keeps its duals from closing the node, if something does.
 fn judge_bound(
     buffers: &mut Buffers,
     task: &Task<'_>,

@@ -17,6 +17,7 @@ use Rattle.qap_check.specs.declared.refusal.RunError.TheVariants.{Device}
 use Rattle.qap_check.specs.declared.source.Separators.TheVariants.{Kept, PassedOver}
 use Rattle.qap_check.specs.declared.valuation.Valuation.{Valuation}
 
+-- where the stream of a solution's value has no answer, the question of a value has none, for the same reason
 pub no_value : {R S W : Type 0} (s : Source R S) (q : Question) (contents : W → Option (List ℕ)) (old new : CountedDevice W) (e : RunError) →
     q ≡ Value →
     ((HasNoTexts s e ⊎ ComeTo s Kept IsNoSolution e) × (new ≡ old))
@@ -29,6 +30,7 @@ no_value s q contents old new e is h =
       | inr broken ↦ inr (broken.0, record { text = lines_of broken.1; status = match_status broken.1.found; comes = (broken.1, broken.2, refl, refl); broken = broken.3 })
     ])
 
+-- the same for the stream of a certificate and the question of an optimum
 pub no_optimum : {R S W : Type 0} (s : Source R S) (q : Question) (contents : W → Option (List ℕ)) (old new : CountedDevice W) (e : RunError) →
     q ≡ Optimal →
     ((HasNoTexts s e ⊎ ComeTo s PassedOver IsNoProof e) × (new ≡ old))

@@ -25,6 +25,7 @@ between_ends : (separators : Separators) (rest : List ℕ) → EndsWith rest (be
 between_ends Kept rest = record { front = []; is = refl }
 between_ends PassedOver rest = separators_end rest
 
+-- what follows an instance, with its separators or without, is at the end of the text
 pub behind_ends : (separators : Separators) (text rest behind : List ℕ) (stop : ℕ) → rest ≡ drop stop text → behind ≡ between separators rest → EndsWith text behind
 behind_ends separators text rest behind stop follows is =
     let last = between_ends separators rest in record {
@@ -33,6 +34,7 @@ behind_ends separators text rest behind stop follows is =
           ∙ sym (append_assoc (take stop text) last.front (between separators rest)) ∙ ap (λ l. (take stop text ++ last.front) ++ l) (sym is);
     }
 
+-- what is at the end of a text is no longer than the text
 pub EndsWith-length : (text last : List ℕ) → EndsWith text last → length last ≤ length text
 EndsWith-length text last h = omega (arith, ap length h.is, length-append h.front last)
 

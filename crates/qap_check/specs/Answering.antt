@@ -1,4 +1,4 @@
--- What a run of the checker comes to, whichever question it was asked.
+-- What a run of the checker yields, whichever question it was asked.
 use Rattle.std.specs.Prelude.{◌≡◌, ℕ, ◌⊎◌, List, Option}
 use Rattle.qap_io.specs.Counting.{CountedDevice}
 use Rattle.qap_io.specs.Refusal.{refusal_line}
@@ -18,7 +18,7 @@ use Rattle.qap_check.specs.declared.refusal.RunError.TheVariants.{Device}
 use Rattle.qap_check.specs.declared.source.Separators.TheVariants.{Kept, PassedOver}
 use Rattle.qap_check.specs.declared.valuation.Valuation.{Valuation}
 
--- what the texts come to that the question is about has this text as its answer, which ends with this status
+-- what the texts yield that the question is about has this text as its answer, which ends with this status
 abbrev pub ComesTo : {R S : Type 0} → Source R S → Question → List ℕ → Status → Type 0
 ComesTo s Value text status = (v : Valuation) × ComeTo s Kept AnswersSolution v × (text ≡ lines_of v) × (status ≡ match_status v.found)
 ComesTo s Optimal text status = (v : Verdict) × ComeTo s PassedOver Proves v × (text ≡ answer_line v) × (status ≡ Done)
@@ -50,7 +50,8 @@ HasNotAnswered s question contents old new e =
 abbrev pub HasTold : {E : Type 0} → (E → Option (List ℕ)) → CountedDevice E → CountedDevice E → RunError → Type 0
 HasTold contents old new e = Sends contents old new (refusal_line (refusal_of e)) ⊎ BreaksOff contents old new (refusal_line (refusal_of e))
 
--- The run ended with this exit status: that of its answer, with nothing told of a refusal, or that of why there is none, which was told.
+-- The run ended with this exit status: that of its answer, with nothing reported of a refusal, or that of why there is
+-- none, which was reported.
 abbrev pub HasRun : {R S W E : Type 0} → Source R S → Question → (W → Option (List ℕ)) → CountedDevice W → CountedDevice W
     → (E → Option (List ℕ)) → CountedDevice E → CountedDevice E → ℕ → Type 0
 HasRun s question contents old new told errors errors_after exit =

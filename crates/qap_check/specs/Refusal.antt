@@ -1,4 +1,4 @@
--- Why a run answers no verdict, and how that is told.
+-- Why a run answers no verdict, and how that is reported.
 use Rattle.std.specs.Prelude.{◌≡◌, ℕ, ◌⊎◌, List, Option, Some, None, codes}
 use Rattle.qap_cost.specs.Instance.{Problem}
 use Rattle.qap_io.specs.Counting.{CountedDevice}
@@ -17,12 +17,13 @@ use Rattle.qap_check.specs.declared.refusal.RunError.{RunError}
 use Rattle.qap_check.specs.declared.refusal.RunError.TheVariants.{Text, Certificate, OutOfMemory, Device}
 use Rattle.qap_check.specs.Source.{Source, SecondWaits, KeepsCounts}
 
--- what a fault of a text, or of a certificate, is for the run: want of memory and a failed device are the run's own
+-- what a fault of a text is for the run: want of memory and a failed device are the run's own
 abbrev pub of_text : TextError → RunError
 of_text TextMemory = OutOfMemory
 of_text TextDevice = Device
 of_text e = Text e
 
+-- the same for a fault of a certificate
 abbrev pub of_certificate : CertError → RunError
 of_certificate CertificateMemory = OutOfMemory
 of_certificate CertificateDevice = Device
@@ -35,6 +36,7 @@ pub record NoInstance {R S : Type 0} (s : Source R S) (e : RunError) : Type 0 wh
   pub of_input : HasNoInstance s.first fault
   pub waits : s.second_after ≡ s.second
 
+-- there is a second reader, and its bytes can't be read within the limit
 abbrev pub IsSecondFault : {S : Type 0} → (S → Option (List ℕ)) → Option (CountedDevice S) → Option (CountedDevice S) → TextError → Type 0
 IsSecondFault bytes (Some old) (Some new) e = IsReadFault bytes max_input old new e
 IsSecondFault bytes _ _ e = ⊥
@@ -66,7 +68,7 @@ IsNoSolution I text e = (fault : TextError) × (e ≡ of_text fault) × IsSoluti
 abbrev pub IsNoProof : Problem → List ℕ → RunError → Type 0
 IsNoProof I text e = (fault : CertError) × (e ≡ of_certificate fault) × IsRefused I text fault
 
--- the refusal that a run is told as
+-- the refusal that reports a run's error
 abbrev pub refusal_of : RunError → RefusalText
 refusal_of (Text e) = text_refusal e
 refusal_of (Certificate e) = certificate_refusal e

@@ -16,6 +16,7 @@ pub record Source (R S : Type 0) : Type 0 where
   pub second : Option (CountedDevice S)
   pub second_after : Option (CountedDevice S)
 
+-- the source with these readers, before and after
 abbrev pub source_of : {R S : Type 0} → (R → Option (List ℕ)) → CountedDevice R → CountedDevice R
     → (S → Option (List ℕ)) → Option (CountedDevice S) → Option (CountedDevice S) → Source R S
 source_of bytes before after second_bytes second second_after =
@@ -38,7 +39,7 @@ pub record HasTexts {R S : Type 0} (s : Source R S) (separators : Separators) (I
   pub first : HasInstance s.first I rest
   pub second : IsOtherText s.second_bytes s.second s.second_after (between separators rest) other
 
--- what an instance and the text that goes with it come to
+-- what an instance and the text that goes with it yield
 pub record ComeTo {R S A : Type 0} (s : Source R S) (separators : Separators) (P : Problem → List ℕ → A → Type 0) (answer : A) : Type 0 where
   pub instance : Problem
   pub other : List ℕ
@@ -49,6 +50,7 @@ pub record ComeTo {R S A : Type 0} (s : Source R S) (separators : Separators) (P
 abbrev pub SecondWaits : {R S : Type 0} → Source R S → Type 0
 SecondWaits s = (s.second_after ≡ s.second) ⊎ ((I : Problem) × (rest : List ℕ) × HasInstance s.first I rest)
 
+-- no call of the second reader failed, where there is one
 abbrev pub KeepsCount : {S : Type 0} → Option (CountedDevice S) → Option (CountedDevice S) → Type 0
 KeepsCount None None = Unit {0}
 KeepsCount (Some old) (Some new) = new.failures ≡ old.failures

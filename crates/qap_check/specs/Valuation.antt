@@ -1,4 +1,4 @@
--- What an instance and a solution come to: two costs, the value that was stated, and which of the costs it is.
+-- What an instance and a solution yield: two costs, the value that was stated, and which of the costs it is.
 use Rattle.std.specs.Prelude.{◌≡◌, ◌≢◌, ℕ, List, ◌++◌, ℤ, codes}
 use Rattle.std.specs.Fmt.{signed_decimal}
 use Rattle.qap_cost.specs.Bijection.{IsInverse}
@@ -33,6 +33,7 @@ pub record AnswersSolution (I : Problem) (text : List ℕ) (v : Valuation) : Typ
   pub solution_text : IsSolutionText text I.size value permutation
   pub judged : Judges I permutation value v
 
+-- the word for each way in which a stated value meets the costs
 abbrev pub match_name : Match → List ℕ
 match_name Direct = codes "direct"
 match_name Inverse = codes "inverse"

@@ -13,8 +13,8 @@ use qap_io::{Counted, Status};
 use std::alloc::Global;
 use std::io::{Read, Write};
 
-/// Answers a question on the output, and tells the exit status. Where there is no answer, the line of the refusal goes to the
-/// other writer; that it could not be written changes no status.
+/// Answers a question on the output, and returns the exit status. Where there is no answer, the line of the refusal
+/// goes to the other writer; that it could not be written changes no status.
 ///
 /// Without a second reader both texts come from the first one.
 pub fn answered<R: Read, S: Read, W: Write, E: Write>(
@@ -34,7 +34,7 @@ pub fn answered<R: Read, S: Read, W: Write, E: Write>(
     }
 }
 
-/// Answers a question on the output, and tells how the run ends.
+/// Answers a question on the output, and returns how the run ends.
 fn answer<R: Read, S: Read, W: Write>(
     alloc: Global,
     question: Question,

@@ -4,7 +4,7 @@ use clap::{Arg, Command};
 use qap_command::CommandError;
 use std::alloc::{AllocError, Global};
 
-/// The line that tells how the program is used.
+/// The line that shows how the program is used.
 pub const USAGE: &str = "usage: qapcheck value|optimal [INSTANCE OTHER]";
 
 /// What is asked for, and of which texts.

@@ -47,7 +47,8 @@ const WORKED: [Worked; 4] = [
     },
 ];
 
-/// The line that tells why this beginning of an instance and a certificate is refused: `instance` is the instance's length.
+/// The line that says why this beginning of an instance and a certificate is refused: `instance` is the instance's
+/// length.
 fn fault_of(alloc: Global, beginning: &[u8], instance: usize) -> Result<String, AllocError> {
     let feeds = beginning.iter().filter(|byte| **byte == b'\n').count();
     if beginning.is_empty() {
@@ -105,7 +106,7 @@ fn failing<T>(device: T, call: usize) -> Counted<OneByte<FailAt<T>>> {
     Counted::new(OneByte::new(FailAt::new(device, call.max(1) as u64)))
 }
 
-/// What a question comes to: the answer, how many calls of each reader and of the writer failed, and what went out.
+/// What a question yields: the answer, how many calls of each reader and of the writer failed, and what went out.
 #[derive(Drop)]
 struct Reply {
     answer: Result<Status, RunError>,
@@ -168,7 +169,8 @@ fn assert_first_fails(rt: &impl Abort, alloc: Global, worked: &Worked) {
     }
 }
 
-// The calls are the reads of a byte each, and the read that tells the end. Where one fails, the second input stays unread.
+// The calls are the reads of a byte each, and the read that finds the end. Where one fails, the second input stays
+// unread.
 #[test]
 fn first_input_fails(rt: HostRuntime) {
     for worked in &WORKED {
@@ -296,7 +298,7 @@ fn output_fails(rt: HostRuntime) {
     }
 }
 
-/// Whether the line that tells an error fails where a call of the writer fails so, and what became of the writer.
+/// Whether the line that reports an error fails where a call of the writer fails so, and what became of the writer.
 fn line_fails_at(alloc: Global, error: &RunError, call: usize) -> (bool, Ended) {
     let mut errors = failing(Vec::new(alloc), call);
     let failed = fault_line(error, &mut errors).is_err();

@@ -1,4 +1,4 @@
-//! Runs over memory: what is written, what is told, and the exit status.
+//! Runs over memory: what is written, what is reported, and the exit status.
 
 use crate::command_line::{Files, Question, Request, USAGE, parse};
 use crate::optimal::optimal_stream;
@@ -298,7 +298,7 @@ fn one_input(rt: HostRuntime) {
     assert_run(&rt, rt.alloc(), two_files, (lines, b"", 0));
 }
 
-/// Asserts the fault for which a certificate is refused, as `refused` tells it.
+/// Asserts the fault for which a certificate is refused, as `refused` reports it.
 fn assert_refused(
     rt: &impl Abort,
     alloc: Global,

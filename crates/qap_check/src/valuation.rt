@@ -1,4 +1,4 @@
-//! What an instance and a solution come to.
+//! What an instance and a solution yield.
 
 ghost use Rattle.std.specs.Prelude.{◌≡◌, IfOk, length, string_bytes};
 

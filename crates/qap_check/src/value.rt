@@ -16,8 +16,8 @@ use qap_text::read_solution;
 use std::alloc::Global;
 use std::io::{Read, Write};
 
-/// Reads an instance and a solution of it, and writes what they come to as four lines: the permutation's cost, that of its
-/// inverse, the value that the solution states, and which of the two costs that is.
+/// Reads an instance and a solution of it, and writes what they yield as four lines: the permutation's cost, that of
+/// its inverse, the value that the solution states, and which of the two costs that is.
 ///
 /// Without a second reader both texts come from the first one, one after the other; else the solution's is all that the
 /// second reader has. The instance is judged before the second reader is read. Where the input is refused, nothing is
@@ -41,7 +41,7 @@ pub fn value_stream<R: Read, S: Read, W: Write>(
     Ok(valuation.found)
 }
 
-/// What an instance and a solution come to.
+/// What an instance and a solution yield.
 fn judged<R: Read, S: Read>(
     alloc: Global,
     reader: &mut Counted<R>,
@@ -53,7 +53,7 @@ fn judged<R: Read, S: Read>(
     answer(alloc, &texts.instance, texts.other.as_slice())
 }
 
-/// What an instance and a solution's text come to.
+/// What an instance and a solution's text yield.
 fn answer(alloc: Global, instance: &Instance, text: &[u8]) -> Result<Valuation, RunError>
     ensures { MatchResult result
         (AnswersSolution instance.now text.now)

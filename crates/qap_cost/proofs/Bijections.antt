@@ -76,7 +76,7 @@ inverse-IsBijection p q b v = record {
       sym (v.back k (omega (arith, v.same_length))) ∙ ap (λ x. get_or p x 0) e ∙ v.back l (omega (arith, v.same_length));
 }
 
--- facility i stands at location k just where location k has facility i
+-- facility i stands at location k if and only if location k has facility i
 same_test : (p q : List ℕ) → IsInverse p q → (i k : ℕ) → i < length p → k < length p → nat_eq k (get_or p i 0) ≡ nat_eq i (get_or q k 0)
 same_test p q v i k hi hk =
     elim (cases_eq k (get_or p i 0)) [
@@ -111,6 +111,7 @@ IsInverse-from_there p q b same there = record {
       ap (λ x. get_or p (get_or q x 0) 0) (sym r.2) ∙ ap (λ x. get_or p x 0) (there r.0 r.1) ∙ r.2;
 }
 
+-- the inverse of a permutation is a permutation
 pub inverse-IsPerm : (p q : List ℕ) → IsPerm p → IsInverse p q → IsPerm q
 inverse-IsPerm p q b v = record {
   bijection = inverse-IsBijection p q b.bijection v;

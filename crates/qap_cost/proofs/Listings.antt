@@ -74,6 +74,7 @@ clones_same clones same n pool (d ∷ ds) (v ∷ vs) is below h =
 clones_same clones same n pool [] (v ∷ vs) is below h = elim h [ ]
 clones_same clones same n pool (d ∷ ds) [] is below h = elim h [ ]
 
+-- a permutation that the listing yields at a step is that of the next ranks
 pub Came-at : {E : Type 0} (clones : ℕ → ℕ → Type 0) → ((a b : ℕ) → clones a b → b ≡ a) → (I : Problem) (s t : Permutations ℕ Global) (best : Option (ℤ × List ℕ)) (item : Result (Vec ℕ Global) E) (v : Vec ℕ Global) → Covers I s best → item ≡ Ok v → pool_steps permutation_left (λ u. u.pool.items) (reads_ranks clones) s (Some item) t → Came I s t v.items
 Came-at {E} clones same I s t best item v h is steps =
     let at : pool_steps {E = E} permutation_left (λ u. u.pool.items) (reads_ranks clones) s (Some (Ok v)) t =
@@ -94,6 +95,7 @@ Came-at {E} clones same I s t best item v h is steps =
       permutes = subst (Permutes I) (sym given) (record { bijection = is.0; same_size = is.1 });
     }
 
+-- before the first step, with no best one yet, each permutation is still to come
 pub Covers-none : (I : Problem) (s : Permutations ℕ Global) → s.pool.items ≡ range_with_len 0 I.size → permutation_left s ≡ rank_ways I.size I.size [] → Covers I s None
 Covers-none I s pool left = record {
   pool = pool;
@@ -128,6 +130,7 @@ below_both I (Some b) next new (inr e) old is =
     let less : next.0 ≤ℤ b.0 = e.1 in
     (subst (Reached I) (sym e.0) is, omega (arith, ints), λ x h. omega (arith, ints))
 
+-- after a step the cheaper of the best one so far and the one that came is the best one
 pub Covers-more : (I : Problem) (s t : Permutations ℕ Global) (best : Option (ℤ × List ℕ)) (xs : List ℕ) (next new : ℤ × List ℕ) → Covers I s best → Came I s t xs → next.0 ≡ cost_of I next.1 → next.1 ≡ xs → IsCheaper best next new → Covers I t (Some new)
 Covers-more I s t best xs next new h came cost is cheaper =
     let b = below_both I best next new cheaper h.reached (cost, subst (Permutes I) (sym is) came.permutes) in
@@ -153,6 +156,7 @@ Covers-more I s t best xs next new h came cost is cheaper =
 
 -- ---- the end
 
+-- at the end of the listing the best one is a permutation with its cost, which is the least
 pub Covers-all : (I : Problem) (s : Permutations ℕ Global) (best : Option (ℤ × List ℕ)) (b : ℤ × List ℕ) → Covers I s best → permutation_left s ≡ [] → best ≡ Some b → Reached I b × IsLeast I b.0
 Covers-all I s best b h end is =
     let reached : Reached I b = subst (λ (o : Option (ℤ × List ℕ)). IfSome o (Reached I)) is h.reached in (
@@ -167,6 +171,7 @@ Covers-all I s best b h end is =
       },
     )
 
+-- at the end of the listing there is a best one
 pub Covers-some : (I : Problem) (s : Permutations ℕ Global) (best : Option (ℤ × List ℕ)) → Covers I s best → permutation_left s ≡ [] → best ≡ None → ⊥
 Covers-some I s best h end is =
     elim (h.least (numbers 0 I.size) (record { bijection = numbers-IsBijection I.size; same_size = length-numbers 0 I.size })) [
@@ -174,6 +179,7 @@ Covers-some I s best h end is =
       | inr known ↦ subst (λ (o : Option (ℤ × List ℕ)). IsSomeAnd o (λ c. c.0 ≤ℤ cost_of I (numbers 0 I.size))) is known
     ]
 
+-- what came at a step is a permutation of 1 to 256 numbers
 pub Came-IsPerm : (I : Problem) (s t : Permutations ℕ Global) (xs : List ℕ) → IsInstance I → Came I s t xs → IsPerm xs
 Came-IsPerm I s t xs is came = record {
   bijection = came.permutes.bijection;

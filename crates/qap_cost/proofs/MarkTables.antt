@@ -6,11 +6,12 @@ use Rattle.std.proofs.lemmas.List.{get_or-replicate, get_or-set_same, get_or-set
 use Rattle.std.proofs.lemmas.List.Folds.{list_any_more}
 use Rattle.std.proofs.lemmas.Bool.{cases_eq, ne_eqb, eq-eqb, or_right}
 
--- the table tells of each number whether it is among the first n of a list
+-- the table has for each number whether it is among the first n of a list
 pub record Marks (numbers : List ℕ) (marks : List Bool) (n : ℕ) : Type 0 where
   pub size : length marks ≡ 256
   pub tells : (k : ℕ) → k < 256 → get_or marks k false ≡ list_any (nat_eq k) (take n numbers)
 
+-- a table without marks is that of no number
 pub Marks-none : (numbers : List ℕ) → Marks numbers (replicate 256 false) 0
 Marks-none numbers = record { size = refl; tells = λ k h. get_or-replicate 256 k false false h }
 
@@ -18,6 +19,7 @@ or_false : (b c : Bool) → c ≡ false → (b || c) ≡ b
 or_false true c e = refl
 or_false false c e = e
 
+-- with the next number's mark the table is that of one number more
 pub Marks-more : (numbers : List ℕ) (marks : List Bool) (n l : ℕ) → Marks numbers marks n → n < length numbers → l ≡ get_or numbers n 0 → l < 256 → Marks numbers (set marks l true) (n + 1)
 Marks-more numbers marks n l h below is small =
     let fits : l < length marks = omega (arith, h.size) in
@@ -33,5 +35,6 @@ Marks-more numbers marks n l h below is small =
           ];
     }
 
+-- once all numbers are marked, a number below 256 is marked if and only if the list has it
 pub Marks-all : (numbers : List ℕ) (marks : List Bool) (n : ℕ) → Marks numbers marks n → length numbers ≤ n → (k : ℕ) → k < 256 → get_or marks k false ≡ list_any (nat_eq k) numbers
 Marks-all numbers marks n h all k below = h.tells k below ∙ ap (list_any (nat_eq k)) (take_all n numbers all)

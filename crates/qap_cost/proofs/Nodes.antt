@@ -11,11 +11,13 @@ use Rattle.qap_cost.specs.Placement.{Placement, IsPlacement, IsFreeFacility, IsF
 use Rattle.qap_cost.proofs.Bijections.{inverse_of, inverse-IsBijection, sum_to-in_order}
 use Rattle.qap_cost.proofs.Sums.{sum_to-same}
 
+-- each permutation completes the root
 pub root_completed : (n : ℕ) (p : List ℕ) → IsBijection p → length p ≡ n → Completes (root_of n) p
 root_completed n p b same = record { bijection = b; same_size = same; agrees = λ t below. absurd (omega arith) }
 
 -- ---- a child
 
+-- a permutation that completes a node completes the child at the free location where it puts the free facility f
 pub child_of : (x : Placement) (f : ℕ) (p : List ℕ) → IsPlacement x → IsFreeFacility x f → Completes x p → IsFreeLocation x (get_or p f 0) × Completes (placing x f (get_or p f 0)) p
 child_of x f p x_is free h =
     let k = get_or p f 0 in
@@ -45,6 +47,7 @@ child_of x f p x_is free h =
       },
     )
 
+-- a permutation that completes a child puts the child's facility at the child's location
 pub child_is : (x : Placement) (f k : ℕ) (p : List ℕ) → IsPlacement x → Completes (placing x f k) p → get_or p f 0 ≡ k
 child_is x f k p x_is h =
     let d = length x.facilities in
@@ -52,6 +55,7 @@ child_is x f k p x_is h =
     ∙ h.agrees d (omega (arith, length_push x.facilities f))
     ∙ get_or_push x.places k 0 d x_is.paired
 
+-- a permutation that completes a child completes the node
 pub parent_of : (x : Placement) (f k : ℕ) (p : List ℕ) → IsPlacement x → Completes (placing x f k) p → Completes x p
 parent_of x f k p x_is h = record {
   bijection = h.bijection;
@@ -70,6 +74,7 @@ all_placed x h all = record { within = λ i below. omega (arith, h.facilities.wi
 all_taken : (x : Placement) → IsPlacement x → length x.facilities ≡ x.size → IsBijection x.places
 all_taken x h all = record { within = λ i below. omega (arith, h.paired, h.places.within i below); distinct = h.places.distinct }
 
+-- a node that places all facilities is completed by some permutation
 pub whole_completed : (x : Placement) → IsPlacement x → length x.facilities ≡ x.size → (p : List ℕ) × Completes x p
 whole_completed x h all =
     let n = x.size in
@@ -98,6 +103,7 @@ whole_completed x h all =
       },
     )
 
+-- a node that places all facilities is completed by no more than one permutation
 pub whole_only : (x : Placement) (p q : List ℕ) → IsPlacement x → length x.facilities ≡ x.size → Completes x p → Completes x q → p ≡ q
 whole_only x p q h all a b =
     let F = x.facilities in
@@ -110,6 +116,7 @@ whole_only x p q h all a b =
     ap (λ (j : ℕ). get_or p j 0) (sym is) ∙ a.agrees t placed ∙ sym (b.agrees t placed) ∙ ap (λ (j : ℕ). get_or q j 0) is in
     ext_get_or 0 p q (a.same_size ∙ sym b.same_size) at
 
+-- the permutation that completes a node which places all facilities costs what the node's placed facilities cost
 pub whole_cost : (I : Problem) (x : Placement) (p : List ℕ) → IsPlacement x → I.size ≡ x.size → length x.facilities ≡ x.size → Completes x p → cost_of I p ≡ fixed_cost_of I x
 whole_cost I x p h size all done =
     let d = length x.facilities in

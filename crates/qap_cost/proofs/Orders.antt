@@ -10,6 +10,7 @@ use Rattle.qap_cost.specs.Bijection.{IsBijection}
 
 -- ---- membership
 
+-- y is an item of the list
 abbrev pub IsIn : {A : Type 0} → List A → A → Type 0
 IsIn [] y = ⊥
 IsIn (x ∷ xs) y = (x ≡ y) ⊎ IsIn xs y
@@ -62,11 +63,13 @@ IsIn-numbers_from a zero k h = absurd h
 IsIn-numbers_from a (suc n) k (inl e) = (omega arith, omega arith)
 IsIn-numbers_from a (suc n) k (inr h) = let r = IsIn-numbers_from (a + 1) n k h in (omega (arith, r.0), omega (arith, r.1))
 
+-- a number that is in a list stands at some place of it
 pub IsIn-place : (xs : List ℕ) (y : ℕ) → IsIn xs y → (i : ℕ) × (i < length xs) × (get_or xs i 0 ≡ y)
 IsIn-place [] y h = absurd h
 IsIn-place (x ∷ xs) y (inl e) = (zero, omega arith, e)
 IsIn-place (x ∷ xs) y (inr h) = let r = IsIn-place xs y h in (suc r.0, omega (arith, r.1), r.2)
 
+-- the number at a place of a list is in the list
 pub IsIn-get_or : (xs : List ℕ) (i : ℕ) → i < length xs → IsIn xs (get_or xs i 0)
 IsIn-get_or [] i h = absurd (omega arith)
 IsIn-get_or (x ∷ xs) zero h = inl refl
@@ -79,12 +82,14 @@ abbrev pub RanksFit : ℕ → List ℕ → Type 0
 RanksFit m [] = Unit {0}
 RanksFit m (d ∷ ds) = (d < m) × RanksFit (m - 1) ds
 
+-- the lists of m ranks that may follow the ranks q, for a pool of n numbers from which each takes one out
 abbrev pub rank_ways : ℕ → ℕ → List ℕ → List (List ℕ)
 rank_ways n m q = ways (λ _. 0) (λ r. n - length r) m q
 
 left_after : (n d : ℕ) (q : List ℕ) → n - length (q ++ d ∷ []) ≡ n - length q - 1
 left_after n d q = omega (arith, length-append q (d ∷ []))
 
+-- a list of m ranks, each below the count of what is left, is among those listed
 pub IsIn-rank_ways : (n m : ℕ) (q ds : List ℕ) → length ds ≡ m → RanksFit (n - length q) ds → IsIn (rank_ways n m q) ds
 IsIn-rank_ways n zero q [] e f = inl refl
 IsIn-rank_ways n zero q (d ∷ ds) e f = absurd (omega arith)
@@ -96,6 +101,7 @@ IsIn-rank_ways n (suc m) q (d ∷ ds) e f =
     (IsIn-map (λ ks. d ∷ ks) (rank_ways n m (q ++ d ∷ [])) ds
     (IsIn-rank_ways n m (q ++ d ∷ []) ds (omega arith) (subst (λ l. RanksFit l ds) (sym (left_after n d q)) f.1)))
 
+-- each list among those listed has m ranks, each below the count of what is left
 pub IsIn-rank_ways_from : (n m : ℕ) (q ds : List ℕ) → IsIn (rank_ways n m q) ds → (length ds ≡ m) × RanksFit (n - length q) ds
 IsIn-rank_ways_from n zero q ds (inl e) = (sym (ap length e), subst (RanksFit (n - length q)) e tt)
 IsIn-rank_ways_from n zero q ds (inr h) = absurd h
@@ -184,6 +190,7 @@ numbers-Apart : (a n : ℕ) → Apart (numbers a n)
 numbers-Apart a zero = tt
 numbers-Apart a (suc n) = (λ h. let r = IsIn-numbers_from (a + 1) n a h in absurd (omega (arith, r.0)), numbers-Apart (a + 1) n)
 
+-- there are n numbers from a on
 pub length-numbers : (a n : ℕ) → length (numbers a n) ≡ n
 length-numbers a zero = refl
 length-numbers a (suc n) = ap suc (length-numbers (a + 1) n)
@@ -216,6 +223,7 @@ each_listed n p b same =
     IsIn-numbers 0 n y (omega arith) (omega (arith, place.2, b.within place.0 place.1))) in
     (r.0, IsIn-rank_ways n n [] r.0 (r.3 ∙ same) (subst (λ m. RanksFit m r.0) (length-numbers 0 n ∙ all_left n) r.2), r.1)
 
+-- ranks give one number each
 pub length-unranked : (free ds : List ℕ) → length (unranked free ds) ≡ length ds
 length-unranked free [] = refl
 length-unranked free (d ∷ ds) = ap suc (length-unranked (remove free d) ds)

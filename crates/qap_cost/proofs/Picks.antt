@@ -71,15 +71,18 @@ filter-range_more p n =
     ∙ filter_of_map_range_with_len_more p (λ k. k) 0 n n (omega arith)
     ∙ ap (λ xs. filter p xs ++ cond (p n) (n ∷ []) []) (map-id (range_with_len 0 n))
 
+-- where n passes the test, the numbers below n + 1 that pass are those below n and n itself
 pub filter-range_take : (p : ℕ → Bool) (n : ℕ) → p n ≡ true → filter p (range_with_len 0 (n + 1)) ≡ filter p (range_with_len 0 n) ++ n ∷ []
 filter-range_take p n e = filter-range_more p n ∙ ap (λ c. filter p (range_with_len 0 n) ++ c) (cond-true (p n) (n ∷ []) [] e)
 
+-- where n fails the test, the numbers below n + 1 that pass are those below n
 pub filter-range_skip : (p : ℕ → Bool) (n : ℕ) → p n ≡ false → filter p (range_with_len 0 (n + 1)) ≡ filter p (range_with_len 0 n)
 filter-range_skip p n e =
     filter-range_more p n
     ∙ ap (λ c. filter p (range_with_len 0 n) ++ c) (cond-false (p n) (n ∷ []) [] e)
     ∙ append-nil (filter p (range_with_len 0 n))
 
+-- filtering the numbers below n gives each that passes the test, once and in order
 pub PicksBelow-filter : (p : ℕ → Bool) (n : ℕ) → PicksBelow p n (filter p (range_with_len 0 n))
 PicksBelow-filter p zero = PicksBelow-none p
 PicksBelow-filter p (suc n) =
@@ -97,9 +100,11 @@ place_from_any xs k e =
     let found = Any-from_list_any (nat_eq k) xs e in
     (found.0, found.2, get_or_default xs found.0 0 found.1 found.2 ∙ found.3 ∙ sym (eqb-true k found.1 found.4))
 
+-- a number that stands at some place of a list is found there
 pub any_from_place : (xs : List ℕ) (k i : ℕ) → i < length xs → get_or xs i 0 ≡ k → list_any (nat_eq k) xs ≡ true
 any_from_place xs k i h e = list_any_at (nat_eq k) xs i 0 h (eq-eqb k (get_or xs i 0) (sym e))
 
+-- a list whose numbers differ from place to place has none twice
 pub IsDistinct-from_places : (xs : List ℕ) → ((i j : ℕ) → i < j → j < length xs → get_or xs i 0 ≢ get_or xs j 0) → IsDistinct nat_eq xs
 IsDistinct-from_places xs h =
     IsDistinct-from_apart nat_eq xs (λ i j d before below.

@@ -17,13 +17,14 @@ use Rattle.qap_cost.specs.Sum.{sum_to}
 use Rattle.qap_cost.proofs.Sums.{sum_to-same}
 use Rattle.qap_cost.proofs.Picks.{PicksBelow, PicksBelow-filter, place_from_any, any_from_place, IsDistinct-from_places}
 
--- a number passes the test just where it isn't taken
+-- a number passes the test if and only if it isn't taken
 pub untaken_from_test : (taken : List ℕ) (k : ℕ) → is_untaken taken k ≡ true → (i : ℕ) → i < length taken → get_or taken i 0 ≢ k
 untaken_from_test taken k e i h same =
     let none : list_any (nat_eq k) taken ≡ false = not-true (list_any (nat_eq k) taken) e in
     let some : list_any (nat_eq k) taken ≡ true = any_from_place taken k i h same in
     cc
 
+-- a number that isn't taken passes the test for it
 pub test_from_untaken : (taken : List ℕ) (k : ℕ) → ((i : ℕ) → i < length taken → get_or taken i 0 ≢ k) → is_untaken taken k ≡ true
 test_from_untaken taken k h =
     not_from_false (list_any (nat_eq k) taken) (false_from_ne_true (list_any (nat_eq k) taken) (λ e.
@@ -93,6 +94,7 @@ AreDifferent-more n k xs h free =
           ];
     }
 
+-- no more facilities are placed than there are
 pub IsPlacement-depth : (x : Placement) → IsPlacement x → length x.facilities ≤ x.size
 IsPlacement-depth x h = AreDifferent-length x.size x.facilities h.facilities
 

@@ -6,6 +6,7 @@ use Rattle.std.proofs.Math.ListN.{get_or-eq_default}
 use borrow.Author.Count.{below_more}
 use Rattle.qap_cost.specs.Bijection.{IsPerm}
 
+-- the first n numbers are different and below the length of the list, and exactly these are marked
 pub record HasSeen (p : List ℕ) (seen : List Bool) (n : ℕ) : Type 0 where
   pub size : length seen ≡ 256
   pub within : (i : ℕ) → i < n → get_or p i 0 < length p
@@ -20,6 +21,7 @@ nothing_marked k =
       | inr past ↦ get_or-eq_default (replicate 256 false) false past
     ]
 
+-- before the first number no number is marked
 pub HasSeen-none : (p : List ℕ) → HasSeen p (replicate 256 false) 0
 HasSeen-none p = record {
   size = refl;
@@ -29,6 +31,7 @@ HasSeen-none p = record {
   only = λ k e. absurd (both_ways (get_or (replicate 256 false) k false) (nothing_marked k) e);
 }
 
+-- a number that isn't marked and is below the length is one seen number more, once it is marked
 pub HasSeen-more : (p : List ℕ) (seen : List Bool) (n k : ℕ) → HasSeen p seen n → n < length p → k ≡ get_or p n 0 → k < length p → length p ≤ 256 → get_or seen k false ≡ false → HasSeen p (set seen k true) (n + 1)
 HasSeen-more p seen n k h below is in_range small unseen =
     let fits : k < length seen = omega (arith, h.size) in

@@ -6,6 +6,7 @@ use Rattle.std.proofs.lemmas.Bool.{cond-true, cond-false, ne_eqb, eqb-true, eqb-
 use borrow.Author.Differences.{up, down, sum_is_lem}
 use Rattle.qap_cost.specs.Sum.{sum_to}
 
+-- multiplication distributes over addition
 pub *ℤ-+ℤ : (c a b : ℤ) → c *ℤ (a +ℤ b) ≡ c *ℤ a +ℤ c *ℤ b
 *ℤ-+ℤ c a b = omega (arith, ints, ap (λ x. up c * x) (sum_is_lem a b), ap (λ x. down c * x) (sum_is_lem a b))
 
@@ -14,6 +15,7 @@ pub sum_to-same : (f g : ℕ → ℤ) (n : ℕ) → ((i : ℕ) → i < n → f i
 sum_to-same f g zero same = refl
 sum_to-same f g (suc n) same = ap₂ ◌+ℤ◌ (sum_to-same f g n (λ i h. same i (omega arith))) (same n (omega arith))
 
+-- a sum of terms that are all 0 is 0
 pub sum_to-zero : (f : ℕ → ℤ) (n : ℕ) → ((i : ℕ) → i < n → f i ≡ pos 0) → sum_to f n ≡ pos 0
 sum_to-zero f zero h = refl
 sum_to-zero f (suc n) h =
@@ -21,10 +23,12 @@ sum_to-zero f (suc n) h =
     let last : f n ≡ pos 0 = h n (omega arith) in
     omega (arith, ints)
 
+-- a sum of sums is the sum of both
 pub sum_to-add : (f g : ℕ → ℤ) (n : ℕ) → sum_to (λ i. f i +ℤ g i) n ≡ sum_to f n +ℤ sum_to g n
 sum_to-add f g zero = refl
 sum_to-add f g (suc n) = let ih = sum_to-add f g n in omega (arith, ints)
 
+-- a constant factor may be taken out of a sum
 pub sum_to-scale : (c : ℤ) (f : ℕ → ℤ) (n : ℕ) → sum_to (λ i. c *ℤ f i) n ≡ c *ℤ sum_to f n
 sum_to-scale c f zero = omega (arith, ints)
 sum_to-scale c f (suc n) = ap (λ s. s +ℤ c *ℤ f n) (sum_to-scale c f n) ∙ sym (*ℤ-+ℤ c (sum_to f n) (f n))
@@ -36,6 +40,7 @@ sum_to-exchange f (suc n) m =
     ap (λ s. s +ℤ sum_to (f n) m) (sum_to-exchange f n m)
     ∙ sym (sum_to-add (λ j. sum_to (λ i. f i j) n) (f n) m)
 
+-- where no term is above the other sum's, neither is the sum
 pub sum_to-monotone : (f g : ℕ → ℤ) (n : ℕ) → ((i : ℕ) → i < n → f i ≤ℤ g i) → sum_to f n ≤ℤ sum_to g n
 sum_to-monotone f g zero h = omega (arith, ints)
 sum_to-monotone f g (suc n) h =
@@ -43,6 +48,7 @@ sum_to-monotone f g (suc n) h =
     let last : f n ≤ℤ g n = h n (omega arith) in
     omega (arith, ints)
 
+-- a sum of n terms no further from 0 than m is no further from 0 than n * m
 pub sum_to-bound : (f : ℕ → ℤ) (n m : ℕ) → ((i : ℕ) → i < n → unsigned_abs (f i) ≤ m) → unsigned_abs (sum_to f n) ≤ n * m
 sum_to-bound f zero m h = omega arith
 sum_to-bound f (suc n) m h =
@@ -54,6 +60,7 @@ sum_to-bound f (suc n) m h =
 abbrev pub only_at : (ℕ → ℤ) → ℕ → ℕ → ℤ
 only_at f k i = cond (nat_eq i k) (f i) (pos 0)
 
+-- a sum that stops before its one term is 0
 pub sum_to-only_past : (f : ℕ → ℤ) (k n : ℕ) → n ≤ k → sum_to (only_at f k) n ≡ pos 0
 sum_to-only_past f k n h =
     sum_to-zero (only_at f k) n (λ i below. cond-false (nat_eq i k) (f i) (pos 0) (ne_eqb i k (λ e. omega arith)))
@@ -80,9 +87,11 @@ pub record AddsUp (total : ℤ) (f : ℕ → ℤ) (n m : ℕ) : Type 0 where
   pub value : total ≡ sum_to f n
   pub small : unsigned_abs total ≤ n * m
 
+-- a sum of one term more adds that term
 pub sum_to-more : (f : ℕ → ℤ) (n : ℕ) → sum_to f (n + 1) ≡ sum_to f n +ℤ f n
 sum_to-more f n = ap (sum_to f) (add-one n)
 
+-- the loop goes on by a term of at most m
 pub AddsUp-more : (total term new : ℤ) (f : ℕ → ℤ) (n m : ℕ) → AddsUp total f n m → term ≡ f n → unsigned_abs term ≤ m → new ≡ total +ℤ term → AddsUp new f (n + 1) m
 AddsUp-more total term new f n m h is small sum = record {
   value = sum ∙ ap₂ ◌+ℤ◌ h.value is ∙ sym (sum_to-more f n);

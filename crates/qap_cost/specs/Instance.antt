@@ -13,6 +13,7 @@ pub record Problem : Type 0 where
 abbrev pub entry : ℕ → List ℤ → ℕ → ℕ → ℤ
 entry n xs i j = slice_index_or xs (i * n + j) (pos 0)
 
+-- a size from 1 to 256, and two matrices of that size with entries from -10^9 to 10^9
 pub record IsInstance (I : Problem) : Type 0 where
   pub positive : 0 < I.size
   pub small : I.size ≤ max_size

@@ -11,6 +11,7 @@ pub record Square : Type 0 where
   pub size : ℕ
   pub entries : List ℤ
 
+-- a size of at most 256, and an entry for each row and each column
 pub record IsMatrix (M : Square) : Type 0 where
   pub small : M.size ≤ max_size
   pub count : length M.entries ≡ M.size * M.size
@@ -28,6 +29,7 @@ pub record Assigns (M : Square) (p : List ℕ) : Type 0 where
 abbrev pub assigned : Square → List ℕ → ℕ → ℤ
 assigned M p i = entry_of M i (slice_index p i)
 
+-- what an assignment costs: the sum of what its rows cost
 abbrev pub assignment_cost : Square → List ℕ → ℤ
 assignment_cost M p = sum_to (assigned M p) M.size
 

@@ -33,9 +33,11 @@ pub record IsFree (n : ℕ) (taken : List ℕ) (k : ℕ) : Type 0 where
   pub within : k < n
   pub untaken : (i : ℕ) → i < length taken → slice_index taken i ≢ k
 
+-- facility f is not placed
 abbrev pub IsFreeFacility : Placement → ℕ → Type 0
 IsFreeFacility x f = IsFree x.size x.facilities f
 
+-- location k is not taken
 abbrev pub IsFreeLocation : Placement → ℕ → Type 0
 IsFreeLocation x k = IsFree x.size x.places k
 
@@ -47,9 +49,11 @@ is_untaken taken k = not (list_any (λ l. k == l) taken)
 abbrev pub free_below : ℕ → List ℕ → List ℕ
 free_below n taken = filter (is_untaken taken) (range_with_len 0 n)
 
+-- the facilities that are not placed, ascending
 abbrev pub free_facilities : Placement → List ℕ
 free_facilities x = free_below x.size x.facilities
 
+-- the locations that are not taken, ascending
 abbrev pub free_locations : Placement → List ℕ
 free_locations x = free_below x.size x.places
 

@@ -10,6 +10,7 @@ pub record AllWithin (limit : ℕ) (xs : List ℤ) : Type 0 where
 abbrev pub InRange : ℤ → Type 0
 InRange x = unsigned_abs x ≤ max_entry
 
+-- each number is from -10^9 to 10^9
 abbrev pub AllInRange : List ℤ → Type 0
 AllInRange xs = AllWithin max_entry xs
 
@@ -17,5 +18,6 @@ AllInRange xs = AllWithin max_entry xs
 abbrev pub IsLimited : ℤ → Type 0
 IsLimited x = unsigned_abs x ≤ max_value
 
+-- each number is from -10^24 to 10^24
 abbrev pub AllLimited : List ℤ → Type 0
 AllLimited xs = AllWithin max_value xs

@@ -17,7 +17,7 @@ fn root(alloc: Global, n: usize) -> Result<Option<Partial>, AllocError> {
     Ok(Some(Partial::root(alloc, n)?))
 }
 
-/// Puts facility `f` at location `k` too, where both are free; else tells that they aren't.
+/// Puts facility `f` at location `k` too, where both are free; else reports that they aren't.
 fn put(node: &mut Partial, f: u16, k: u16) -> Result<bool, AllocError> {
     if usize::from(f) >= node.size() || node.is_placed(f) || !node.is_free(k) {
         return Ok(false);
@@ -70,7 +70,7 @@ static NODES: [(usize, &[(u16, u16)], &[u16], &[u16]); 5] = [
     (4, &[(2, 3), (0, 0), (3, 2), (1, 1)], &[], &[]),
 ];
 
-/// Fails unless the node with these pairs tells this of each number.
+/// Fails unless the node with these pairs says this of each number.
 fn expect_answers(rt: &impl Abort, node: &Partial, pairs: &[(u16, u16)], locations: &[u16]) {
     for k in 0..6 {
         let placed = place_of(pairs, k);

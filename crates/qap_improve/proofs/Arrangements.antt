@@ -22,6 +22,7 @@ entries-within I is = record {
   distances = λ i j hi hj. is.b_range (i * I.size + j) (mul-add-lt i I.size j I.size hi hj);
 }
 
+-- a distance between two facilities' locations is no further from 0 than the entries
 pub distance-within : (l : ℕ) (I : Problem) (p : List ℕ) (i j : ℕ) → HasEntriesWithin l I → Permutes I p → i < I.size → j < I.size → unsigned_abs (distance I p i j) ≤ l
 distance-within l I p i j h perm hi hj =
     let size = perm.same_size in
@@ -65,6 +66,7 @@ crossed-is n r s i j f d flows distances x hr hs hi hj ft dt rows =
     (ap₂ ◌-ℤ◌ (rows.flow_first.entries i hi ∙ ft.each r i hr hi) (rows.flow_second.entries j hj ∙ ft.each s j hs hj))
     (ap₂ ◌-ℤ◌ (rows.distance_second.entries j hj ∙ dt.each s j hs hj) (rows.distance_first.entries i hi ∙ dt.each r i hr hi))
 
+-- what is read off the rows r and s of the four tables is what the exchange of r and s changes the cost by
 pub change_by_rows-is : (I : Problem) (p : List ℕ) (flows flows_back distances distances_back : List ℤ) (r s : ℕ) (there back : Rows) → length p ≡ I.size → r ≢ s → r < I.size → s < I.size
     → IsTable I.size (content I p Flows) flows → IsTable I.size (content I p FlowsBack) flows_back
     → IsTable I.size (content I p Distances) distances → IsTable I.size (content I p DistancesBack) distances_back
@@ -101,6 +103,7 @@ distances-exchanged I p r s old new size apart hr hs t e = record {
       ∙ distance-exchanged I p r s i j size apart hr hs;
 }
 
+-- with rows and columns exchanged, the table of distances back is that of the exchanged locations
 pub distances_back-exchanged : (I : Problem) (p : List ℕ) (r s : ℕ) (old new : List ℤ) → length p ≡ I.size → r ≢ s → r < I.size → s < I.size
     → IsTable I.size (content I p DistancesBack) old → AreExchanged I.size r s old new → IsTable I.size (content I (exchanging p r s) DistancesBack) new
 distances_back-exchanged I p r s old new size apart hr hs t e = record {

@@ -13,9 +13,11 @@ use Rattle.qap_improve.proofs.Arrangements.{distance-within}
 use Rattle.qap_improve.specs.Table.{HasContrasts, IsContrast, IsSmall}
 use Rattle.qap_improve.specs.declared.contrast.Contrast.{Contrast}
 
+-- a contrast of zeros
 abbrev pub no_contrast : Contrast
 no_contrast = record { flow = pos 0; flow_back = pos 0; distance = pos 0; distance_back = pos 0 }
 
+-- with the contrast of facility t written, those before place t + 1 are there
 pub HasContrasts-written : (I : Problem) (p : List ℕ) (u v : ℕ) (xs : List Contrast) (t : ℕ) (x : Contrast) → t < length xs → IsContrast I p u v t x
     → HasContrasts I p u v xs t → HasContrasts I p u v (slice_set xs t x) (t + 1)
 HasContrasts-written I p u v xs t x within is h = record {

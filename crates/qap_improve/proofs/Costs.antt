@@ -37,6 +37,7 @@ cost_of-bounded I p is h =
 abbrev pub height : Problem → List ℕ → ℕ
 height I p = unsigned_abs (cost_of I p +ℤ pos 65536000000000000000000)
 
+-- a permutation that costs less has less height
 pub height-falls : (I : Problem) (p q : List ℕ) → IsInstance I → Permutes I p → Permutes I q → cost_of I q <ℤ cost_of I p → height I q < height I p
 height-falls I p q is hp hq less =
     let above = cost_of-bounded I p is hp in

@@ -99,6 +99,7 @@ outside-add r s f g k =
       ]
     ]
 
+-- the sum, but for places r and s, of sums is the sum of both
 pub sum_to-outside_add : (r s : ℕ) (f g : ℕ → ℤ) (n : ℕ) → sum_to (outside r s (λ i. f i +ℤ g i)) n ≡ sum_to (outside r s f) n +ℤ sum_to (outside r s g) n
 sum_to-outside_add r s f g n =
     sum_to-same (outside r s (λ i. f i +ℤ g i)) (λ k. outside r s f k +ℤ outside r s g k) n (λ k h. outside-add r s f g k)

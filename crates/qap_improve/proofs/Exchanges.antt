@@ -12,33 +12,41 @@ use Rattle.qap_improve.specs.Difference.{flow, distance, change_with, change_bet
 use Rattle.qap_improve.specs.Exchange.{exchanging, partner}
 use Rattle.qap_improve.proofs.DoubleSums.{among, crossed_products, double_sum-changed, with_both}
 
+-- an exchange keeps the number of facilities
 pub length-exchanging : (p : List ℕ) (r s : ℕ) → length (exchanging p r s) ≡ length p
 length-exchanging p r s =
     length-set (set p r (get_or p s 0)) s (get_or p r 0) ∙ length-set p r (get_or p s 0)
 
+-- after the exchange facility r stands where facility s stood
 pub exchanging-first : (p : List ℕ) (r s : ℕ) → r ≢ s → r < length p → get_or (exchanging p r s) r 0 ≡ get_or p s 0
 exchanging-first p r s apart hr =
     get_or-set_other (set p r (get_or p s 0)) s r (get_or p r 0) 0 apart ∙ get_or-set_same p r (get_or p s 0) 0 hr
 
+-- after the exchange facility s stands where facility r stood
 pub exchanging-second : (p : List ℕ) (r s : ℕ) → s < length p → get_or (exchanging p r s) s 0 ≡ get_or p r 0
 exchanging-second p r s hs =
     get_or-set_same (set p r (get_or p s 0)) s (get_or p r 0) 0 (omega (arith, length-set p r (get_or p s 0)))
 
+-- each other facility stands where it stood
 pub exchanging-other : (p : List ℕ) (r s k : ℕ) → k ≢ r → k ≢ s → get_or (exchanging p r s) k 0 ≡ get_or p k 0
 exchanging-other p r s k kr ks =
     get_or-set_other (set p r (get_or p s 0)) s k (get_or p r 0) 0 ks ∙ get_or-set_other p r k (get_or p s 0) 0 kr
 
+-- facility r takes the location of facility s
 pub partner-first : (r s k : ℕ) → k ≡ r → partner r s k ≡ s
 partner-first r s k e = cond-true (nat_eq k r) s (cond (nat_eq k s) r k) (eq-eqb k r e)
 
+-- facility s takes the location of facility r
 pub partner-second : (r s k : ℕ) → k ≢ r → k ≡ s → partner r s k ≡ r
 partner-second r s k n e =
     cond-false (nat_eq k r) s (cond (nat_eq k s) r k) (ne_eqb k r n) ∙ cond-true (nat_eq k s) r k (eq-eqb k s e)
 
+-- each other facility keeps its location
 pub partner-other : (r s k : ℕ) → k ≢ r → k ≢ s → partner r s k ≡ k
 partner-other r s k n m =
     cond-false (nat_eq k r) s (cond (nat_eq k s) r k) (ne_eqb k r n) ∙ cond-false (nat_eq k s) r k (ne_eqb k s m)
 
+-- the partner's partner is the facility itself
 pub partner-twice : (r s k : ℕ) → r ≢ s → partner r s (partner r s k) ≡ k
 partner-twice r s k apart =
     elim (cases_eq k r) [
@@ -49,6 +57,7 @@ partner-twice r s k apart =
       ]
     ]
 
+-- the partner of one of n facilities is one of them
 pub partner-below : (r s k n : ℕ) → r < n → s < n → k < n → partner r s k < n
 partner-below r s k n hr hs hk =
     elim (cases_eq k r) [
@@ -59,6 +68,7 @@ partner-below r s k n hr hs hk =
       ]
     ]
 
+-- after the exchange each facility stands where its partner stood
 pub exchanging-at : (p : List ℕ) (r s k : ℕ) → r ≢ s → r < length p → s < length p → get_or (exchanging p r s) k 0 ≡ get_or p (partner r s k) 0
 exchanging-at p r s k apart hr hs =
     elim (cases_eq k r) [

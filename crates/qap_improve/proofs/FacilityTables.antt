@@ -31,6 +31,7 @@ IsTableBefore-more n i j k f table x hi hj at is h =
           ];
     }
 
+-- a table that is filled before place n * n is filled
 pub IsTableBefore-all : (t n : ℕ) (f : ℕ → ℕ → ℤ) (table : List ℤ) → n * n ≤ t → IsTableBefore t n f table → IsTable n f table
 IsTableBefore-all t n f table whole h = record {
   count = h.count;
@@ -111,6 +112,7 @@ pub record HaveRowsMoved (k n r s : ℕ) (old new : List ℤ) : Type 0 where
   pub done : (i j : ℕ) → i < n → j < n → j < k → entry n new i j ≡ entry n old (partner r s i) j
   pub rest : (i j : ℕ) → i < n → j < n → k ≤ j → entry n new i j ≡ entry n old i j
 
+-- with the two entries of column k exchanged, rows r and s are at each other's place before column k + 1
 pub HaveRowsMoved-more : (k n r s : ℕ) (old mid new : List ℤ) → r < n → s < n → r ≢ s → k < n → new ≡ swap mid (r * n + k) (s * n + k)
     → HaveRowsMoved k n r s old mid → HaveRowsMoved (k + 1) n r s old new
 HaveRowsMoved-more k n r s old mid new hr hs apart hk is h =
@@ -142,6 +144,7 @@ pub record HaveColumnsMoved (k n r s : ℕ) (old new : List ℤ) : Type 0 where
   pub done : (i j : ℕ) → i < n → j < n → i < k → entry n new i j ≡ entry n old i (partner r s j)
   pub rest : (i j : ℕ) → i < n → j < n → k ≤ i → entry n new i j ≡ entry n old i j
 
+-- with the two entries of row k exchanged, columns r and s are at each other's place before row k + 1
 pub HaveColumnsMoved-more : (k n r s : ℕ) (old mid new : List ℤ) → r < n → s < n → r ≢ s → k < n → new ≡ swap mid (k * n + r) (k * n + s)
     → HaveColumnsMoved k n r s old mid → HaveColumnsMoved (k + 1) n r s old new
 HaveColumnsMoved-more k n r s old mid new hr hs apart hk is h =

@@ -6,6 +6,7 @@ use Rattle.qap_improve.specs.Walk.{WalkKeeps}
 use Rattle.qap_improve.specs.declared.tabu.Walk.{Walk}
 use Rattle.qap_improve.proofs.Exchanges.{exchanging-other}
 
+-- the same permutation keeps all facilities where they are
 pub KeepsOthers-same : (may_move : List Bool) (p q : List ℕ) → q ≡ p → KeepsOthers may_move p q
 KeepsOthers-same may_move p q same = λ f below fixed. ap (λ (l : List ℕ). get_or l f 0) same
 
@@ -17,6 +18,7 @@ KeepsOthers-exchanging may_move start p q r s is first second kept =
     ∙ exchanging-other p r s f (λ e. fixed (subst (Moves may_move) (sym e) first)) (λ e. fixed (subst (Moves may_move) (sym e) second))
     ∙ kept f below fixed
 
+-- a walk that exchanges two facilities which may move, and keeps its best permutation, moves none that may not
 pub WalkKeeps-exchanged : {X : Type 0} (may_move : List Bool) (start : List ℕ) (old new : Walk X) (r s : ℕ) → new.arrangement.locations.items ≡ exchanging old.arrangement.locations.items r s
     → new.best.items ≡ old.best.items → Moves may_move r → Moves may_move s → WalkKeeps may_move start old → WalkKeeps may_move start new
 WalkKeeps-exchanged may_move start old new r s here best first second kept = record {

@@ -49,6 +49,7 @@ all_of n m t a b c small ht ha hb hc =
 read_off : (x y d e : ℤ) → x +ℤ d ≡ y → x +ℤ e ≡ y → d ≡ e
 read_off x y d e h i = omega (arith, ints)
 
+-- where entries lie within l of 0, what an exchange changes the cost by lies within 2072 times the square of l
 pub IsDifference-within : (l : ℕ) (I : Problem) (p : List ℕ) (r s : ℕ) (x : ℤ) → HasEntriesWithin l I → I.size ≤ 256 → Permutes I p → r ≢ s → r < I.size → s < I.size → IsDifference I p r s x
     → unsigned_abs x ≤ 2072 * (l * l)
 IsDifference-within l I p r s x h small perm apart hr hs is =

@@ -11,12 +11,14 @@ use Rattle.qap_cost.proofs.Objectives.{reads_entry}
 pub difference_small : (x y : ℤ) → InRange x → InRange y → unsigned_abs (x -ℤ y) ≤ 2000000000
 difference_small x y hx hy = omega (arith, ints)
 
+-- the difference of two entries is held in 64 bits
 pub reads_difference : (x y : ℤ) → InRange x → InRange y → to_z w64 (of_z w64 (to_z w64 (of_z w64 x) -ℤ to_z w64 (of_z w64 y))) ≡ x -ℤ y
 reads_difference x y hx hy =
     let small = difference_small x y hx hy in
     ap₂ (λ (a b : ℤ). to_z w64 (of_z w64 (a -ℤ b))) (reads_entry x hx) (reads_entry y hy)
     ∙ to_z-of_z w64 (x -ℤ y) (fits_signed_from_abs w64 (x -ℤ y) (omega (arith, small)))
 
+-- an entry held in 64 bits is read as any number that equals it
 pub reads_as : (z x : ℤ) → z ≡ x → InRange z → to_z w64 (of_z w64 z) ≡ x
 reads_as z x is h = reads_entry z h ∙ is
 
@@ -29,6 +31,7 @@ pub reads_narrow : (z y x : ℤ) → z ≡ to_z w64 (of_z w64 y) → y ≡ x →
 reads_narrow z y x is same h =
     ap (λ (t : ℤ). to_z w32 (of_z w32 t)) (is ∙ reads_entry y h) ∙ to_z-of_z w32 y (fits_signed_from_abs w32 y (omega arith)) ∙ same
 
+-- a product of two differences is that of numbers that equal the four
 pub reads_crossed : (z x y u v a b c d : ℤ) → z ≡ (x -ℤ y) *ℤ (u -ℤ v) → x ≡ a → y ≡ b → u ≡ c → v ≡ d → z ≡ (a -ℤ b) *ℤ (c -ℤ d)
 reads_crossed z x y u v a b c d is xa yb uc vd = is ∙ ap₂ ◌*ℤ◌ (ap₂ ◌-ℤ◌ xa yb) (ap₂ ◌-ℤ◌ uc vd)
 
@@ -41,6 +44,7 @@ reads_both x y hx hy = omega (arith, ints)
 pub reads_term : (z x : ℤ) → z ≡ to_z w64 (of_z w64 x) → unsigned_abs x ≤ 8000000000000000000 → z ≡ x
 reads_term z x is h = is ∙ to_z-of_z w64 x (fits_signed_from_abs w64 x (omega arith))
 
+-- a number no further from 0 than 3 * 10^21 is held in 128 bits
 pub reads_wide : (x : ℤ) → unsigned_abs x ≤ 3000000000000000000000 → to_z w128 (of_z w128 x) ≡ x
 reads_wide x h = to_z-of_z w128 x (fits_signed_from_abs w128 x (omega arith))
 
@@ -55,6 +59,7 @@ pub record Reads (t a b c : ℤ) : Type 0 where
 read_less : (w x y z : ℤ) → w ≡ z → y ≡ to_z w128 (of_z w128 x) → unsigned_abs x ≤ 3000000000000000000000 → unsigned_abs (z -ℤ x) ≤ 3000000000000000000000 → to_z w128 (of_z w128 (w -ℤ y)) ≡ z -ℤ x
 read_less w x y z wz yx hx h = ap₂ (λ (a b : ℤ). to_z w128 (of_z w128 (a -ℤ b))) wz (yx ∙ reads_wide x hx) ∙ reads_wide (z -ℤ x) h
 
+-- t less a and b and with c is held in 128 bits at each step
 pub reads_all : (t a b c : ℤ) → unsigned_abs t ≤ 2048000000000000000000 → unsigned_abs a ≤ 8000000000000000000 → unsigned_abs b ≤ 8000000000000000000 → unsigned_abs c ≤ 8000000000000000000 → Reads t a b c
 reads_all t a b c ht ha hb hc =
     let first : to_z w128 (of_z w128 (to_z w128 (of_z w128 t) -ℤ to_z w128 (of_z w128 a))) ≡ t -ℤ a =
@@ -73,6 +78,7 @@ pub fits_second : (t a b : ℤ) → unsigned_abs t ≤ 2048000000000000000000 �
     → FitsSigned w128 (to_z w128 (of_z w128 (to_z w128 (of_z w128 t) -ℤ to_z w128 (of_z w128 a))) -ℤ to_z w128 (of_z w128 b))
 fits_second t a b ht ha hb = let r = reads_all t a b (pos 0) ht ha hb (omega arith) in let first = r.first in omega (arith, ints)
 
+-- the last of these steps, the addition of c, does not overflow 128 bits
 pub fits_all : (t a b c : ℤ) → unsigned_abs t ≤ 2048000000000000000000 → unsigned_abs a ≤ 8000000000000000000 → unsigned_abs b ≤ 8000000000000000000 → unsigned_abs c ≤ 8000000000000000000
     → FitsSigned w128 (to_z w128 (of_z w128 (to_z w128 (of_z w128 (to_z w128 (of_z w128 t) -ℤ to_z w128 (of_z w128 a))) -ℤ to_z w128 (of_z w128 b))) +ℤ to_z w128 (of_z w128 c))
 fits_all t a b c ht ha hb hc = let r = reads_all t a b c ht ha hb hc in let second = r.second in omega (arith, ints)
@@ -84,6 +90,7 @@ is_negative x h test =
     let other : int_lt x (pos 0) ≡ true = ap (λ (y : ℤ). int_lt y (pos 0)) (sym is) ∙ test in
     grind (arith, ints)
 
+-- a number falls where a negative one is added
 pub falls : (x y z : ℤ) → x +ℤ y ≡ z → y <ℤ pos 0 → z <ℤ x
 falls x y z is h = omega (arith, ints)
 
@@ -95,6 +102,7 @@ reads_contrasted x h = to_z-of_z w64 x (fits_signed_from_abs w64 x (omega arith)
 pub reads_contrast : (x y : ℤ) → unsigned_abs x ≤ 2000000000 → unsigned_abs y ≤ 2000000000 → to_z w64 (of_z w64 (to_z w64 (of_z w64 x) -ℤ to_z w64 (of_z w64 y))) ≡ x -ℤ y
 reads_contrast x y hx hy = omega (arith, ints)
 
+-- the difference of two numbers no further from 0 than 2 * 10^9 does not overflow 64 bits
 pub fits_contrast : (x y : ℤ) → unsigned_abs x ≤ 2000000000 → unsigned_abs y ≤ 2000000000 → FitsSigned w64 (to_z w64 (of_z w64 x) -ℤ to_z w64 (of_z w64 y))
 fits_contrast x y hx hy = omega (arith, ints)
 
@@ -102,15 +110,18 @@ fits_contrast x y hx hy = omega (arith, ints)
 pub reads_large : (x : ℤ) → unsigned_abs x ≤ 1000000000000000000000000 → to_z w128 (of_z w128 x) ≡ x
 reads_large x h = to_z-of_z w128 x (fits_signed_from_abs w128 x (omega arith))
 
+-- the sum of two numbers no further from 0 than 4 * 10^23 is held in 128 bits
 pub reads_large_both : (x y : ℤ) → unsigned_abs x ≤ 400000000000000000000000 → unsigned_abs y ≤ 400000000000000000000000
     → to_z w128 (of_z w128 (to_z w128 (of_z w128 x) +ℤ to_z w128 (of_z w128 y))) ≡ x +ℤ y
 reads_large_both x y hx hy =
     ap₂ (λ (a b : ℤ). to_z w128 (of_z w128 (a +ℤ b))) (reads_large x (omega arith)) (reads_large y (omega arith)) ∙ reads_large (x +ℤ y) (omega (arith, ints))
 
+-- nor does it overflow
 pub fits_large_both : (x y : ℤ) → unsigned_abs x ≤ 400000000000000000000000 → unsigned_abs y ≤ 400000000000000000000000
     → FitsSigned w128 (to_z w128 (of_z w128 x) +ℤ to_z w128 (of_z w128 y))
 fits_large_both x y hx hy = let first = reads_large x (omega arith) in let second = reads_large y (omega arith) in omega (arith, ints)
 
+-- nor does their difference
 pub fits_large_less : (x y : ℤ) → unsigned_abs x ≤ 400000000000000000000000 → unsigned_abs y ≤ 400000000000000000000000
     → FitsSigned w128 (to_z w128 (of_z w128 x) -ℤ to_z w128 (of_z w128 y))
 fits_large_less x y hx hy = let first = reads_large x (omega arith) in let second = reads_large y (omega arith) in omega (arith, ints)

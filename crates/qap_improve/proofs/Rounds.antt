@@ -41,9 +41,11 @@ HasTried-implied I P Q old new g tried h = record {
   gain = implied I P Q old new g h tried.gain;
 }
 
+-- no facility stands between r and r + 1, so that no exchange with one gains
 pub NoneGainsWith-none : (I : Problem) (r : ℕ) (p : List ℕ) → NoneGainsWith I r (r + 1) p
 NoneGainsWith-none I r p s above below = absurd (omega arith)
 
+-- where exchanging r with m gains nothing either, none of those before m + 1 gains
 pub NoneGainsWith-more : (I : Problem) (r m : ℕ) (p : List ℕ) → NoneGainsWith I r m p → cost_of I p ≤ℤ cost_of I (exchanging p r m) → NoneGainsWith I r (m + 1) p
 NoneGainsWith-more I r m p before here s above below =
     elim (cases_eq s m) [
@@ -51,12 +53,15 @@ NoneGainsWith-more I r m p before here s above below =
       | inr n ↦ before s above (omega arith)
     ]
 
+-- where none before m gains, none before a lesser n does
 pub NoneGainsWith-all : (I : Problem) (r m n : ℕ) (p : List ℕ) → n ≤ m → NoneGainsWith I r m p → NoneGainsWith I r n p
 NoneGainsWith-all I r m n p less h s above below = h s above (omega arith)
 
+-- there is no first facility below 0
 pub NoneGainsBelow-none : (I : Problem) (p : List ℕ) → NoneGainsBelow I 0 p
 NoneGainsBelow-none I p r s below above within = absurd (omega arith)
 
+-- where no exchange of facility m with a later one gains, none with a first facility below m + 1 does
 pub NoneGainsBelow-more : (I : Problem) (m : ℕ) (p : List ℕ) → NoneGainsBelow I m p → NoneGainsWith I m I.size p → NoneGainsBelow I (m + 1) p
 NoneGainsBelow-more I m p before here r s below above within =
     elim (cases_eq r m) [
@@ -64,6 +69,7 @@ NoneGainsBelow-more I m p before here r s below above within =
       | inr n ↦ before r s (omega arith) above within
     ]
 
+-- where no exchange with any first facility gains, the permutation is locally least
 pub IsLocallyLeast-all : (I : Problem) (m : ℕ) (p : List ℕ) → I.size ≤ m → NoneGainsBelow I m p → IsLocallyLeast I p
 IsLocallyLeast-all I m p whole h r s above within = h r s (omega arith) above within
 
@@ -72,5 +78,6 @@ pub record HasFallen (I : Problem) (old new : List ℕ) : Type 0 where
   pub permutation : Permutes I new
   pub no_dearer : cost_of I new ≤ℤ cost_of I old
 
+-- a try that reports a gain has lowered the cost
 pub has_gained : (I : Problem) (P : List ℕ → Type 0) (old new : List ℕ) (g : Bool) → HasTried I P old new g → g ≡ true → cost_of I new <ℤ cost_of I old
 has_gained I P old new g tried is = subst (λ (b : Bool). MatchBool b (cost_of I new <ℤ cost_of I old) ((new ≡ old) × P new)) is tried.gain

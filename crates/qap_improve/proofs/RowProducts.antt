@@ -17,6 +17,7 @@ row-wider n xs h = record {
   within = record { each = λ j below. let small = h.within.each j below in omega arith };
 }
 
+-- rows of entries no further from 0 than 5 * 10^7 are rows of entries no further than 10^9
 pub rows-wider : (n : ℕ) (x : Rows) → AreRowsWithin 50000000 n x → AreRowsWithin 1000000000 n x
 rows-wider n x h = record {
   size = h.size;
@@ -43,6 +44,7 @@ crossed-small n x i j h hi hj =
 added-small : (x y : ℤ) → unsigned_abs x ≤ 10000000000000000 → unsigned_abs y ≤ 10000000000000000 → unsigned_abs (x +ℤ y) ≤ 20000000000000000
 added-small x y hx hy = omega (arith, ints)
 
+-- what changes with one facility is no further from 0 than 2 * 10^16, where entries are small
 pub crossed_with-small : (n : ℕ) (there back : Rows) (k : ℕ) → AreRowsWithin 50000000 n there → AreRowsWithin 50000000 n back → k < n → unsigned_abs (crossed_with there back k) ≤ 20000000000000000
 crossed_with-small n there back k h g below =
     added-small (crossed back k k) (crossed there k k) (crossed-small n back k k g below below) (crossed-small n there k k h below below)

@@ -17,6 +17,7 @@ use Rattle.qap_improve.proofs.Exchanges.{Permutes-exchanging}
 pub same_row : (n i j r s : ℕ) → j < n → s < n → i * n + j ≡ r * n + s → i ≡ r
 same_row n i j r s hj hs e = sym (div-mul-add i n j hj) ∙ ap (λ k. k / n) e ∙ div-mul-add r n s hs
 
+-- two entries at one place of a table are in one column
 pub same_column : (n i j r s : ℕ) → j < n → s < n → i * n + j ≡ r * n + s → j ≡ s
 same_column n i j r s hj hs e = sym (mod-mul-add i n j hj) ∙ ap (λ k. k % n) e ∙ mod-mul-add r n s hs
 
@@ -31,12 +32,14 @@ past_diagonal n i j r above within before =
       ]
     ]
 
+-- a table filled before row r is filled before the first pair of that row
 pub HasFilled-row : (I : Problem) (p : List ℕ) (table : List ℤ) (r : ℕ) → HasFilled I p table (r * I.size) → HasFilled I p table (r * I.size + (r + 1))
 HasFilled-row I p table r h = record {
   count = h.count;
   before = λ i j above within less. h.before i j above within (past_diagonal I.size i j r above within less);
 }
 
+-- with the difference of r and s written, the table is filled before the next place of the row
 pub HasFilled-more : (I : Problem) (p : List ℕ) (table : List ℤ) (r s : ℕ) (x : ℤ) → r < s → s < I.size → IsDifference I p r s x
     → HasFilled I p table (r * I.size + s) → HasFilled I p (set table (r * I.size + s) x) (r * I.size + (s + 1))
 HasFilled-more I p table r s x order below is h =
@@ -68,9 +71,11 @@ HasFilled-written I p table new r s k x order below at told is h =
     subst (λ (t : List ℤ). HasFilled I p t (r * I.size + (s + 1))) (sym (told ∙ ap (λ (place : ℕ). set table place x) at))
     (HasFilled-more I p table r s x order below is h)
 
+-- a number that equals the difference of two facilities is that difference
 pub same_difference : (I : Problem) (q : List ℕ) (r s : ℕ) (x y : ℤ) → y ≡ x → IsDifference I q r s x → IsDifference I q r s y
 same_difference I q r s x y e is = subst (λ (z : ℤ). cost_of I q +ℤ z ≡ cost_of I (exchanging q r s)) (sym e) is
 
+-- the differences from before the exchange are a table that is brought up to date before the first place
 pub HasMoved-none : (I : Problem) (q : List ℕ) (u v : ℕ) (table : List ℤ) → AreDifferences I (exchanging q u v) table → HasMoved I q u v table (0 * I.size)
 HasMoved-none I q u v table h = record {
   count = h.count;
@@ -78,6 +83,7 @@ HasMoved-none I q u v table h = record {
   behind = λ r s order below place. h.each r s order below;
 }
 
+-- a table brought up to date before row r is so before the first pair of that row
 pub HasMoved-row : (I : Problem) (q : List ℕ) (u v : ℕ) (table : List ℤ) (r : ℕ) → HasMoved I q u v table (r * I.size) → HasMoved I q u v table (r * I.size + (r + 1))
 HasMoved-row I q u v table r h = record {
   count = h.count;
@@ -128,7 +134,7 @@ HasMoved-written I q u v table new r s k x order below at told is h =
     subst (λ (t : List ℤ). HasMoved I q u v t (r * I.size + (s + 1))) (sym (told ∙ ap (λ (place : ℕ). set table place x) at))
     (HasMoved-more I q u v table r s x order below is h)
 
--- what stands where the way through the table has come to
+-- what stands at the place that the way through the table has reached
 pub old_difference : (I : Problem) (q : List ℕ) (u v : ℕ) (table : List ℤ) (r s k : ℕ) (x : ℤ) → r < s → s < I.size → k ≡ r * I.size + s → x ≡ get_or table k (pos 0)
     → HasMoved I q u v table (r * I.size + s) → IsDifference I (exchanging q u v) r s x
 old_difference I q u v table r s k x order below at told h =
@@ -148,6 +154,7 @@ HasMoved-all I q u v table h = record {
       });
 }
 
+-- with the difference of r and s written, it is that of q, and all others are as they were
 pub Settles-written : (I : Problem) (q : List ℕ) (table new : List ℤ) (r s k : ℕ) (x : ℤ) → r < s → s < I.size → length table ≡ I.size * I.size → k ≡ r * I.size + s → new ≡ set table k x
     → IsDifference I q r s x → Settles I q r s table new
 Settles-written I q table new r s k x order below count at told is =
@@ -202,6 +209,7 @@ HasSettled-more I q u v k old first second h f g = record {
       ];
 }
 
+-- once the pairs of u and v with all facilities are settled, the table holds the differences of q
 pub HasSettled-all : (I : Problem) (q : List ℕ) (u v : ℕ) (table : List ℤ) → HasSettled I q u v I.size table → AreDifferences I q table
 HasSettled-all I q u v table h = record {
   count = h.count;
@@ -225,7 +233,7 @@ place_inside n m r s value xs same row column count =
     let rows : r * m ≡ r * n = ap (λ k. r * k) same in
     omega (arith, mul-add-lt r n s n row column, length-map xs value)
 
--- what the table tells, read by other words
+-- what the table says, read by other words
 pub told_difference : (I : Problem) (p : List ℕ) (table told : List ℤ) (r s k : ℕ) → AreDifferences I p table → told ≡ table → k ≡ r * I.size + s → r < s → s < I.size
     → IsDifference I p r s (get_or told k (pos 0))
 told_difference I p table told r s k h same at order below =

@@ -9,6 +9,7 @@ pub record ArePair (n : ℕ) (may_move : List Bool) (first second : ℕ) : Type 
   pub first_moves : Moves may_move first
   pub second_moves : Moves may_move second
 
+-- the choice is of two of n facilities, the lesser one first, that may both move
 pub record IsPair (n : ℕ) (may_move : List Bool) (choice : Choice) : Type 0 where
   pub order : choice.first < choice.second
   pub pair : ArePair n may_move choice.first choice.second

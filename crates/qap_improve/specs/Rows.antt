@@ -5,11 +5,12 @@ use Rattle.qap_cost.specs.Row.{IsRow}
 use Rattle.qap_cost.specs.Sum.{sum_to}
 use Rattle.qap_improve.specs.declared.rows.Rows.{Rows}
 
--- so many numbers, none further from 0 than the limit
+-- n numbers, none further from 0 than the limit
 pub record IsRowWithin (limit n : ℕ) (xs : List ℤ) : Type 0 where
   pub count : length xs ≡ n
   pub within : AllWithin limit xs
 
+-- the same for each of the two rows of flows and the two rows of distances
 pub record AreRowsWithin (limit n : ℕ) (x : Rows) : Type 0 where
   pub size : x.size ≡ n
   pub flow_first : IsRowWithin limit n x.flow_first.now

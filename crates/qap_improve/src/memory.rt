@@ -37,7 +37,7 @@ pub struct Memory {
 }
 
 impl Memory {
-    /// That of a search among `n` facilities, so many of which may move, that has made no exchange.
+    /// That of a search among `n` facilities, this many of which may move, that has made no exchange.
     pub fn new(alloc: Global, n: usize, moving: usize, seed: u64) -> Result<Memory, AllocError>
         requires few { n ≤ 256 }
         requires among { moving ≤ n }
@@ -116,7 +116,7 @@ impl Memory {
     }
 }
 
-/// So many numbers: from 0 to `round - 1`, and then from 0 again.
+/// This many numbers: from 0 to `round - 1`, and then from 0 again.
 fn numbers(alloc: Global, count: u64, round: u64) -> Result<Vec<u64>, AllocError>
     requires { 0 < round }
     ensures { IfOk result (λ v. vec_len v ≡ count) }

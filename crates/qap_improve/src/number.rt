@@ -15,7 +15,7 @@ pub(crate) trait Number: Copy {
 
     ghost limit: { ℕ };
 
-    /// So many numbers.
+    /// This many numbers.
     fn zeros(alloc: Global, count: usize) -> Result<Vec<Self>, AllocError>
         ensures { IfOk result (λ numbers. length numbers.items ≡ count) };
 

@@ -43,7 +43,8 @@ pub(crate) fn all_differences<N: Number>(
 /// Makes them those of the permutation with these locations, where they were those of the one that it came from when the
 /// facilities `u` and `v` exchanged theirs.
 ///
-/// Takes time in n^2: the pairs that share a facility with the exchange are reckoned anew, the others in constant time each.
+/// Takes time in n^2: the pairs that share a facility with the exchange are computed again, the others in constant time
+/// each.
 pub(crate) fn update<N: Number>(
     instance: &Instance,
     arrangement: &Arrangement,
@@ -201,7 +202,7 @@ fn update_row<N: Number>(
     }
 }
 
-/// Reckons all pairs that share a facility with the exchange of `u` and `v` anew.
+/// Computes all pairs that share a facility with the exchange of `u` and `v` again.
 fn settle_all<N: Number>(
     instance: &Instance,
     arrangement: &Arrangement,
@@ -222,7 +223,7 @@ fn settle_all<N: Number>(
     }
 }
 
-/// Reckons the difference of two facilities anew, if they are two.
+/// Computes the difference of two facilities again, if they are two.
 fn settle<N: Number>(
     instance: &Instance,
     arrangement: &Arrangement,

@@ -24,6 +24,7 @@ BeginsWithDigits-more text count h inside low high = record {
       ];
 }
 
+-- with one digit more, digits stand for ten times as much, and for what that digit does
 pub magnitude_of-more : (text : List ℕ) (i : ℕ) → i < length text → magnitude_of (take (i + 1) text) ≡ magnitude_of (take i text) * 10 + (get_or text i 0 - 48)
 magnitude_of-more text i h =
     ap (number_from_digits 10) (map_more (λ b. b - 48) text i 0 h) ∙ number_push 10 (map (λ b. b - 48) (take i text)) (get_or text i 0 - 48)
@@ -40,6 +41,7 @@ magnitude_of-lt text (suc i) h =
     let power : 10 ^ suc i ≡ 10 ^ i * 10 = pow-suc 10 i in
     omega arith
 
+-- digits of which there are less than 18 stand for less than 10^17
 pub magnitude_of-lt_few : (text : List ℕ) (i : ℕ) → BeginsWithDigits text i → i < 18 → magnitude_of (take i text) < 10 ^ 17
 magnitude_of-lt_few text i h few =
     let less : magnitude_of (take i text) < 10 ^ i = magnitude_of-lt text i h in

@@ -6,6 +6,7 @@ use Rattle.std.proofs.KnownBytes.{Appends-kept}
 use Rattle.qap_io.specs.Counting.{CountedDevice, CountsCall, FailedBetween, last_count}
 use Rattle.qap_io.specs.Writing.{AppendsBeginning-whole, Sends, BreaksOff, StopsBy}
 
+-- a text that was appended, and a flush behind it: the text is sent, or its sending is broken off
 pub sends_or_breaks : {W S E : Type 0} (contents : W → Option (List ℕ)) (old middle new : CountedDevice W) (text : List ℕ) (r : Result S E)
     → Appends (contents old.inner) (contents middle.inner) text → middle.failures ≡ old.failures
     → Keeps (contents middle.inner) (contents new.inner) → OnOk r (new.flushed ≡ true) → CountsCall (is_err r) middle new → OnErr r (FailedBetween middle new)

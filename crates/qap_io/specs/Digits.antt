@@ -3,9 +3,11 @@ use Rattle.std.specs.Prelude.{◌≡◌, ℕ, ◌-◌, ◌≤◌, ◌<◌, ◌�
 use Rattle.std.specs.List.{list_all}
 use Rattle.std.specs.Int.Digits.{number_from_digits}
 
+-- whether a byte is a decimal digit, `0` to `9`
 abbrev pub is_digit : ℕ → Bool
 is_digit b = nat_le 48 b && nat_le b 57
 
+-- a byte that is no decimal digit
 abbrev pub IsNoDigit : ℕ → Type 0
 IsNoDigit b = (b < 48) ⊎ (57 < b)
 
@@ -18,12 +20,12 @@ abbrev pub unsigned_number_of : List ℕ → Option ℕ
 unsigned_number_of [] = None
 unsigned_number_of (b ∷ bs) = if list_all is_digit (b ∷ bs) then Some (magnitude_of (b ∷ bs)) else None
 
--- the text begins with so many digits
+-- the text begins with this many digits
 pub record BeginsWithDigits (text : List ℕ) (count : ℕ) : Type 0 where
   pub in_text : count ≤ length text
   pub each : (i : ℕ) → i < count → (48 ≤ slice_index text i) × (slice_index text i ≤ 57)
 
--- the text begins with so many digits and no more, and this is what they stand for, held to a bound
+-- the text begins with this many digits and no more, and this is what they stand for, held to a bound
 pub record IsRun (text : List ℕ) (bound count magnitude : ℕ) : Type 0 where
   pub digits : BeginsWithDigits text count
   pub longest : IsNoDigit (slice_index text count)

@@ -1,4 +1,4 @@
--- Refusals as programs tell them.
+-- Refusals as programs report them.
 use Rattle.std.specs.Prelude.{ℕ, List, [], ◌++◌, Option, Some, None, codes}
 use Rattle.std.specs.Fmt.{decimal}
 
@@ -8,24 +8,27 @@ pub record RefusalText : Type 0 where
   pub name : List ℕ
   pub at : Option ℕ
 
--- a refusal that carries no number, and one that carries such a number
+-- a refusal that carries no number besides its own
 abbrev pub refused : ℕ → List ℕ → RefusalText
 refused number name = record { number = number; name = name; at = None }
 
+-- one that carries a place, a line or a count
 abbrev pub refused_at : ℕ → List ℕ → ℕ → RefusalText
 refused_at number name k = record { number = number; name = name; at = Some k }
 
+-- the end of a refusal's line: ` at` and the number that it carries, if any
 abbrev pub at_text : Option ℕ → List ℕ
 at_text None = []
 at_text (Some k) = codes " at " ++ decimal k
 
--- the line that tells a refusal
+-- the line that reports a refusal
 abbrev pub refusal_line : RefusalText → List ℕ
 refusal_line r = codes "refused " ++ decimal r.number ++ codes " " ++ r.name ++ at_text r.at ++ codes "\n"
 
--- want of memory, and a failed device, which every program and crate refuses by the same number and name
+-- want of memory, which every program and crate refuses by the same number and name
 abbrev pub memory_refusal : RefusalText
 memory_refusal = refused 50 (codes "OutOfMemory")
 
+-- the same for a failed device
 abbrev pub device_refusal : RefusalText
 device_refusal = refused 51 (codes "Device")

@@ -22,8 +22,8 @@ pub record BreaksOff {W : Type 0} (contents : W → Option (List ℕ)) (old new 
   pub bytes : AppendsBeginning (contents old.inner) (contents new.inner) text
   pub failed : FailedBetween old new
 
--- a beginning of the text has gone out, and this error tells why no more has: for want of memory no call has failed, and a failed
--- device has failed a call
+-- a beginning of the text has gone out, and this error says why no more has: for want of memory no call has failed, and
+-- a failed device has failed a call
 pub record StopsBy {W E : Type 0} (memory device : E) (contents : W → Option (List ℕ)) (old new : CountedDevice W) (text : List ℕ) (e : E) : Type 0 where
   pub bytes : AppendsBeginning (contents old.inner) (contents new.inner) text
   pub fault : ((e ≡ memory) × (new.failures ≡ old.failures)) ⊎ ((e ≡ device) × FailedBetween old new)

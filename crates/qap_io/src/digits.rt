@@ -35,7 +35,8 @@ fn few_digits(text: &[u8]) -> FewDigits
     FewDigits { count, magnitude }
 }
 
-/// All digits at the front of a text, in any number. Where they stand for more than the bound, that is told in its place.
+/// All digits at the front of a text, in any number. Where they stand for more than the bound, the bound is given in
+/// its place.
 pub fn front_digits(text: &[u8], bound: u128) -> Digits
     ensures { IsRun text.now bound result.count result.magnitude }
 {

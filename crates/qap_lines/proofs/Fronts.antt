@@ -1,4 +1,4 @@
--- A line of a name and numbers at the front of a text: the text tells which.
+-- A line of a name and numbers at the front of a text: the text determines which.
 use Rattle.std.proofs.Common.{◌≡◌, ◌≢◌, ℕ, List, [], ◌∷◌, ◌++◌, get_or, drop, length, ℤ, refl, sym, ap, subst, ◌∙◌, inl, inr, arith}
 use Rattle.std.proofs.lemmas.Int.{ints}
 use Rattle.std.specs.Prelude.{◌⊎◌, ◌<ℤ◌, ◌≤ℤ◌, Bool, true, false, int_lt}
@@ -9,6 +9,7 @@ use Rattle.qap_lines.specs.Line.{HasNoLine, IsLine}
 use Rattle.qap_lines.specs.LineText.{numbers_text, line_text}
 use Rattle.qap_lines.specs.Number.{IsNamed, Spells}
 
+-- the empty text has no line feed
 pub no_line-nil : HasNoLine []
 no_line-nil = record { each = λ i below. absurd (omega arith) }
 
@@ -27,6 +28,7 @@ pub line_fault : {E : Type 0} (missing : E) (text line rest : List ℕ) (P : Lis
 line_fault missing text line rest P e is (inl h) = absurd (no_line-line text line rest h.1 is)
 line_fault missing text line rest P e is (inr h) = subst (λ l. P l e) (IsLine-unique text h.0 h.1 line rest h.2 is).0 h.3
 
+-- where a text begins with a line of a name and numbers, a fault of its first line is one of that line
 pub named_fault : {E : Type 0} (missing : E) (text name rest : List ℕ) (zs : List ℤ) (P : List ℕ → E → Type 0) (e : E) → HasNoLine name → AllLimited zs
     → text ≡ line_text name zs ++ rest → ((e ≡ missing) × HasNoLine text) ⊎ ((l more : List ℕ) × IsLine text l more × P l e) → P (name ++ numbers_text zs) e
 named_fault missing text name rest zs P e none h is fault =
@@ -86,8 +88,9 @@ named_front text name rest line more other zs ys h k none limited is first named
     let same = one_name name other line zs ys h k one named in
     (same, IsNamed-unique name line zs ys one (subst (λ l. IsNamed l line ys) (sym same) named), u.1)
 
--- whether a number that is told where it is smaller has a line
+-- whether a number that is stated where it is smaller has a line
 
+-- a number that is less is found to be less
 pub int_lt-yes : (g c : ℤ) → g <ℤ c → int_lt g c ≡ true
 int_lt-yes g c less = by (int_lt g c) refl
   where
@@ -95,6 +98,7 @@ int_lt-yes g c less = by (int_lt g c) refl
     by true e = e
     by false e = absurd (omega (arith, ints, less))
 
+-- a number that isn't less is found not to be
 pub int_lt-no : (g c : ℤ) → c ≤ℤ g → int_lt g c ≡ false
 int_lt-no g c most = by (int_lt g c) refl
   where

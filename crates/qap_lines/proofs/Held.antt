@@ -16,8 +16,10 @@ held_all_within-is [] h = refl
 held_all_within-is (z ∷ zs) h =
     ap₂ (λ y ys. y ∷ ys) (held-within z (held_within-is z (AllLimited-head (held z) (map held zs) h))) (held_all_within-is zs (AllLimited-tail (held z) (map held zs) h))
 
+-- numbers in range are still so when they are held
 pub AllLimited-held : (zs : List ℤ) → AllLimited zs → AllLimited (map held zs)
 AllLimited-held zs h = subst AllLimited (sym (held-all_within zs h)) h
 
+-- numbers that are in range when they are held were so before
 pub AllLimited-from_held : (zs : List ℤ) → AllLimited (map held zs) → AllLimited zs
 AllLimited-from_held zs h = subst AllLimited (held_all_within-is zs h) h

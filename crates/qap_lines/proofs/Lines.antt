@@ -12,6 +12,7 @@ HasNoLine-cons byte text other none = record { each = each }
     each zero below = other
     each (suc i) below = none.each i (omega arith)
 
+-- two texts without a line feed have none one behind the other
 pub HasNoLine-append : (front back : List ℕ) → HasNoLine front → HasNoLine back → HasNoLine (front ++ back)
 HasNoLine-append front back a b = record {
   each = λ i below.

@@ -14,9 +14,11 @@ AllLimited-from_one p small = record {
       subst (λ (z : ℤ). unsigned_abs z ≤ 10 ^ 24) (sym (get_or-map (λ k. pos (k + 1)) p j 0 (pos 0) inside)) (omega (arith, small j inside));
 }
 
+-- the locations of a permutation, counted from 1, are in range
 pub AllLimited-permutation : (p : List ℕ) → IsPerm p → AllLimited (from_one p)
 AllLimited-permutation p perm = AllLimited-from_one p (λ i below. omega (arith, perm.bijection.within i below, perm.small))
 
+-- two lists that are the same when counted from 1 are the same
 pub from_one-injective : (p q : List ℕ) → from_one p ≡ from_one q → p ≡ q
 from_one-injective p q e = sym (back p) ∙ ap (map before) e ∙ back q
   where
@@ -34,7 +36,7 @@ no_location-no_permutation values some p perm same =
     let inside : some.0 < length p = omega (arith, some.1) in
     some.2 (get_or p some.0 0) (omega (arith, perm.bijection.within some.0 inside)) (ap (λ l. get_or l some.0 (pos 0)) same ∙ get_or-map (λ k. pos (k + 1)) p some.0 0 (pos 0) inside)
 
--- the numbers are those of no other permutation
+-- numbers that are those of a list which is no permutation are those of no permutation
 pub no_other-permutation : (values : List ℤ) (p : List ℕ) → values ≡ from_one p → (IsPerm p → ⊥) → (q : List ℕ) → IsPerm q → values ≢ from_one q
 no_other-permutation values p is none q perm same =
     none (subst IsPerm (sym (from_one-injective p q (sym is ∙ same))) perm)

@@ -13,12 +13,15 @@ use Rattle.qap_lines.specs.LineText.{numbers_text, line_text}
 use Rattle.qap_lines.proofs.Lines.{HasNoLine-cons, HasNoLine-append}
 use Rattle.qap_lines.proofs.Words.{number_fronts, IsNumber-unique, IsNumber-signed_decimal, number_word, HasNoLine-number}
 
+-- of numbers in range the first one is in range
 pub AllLimited-head : (z : ℤ) (zs : List ℤ) → AllLimited (z ∷ zs) → unsigned_abs z ≤ 10 ^ 24
 AllLimited-head z zs h = h.each 0 (omega arith)
 
+-- and so are those behind it
 pub AllLimited-tail : (z : ℤ) (zs : List ℤ) → AllLimited (z ∷ zs) → AllLimited zs
 AllLimited-tail z zs h = record { each = λ j below. h.each (suc j) (omega arith) }
 
+-- a number from -10^24 to 10^24 alone is a list in range
 pub AllLimited-one : (z : ℤ) → unsigned_abs z ≤ 10 ^ 24 → AllLimited (z ∷ [])
 AllLimited-one z small = record { each = each }
   where
@@ -69,6 +72,7 @@ HasNoLine-numbers text [] a = record { each = λ i below. absurd (omega (arith, 
 HasNoLine-numbers text (z ∷ zs) a =
     subst HasNoLine (sym a.2) (HasNoLine-cons 32 (a.0 ++ a.1) (λ e. absurd (omega arith)) (HasNoLine-append a.0 a.1 (HasNoLine-number a.0 z a.3) (HasNoLine-numbers a.1 zs a.4)))
 
+-- a line of a name and numbers has no line feed
 pub HasNoLine-named : (name line : List ℕ) (zs : List ℤ) → HasNoLine name → IsNamed name line zs → HasNoLine line
 HasNoLine-named name line zs none a =
     subst HasNoLine (sym a.is) (HasNoLine-append name a.numbers none (HasNoLine-numbers a.numbers zs a.spelled))
@@ -80,6 +84,7 @@ line_text-is text line rest name zs first named h =
     ∙ ap (λ l. l ++ 10 ∷ rest) (named.is ∙ ap (λ l. name ++ l) (numbers_text-is named.numbers zs named.spelled h))
     ∙ sym (append_assoc (name ++ numbers_text zs) (10 ∷ []) rest)
 
+-- a name and the text of numbers in range are a line of this name and these numbers
 pub IsNamed-numbers_text : (name : List ℕ) (zs : List ℤ) → AllLimited zs → IsNamed name (name ++ numbers_text zs) zs
 IsNamed-numbers_text name zs h = record { numbers = numbers_text zs; is = refl; spelled = Spells-numbers_text zs h }
 
@@ -120,9 +125,11 @@ pub record HasRead (text rest : List ℕ) (zs : List ℤ) : Type 0 where
   pub onward : (ys : List ℤ) → Spells rest ys → Spells text (zs ++ ys)
   pub back : (xs : List ℤ) → Spells text xs → (ys : List ℤ) × (xs ≡ zs ++ ys) × Spells rest ys
 
+-- at first nothing has been read, and the rest is the whole text
 pub HasRead-none : (text : List ℕ) → HasRead text text []
 HasRead-none text = record { onward = λ ys a. a; back = λ xs a. (xs, refl, a) }
 
+-- one number more has been read, behind a blank
 pub HasRead-more : (text rest after : List ℕ) (zs : List ℤ) (count : ℕ) (value : ℤ) (read : HasRead text rest zs) → rest ≡ 32 ∷ after → (found : IsFrontNumber after count value) → HasRead text (drop count after) (zs ++ found.number ∷ [])
 HasRead-more text rest after zs count value read is found = record { onward = onward; back = back }
   where
@@ -184,6 +191,7 @@ one_number-length text after count value z is found a =
     let front : length (take count after) ≡ count = length-take-le count after found.in_text in
     omega arith
 
+-- where the text behind a name doesn't spell these numbers, the line isn't one of the name and them
 pub HasNoNumbers-named : (name line text : List ℕ) → line ≡ name ++ text → (zs : List ℤ) → (Spells text zs → ⊥) → IsNamed name line zs → ⊥
 HasNoNumbers-named name line text is zs none a =
     none (subst (λ (t : List ℕ). Spells t zs) (append_cancel_left name a.numbers text (sym a.is ∙ is)) a.spelled)
@@ -195,6 +203,7 @@ pub one_named : (name line text : List ℕ) (r : Option ℤ) → line ≡ name +
 one_named name line text None is h = λ z a. HasNoNumbers-named name line text is (z ∷ []) (h z) a
 one_named name line text (Some v) is h = (h.0, record { numbers = text; is = is; spelled = h.1 }, h.2)
 
+-- what was found of the numbers that a text behind a name spells was found of those of the line
 pub numbers_named : {N : Type 0} (P : N → List ℤ → Type 0) (name line text : List ℕ) (r : Option N) → line ≡ name ++ text
     → MatchOption r ((zs : List ℤ) → Spells text zs → ⊥) (λ v. (zs : List ℤ) × Spells text zs × P v zs)
     → MatchOption r ((zs : List ℤ) → IsNamed name line zs → ⊥) (λ v. (zs : List ℤ) × IsNamed name line zs × P v zs)
@@ -227,6 +236,7 @@ pub record HasKept (text rest : List ℕ) (wanted count : ℕ) (limited : Bool) 
   pub kept : first ≡ map held (take wanted numbers)
   pub room : count + length rest ≤ length text
 
+-- at first nothing has been read, and nothing is kept
 pub HasKept-none : (text : List ℕ) (wanted : ℕ) → HasKept text text wanted 0 true []
 HasKept-none text wanted = record {
   numbers = [];

@@ -12,13 +12,16 @@ use Rattle.qap_lines.proofs.Words.{no_minus, decimal_fronts}
 pub reads_wide : (z : ℤ) → unsigned_abs z ≤ 10 ^ 25 → to_z w128 (of_z w128 z) ≡ z
 reads_wide z h = to_z-of_z w128 z (fits_signed_from_abs w128 z (omega arith))
 
+-- a number of at most 10^25 is exact in 128 bits
 pub reads_positive : (z : ℤ) (m : ℕ) → z ≡ pos m → m ≤ 10 ^ 25 → to_z w128 (of_z w128 z) ≡ pos m
 reads_positive z m is small = ap (λ y. to_z w128 (of_z w128 y)) is ∙ reads_wide (pos m) small
 
+-- the same for its negative
 pub reads_negative : (z : ℤ) (m : ℕ) → z ≡ neg_ℤ (pos m) → m ≤ 10 ^ 25 → to_z w128 (of_z w128 z) ≡ neg_ℤ (pos m)
 reads_negative z zero is small = ap (λ y. to_z w128 (of_z w128 y)) is ∙ reads_wide (pos 0) small
 reads_negative z (suc m) is small = ap (λ y. to_z w128 (of_z w128 y)) is ∙ reads_wide (negsuc m) small
 
+-- a number without a sign at the front of a text is a number there
 pub IsFrontNumber-positive : (text : List ℕ) (count magnitude : ℕ) (value : ℤ) → IsFrontDecimal text count magnitude → value ≡ pos magnitude → IsFrontNumber text count value
 IsFrontNumber-positive text count magnitude value found is = record {
   in_text = found.in_text;
@@ -28,6 +31,7 @@ IsFrontNumber-positive text count magnitude value found is = record {
   is = is ∙ ap pos found.value;
 }
 
+-- where there is none, and the text doesn't begin with a minus, no number is at its front
 pub HasNoFrontNumber-positive : (text : List ℕ) → HasNoFrontDecimal text → get_or text 0 0 ≢ 45 → HasNoFrontNumber text
 HasNoFrontNumber-positive text found other = record { none = none }
   where
@@ -44,6 +48,7 @@ behind_minus text word digits front is = record {
   ends = front.ends;
 }
 
+-- where there is none behind a minus, no number is at the front
 pub HasNoFrontNumber-negative : (text : List ℕ) → HasNoFrontDecimal text → HasNoFrontNumber (45 ∷ text)
 HasNoFrontNumber-negative text found = record { none = none }
   where
@@ -52,6 +57,7 @@ HasNoFrontNumber-negative text found = record { none = none }
     none word (negsuc n) front number =
         found.none number.0 (suc n) (behind_minus text word number.0 front number.1) number.2
 
+-- where zero stands behind a minus, no number is at the front
 pub HasNoFrontNumber-minus_zero : (text : List ℕ) (count magnitude : ℕ) → IsFrontDecimal text count magnitude → magnitude ≡ 0 → HasNoFrontNumber (45 ∷ text)
 HasNoFrontNumber-minus_zero text count magnitude found is = record { none = none }
   where
@@ -64,6 +70,7 @@ HasNoFrontNumber-minus_zero text count magnitude found is = record { none = none
         let held : magnitude ≡ min found.number (10 ^ 25) = found.value in
         omega arith
 
+-- where another number without a sign stands behind a minus, its negative is at the front
 pub IsFrontNumber-negative : (text : List ℕ) (count magnitude : ℕ) (value : ℤ) → IsFrontDecimal text count magnitude → magnitude ≢ 0 → value ≡ neg_ℤ (pos magnitude) → IsFrontNumber (45 ∷ text) (count + 1) value
 IsFrontNumber-negative text count magnitude value found some is = go found.number found.spelled found.value
   where

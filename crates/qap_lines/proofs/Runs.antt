@@ -34,6 +34,7 @@ front_ends text word front =
     sym (ap (λ l. get_or l (length word) 0) front.is ∙ get_or-append_right word front.rest (length word) (length word) 0 refl (omega arith) ∙ ap (λ i. get_or front.rest i 0) here) in
     subst IsNoDigit same front.ends
 
+-- the bytes before one that is no digit are a word at the front of the text
 pub IsFront-take : (text : List ℕ) (count : ℕ) → IsNoDigit (get_or text count 0) → IsFront text (take count text)
 IsFront-take text count ends = let start : count + 0 ≡ count = omega arith in record {
   rest = drop count text;

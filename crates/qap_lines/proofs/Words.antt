@@ -69,6 +69,7 @@ IsNumber-unique word (negsuc m) (negsuc n) a b =
 pub HasNoLine-decimal : (word : List ℕ) (n : ℕ) → IsDecimal word n → HasNoLine word
 HasNoLine-decimal word n a = record { each = λ i below e. let digit = a.digits i below in absurd (omega arith) }
 
+-- the word of a number has no line feed
 pub HasNoLine-number : (word : List ℕ) (z : ℤ) → IsNumber word z → HasNoLine word
 HasNoLine-number word (pos n) a = HasNoLine-decimal word n a
 HasNoLine-number word (negsuc n) a =
@@ -176,10 +177,12 @@ pub decimal_word : (n : ℕ) → n < 10 ^ 64 → (word : List ℕ) → IsDecimal
 decimal_word =
     decimal_by_steps_wide (λ n digits. (word : List ℕ) → IsDecimal word n → word ≡ digits) decimal_word_one decimal_word_more
 
+-- a number from -10^24 to 10^24 in decimal is a word of it
 pub IsNumber-signed_decimal : (z : ℤ) → unsigned_abs z ≤ 10 ^ 24 → IsNumber (signed_decimal z) z
 IsNumber-signed_decimal (pos n) small = IsDecimal-decimal n (omega arith)
 IsNumber-signed_decimal (negsuc n) small = (decimal (suc n), refl, IsDecimal-decimal (suc n) (omega arith))
 
+-- such a number has no other word
 pub number_word : (word : List ℕ) (z : ℤ) → IsNumber word z → unsigned_abs z ≤ 10 ^ 24 → word ≡ signed_decimal z
 number_word word (pos n) a small = decimal_word n (omega arith) word a
 number_word word (negsuc n) a small =

@@ -10,6 +10,7 @@ use Rattle.qap_lines.specs.LineText.{numbers_text, line_text}
 use Rattle.qap_lines.specs.Writing.{HasWritten, HasStopped, Writes}
 use Rattle.qap_lines.specs.declared.writing.WriteError.{WriteError}
 
+-- the text of two lists, one behind the other, is their texts in that order
 pub numbers_text-append : (xs ys : List ℤ) → numbers_text (xs ++ ys) ≡ numbers_text xs ++ numbers_text ys
 numbers_text-append [] ys = refl
 numbers_text-append (x ∷ xs) ys =
@@ -29,6 +30,7 @@ pub numbers_text-both : (line first second : List ℕ) (u v : List ℤ) → firs
 numbers_text-both line first second u v one two =
     two ∙ ap (λ l. l ++ numbers_text v) one ∙ append_assoc line (numbers_text u) (numbers_text v) ∙ ap (λ l. line ++ l) (sym (numbers_text-append u v))
 
+-- where a writer is as it was, the empty text has been written
 pub HasWritten-nothing : {T : Type 0} (contents : T → Option (List ℕ)) (old : CountedDevice T) → HasWritten contents old old []
 HasWritten-nothing contents old = record { bytes = Appends-nil (contents old.inner); count = refl }
 
@@ -58,13 +60,13 @@ HasStopped-longer contents old new text more e h = record {
   fault = h.fault;
 }
 
--- what a passed-on error comes to
+-- the outcome of passing on an error
 pub fails_with : {T S : Type 0} (contents : T → Option (List ℕ)) (old new : CountedDevice T) (text : List ℕ) (r : Result S WriteError) (e : WriteError) → IsErrAnd r (λ f. f ≡ e) → HasStopped contents old new text e
     → Writes contents old new text r
 fails_with contents old new text (Ok x) e is stopped = absurd is
 fails_with contents old new text (Err f) e is stopped = subst (HasStopped contents old new text) (sym is) stopped
 
--- what a call comes to, that comes after a text
+-- the outcome of a call that follows a text
 pub Writes-then : {T S : Type 0} (contents : T → Option (List ℕ)) (old middle new : CountedDevice T) (text more : List ℕ) (r : Result S WriteError) → HasWritten contents old middle text → Writes contents middle new more r
     → Writes contents old new (text ++ more) r
 Writes-then contents old middle new text more (Ok x) first second = HasWritten-then contents old middle new text more first second
@@ -74,7 +76,7 @@ Writes-then contents old middle new text more (Err e) first second = HasStopped-
 pub Writes-same : {T S : Type 0} (contents : T → Option (List ℕ)) (old new : CountedDevice T) (text other : List ℕ) (r : Result S WriteError) → text ≡ other → Writes contents old new text r → Writes contents old new other r
 Writes-same contents old new text other r same h = subst (λ (l : List ℕ). Writes contents old new l r) same h
 
--- what writing a number comes to, by what the number is
+-- the outcome of writing a number, by what the number is
 pub writes_number : {T S : Type 0} (contents : T → Option (List ℕ)) (old new : CountedDevice T) (name : List ℕ) (r : Result S WriteError) (y z : ℤ) → y ≡ z → Writes contents old new (line_text name (y ∷ [])) r
     → Writes contents old new (line_text name (z ∷ [])) r
 writes_number contents old new name r y z same h = subst (λ (x : ℤ). Writes contents old new (line_text name (x ∷ [])) r) same h

@@ -9,7 +9,7 @@ pub record IsFront (text word : List ℕ) : Type 0 where
   pub is : text ≡ word ++ rest
   pub ends : IsNoDigit (slice_index rest 0)
 
--- the text begins with a number without a sign, of so many bytes
+-- the text begins with a number without a sign, of this many bytes
 pub record IsFrontDecimal (text : List ℕ) (count magnitude : ℕ) : Type 0 where
   pub in_text : count ≤ length text
   pub front : IsFront text (take count text)
@@ -17,7 +17,7 @@ pub record IsFrontDecimal (text : List ℕ) (count magnitude : ℕ) : Type 0 whe
   pub spelled : IsDecimal (take count text) number
   pub value : magnitude ≡ min number (10 ^ 25)
 
--- the text begins with a number of so many bytes
+-- the text begins with a number of this many bytes
 pub record IsFrontNumber (text : List ℕ) (count : ℕ) (value : ℤ) : Type 0 where
   pub in_text : count ≤ length text
   pub front : IsFront text (take count text)
@@ -25,8 +25,10 @@ pub record IsFrontNumber (text : List ℕ) (count : ℕ) (value : ℤ) : Type 0 
   pub spelled : IsNumber (take count text) number
   pub is : value ≡ held number
 
+-- no number without a sign is at the front of the text
 pub record HasNoFrontDecimal (text : List ℕ) : Type 0 where
   pub none : (word : List ℕ) (n : ℕ) → IsFront text word → IsDecimal word n → ⊥
 
+-- no number is at the front of the text
 pub record HasNoFrontNumber (text : List ℕ) : Type 0 where
   pub none : (word : List ℕ) (z : ℤ) → IsFront text word → IsNumber word z → ⊥

@@ -1,4 +1,4 @@
--- What writing a text comes to.
+-- The outcome of writing a text.
 use Rattle.std.specs.Prelude.{◌≡◌, ℕ, List, Option, Result, MatchResult}
 use Rattle.std.specs.Io.KnownBytes.{Appends}
 use Rattle.qap_io.specs.Counting.{CountedDevice}
@@ -15,6 +15,6 @@ pub record HasWritten {T : Type 0} (contents : T → Option (List ℕ)) (old new
 abbrev pub HasStopped : {T : Type 0} → (T → Option (List ℕ)) → CountedDevice T → CountedDevice T → List ℕ → WriteError → Type 0
 HasStopped contents old new text e = StopsBy OutOfMemory Device contents old new text e
 
--- what a call comes to that is to write the text
+-- the outcome of a call that is to write the text
 abbrev pub Writes : {T S : Type 0} → (T → Option (List ℕ)) → CountedDevice T → CountedDevice T → List ℕ → Result S WriteError → Type 0
 Writes contents old new text r = MatchResult r (λ _. HasWritten contents old new text) (HasStopped contents old new text)

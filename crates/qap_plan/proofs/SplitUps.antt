@@ -29,7 +29,7 @@ IsSplitUp-skeleton I start p s first less h = record {
   enough = enough_least I s h;
 }
 
--- what was begun with a permutation, and came to a skeleton no dearer than it
+-- what was begun with a permutation, and yielded a skeleton that costs no more than it
 pub IsSplitUp-begun : (I : Problem) (start : Option (List ℕ)) (p : List ℕ) (c : ℤ) (r : Result Skeleton PlanError) → IsNoDearer I start (cost_of I p) → c ≤ℤ cost_of I p → IfOk r (IsSkeleton I)
     → IfOk r (λ s. s.proof.cost ≤ℤ c) → IfOk r (IsSplitUp I start)
 IsSplitUp-begun I start p c (Ok s) first less h no_dearer = IsSplitUp-skeleton I start p s first (omega (arith, ints, less, no_dearer)) h

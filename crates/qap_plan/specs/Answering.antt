@@ -1,4 +1,4 @@
--- What a run comes to.
+-- What a run yields.
 use Rattle.std.specs.Prelude.{◌≡◌, ℕ, ◌⊎◌, Bool, List, Option}
 use Rattle.qap_cost.specs.Instance.{Problem}
 use Rattle.qap_io.specs.Counting.{CountedDevice}
@@ -12,7 +12,7 @@ use Rattle.qap_plan.specs.declared.error.PlanError.{PlanError}
 use Rattle.qap_plan.specs.declared.error.PlanError.TheVariants.{Device}
 use Rattle.qap_plan.specs.declared.planning.Planned.{Planned}
 
--- the input has an instance to be searched, and a start where one is asked for, and this is what the search has come to
+-- the input has an instance to be searched, and a start where one is asked for, and this is what the search has found
 pub record ComesTo {R Q : Type 0} (i : Input R) (s : Starting Q) (passes : Bool) (x : Planned) : Type 0 where
   pub problem : Problem
   pub input : HasPlan i passes problem

@@ -1,4 +1,4 @@
--- What a run on a problem with names comes to.
+-- What a run on a problem with names yields.
 use Rattle.std.specs.Prelude.{◌≡◌, ℕ, ◌⊎◌, List, Option}
 use Rattle.qap_io.specs.Counting.{CountedDevice}
 use Rattle.qap_io.specs.Writing.{BreaksOff, Sends}
@@ -10,7 +10,8 @@ use Rattle.qap_plan.specs.declared.error.PlanError.{PlanError}
 use Rattle.qap_plan.specs.declared.error.PlanError.TheVariants.{Device, OutOfMemory}
 use Rattle.qap_plan.specs.declared.planning.Planned.{Planned}
 
--- there is a start where one is asked for, and this is what the search of the arrangements that keep what is fixed has come to
+-- there is a start where one is asked for, and this is what the search of the arrangements that keep what is fixed has
+-- found
 pub record IsArranged {Q : Type 0} (P : NamedProblem) (s : Starting Q) (x : Planned) : Type 0 where
   pub start : Option (List ℕ)
   pub begins : HasStart s P.instance start

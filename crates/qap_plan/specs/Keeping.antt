@@ -1,4 +1,4 @@
--- What a search of the arrangements that keep what is fixed comes to.
+-- What a search of the arrangements that keep what is fixed yields.
 use Rattle.std.specs.Prelude.{◌≡◌, ◌↔◌, ◌≤ℤ◌, ⊤, ℕ, ℤ, List, Option, Some, None}
 use Rattle.qap_cost.specs.Instance.{Problem}
 use Rattle.qap_cost.specs.Objective.{Permutes, cost_of}
@@ -19,7 +19,7 @@ pub record IsKept (I : Problem) (x : Placement) (start : Option (List ℕ)) (p :
   pub none_less : (q : List ℕ) → Completes x q → g ≤ℤ cost_of I q
   pub at_most : g ≤ℤ c
 
--- what a search over what is fixed has come to from a first permutation: its own may not keep what is fixed
+-- what a search over what is fixed has found from a first permutation: its own may not keep what is fixed
 pub record IsSearched (I : Problem) (x : Placement) (first p : List ℕ) (c g : ℤ) : Type 0 where
   pub permutes : Permutes I p
   pub costs : cost_of I p ≡ c

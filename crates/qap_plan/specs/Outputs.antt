@@ -1,4 +1,4 @@
--- What a run comes to that writes several outputs.
+-- What a run that writes several outputs yields.
 use Rattle.std.specs.Prelude.{ℕ}
 use Rattle.qap_io.specs.declared.status.Status.{Status}
 use Rattle.qap_io.specs.declared.status.Status.TheVariants.{Done, Refused, Usage, OutOfMemory, Unfinished, Stopped}

@@ -1,4 +1,4 @@
--- What a search of an instance comes to.
+-- What a search of an instance yields.
 use Rattle.std.specs.Prelude.{◌≡◌, ◌≤ℤ◌, ℕ, ℤ, List, Option, Some, None}
 use Rattle.qap_cost.specs.Instance.{Problem}
 use Rattle.qap_cost.specs.Objective.{NoneCostsLess, Permutes, cost_of}

@@ -26,7 +26,7 @@ pub record NoInstance {R : Type 0} (i : Input R) (e : PlanError) : Type 0 where
   pub is : e ≡ of_text fault
   pub of_input : HasNoInstance i fault
 
--- an instance is followed by a word; so many bytes stand before it
+-- an instance is followed by a word; this many bytes stand before it
 pub record HasRest {R : Type 0} (i : Input R) (e : PlanError) : Type 0 where
   pub problem : Problem
   pub rest : List ℕ

@@ -4,6 +4,7 @@ use Rattle.qap_proof.specs.declared.error.ProofError.TheVariants.{OutOfMemory as
 use Rattle.qap_plan.specs.declared.error.PlanError.{PlanError}
 use Rattle.qap_plan.specs.declared.error.PlanError.TheVariants.{Proof, OutOfMemory, Device}
 
+-- the run's error for each fault of such a proof
 abbrev pub of_proof : ProofError → PlanError
 of_proof ProofMemory = OutOfMemory
 of_proof ProofDevice = Device

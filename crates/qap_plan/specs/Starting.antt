@@ -52,6 +52,7 @@ pub record Starting (Q : Type 0) : Type 0 where
   pub before : Option (CountedDevice Q)
   pub after : Option (CountedDevice Q)
 
+-- the start with this reader, before and after
 abbrev pub starting_of : {Q : Type 0} → (Q → Option (List ℕ)) → Option (CountedDevice Q) → Option (CountedDevice Q) → Starting Q
 starting_of bytes before after = record { bytes = bytes; before = before; after = after }
 

@@ -23,7 +23,7 @@ pub fn answer_text(
     Ok(text)
 }
 
-/// The same where nothing shows the bound: it is told as stated.
+/// The same where nothing shows the bound: it is reported as stated.
 pub fn stated_text(
     alloc: Global,
     permutation: &Perm,

@@ -21,9 +21,10 @@ use std::sync::Wait;
 use std::thread::Threads;
 use std::time;
 
-/// Searches the arrangements of a problem with names that keep what is fixed, from a start where there is a reader of one, and writes where each department stands and what is proved of
-/// the cost, in the plan's own units; what the search has come to is answered too. Where there is no answer, nothing is written; where the writer
-/// fails, a beginning of the text has gone out.
+/// Searches the arrangements of a problem with names that keep what is fixed, from a start where there is a reader of
+/// one, and writes where each department stands and what is proved of the cost, in the plan's own units; what the
+/// search has found is answered too. Where there is no answer, nothing is written; where the writer fails, a beginning
+/// of the text has gone out.
 pub fn plan_named<T, Q, W, K>(
     system: &T,
     alloc: Global,

@@ -70,7 +70,7 @@ fn check_instance(rt: &HostRuntime, request: &CheckRequest<'_>, proof: Option<&[
     }
 }
 
-/// Prints the line, or tells why the proof is refused.
+/// Prints the line, or reports why the proof is refused.
 fn tell(
     rt: &HostRuntime,
     request: &CheckRequest<'_>,

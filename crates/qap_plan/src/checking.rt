@@ -1,4 +1,4 @@
-//! What is told of an answer to an instance that was judged.
+//! What is reported of an answer to an instance that was judged.
 
 ghost use Rattle.std.specs.Prelude.{◌≡◌, IfOk, MatchOption};
 ghost use Rattle.qap_cost.specs.Objective.{Permutes, cost_of};
@@ -10,7 +10,7 @@ use plan_check::{ProofFault, proved_bound};
 use qap_cost::{Instance, Partial, Perm, cost};
 use std::alloc::Global;
 
-/// The line that tells what a permutation costs, and where there is the text of a proof, what that shows.
+/// The line that reports what a permutation costs, and where there is the text of a proof, what that shows.
 pub fn checked_numbers(
     alloc: Global,
     instance: &Instance,

@@ -26,7 +26,7 @@ pub fn convert(alloc: Global, problem: &NamedProblem) -> Result<Converted, Alloc
     Ok(Converted { text, names })
 }
 
-/// The line that tells the size, and what the tables were multiplied with.
+/// The line that states the size, and what the tables were multiplied with.
 pub fn summary(alloc: Global, problem: &NamedProblem) -> Result<String, AllocError> {
     let size = problem.instance.size();
     let flows = power_of_ten(alloc, problem.flow_scale)?;

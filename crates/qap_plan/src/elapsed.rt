@@ -15,7 +15,7 @@ pub struct Elapsed<'a, T: time::Clock> {
 }
 
 impl<'a, T: time::Clock> Elapsed<'a, T> {
-    /// A run that begins now, and may take so many seconds.
+    /// A run that begins now, and may take this many seconds.
     pub fn new(system: &'a T, seconds: Option<u64>) -> Elapsed<'a, T> {
         Elapsed {
             system,

@@ -24,7 +24,7 @@ pub enum PlanError {
     /// The start states another cost than it has, which is this.
     #[error("the arrangement costs {0}, which is not what the file states")]
     StartCost(i128),
-    /// A text tells no node.
+    /// A text gives no node.
     #[error("the node is no facilities and locations by turns, as \"1 5 2 7\": counted from 1, facilities ascending, one blank between")]
     Node,
     /// A proof that was put together is none for the instance.

@@ -10,8 +10,9 @@ use qap_cost::Perm;
 use serde_json::{Map, Value, json};
 use std::alloc::{AllocError, Global};
 
-/// The answer, in one object: `status` is `optimal` or `bounded`; `cost` and `bound` are texts, since they may pass 64 bits;
-/// `permutation` has the location of each facility, counted from 1; `nodes` were decided and `open` were left open, in so many `milliseconds`.
+/// The answer, in one object: `status` is `optimal` or `bounded`; `cost` and `bound` are texts, since they may pass 64
+/// bits; `permutation` has the location of each facility, counted from 1; `nodes` were decided and `open` were left
+/// open, in this many `milliseconds`.
 pub fn json_text(alloc: Global, answer: &Planned, milliseconds: u64) -> Result<String, AllocError> {
     let cost = answer.cost;
     let bound = answer.bound;

@@ -1,4 +1,4 @@
-//! The files of answers and proofs that are judged, and what is told of them.
+//! The files of answers and proofs that are judged, and what is reported of them.
 
 use crate::error::PlanError;
 use crate::outputs::print_text;
@@ -9,7 +9,7 @@ use qap_text::{MAX_INPUT, read_all};
 use std::fs;
 use std::process::ExitCode;
 
-/// All bytes of a file for a run: why there are none is told on standard error, and the exit status comes back.
+/// All bytes of a file for a run: why there are none is reported on standard error, and the exit status comes back.
 pub fn bytes_of(rt: &HostRuntime, file: &str) -> Result<Vec<u8>, ExitCode> {
     let Ok(opened) = fs::open(rt, file) else {
         return Err(refuse(rt, file, PlanError::Device));

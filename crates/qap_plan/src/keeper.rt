@@ -2,8 +2,8 @@
 
 use qap_search::{Clock, Observer, Stop};
 
-/// Keeps a run: tells its time, may stop it, watches how far it has come, and tells what memory it takes.
+/// Keeps a run: reports its time, may stop it, watches how far it has come, and reports what memory it takes.
 pub trait Keeper: Clock + Stop + Observer {
-    /// How many bytes of memory the program has now, where that can be told.
+    /// How many bytes of memory the program has now, where that can be found out.
     fn resident_bytes(&self) -> Option<u64>;
 }

@@ -60,8 +60,8 @@ where
     Ok(kept_or_first(instance, fixed, first, planned_by(found)))
 }
 
-/// The permutation that the search begins with: what a tabu search comes to that keeps what is fixed, from the start, or any, made to keep
-/// it.
+/// The permutation that the search begins with: what a tabu search finds that keeps what is fixed, from the start, or
+/// any, made to keep it.
 fn kept_start<S: Stop>(
     alloc: Global,
     instance: &Instance,
@@ -100,7 +100,8 @@ fn own_start(
     }
 }
 
-/// What a search has come to, where its permutation keeps what is fixed; else the same bound with the permutation that it began with.
+/// What a search has found, where its permutation keeps what is fixed; else the same bound with the permutation that it
+/// began with.
 fn kept_or_first(instance: &Instance, fixed: &Partial, first: Perm, found: Planned) -> Planned
     requires size { fixed.now.size ≡ instance.now.size }
     requires first { Completes fixed.now first }

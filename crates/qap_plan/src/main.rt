@@ -252,7 +252,7 @@ fn finish(
     ExitCode::from(status.code())
 }
 
-/// How a run ends that has come to an answer.
+/// How a run ends that has found an answer.
 pub(crate) fn end_of(answer: &Planned) -> Status {
     if answer.is_optimal() {
         Status::Done

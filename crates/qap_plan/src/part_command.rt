@@ -13,7 +13,7 @@ use std::alloc::{AllocError, Global};
 pub struct PartRequest<'a> {
     /// The file of the instance.
     pub file: &'a str,
-    /// The node: facilities and locations by turns.
+    /// The node: facilities and locations alternately.
     pub node: &'a str,
     /// The file of the solution that is to be begun with.
     pub start: &'a str,

@@ -18,7 +18,7 @@ use std::sync::Wait;
 use std::thread::Threads;
 use std::time;
 
-/// What a search below a node has come to.
+/// What a search below a node has found.
 #[derive(Drop)]
 pub struct Parted {
     /// No permutation that completes the node costs less than its bound.

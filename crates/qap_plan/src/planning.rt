@@ -1,4 +1,4 @@
-//! Searches an instance for a permutation of least cost, from one that a tabu search comes to.
+//! Searches an instance for a permutation of least cost, from one that a tabu search finds.
 
 ghost use Rattle.std.specs.Prelude.{◌≡◌, ◌≤ℤ◌, ◌↔◌, None, Some, true, IfOk, IfSome};
 ghost use Rattle.qap_cost.specs.Objective.{Permutes, cost_of};
@@ -21,7 +21,7 @@ use std::sync::Wait;
 use std::thread::Threads;
 use std::time;
 
-/// What a search has come to.
+/// What a search has found.
 #[derive(Drop)]
 pub struct Planned {
     /// The best permutation found.

@@ -35,7 +35,7 @@ pub fn telling_of(rt: &HostRuntime, asked: bool) -> Telling {
     }
 }
 
-/// Keeps the time of a search, watches it, tells what memory it takes, and may stop it where its time is over.
+/// Keeps the time of a search, watches it, reports what memory it takes, and may stop it where its time is over.
 #[derive(Drop)]
 pub struct Teller<'a, R: Eprint + AllocGlobal + Files, T: time::Clock> {
     rt: &'a R,
@@ -46,7 +46,7 @@ pub struct Teller<'a, R: Eprint + AllocGlobal + Files, T: time::Clock> {
 }
 
 impl<'a, R: Eprint + AllocGlobal + Files, T: time::Clock> Teller<'a, R, T> {
-    /// One that has told nothing yet.
+    /// One that has reported nothing yet.
     pub fn new(rt: &'a R, elapsed: &'a Elapsed<'a, T>, telling: Telling) -> Teller<'a, R, T> {
         Teller {
             rt,
@@ -106,8 +106,8 @@ impl<R: Eprint + AllocGlobal + Files, T: time::Clock> Keeper for Teller<'_, R, T
     }
 }
 
-/// How far a search has come after so many milliseconds, in at most 79 columns: the seconds, the nodes that are decided and open, how
-/// many were decided in a second, the best cost, and how many of the root's children are done.
+/// How far a search has come after this many milliseconds, in at most 79 columns: the seconds, the nodes that are
+/// decided and open, how many were decided in a second, the best cost, and how many of the root's children are done.
 pub fn progress_line(
     alloc: Global,
     milliseconds: u64,

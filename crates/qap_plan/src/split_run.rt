@@ -59,7 +59,7 @@ where
     }
 }
 
-/// The permutation that is asked for to begin with; why there is none is told on standard error.
+/// The permutation that is asked for to begin with; why there is none is reported on standard error.
 fn start_of(
     rt: &HostRuntime,
     request: &SplitRequest<'_>,

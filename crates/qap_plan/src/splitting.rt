@@ -18,18 +18,18 @@ use std::sync::Wait;
 use std::thread::Threads;
 use std::time;
 
-/// The proof of the whole that a search has come to which was stopped early, and the parts that are left to search.
+/// The proof of the whole that a search which was stopped early has found, and the parts that are left to search.
 #[derive(Drop)]
 pub struct Skeleton {
     pub proof: Proof,
-    /// The hardest first, as far as their bounds tell.
+    /// The hardest first, as far as their bounds show.
     pub parts: Vec<MissingPart>,
     /// How many nodes were decided.
     pub nodes: u64,
 }
 
-/// Splits the hardest part again and again, from the start or any permutation, until so many parts are wanted no more, none is left, the
-/// limit of nodes is reached or the stop is wanted.
+/// Splits the hardest part again and again, from the start or any permutation, until there are as many parts as are
+/// wanted, none is left, the limit of nodes is reached or the stop is wanted.
 pub fn split_up<T, K>(
     system: &T,
     alloc: Global,
@@ -166,7 +166,7 @@ fn bound_of(part: &Proof, others: &[MissingPart]) -> i128 {
     }
 }
 
-/// A search by one worker that decides so many nodes.
+/// A search by one worker that decides this many nodes.
 fn one_node(nodes: u64) -> Options
     ensures { AreLimited result }
 {

@@ -17,6 +17,7 @@ pub record IsAscendingTo (i : ℕ) (x y : Placement) : Type 0 where
   pub places : AreAmong y x
   pub all : (t : ℕ) → t < length x.facilities → get_or x.facilities t 0 < i → StandsAt y (get_or x.facilities t 0) (get_or x.places t 0)
 
+-- the empty node places, ascending, what x places of the facilities below 0: none
 pub IsAscendingTo-root : (x : Placement) → IsPlacement x → IsPlacement (root_of x.size) → IsAscendingTo 0 x (root_of x.size)
 IsAscendingTo-root x h root = record {
   placement = root;
@@ -27,12 +28,14 @@ IsAscendingTo-root x h root = record {
   all = λ t below less. absurd (omega (arith, less));
 }
 
+-- facility i, which x places, is still free in y
 pub ascending_facility : (i k : ℕ) (x y : Placement) → IsPlacement x → IsAscendingTo i x y → StandsAt x i k → IsFreeFacility y i
 ascending_facility i k x y h to at = record {
   within = let at_is = at.facility in omega (arith, h.facilities.within at.turn at.placed, at_is, to.size);
   untaken = λ t below same. omega (arith, to.below t below, same);
 }
 
+-- the same for the location at which x places it
 pub ascending_location : (i k : ℕ) (x y : Placement) → IsPlacement x → IsAscendingTo i x y → StandsAt x i k → IsFreeLocation y k
 ascending_location i k x y h to at = record {
   within = omega (arith, h.places.within at.turn (omega (arith, at.placed, h.paired)), at.location, to.size);
@@ -61,6 +64,7 @@ StandsAt-placed y i k paired = record {
   location = at_last y.places k (length y.facilities) (sym paired);
 }
 
+-- with facility i placed in y as in x, y has those below i + 1
 pub IsAscendingTo-placing : (i k : ℕ) (x y : Placement) → IsPlacement x → IsAscendingTo i x y → StandsAt x i k → IsAscendingTo (i + 1) x (placing y i k)
 IsAscendingTo-placing i k x y h to at =
     let m = length y.facilities in
@@ -103,6 +107,7 @@ IsAscendingTo-placing i k x y h to at =
           ];
     }
 
+-- where x doesn't place facility i, y already has those below i + 1
 pub IsAscendingTo-none : (i : ℕ) (x y : Placement) → IsAscendingTo i x y → ((k : ℕ) → StandsAt x i k → ⊥) → IsAscendingTo (i + 1) x y
 IsAscendingTo-none i x y to none = record {
   placement = to.placement;
@@ -117,6 +122,7 @@ IsAscendingTo-none i x y to none = record {
       ];
 }
 
+-- once i has reached the size, y places what x places, ascending
 pub IsAscendingOf-all : (i : ℕ) (x y : Placement) → IsPlacement x → x.size ≤ i → IsAscendingTo i x y → IsAscendingOf x y
 IsAscendingOf-all i x y h past to = record {
   root = record { placement = to.placement; size = to.size; ascending = to.rises };

@@ -30,6 +30,7 @@ Checked-at I g x s line next ts i t within is h =
     let at : drop i ts ≡ t ∷ drop (i + 1) ts = drop-cons ts i t within ∙ ap₂ (λ (u : Tree) (j : ℕ). u ∷ drop j ts) (sym is) one in
     subst (λ (us : List Tree). Checked I g x s line next i (nodes_of ts) (nodes_of us)) at h
 
+-- the next child is valid: the others are left, from the line behind its own
 pub Checked-more : (I : Problem) (g : ℤ) (x : Placement) (s : Split) (line next after c : ℕ) (all : Nodes) (t : Node) (rest : Nodes) → Checked I g x s line next c all (node t rest) → Valid I g (child x s c) t → after ≡ line_after next (node_count t)
     → Checked I g x s line after (c + 1) all rest
 Checked-more I g x s line next after c all t rest h valid is = record {
@@ -40,6 +41,7 @@ Checked-more I g x s line next after c all t rest h valid is = record {
   shape = h.shape.1;
 }
 
+-- the first fault of the next child is the first of all children
 pub Checked-fault : (I : Problem) (g : ℤ) (x : Placement) (s : Split) (line next c : ℕ) (all : Nodes) (t : Node) (rest : Nodes) (e : ProofError) → Checked I g x s line next c all (node t rest) → IsTreeFault I g (child x s c) next t e
     → IsTreeFaultAmong I g x s 0 line all e
 Checked-fault I g x s line next c all t rest e h fault = h.fault e (inl fault)

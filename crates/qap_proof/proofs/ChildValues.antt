@@ -1,4 +1,4 @@
--- What the duals of a split come to for its children.
+-- What the duals of a split yield for its children.
 use Rattle.std.proofs.Common.{◌≡◌, ℕ, ◌+◌, ◌<◌, ◌≤◌, ◌++◌, [], ◌∷◌, List, length, length-append, get_or, ℤ, pos, unsigned_abs, to_z, of_z, ◌*◌, ◌^◌, sym, ◌∙◌, ap, ap₂, subst, inl, inr, arith}
 use Rattle.std.specs.Prelude.{◌+ℤ◌, ◌-ℤ◌}
 use Rattle.std.proofs.lemmas.Bool.{cases_lt}
@@ -18,7 +18,7 @@ use Rattle.qap_proof.specs.Valid.{Reaches}
 use Rattle.qap_proof.specs.declared.side.Side.{Side}
 use Rattle.qap_proof.specs.declared.side.Side.TheVariants.{Facility, Location}
 
--- what is read past a list's end is 0
+-- what is read at any place of a list within a limit is within it: past the list's end it is 0
 pub AllWithin-at : (limit : ℕ) (xs : List ℤ) (j : ℕ) → AllWithin limit xs → unsigned_abs (get_or xs j (pos 0)) ≤ limit
 AllWithin-at limit xs j h =
     elim (cases_lt j (length xs)) [
@@ -39,6 +39,7 @@ other_location side x others c h is listed below =
     let free : others ≡ free_locations x = listed ∙ ap (λ (s : Side). others_on s x) is in
     subst (λ (l : List ℕ). IsFreeLocation x (get_or l c 0)) (sym free) ((ListsFree-free_below x.size x.places h.places).each c (omega (arith, below, ap length free)))
 
+-- the facility that a child of a split on a location places is free
 pub other_facility : (side : Side) (x : Placement) (others : List ℕ) (c : ℕ) → IsPlacement x → side ≡ Location → others ≡ others_on side x → c < length others → IsFreeFacility x (get_or others c 0)
 other_facility side x others c h is listed below =
     let free : others ≡ free_facilities x = listed ∙ ap (λ (s : Side). others_on s x) is in
@@ -56,6 +57,7 @@ pub record IsAt (x : Placement) (f k row column : ℕ) : Type 0 where
   pub column_within : column < length (free_locations x)
   pub column_of : get_or (free_locations x) column 0 ≡ k
 
+-- the cell of a child is in the row of its facility and the column of its location
 pub IsAt-cell : (side : Side) (x : Placement) (i own c row column : ℕ) → IsPlacement x → IsPlaceOf (own_on side x) i own → c < free_count x → IsCell side own c row column
     → IsAt x (facility_on side x i c) (location_on side x i c) row column
 IsAt-cell Facility x i own c row column placement place below cell = record {
@@ -71,6 +73,7 @@ IsAt-cell Location x k own c row column placement place below cell = record {
   column_of = ap (λ r. get_or (free_locations x) r 0) cell.1 ∙ place.is;
 }
 
+-- what fitting duals yield for the pair of a cell: their value, with the entry there in the place of its two duals
 pub Reaches-at : (I : Problem) (x : Placement) (M : Square) (d : Pair) (f k row column : ℕ) (value : ℤ) → IsMatrix M → IsReduced I x M → DualsFit M d.u d.v → IsAt x f k row column
     → value ≡ fixed_cost_of I x +ℤ dual_value d.u d.v +ℤ (entry_of M row column -ℤ get_or d.u row (pos 0) -ℤ get_or d.v column (pos 0)) → Reaches I x d f k value
 Reaches-at I x M d f k row column value square reduced fit at is = record {
@@ -104,6 +107,7 @@ values_more P xs ys n value long each is here = (
 reads_sum : (z : ℤ) → unsigned_abs z ≤ 10 ^ 27 → to_z w128 (of_z w128 z) ≡ z
 reads_sum z small = to_z-of_z w128 z (fits_signed_from_abs w128 z (omega arith))
 
+-- the sum of a cost of placed facilities and a value of duals, both in range, is exact in 128 bits
 pub sum_of_two : (f d : ℤ) → unsigned_abs f ≤ 65536 * 10 ^ 18 → unsigned_abs d ≤ 512 * 10 ^ 24
     → to_z w128 (of_z w128 (to_z w128 (of_z w128 f) +ℤ to_z w128 (of_z w128 d))) ≡ f +ℤ d
 sum_of_two f d f_small d_small =
@@ -112,6 +116,7 @@ sum_of_two f d f_small d_small =
     let two_is = reads_sum (f +ℤ d) (omega (arith, ints, f_small, d_small)) in
     ap (λ z. to_z w128 (of_z w128 z)) (ap₂ (λ y z. y +ℤ z) f_is d_is) ∙ two_is
 
+-- the same with a third number, from -3 * 10^24 to 3 * 10^24
 pub sum_of_three : (f d m : ℤ) → unsigned_abs f ≤ 65536 * 10 ^ 18 → unsigned_abs d ≤ 512 * 10 ^ 24 → unsigned_abs m ≤ 3 * 10 ^ 24
     → to_z w128 (of_z w128 (to_z w128 (of_z w128 (to_z w128 (of_z w128 f) +ℤ to_z w128 (of_z w128 d))) +ℤ to_z w128 (of_z w128 m))) ≡ f +ℤ d +ℤ m
 sum_of_three f d m f_small d_small m_small =

@@ -99,6 +99,7 @@ IsCovering-more I x c d old new C instance shape proved lesser raised h =
       same_size = h.same_size;
     }
 
+-- the minimum of two costs is the lesser one
 pub IsLesser-min : (a b : ℤ) → IsLesser a b (int_min a b)
 IsLesser-min a b =
     by_lt_z b a
@@ -164,6 +165,7 @@ pub record IsBounding (c : ℤ) (ls : List Leaf) (i : ℕ) (g : ℤ) : Type 0 wh
   pub at_most : g ≤ℤ c
   pub least : (k : ℕ) (d : Leaf) → k < i → g ≤ℤ (get_or ls k d).value
 
+-- the number that bounds the cost and all leaves is the least of the cost and of what the leaves show
 pub IsLeastOf-bounding : (c : ℤ) (ls : List Leaf) (i : ℕ) (g : ℤ) → length ls ≤ i → IsBounding c ls i g → IsLeastOf (c ∷ map (λ (l : Leaf). l.value) ls) g
 IsLeastOf-bounding c ls i g past h = record {
   one = h.one;
@@ -177,6 +179,7 @@ pub record AreRaisedTo (root : Placement) (bound : ℤ) (i : ℕ) (old new : Lis
   pub raised : (k : ℕ) (d : Leaf) → k < i → IsRaised root bound (get_or old k d) (get_or new k d)
   pub others : (k : ℕ) (d : Leaf) → i ≤ k → get_or new k d ≡ get_or old k d
 
+-- with one leaf more, the number is the lesser of the one so far and of what this leaf shows
 pub IsBounding-more : (c : ℤ) (ls : List Leaf) (i : ℕ) (g h : ℤ) (l : Leaf) → i < length ls → l ≡ get_or ls i l → h ≡ int_min g l.value → IsBounding c ls i g → IsBounding c ls (i + 1) h
 IsBounding-more c ls i g h l within is min_is b =
     let value : Leaf → ℤ = λ k. k.value in
@@ -202,10 +205,11 @@ IsBounding-more c ls i g h l within is min_is b =
           ];
     }
 
--- what the first place of a list is by one default it is by any
+-- of the first 0 leaves none is raised: all are as they were
 pub AreRaisedTo-none : (root : Placement) (bound : ℤ) (ls : List Leaf) → AreRaisedTo root bound 0 ls ls
 AreRaisedTo-none root bound ls = record { same = refl; raised = λ k d below. absurd (omega (arith, below)); others = λ k d below. refl }
 
+-- with its raised value in its place, one leaf more is raised
 pub AreRaisedTo-more : (root : Placement) (bound : ℤ) (i : ℕ) (old new : List Leaf) (l : Leaf) (z : ℤ) → i < length old → l ≡ get_or new i l → IsRaisedValue root bound l z → AreRaisedTo root bound i old new
     → AreRaisedTo root bound (i + 1) old (set new i (leaf l.node z))
 AreRaisedTo-more root bound i old new l z within is raised h =
@@ -228,6 +232,7 @@ AreRaisedTo-more root bound i old new l z within is raised h =
           get_or-set_other new i k (leaf l.node z) d other ∙ h.others k d (omega arith);
     }
 
+-- once the first leaves are all of them, the leaves are raised
 pub AreRaised-all : (root : Placement) (bound : ℤ) (i : ℕ) (old new : List Leaf) → length old ≤ i → AreRaisedTo root bound i old new → AreRaised root bound old new
 AreRaised-all root bound i old new past h = (h.same, λ k d below. h.raised k d (omega (arith, below, past)))
 
@@ -242,6 +247,7 @@ IsCovering-added I J x c old new text y d g e instance here proved min_is raised
     (subst (λ (z : ℤ). AreRaised C.root z old new) (sym proved.bound) (subst (λ (w : Placement). AreRaised w g old new) (sym proved.root) raised))
     h
 
+-- the proof of a part stands beside the others: the lesser cost, and the leaves raised by the part
 pub HasPart-added : (I J : Problem) (x : Placement) (c : ℤ) (old new : List Leaf) (text : List ℕ) (y : Placement) (d g e : ℤ) → J ≡ I → ProvesFor J text y d g → e ≡ int_min c d → AreRaised y g old new
     → HasPart text (cover_of I x c old) (cover_of I x e new)
 HasPart-added I J x c old new text y d g e here proved min_is raised =

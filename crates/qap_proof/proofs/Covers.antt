@@ -31,10 +31,11 @@ one_leaf P x z ls is all = All-head P (leaf x z) [] (subst (All P) is all)
 all_of_one : (P : Leaf → Type 0) (x : Placement) (z : ℤ) (ls : List Leaf) → ls ≡ leaf x z ∷ [] → P (leaf x z) → All P ls
 all_of_one P x z ls is h = subst (All P) (sym is) (All-cons P (leaf x z) [] h (All-nil P))
 
--- what completes a node of the instance's size is a permutation of the instance
+-- a bound for the instance's permutations that complete a node of its size is one for all that completes it
 pub Bounded-none : (I : Problem) (x : Placement) (g : ℤ) → I.size ≡ x.size → NoneCompletesForLess I x g → Bounded I g x
 Bounded-none I x g same h q done = h q (record { bijection = done.bijection; same_size = done.same_size ∙ sym same }) done
 
+-- a bound for all that completes a node is one for the instance's permutations that complete it
 pub none_less : (I : Problem) (x : Placement) (g : ℤ) → Bounded I g x → NoneCompletesForLess I x g
 none_less I x g h q permutes done = h q done
 
@@ -66,7 +67,7 @@ pub leaves_bound : (t : Node) (I : Problem) (g b : ℤ) (x : Placement) (ls : Li
 leaves_bound t I g b x ls placement same valid are all =
     none_less I x g (covered_bounds t I g (whole x) placement same tt (Covered-leaves t I g b (whole x) ls placement same valid are all))
 
--- the duals come to one value for a child
+-- the duals yield one value for a child
 pub Reaches-one : (I : Problem) (x : Placement) (d e : Pair) (i k : ℕ) (y z : ℤ) → IsPlacement x → d ≡ e → Reaches I x d i k y → Reaches I x e i k z → y ≡ z
 Reaches-one I x d e i k y z placement same h g =
     let M = h.fits.matrix in
@@ -118,8 +119,10 @@ mutual
       (IsSound-leaves t I b (child x s c) are.0 (placement, free, omega (arith, count)) same valid.0 are.3)
       (IsSound-all_leaves rest I b x s (c + 1) are.1 placement same free (omega (arith, count)) valid.1 are.4))
 
+-- what each leaf of a valid tree shows is so
 pub leaves_shown : (t : Node) (I : Problem) (b : ℤ) (x : Placement) (ls : List Leaf) → IsPlacement x → I.size ≡ x.size → Valid I b (whole x) t → AreLeaves I (whole x) t ls → All (IsShown I) ls
 leaves_shown t I b x ls placement same valid are k d below = (IsSound-leaves t I b (whole x) ls placement same valid are k d below).shown
 
+-- each leaf of a valid tree shows at least the bound
 pub leaves_at_least : (t : Node) (I : Problem) (b : ℤ) (x : Placement) (ls : List Leaf) → IsPlacement x → I.size ≡ x.size → Valid I b (whole x) t → AreLeaves I (whole x) t ls → All (IsAtLeast b) ls
 leaves_at_least t I b x ls placement same valid are k d below = (IsSound-leaves t I b (whole x) ls placement same valid are k d below).least

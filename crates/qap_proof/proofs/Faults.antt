@@ -19,6 +19,7 @@ use Rattle.qap_proof.specs.Valid.{Valid, AllValid}
 use Rattle.qap_proof.specs.declared.error.ProofError.{ProofError}
 use Rattle.qap_proof.specs.declared.side.Side.{Side}
 
+-- duals of m rows and m columns, all in range, have no fault
 pub pair_fault : (m line : ℕ) (d : Pair) (e : ProofError) → IsPairFault m line d e → AreDuals m d.u d.v → ⊥
 pair_fault m line d e fault h =
     elim fault [
@@ -26,6 +27,7 @@ pair_fault m line d e fault h =
       | inr range ↦ range.3 (h.u_range, h.v_range)
     ]
 
+-- the same for the duals of a split, if it has any
 pub may_pair_fault : (m line : ℕ) (o : Option Pair) (e : ProofError) → MayBePairFault m line o e → MayBeDuals m o → ⊥
 may_pair_fault m line None e fault h = fault
 may_pair_fault m line (Some d) e fault h = pair_fault m line d e fault h
@@ -38,6 +40,7 @@ number_fault x line side i e fault some free =
       | inr taken ↦ taken.2 free
     ]
 
+-- a split on what is free, with proper duals and a child for each free one, has no fault
 pub split_fault : (x : Placement) (line : ℕ) (s : Split) (children : ℕ) (e : ProofError) → IsSplitFault x line s children e → IsSplit x s → children ≡ free_count x → ⊥
 split_fault x line s children e fault h count =
     elim fault [
@@ -71,6 +74,7 @@ mutual
         | inr later ↦ shape_fault_among rest x s (c + 1) (line_after line (node_count t)) e later.1 h.1
       ]
 
+-- what has the shape of a proof has no fault of shape
 pub claim_fault : (C : Claim) (e : ProofError) → IsClaimFault C e → IsProof C → ⊥
 claim_fault C e fault h =
     elim fault [
@@ -84,6 +88,7 @@ claim_fault C e fault h =
       ]
     ]
 
+-- a node that its duals close has no fault
 pub closed_fault : (I : Problem) (g : ℤ) (x : Placement) (line : ℕ) (d : Pair) (e : ProofError) → IsClosedFault I g x line d e → Closes I g x d.u d.v → ⊥
 closed_fault I g x line d e fault h =
     elim fault [
@@ -123,6 +128,7 @@ mutual
         | inr later ↦ tree_fault_among rest I g x s (c + 1) (line_after line (node_count t)) e placement free (omega (arith, count)) shapes.1 later.1 h.1
       ]
 
+-- a proof that proves its bound has no fault
 pub proof_fault : (I : Problem) (C : Claim) (e : ProofError) → IsProof C → IsFault I C e → Proves I C → ⊥
 proof_fault I C e proof fault h =
     elim fault [

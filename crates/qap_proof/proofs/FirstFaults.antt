@@ -24,6 +24,7 @@ one_may_pair_fault : (m line : ℕ) (o : Option Pair) (d e : ProofError) → May
 one_may_pair_fault m line None d e a b = absurd a
 one_may_pair_fault m line (Some p) d e a b = one_pair_fault m line p d e a b
 
+-- what a split is on has one fault at most
 pub one_number_fault : (x : Placement) (line : ℕ) (side : Side) (i : ℕ) (d e : ProofError) → IsNumberFault x line side i d → IsNumberFault x line side i e → d ≡ e
 one_number_fault x line side i d e (inl a) (inl b) = a.0 ∙ sym b.0
 one_number_fault x line side i d e (inl a) (inr b) = absurd (omega (arith, a.1, b.1))
@@ -82,6 +83,7 @@ mutual
         ]
       ]
 
+-- there is one first fault of a proof's shape at most
 pub one_claim_fault : (C : Claim) (d e : ProofError) → IsClaimFault C d → IsClaimFault C e → d ≡ e
 one_claim_fault C d e (inl a) (inl b) = a.0 ∙ sym b.0
 one_claim_fault C d e (inl a) (inr (inl b)) = absurd (a.1 b.1)
@@ -153,6 +155,7 @@ no_misfit : (I : Problem) (C : Claim) (e : ProofError) → IsPermMisfit I C.perm
 no_misfit I C e (inl size) same cost = size.1 same
 no_misfit I C e (inr other) same cost = other.2 cost
 
+-- there is one first fault at most of what a proof states
 pub one_fault : (I : Problem) (C : Claim) (d e : ProofError) → IsProof C → IsFault I C d → IsFault I C e → d ≡ e
 one_fault I C d e proof (inl a) (inl b) = one_misfit I C d e a b
 one_fault I C d e proof (inl a) (inr b) = absurd (no_misfit I C d a b.0 b.1)

@@ -22,6 +22,7 @@ pub record Listed (I : Problem) (g : ℤ) (x : Placement) (s : Split) (c : ℕ) 
   pub is : new ≡ old ++ leaves
   pub whole : (others : List Leaf) → AreAllLeaves I x s c rest others → AreAllLeaves I x s 0 all (leaves ++ others)
 
+-- at first all children are left, and nothing stands behind the old leaves
 pub Listed-none : (I : Problem) (g : ℤ) (x : Placement) (s : Split) (all : Nodes) (old : List Leaf) → AllHaveShape x s 0 all → AllValid I g x s 0 all → Listed I g x s 0 all all old old
 Listed-none I g x s all old shape valid = record { shape = shape; valid = valid; leaves = []; is = sym (append-nil old); whole = λ others are. are }
 
@@ -33,6 +34,7 @@ Listed-at I g x s ts i t old new within is h =
     let at : drop i ts ≡ t ∷ drop (i + 1) ts = drop-cons ts i t within ∙ ap₂ (λ (u : Tree) (j : ℕ). u ∷ drop j ts) (sym is) one in
     subst (λ (us : List Tree). Listed I g x s i (nodes_of ts) (nodes_of us) old new) at h
 
+-- the next child's leaves stand behind the others: one child fewer is left
 pub Listed-more : (I : Problem) (g : ℤ) (x : Placement) (s : Split) (c : ℕ) (all : Nodes) (t : Node) (rest : Nodes) (old new after : List Leaf) → Listed I g x s c all (node t rest) old new → ArePushed I (child x s c) t new after
     → Listed I g x s (c + 1) all rest old after
 Listed-more I g x s c all t rest old new after h pushed = record {
@@ -44,6 +46,7 @@ Listed-more I g x s c all t rest old new after h pushed = record {
       subst (AreAllLeaves I x s 0 all) (sym (append_assoc h.leaves pushed.leaves others)) (h.whole (pushed.leaves ++ others) (pushed.leaves, others, refl, pushed.are, are));
 }
 
+-- when no child is left, the leaves of all children stand behind the old ones
 pub Listed-all : (I : Problem) (g : ℤ) (x : Placement) (s : Split) (c : ℕ) (all rest : Nodes) (old new : List Leaf) → rest ≡ no_nodes → Listed I g x s c all rest old new → AreAllPushed I x s all old new
 Listed-all I g x s c all rest old new none h = record {
   leaves = h.leaves;
@@ -55,6 +58,7 @@ Listed-all I g x s c all rest old new none h = record {
 pub ArePushed-split : (I : Problem) (p : Place) (x : Placement) (s : Split) (ts : Nodes) (old new : List Leaf) → x ≡ node_at p → AreAllPushed I x s ts old new → ArePushed I p (split s ts) old new
 ArePushed-split I p x s ts old new here h = record { leaves = h.leaves; is = h.is; are = subst (λ y. AreAllLeaves I y s 0 ts h.leaves) here h.are }
 
+-- the leaves of a tree are those of an equal tree
 pub ArePushed-same : (I : Problem) (p : Place) (t u : Node) (old new : List Leaf) → t ≡ u → ArePushed I p t old new → ArePushed I p u old new
 ArePushed-same I p t u old new same h = subst (λ (v : Node). ArePushed I p v old new) same h
 

@@ -18,15 +18,19 @@ use Rattle.qap_proof.specs.declared.tree.Tree.TheFolds.{fold-roll-Tree}
 pub node_of-Closed : (t : Tree) (d : KeptDuals) → t ≡ ClosedTree d → node_of t ≡ closed (kept_pair_of d)
 node_of-Closed t d is = ap node_of is ∙ ap node_of (sym (rolls-Closed d)) ∙ fold-roll-Tree Node node_step (ClosedLayer d)
 
+-- a tree in memory that is split says the split and what its children say
 pub node_of-Split : (t : Tree) (s : SplitLine) (children : Vec Tree Global) → t ≡ SplitTree s children → node_of t ≡ split (split_of s) (nodes_of children.items)
 node_of-Split t s children is = ap node_of is ∙ ap node_of (sym (rolls-Split s children)) ∙ fold-roll-Tree Node node_step (SplitLayer s children)
 
+-- the same for one that is cut
 pub node_of-Cut : (t : Tree) → t ≡ CutTree → node_of t ≡ cut
 node_of-Cut t is = ap node_of is ∙ ap node_of (sym rolls-Cut) ∙ fold-roll-Tree Node node_step CutLayer
 
+-- the same for one that is mirrored
 pub node_of-Mirrored : (t : Tree) (j : ℕ) (m : List ℕ) → t ≡ MirroredTree j m → node_of t ≡ mirrored j m
 node_of-Mirrored t j m is = ap node_of is ∙ ap node_of (sym (rolls-Mirrored j m)) ∙ fold-roll-Tree Node node_step (MirroredLayer j m)
 
+-- trees in a list are as many children as the list is long
 pub child_count-nodes_of : (ts : List Tree) → child_count (nodes_of ts) ≡ length ts
 child_count-nodes_of [] = omega arith
 child_count-nodes_of (t ∷ ts) = omega (arith, child_count-nodes_of ts)

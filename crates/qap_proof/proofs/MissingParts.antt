@@ -22,6 +22,7 @@ use Rattle.qap_proof.specs.Tree.{Node, closed, split, cut, mirrored, Nodes, no_n
 use Rattle.qap_proof.specs.declared.leaf.Leaf.{Leaf}
 use Rattle.qap_proof.specs.declared.missing.MissingPart.{MissingPart}
 
+-- the leaf's node has this size
 abbrev pub IsSized : ℕ → Leaf → Type 0
 IsSized n l = l.node.size ≡ n
 
@@ -75,6 +76,7 @@ pub record ListsMissingTo (n : ℕ) (c : ℤ) (ls : List Leaf) (i : ℕ) (ms : L
   pub each : All (IsMissing n c ls) ms
   pub all : (k : ℕ) (d : Leaf) → k < i → (get_or ls k d).value <ℤ c → Contains (map (λ (m : MissingPart). m.leaf) ms) k
 
+-- the missing parts in another order are still the missing parts
 pub ListsMissing-moved : (n : ℕ) (c : ℤ) (ls : List Leaf) (old new : List MissingPart) → IsPermutation old new → ListsMissing n c ls old → ListsMissing n c ls new
 ListsMissing-moved n c ls old new moved lists = record {
   each = All-permutation (IsMissing n c ls) old new moved lists.each;
@@ -83,6 +85,7 @@ ListsMissing-moved n c ls old new moved lists = record {
       (IsPermutation-map (λ (m : MissingPart). m.leaf) old new moved) (lists.all k d below less);
 }
 
+-- of the first 0 leaves nothing is missing
 pub ListsMissingTo-none : (n : ℕ) (c : ℤ) (ls : List Leaf) → ListsMissingTo n c ls 0 []
 ListsMissingTo-none n c ls = record { each = All-nil (IsMissing n c ls); all = λ k d below. absurd (omega (arith, below)) }
 
@@ -128,6 +131,7 @@ ListsMissingTo-more n c ls i l old new within is size listed to =
       }
     ]
 
+-- once the first leaves are all of them, the parts are all that are missing
 pub ListsMissing-all : (n : ℕ) (c : ℤ) (ls : List Leaf) (i : ℕ) (ms : List MissingPart) → length ls ≤ i → ListsMissingTo n c ls i ms → ListsMissing n c ls ms
 ListsMissing-all n c ls i ms past to = record { each = to.each; all = λ k d below less. to.all k d (omega (arith, below, past)) less }
 

@@ -50,6 +50,7 @@ held_first w i zs first others is front small =
 pub not_there : (lent first : List ℤ) (n : ℕ) → lent ≡ first → ((k : ℕ) → k < n → 0 < length lent → get_or lent 0 (pos 0) ≢ pos (k + 1)) → (k : ℕ) → k < n → 0 < length first → get_or first 0 (pos 0) ≢ pos (k + 1)
 not_there lent first n is none k below some = λ same. none k below (omega (arith, ap length is, some)) (ap (λ l. get_or l 0 (pos 0)) is ∙ same)
 
+-- the halves of 2 m numbers in range are duals of m rows and m columns, and together these numbers
 pub halves : (m : ℕ) (zs u v : List ℤ) → length zs ≡ 2 * m → AllLimited zs → u ≡ take m zs → v ≡ drop m zs → AreDuals m u v × (u ++ v ≡ zs)
 halves m zs u v counted within u_is v_is =
     let whole : u ++ v ≡ zs = ap₂ (λ a b. a ++ b) u_is v_is ∙ take-append-drop m zs in
@@ -67,6 +68,7 @@ halves m zs u v counted within u_is v_is =
 pub spelled : (name line : List ℕ) (zs ys : List ℤ) → IsNamed name line zs → AllLimited zs → ys ≡ zs → line ≡ name ++ numbers_text ys
 spelled name line zs ys named within is = named.is ∙ ap (λ l. name ++ l) (numbers_text-is named.numbers zs named.spelled within ∙ ap numbers_text (sym is))
 
+-- a number in range in front of numbers in range
 pub AllLimited-cons : (z : ℤ) (zs : List ℤ) → unsigned_abs z ≤ 10 ^ 24 → AllLimited zs → AllLimited (z ∷ zs)
 AllLimited-cons z zs small h = record { each = each }
   where
@@ -74,6 +76,7 @@ AllLimited-cons z zs small h = record { each = each }
     each zero below = small
     each (suc j) below = h.each j (omega arith)
 
+-- of a line of a name and 2 m numbers in range, the halves of the numbers held are duals, and the line spells them
 pub closed_duals : (m w : ℕ) (name line : List ℕ) (zs first u v : List ℤ) → w ≡ 2 * m → IsNamed name line zs → length zs ≡ w → AllLimited zs → first ≡ map held (take w zs) → u ≡ take m first → v ≡ drop m first
     → AreDuals m u v × (line ≡ name ++ numbers_text (u ++ v))
 closed_duals m w name line zs first u v wide named counted within is u_is v_is =
@@ -86,6 +89,7 @@ pub only_number : (z : ℤ) (zs others : List ℤ) → zs ≡ z ∷ others → l
 only_number z zs [] is one = refl
 only_number z zs (y ∷ others) is one = absurd (omega (arith, ap length is))
 
+-- the same behind a first number, that of what a split is on
 pub split_duals : (m w i : ℕ) (name line : List ℕ) (zs first others u v : List ℤ) → w ≡ 2 * m → i < 2 ^ 16 → IsNamed name line zs → length zs ≡ 1 + w → AllLimited zs → first ≡ map held (take (1 + w) zs) → zs ≡ pos (i + 1) ∷ others
     → u ≡ take m (drop 1 first) → v ≡ drop m (drop 1 first) → AreDuals m u v × (line ≡ name ++ numbers_text (pos (i + 1) ∷ (u ++ v)))
 split_duals m w i name line zs first others u v wide small named counted within is front u_is v_is =

@@ -23,6 +23,7 @@ behind_blank [] ks paired some = absurd (omega (arith, some))
 behind_blank (f ∷ fs) [] paired some = absurd (omega (arith, paired))
 behind_blank (f ∷ fs) (k ∷ ks) paired some = refl
 
+-- `node`, a blank and the text of a root that isn't empty are a line of that name with its numbers
 pub named-node_text : (n : ℕ) (text : List ℕ) (x : Placement) → IsRoot n x → 0 < length x.facilities → text ≡ node_text x → IsNamed (codes "node") (codes "node " ++ text) (by_turns x.facilities x.places)
 named-node_text n text x root some is = record {
   numbers = numbers_text (by_turns x.facilities x.places);
@@ -35,6 +36,7 @@ some_placed : (fs ks text : List ℕ) → text ≡ drop 1 (numbers_text (by_turn
 some_placed [] ks text is some = absurd (omega (arith, some, ap length is))
 some_placed (f ∷ fs) ks text is some = omega arith
 
+-- where a root's text isn't empty, the root has a line, which is named `node` and has its numbers
 pub text_of_some : (n : ℕ) (text : List ℕ) (x : Placement) → IsRoot n x → 0 < length text → text ≡ node_text x → HasRootLine n x × IsNamed (codes "node") (codes "node " ++ text) (by_turns x.facilities x.places)
 text_of_some n text x root some is =
     let placed = some_placed x.facilities x.places text is some in

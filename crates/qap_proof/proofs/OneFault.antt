@@ -232,6 +232,7 @@ one_from_size text d e (inr a) (inr b) =
 right_version : (text rest : List ℕ) (e : ProofError) → text ≡ line_text (codes "qapproof") (pos 1 ∷ []) ++ rest → IsLineFault 1 text IsHeaderFault e → ⊥
 right_version text rest e is fault = header_line e (named_fault (Truncated 1) text (codes "qapproof") rest (pos 1 ∷ []) IsHeaderFault e no_line-version version_limited is fault)
 
+-- there is one first fault of a text at most
 pub one_text_fault : (text : List ℕ) (d e : ProofError) → IsTextFault text d → IsTextFault text e → d ≡ e
 one_text_fault text d e (inl a) (inl b) = one_line_fault (Truncated 1) text IsHeaderFault d e (λ line. one_header_fault line d e) a b
 one_text_fault text d e (inl a) (inr b) = absurd (right_version text b.rest d b.is a)

@@ -35,31 +35,40 @@ use Rattle.qap_proof.specs.declared.side.Side.TheVariants.{Facility, Location}
 
 -- the names of the lines
 
+-- the name of the version's line has no line feed
 pub no_line-version : HasNoLine (codes "qapproof")
 no_line-version = HasNoLine-cons 113 _ (λ e. omega arith) (HasNoLine-cons 97 _ (λ e. omega arith) (HasNoLine-cons 112 _ (λ e. omega arith) (HasNoLine-cons 112 _ (λ e. omega arith)
     (HasNoLine-cons 114 _ (λ e. omega arith) (HasNoLine-cons 111 _ (λ e. omega arith) (HasNoLine-cons 111 _ (λ e. omega arith) (HasNoLine-cons 102 _ (λ e. omega arith) no_line-nil)))))))
 
+-- the same for that of the size
 pub no_line-size : HasNoLine (codes "n")
 no_line-size = HasNoLine-cons 110 _ (λ e. omega arith) no_line-nil
 
+-- the same for that of the cost
 pub no_line-cost : HasNoLine (codes "cost")
 no_line-cost = HasNoLine-cons 99 _ (λ e. omega arith) (HasNoLine-cons 111 _ (λ e. omega arith) (HasNoLine-cons 115 _ (λ e. omega arith) (HasNoLine-cons 116 _ (λ e. omega arith) no_line-nil)))
 
+-- the same for that of the permutation
 pub no_line-perm : HasNoLine (codes "perm")
 no_line-perm = HasNoLine-cons 112 _ (λ e. omega arith) (HasNoLine-cons 101 _ (λ e. omega arith) (HasNoLine-cons 114 _ (λ e. omega arith) (HasNoLine-cons 109 _ (λ e. omega arith) no_line-nil)))
 
+-- the same for that of the root
 pub no_line-root : HasNoLine (codes "node")
 no_line-root = HasNoLine-cons 110 _ (λ e. omega arith) (HasNoLine-cons 111 _ (λ e. omega arith) (HasNoLine-cons 100 _ (λ e. omega arith) (HasNoLine-cons 101 _ (λ e. omega arith) no_line-nil)))
 
+-- the same for that of a bound below the cost
 pub no_line-below : HasNoLine (codes "bound")
 no_line-below = HasNoLine-cons 98 _ (λ e. omega arith) (HasNoLine-cons 111 _ (λ e. omega arith) (HasNoLine-cons 117 _ (λ e. omega arith) (HasNoLine-cons 110 _ (λ e. omega arith) (HasNoLine-cons 100 _ (λ e. omega arith) no_line-nil))))
 
+-- the same for the last line
 pub no_line-end : HasNoLine (codes "end")
 no_line-end = HasNoLine-cons 101 _ (λ e. omega arith) (HasNoLine-cons 110 _ (λ e. omega arith) (HasNoLine-cons 100 _ (λ e. omega arith) no_line-nil))
 
+-- `node` has no space, so that numbers can follow it
 pub IsName-root : IsName (codes "node")
 IsName-root = ((λ e. omega arith), ((λ e. omega arith), ((λ e. omega arith), ((λ e. omega arith), tt))))
 
+-- the same for `bound`
 pub IsName-below : IsName (codes "bound")
 IsName-below = ((λ e. omega arith), ((λ e. omega arith), ((λ e. omega arith), ((λ e. omega arith), ((λ e. omega arith), tt)))))
 
@@ -80,6 +89,7 @@ duals_fault : (m number : ℕ) (d : Pair) (e : ProofError) → AreDuals m d.u d.
 duals_fault m number d e h (inl count) = count.1 (omega (arith, length-append d.u d.v, h.rows, h.columns))
 duals_fault m number d e h (inr range) = range.2 (AllLimited-append d.u d.v h.u_range h.v_range)
 
+-- proper duals of a split have no fault as the numbers of its line
 pub may_be_duals_fault : (m number : ℕ) (o : Option Pair) (e : ProofError) → MayBeDuals m o → numbers_of_duals o ≢ [] → IsDualsFault m number (numbers_of_duals o) e → ⊥
 may_be_duals_fault m number None e h some fault = some refl
 may_be_duals_fault m number (Some d) e h some fault = duals_fault m number d e h fault
@@ -121,6 +131,7 @@ next_child (split a ts) s x earlier duals before rest below after small h is sai
 next_child cut s x earlier duals before rest below after small h is said same front shapes less = absurd (let kind : 2 ≡ 1 = ap kind_of said in omega (arith, kind))
 next_child (mirrored j l) s x earlier duals before rest below after small h is said same front shapes less = absurd (let kind : 3 ≡ 1 = ap kind_of said in omega (arith, kind))
 
+-- a text that begins with the lines of a tree of the shape has no fault in them
 pub no_tree_fault : (m : ℕ) (t : Node) (x : Placement) (earlier : ℕ) (duals : Bool) (number : ℕ) (text rest : List ℕ) (e : ProofError) → x.size ≤ 256 → earlier ≤ 256 → HasShape x earlier duals t → text ≡ tree_text t ++ rest
     → IsTreeTextFault m x earlier duals number text e → ⊥
 no_tree_fault zero t x earlier duals number text rest e small few h is fault = no_node_fault t x earlier duals number text rest e small few h is fault
@@ -173,6 +184,7 @@ pub states : (c g : ℤ) (text rest : List ℕ) → IsBelow c g → text ≡ lin
 states c g text rest low is =
     subst (λ (l : List ℕ). IsLine l (codes "bound" ++ numbers_text (g ∷ [])) rest) (sym is) (IsLine-line_text rest (codes "bound") (g ∷ []) no_line-below (AllLimited-one g low.limited))
 
+-- the line of a bound below the cost is named `bound` and has the bound as its number
 pub named_bound : (c g : ℤ) → IsBelow c g → IsNamed (codes "bound") (codes "bound" ++ numbers_text (g ∷ [])) (g ∷ [])
 named_bound c g low = IsNamed-numbers_text (codes "bound") (g ∷ []) (AllLimited-one g low.limited)
 
@@ -203,6 +215,7 @@ fault_from_bound x c g number t text e small h shape is fault = by (standing_of 
 
 -- the root
 
+-- the numbers of two equally long lists alternately determine both lists
 pub by_turns-injective : (fs ks gs ls : List ℕ) → length ks ≡ length fs → length ls ≡ length gs → by_turns fs ks ≡ by_turns gs ls → (fs ≡ gs) × (ks ≡ ls)
 by_turns-injective [] [] [] [] a b e = (refl, refl)
 by_turns-injective [] [] [] (l ∷ ls) a b e = absurd (omega (arith, b))
@@ -219,6 +232,7 @@ by_turns-injective (f ∷ fs) (k ∷ ks) (g ∷ gs) (l ∷ ls) a b e =
     let rest = by_turns-injective fs ks gs ls (omega (arith, a)) (omega (arith, b)) (ap (drop 2) e) in
     (ap₂ (λ i l. i ∷ l) first rest.0, ap₂ (λ i l. i ∷ l) second rest.1)
 
+-- two roots of the same size that have the same line are the same
 pub same_roots : (n : ℕ) (x y : Placement) → IsRoot n x → IsRoot n y → by_turns x.facilities x.places ≡ by_turns y.facilities y.places → x ≡ y
 same_roots n x y h k e =
     let both = by_turns-injective x.facilities x.places y.facilities y.places h.placement.paired k.placement.paired e in
@@ -243,11 +257,13 @@ rooting_of n x h = by x.facilities refl
         let some : 0 < length x.facilities = omega (arith, ap length is) in
         stated (record { root = h; some = some }) (root_text-some x.facilities x.places some)
 
+-- a text that begins with the line of a root has this as its first line
 pub root_line : (n : ℕ) (x : Placement) (text rest : List ℕ) → HasRootLine n x → text ≡ line_text (codes "node") (by_turns x.facilities x.places) ++ rest → IsLine text (codes "node" ++ numbers_text (by_turns x.facilities x.places)) rest
 root_line n x text rest h is =
     subst (λ (l : List ℕ). IsLine l (codes "node" ++ numbers_text (by_turns x.facilities x.places)) rest) (sym is)
     (IsLine-line_text rest (codes "node") (by_turns x.facilities x.places) no_line-root (AllLimited-by_turns n x h.root))
 
+-- the line of a root is named `node` and has the root's numbers
 pub named_root : (n : ℕ) (x : Placement) → HasRootLine n x → IsNamed (codes "node") (codes "node" ++ numbers_text (by_turns x.facilities x.places)) (by_turns x.facilities x.places)
 named_root n x h = IsNamed-numbers_text (codes "node") (by_turns x.facilities x.places) (AllLimited-by_turns n x h.root)
 
@@ -300,15 +316,19 @@ fault_from_root n x c g t text e root h shape is fault = by (rooting_of n x root
 
 -- the head
 
+-- two sizes that are the same numbers of a line are the same
 pub same_size : (m n : ℕ) → pos m ∷ [] ≡ pos n ∷ [] → m ≡ n
 same_size m n e = ap (λ l. unsigned_abs (get_or l 0 (pos 0))) e
 
+-- a number up to 256 is in range
 pub small_number : (n : ℕ) → n ≤ 256 → AllLimited (pos n ∷ [])
 small_number n h = AllLimited-one (pos n) (omega (arith, h))
 
+-- the version is in range
 pub version_limited : AllLimited (pos 1 ∷ [])
 version_limited = small_number 1 (omega arith)
 
+-- the first line of a proof's text has no fault
 pub header_line : (e : ProofError) → IsHeaderFault (codes "qapproof" ++ numbers_text (pos 1 ∷ [])) e → ⊥
 header_line e (inl bad) = bad.1 1 (omega arith) (IsNamed-numbers_text (codes "qapproof") (pos 1 ∷ []) version_limited)
 header_line e (inr other) =
@@ -316,6 +336,7 @@ header_line e (inr other) =
     (IsNamed-numbers_text (codes "qapproof") (pos 1 ∷ []) version_limited)) in
     omega (arith, other.2, same)
 
+-- the line of a permutation of n numbers has no fault
 pub perm_line : (n : ℕ) (p : List ℕ) (e : ProofError) → IsPerm p → length p ≡ n → IsPermFault n (codes "perm" ++ numbers_text (from_one p)) e → ⊥
 perm_line n p e perm size (inl bad) =
     bad.1 (from_one p) (length-map p (λ k. pos (k + 1)) ∙ size) (IsNamed-numbers_text (codes "perm") (from_one p) (AllLimited-permutation p perm))
@@ -335,6 +356,7 @@ behind_size C = line_text (codes "cost") (C.cost ∷ []) ++ behind_cost C
 abbrev behind_version : Claim → List ℕ
 behind_version C = line_text (codes "n") (pos (length C.permutation) ∷ []) ++ behind_size C
 
+-- the text of a proof is the line of its version and what is behind it
 pub proof_parts : (C : Claim) → proof_text C ≡ line_text (codes "qapproof") (pos 1 ∷ []) ++ behind_version C
 proof_parts C =
     in_parts (line_text (codes "qapproof") (pos 1 ∷ [])) (line_text (codes "n") (pos (length C.permutation) ∷ [])) (line_text (codes "cost") (C.cost ∷ []))
@@ -371,6 +393,7 @@ fault_from_size C text e h is (inr f) =
     let n_is : n ≡ f.0 = same_size n f.0 same.0 in
     fault_from_cost C b.rest e h (sym same.1) (subst (λ (k : ℕ). IsFaultFromCost k b.rest e) (sym n_is) b.holds)
 
+-- the text of a proof has no fault
 pub no_text_fault : (text : List ℕ) (C : Claim) (e : ProofError) → IsProofText text C → IsTextFault text e → ⊥
 no_text_fault text C e h (inl fault) =
     header_line e (named_fault (Truncated 1) text (codes "qapproof") (behind_version C) (pos 1 ∷ []) IsHeaderFault e no_line-version version_limited (h.is ∙ proof_parts C) fault)
@@ -428,6 +451,7 @@ one_root n x y c g b t s root other h k p q e = by (rooting_of n x root) (rootin
 same_claims : (x y : Placement) (c d g b : ℤ) (p q : List ℕ) (t s : Node) → x ≡ y → c ≡ d → g ≡ b → p ≡ q → t ≡ s → claim_of x c g p t ≡ claim_of y d b q s
 same_claims x y c d g b p q t s x_is c_is g_is p_is t_is = λ i. claim_of (x_is i) (c_is i) (g_is i) (p_is i) (t_is i)
 
+-- a text is that of one proof at most
 pub one_proof : (text : List ℕ) (C D : Claim) → IsProofText text C → IsProofText text D → C ≡ D
 one_proof text C D h k =
     let p = h.proof.permutation in

@@ -1,4 +1,4 @@
--- What the duals of a split come to for a child bounds the cost of every permutation that completes the child.
+-- What the duals of a split yield for a child bounds the cost of every permutation that completes the child.
 use Rattle.std.proofs.Common.{◌≡◌, ℕ, ◌<◌, List, length, get_or, ℤ, pos, sym, ◌∙◌, ap, arith, inl, inr}
 use Rattle.std.specs.Prelude.{◌+ℤ◌, ◌-ℤ◌, ◌≤ℤ◌}
 use Rattle.std.proofs.lemmas.Bool.{cases_order, cases_eq, cond-true, cond-false, ne_eqb, eq-eqb}
@@ -16,7 +16,7 @@ use Rattle.gilmore_lawler.proofs.Completions.{IsSeated-from_completes}
 use Rattle.qap_proof.specs.Tree.{Pair}
 use Rattle.qap_proof.specs.Valid.{Reaches}
 
--- an assignment costs at least what the duals come to, with the entry of one row in the place of its two duals
+-- an assignment costs at least what the duals yield, with the entry of one row in the place of its two duals
 pub dual_value_with_entry-le : (M : Square) (u v : List ℤ) (q : List ℕ) (r : ℕ) → DualsFit M u v → Assigns M q → r < M.size
     → (dual_value u v +ℤ entry_of M r (get_or q r 0) -ℤ get_or u r (pos 0) -ℤ get_or v (get_or q r 0) (pos 0)) ≤ℤ assignment_cost M q
 dual_value_with_entry-le M u v q r fit is within =
@@ -55,6 +55,7 @@ free_place n xs free i j listed hi hj same =
       | inr (inr more) ↦ absurd (omega (arith, listed.ascending j i more hi, same))
     ]
 
+-- what the duals yield where i is put at k is at most the cost of any permutation that completes the node and does so
 pub Reaches-le : (I : Problem) (x : Placement) (d : Pair) (i k : ℕ) (value : ℤ) (p : List ℕ) → IsPlacement x → I.size ≡ x.size → Reaches I x d i k value → Completes x p → get_or p i 0 ≡ k → value ≤ℤ cost_of I p
 Reaches-le I x d i k value p placement same h done stands =
     let M = h.fits.matrix in

@@ -1,4 +1,4 @@
--- Roots as lines tell them: facilities and locations by turns.
+-- Roots as lines give them: facilities and locations alternately.
 use Rattle.std.proofs.Common.{◌≡◌, ℕ, zero, suc, ◌+◌, ◌*◌, ◌-◌, ◌<◌, ◌≤◌, ◌++◌, List, [], ◌∷◌, length, length-append, map, get_or, ℤ, pos, unsigned_abs, nat_eq, true, false, refl, sym, ◌∙◌, ap, subst, inl, inr, arith}
 use Rattle.std.specs.Prelude.{codes, ◌⊎◌}
 use Rattle.std.proofs.lemmas.Bool.{cases_lt, cases_eq, eq-eqb, ne_eqb, false≢true}
@@ -21,11 +21,12 @@ length-by_turns [] (k ∷ ks) same = absurd (omega (arith, same))
 length-by_turns (f ∷ fs) [] same = absurd (omega (arith, same))
 length-by_turns (f ∷ fs) (k ∷ ks) same = omega (arith, length-by_turns fs ks (omega (arith, same)))
 
--- what each turn tells
+-- what each turn gives
 pub record Tells (zs : List ℤ) (turn f k : ℕ) : Type 0 where
   pub facility : get_or zs (2 * turn) (pos 0) ≡ pos (f + 1)
   pub location : get_or zs (2 * turn + 1) (pos 0) ≡ pos (k + 1)
 
+-- of two lists alternately, each turn has the facility and the location at its place
 pub Tells-by_turns : (fs ks : List ℕ) (t : ℕ) → length ks ≡ length fs → t < length fs → Tells (by_turns fs ks) t (get_or fs t 0) (get_or ks t 0)
 Tells-by_turns [] ks t same below = absurd (omega arith)
 Tells-by_turns (f ∷ fs) [] t same below = absurd (omega (arith, same))
@@ -40,19 +41,20 @@ Tells-by_turns (f ∷ fs) (k ∷ ks) (suc t) same below =
       location = ap (λ i. get_or (pos (f + 1) ∷ pos (k + 1) ∷ zs) i (pos 0)) second ∙ rest.location;
     }
 
--- one turn tells one facility and one location
+-- one turn gives one facility and one location
 pub Tells-unique : (zs : List ℤ) (turn f k g l : ℕ) → Tells zs turn f k → Tells zs turn g l → (f ≡ g) × (k ≡ l)
 Tells-unique zs turn f k g l a b = (
   omega (arith, ap unsigned_abs (sym a.facility ∙ b.facility)),
   omega (arith, ap unsigned_abs (sym a.location ∙ b.location)),
 )
 
--- the first so many turns tell these placed facilities and their locations, of n
+-- the first `turns` turns give these placed facilities and their locations, of n
 pub record HasTurns (n : ℕ) (zs : List ℤ) (turns : ℕ) (x : Placement) : Type 0 where
   pub root : IsRoot n x
   pub count : length x.facilities ≡ turns
   pub each : (t : ℕ) → t < turns → Tells zs t (get_or x.facilities t 0) (get_or x.places t 0)
 
+-- the empty node of a size from 1 to 256 is a root
 pub IsRoot-none : (n : ℕ) → 0 < n → n ≤ 256 → IsRoot n (root_of n)
 IsRoot-none n positive small = record {
   placement = record {
@@ -66,6 +68,7 @@ IsRoot-none n positive small = record {
   ascending = λ i j less below. absurd (omega arith);
 }
 
+-- before the first turn, the node is empty
 pub HasTurns-none : (n : ℕ) (zs : List ℤ) → 0 < n → n ≤ 256 → HasTurns n zs 0 (root_of n)
 HasTurns-none n zs positive small = record { root = IsRoot-none n positive small; count = refl; each = λ t below. absurd (omega arith) }
 
@@ -73,6 +76,7 @@ HasTurns-none n zs positive small = record { root = IsRoot-none n positive small
 pub before_last : (xs : List ℕ) (y t : ℕ) → t < length xs → get_or (xs ++ y ∷ []) t 0 ≡ get_or xs t 0
 before_last xs y t below = get_or_append_left xs (y ∷ []) 0 t below
 
+-- a number put at the end of a list stands in the last place
 pub at_last : (xs : List ℕ) (y t : ℕ) → t ≡ length xs → get_or (xs ++ y ∷ []) t 0 ≡ y
 at_last xs y t here = get_or_at xs y [] 0 t (sym here)
 
@@ -121,7 +125,7 @@ turn_of : (i : ℕ) → (t : ℕ) × ((i ≡ 2 * t) ⊎ (i ≡ 2 * t + 1))
 turn_of zero = (0, inl refl)
 turn_of (suc i) = turn_next i (turn_of i)
 
--- numbers that are told at each turn are told by turns
+-- numbers that give a node's facilities and locations at each turn are these alternately
 same_turns : (zs : List ℤ) (x : Placement) → length zs ≡ 2 * length x.facilities → length x.places ≡ length x.facilities
     → ((t : ℕ) → t < length x.facilities → Tells zs t (get_or x.facilities t 0) (get_or x.places t 0)) → zs ≡ by_turns x.facilities x.places
 same_turns zs x long paired each =
@@ -139,13 +143,14 @@ same_turns zs x long paired each =
       | inr odd ↦ ap (λ j. get_or zs j (pos 0)) odd ∙ here.location ∙ sym there.location ∙ ap (λ j. get_or (by_turns x.facilities x.places) j (pos 0)) (sym odd)
     ])
 
+-- once all numbers are read, the node is a root that has a line, and the numbers are those of this line
 pub HasRootLine-turns : (n : ℕ) (zs : List ℤ) (turns : ℕ) (x : Placement) → HasTurns n zs turns x → 0 < turns → length zs ≡ 2 * turns → HasRootLine n x × (zs ≡ by_turns x.facilities x.places)
 HasRootLine-turns n zs turns x h some long = (
   record { root = h.root; some = omega (arith, some, h.count) },
   same_turns zs x (omega (arith, long, h.count)) h.root.placement.paired (λ t below. h.each t (omega (arith, below, h.count))),
 )
 
--- of a root that the numbers tell by turns, the next facility and location may be placed behind the first ones
+-- of a root that the numbers give alternately, the next facility and location may be placed behind the first ones
 pub HasTurn-of_root : (n : ℕ) (zs : List ℤ) (turn : ℕ) (x y : Placement) → HasTurns n zs turn x → HasRootLine n y → zs ≡ by_turns y.facilities y.places → 2 * turn + 1 < length zs
     → HasTurn x zs turn (get_or y.facilities turn 0) (get_or y.places turn 0)
 HasTurn-of_root n zs turn x y h root is inside =
@@ -186,7 +191,7 @@ behind_all n turn f x root count last t below =
       | inr past ↦ let here : t ≡ turn - 1 = omega (arith, past, below, count) in omega (arith, above, ap (λ (i : ℕ). get_or x.facilities i 0) here)
     ]
 
--- a root tells an even number of numbers, and more than none
+-- a root gives an even number of numbers, and more than none
 pub root_numbers : (n : ℕ) (zs : List ℤ) (x : Placement) → HasRootLine n x → zs ≡ by_turns x.facilities x.places → (length zs ≡ 2 * length x.facilities) × (0 < length x.facilities) × (length x.facilities ≤ n)
 root_numbers n zs x h is = (
   ap length is ∙ length-by_turns x.facilities x.places h.root.placement.paired,
@@ -213,12 +218,13 @@ AllLimited-by_turns n x h = record {
       ];
 }
 
--- the held numbers tell a root where those of the line do
+-- the held numbers give a root where those of the line do
 pub held_root : (n : ℕ) (zs first : List ℤ) (x : Placement) → first ≡ map held zs → IsRoot n x → first ≡ by_turns x.facilities x.places → zs ≡ by_turns x.facilities x.places
 held_root n zs first x is root told =
     let same : map held zs ≡ by_turns x.facilities x.places = sym is ∙ told in
     sym (held_all_within-is zs (subst AllLimited (sym same) (AllLimited-by_turns n x root))) ∙ same
 
+-- the numbers of a root's line are the same when held to the range
 pub root_held : (n : ℕ) (zs first : List ℤ) (x : Placement) → first ≡ map held zs → IsRoot n x → zs ≡ by_turns x.facilities x.places → first ≡ by_turns x.facilities x.places
 root_held n zs first x is root told = is ∙ ap (map held) told ∙ held-all_within (by_turns x.facilities x.places) (AllLimited-by_turns n x root)
 
@@ -227,10 +233,12 @@ pub root_text-some : (fs ks : List ℕ) → 0 < length fs → root_text fs ks �
 root_text-some [] ks some = absurd (omega arith)
 root_text-some (f ∷ fs) ks some = refl
 
+-- a root that isn't empty has one line
 pub lines_of_root-some : (fs : List ℕ) → 0 < length fs → lines_of_root fs ≡ 1
 lines_of_root-some [] some = absurd (omega arith)
 lines_of_root-some (f ∷ fs) some = refl
 
+-- where the fifth line isn't that of a root, the root is empty, and the rest is all of the text from there on
 pub IsRooted-none : (n : ℕ) (text : List ℕ) (x : Placement) → 0 < n → n ≤ 256 → x ≡ root_of n → HasNoRoot text → IsRooted n text x 5 text
 IsRooted-none n text x positive small empty none =
     subst (λ (y : Placement). IsRooted n text y 5 text) (sym empty) (record {
@@ -240,6 +248,7 @@ IsRooted-none n text x positive small empty none =
       fault = λ c e fault. inr (inl (none, fault));
     })
 
+-- where the text begins with the line of a root, the rest is what is behind it
 pub IsRooted-some : (n : ℕ) (text : List ℕ) (x : Placement) (rest : List ℕ) → HasRootLine n x → text ≡ line_text (codes "node") (by_turns x.facilities x.places) ++ rest → IsRooted n text x 6 rest
 IsRooted-some n text x rest h is = record {
   root = h.root;
@@ -256,6 +265,7 @@ none_listed n is =
       | inr other ↦ absurd (false≢true (sym (ne_eqb n 0 other) ∙ sym is))
     ]
 
+-- a number that isn't 0 is above 0
 pub some_listed : (n : ℕ) → false ≡ nat_eq n 0 → 0 < n
 some_listed n is =
     elim (cases_eq n 0) [

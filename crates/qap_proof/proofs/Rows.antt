@@ -14,21 +14,26 @@ use Rattle.qap_proof.specs.declared.error.ProofError.{ProofError}
 pub line_after-more : (line a b : ℕ) → line_after (line_after line a) b ≡ line_after line (a + b)
 line_after-more line a b = omega arith
 
+-- no lines further is the same line
 pub line_after-none : (line : ℕ) → line ≤ 18446744073709551615 → line ≡ line_after line 0
 line_after-none line h = omega arith
 
+-- the children with one more behind them
 abbrev pub with_last : Nodes → Node → Nodes
 with_last no_nodes t = node t no_nodes
 with_last (node y rest) t = node y (with_last rest t)
 
+-- with one more behind them there is one child more
 pub child_count-with_last : (ts : Nodes) (t : Node) → child_count (with_last ts t) ≡ child_count ts + 1
 child_count-with_last no_nodes t = omega arith
 child_count-with_last (node y rest) t = omega (arith, child_count-with_last rest t)
 
+-- and as many nodes more as it has
 pub nodes_count-with_last : (ts : Nodes) (t : Node) → nodes_count (with_last ts t) ≡ nodes_count ts + node_count t
 nodes_count-with_last no_nodes t = omega arith
 nodes_count-with_last (node y rest) t = omega (arith, nodes_count-with_last rest t)
 
+-- its text stands behind theirs
 pub trees_text-with_last : (ts : Nodes) (t : Node) → trees_text (with_last ts t) ≡ trees_text ts ++ tree_text t
 trees_text-with_last no_nodes t = append-nil (tree_text t)
 trees_text-with_last (node y rest) t = ap (λ l. tree_text y ++ l) (trees_text-with_last rest t) ∙ sym (append_assoc (tree_text y) (trees_text rest) (tree_text t))
@@ -39,6 +44,7 @@ AllHaveShape-with_last x s c at no_nodes t e h k =
     let here : at ≡ c = omega (arith, e) in (subst (λ (j : ℕ). HasShape (child_of x s j) j (has_duals s.duals) t) here k, tt)
 AllHaveShape-with_last x s c at (node y rest) t e h k = (h.0, AllHaveShape-with_last x s (c + 1) at rest t (omega (arith, e)) h.1 k)
 
+-- one more valid child behind valid ones leaves all of them valid
 pub AllValid-with_last : (I : Problem) (g : ℤ) (x : Placement) (s : Split) (c at : ℕ) (ts : Nodes) (t : Node) → at ≡ c + child_count ts → AllValid I g x s c ts → Valid I g (child x s at) t → AllValid I g x s c (with_last ts t)
 AllValid-with_last I g x s c at no_nodes t e h k =
     let here : at ≡ c = omega (arith, e) in (subst (λ (j : ℕ). Valid I g (child x s j) t) here k, tt)

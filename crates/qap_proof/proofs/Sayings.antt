@@ -1,4 +1,4 @@
--- What the line of a node says, and that a text tells which nodes its lines are.
+-- What the line of a node says, and that a text determines which nodes its lines are.
 use Rattle.std.proofs.Common.{◌≡◌, ℕ, ◌+◌, ◌<◌, ◌≤◌, ◌++◌, List, [], ◌∷◌, length, drop, get_or, ℤ, pos, unsigned_abs, refl, sym, ◌∙◌, ap, ap₂, subst, arith, append_assoc, length-append}
 use Rattle.std.proofs.lemmas.List.{length-map}
 use Rattle.std.specs.Prelude.{codes, Bool, Option, Some, None}
@@ -22,18 +22,21 @@ use Rattle.qap_proof.specs.Tree.{Pair, pair, Split, Node, closed, split, cut, mi
 use Rattle.qap_proof.specs.declared.side.Side.{Side}
 use Rattle.qap_proof.specs.declared.side.Side.TheVariants.{Facility, Location}
 
+-- the name of the line that says this
 abbrev pub saying_name : Saying → List ℕ
 saying_name (closes zs) = codes "b"
 saying_name (splits side i zs) = letter side
 saying_name cuts = codes "c"
 saying_name (mirrors z zs) = codes "m"
 
+-- the numbers of this line
 abbrev pub saying_numbers : Saying → List ℤ
 saying_numbers (closes zs) = zs
 saying_numbers (splits side i zs) = pos (i + 1) ∷ zs
 saying_numbers cuts = []
 saying_numbers (mirrors z zs) = z ∷ zs
 
+-- a number for each kind of line, by which lines of two kinds are distinguished
 abbrev pub kind_of : Saying → ℕ
 kind_of (closes zs) = 0
 kind_of (splits side i zs) = 1
@@ -48,6 +51,7 @@ IsName-saying (splits Location i zs) = ((λ e. omega arith), tt)
 IsName-saying cuts = ((λ e. omega arith), tt)
 IsName-saying (mirrors z zs) = ((λ e. omega arith), tt)
 
+-- the name of a node's line has no line feed
 pub no_line-saying : (w : Saying) → HasNoLine (saying_name w)
 no_line-saying (closes zs) = HasNoLine-cons 98 _ (λ e. omega arith) no_line-nil
 no_line-saying (splits Facility i zs) = HasNoLine-cons 115 _ (λ e. omega arith) no_line-nil
@@ -68,7 +72,7 @@ same_side Location Location e = refl
 same_number : (i j : ℕ) (xs ys : List ℤ) → pos (i + 1) ∷ xs ≡ pos (j + 1) ∷ ys → i ≡ j
 same_number i j xs ys e = let more : i + 1 ≡ j + 1 = ap (λ l. unsigned_abs (get_or l 0 (pos 0))) e in omega arith
 
--- the name and the numbers tell what is said
+-- the name and the numbers determine what is said
 same_sayings : (w z : Saying) → saying_name w ≡ saying_name z → saying_numbers w ≡ saying_numbers z → w ≡ z
 same_sayings (closes xs) (closes ys) name numbers = ap closes numbers
 same_sayings (closes xs) (splits side i ys) name numbers = absurd (let first : 98 ≡ get_or (letter side) 0 0 = ap (λ l. get_or l 0 0) name in omega (arith, first, letter_high side))
@@ -112,24 +116,28 @@ said_front w z rest more limited within e =
 
 -- what the line of a node says, and what stands below it
 
+-- what the line of a tree's first node says
 abbrev pub said_of : Node → Saying
 said_of (closed d) = closes (d.u ++ d.v)
 said_of (split s children) = splits s.side s.number (numbers_of_duals s.duals)
 said_of cut = cuts
 said_of (mirrored j m) = mirrors (pos (j + 1)) (from_one m)
 
+-- the text of what is below that node
 abbrev pub below_text : Node → List ℕ
 below_text (closed d) = []
 below_text (split s children) = trees_text children
 below_text cut = []
 below_text (mirrored j m) = []
 
+-- the text of a tree is the line of what its first node says, and behind it what is below that node
 pub tree_text-said : (t : Node) (rest : List ℕ) → tree_text t ++ rest ≡ line_text (saying_name (said_of t)) (saying_numbers (said_of t)) ++ (below_text t ++ rest)
 tree_text-said (closed d) rest = refl
 tree_text-said (split s children) rest = append_assoc (line_text (letter s.side) (split_numbers s)) (trees_text children) rest
 tree_text-said cut rest = refl
 tree_text-said (mirrored j m) rest = refl
 
+-- what is free is below the size
 pub free_within : (side : Side) (x : Placement) (i : ℕ) → IsFreeOn side x i → i < x.size
 free_within Facility x i free = free.within
 free_within Location x i free = free.within
@@ -138,10 +146,12 @@ AllLimited-duals : (m : ℕ) (o : Option Pair) → MayBeDuals m o → AllLimited
 AllLimited-duals m None h = record { each = λ j below. absurd (omega arith) }
 AllLimited-duals m (Some d) h = AllLimited-append d.u d.v h.u_range h.v_range
 
+-- the numbers of a split's line are in range
 pub AllLimited-split : (x : Placement) (s : Split) → x.size ≤ 256 → IsSplit x s → AllLimited (split_numbers s)
 AllLimited-split x s small h =
     AllLimited-cons (pos (s.number + 1)) (numbers_of_duals s.duals) (let within = free_within s.side x s.number h.free in omega (arith, within, small)) (AllLimited-duals (free_count x) s.duals h.duals)
 
+-- the same for the line of any node
 pub AllLimited-said : (t : Node) (x : Placement) (earlier : ℕ) (duals : Bool) → x.size ≤ 256 → earlier ≤ 256 → HasShape x earlier duals t → AllLimited (saying_numbers (said_of t))
 AllLimited-said (closed d) x earlier duals small few h = AllLimited-append d.u d.v h.u_range h.v_range
 AllLimited-said (split s children) x earlier duals small few h = AllLimited-split x s small h.0
@@ -170,7 +180,7 @@ same_duals m None (Some c) some h k e = absurd (omega (arith, some, ap length e,
 same_duals m (Some d) None some h k e = absurd (omega (arith, some, ap length e, length-append d.u d.v, h.rows))
 same_duals m (Some d) (Some c) some h k e = ap Some (same_pairs d c (h.rows ∙ sym k.rows) e)
 
--- the line of a split tells it
+-- the line of a split determines it
 pub same_splits : (x : Placement) (a b : Split) → IsSplit x a → IsSplit x b → splits a.side a.number (numbers_of_duals a.duals) ≡ splits b.side b.number (numbers_of_duals b.duals) → a ≡ b
 same_splits x a b h k said =
     let numbers : split_numbers a ≡ split_numbers b = ap saying_numbers said in
@@ -225,6 +235,7 @@ mutual
       let q = trees_front ts us x s (c + 1) rest more small (omega (arith, few)) h.1 k.1 (omega (arith, same)) p.1 in
       (ap₂ node p.0 q.0, q.1)
 
+-- two trees of the shape at the front of one text are the same, and so is what is behind them
 pub tree_front : (t s : Node) (x : Placement) (earlier : ℕ) (duals : Bool) (rest more : List ℕ) → x.size ≤ 256 → earlier ≤ 256 → HasShape x earlier duals t → HasShape x earlier duals s
     → tree_text t ++ rest ≡ tree_text s ++ more → (t ≡ s) × (rest ≡ more)
 tree_front t s x earlier duals rest more small few h k e =

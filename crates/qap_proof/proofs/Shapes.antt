@@ -28,6 +28,7 @@ Judged-at x s line next ts i t within is h =
     let at : drop i ts ≡ t ∷ drop (i + 1) ts = drop-cons ts i t within ∙ ap₂ (λ (u : Tree) (j : ℕ). u ∷ drop j ts) (sym is) one in
     subst (λ (us : List Tree). Judged x s line next i (nodes_of ts) (nodes_of us)) at h
 
+-- the next child has the shape: the others are left, from the line behind its own
 pub Judged-more : (x : Placement) (s : Split) (line next after c : ℕ) (all : Nodes) (t : Node) (rest : Nodes) → Judged x s line next c all (node t rest) → HasShape (child_of x s c) c (has_duals s.duals) t → after ≡ line_after next (node_count t)
     → Judged x s line after (c + 1) all rest
 Judged-more x s line next after c all t rest h shaped is = record {
@@ -37,6 +38,7 @@ Judged-more x s line next after c all t rest h shaped is = record {
   small = omega arith;
 }
 
+-- the first fault of the next child is the first of all children
 pub Judged-fault : (x : Placement) (s : Split) (line next c : ℕ) (all : Nodes) (t : Node) (rest : Nodes) (e : ProofError) → Judged x s line next c all (node t rest) → IsShapeFault (child_of x s c) c (has_duals s.duals) next t e
     → IsShapeFaultAmong x s 0 line all e
 Judged-fault x s line next c all t rest e h fault = h.fault e (inl fault)
@@ -55,6 +57,7 @@ Judged-split x earlier duals line below t s children (Err e) is may count start 
           (inr (may, count, subst (λ (k : ℕ). IsShapeFaultAmong x s 0 k children e) start fault)))
     ]
 
+-- a fault of the split itself is the first one of the tree
 pub IsShapeFault-split : (x : Placement) (earlier : ℕ) (duals : Bool) (line k : ℕ) (t : Node) (s : Split) (children : Nodes) (e : ProofError) → t ≡ split s children → child_count children ≡ k → IsSplitFault x line s k e
     → IsShapeFault x earlier duals line t e
 IsShapeFault-split x earlier duals line k t s children e is count fault =

@@ -46,6 +46,7 @@ free_pair Location x i c placement free few =
     let listed = ListsFree-free_below x.size x.facilities placement.facilities in
     record { facility = listed.each c (omega (arith, listed.count)); location = free }
 
+-- the node at a place of a search is a placement
 pub node_placement : (p : Place) → IsPlace p → IsPlacement (node_at p)
 node_placement (whole x) h = h
 node_placement (child x s c) h =
@@ -175,6 +176,7 @@ mutual
     AllCovered-valid rest I g x s (c + 1) placement same free (omega (arith, count)) h.1,
   )
 
+-- a valid tree bounds the node at its place, where the children before it are bounded
 pub valid_bounds : (t : Node) (I : Problem) (g : ℤ) (p : Place) → IsPlace p → I.size ≡ (node_at p).size → HasEarlier I g p → Valid I g p t → Bounded I g (node_at p)
 valid_bounds t I g p place same earlier h = covered_bounds t I g p place same earlier (Covered-valid t I g p place same h)
 
@@ -182,6 +184,7 @@ valid_bounds t I g p place same earlier h = covered_bounds t I g p place same ea
 pub Valid-NoneCompletesForLess : (I : Problem) (x : Placement) (g : ℤ) (t : Node) → IsPlacement x → x.size ≡ I.size → Valid I g (whole x) t → NoneCompletesForLess I x g
 Valid-NoneCompletesForLess I x g t placement size valid p permutes done = valid_bounds t I g (whole x) placement (sym size) tt valid p done
 
+-- of a proof that proves its bound, no permutation that completes the root costs less than the bound
 pub Proves-NoneCompletesForLess : (I : Problem) (C : Claim) → IsInstance I → IsProof C → Proves I C → NoneCompletesForLess I C.root C.bound
 Proves-NoneCompletesForLess I C instance shape h =
     let size : I.size ≡ C.root.size = sym h.same_size ∙ sym shape.root.size in

@@ -17,10 +17,11 @@ use Rattle.qap_proof.specs.declared.acceptance.Verdict.{Verdict}
 use Rattle.qap_proof.specs.declared.acceptance.Verdict.TheVariants.{Optimal, Gap, Part}
 use Rattle.qap_proof.specs.declared.error.ProofError.{ProofError}
 
--- what is told of the permutation: that it is of the instance's size and has the cost, or its misfit
+-- what is reported of the permutation: that it is of the instance's size and has the cost, or its misfit
 abbrev pub IsToldOfPerm : Problem → List ℕ → ℤ → Option ProofError → Type 0
 IsToldOfPerm I p c told = MatchOption told ((length p ≡ I.size) × (cost_of I p ≡ c)) (IsPermMisfit I p c)
 
+-- where no fault was reported, the text is that of a proof of its root, its cost and its bound
 pub ProvesFor-told : (I : Problem) (text : List ℕ) (x : Placement) (c g : ℤ) (p : List ℕ) (line : ℕ) (rest : List ℕ) (told : Option ProofError) → HasHead text x c g p line rest → IsToldOfPerm I p c told
     → EndsBehindTree x rest (IsToldOf I g (whole x) line told None) → ProvesFor I text x c g
 ProvesFor-told I text x c g p line rest (Some d) head perm h = absurd (none-some d h.holds)
@@ -33,6 +34,7 @@ ProvesFor-told I text x c g p line rest None head perm h = record {
   bound = refl;
 }
 
+-- a proof of a root, a cost and a bound shows the verdict of these
 pub ShowsVerdict-proved : (I : Problem) (text : List ℕ) (x : Placement) (c g : ℤ) (verdict : Verdict) → ProvesFor I text x c g → ((p : List ℕ) (t : Node) → IsVerdictOf (claim_of x c g p t) verdict) → ShowsVerdict I text verdict
 ShowsVerdict-proved I text x c g verdict h says =
     let C = h.proof in
@@ -52,6 +54,7 @@ some_same d e same = subst (λ (o : Option ProofError). IsHeld o) same refl
     IsHeld None = Unit {0}
     IsHeld (Some f) = f ≡ e
 
+-- where a fault was reported, it is the first fault of the proof that the text is
 pub HasFault-told : (I : Problem) (text : List ℕ) (x : Placement) (c g : ℤ) (p : List ℕ) (line : ℕ) (rest : List ℕ) (told : Option ProofError) (e : ProofError) → HasHead text x c g p line rest → IsToldOfPerm I p c told
     → EndsBehindTree x rest (IsToldOf I g (whole x) line told (Some e)) → HasFault I text e
 HasFault-told I text x c g p line rest (Some d) e head perm h = record {
@@ -79,6 +82,7 @@ empty_root n x root none =
     let places = empty_list x.places (root.placement.paired ∙ none) in
     λ i. placement_of (root.size i) (facilities i) (places i)
 
+-- the verdict that a text shows is so
 pub IsSo-shown : (I : Problem) (text : List ℕ) (verdict : Verdict) → IsInstance I → ShowsVerdict I text verdict → IsSo I text verdict
 IsSo-shown I text verdict instance h = by verdict h.says
   where

@@ -4,11 +4,12 @@ use Rattle.qap_cost.specs.Placement.{Placement, free_facilities, free_locations}
 use Rattle.qap_proof.specs.declared.side.Side.{Side}
 use Rattle.qap_proof.specs.declared.side.Side.TheVariants.{Facility, Location}
 
--- the free ones of the side that a split is on, ascending, and those of the other side, for which it has children
+-- the free ones of the side that a split is on, ascending
 abbrev pub own_on : Side → Placement → List ℕ
 own_on Facility x = free_facilities x
 own_on Location x = free_locations x
 
+-- the free ones of the other side, ascending, for which the split has its children
 abbrev pub others_on : Side → Placement → List ℕ
 others_on Facility x = free_locations x
 others_on Location x = free_facilities x

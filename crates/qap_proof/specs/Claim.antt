@@ -20,6 +20,7 @@ pub record Claim : Type 0 where
   pub permutation : List ℕ
   pub tree : Node
 
+-- the claim with these five parts
 abbrev pub claim_of : Placement → ℤ → ℤ → List ℕ → Node → Claim
 claim_of root cost bound permutation tree = record { root = root; cost = cost; bound = bound; permutation = permutation; tree = tree }
 
@@ -37,11 +38,12 @@ pub record IsProof (C : Claim) : Type 0 where
   pub root : IsRoot (length C.permutation) C.root
   pub tree : HasShape C.root 0 false C.tree
 
--- how many lines a root has, and a bound
+-- how many lines a root has: none where it places no facility, else one
 abbrev pub lines_of_root : List ℕ → ℕ
 lines_of_root [] = 0
 lines_of_root (f ∷ facilities) = 1
 
+-- how many lines a bound has: one where it is below the cost, else none
 abbrev pub lines_of_bound : ℤ → ℤ → ℕ
 lines_of_bound c g = if int_lt g c then 1 else 0
 

@@ -16,18 +16,19 @@ use Rattle.qap_proof.specs.declared.acceptance.Verdict.{Verdict}
 use Rattle.qap_proof.specs.declared.acceptance.Verdict.TheVariants.{Optimal, Gap, Part}
 use Rattle.qap_proof.specs.declared.leaf.Leaf.{Leaf}
 
+-- the leaf of this node, which shows this value
 abbrev pub leaf : Placement → ℤ → Leaf
 leaf x z = record { node = x; value = z }
 
--- what the duals of a split come to for its child number c
+-- what the duals of a split yield for its child number c
 pub record IsCutValue (I : Problem) (x : Placement) (s : Split) (c : ℕ) (z : ℤ) : Type 0 where
   pub duals : Pair
   pub has : s.duals ≡ Some duals
   pub reaches : Reaches I x duals (facility_on s.side x s.number c) (location_on s.side x s.number c) z
 
 abbrev mutual
-  -- these are the leaves of the tree at this place, in preorder: closed nodes with what their duals come to, and children that are cut
-  -- with what those of their split do; a mirrored child has none, since it shows what an earlier one shows
+  -- these are the leaves of the tree at this place, in preorder: closed nodes with what their duals yield, and children
+  -- that are cut with what those of their split do; a mirrored child has none, since it shows what an earlier one shows
   pub AreLeaves : Problem → Place → Node → List Leaf → Type 0
   AreLeaves I p (closed d) ls = ls ≡ leaf (node_at p) (fixed_cost_of I (node_at p) +ℤ dual_value d.u d.v) ∷ []
   AreLeaves I p (split s children) ls = AreAllLeaves I (node_at p) s 0 children ls
@@ -51,9 +52,11 @@ abbrev pub IsRaisedValue : Placement → ℤ → Leaf → ℤ → Type 0
 IsRaisedValue root bound l z =
     ((l.value <ℤ bound) × AreAmong root l.node × (z ≡ bound)) ⊎ ((l.value <ℤ bound → AreAmong root l.node → ⊥) × (z ≡ l.value))
 
+-- the new leaf is that of the old one's node, with what it shows beside the part
 abbrev pub IsRaised : Placement → ℤ → Leaf → Leaf → Type 0
 IsRaised root bound old new = (new.node ≡ old.node) × IsRaisedValue root bound old new.value
 
+-- the same for each leaf of a list, in order
 abbrev pub AreRaised : Placement → ℤ → List Leaf → List Leaf → Type 0
 AreRaised root bound old new =
     (length new ≡ length old)
@@ -66,6 +69,7 @@ pub record CoverValue : Type 0 where
   pub cost : ℤ
   pub leaves : List Leaf
 
+-- the cover with these four parts
 abbrev pub cover_of : Problem → Placement → ℤ → List Leaf → CoverValue
 cover_of I x c ls = record { instance = I; root = x; cost = c; leaves = ls }
 
@@ -89,6 +93,7 @@ pub record HasPart (text : List ℕ) (old new : CoverValue) : Type 0 where
   pub cost : new.cost ≡ int_min old.cost proof.cost
   pub leaves : AreRaised proof.root proof.bound old.leaves new.leaves
 
+-- the leaf shows at least g
 abbrev pub IsAtLeast : ℤ → Leaf → Type 0
 IsAtLeast g l = g ≤ℤ l.value
 
@@ -96,6 +101,7 @@ IsAtLeast g l = g ≤ℤ l.value
 abbrev pub IsBounded : Problem → ℤ → Leaf → Type 0
 IsBounded I g l = NoneCompletesForLess I l.node g
 
+-- what the leaf shows is so: no permutation that completes its node costs less
 abbrev pub IsShown : Problem → Leaf → Type 0
 IsShown I l = IsBounded I l.value l
 

@@ -24,11 +24,12 @@ IsPairFault m line d e =
     ((e ≡ DualCount line) × (((length d.u ≡ m) × (length d.v ≡ m)) → ⊥))
     ⊎ ((e ≡ DualRange line) × (length d.u ≡ m) × (length d.v ≡ m) × ((AllLimited d.u × AllLimited d.v) → ⊥))
 
+-- the same for the duals of a split, which may have none: then there is no fault
 abbrev pub MayBePairFault : ℕ → ℕ → Option Pair → ProofError → Type 0
 MayBePairFault m line None e = ⊥
 MayBePairFault m line (Some d) e = IsPairFault m line d e
 
--- what is told of a facility or of a location that isn't free
+-- the fault of a facility or of a location that isn't free
 abbrev pub taken : Side → ℕ → ProofError
 taken Facility line = FacilityTaken line
 taken Location line = LocationTaken line
@@ -39,7 +40,7 @@ IsNumberFault x line side i e =
     ((e ≡ SplitTooDeep line) × (x.size ≤ length x.facilities))
     ⊎ ((e ≡ taken side line) × (length x.facilities < x.size) × (IsFreeOn side x i → ⊥))
 
--- the first fault of a split with so many children
+-- the first fault of a split with this many children
 abbrev pub IsSplitFault : Placement → ℕ → Split → ℕ → ProofError → Type 0
 IsSplitFault x line s children e =
     IsNumberFault x line s.side s.number e
@@ -47,7 +48,8 @@ IsSplitFault x line s children e =
     ⊎ ((e ≡ SplitWidth line) × IsSplit x s × (children ≢ free_count x)))
 
 abbrev mutual
-  -- the first fault of a tree that is to have the shape of one at x, with so many earlier children and duals above it or none
+  -- the first fault of a tree that is to have the shape of one at x, with this many earlier children and duals above it
+  -- or none
   pub IsShapeFault : Placement → ℕ → Bool → ℕ → Node → ProofError → Type 0
   IsShapeFault x earlier duals line (closed d) e = IsPairFault (free_count x) line d e
   IsShapeFault x earlier duals line (split s children) e =
@@ -73,13 +75,13 @@ IsClaimFault C e =
     ⊎ (IsLimited C.cost × IsRoot (length C.permutation) C.root × IsBoundFor C.cost C.bound
     × IsShapeFault C.root 0 false (tree_line C.root C.cost C.bound) C.tree e)))
 
--- the duals don't fit; or they do, and with what the placed facilities cost they come to less than g
+-- the duals don't fit; or they do, and with what the placed facilities cost they yield less than g
 abbrev pub IsClosedFault : Problem → ℤ → Placement → ℕ → Pair → ProofError → Type 0
 IsClosedFault I g x line d e =
     ((e ≡ NotFeasible line) × (Fits I x d.u d.v → ⊥))
     ⊎ ((e ≡ BoundTooLow line) × Fits I x d.u d.v × ((fixed_cost_of I x +ℤ dual_value d.u d.v) <ℤ g))
 
--- the duals of the split come to less than g for its child number c
+-- the duals of the split yield less than g for its child number c
 pub record IsCutTooLow (I : Problem) (g : ℤ) (x : Placement) (s : Split) (c : ℕ) : Type 0 where
   pub duals : Pair
   pub has : s.duals ≡ Some duals

@@ -11,8 +11,8 @@ use Rattle.qap_proof.specs.TextFault.{IsFaultFromBound, IsFaultFromRoot, IsFault
 use Rattle.qap_proof.specs.Tree.{Node}
 use Rattle.qap_proof.specs.declared.error.ProofError.{ProofError}
 
--- of numbers that tell facilities and locations by turns, those of this turn are f and k, counted from 1, which may be placed behind
--- those that are: the facility is above each of them, and the location is free
+-- of numbers that give facilities and locations alternately, those of this turn are f and k, counted from 1, which may
+-- be placed behind those that are: the facility is above each of them, and the location is free
 pub record HasTurn (x : Placement) (zs : List ℤ) (turn f k : ℕ) : Type 0 where
   pub facility_is : slice_index_or zs (2 * turn) (pos 0) ≡ pos (f + 1)
   pub location_is : slice_index_or zs (2 * turn + 1) (pos 0) ≡ pos (k + 1)

@@ -17,21 +17,25 @@ use Rattle.qap_proof.specs.declared.node_line.NodeLine.{NodeLine}
 use Rattle.qap_proof.specs.declared.node_line.NodeLine.TheVariants.{Closed, Split as SplitsAt, Cut, Mirrored}
 use Rattle.qap_proof.specs.declared.error.ProofError.{ProofError}
 
+-- the two lists of numbers that duals in memory are
 abbrev pub pair_of : Duals → Pair
 pair_of d = record { u = d.u.items; v = d.v.items }
 
+-- the same for duals that are kept in narrow lists
 abbrev pub kept_pair_of : KeptDuals → Pair
 kept_pair_of d = record { u = numbers_held d.u; v = numbers_held d.v }
 
+-- the same where there may be none
 abbrev pub may_pair_of : Option KeptDuals → Option Pair
 may_pair_of None = None
 may_pair_of (Some d) = Some (kept_pair_of d)
 
+-- the split that a split's line states
 abbrev pub split_of : SplitLine → Split
 split_of s = record { side = s.side; number = s.number; duals = may_pair_of s.duals }
 
--- the line is spelled by what is said, which has the shape that it is to have at x, with so many earlier children and duals above
--- it or none
+-- the line is spelled by what is said, which has the shape that it is to have at x, with this many earlier children and
+-- duals above it or none
 abbrev pub IsNodeLine : Placement → ℕ → Bool → List ℕ → NodeLine → Type 0
 IsNodeLine x earlier duals line (Closed d) = AreDuals (free_count x) d.u.items d.v.items × (line ≡ codes "b" ++ numbers_text (d.u.items ++ d.v.items))
 IsNodeLine x earlier duals line (SplitsAt s) = IsSplit x (split_of s) × (line ≡ letter s.side ++ numbers_text (split_numbers (split_of s)))

@@ -1,9 +1,10 @@
--- The refusals that faults of proofs are told as.
+-- The refusals that report faults of proofs.
 use Rattle.std.specs.Prelude.{codes}
 use Rattle.qap_io.specs.Refusal.{RefusalText, memory_refusal, device_refusal, refused, refused_at}
 use Rattle.qap_proof.specs.declared.error.ProofError.{ProofError}
 use Rattle.qap_proof.specs.declared.error.ProofError.TheVariants.{SizeDiffers, BadHeader, BadVersion, BadLine, Truncated, TrailingText, CostDiffers, PermBad, SplitTooDeep, FacilityTaken, LocationTaken, DualCount, DualRange, CutWithoutDuals, NoEarlierChild, SplitWidth, RootBad, NotFeasible, BoundTooLow, CutTooLow, NotAnImage, OutOfMemory, Device}
 
+-- each fault of a proof as its refusal: a number, a name, and the line where it has one
 abbrev pub proof_refusal : ProofError → RefusalText
 proof_refusal (SizeDiffers line) = refused_at 8 (codes "SizeDiffers") line
 proof_refusal BadHeader = refused 11 (codes "BadHeader")

@@ -15,6 +15,7 @@ abbrev pub MayBeDuals : ℕ → Option Pair → Type 0
 MayBeDuals m None = Unit {0}
 MayBeDuals m (Some d) = AreDuals m d.u d.v
 
+-- whether there are duals
 abbrev pub has_duals : Option Pair → Bool
 has_duals None = false
 has_duals (Some d) = true
@@ -31,8 +32,8 @@ pub record IsPermOf (n : ℕ) (m : List ℕ) : Type 0 where
   pub count : length m ≡ n
 
 abbrev mutual
-  -- a tree at the node x, before which its split has so many earlier children, and the split has duals or hasn't: the root has no
-  -- earlier children and no duals above it
+  -- a tree at the node x, before which its split has this many earlier children, and the split has duals or hasn't: the
+  -- root has no earlier children and no duals above it
   pub HasShape : Placement → ℕ → Bool → Node → Type 0
   HasShape x earlier duals (closed d) = AreDuals (free_count x) d.u d.v
   HasShape x earlier duals (split s children) = IsSplit x s × (child_count children ≡ free_count x) × AllHaveShape x s 0 children

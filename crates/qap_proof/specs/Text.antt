@@ -12,6 +12,7 @@ abbrev pub letter : Side → List ℕ
 letter Facility = codes "s"
 letter Location = codes "t"
 
+-- the numbers of a split's duals, first those of the rows, then those of the columns; none without duals
 abbrev pub numbers_of_duals : Option Pair → List ℤ
 numbers_of_duals None = []
 numbers_of_duals (Some d) = d.u ++ d.v
@@ -33,7 +34,7 @@ abbrev mutual
   trees_text no_nodes = []
   trees_text (node t rest) = tree_text t ++ trees_text rest
 
--- facilities and locations by turns, counted from 1
+-- facilities and locations alternately, counted from 1
 abbrev pub by_turns : List ℕ → List ℕ → List ℤ
 by_turns (f ∷ facilities) (k ∷ places) = pos (f + 1) ∷ pos (k + 1) ∷ by_turns facilities places
 by_turns _ _ = []

@@ -49,6 +49,7 @@ pub data Saying : Type 0 where
   cuts : Saying
   mirrors : ℤ → List ℤ → Saying
 
+-- the line of a node of an instance of size n is one that says this
 abbrev pub Says : ℕ → List ℕ → Saying → Type 0
 Says n line (closes zs) = IsNamed (codes "b") line zs
 Says n line (splits side i zs) = (i < n) × IsNamed (letter side) line (pos (i + 1) ∷ zs)
@@ -60,7 +61,7 @@ abbrev pub IsDualsFault : ℕ → ℕ → List ℤ → ProofError → Type 0
 IsDualsFault m number zs e =
     ((e ≡ DualCount number) × (length zs ≢ 2 * m)) ⊎ ((e ≡ DualRange number) × (length zs ≡ 2 * m) × (AllLimited zs → ⊥))
 
--- the first fault of what the line of a node at x says, with so many earlier children and duals above it or none
+-- the first fault of what the line of a node at x says, with this many earlier children and duals above it or none
 abbrev pub IsSayingFault : Placement → ℕ → Bool → ℕ → Saying → ProofError → Type 0
 IsSayingFault x earlier duals number (closes zs) e = IsDualsFault (free_count x) number zs e
 IsSayingFault x earlier duals number (splits side i zs) e =

@@ -10,6 +10,7 @@ pub record Pair : Type 0 where
   pub u : List ℤ
   pub v : List ℤ
 
+-- the duals with these two lists
 abbrev pub pair : List ℤ → List ℤ → Pair
 pair u v = record { u = u; v = v }
 
@@ -22,12 +23,14 @@ pub record Split : Type 0 where
 -- closed by duals; split, with a child for each free one of the other side; cut by the duals of the split above; or the image of
 -- the earlier child of this number under a permutation
 mutual
+  -- one node with all below it
   pub data Node : Type 0 where
     closed : Pair → Node
     split : Split → Nodes → Node
     cut : Node
     mirrored : ℕ → List ℕ → Node
 
+  -- nodes in a row: the children of a split
   pub data Nodes : Type 0 where
     no_nodes : Nodes
     node : Node → Nodes → Nodes
@@ -44,6 +47,7 @@ abbrev mutual
   nodes_count no_nodes = 0
   nodes_count (node t rest) = node_count t + nodes_count rest
 
+-- how many nodes the row itself has, without those below
 abbrev pub child_count : Nodes → ℕ
 child_count no_nodes = 0
 child_count (node t rest) = 1 + child_count rest
@@ -53,16 +57,18 @@ abbrev pub IsFreeOn : Side → Placement → ℕ → Type 0
 IsFreeOn Facility x i = IsFreeFacility x i
 IsFreeOn Location x k = IsFreeLocation x k
 
--- the facility and the location that child number c, from 0, of a split puts together: a split on a facility has a child for each
--- free location, and one on a location a child for each free facility, both ascending
+-- the facility that child number c, from 0, of a split puts at a location: the one that the split is on, or the c-th
+-- free one, ascending, where the split is on a location
 abbrev pub facility_on : Side → Placement → ℕ → ℕ → ℕ
 facility_on Facility x i c = i
 facility_on Location x k c = slice_index (free_facilities x) c
 
+-- the location that this child puts it at: the c-th free one, ascending, or the one that the split is on
 abbrev pub location_on : Side → Placement → ℕ → ℕ → ℕ
 location_on Facility x i c = slice_index (free_locations x) c
 location_on Location x k c = k
 
+-- the node of child number c of a split of x: x, with that facility placed at that location
 abbrev pub child_of : Placement → Split → ℕ → Placement
 child_of x s c = placing x (facility_on s.side x s.number c) (location_on s.side x s.number c)
 
@@ -71,6 +77,7 @@ pub data Place : Type 0 where
   whole : Placement → Place
   child : Placement → Split → ℕ → Place
 
+-- the node of the tree that stands at a place
 abbrev pub node_at : Place → Placement
 node_at (whole x) = x
 node_at (child x s c) = child_of x s c

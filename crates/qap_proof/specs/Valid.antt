@@ -1,7 +1,7 @@
--- What makes a tree prove a bound: the splits leave no permutation out; the duals of a closed node come to the bound, by Gilmore
--- (1962) and Lawler (1963); of a child that is cut, the duals of its split come to it with what the entry of the pair that
--- the child puts together exceeds its own two duals by; and a child that is mirrored has the same costs as an earlier one,
--- since a permutation that keeps one of the two matrices takes that one's permutations to its own.
+-- What makes a tree prove a bound: the splits leave no permutation out; the duals of a closed node reach the bound, by
+-- Gilmore (1962) and Lawler (1963); of a child that is cut, the duals of its split reach it with what the entry of the
+-- pair that the child puts together exceeds its own two duals by; and a child that is mirrored has the same costs as an
+-- earlier one, since a permutation that keeps one of the two matrices takes that one's permutations to its own.
 use Rattle.std.specs.Prelude.{◌≡◌, ℕ, ◌+◌, ◌<◌, List, length, ℤ, pos, ◌+ℤ◌, ◌-ℤ◌, ◌≤ℤ◌, Option, Some, None, slice_index, slice_index_or}
 use Rattle.qap_cost.specs.Instance.{Problem}
 use Rattle.qap_cost.specs.Matrix.{dual_value, entry_of}
@@ -17,8 +17,8 @@ abbrev pub MayFit : Problem → Placement → Option Pair → Type 0
 MayFit I x None = Unit {0}
 MayFit I x (Some d) = Fits I x d.u d.v
 
--- what the duals come to where facility i is put at location k, with what the placed facilities cost: row r is that of i, column c
--- that of k, and the entry there takes the place of its two duals
+-- what the duals yield where facility i is put at location k, with what the placed facilities cost: row r is that of i,
+-- column c that of k, and the entry there takes the place of its two duals
 pub record Reaches (I : Problem) (x : Placement) (d : Pair) (i k : ℕ) (value : ℤ) : Type 0 where
   pub fits : Fits I x d.u d.v
   pub row : ℕ
@@ -29,7 +29,7 @@ pub record Reaches (I : Problem) (x : Placement) (d : Pair) (i k : ℕ) (value :
   pub column_of : slice_index (free_locations x) column ≡ k
   pub is : value ≡ fixed_cost_of I x +ℤ dual_value d.u d.v +ℤ entry_of fits.matrix row column -ℤ slice_index_or d.u row (pos 0) -ℤ slice_index_or d.v column (pos 0)
 
--- the split has duals, which come to at least g for its child number c
+-- the split has duals, which yield at least g for its child number c
 pub record IsCut (I : Problem) (g : ℤ) (x : Placement) (s : Split) (c : ℕ) : Type 0 where
   pub duals : Pair
   pub has : s.duals ≡ Some duals

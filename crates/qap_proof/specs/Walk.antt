@@ -21,7 +21,7 @@ pub record BeginsWithTree (x : Placement) (earlier : ℕ) (duals : Bool) (line :
   pub next_is : next ≡ line_after line (node_count tree)
   pub holds : P tree
 
--- the same for the first so many children of a split of x
+-- the same for the first `count` children of a split of x
 pub record BeginsWithTrees (x : Placement) (s : Split) (count line : ℕ) (text rest : List ℕ) (next : ℕ) (P : Nodes → Type 0) : Type 0 where
   pub trees : Nodes
   pub shapes : AllHaveShape x s 0 trees
@@ -42,8 +42,8 @@ abbrev pub IsFaultBefore : Placement → Split → ℕ → List ℕ → ProofErr
 IsFaultBefore x s line text e =
     IsFaultAmong x s line text (λ c line rest. IsTreeTextFault (free_count (child_of x s c)) (child_of x s c) c (has_duals s.duals) line rest e)
 
--- what is told of the tree, which begins at this line, where a fault was told before, or none: that one; or whether the tree is
--- valid at its place, and its first fault if not
+-- what is reported of the tree, which begins at this line, where a fault was reported before, or none: that one; or
+-- whether the tree is valid at its place, and its first fault if not
 abbrev pub IsToldOf : Problem → ℤ → Place → ℕ → Option ProofError → Option ProofError → Node → Type 0
 IsToldOf I g p line (Some d) after t = after ≡ Some d
 IsToldOf I g p line None None t = Valid I g p t
@@ -74,7 +74,7 @@ IsToldOfDuals I x s line (Some d) after = after ≡ Some d
 IsToldOfDuals I x s line None None = MayFit I x s.duals
 IsToldOfDuals I x s line None (Some e) = (e ≡ NotFeasible line) × (MayFit I x s.duals → ⊥)
 
--- what the duals of a split, if it has any, come to for each child
+-- what the duals of a split, if it has any, yield for each child
 pub record AreReached (I : Problem) (x : Placement) (s : Split) (values : List ℤ) : Type 0 where
   pub count : (d : Pair) → s.duals ≡ Some d → length values ≡ free_count x
   pub each : (d : Pair) (c : ℕ) → s.duals ≡ Some d → c < free_count x

@@ -32,10 +32,10 @@ pub enum Verdict {
     Part(i128),
 }
 
-/// What a text shows of an instance's costs, where it is that of a proof which proves its bound for it. Of the tree no more is held
-/// than the nodes above the line that is read, with what the duals of their splits come to.
+/// What a text shows of an instance's costs, where it is that of a proof which proves its bound for it. Of the tree no
+/// more is held than the nodes above the line that is read, with what the duals of their splits yield.
 ///
-/// Else the first fault is told: every fault of how the text is spelled comes before every fault of what it says.
+/// Else the first fault is reported: every fault of how the text is spelled comes before every fault of what it says.
 pub fn accept(alloc: Global, instance: &Instance, text: &[u8]) -> Result<Verdict, ProofError>
     ensures verdict { MatchResult result
         (ShowsVerdict instance.now text.now)
@@ -81,7 +81,7 @@ pub(crate) fn perm_misfit(instance: &Instance, perm: &Perm, stated: i128) -> Opt
     None
 }
 
-/// Judges the tree and the last line, and tells the first fault of what they say, where none was told before.
+/// Judges the tree and the last line, and reports the first fault of what they say, where none was reported before.
 fn walk_to_end(
     alloc: Global,
     instance: &Instance,

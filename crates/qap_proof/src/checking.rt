@@ -31,14 +31,14 @@ use std::alloc::Global;
 /// Whether the proof shows, by what it says alone, that no permutation of the instance which completes its root costs less than its
 /// bound. Where the root is empty and the bound is the cost, that is the least cost.
 ///
-/// The permutation is to be of the instance's size (`SizeDiffers(2)` if not) and to have the cost (`CostDiffers(3)`). Then the
-/// nodes of the tree, in preorder, are each to show what they say: the duals of a closed node and of a split are to fit the
-/// reduced matrix of their part (`NotFeasible`), and those of a closed node to come, with the cost of the placed facilities, to
-/// the proof's bound at least (`BoundTooLow`); so are those of the split above a child that is cut, with the entry of the pair
-/// that it puts together in the place of its two duals (`CutTooLow`); and the permutation of a child that is mirrored is to keep
-/// the distances, or the flows where its split is on a location, to leave what is placed, and to take the earlier child to this
-/// one (`NotAnImage`). The first that fails is told by the line that it has in the proof's text. `OutOfMemory` says nothing of
-/// the proof.
+/// The permutation is to be of the instance's size (`SizeDiffers(2)` if not) and to have the cost (`CostDiffers(3)`).
+/// Then the nodes of the tree, in preorder, are each to show what they say: the duals of a closed node and of a split
+/// are to fit the reduced matrix of their part (`NotFeasible`), and those of a closed node to reach, with the cost of
+/// the placed facilities, at least the proof's bound (`BoundTooLow`); so are those of the split above a child that is
+/// cut, with the entry of the pair that it puts together in the place of its two duals (`CutTooLow`); and the
+/// permutation of a child that is mirrored is to keep the distances, or the flows where its split is on a location, to
+/// leave what is placed, and to take the earlier child to this one (`NotAnImage`). The first that fails is reported by
+/// the line that it has in the proof's text. `OutOfMemory` says nothing of the proof.
 pub fn check(alloc: Global, instance: &Instance, proof: &Proof) -> Result<(), ProofError>
     ensures verdict { MatchResult result
         (λ done. Proves instance.now proof.now)
@@ -229,7 +229,7 @@ fn check_closed(
     }
 }
 
-/// What the duals of a split, if it has any, come to for each child, where they fit the reduced matrix of the node.
+/// What the duals of a split, if it has any, yield for each child, where they fit the reduced matrix of the node.
 fn check_duals(
     rows: &mut NodeRows<'_>,
     judge: &Judge<'_>,
@@ -252,7 +252,7 @@ fn check_duals(
     }
 }
 
-/// Whether the duals of a split come to the bound for the child of this number.
+/// Whether the duals of a split reach the bound for the child of this number.
 fn check_cut(
     judge: &Judge<'_>,
     parent: &Parent<'_>,

@@ -44,8 +44,8 @@ impl Model for Cover {
 }
 
 impl Cover {
-    /// The proof of the whole alone, whose text this is. Where it isn't one that proves its bound for the instance, the first fault is
-    /// told.
+    /// The proof of the whole alone, whose text this is. Where it isn't one that proves its bound for the instance, the
+    /// first fault is reported.
     pub fn new(alloc: Global, instance: &Instance, text: &[u8]) -> Result<Cover, ProofError>
         ensures { MatchResult result
             (IsOpened instance.now text.now)
@@ -70,8 +70,8 @@ impl Cover {
         })
     }
 
-    /// Adds the proof of a part, whose text this is. Where it isn't one that proves its bound for the instance, the first fault is told,
-    /// and nothing is added.
+    /// Adds the proof of a part, whose text this is. Where it isn't one that proves its bound for the instance, the
+    /// first fault is reported, and nothing is added.
     pub fn add(&mut self, alloc: Global, text: &[u8]) -> Result<(), ProofError>
         ensures { MatchResult result
             (λ done. HasPart text.now self.old self.new)

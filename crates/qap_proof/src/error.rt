@@ -5,7 +5,7 @@ use qap_lines::WriteError;
 use std::alloc::AllocError;
 use thiserror::Error;
 
-/// Why a proof is refused. Lines are counted from 1; a line past 2^64 - 1 is told by that number.
+/// Why a proof is refused. Lines are counted from 1; a line past 2^64 - 1 is reported as that number.
 #[derive(Clone, Copy, Debug, PartialEq, Eq, Error)]
 pub enum ProofError {
     /// The proof is of another size than the instance.
@@ -83,7 +83,7 @@ impl ProofError {
     ghost use Rattle.std.specs.Prelude.{◌≡◌};
     ghost use Rattle.qap_proof.specs.Refusal.{proof_refusal};
 
-    /// The refusal that the fault is told as: its number, its name, and its line where it has one.
+    /// The refusal that reports the fault: its number, its name, and its line where it has one.
     pub fn refusal(self) -> Refusal
         ensures { result ≡ proof_refusal self }
     {

@@ -45,8 +45,8 @@ pub struct LineRead<'a> {
     pub rest: &'a [u8],
 }
 
-/// The first line of a text, which has this number and is to be that of a node, with so many earlier children of its split and
-/// duals of that, or none.
+/// The first line of a text, which has this number and is to be that of a node, with this many earlier children of its
+/// split and duals of that, or none.
 pub fn read_node_line<'a>(
     alloc: Global,
     text: &'a [u8],

@@ -11,7 +11,7 @@ use crate::writing::push_by_turns;
 use qap_cost::Partial;
 use std::alloc::{AllocError, Global};
 
-/// The text of a node: its facilities and locations by turns, counted from 1, with one blank between two numbers.
+/// The text of a node: its facilities and locations alternately, counted from 1, with one blank between two numbers.
 pub fn text_of_node(alloc: Global, node: &Partial) -> Result<Vec<u8>, AllocError>
     ensures { IfOk result (λ text. text.items ≡ node_text node.now) }
 {
@@ -30,7 +30,7 @@ fn behind_first(alloc: Global, bytes: &[u8]) -> Result<Vec<u8>, AllocError>
     }
 }
 
-/// The node of this size that a text tells; `None` where it tells none whose facilities ascend.
+/// The node of this size that a text gives; `None` where it gives none whose facilities ascend.
 pub fn read_node_text(
     alloc: Global,
     text: &[u8],

@@ -19,8 +19,9 @@ pub struct Stated {
     pub bound: i128,
 }
 
-/// What a text shows of the permutations that complete this root, where it is that of a proof over the root which proves its bound for
-/// the instance; `None` where it is one over another root. It is judged as `accept` does, which says what is told otherwise.
+/// What a text shows of the permutations that complete this root, where it is that of a proof over the root which
+/// proves its bound for the instance; `None` where it is one over another root. It is judged as `accept` does, which
+/// says what is reported otherwise.
 pub fn accept_over(
     alloc: Global,
     instance: &Instance,

@@ -43,15 +43,16 @@ impl Model for Proof {
 impl Proof {
     /// The proof of this cost, this bound, this root, this permutation and this tree, where they have the shape of one.
     ///
-    /// Where the call refuses, the root, the permutation and the tree come back. `OutOfMemory` says nothing of them; else it
-    /// tells the first fault in order of the lines that the proof's text would have: `BadLine(3)` for a cost outside -10^24 to
-    /// 10^24; `RootBad(5)` for a root of another size than the permutation, or whose facilities don't ascend; `BadLine`, at
-    /// the line of the bound, for a bound that is above the cost or outside that range; `SplitTooDeep` for a split where
-    /// nothing is free, `FacilityTaken` or `LocationTaken` for one on a facility or a location that isn't free, `SplitWidth`
-    /// for one with another number of children than there are free ones of the other side; `DualCount` for another number of
-    /// duals than there are free facilities or free locations, `DualRange` for a dual outside -10^24 to 10^24;
-    /// `CutWithoutDuals` for a child that is cut where its split has no duals; and of one that is mirrored `NoEarlierChild`
-    /// where it is the image of no earlier one, `PermBad` where the permutation is of another size.
+    /// Where the call refuses, the root, the permutation and the tree come back. `OutOfMemory` says nothing of them;
+    /// else it reports the first fault in order of the lines that the proof's text would have: `BadLine(3)` for a cost
+    /// outside -10^24 to 10^24; `RootBad(5)` for a root of another size than the permutation, or whose facilities don't
+    /// ascend; `BadLine`, at the line of the bound, for a bound that is above the cost or outside that range;
+    /// `SplitTooDeep` for a split where nothing is free, `FacilityTaken` or `LocationTaken` for one on a facility or a
+    /// location that isn't free, `SplitWidth` for one with another number of children than there are free ones of the
+    /// other side; `DualCount` for another number of duals than there are free facilities or free locations,
+    /// `DualRange` for a dual outside -10^24 to 10^24; `CutWithoutDuals` for a child that is cut where its split has no
+    /// duals; and of one that is mirrored `NoEarlierChild` where it is the image of no earlier one, `PermBad` where the
+    /// permutation is of another size.
     pub fn new(
         cost: i128,
         bound: i128,

@@ -1,4 +1,4 @@
-//! What the duals of a split come to for each of its children.
+//! What the duals of a split yield for each of its children.
 
 ghost use Rattle.std.specs.Prelude.{◌≡◌, ◌-◌, ◌*◌, ◌^◌, ◌<◌, ◌≤◌, ◌-ℤ◌, length, IfOk, ℕ, pos, slice_index, slice_index_or, unsigned_abs};
 ghost use Rattle.qap_cost.specs.Matrix.{DualsFit, entry_of};
@@ -17,8 +17,9 @@ use gilmore_lawler::dual_sum;
 use qap_cost::{Instance, Matrix, Partial};
 use std::alloc::{AllocError, Global};
 
-/// What duals of a split on this facility or this location come to for each child, where they fit the reduced matrix of the node: with
-/// what the placed facilities cost, and the entry of the pair that the child puts together in the place of its two duals.
+/// What duals of a split on this facility or this location yield for each child, where they fit the reduced matrix of
+/// the node: with what the placed facilities cost, and the entry of the pair that the child puts together in the place
+/// of its two duals.
 pub fn child_values(
     alloc: Global,
     instance: &Instance,

@@ -13,8 +13,8 @@ use std::alloc::Global;
 /// The proof with the tree of a part in the place of the leaf of this number, counted from 0 in preorder, with the part's
 /// permutation, and with this bound.
 ///
-/// The part is to be one over that leaf's node, and the bound at most what each leaf shows then. Whether they are is judged as any
-/// proof is, so that what comes out proves its bound for the instance; else the first fault is told.
+/// The part is to be one over that leaf's node, and the bound at most what each leaf shows then. Whether they are is
+/// judged as any proof is, so that what comes out proves its bound for the instance; else the first fault is reported.
 pub fn refined(
     alloc: Global,
     instance: &Instance,
@@ -57,8 +57,8 @@ fn grafted(proof: Proof, leaf: usize, part: Proof, bound: i128) -> Result<Proof,
     }
 }
 
-/// Puts the finer tree, where it is still there, in the place of the leaf before which so many leaves are left, and tells by how many
-/// leaves it has come nearer.
+/// Puts the finer tree, where it is still there, in the place of the leaf before which this many leaves are left, and
+/// returns by how many leaves it has come nearer.
 #[cycle(grafting)]
 fn graft(tree: &mut Tree, left: &mut usize, finer: &mut Option<Tree>) {
     match tree {

@@ -103,8 +103,8 @@ pub(crate) fn judge_root(
     }
 }
 
-/// The root that places facilities at locations as these numbers, counted from 1, tell them by turns; `None` where they tell none
-/// that isn't empty, its facilities ascending.
+/// The root that places facilities at locations as these numbers, counted from 1, give them alternately; `None` where
+/// they give none that isn't empty, its facilities ascending.
 fn root_from_one(alloc: Global, values: &[i128], n: usize) -> Result<Option<Partial>, AllocError>
     requires positive { 0 < n }
     requires small { n ≤ 256 }
@@ -125,8 +125,8 @@ fn root_from_one(alloc: Global, values: &[i128], n: usize) -> Result<Option<Part
     Ok(Some(root))
 }
 
-/// The facility and the location that are told at this turn, if they may be placed then: the facility comes behind those placed, and
-/// the location is free.
+/// The facility and the location that this turn gives, if they may be placed then: the facility comes behind those
+/// placed, and the location is free.
 fn next_pair(root: &Partial, values: &[i128], turn: usize) -> Option<(u16, u16)>
     requires inside { 2 * turn + 1 < length values.now }
     requires placed { length root.now.facilities ≡ turn }

@@ -18,8 +18,8 @@ use crate::tree::{KeptDuals, Tree};
 use qap_cost::{Partial, Perm};
 use qap_lines::are_limited;
 
-/// The line behind those of a tree that begins at this line, before which its split has so many earlier children, and which has
-/// duals or hasn't; or the first fault of the tree's shape.
+/// The line behind those of a tree that begins at this line, before which its split has this many earlier children, and
+/// which has duals or hasn't; or the first fault of the tree's shape.
 #[cycle(shape)]
 pub(crate) fn judge_tree(
     tree: &Tree,
@@ -70,7 +70,7 @@ fn judge_children(
     Ok(next)
 }
 
-/// Whether a split may be what it is, and have so many children.
+/// Whether a split may be what it is, and have this many children.
 fn judge_split(
     split: &SplitLine,
     node: &Partial,
@@ -90,7 +90,7 @@ fn judge_split(
     Ok(())
 }
 
-/// Whether the duals of a split, if it has any, are such of so many facilities and locations.
+/// Whether the duals of a split, if it has any, are such of this many facilities and locations.
 fn judge_split_duals(duals: &Option<KeptDuals>, free: usize, line: u64) -> Result<(), ProofError>
     ensures { MatchResult result
         (λ done. MayBeDuals free (may_pair_of duals.now))
@@ -102,7 +102,7 @@ fn judge_split_duals(duals: &Option<KeptDuals>, free: usize, line: u64) -> Resul
     }
 }
 
-/// Whether there is a dual for each of so many facilities and locations, and all are within -10^24 to 10^24.
+/// Whether there is a dual for each of this many facilities and locations, and all are within -10^24 to 10^24.
 fn judge_duals(duals: &KeptDuals, free: usize, line: u64) -> Result<(), ProofError>
     ensures { MatchResult result
         (λ done. AreDuals free (numbers_held duals.now.u) (numbers_held duals.now.v))
@@ -130,7 +130,8 @@ fn judge_cut(has_duals: bool, line: u64) -> Result<(), ProofError>
     Ok(())
 }
 
-/// Whether a child may be the image of the one of this number, where there are so many earlier ones, under this permutation.
+/// Whether a child may be the image of the one of this number, where there are this many earlier ones, under this
+/// permutation.
 fn judge_mirrored(
     number: u16,
     image: &Perm,

@@ -31,8 +31,8 @@ struct ChildrenRead<'a> {
     next: u64,
 }
 
-/// Reads the tree of a node at the front of a text, whose first line has this number, before which its split has so many earlier
-/// children, and which has duals or hasn't.
+/// Reads the tree of a node at the front of a text, whose first line has this number, before which its split has this
+/// many earlier children, and which has duals or hasn't.
 #[cycle(reading)]
 pub(crate) fn read_tree<'a>(
     alloc: Global,

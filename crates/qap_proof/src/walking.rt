@@ -33,8 +33,8 @@ pub(crate) struct Judge<'a> {
     pub(crate) bound: i128,
 }
 
-/// A split whose children are walked along: the node that it is of, what it says, the free ones that it has children for, and what its
-/// duals, if it has any, come to for each.
+/// A split whose children are walked along: the node that it is of, what it says, the free ones that it has children
+/// for, and what its duals, if it has any, yield for each.
 #[derive(Clone, Copy)]
 pub(crate) struct Parent<'a> {
     pub(crate) node: &'a Partial,
@@ -51,15 +51,16 @@ pub(crate) struct Walked<'a> {
     pub(crate) fault: Option<ProofError>,
 }
 
-/// What was found of a split's duals: what they come to for each child, and the first fault of what the lines up to the split's say.
+/// What was found of a split's duals: what they yield for each child, and the first fault of what the lines up to the
+/// split's say.
 #[derive(Drop)]
 pub(crate) struct JudgedSplit {
     pub(crate) values: Vec<i128>,
     pub(crate) fault: Option<ProofError>,
 }
 
-/// Judges the tree at the front of a text, whose first line has this number, for a root. Where a fault was told before, and behind the
-/// first fault of what the lines say, they are judged by how they are spelled alone.
+/// Judges the tree at the front of a text, whose first line has this number, for a root. Where a fault was reported
+/// before, and behind the first fault of what the lines say, they are judged by how they are spelled alone.
 pub(crate) fn walk_root<'a>(
     rows: &mut NodeRows<'_>,
     judge: &Judge<'_>,
@@ -201,7 +202,7 @@ fn walk_children<'a>(
     Ok(walked)
 }
 
-/// The first fault that is told where a closed node follows what was told before, if there is one.
+/// The first fault to report where a closed node follows what was reported before, if there is one.
 pub(crate) fn judge_closed(
     rows: &mut NodeRows<'_>,
     judge: &Judge<'_>,
@@ -222,8 +223,8 @@ pub(crate) fn judge_closed(
     }
 }
 
-/// The first fault that is told where a split follows what was told before, if there is one; and where there is none, what its duals, if
-/// it has any, come to for each child.
+/// The first fault to report where a split follows what was reported before, if there is one; and where there is none,
+/// what its duals, if it has any, yield for each child.
 pub(crate) fn judge_split(
     rows: &mut NodeRows<'_>,
     judge: &Judge<'_>,
@@ -277,7 +278,7 @@ pub(crate) fn judge_split(
     }
 }
 
-/// The first fault that is told where a child that is cut follows what was told before, if there is one.
+/// The first fault to report where a child that is cut follows what was reported before, if there is one.
 pub(crate) fn judge_cut(
     judge: &Judge<'_>,
     parent: &Parent<'_>,
@@ -297,7 +298,7 @@ pub(crate) fn judge_cut(
     }
 }
 
-/// The first fault that is told where a mirrored child follows what was told before, if there is one.
+/// The first fault to report where a mirrored child follows what was reported before, if there is one.
 pub(crate) fn judge_mirrored(
     judge: &Judge<'_>,
     parent: &Parent<'_>,

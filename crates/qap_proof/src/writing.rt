@@ -23,7 +23,7 @@ use qap_lines::{
 use std::alloc::{AllocError, Global};
 use std::io::Write;
 
-/// Puts facilities and locations at the end of a line by turns, counted from 1.
+/// Puts facilities and locations at the end of a line alternately, counted from 1.
 pub(crate) fn push_by_turns(
     line: &mut Vec<u8>,
     facilities: &[u16],

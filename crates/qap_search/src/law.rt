@@ -78,9 +78,9 @@ pub fn certificate_law()
         IsCutTree (from_root I known) content commits → IsAssembled I.size content C → node_count C.tree ≡ commits }
 {}
 
-/// Where a search of all permutations has been driven to its end, as one worker drives it on a space of its own, the text of the
-/// certificate that `assemble` makes of its tuples, which is what `write` puts out, shows that its cost is the least one, and shows
-/// nothing else; and it has no fault. So `accept` tells of it that its cost is optimal.
+/// Where a search of all permutations has been driven to its end, as one worker drives it on a space of its own, the
+/// text of the certificate that `assemble` makes of its tuples, which is what `write` puts out, shows that its cost is
+/// the least one, and shows nothing else; and it has no fault. So `accept` says of it that its cost is optimal.
 pub fn accepted_law()
     ensures shown { (I : Problem) (known : Best) (content : List (List FieldValue)) (commits : ℕ) (C : Claim) →
         IsCutTree (from_root I known) content commits → IsAssembled I.size content C → ShowsVerdict I (certificate_text Second C) (Optimal C.cost) }

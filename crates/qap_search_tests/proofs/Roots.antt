@@ -3,9 +3,11 @@ use Rattle.std.proofs.Common.{◌≡◌, ℕ, zero, suc, ◌<◌, List, [], ◌�
 use Rattle.qap_cost.specs.Placement.{Placement, IsPlacement, IsFreeFacility, IsFreeLocation, placing, root_of}
 use Rattle.qap_proof.specs.Claim.{IsRoot}
 
+-- the node at which nothing is placed may be the root of a proof
 pub any_root : (n : ℕ) → IsPlacement (root_of n) → IsRoot n (root_of n)
 any_root n placed = record { placement = placed; size = refl; ascending = λ i j less below. absurd (omega arith) }
 
+-- so may that of 4 facilities
 pub empty_root : IsPlacement (root_of 4) → IsRoot 4 (root_of 4)
 empty_root = any_root 4
 
@@ -22,6 +24,7 @@ rising i (suc (suc j)) less below = absurd (omega arith)
 abbrev pub below : Placement
 below = placing (placing (root_of 4) 0 3) 2 1
 
+-- and so may the node below it that places facilities 0 and 2
 pub below_root : IsPlacement below → IsRoot 4 below
 below_root placed = record { placement = placed; size = refl; ascending = rising }
 
@@ -39,8 +42,10 @@ only_three : (t : ℕ) → t < length three_alone → get_or three_alone t 0 ≡
 only_three zero less same = omega arith
 only_three (suc t) less same = absurd (omega arith)
 
+-- where facility 0 is placed at location 3, facility 2 is free
 pub free_facility : IsFreeFacility (placing (root_of 4) 0 3) 2
 free_facility = record { within = omega arith; untaken = only_zero }
 
+-- and so is location 1
 pub free_location : IsFreeLocation (placing (root_of 4) 0 3) 1
 free_location = record { within = omega arith; untaken = only_three }

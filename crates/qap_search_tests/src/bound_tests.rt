@@ -39,7 +39,7 @@ pub(crate) fn signed(alloc: Global) -> Result<Instance, Fail>
     Ok(Instance::new(4, a, b)?)
 }
 
-/// The node that places the first facilities, so many of them.
+/// The node that places the first facilities, this many of them.
 fn root_at(alloc: Global, depth: usize) -> Result<Partial, Fail>
     ensures { IfOk result (λ x. x.size ≡ 4) }
 {
@@ -81,7 +81,7 @@ pub(crate) fn in_order(alloc: Global, instance: &Instance) -> Result<Perm, Fail>
     }
 }
 
-/// Whether the permutation of these locations completes the node that places the first facilities, so many of them.
+/// Whether the permutation of these locations completes the node that places the first facilities, this many of them.
 fn completes(locations: &[u16], depth: usize) -> bool {
     for t in 0..depth.min(4) {
         if locations.get(usize::from(FACILITIES[t])) != Some(&PLACES[t]) {
@@ -117,7 +117,8 @@ struct Course {
     limit: Option<u64>,
 }
 
-/// What a search by two workers tells that begins with the facilities in order: the cost, the bound, and how many nodes it leaves open.
+/// What a search by two workers reports that begins with the facilities in order: the cost, the bound, and how many
+/// nodes it leaves open.
 fn told_from_order<R, G, S>(
     rt: &R,
     alloc: Global,
@@ -157,7 +158,7 @@ fn cost_in_order(alloc: Global, instance: &Instance) -> Result<i128, Fail> {
     Ok(cost(instance, &in_order(alloc, instance)?))
 }
 
-/// What a search tells that nothing holds up, and that only its limit stops.
+/// What a search reports that nothing holds up, and that only its limit stops.
 fn free_search<R>(
     rt: &R,
     alloc: Global,
@@ -209,7 +210,7 @@ fn finds_the_least_below_each_root(rt: HostRuntime) -> Result<(), Fail> {
     Ok(())
 }
 
-/// Asserts that a search which is stopped after so many commits bounds all that completes the root.
+/// Asserts that a search which is stopped after this many commits bounds all that completes the root.
 fn assert_bounded<R>(
     rt: &R,
     alloc: Global,
@@ -252,7 +253,7 @@ fn bounds_each_root_where_it_is_stopped(rt: HostRuntime) -> Result<(), Fail> {
     Ok(())
 }
 
-/// Ends each worker that comes to a commit, so that the root stays with it, and wants the search to stop then.
+/// Ends each worker that gets to a commit, so that the root stays with it, and wants the search to stop then.
 #[derive(Drop)]
 struct AtTheFirstCommit {
     reached: AtomicBool,
@@ -348,7 +349,7 @@ fn stops_in_the_round_that_is_wanted(rt: HostRuntime) -> Result<(), Fail> {
     Ok(())
 }
 
-/// Wants the search to stop once so many commits are accepted.
+/// Wants the search to stop once this many commits are accepted.
 #[derive(Drop)]
 struct AfterCommits {
     commits: u64,

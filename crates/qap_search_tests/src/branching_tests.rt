@@ -32,8 +32,9 @@ use tuple_match::{Field, Pattern, Template};
 ///  8  6 12  8     0  0  4  0
 /// ```
 ///
-/// The zeros hold all rows and columns together, so that no other duals of a least assignment leave anything else. They come to 18;
-/// each facility at the location of its own number costs 20, and the completion that the assignment gives 23.
+/// The zeros hold all rows and columns together, so that no other duals of a least assignment leave anything else. They
+/// sum to 18; each facility at the location of its own number costs 20, and the completion that the assignment gives
+/// 23.
 const FLOWS: [i64; 16] = [0, 0, 0, 0, 3, 0, 0, 3, 0, 1, 0, 0, 2, 2, 0, 0];
 
 const DISTANCES: [i64; 16] = [0, 3, 2, 2, 1, 0, 3, 2, 3, 3, 0, 3, 3, 1, 3, 0];
@@ -62,7 +63,8 @@ fn branch_by(
     Ok(thought.branch)
 }
 
-/// What the children of a branch are ordered by: what the duals come to, where they may cut children off, else the reduced entries.
+/// What the children of a branch are ordered by: what the duals reach, where they may cut children off, else the
+/// reduced entries.
 fn order(branch: &Branch) -> &[i128] {
     match &branch.reached {
         Some(reached) => reached,
@@ -70,8 +72,9 @@ fn order(branch: &Branch) -> &[i128] {
     }
 }
 
-// Without a known cost the rows' sums are 2, 9, 5 and 4, and those of the columns 2, 4, 13 and 1. Where 20 is known an entry counts 2 at
-// most: 2, 4, 5 and 2 by rows, 2, 4, 6 and 1 by columns. At location 2 the duals come to 18 and the entries 0, 7, 2 and 4.
+// Without a known cost the rows' sums are 2, 9, 5 and 4, and those of the columns 2, 4, 13 and 1. Where 20 is known an
+// entry counts 2 at most: 2, 4, 5 and 2 by rows, 2, 4, 6 and 1 by columns. At location 2 the duals reach 18 and the
+// entries are 0, 7, 2 and 4.
 #[test]
 fn the_greatest_sum_is_split_on(rt: HostRuntime) -> Result<(), Fail> {
     let alloc = rt.alloc();

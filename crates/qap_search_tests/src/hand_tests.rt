@@ -66,7 +66,7 @@ fn four_turns<L: Law, M: Room<L>>(
     Ok([first, second, third, fourth])
 }
 
-/// Four turns of a new worker in a room, and what it tells then.
+/// Four turns of a new worker in a room, and what it reports then.
 fn new_worker<L: Law>(
     alloc: Global,
     instance: &Instance,
@@ -81,7 +81,7 @@ fn new_worker<L: Law>(
     Ok((steps, hand.report()))
 }
 
-/// Four turns of one worker, what it tells then, and the space.
+/// Four turns of one worker, what it reports then, and the space.
 fn one_worker<L: Law>(
     alloc: Global,
     instance: &Instance,

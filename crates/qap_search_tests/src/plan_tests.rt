@@ -152,7 +152,7 @@ fn a_search_that_cuts_finds_the_least_cost(rt: HostRuntime) -> Result<(), Fail> 
     Ok(())
 }
 
-/// The instance with each flow of the other sign: what is least there is dearest in the first one.
+/// The instance with each flow of the other sign: what is least there is costliest in the first one.
 fn with_signs_changed(alloc: Global, instance: &Instance) -> Result<Instance, Fail>
     ensures { IfOk result (λ I. I.size ≡ instance.now.size) }
 {
@@ -168,7 +168,7 @@ fn with_signs_changed(alloc: Global, instance: &Instance) -> Result<Instance, Fa
     Ok(Instance::new(n, a, b)?)
 }
 
-/// Asserts that searches by each rule find the least cost from the dearest permutation.
+/// Asserts that searches by each rule find the least cost from the costliest permutation.
 fn assert_from_the_dearest<R>(rt: &R, alloc: Global, instance: &Instance) -> Result<(), Fail>
 where
     R: Threads + Wait + time::Clock + Sync + Abort,

@@ -1,4 +1,4 @@
-//! Proofs that searches of either kind come to, judged by the checker of proofs, against all completions of the root.
+//! Proofs that searches of either kind yield, judged by the checker of proofs, against all completions of the root.
 
 ghost use Rattle.std.specs.Prelude.{◌≡◌, ◌≤◌, IfOk};
 ghost use Rattle.qap_cost.specs.Objective.{Permutes};
@@ -61,8 +61,8 @@ where
     Ok((answer.proof.cost(), answer.proof.bound(), answer.open_nodes))
 }
 
-/// Asserts that a search over this root, of which so many facilities are placed, proves the least cost of what completes it, or the cost of
-/// the start where that is less.
+/// Asserts that a search over this root, of which this many facilities are placed, proves the least cost of what
+/// completes it, or the cost of the start where that is less.
 fn assert_proved<R>(
     rt: &R,
     alloc: Global,
@@ -95,8 +95,8 @@ fn searches_of_either_kind_prove_the_least_cost(rt: HostRuntime) -> Result<(), F
     Ok(())
 }
 
-/// Asserts that a search which is stopped after so many commits proves a bound that is no higher than the least cost of what completes the
-/// root.
+/// Asserts that a search which is stopped after this many commits proves a bound that is no higher than the least cost
+/// of what completes the root.
 fn assert_bound<R>(
     rt: &R,
     alloc: Global,
@@ -226,7 +226,7 @@ fn of_the_places_of_a_square_one_is_searched(rt: HostRuntime) -> Result<(), Fail
     Ok(())
 }
 
-/// So many numbers from -5 to 5, with no order in them.
+/// This many numbers from -5 to 5, with no order in them.
 fn mixed(alloc: Global, count: usize, step: i64) -> Result<Vec<i64>, AllocError> {
     let mut numbers = Vec::with_capacity(alloc, count)?;
     let mut state = step;
@@ -247,8 +247,8 @@ fn mixed_instance(alloc: Global, n: usize, step: i64) -> Result<Instance, Fail>
     Ok(Instance::new(n, a, b)?)
 }
 
-/// What the text shows of a proof that a search of all permutations comes to by this rule, from each facility at the location of its own
-/// number.
+/// What the text shows of a proof that a search of all permutations yields by this rule, from each facility at the
+/// location of its own number.
 #[tactic(auto, using(crate::proofs::Roots::any_root))]
 fn shown<R>(
     rt: &R,

@@ -33,7 +33,7 @@ fn outcome(alloc: Global, run: &Run) -> Result<([u64; 3], [(u64, u64); 2]), Fail
     Ok(([open, best, run.space.commits()], counts))
 }
 
-/// What the run by a schedule comes to.
+/// What the run by a schedule yields.
 fn outcome_of(
     alloc: Global,
     instance: &Instance,

@@ -96,7 +96,7 @@ static REFUSED: [(Row, AssembleError); 13] = [
         &[&[CLOSED, List(&[]), ZEROS, ZEROS]],
         AssembleError::NotATree,
     ),
-    // An open node is told first.
+    // An open node is reported first.
     (
         &[
             &[NODE, List(&[])],
@@ -188,7 +188,7 @@ fn other_tuples_are_refused(rt: HostRuntime) -> Result<(), Fail> {
     Ok(())
 }
 
-/// Searches that were stopped: the instance, the tuples, and the cost and the bound of what they come to.
+/// Searches that were stopped: the instance, the tuples, and the cost and the bound of what they yield.
 static CUT_SHORT: [(Matrices, Row, (i128, i128)); 4] = [
     (
         FIRST,

@@ -161,8 +161,8 @@ fn gate_meet(rt: HostRuntime) -> Result<(), Fail> {
     Ok(())
 }
 
-/// The first worker that comes to a commit is held until a commit of the other one is accepted, and the moment moves on by a
-/// lease meanwhile.
+/// The first worker that gets to a commit is held until a commit of the other one is accepted, and the moment moves on
+/// by a lease meanwhile.
 #[derive(Drop)]
 struct Late {
     held: Signal,
@@ -261,7 +261,7 @@ impl Gate for Without {
     fn thinking(&self, _worker: u16) {}
 }
 
-/// How many nodes a search leaves open whose workers are ended so; `None` where it comes to anything else.
+/// How many nodes a search leaves open whose workers are ended so; `None` where it yields anything else.
 fn left_open<R>(
     rt: &R,
     alloc: Global,
@@ -281,7 +281,7 @@ where
 
 #[test]
 fn ended_workers_leave_open_nodes(rt: HostRuntime) -> Result<(), Fail> {
-    // A node that an ended worker took stays its own until its lease ends, which this clock doesn't come to.
+    // A node that an ended worker took stays its own until its lease ends, which this clock doesn't reach.
     let cases = [
         (1, Kind::Commit),
         (1, Kind::TakeNode),
@@ -339,8 +339,8 @@ fn both_ended(answer: &Answer) -> Option<[Ended; 2]> {
     }
 }
 
-/// What a search comes to whose first worker is ended at its step of this number: whether it came to that step, the cost, the accepted
-/// commits, and how both workers ended.
+/// What a search yields whose first worker is ended at its step of this number: whether it got to that step, the cost,
+/// the accepted commits, and how both workers ended.
 fn ended_at<R>(
     rt: &R,
     alloc: Global,
@@ -394,8 +394,8 @@ fn count_done(answer: &Answer) -> usize {
     ended.filter(|report| report.ended == Ended::Done).count()
 }
 
-/// What a search by so many workers comes to: the cost, the accepted commits, how many workers told a report and how many of them that
-/// the search was over, and whether the best permutation is the identity.
+/// What a search by this many workers yields: the cost, the accepted commits, how many workers told a report and how
+/// many of them that the search was over, and whether the best permutation is the identity.
 fn worked<R>(
     rt: &R,
     alloc: Global,
@@ -426,7 +426,7 @@ fn worked_examples(rt: HostRuntime) -> Result<(), Fail> {
     Ok(())
 }
 
-/// Whether each of ten searches by so many workers finds this cost.
+/// Whether each of ten searches by this many workers finds this cost.
 fn finds<R>(
     rt: &R,
     alloc: Global,
@@ -528,8 +528,8 @@ fn a_gap_holds_the_least_cost(rt: HostRuntime) -> Result<(), Fail> {
     Ok(())
 }
 
-/// What a search for a permutation alone comes to: its cost, whether it is the identity, and how many workers told a report; `None` where
-/// the limit stops it.
+/// What a search for a permutation alone yields: its cost, whether it is the identity, and how many workers told a
+/// report; `None` where the limit stops it.
 fn least_found<R>(
     rt: &R,
     alloc: Global,

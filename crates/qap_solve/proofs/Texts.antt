@@ -1,4 +1,4 @@
--- The texts that a certificate is told as.
+-- The texts that are written for a certificate.
 use Rattle.std.proofs.Common.{◌≡◌, ℕ, Bool, List, ℤ, refl, sym, subst, ◌++◌, ap, Option, Some, None, arith}
 use Rattle.qap_cost.specs.Instance.{Problem}
 use Rattle.qap_cost.specs.Objective.{IsLeast, NoneCostsLess, Permutes}
@@ -23,7 +23,7 @@ permuted I C shape certified = record { bijection = shape.permutation.bijection;
 certificate_is : (C : Claim) → IsCertificate C → IsCertificateText (certificate_text Second C) C
 certificate_is C shape = record { version = Second; certificate = shape; bound = tt; tree = shape.tree; is = refl }
 
--- a permutation of least cost is told by its text
+-- the text of a permutation of least cost is what is to be written
 pub least_text : (I : Problem) (nodes : Option ℕ) (p : List ℕ) (c : ℤ) → IsLeastFound I nodes p c → IsLeastText I nodes (solution_text c p)
 least_text I nodes p c found = record {
   permutation = p;
@@ -35,7 +35,7 @@ least_text I nodes p c found = record {
   within = found.within;
 }
 
--- where the certificate's bound is its cost, it tells a proof of that
+-- where the certificate's bound is its cost, its text is a proof of that
 pub proof_text : (I : Problem) (nodes : Option ℕ) (C : Claim) → IsCertificate C → ShowsLeast I nodes C → IsLeast I C.cost → IsProofText I nodes (certificate_text Second C)
 proof_text I nodes C shape by least = record {
   certificate = C;
@@ -65,9 +65,12 @@ least_found I workers nodes a h = record {
 shows_gap : (I : Problem) (nodes : ℕ) (C : Claim) → CertifiesStopped I nodes C → NoneCostsLess I C.bound → ShowsGap I nodes C
 shows_gap I nodes C stopped none = record { stopped = stopped; permutes = permuted I C stopped.closes.certificate stopped.certified; none_less = none }
 
+-- the line of a stopped search's bound and cost, and behind it its permutation's text, if none costs less than its
+-- bound
 pub gap_text : (I : Problem) (nodes : ℕ) (C : Claim) → CertifiesStopped I nodes C → NoneCostsLess I C.bound → IsGapText I nodes (gap_line C.bound C.cost ++ solution_text C.cost C.permutation)
 gap_text I nodes C stopped none = record { certificate = C; shown = shows_gap I nodes C stopped none; is = refl }
 
+-- the text of its certificate, if none costs less than its bound
 pub gap_proof_text : (I : Problem) (nodes : ℕ) (C : Claim) → CertifiesStopped I nodes C → NoneCostsLess I C.bound → IsGapProofText I nodes (certificate_text Second C)
 gap_proof_text I nodes C stopped none = record {
   certificate = C;

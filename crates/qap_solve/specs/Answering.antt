@@ -1,4 +1,4 @@
--- What a run of the solver comes to, whatever it was asked for.
+-- What a run of the solver yields, whatever it was asked for.
 use Rattle.std.specs.Prelude.{◌≡◌, ℕ, ◌⊎◌, List, Option}
 use Rattle.qap_io.specs.Counting.{CountedDevice}
 use Rattle.qap_io.specs.Refusal.{refusal_line}
@@ -27,13 +27,14 @@ HasNotAnswered s (Solve options) e =
     HasNotSolved (input_of s.bytes_left s.reader s.reader_after) options.nodes options.cert s.bytes_taken s.writer s.writer_after e
 HasNotAnswered s Script e = (fault : ScriptError) × BreaksDown s fault × (e ≡ of_script fault)
 
--- The line of a refusal has gone out, or the writer failed and a beginning of it has. Nothing is told of a search that was stopped,
--- since what it has come to stands on the output.
+-- The line of a refusal has gone out, or the writer failed and a beginning of it has. Nothing is reported of a search
+-- that was stopped, since what it has found stands on the output.
 abbrev pub HasTold : {E : Type 0} → (E → Option (List ℕ)) → CountedDevice E → CountedDevice E → RunError → Type 0
 HasTold contents old new Stopped = new ≡ old
 HasTold contents old new e = Sends contents old new (refusal_line (refusal_of e)) ⊎ BreaksOff contents old new (refusal_line (refusal_of e))
 
--- The run ended with this exit status: 0 behind the whole answer, with nothing told of a refusal, or that of why there is none, which was told.
+-- The run ended with this exit status: 0 behind the whole answer, with nothing reported of a refusal, or that of why
+-- there is none, which was reported.
 abbrev pub HasRun : {R W E : Type 0} → Streams R W → Request → (E → Option (List ℕ)) → CountedDevice E → CountedDevice E → ℕ → Type 0
 HasRun s request told errors errors_after exit =
     (HasAnswered s request × (exit ≡ exit_code Done) × (errors_after ≡ errors))

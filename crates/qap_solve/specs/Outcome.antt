@@ -1,4 +1,4 @@
--- What the search of an instance comes to, for a run.
+-- What the search of an instance yields, for a run.
 use Rattle.std.specs.Prelude.{◌≡◌, ℕ, Bool, true, false, List, ℤ, Option, Some}
 use Rattle.qap_cost.specs.Instance.{Problem}
 use Rattle.qap_cost.specs.Objective.{NoneCostsLess, Permutes, cost_of}

@@ -1,4 +1,4 @@
--- Why a run is broken off, and how that is told.
+-- Why a run is broken off, and how that is reported.
 use Rattle.std.specs.Prelude.{ℕ, codes}
 use Rattle.qap_io.specs.Refusal.{RefusalText, memory_refusal, device_refusal, refused, refused_at}
 use Rattle.qap_search.specs.declared.runs.answer.SolveError.{SolveError}
@@ -11,23 +11,25 @@ use Rattle.space_script.specs.declared.script_error.ScriptError.TheVariants.{Inp
 use Rattle.qap_solve.specs.declared.refusal.RunError.{RunError}
 use Rattle.qap_solve.specs.declared.refusal.RunError.TheVariants.{Text, Unfinished, Stopped, OutOfMemory, Device}
 
--- what a fault of a text, of a script or of a search is for the run: want of memory and a failed device are the run's own
+-- what a fault of a text is for the run: want of memory and a failed device are the run's own
 abbrev pub of_text : TextError → RunError
 of_text TextMemory = OutOfMemory
 of_text TextDevice = Device
 of_text e = Text e
 
+-- the same for a fault of a script
 abbrev pub of_script : ScriptError → RunError
 of_script ScriptTooLong = Text InputTooLong
 of_script ScriptMemory = OutOfMemory
 of_script ScriptDevice = Device
 
+-- the same for the error of a search
 abbrev pub of_search : SolveError → RunError
 of_search (SearchUnfinished count) = Unfinished count
 of_search (SearchStopped answer) = Stopped
 of_search SearchMemory = OutOfMemory
 
--- the refusal that a run is told as
+-- the refusal that reports a run's error
 abbrev pub refusal_of : RunError → RefusalText
 refusal_of (Text e) = text_refusal e
 refusal_of (Unfinished count) = refused_at 41 (codes "Unfinished") count

@@ -1,4 +1,4 @@
--- What a solved instance is told as, and one whose search was stopped: a permutation, or a certificate.
+-- What is written for a solved instance, and for one whose search was stopped: a permutation, or a certificate.
 use Rattle.std.specs.Prelude.{◌≡◌, ◌≤◌, ◌++◌, Bool, true, false, ℕ, List, Option, IfSome}
 use Rattle.qap_cost.specs.Instance.{Problem}
 use Rattle.qap_cost.specs.Objective.{IsLeast, NoneCostsLess, Permutes, cost_of}
@@ -45,8 +45,8 @@ abbrev pub IsOutput : Bool → Problem → Option ℕ → List ℕ → Type 0
 IsOutput true I nodes text = IsProofText I nodes text
 IsOutput false I nodes text = IsLeastText I nodes text
 
--- the certificate of a search that was stopped when it had decided so many nodes: its permutation is one of the instance, and
--- none costs less than its bound
+-- the certificate of a search that was stopped when it had decided this many nodes: its permutation is one of the
+-- instance, and none costs less than its bound
 pub record ShowsGap (I : Problem) (nodes : ℕ) (C : Claim) : Type 0 where
   pub stopped : CertifiesStopped I nodes C
   pub permutes : Permutes I C.permutation

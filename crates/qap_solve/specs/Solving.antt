@@ -19,7 +19,7 @@ pub record Solves {R : Type 0} (s : Input R) (nodes : Option ℕ) (cert : Bool) 
   pub input : HasInstance s instance rest
   pub holds : IsOutput cert instance nodes output
 
--- what the instance that was read is told as, where its search was stopped at this limit of nodes
+-- what is written for the instance that was read, where its search was stopped at this limit of nodes
 pub record SolvesPartly {R : Type 0} (s : Input R) (nodes : Option ℕ) (cert : Bool) (output : List ℕ) : Type 0 where
   pub instance : Problem
   pub rest : List ℕ
@@ -34,7 +34,7 @@ pub record NoInstance {R : Type 0} (s : Input R) (e : RunError) : Type 0 where
   pub is : e ≡ of_text fault
   pub of_input : HasNoInstance s fault
 
--- the search of an instance ended with so many open nodes, below the limit of nodes
+-- the search of an instance ended with this many open nodes, below the limit of nodes
 pub record IsUnfinished {R : Type 0} (s : Input R) (nodes : Option ℕ) (e : RunError) : Type 0 where
   pub count : ℕ
   pub is : e ≡ Unfinished count
@@ -64,7 +64,7 @@ Stops contents old new text e = StopsBy OutOfMemory Device contents old new text
 abbrev pub HasSolved : {R W : Type 0} → Input R → Option ℕ → Bool → (W → Option (List ℕ)) → CountedDevice W → CountedDevice W → Type 0
 HasSolved s nodes cert contents old new = (text : List ℕ) × Solves s nodes cert text × Sends contents old new text
 
--- what a search has come to that was stopped has gone out, or, for this reason, a beginning of it has
+-- what a search that was stopped has found has gone out, or, for this reason, a beginning of it has
 abbrev pub EndsStopped : {W : Type 0} → (W → Option (List ℕ)) → CountedDevice W → CountedDevice W → List ℕ → RunError → Type 0
 EndsStopped contents old new text e = ((e ≡ Stopped) × Sends contents old new text) ⊎ Stops contents old new text e
 

@@ -8,7 +8,7 @@ use clap::{Arg, ArgAction, ArgMatches, Command, value_parser};
 use qap_command::CommandError;
 use std::alloc::{AllocError, Global};
 
-/// The line that tells how the program is used.
+/// The line that shows how the program is used.
 pub const USAGE: &str =
     "usage: qapsolve solve [--workers K] [--lease MS] [--nodes N] [--cert] | qapsolve script";
 

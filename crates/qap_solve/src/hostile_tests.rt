@@ -57,7 +57,7 @@ where
     (answer, failed, output.into_inner().into_inner())
 }
 
-/// Asserts what a search comes to where each call of its reader in turn fails.
+/// Asserts what a search yields where each call of its reader in turn fails.
 fn assert_reads_fail<T>(system: &T, alloc: Global, options: &Options, ends: Result<(), RunError>)
 where
     T: Threads + Wait + time::Clock + Sync + Abort,
@@ -77,7 +77,7 @@ where
     }
 }
 
-// The calls are the reads of a byte each, and the read that tells the end.
+// The calls are the reads of a byte each, and the read that finds the end.
 #[test]
 fn reads_fail(rt: HostRuntime) {
     for (options, ends) in SEARCHES {
@@ -124,7 +124,7 @@ where
     (answer, end_of(output))
 }
 
-/// Asserts what a search comes to where each call of its writer in turn fails.
+/// Asserts what a search yields where each call of its writer in turn fails.
 fn assert_writes_fail<T>(system: &T, alloc: Global, options: &Options, ends: Result<(), RunError>)
 where
     T: Threads + Wait + time::Clock + Sync + Abort,
@@ -152,7 +152,7 @@ fn writes_fail(rt: HostRuntime) {
     }
 }
 
-/// Whether the line that tells a refusal fails where a call of the writer fails so, and what became of the writer.
+/// Whether the line that reports a refusal fails where a call of the writer fails so, and what became of the writer.
 fn line_fails(alloc: Global, call: usize) -> (bool, Ended) {
     let mut errors = failing(Vec::new(alloc), call);
     let failed = fault_line(&RunError::Device, &mut errors).is_err();

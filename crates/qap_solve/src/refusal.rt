@@ -1,4 +1,4 @@
-//! Why a run is broken off, and how that is told.
+//! Why a run is broken off, and how that is reported.
 
 ghost use Rattle.std.specs.Prelude.{◌≡◌, MatchResult};
 ghost use Rattle.qap_io.specs.Refusal.{refusal_line};
@@ -18,7 +18,7 @@ pub enum RunError {
     /// The input is too long, or is no instance's text.
     #[error("{0}")]
     Text(TextError),
-    /// The search ended with so many open nodes.
+    /// The search ended with this many open nodes.
     #[error("{0} nodes are open")]
     Unfinished(u64),
     /// The search was stopped at its limit of nodes, and an answer for what it had found has gone out.
@@ -87,8 +87,8 @@ pub fn status(error: &RunError) -> u8
     status.code()
 }
 
-/// Writes the line that tells a refusal: `refused`, its number and name, and `at` with its place or the number of open nodes
-/// where it carries one; and flushes the writer. Where that fails, a beginning of the line has gone out.
+/// Writes the line that reports a refusal: `refused`, its number and name, and `at` with its place or the number of
+/// open nodes where it carries one; and flushes the writer. Where that fails, a beginning of the line has gone out.
 pub fn fault_line<W: Write>(error: &RunError, writer: &mut Counted<W>) -> Result<(), Device>
     ensures { MatchResult result
         (λ _. Sends W.contents writer.old writer.new (refusal_line (refusal_of error.now)))
@@ -97,7 +97,7 @@ pub fn fault_line<W: Write>(error: &RunError, writer: &mut Counted<W>) -> Result
     refusal(*error).send(writer)
 }
 
-/// The refusal that a run is told as.
+/// The refusal that reports a run's error.
 fn refusal(error: RunError) -> Refusal
     ensures { result ≡ refusal_of error }
 {

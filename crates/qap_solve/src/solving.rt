@@ -31,7 +31,7 @@ use std::sync::Wait;
 use std::thread::Threads;
 use std::time;
 
-/// What an instance's search has come to.
+/// What an instance's search has found.
 #[derive(Drop)]
 enum Outcome {
     /// A permutation of least cost.
@@ -89,7 +89,7 @@ fn read_problem<R: Read>(alloc: Global, reader: &mut Counted<R>) -> Result<Insta
     Ok(instance)
 }
 
-/// What the instance's search comes to; a certificate of a bound where it is stopped.
+/// What the instance's search yields; a certificate of a bound where it is stopped.
 fn solved<T, C, G>(
     rt: &T,
     alloc: Global,
@@ -182,8 +182,8 @@ fn put_proof<W: Write>(
     put_certificate(alloc, writer, certificate)
 }
 
-/// Writes what a search that was stopped has come to: the line of a certificate's bound and cost, and its permutation with the
-/// cost; or the certificate itself.
+/// Writes what a search that was stopped has found: the line of a certificate's bound and cost, and its permutation
+/// with the cost; or the certificate itself.
 fn put_stopped<W: Write>(
     alloc: Global,
     writer: &mut Counted<W>,

@@ -1,4 +1,4 @@
-//! Runs over memory: what is written, what is told, and the exit status; and the command line.
+//! Runs over memory: what is written, what is reported, and the exit status; and the command line.
 
 ghost use Rattle.qap_solve.specs.Options.{AreLimited};
 

@@ -99,6 +99,7 @@ one_behind_size text e f a b =
     let fault = subst (λ (n : ℕ). HasEntryFault text b.stop n e) wanted (subst (λ (i : ℕ). HasEntryFault text i (2 * (a.size * a.size)) e) first.0 a.fault) in
     one_entry_fault text b.stop (2 * (b.size * b.size)) e f fault b.fault
 
+-- a text has one first fault at most as that of an instance
 pub one_instance_fault : (text : List ℕ) (e f : TextError) → IsInstanceFault text e → IsInstanceFault text f → e ≡ f
 one_instance_fault text e f a b =
     elim a [
@@ -199,6 +200,7 @@ one_behind_value text n e f a b =
     let stops = (Spells-same text 0 (pos n ∷ a.value ∷ []) (pos n ∷ b.value ∷ []) a.stop b.stop a.spelled b.spelled refl).1 in
     one_location_fault text b.stop n e f (subst (λ (i : ℕ). HasLocationFault text i n e) stops a.fault) b.fault
 
+-- the same as that of a solution
 pub one_solution_fault : (text : List ℕ) (n : ℕ) (e f : TextError) → IsSolutionFault text n e → IsSolutionFault text n f → e ≡ f
 one_solution_fault text n e f a b =
     elim a [

@@ -12,7 +12,7 @@ use Rattle.qap_text.specs.declared.error.TextError.TheVariants.{Empty, NotANumbe
 use Rattle.qap_text.proofs.OneReading.{IsNumberAt-unique, no_word-word, no_number-number, Spells-same, Spells-next}
 use Rattle.qap_text.proofs.Spellings.{AllInRange-append}
 
--- two lists in a row of known lengths are told apart
+-- two lists in a row, of which the first one's length is known, are determined by the row
 append_parts : (a b c d : List ℤ) → length a ≡ length c → a ++ b ≡ c ++ d → (a ≡ c) × (b ≡ d)
 append_parts a b c d same e = (
   sym (take-append_seam a b) ∙ ap (λ n. take n (a ++ b)) same ∙ ap (take (length c)) e ∙ take-append_seam c d,
@@ -36,6 +36,7 @@ IsInstanceText-unique text I J r s a b =
       a.follows ∙ ap (λ n. drop n text) entries.1 ∙ sym b.follows,
     )
 
+-- a text that begins with a size from 1 to 256 has no fault there
 pub size_right : (text : List ℕ) (start stop n : ℕ) (e : TextError) → 0 < n → n ≤ 256 → IsNumberAt text 0 start stop (pos n) → IsSizeFault text e → ⊥
 size_right text start stop n Empty positive small number fault = no_word-word text 0 start stop fault number.word
 size_right text start stop n (NotANumber place) positive small number fault = no_number-number text 0 place start stop (pos n) fault number
@@ -49,6 +50,7 @@ size_right text start stop n (SizeTooLarge place) positive small number fault =
     omega (arith, ints)
 size_right text start stop n _ positive small number fault = absurd fault
 
+-- an entry in range has no fault
 pub entry_right : (text : List ℕ) (from start stop : ℕ) (z : ℤ) (e : TextError) → InRange z → IsNumberAt text from start stop z → IsEntryFault text from e → ⊥
 entry_right text from start stop z CountDiffers in_range number fault = no_word-word text from start stop fault number.word
 entry_right text from start stop z (NotANumber place) in_range number fault = no_number-number text from place start stop z fault number

@@ -15,6 +15,7 @@ pub record HasReadLocations (text : List ℕ) (from n : ℕ) (p : List ℕ) (sto
   pub counted : length p ≡ count
   pub in_text : stop ≤ length text
 
+-- one location more has been read, which is none of those before it
 pub HasReadLocations-more : (text : List ℕ) (from n : ℕ) (p new : List ℕ) (stop start next count k : ℕ) → HasReadLocations text from n p stop count → k < n → ((i : ℕ) → i < length p → get_or p i 0 ≢ k) → IsNumberAt text stop start next (pos (k + 1)) → new ≡ p ++ k ∷ [] → HasReadLocations text from n new next (count + 1)
 HasReadLocations-more text from n p new stop start next count k h small other number is = record {
   spelled = subst (λ (zs : List ℤ). Spells text from zs next) (sym (ap from_one is ∙ map-append (λ x. pos (x + 1)) p (k ∷ [])))

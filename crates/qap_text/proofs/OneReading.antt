@@ -39,6 +39,7 @@ IsNumberAt-unique text from s t u v y z a b =
     sym a.number ∙ ap (λ i. number_of (slice_range text i t)) same.0 ∙ ap (λ j. number_of (slice_range text u j)) same.1 ∙ b.number in
     (same.1, cc)
 
+-- what stands next in a text isn't both a number and none
 pub no_number-number : (text : List ℕ) (from s u v : ℕ) (z : ℤ) → IsNoNumberAt text from s → IsNumberAt text from u v z → ⊥
 no_number-number text from s u v z a b =
     let same = IsWordAt-unique text from s a.stop u v a.word b.word in

@@ -10,16 +10,18 @@ use Rattle.qap_text.specs.declared.error.TextError.TheVariants.{Empty, NotANumbe
 use Rattle.qap_text.proofs.OneReading.{IsNumberAt-unique, no_word-word, no_number-number, Spells-same, Spells-next, Spells-agree}
 use Rattle.qap_text.proofs.Spellings.{Spells-append}
 
+-- there are as many locations when they are counted from 1
 pub length-from_one : (p : List ℕ) → length (from_one p) ≡ length p
 length-from_one [] = refl
 length-from_one (k ∷ p) = ap suc (length-from_one p)
 
+-- counted from 1, the location at each place is one more
 pub from_one-at : (p : List ℕ) (i : ℕ) → i < length p → get_or (from_one p) i (pos 0) ≡ pos (get_or p i 0 + 1)
 from_one-at [] i below = absurd (omega arith)
 from_one-at (k ∷ p) zero below = refl
 from_one-at (k ∷ p) (suc i) below = from_one-at p i (omega arith)
 
--- the numbers spelled tell the locations
+-- the numbers spelled determine the locations
 pub from_one-same : (p q : List ℕ) → from_one p ≡ from_one q → p ≡ q
 from_one-same [] [] e = refl
 from_one-same [] (k ∷ q) e = cc
@@ -30,6 +32,7 @@ from_one-same (k ∷ p) (l ∷ q) e =
     let tails : from_one p ≡ from_one q = cc in
     ap (λ x. x ∷ p) head ∙ ap (λ ys. l ∷ ys) (from_one-same p q tails)
 
+-- a text is that of one solution at most
 pub IsSolutionText-unique : (text : List ℕ) (n : ℕ) (c d : ℤ) (p q : List ℕ) → IsSolutionText text n c p → IsSolutionText text n d q → (c ≡ d) × (p ≡ q)
 IsSolutionText-unique text n c d p q a b =
     let same : (pos n ∷ c ∷ from_one p ≡ pos n ∷ d ∷ from_one q) × (a.stop ≡ b.stop) =
@@ -38,6 +41,7 @@ IsSolutionText-unique text n c d p q a b =
     let whole = same.0 in
     (cc, from_one-same p q cc)
 
+-- a text that begins with the size wanted has no fault there
 pub size_right : (text : List ℕ) (start stop n : ℕ) (e : TextError) → IsNumberAt text 0 start stop (pos n) → IsOtherSizeFault text n e → ⊥
 size_right text start stop n Empty number fault = no_word-word text 0 start stop fault number.word
 size_right text start stop n (NotANumber place) number fault = no_number-number text 0 place start stop (pos n) fault number
@@ -45,6 +49,7 @@ size_right text start stop n (SizeDiffers place) number fault =
     fault.3 (sym (IsNumberAt-unique text 0 start stop place fault.0 (pos n) fault.1 number fault.2).1)
 size_right text start stop n _ number fault = absurd fault
 
+-- a value from -10^24 to 10^24 has no fault
 pub value_right : (text : List ℕ) (from start stop : ℕ) (z : ℤ) (e : TextError) → unsigned_abs z ≤ 10 ^ 24 → IsNumberAt text from start stop z → IsValueFault text from e → ⊥
 value_right text from start stop z CountDiffers in_range number fault = no_word-word text from start stop fault number.word
 value_right text from start stop z (NotANumber place) in_range number fault = no_number-number text from place start stop z fault number
@@ -55,6 +60,7 @@ value_right text from start stop z (ValueRange place) in_range number fault =
     omega arith
 value_right text from start stop z _ in_range number fault = absurd fault
 
+-- a location that is one of n and none of the earlier ones has no fault
 pub location_right : (text : List ℕ) (from start stop n k : ℕ) (earlier : List ℕ) (e : TextError) → k < n → ((i : ℕ) → i < length earlier → get_or earlier i 0 ≢ k) → IsNumberAt text from start stop (pos (k + 1)) → IsLocationFault text from n earlier e → ⊥
 location_right text from start stop n k earlier CountDiffers small new number fault = no_word-word text from start stop fault number.word
 location_right text from start stop n k earlier (NotANumber place) small new number fault = no_number-number text from place start stop (pos (k + 1)) fault number

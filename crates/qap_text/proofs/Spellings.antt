@@ -10,6 +10,7 @@ use Rattle.qap_text.specs.Spelling.{IsNumberAt, Spells}
 use Rattle.qap_text.specs.InstanceText.{IsInstanceText, HasEntryFault}
 use Rattle.qap_text.specs.declared.error.TextError.{TextError}
 
+-- numbers spelled up to a place, and others from there on, are spelled one list behind the other
 pub Spells-append : (text : List ℕ) (from : ℕ) (xs : List ℤ) (middle : ℕ) (ys : List ℤ) (stop : ℕ) → Spells text from xs middle → Spells text middle ys stop → Spells text from (xs ++ ys) stop
 Spells-append text from [] middle ys stop h k = subst (λ (i : ℕ). Spells text i ys stop) (sym h) k
 Spells-append text from (x ∷ xs) middle ys stop h k = (h.0, h.1, h.2, Spells-append text h.1 xs middle ys stop h.3 k)
@@ -21,6 +22,7 @@ pub record HasRead (text : List ℕ) (from : ℕ) (entries : List ℤ) (stop cou
   pub counted : length entries ≡ count
   pub in_text : stop ≤ length text
 
+-- two lists of entries in range are so one behind the other
 pub AllInRange-append : (xs ys : List ℤ) → AllInRange xs → AllInRange ys → AllInRange (xs ++ ys)
 AllInRange-append xs ys h k = record {
   each = λ j below. elim (cases_lt j (length xs)) [
@@ -33,6 +35,7 @@ one : (z : ℤ) → InRange z → (j : ℕ) → j < length (z ∷ []) → InRang
 one z h zero below = h
 one z h (suc j) below = absurd (omega arith)
 
+-- one entry in range more has been read
 pub HasRead-more : (text : List ℕ) (from : ℕ) (xs new : List ℤ) (stop start next n : ℕ) (z : ℤ) → HasRead text from xs stop n → InRange z → IsNumberAt text stop start next z → new ≡ xs ++ z ∷ [] → HasRead text from new next (n + 1)
 HasRead-more text from xs new stop start next n z h in_range number is = record {
   spelled = subst (λ ys. Spells text from ys next) (sym is) (Spells-append text from xs stop (z ∷ []) next h.spelled (start, next, number, refl));
@@ -52,6 +55,7 @@ HasEntryFault-behind text from middle n a e spelled in_range count h = record {
   fault = h.fault;
 }
 
+-- a fault among the first n entries is one among the first m, for m no less than n
 pub HasEntryFault-of_more : (text : List ℕ) (from n m : ℕ) (e : TextError) → n ≤ m → HasEntryFault text from n e → HasEntryFault text from m e
 HasEntryFault-of_more text from n m e more h = record {
   entries = h.entries;

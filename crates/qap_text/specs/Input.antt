@@ -16,6 +16,7 @@ pub record Input (R : Type 0) : Type 0 where
   pub before : CountedDevice R
   pub after : CountedDevice R
 
+-- the input with these parts
 abbrev pub input_of : {R : Type 0} → (R → Option (List ℕ)) → CountedDevice R → CountedDevice R → Input R
 input_of bytes before after = record { bytes = bytes; before = before; after = after }
 

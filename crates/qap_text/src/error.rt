@@ -1,4 +1,4 @@
-//! Why a text is no instance, or no solution, and how that is told.
+//! Why a text is no instance, or no solution, and how that is reported.
 
 use qap_io::{Device, Refusal};
 use std::alloc::AllocError;
@@ -49,7 +49,7 @@ impl TextError {
     ghost use Rattle.std.specs.Prelude.{◌≡◌};
     ghost use Rattle.qap_text.specs.Refusal.{text_refusal};
 
-    /// The refusal that the fault is told as: its number, its name, and its place where it has one.
+    /// The refusal that reports the fault: its number, its name, and its place where it has one.
     pub fn refusal(self) -> Refusal
         ensures { result ≡ text_refusal self }
     {

@@ -5,7 +5,7 @@ ghost use Rattle.qap_text.specs.Gap.{gap_line};
 
 use std::alloc::{AllocError, Global};
 
-/// The line that tells a bound that no permutation of an instance costs less than, and the cost of one: `gap G C`.
+/// The line that states a bound that no permutation of an instance costs less than, and the cost of one: `gap G C`.
 pub fn gap_line(alloc: Global, bound: i128, cost: i128) -> Result<String, AllocError>
     ensures { IfOk result (λ line. string_bytes line ≡ gap_line bound cost) }
 {

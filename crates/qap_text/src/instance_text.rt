@@ -14,7 +14,7 @@ use std::alloc::Global;
 /// Reads an instance at the front of a text: its size `n`, the `n * n` entries of A by rows, and those of B.
 ///
 /// White space and commas separate the numbers. What follows the last number is handed back as it is. The words are
-/// judged in order, and the first fault is told.
+/// judged in order, and the first fault is reported.
 pub fn read_instance(alloc: Global, text: &[u8]) -> Result<(Instance, &[u8]), TextError>
     ensures { MatchResult result
         (λ r. IsInstanceText text.now r.0 r.1.now)

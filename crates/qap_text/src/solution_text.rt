@@ -23,7 +23,7 @@ use std::alloc::Global;
 /// the facilities, counted from 1.
 ///
 /// White space and commas separate the numbers. What follows the last one means nothing. The words are judged in order,
-/// and the first fault is told.
+/// and the first fault is reported.
 pub fn read_solution(alloc: Global, n: usize, text: &[u8]) -> Result<(i128, Perm), TextError>
     requires positive { 0 < n }
     requires small { n ≤ 256 }

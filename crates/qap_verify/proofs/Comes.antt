@@ -1,4 +1,4 @@
--- What an instance and the text of a proof come to, or why they come to nothing.
+-- What an instance and the text of a proof yield, or why they yield nothing.
 use Rattle.std.proofs.Common.{◌≡◌, ℕ, List, inl, inr, Result, Ok, Err}
 use Rattle.std.specs.Prelude.{◌⊎◌, MatchResult}
 use Rattle.qap_cost.specs.Instance.{Problem}

@@ -1,4 +1,4 @@
--- What a run comes to: the line of what the proof shows, or why it shows nothing.
+-- What a run yields: the line of what the proof shows, or why it shows nothing.
 use Rattle.std.specs.Prelude.{◌≡◌, ℕ, ◌⊎◌, List, ◌++◌, Option, codes}
 use Rattle.std.specs.Fmt.{signed_decimal}
 use Rattle.qap_cost.specs.Instance.{Problem}
@@ -38,7 +38,8 @@ HasNotAnswered i contents old new e =
 abbrev pub HasTold : {E : Type 0} → (E → Option (List ℕ)) → CountedDevice E → CountedDevice E → RunError → Type 0
 HasTold contents old new e = Sends contents old new (refusal_line (refusal_of e)) ⊎ BreaksOff contents old new (refusal_line (refusal_of e))
 
--- the run ended with this exit status: 0 where it answered, with nothing told of a refusal; or that of why it did not, which was told
+-- the run ended with this exit status: 0 where it answered, with nothing reported of a refusal; or that of why it did
+-- not, which was reported
 abbrev pub HasRun : {R S W E : Type 0} → Inputs R S → (W → Option (List ℕ)) → CountedDevice W → CountedDevice W
     → (E → Option (List ℕ)) → CountedDevice E → CountedDevice E → ℕ → Type 0
 HasRun i contents old new told errors errors_after exit =

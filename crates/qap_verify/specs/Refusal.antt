@@ -1,4 +1,4 @@
--- Why a run answers no verdict, and how that is told.
+-- Why a run answers no verdict, and how that is reported.
 use Rattle.std.specs.Prelude.{◌≡◌, ℕ, ◌⊎◌, List}
 use Rattle.qap_cost.specs.Instance.{Problem}
 use Rattle.qap_io.specs.Refusal.{RefusalText, memory_refusal, device_refusal}
@@ -15,12 +15,13 @@ use Rattle.qap_verify.specs.Texts.{Inputs, IsUnread, ProofWaits, KeepsCounts}
 use Rattle.qap_verify.specs.declared.refusal.RunError.{RunError}
 use Rattle.qap_verify.specs.declared.refusal.RunError.TheVariants.{Text, Proof, OutOfMemory, Device}
 
--- what a fault of a text, or of a proof, is for the run: want of memory and a failed device are the run's own
+-- what a fault of a text is for the run: want of memory and a failed device are the run's own
 abbrev pub of_text : TextError → RunError
 of_text TextMemory = OutOfMemory
 of_text TextDevice = Device
 of_text e = Text e
 
+-- the same for a fault of a proof
 abbrev pub of_proof : ProofError → RunError
 of_proof ProofMemory = OutOfMemory
 of_proof ProofDevice = Device
@@ -56,7 +57,7 @@ HasNoTexts i e = NoInstance i e ⊎ (ProofUnread i e ⊎ WantsMemory i e)
 abbrev pub IsNoProof : Problem → List ℕ → RunError → Type 0
 IsNoProof I text e = (fault : ProofError) × (e ≡ of_proof fault) × IsRefused I text fault
 
--- the refusal that a run is told as
+-- the refusal that reports a run's error
 abbrev pub refusal_of : RunError → RefusalText
 refusal_of (Text e) = text_refusal e
 refusal_of (Proof e) = proof_refusal e

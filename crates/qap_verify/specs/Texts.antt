@@ -9,6 +9,7 @@ pub record Inputs (R S : Type 0) : Type 0 where
   pub first : Input R
   pub second : Input S
 
+-- the two inputs with these readers, before and after
 abbrev pub inputs_of : {R S : Type 0} → (R → Option (List ℕ)) → CountedDevice R → CountedDevice R
     → (S → Option (List ℕ)) → CountedDevice S → CountedDevice S → Inputs R S
 inputs_of bytes before after second_bytes second second_after =
@@ -20,7 +21,7 @@ pub record HasTexts {R S : Type 0} (i : Inputs R S) (I : Problem) (proof : List 
   pub instance_read : HasInstance i.first I rest
   pub proof_read : HasText i.second proof
 
--- what the instance and the text of the proof come to
+-- what the instance and the text of the proof yield
 pub record ComeTo {R S A : Type 0} (i : Inputs R S) (P : Problem → List ℕ → A → Type 0) (answer : A) : Type 0 where
   pub problem : Problem
   pub text : List ℕ

@@ -5,7 +5,7 @@ use clap::{Arg, Command, Error};
 use qap_command::VERSION;
 use std::alloc::Global;
 
-/// What the program is told to be in its help.
+/// What the program is said to be in its help.
 const ABOUT: &str =
     "Verifies a proof of a least cost, or of a bound, of the quadratic assignment problem";
 

@@ -1,4 +1,4 @@
-//! Why a run answers no verdict, and how that is told.
+//! Why a run answers no verdict, and how that is reported.
 
 ghost use Rattle.std.specs.Prelude.{◌≡◌, MatchResult};
 ghost use Rattle.qap_io.specs.Refusal.{refusal_line};
@@ -85,7 +85,7 @@ pub fn status(error: &RunError) -> u8
     status.code()
 }
 
-/// Writes the line that tells a refusal: `refused`, its number and name, and `at` with its place or its line where it
+/// Writes the line that reports a refusal: `refused`, its number and name, and `at` with its place or its line where it
 /// carries one; and flushes the writer. Where that fails, a beginning of the line has gone out.
 pub fn fault_line<W: Write>(error: &RunError, writer: &mut Counted<W>) -> Result<(), Device>
     ensures { MatchResult result
@@ -95,7 +95,7 @@ pub fn fault_line<W: Write>(error: &RunError, writer: &mut Counted<W>) -> Result
     refusal(*error).send(writer)
 }
 
-/// The refusal that a run is told as.
+/// The refusal that reports a run's error.
 fn refusal(error: RunError) -> Refusal
     ensures { result ≡ refusal_of error }
 {

@@ -42,6 +42,7 @@ number_grows text more from start stop z sep n =
       number = ap number_of (range_grows text more start stop (omega arith) n.word.in_text) ∙ n.number;
     }
 
+-- what a text spells it still spells with more behind it, if that begins with a separator
 pub spells_grow : (text more : List ℕ) (from : ℕ) (zs : List ℤ) (stop : ℕ) → is_separator (get_or more 0 0) ≡ true → Spells text from zs stop → Spells (text ++ more) from zs stop
 spells_grow text more from [] stop sep h = h
 spells_grow text more from (z ∷ zs) stop sep h = (h.0, h.1, number_grows text more from h.0 h.1 z sep h.2, spells_grow text more h.1 zs stop sep h.3)
@@ -72,6 +73,7 @@ word_at_end text gap word z separators w =
       number = ap (λ (ws : List ℕ). number_of (take (length whole - start) ws)) rest ∙ ap number_of (take_all (length whole - start) word (omega arith)) ∙ w.spells;
     }
 
+-- with a separator and the word of a number behind it, a text spells this number too
 pub spells_more : (text : List ℕ) (zs : List ℤ) (separator : ℕ) (word : List ℕ) (z : ℤ) → is_separator separator ≡ true → IsWordOf word z → Spells text 0 zs (length text)
     → Spells (text ++ separator ∷ word) 0 (zs ++ z ∷ []) (length (text ++ separator ∷ word))
 spells_more text zs separator word z sep w h =
@@ -84,6 +86,7 @@ spells_more text zs separator word z sep w h =
     only separator sep zero below = sep
     only separator sep (suc k) below = absurd (omega arith)
 
+-- the word of a number spells it
 pub spells_first : (word : List ℕ) (z : ℤ) → IsWordOf word z → Spells word 0 (z ∷ []) (length word)
 spells_first word z w = (0, length word, word_at_end [] [] word z (λ k below. absurd (omega arith)) w, refl)
 

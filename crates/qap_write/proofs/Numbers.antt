@@ -49,5 +49,6 @@ word_of word (negsuc n) a = subst (λ (w : List ℕ). IsWordOf w (negsuc n)) (sy
     minus_letters digits m d zero below = refl
     minus_letters digits m d (suc k) below = let e = d.digits k (omega arith) in no_separator (get_or digits k 0) (omega arith)
 
+-- a number from -10^24 to 10^24 in decimal is a word of it
 pub written : (z : ℤ) → unsigned_abs z ≤ 10 ^ 24 → IsWordOf (signed_decimal z) z
 written z small = word_of (signed_decimal z) z (IsNumber-signed_decimal z small)

@@ -53,6 +53,7 @@ swapped x y zs is f =
     let fourth = sum_by-cons f y [] in
     omega arith
 
+-- a transaction that took two permanent tuples takes both out of the content, and keeps none that it read
 pub two_taken : (m b : Mark) (renewed : Mark → Bool) → m.taken ≡ true → m.permanent ≡ true → b.taken ≡ true → b.permanent ≡ true → IsUntaken b.entry (m ∷ [])
     → SameItems (gone_of renewed (with_mark b (m ∷ []))) (m.tuple ∷ b.tuple ∷ []) × SameItems (kept_of (with_mark b (m ∷ []))) []
 two_taken m b renewed m_taken m_permanent b_taken b_permanent untaken =
@@ -68,6 +69,7 @@ two_taken m b renewed m_taken m_permanent b_taken b_permanent untaken =
           (same_list _ _ (ap (map tuple_of) (two_picked is_kept b m false false left_b left_m))),
     )
 
+-- a transaction that took one permanent tuple and read another takes the one out and keeps the other
 pub one_taken : (m b : Mark) (renewed : Mark → Bool) → m.taken ≡ true → m.permanent ≡ true → b.taken ≡ false → b.permanent ≡ true → IsUntaken b.entry (m ∷ [])
     → SameItems (gone_of renewed (with_mark b (m ∷ []))) (m.tuple ∷ []) × SameItems (kept_of (with_mark b (m ∷ []))) (b.tuple ∷ [])
 one_taken m b renewed m_taken m_permanent b_taken b_permanent untaken =

@@ -17,6 +17,7 @@ lead_more : (limit : Option ℕ) (old mid new : Place) (acts : List Act) (act : 
 lead_more limit old mid new [] act is h = (new, subst (λ (p : Place). Acts limit p act new) is h, refl)
 lead_more limit old mid new (a ∷ acts) act lead h = (lead.0, lead.1, lead_more limit lead.0 mid new acts act lead.2 h)
 
+-- a run goes on by each act that is allowed
 pub runs_go_on : (allowed : Content → Content → Content → Type 0) (limit : Option ℕ) (opening : Place) → GoesOn allowed limit (Run allowed limit opening)
 runs_go_on allowed limit opening old new act ok acts run =
     let P = IsAllowedAct allowed in
@@ -26,6 +27,7 @@ runs_go_on allowed limit opening old new act ok acts run =
       lead = lead_more limit opening old new run.acts act run.lead acts;
     }
 
+-- no acts are a run from a place to itself
 pub no_acts_yet : (allowed : Content → Content → Content → Type 0) (limit : Option ℕ) (opening : Place) → Run allowed limit opening opening
 no_acts_yet allowed limit opening = record { acts = []; allowed_each = All-nil (IsAllowedAct allowed); lead = refl }
 
@@ -73,6 +75,7 @@ act_counts limit old new (outside event reply) h = same_counts old new (ap (λ (
 act_counts limit old new shuts h = same_counts old new (ap (λ (p : Place). p.world.commits) h)
 act_counts limit old new leaves h = same_counts old new (ap (λ (p : Place). p.world.commits) h ∙ left_counts old)
 
+-- acts make as many commits as were accepted among them
 pub acts_counted : (limit : Option ℕ) (old new : Place) (acts : List Act) → LeadTo limit old acts new → new.world.commits ≡ old.world.commits + count_by is_accepted acts
 acts_counted limit old new [] is = same_counts old new (ap (λ (p : Place). p.world.commits) is)
 acts_counted limit old new (act ∷ acts) h =

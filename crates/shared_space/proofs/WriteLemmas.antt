@@ -12,6 +12,7 @@ one_more : (b : Bool) (x : Write) (more fewer : List Write) (tuple : List FieldV
 one_more true x more fewer tuple is = ap (λ l. x.tuple ∷ l) is
 one_more false x more fewer tuple is = is
 
+-- one more permanent write, last, adds its tuple last
 pub added_push : (writes : List Write) (tuple : List FieldValue) → added_of (writes ++ record { tuple = tuple; lease = Forever; taken = false } ∷ []) ≡ added_of writes ++ tuple ∷ []
 added_push [] tuple = refl
 added_push (x ∷ xs) tuple =

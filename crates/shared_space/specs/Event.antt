@@ -9,6 +9,8 @@ use Rattle.shared_space.specs.Place.{Place, is_to_close}
 use Rattle.shared_space.specs.declared.error.CommitError.{CommitError}
 use Rattle.shared_space.specs.declared.error.CommitError.TheVariants.{Limit, Txn}
 
+-- a transaction's begin; a call on a transaction; the moment's advance; to close the space where no entry matches;
+-- whether it is closed
 pub data Event : Type 0 where
   begin : ℕ → Event
   call : TxnValue → Call → Event

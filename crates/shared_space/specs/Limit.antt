@@ -5,12 +5,12 @@ use Rattle.space_txn.specs.Txn.{TxnValue}
 use Rattle.shared_space.specs.Event.{Did, Event, Reply, call, answered, limited}
 use Rattle.shared_space.specs.Place.{Place}
 
--- so many commits are at most the limit, where there is one
+-- this many commits are at most the limit, where there is one
 abbrev pub IsWithin : Option ℕ → ℕ → Type 0
 IsWithin None commits = Unit {0}
 IsWithin (Some limit) commits = commits ≤ limit
 
--- so many commits are the limit
+-- this many commits are the limit
 abbrev pub is_reached : Option ℕ → ℕ → Bool
 is_reached None commits = false
 is_reached (Some limit) commits = commits == limit

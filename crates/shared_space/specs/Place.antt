@@ -12,6 +12,7 @@ pub record Place : Type 0 where
   pub left : ℕ
   pub closed : Bool
 
+-- the place of these parts
 abbrev pub place_of : World → ℕ → ℕ → Bool → Place
 place_of world shares left closed = record { world = world; shares = shares; left = left; closed = closed }
 

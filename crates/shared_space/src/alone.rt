@@ -43,8 +43,8 @@ impl<L: Law> Model for Alone<L> {
 }
 
 impl<L: Law> Alone<L> {
-    /// Puts a space whose content is lawful and that has accepted no commit under the law, with so many shares, one for each
-    /// part of the blank. Refused memory, the blank and the space come back.
+    /// Puts a space whose content is lawful and that has accepted no commit under the law, with this many shares, one
+    /// for each part of the blank. Refused memory, the blank and the space come back.
     pub fn new(
         alloc: Global,
         blank: Blank,

@@ -13,7 +13,7 @@ use std::sync::ledger::Ledger;
 /// A function over `L: Law` makes a space and uses it, and is called at `Brand`, where its caller picks the law. With no pick
 /// the law always holds, sets no limit and says nothing of what was done.
 pub trait Law: Ledger {
-    /// Which permanent tuples are lawful, held ones included, after so many accepted commits.
+    /// Which permanent tuples are lawful, held ones included, after this many accepted commits.
     ghost lawful: { Content → ℕ → Type 0 };
 
     /// Which commits are allowed: of what goes, of what is read and stays, and of what is added.

@@ -44,8 +44,9 @@ impl<L: Law> Model for Limited<L> {
 }
 
 impl<L: Law> Limited<L> {
-    /// A space whose content is lawful and that has accepted no commit, under the law and its limit, with so many shares, one
-    /// for each part of the blank. With a limit of 0 it is closed. Refused memory, the blank and the space come back.
+    /// A space whose content is lawful and that has accepted no commit, under the law and its limit, with this many
+    /// shares, one for each part of the blank. With a limit of 0 it is closed. Refused memory, the blank and the space
+    /// come back.
     pub fn new(
         alloc: Global,
         blank: Blank,
@@ -121,9 +122,9 @@ impl<L: Law> Limited<L> {
         self.alone.space().commits()
     }
 
-    /// How many entries the space has whose tuples begin with this word, have so many fields, and have a list of so many numbers as
-    /// their second; with 0 numbers, those are counted too whose second field is no list. It includes held ones, takes no memory,
-    /// and takes as long whatever the space has.
+    /// How many entries the space has whose tuples begin with this word, have this many fields, and have a list of this
+    /// many numbers as their second; with 0 numbers, those are counted too whose second field is no list. It includes
+    /// held ones, takes no memory, and takes as long whatever the space has.
     pub fn count_of_class(&self, word: &str, fields: usize, numbers: usize) -> usize
         ensures { result ≡ count_by (λ e. has_class (class_of word.now fields numbers) e.tuple) self.now.world.space.entries }
     {
@@ -153,7 +154,7 @@ impl<L: Law> Limited<L> {
     }
 }
 
-/// Whether so many commits are the limit.
+/// Whether this many commits are the limit.
 fn is_reached(limit: Option<u64>, commits: u64) -> bool
     ensures { result ≡ is_reached limit commits }
 {

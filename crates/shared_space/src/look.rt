@@ -3,7 +3,7 @@
 use crate::law::Law;
 use crate::limited::Limited;
 
-/// Whoever looks at a space, which a look doesn't change.
+/// One that looks at a space, which a look doesn't change.
 pub trait Look<L: Law> {
     /// Looks at the space.
     fn look(&mut self, space: &Limited<L>);

@@ -19,7 +19,7 @@ pub trait Room<L: Law> {
     /// What a call may do: from a room, for an event and its reply, to a room.
     ghost did: { Self → Event → Reply → Self → Type 0 };
 
-    /// Begins a transaction with a lease of so many milliseconds, and a day at most. Refusals: 33, 50.
+    /// Begins a transaction with a lease of this many milliseconds, and a day at most. Refusals: 33, 50.
     fn begin(&mut self, asked: u64) -> Result<Txn, TxnError>
         ensures did { did self.old (begin asked) (begun result) self.new }
         ensures empty { IfOk result (λ txn. (txn.marks ≡ []) × (txn.writes ≡ [])) };
@@ -67,8 +67,8 @@ pub trait Room<L: Law> {
     fn advance(&mut self, moment: u64) -> Result<(), SpaceError>
         ensures { did self.old (advance moment) (moved (done_reply result)) self.new };
 
-    /// Closes the space where no entry is there whose tuple the template asks for, or every worker has left, and tells whether
-    /// it is closed. A closed space stays closed. Takes no memory.
+    /// Closes the space where no entry is there whose tuple the template asks for, or every worker has left, and
+    /// reports whether it is closed. A closed space stays closed. Takes no memory.
     fn close(&mut self, template: &Template) -> bool
         ensures { did self.old (close template.now) (told result) self.new };
 

@@ -44,8 +44,9 @@ pub struct Shared<L: Law> {
 }
 
 impl<L: Law> Shared<L> {
-    /// Puts a space whose content is lawful and that has accepted no commit under the law and a lock, with so many shares, one
-    /// for each part of the blank. The law sets no limit of commits. Refused memory, the blank and the space come back.
+    /// Puts a space whose content is lawful and that has accepted no commit under the law and a lock, with this many
+    /// shares, one for each part of the blank. The law sets no limit of commits. Refused memory, the blank and the
+    /// space come back.
     pub fn new(
         alloc: Global,
         blank: Blank,
@@ -187,7 +188,7 @@ impl<L: Law> Shared<L> {
         unreachable!()
     }
 
-    /// Begins a transaction with a lease of so many milliseconds, and a day at most. Refusals: 33, 50.
+    /// Begins a transaction with a lease of this many milliseconds, and a day at most. Refusals: 33, 50.
     pub fn begin<R: Wait>(&self, rt: &R, asked: u64) -> Result<Txn, TxnError>
         ensures empty { IfOk result (λ txn. (txn.marks ≡ []) × (txn.writes ≡ [])) }
         ensures kind { IfErr result IsBeginError }
@@ -286,15 +287,16 @@ impl<L: Law> Shared<L> {
         moved
     }
 
-    /// Closes the space where no entry is there whose tuple the template asks for, or every worker has left, and tells whether
-    /// it is closed. A closed space stays closed. Takes no memory.
+    /// Closes the space where no entry is there whose tuple the template asks for, or every worker has left, and
+    /// reports whether it is closed. A closed space stays closed. Takes no memory.
     pub fn close<R: Wait>(&self, rt: &R, template: &Template) -> bool {
         let closed = locked(rt, &self.limited).close(template);
         self.changed.notify_all();
         closed
     }
 
-    /// Closes the space, whatever it holds and whoever works on it. A closed space stays closed. Takes no memory.
+    /// Closes the space, whatever it holds and regardless of who works on it. A closed space stays closed. Takes no
+    /// memory.
     pub fn shut<R: Wait>(&self, rt: &R) {
         locked(rt, &self.limited).shut();
         self.changed.notify_all();

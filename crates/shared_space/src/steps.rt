@@ -3,7 +3,7 @@
 use crate::law::Law;
 use crate::room::Room;
 
-/// Whoever makes steps in a row, with nobody else's step between them. What is kept over them is its own invariant.
+/// One that makes steps in a row, with nobody else's step between them. What is kept over them is its own invariant.
 pub trait Steps<L: Law> {
     /// Makes the steps, each one call on the room.
     fn make<M: Room<L>>(&mut self, room: &mut M);

@@ -1,5 +1,5 @@
-//! A limit of commits: that the commit which reaches it closes the space, that none is accepted past it, and that threads which race to it
-//! come to just as many.
+//! A limit of commits: that the commit which reaches it closes the space, that none is accepted past it, and that
+//! threads which race to it make exactly that many.
 
 ghost use Rattle.std.specs.Prelude.{◌≡◌, IfOk, Some, vec_len};
 ghost use Rattle.shared_space.specs.Law.{IsFree};
@@ -31,7 +31,7 @@ struct Met {
     total: u64,
 }
 
-/// A space under a limit for so many workers, and their shares.
+/// A space under a limit for this many workers, and their shares.
 fn new_limited<L: Law>(
     alloc: Global,
     blank: Blank,
@@ -64,7 +64,7 @@ fn begin_writing<L: Law, R: Wait>(rt: &R, alloc: Global, shared: &Shared<L>) -> 
     }
 }
 
-/// Writes a job under a transaction of its own, and tells whether the limit refused its commit; then it is ended.
+/// Writes a job under a transaction of its own, and reports whether the limit refused its commit; then it is ended.
 fn write_one<L: Law, R: Wait>(
     rt: &R,
     alloc: Global,

@@ -68,7 +68,7 @@ pub(crate) fn write<L: Law, M: Room<L>>(
     room.commit(share, txn).ok()
 }
 
-/// Closes the space where no job is there, and tells whether it is closed.
+/// Closes the space where no job is there, and reports whether it is closed.
 fn close<L: Law, M: Room<L>>(alloc: Global, room: &mut M) -> Result<bool, Fail> {
     Ok(room.close(&any_job(alloc)?))
 }
@@ -82,7 +82,7 @@ fn begin_taking<L: Law, M: Room<L>>(alloc: Global, room: &mut M) -> Result<Optio
     }
 }
 
-/// Takes a job, after so many milliseconds, and tells why the commit was refused.
+/// Takes a job, after this many milliseconds, and reports why the commit was refused.
 fn take<L: Law, M: Room<L>>(
     alloc: Global,
     room: &mut M,
@@ -116,7 +116,7 @@ fn new_for_two<L: Law>(alloc: Global, blank: Blank) -> Result<(Alone<L>, Vec<Sha
     }
 }
 
-/// Writes a job, and tells whether the space is closed then.
+/// Writes a job, and reports whether the space is closed then.
 fn write_and_close<L: Law, M: Room<L>>(
     alloc: Global,
     room: &mut M,

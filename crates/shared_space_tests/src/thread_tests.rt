@@ -23,7 +23,7 @@ fn number_of(tuple: &Tuple) -> Option<i128> {
     }
 }
 
-/// A space without a limit for so many workers, and their shares.
+/// A space without a limit for this many workers, and their shares.
 fn new_shared<L: Law>(
     alloc: Global,
     blank: Blank,
@@ -274,7 +274,7 @@ fn read_and_abort<L: Law, R: Wait>(
     Ok(())
 }
 
-/// Takes a job under a transaction, and tells whether the space is closed before its commit.
+/// Takes a job under a transaction, and reports whether the space is closed before its commit.
 fn take_and_close<L: Law, R: Wait>(
     rt: &R,
     shared: &Shared<L>,

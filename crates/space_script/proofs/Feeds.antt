@@ -11,6 +11,7 @@ use Rattle.space_script.specs.declared.script_error.ScriptError.{ScriptError}
 use Rattle.space_script.specs.declared.script_error.ScriptError.TheVariants.{InputTooLong, OutOfMemory, Device}
 use Rattle.space_script.proofs.Fronts.{front_answers, front_more, unended_more}
 
+-- lines are answered, and then others behind them
 pub runs_trans : (xs ys : List (List ℕ)) (old middle new : SessionValue) (r s : List ℕ) → Runs old xs r middle → Runs middle ys s new → Runs old (xs ++ ys) (r ++ s) new
 runs_trans [] ys old middle new r s first then =
     subst (λ t. Runs old ys (t ++ s) new) (sym first.0) (subst (λ v. Runs v ys s new) first.1 then)
@@ -23,6 +24,7 @@ runs_trans (x ∷ xs) ys old middle new r s first then = record {
   is = ap (λ t. t ++ s) first.is ∙ append_assoc first.reply first.rest s;
 }
 
+-- one line is answered
 pub one_run : (line reply : List ℕ) (old new : SessionValue) → Answers old line reply new → Runs old (line ∷ []) reply new
 one_run line reply old new answer = record {
   reply = reply;
@@ -49,6 +51,7 @@ ended_answer : (line kept end reply : List ℕ) (old new : SessionValue) → IsU
 ended_answer line kept end reply old new unfinished answer =
     front_answers (line ++ end) reply old new (subst (λ l. Answers old l reply new) (ap (λ l. front_of (l ++ end)) unfinished.front ∙ front_more line end) answer)
 
+-- a piece that ends the unfinished line: it is answered, and no bytes are kept
 pub carries_end : (line kept end reply : List ℕ) (old new : SessionValue) → IsUnfinished line kept → HasNoLineFeed end → Answers old (front_of (kept ++ end)) reply new
     → CarriesOn line old (end ++ 10 ∷ []) reply new []
 carries_end line kept end reply old new unfinished unended answer = record {
@@ -62,6 +65,7 @@ carries_end line kept end reply old new unfinished unended answer = record {
   run = one_run (line ++ end) reply old new (ended_answer line kept end reply old new unfinished answer);
 }
 
+-- a piece may stop before any of its lines is answered
 pub stops_at_once : (line piece : List ℕ) (old : SessionValue) → StopsAt line old piece []
 stops_at_once line piece old = record {
   lines = [];
@@ -70,6 +74,7 @@ stops_at_once line piece old = record {
   run = (refl, refl);
 }
 
+-- a piece that ends the unfinished line may stop inside the answer to it
 pub stops_inside_at_once : (line kept end reply : List ℕ) (old new : SessionValue) → IsUnfinished line kept → HasNoLineFeed end
     → Answers old (front_of (kept ++ end)) reply new → StopsInside line old (end ++ 10 ∷ []) [] reply
 stops_inside_at_once line kept end reply old new unfinished unended answer = record {
@@ -163,6 +168,7 @@ fed_none contents old = record {
   };
 }
 
+-- a piece has been read, and then another behind it
 pub fed_trans : {W : Type 0} (contents : W → Option (List ℕ)) (old middle new : Standing W) (p q : List ℕ) → Fed contents old p middle → Fed contents middle q new
     → Fed contents old (p ++ q) new
 fed_trans contents old middle new p q first then = record {
@@ -173,6 +179,7 @@ fed_trans contents old middle new p q first then = record {
       carries_trans line p q first.replies then.replies middle.kept new.kept old.session middle.session new.session (first.carries line unfinished) then.carries;
 }
 
+-- a piece has been read, and one behind it fails
 pub fed_fails : {W : Type 0} (contents : W → Option (List ℕ)) (old middle : Standing W) (p q : List ℕ) (writer : CountedDevice W) (e : ScriptError)
     → Fed contents old p middle → FeedFails contents middle q writer e → FeedFails contents old (p ++ q) writer e
 fed_fails contents old middle p q writer InputTooLong first then = then

@@ -14,6 +14,7 @@ take-front zero xs ys = refl
 take-front (suc n) [] ys = refl
 take-front (suc n) (x ∷ xs) ys = ap (λ l. x ∷ l) (take-front n xs ys)
 
+-- with more behind it, the front of a line has the same front as the line
 pub front_more : (line more : List ℕ) → front_of (front_of line ++ more) ≡ front_of (line ++ more)
 front_more line more = take-front (longest_line + 1) line more
 
@@ -23,6 +24,7 @@ long_answer line other reply old new long far (inl blank) = absurd (omega (arith
 long_answer line other reply old new long far (inr (inl obeys)) = absurd (omega (arith, far, obeys.asked.short))
 long_answer line other reply old new long far (inr (inr bad)) = inr (inr (long_line line long, bad.1, bad.2))
 
+-- an answer to the front of a line is one to the line
 pub front_answers : (line reply : List ℕ) (old new : SessionValue) → Answers old (front_of line) reply new → Answers old line reply new
 front_answers line reply old new answer = elim (cases_lt longest_line (length line)) [
   | inl long ↦
@@ -31,5 +33,6 @@ front_answers line reply old new answer = elim (cases_lt longest_line (length li
   | inr short ↦ subst (λ l. Answers old l reply new) (take_all (longest_line + 1) line (omega arith)) answer
 ]
 
+-- text without a line feed, and more such text behind it
 pub unended_more : (line more : List ℕ) → HasNoLineFeed line → HasNoLineFeed more → HasNoLineFeed (line ++ more)
 unended_more line more left right = All-append (λ byte. is_line_feed byte ≡ false) line more left right

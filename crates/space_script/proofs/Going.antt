@@ -33,6 +33,7 @@ other_space old new live begun moment = λ t going.
 same_rows : (old new : World) (t : TxnValue) (call : Call) (answer : Answer) (t' : TxnValue) → Step old t call answer new t' → new.live ≡ old.live → new.begun ≡ old.begun → KeepsGoing old new
 same_rows old new t call answer t' s live begun = other_space old new live begun (moment_stays old t call answer new t' s)
 
+-- where the world is the same, the same transactions go on
 pub same_world : (old new : World) → new ≡ old → KeepsGoing old new
 same_world old new same = λ t going. subst (λ (w : World). IsGoing w t) (sym same) going
 
@@ -67,6 +68,7 @@ EndsNothing commit done = ⊥
 EndsNothing abort done = ⊥
 EndsNothing _ _ = Unit {0}
 
+-- a call that ends nothing lets all transactions go on
 pub step_keeps : (old : World) (t : TxnValue) (call : Call) (answer : Answer) (new : World) (t' : TxnValue) → Step old t call answer new t' → EndsNothing call answer → KeepsGoing old new
 step_keeps old t (inp_in template) (found (Stored number)) new t' s e = same_rows old new t (inp_in template) (found (Stored number)) t' s (ap (λ (w : World). w.live) s.4) (ap (λ (w : World). w.begun) s.4)
 step_keeps old t (inp_in template) (found (Own place)) new t' s e = same_world old new s.3
@@ -92,6 +94,7 @@ commit_keeps old t new t' s x other going =
     same_moment old new x (omega (arith, ap (λ (w : World). w.begun) s.2)) (moment_stays old t commit done new t' s)
     (ap (λ (w : World). is_live_in old.space.moment x.number w.live) s.2 ∙ others_live old.space.moment t.number x.number old.live other going.1) going
 
+-- the same for an abort
 pub abort_keeps : (old : World) (t : TxnValue) (new : World) (t' : TxnValue) → Step old t abort done new t' → (x : TxnValue) → x.number ≢ t.number → IsGoing old x → IsGoing new x
 abort_keeps old t new t' s x other going =
     same_moment old new x (omega (arith, ap (λ (w : World). w.begun) s.1)) (moment_stays old t abort done new t' s)
@@ -113,6 +116,7 @@ inp_number old t template nothing new t' s = ap (λ (x : TxnValue). x.number) s.
 inp_number old t template (refused error) new t' s = ap (λ (x : TxnValue). x.number) s.2
 inp_number old t template done new t' s = absurd s
 
+-- the same for a search that reads
 pub rdp_number : (old : World) (t : TxnValue) (template : List PatternValue) (answer : Answer) (new : World) (t' : TxnValue) → Step old t (rdp_in template) answer new t' → t'.number ≡ t.number
 rdp_number old t template (found (Stored number)) new t' s = ap (λ (x : TxnValue). x.number) s.5
 rdp_number old t template (found (Own place)) new t' s = ap (λ (x : TxnValue). x.number) s.4
@@ -124,6 +128,7 @@ rdp_number old t template done new t' s = absurd s
 pub all_remove : (P : TxnValue → Type 0) (ts : List TxnValue) (i : ℕ) → All P ts → All P (remove ts i)
 all_remove P ts i all = All-append P (take i ts) (drop (suc i) ts) (All-take P i ts all) (All-drop P (suc i) ts all)
 
+-- what holds of all transactions holds of the one at a place
 pub all_at : (P : TxnValue → Type 0) (ts : List TxnValue) (i : ℕ) (t : TxnValue) → All P ts → slice_get ts i ≡ Some t → P t
 all_at P [] i t all at = absurd (none-some t at)
 all_at P (x ∷ xs) zero t all at = subst P (same_Some x t at) (All-head P x xs all)
@@ -147,6 +152,7 @@ live_all w (x ∷ xs) all =
     cond-true (is_live_transaction w x.number) (x ∷ live_of w xs) (live_of w xs) (All-head (IsGoing w) x xs all).1
     ∙ ap (λ l. x ∷ l) (live_all w xs (All-tail (IsGoing w) x xs all))
 
+-- with one more behind transactions that all go on, the live ones are those and, if it is live, that one
 pub live_push : (w : World) (ts : List TxnValue) (t : TxnValue) → All (IsGoing w) ts → ts ++ live_of w (t ∷ []) ≡ live_of w (ts ++ t ∷ [])
 live_push w ts t all =
     sym (filter-append (λ (x : TxnValue). is_live_transaction w x.number) ts (t ∷ []) ∙ ap (λ l. l ++ live_of w (t ∷ [])) (live_all w ts all))

@@ -21,6 +21,7 @@ use Rattle.space_script.specs.Session.{NoneKept, StandsAt}
 abbrev number : TxnValue → ℕ
 number t = t.number
 
+-- transactions, each with its number
 abbrev pub numbered : List TxnValue → List (ℕ × TxnValue)
 numbered ts = numbers.numbered number ts
 
@@ -28,18 +29,23 @@ numbered ts = numbers.numbered number ts
 pub are_numbered : (ps : List (ℕ × TxnValue)) (ts : List TxnValue) → ps ≡ numbered ts → AreNumbered ps
 are_numbered ps ts is = lemmas.are_numbered number ps ts is
 
+-- the values of such pairs are the transactions
 pub values_are : (ps : List (ℕ × TxnValue)) (ts : List TxnValue) → ps ≡ numbered ts → values_of ps ≡ ts
 values_are ps ts is = lemmas.values_are number ps ts is
 
+-- the pairs without the one at a place are those of the transactions without it
 pub numbered-remove : (ts : List TxnValue) (i : ℕ) → remove (numbered ts) i ≡ numbered (remove ts i)
 numbered-remove ts i = lemmas.numbered-remove number ts i
 
+-- the pairs that a test keeps are those of the transactions that it keeps
 pub numbered-filter : (test : TxnValue → Bool) (ts : List TxnValue) → filter (λ (p : ℕ × TxnValue). test p.1) (numbered ts) ≡ numbered (filter test ts)
 numbered-filter test ts = lemmas.numbered-filter number test ts
 
+-- writing at a place what stands there changes nothing
 pub set_same : (ts : List TxnValue) (i : ℕ) (x : TxnValue) → slice_get ts i ≡ Some x → set ts i x ≡ ts
 set_same ts i x at = lemmas.set_same ts i x at
 
+-- a transaction with a number that none has goes behind the others
 pub numbered_new : (ps : List (ℕ × TxnValue)) (x : TxnValue) → AreNumbered ps → NoneKept (values_of ps) x.number → insert_entry eqb ps x.number x ≡ numbered (values_of ps ++ x ∷ [])
 numbered_new ps x each new = lemmas.numbered_new number ps x each new
 
@@ -99,6 +105,7 @@ none_passes number [] none = λ k d lt. absurd (omega (arith, lt))
 none_passes number (x ∷ xs) none =
     All-cons (λ (t : TxnValue). t.number ≢ number) x xs (λ same. false≢true (sym none.0 ∙ eq-eqb number _ (sym same))) (none_passes number xs none.1)
 
+-- where no pair is found by a number, no transaction of it is kept
 pub none_found : (number : ℕ) (ps : List (ℕ × TxnValue)) → AreNumbered ps → lookup (eqb number) ps ≡ None → NoneKept (values_of ps) number
 none_found number ps each none = none_passes number (values_of ps) (none_passes_from_lookup (eqb number) (numbered (values_of ps)) (ap (lookup (eqb number)) (sym each) ∙ none))
 

@@ -135,6 +135,7 @@ one_command words c d left right =
     one_follower right.verb right.rest c d
     (subst (λ v. Follows v right.rest c) verb (subst (λ r. Follows left.verb r c) (ap (drop 1) same) left.follows)) right.follows
 
+-- a line asks for one command at most
 pub one_command_line : (line : List ℕ) (c d : Command) → IsCommandLine line c → IsCommandLine line d → c ≡ d
 one_command_line line c d left right = one_command _ c d left.spelled right.spelled
 

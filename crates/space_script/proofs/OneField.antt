@@ -59,6 +59,7 @@ word_no_list text zs letters listed = omega (arith, word_start text letters, lis
 digits_no_minus : (text digits : List ℕ) → 0 < length text → list_all is_ascii_digit text ≡ true → text ≡ 45 ∷ digits → ⊥
 digits_no_minus text digits some all is = omega (arith, (first_digit text some all).0, ap (λ l. slice_index l 0) is)
 
+-- a text spells one integer at most
 pub one_integer : (text : List ℕ) (y z : ℤ) → IsInteger text y → IsInteger text z → y ≡ z
 one_integer text y z (inl left) (inl right) =
     left.value ∙ ap pos (sym left.numeral.value ∙ right.numeral.value) ∙ sym right.value
@@ -78,6 +79,7 @@ one_list text ys zs left right =
     let same = append_cancel_right left.inner right.inner (93 ∷ []) (ap (drop 1) (sym left.is ∙ right.is)) in
     one_numbers right.inner ys zs (subst (λ inner. AreNumbers inner ys) same left.numbers) right.numbers
 
+-- a word spells one field at most
 pub one_field : (text : List ℕ) (x y : FieldValue) → IsFieldWord text x → IsFieldWord text y → x ≡ y
 one_field text (number y) (number z) left right = ap number (one_integer text y z left right)
 one_field text (number y) (word bytes) left right = absurd (integer_no_word text y left (subst IsWord (sym right.0) right.1))
@@ -139,6 +141,7 @@ pattern_word text any_number spelled = inr spelled
 pattern_word text any_word spelled = inr spelled
 pattern_word text any_numbers spelled = inr spelled
 
+-- a word spells one pattern at most
 pub one_pattern : (text : List ℕ) (p q : PatternValue) → IsPatternWord text p → IsPatternWord text q → p ≡ q
 one_pattern text p q left right = elim (pattern_word text p left) [
   | inl a ↦ elim (pattern_word text q right) [
@@ -163,8 +166,10 @@ pub no_template : (words : List (List ℕ)) (values : List PatternValue) → All
 no_template words values spelled broken patterns template =
     broken (subst IsTemplate (one_zip IsPatternWord one_pattern words patterns values template.each spelled) template.limits)
 
+-- words spell one tuple at most
 pub one_tuple : (words : List (List ℕ)) (x y : List FieldValue) → AreTupleWords words x → AreTupleWords words y → x ≡ y
 one_tuple words x y left right = one_zip IsFieldWord one_field words x y left.each right.each
 
+-- words spell one template at most
 pub one_template : (words : List (List ℕ)) (x y : List PatternValue) → AreTemplateWords words x → AreTemplateWords words y → x ≡ y
 one_template words x y left right = one_zip IsPatternWord one_pattern words x y left.each right.each

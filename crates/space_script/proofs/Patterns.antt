@@ -12,6 +12,7 @@ no_pattern text no_formal no_field any_number spelled = no_formal any_number spe
 no_pattern text no_formal no_field any_word spelled = no_formal any_word spelled
 no_pattern text no_formal no_field any_numbers spelled = no_formal any_numbers spelled
 
+-- the word of a formal is that of a pattern
 pub formal_pattern : (text : List ℕ) (p : PatternValue) → IsFormal text p → IsPatternWord text p
 formal_pattern text (actual field) formal = absurd formal
 formal_pattern text any_number formal = formal

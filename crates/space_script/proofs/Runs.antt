@@ -13,6 +13,7 @@ use Rattle.space_script.specs.declared.script_error.ScriptError.TheVariants.{Inp
 use Rattle.space_script.proofs.Feeds.{one_run, runs_trans}
 use Rattle.space_script.proofs.Fronts.{front_answers}
 
+-- a piece that has been read fails, and so does the reading
 pub feeding_fails : {R W : Type 0} (s : Streams R W) (session : SessionValue) (kept text : List ℕ) (e : ScriptError) → HasCome s text → KeepsReader s
     → FeedFails s.bytes_taken (standing session kept s.writer) text s.writer_after e → FeedingFails s session kept e
 feeding_fails s session kept text InputTooLong come read fails = absurd fails

@@ -15,6 +15,7 @@ ascii_bytes : (bytes : List ℕ) → All IsWordByte bytes → IsAscii bytes
 ascii_bytes [] each = IsAscii-nil
 ascii_bytes (b ∷ bs) each = IsAscii-cons b bs (word_byte_small b (All-head IsWordByte b bs each)) (ascii_bytes bs (All-tail IsWordByte b bs each))
 
+-- the bytes of a word are ASCII
 pub ascii_word : (bytes : List ℕ) → IsWord bytes → IsAscii bytes
 ascii_word [] word = absurd word
 ascii_word (first ∷ rest) word = IsAscii-cons first rest (omega (arith, word.0.1)) (ascii_bytes rest word.2)

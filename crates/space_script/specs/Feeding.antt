@@ -8,6 +8,7 @@ use Rattle.space_script.specs.Session.{SessionValue}
 use Rattle.space_script.specs.declared.script_error.ScriptError.{ScriptError}
 use Rattle.space_script.specs.declared.script_error.ScriptError.TheVariants.{InputTooLong, OutOfMemory, Device}
 
+-- no byte of a text is a line feed
 abbrev pub HasNoLineFeed : List ℕ → Type 0
 HasNoLineFeed text = All (λ byte. is_line_feed byte ≡ false) text
 
@@ -56,6 +57,7 @@ pub record Standing (W : Type 0) : Type 0 where
   pub kept : List ℕ
   pub writer : CountedDevice W
 
+-- a session, what is kept of an unfinished line, and a writer, together
 abbrev pub standing : {W : Type 0} → SessionValue → List ℕ → CountedDevice W → Standing W
 standing session kept writer = record { session = session; kept = kept; writer = writer }
 

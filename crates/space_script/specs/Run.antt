@@ -13,6 +13,7 @@ use Rattle.space_script.specs.declared.reply.Reply.TheVariants.{Refused}
 use Rattle.space_script.specs.declared.script_error.ScriptError.{ScriptError}
 use Rattle.space_script.specs.declared.script_error.ScriptError.TheVariants.{InputTooLong, OutOfMemory, Device}
 
+-- a byte is a line feed
 abbrev pub is_line_feed : ℕ → Bool
 is_line_feed byte = byte == 10
 

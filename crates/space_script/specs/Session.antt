@@ -19,6 +19,7 @@ pub record SessionValue : Type 0 where
   pub world : World
   pub kept : List TxnValue
 
+-- the session of a world in which these transactions are kept
 abbrev pub session_of : World → List TxnValue → SessionValue
 session_of world kept = record { world = world; kept = kept }
 
@@ -30,6 +31,7 @@ start = session_of opening []
 abbrev pub IsGoing : World → TxnValue → Type 0
 IsGoing w t = (t.number ≤ w.begun) × (is_live_transaction w t.number ≡ true)
 
+-- each transaction that a session keeps was begun in its world and is live there
 abbrev pub IsSession : SessionValue → Type 0
 IsSession s = All (IsGoing s.world) s.kept
 
@@ -73,6 +75,7 @@ TellsRefusal Foreign number = number ≡ 32
 TellsRefusal Exhausted number = number ≡ 33
 TellsRefusal OutOfMemory number = ⊥
 
+-- the reply is a refusal with the number that stands for this error
 abbrev pub IsRefusedReply : TxnError → Reply → Type 0
 IsRefusedReply error (Refused number) = TellsRefusal error number
 IsRefusedReply error _ = ⊥
@@ -98,6 +101,7 @@ abbrev pub left_by : Answer → TxnValue → List TxnValue
 left_by done t = []
 left_by _ t = t ∷ []
 
+-- a commit or an abort of the transaction at a place: what is left of it stands last among those kept
 pub record Ends (call : Call) (old : SessionValue) (place : ℕ) (t : TxnValue) (reply : Reply) (new : SessionValue) : Type 0 where
   pub answer : Answer
   pub step : Step old.world t call answer new.world t

@@ -62,6 +62,7 @@ takes_as_held number (h ∷ hs) once =
     (λ same. takes_none number hs (λ k d lt is. once_head h hs once k d lt (eqb-true _ _ same ∙ sym is)))
     (takes_as_held number hs (once_tail h hs once))
 
+-- what was permanent at a transaction's hold is so now where this holds of all holds
 pub stays_as_held : (now : Bool) (number : ℕ) (hs : List Hold) → All (λ h. h.permanent ≡ true → now ≡ true) hs → Stays now (find (λ (h : Hold). eqb h.by number) hs)
 stays_as_held now number [] all = tt
 stays_as_held now number (h ∷ hs) all =

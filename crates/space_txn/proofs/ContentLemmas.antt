@@ -36,6 +36,7 @@ pub sum_of_one : {X Y : Type 0} (f : Y → ℕ) (g : X → Y) (b : Bool) (x : X)
 sum_of_one f g true x ys = sum_by-cons f (g x) (map g ys)
 sum_of_one f g false x ys = omega arith
 
+-- a weight over the items that pass a test, as one over all items
 pub sum_of_kept : {X Y : Type 0} (f : Y → ℕ) (g : X → Y) (p : X → Bool) (xs : List X) → sum_by f (map g (filter p xs)) ≡ sum_by (λ x. cond (p x) (f (g x)) 0) xs
 sum_of_kept f g p [] = refl
 sum_of_kept {X} {Y} f g p (x ∷ xs) =
@@ -58,6 +59,7 @@ sum_same f g same (x ∷ xs) =
 abbrev pub weight : (List FieldValue → ℕ) → Entry → ℕ
 weight f e = cond (is_permanent e.end) (f e.tuple) 0
 
+-- a weight over the permanent tuples, as one over entries
 pub sum_of_permanent : (f : List FieldValue → ℕ) (es : List Entry) → sum_by f (permanent_tuples es) ≡ sum_by (weight f) es
 sum_of_permanent f es = sum_of_kept f (λ (e : Entry). e.tuple) (λ (e : Entry). is_permanent e.end) es
 
@@ -225,6 +227,7 @@ step_keeps old t abort (refused error) new t' s l = keeps_same old new s.1
 step_keeps old t commit done new t' s l = absurd l
 step_keeps old t _ _ new t' s l = absurd s
 
+-- the beginning of a transaction, or its refusal, keeps the content
 pub begin_keeps : (old : World) (asked : ℕ) (result : Result TxnValue TxnError) (new : World) → BeginStep old asked result new → KeepsContent old new
 begin_keeps old asked (Ok t) new s = keeps_at old (begin_at old asked) new (λ f. refl) refl s.2
 begin_keeps old asked (Err Exhausted) new s = keeps_same old new s.1
@@ -232,6 +235,7 @@ begin_keeps old asked (Err OutOfMemory) new s = keeps_same old new s.1
 begin_keeps old asked (Err Expired) new s = absurd s
 begin_keeps old asked (Err Foreign) new s = absurd s
 
+-- moving the moment on, or its refusal, keeps the content
 pub advance_step_keeps : (old : World) (moment : ℕ) (result : Result (Unit {0}) SpaceError) (new : World) → AdvanceStep old moment (done_reply result) new → KeepsContent old new
 advance_step_keeps old moment (Ok u) new s =
     let P : World → Type 0 = λ v. KeepsContent old v in

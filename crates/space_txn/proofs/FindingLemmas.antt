@@ -100,6 +100,7 @@ found_held holder (h ∷ hs) = by (eqb h.by holder) (found_held holder hs)
     by true rest = refl
     by false rest = rest
 
+-- the same with the entry given by its number
 pub marked_held : (holder number : ℕ) (es : List Entry) (e : Entry) → IsRising es → Contains es e → number ≡ e.number
     → is_some (find (λ (m : Mark). eqb m.entry number) (marks_of holder es)) ≡ true → list_any (λ (x : Entry). eqb x.number number && is_held_by holder x) es ≡ true
 marked_held holder number es e rising at is marked =
@@ -157,6 +158,7 @@ find_with_mark m (x ∷ xs) =
     cond-false (eqb x.entry m.entry) (Some x) (find (λ (y : Mark). eqb y.entry m.entry) (with_mark m xs)) (ne_eqb _ _ (λ same. omega arith)) ∙ find_with_mark m xs)
     (λ other. cond_both (eqb x.entry m.entry) (m ∷ xs) (m ∷ x ∷ xs) P (λ same. first xs) (λ behind. first (x ∷ xs)))
 
+-- what stands in a list stands in it behind one more item
 pub contains_behind : {X : Type 0} (y : X) (xs : List X) (x : X) → Contains xs x → Contains (y ∷ xs) x
 contains_behind y xs x h = let lt = h.1 in (suc h.0, omega arith, h.2)
 
@@ -326,6 +328,7 @@ taking_content old new t t' template nothing s = ap content_of s.3
 taking_content old new t t' template (refused error) s = ap content_of s.1
 taking_content old new t t' template done s = absurd s
 
+-- the same for reading
 pub reading_content : (old new : World) (t t' : TxnValue) (template : List PatternValue) (answer : Answer) → Step old t (rdp_in template) answer new t' → content_of new ≡ content_of old
 reading_content old new t t' template (found (Stored number)) s =
     ap content_of s.4
@@ -336,6 +339,7 @@ reading_content old new t t' template nothing s = ap content_of s.3
 reading_content old new t t' template (refused error) s = ap content_of s.1
 reading_content old new t t' template done s = absurd s
 
+-- what a search found, if anything, stands in the value and matches
 pub finds_shown : (Known : List FieldValue → Type 0) (taking : Bool) (template : List PatternValue) (t t' : TxnValue) (o : Option Found) → Finds Known taking template t (find_answer (Ok o)) t' → IfSome o (Shows template t')
 finds_shown Known taking template t t' None s = tt
 finds_shown Known taking template t t' (Some what) s = finds_shows Known taking template t t' what s

@@ -25,16 +25,19 @@ later_old moment other Never live = refl
 later_old moment Never (At n) live = refl
 later_old moment (At m) (At n) live = let less : moment < n = ltb-true moment n live in lt-ltb moment (max n m) (omega arith)
 
+-- the same where the other one is live
 pub later_new : (moment : ℕ) (other end : LeaseEnd) → is_live moment other ≡ true → is_live moment (later end other) ≡ true
 later_new moment other Never live = refl
 later_new moment Never (At n) live = refl
 later_new moment (At m) (At n) live = let less : moment < m = ltb-true moment m live in lt-ltb moment (max n m) (omega arith)
 
+-- the later of two ends is permanent where the first is
 pub later_stays : (other end : LeaseEnd) → is_permanent end ≡ true → is_permanent (later end other) ≡ true
 later_stays other Never permanent = refl
 later_stays Never (At n) permanent = refl
 later_stays (At m) (At n) permanent = permanent
 
+-- and where the other is `Never`
 pub later_never : (end : LeaseEnd) → is_permanent (later end Never) ≡ true
 later_never Never = refl
 later_never (At n) = refl
@@ -64,9 +67,11 @@ left_true true true left e = refl
 left_true true false left e = e
 left_true false live left e = refl
 
+-- an entry whose lease has ended leaves where its only holder lets go
 pub leaves_last : (holder moment : ℕ) (e : Entry) → is_held_by holder e ≡ true → is_live moment e.end ≡ false → All (λ (h : Hold). h.by ≡ holder) e.holds → stays_without holder moment e ≡ false
 leaves_last holder moment e held ended all = left_false (is_held_by holder e) (is_live moment e.end) _ held ended (none_left holder e.holds all)
 
+-- an entry that somebody else holds stays
 pub stays_held : (holder moment : ℕ) (e : Entry) (other : Hold) → Contains e.holds other → other.by ≢ holder → stays_without holder moment e ≡ true
 stays_held holder moment e other at ne = left_true (is_held_by holder e) (is_live moment e.end) _ (one_left holder e.holds at.0 other at.1 at.2 ne)
 
@@ -122,6 +127,7 @@ new_above last holder moment at next (x ∷ xs) le =
     cond-true (ltb last (next + 1)) (e ∷ rest) rest (lt-ltb last (next + 1) (omega arith))
     ∙ ap (λ l. e ∷ l) (new_above last holder moment at (next + 1) xs (omega arith))
 
+-- the entries that a commit puts out are those of its writes, with leases granted at its moment
 pub granted_at_commit : (old : World) (t : TxnValue) → IsSpace old.space
     → filter (λ (e : Entry). ltb old.space.last e.number) (commit_at old t).space.entries ≡ granted_entries old.space.moment old.space.last t.writes
 granted_at_commit old t valid =

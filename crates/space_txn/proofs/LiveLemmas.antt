@@ -42,6 +42,7 @@ others_none n (t ∷ ts) h =
     cond-true (not (eqb t.number n)) (t ∷ others n ts) (others n ts) (ap not (ne_eqb _ _ (All-head P t ts h)))
     ∙ ap (λ l. t ∷ l) (others_none n ts (All-tail P t ts h))
 
+-- the transaction of a number removed from its place: the others are left
 pub others_at : (n : ℕ) (ts : List Live) (i : ℕ) → AreRising ts → i < length ts → IsAt n ts i → remove ts i ≡ others n ts
 others_at n [] i h lt at = absurd (omega arith)
 others_at n (t ∷ ts) zero h lt at =
@@ -50,6 +51,7 @@ others_at n (t ∷ ts) (suc i) h lt at =
     ap (λ l. t ∷ l) (others_at n ts i (rising_tail t ts h) (omega arith) (λ d. at d))
     ∙ sym (cond-true (not (eqb t.number n)) (t ∷ others n ts) (others n ts) (ap not (ne_eqb _ _ (differs n t ts i h (omega arith) (λ d. at d)))))
 
+-- where no transaction has the number, all are others
 pub others_missing : (n : ℕ) (ts : List Live) → HasNone n ts → ts ≡ others n ts
 others_missing n ts h = sym (others_none n ts h)
 
@@ -58,6 +60,7 @@ or_none : (b : Bool) → (b || false) ≡ b
 or_none true = refl
 or_none false = refl
 
+-- where no transaction has the number, none is live under it
 pub live_none : (moment n : ℕ) (ts : List Live) → HasNone n ts → is_live_in moment n ts ≡ false
 live_none moment n [] h = refl
 live_none moment n (t ∷ ts) h =
@@ -65,6 +68,7 @@ live_none moment n (t ∷ ts) h =
     or_from (eqb t.number n && ltb moment t.end) (is_live_in moment n ts) (ap (λ b. b && ltb moment t.end) (ne_eqb _ _ (All-head P t ts h)))
     (live_none moment n ts (All-tail P t ts h))
 
+-- a transaction of the number is live if and only if the one at its place hasn't ended
 pub live_at : (moment n : ℕ) (ts : List Live) (i : ℕ) (d : Live) → AreRising ts → i < length ts → IsAt n ts i → ltb moment (get_or ts i d).end ≡ is_live_in moment n ts
 live_at moment n [] i d h lt at = absurd (omega arith)
 live_at moment n (t ∷ ts) zero d h lt at =
@@ -82,9 +86,11 @@ renewed_none n end (t ∷ ts) h =
     ap (λ u. u ∷ renewed_rows n end ts) (cond-false (eqb t.number n) _ t (ne_eqb _ _ (All-head P t ts h)))
     ∙ ap (λ l. t ∷ l) (renewed_none n end ts (All-tail P t ts h))
 
+-- where no transaction has the number, its renewal changes nothing
 pub renewed_missing : (n end : ℕ) (ts : List Live) → HasNone n ts → ts ≡ renewed_rows n end ts
 renewed_missing n end ts h = sym (renewed_none n end ts h)
 
+-- the transaction at the place of the number renewed there: that is its renewal
 pub renewed_at : (n end : ℕ) (ts : List Live) (i : ℕ) (d : Live) → AreRising ts → i < length ts → IsAt n ts i → set ts i (renewed_row n end (get_or ts i d)) ≡ renewed_rows n end ts
 renewed_at n end [] i d h lt at = absurd (omega arith)
 renewed_at n end (t ∷ ts) zero d h lt at = ap (λ l. renewed_row n end t ∷ l) (sym (renewed_none n end ts (apart n t ts h (at t))))
@@ -98,6 +104,7 @@ here [] i t is = absurd (none-some t is)
 here (u ∷ us) zero t is = sym (same_Some u t is)
 here (u ∷ us) (suc i) t is = here us i t is
 
+-- a renewal leaves a transaction's number
 pub number_stays : (n end : ℕ) (t : Live) → (renewed_row n end t).number ≡ t.number
 number_stays n end t = by (eqb t.number n)
   where
@@ -125,12 +132,14 @@ live_renewed moment number n end (t ∷ ts) e =
     (λ behind. or_right (eqb u.number number && ltb moment u.end) (is_live_in moment number rest) (live_renewed moment number n end ts behind))
     (or_cases (eqb t.number number && ltb moment t.end) (is_live_in moment number ts) e)
 
+-- what holds of all numbers holds after a renewal
 pub all_renewed : (P : ℕ → Type 0) (n end : ℕ) (ts : List Live) → All (λ (t : Live). P t.number) ts → All (λ (t : Live). P t.number) (renewed_rows n end ts)
 all_renewed P n end [] h = h
 all_renewed P n end (t ∷ ts) h =
     let Q : Live → Type 0 = λ u. P u.number in
     All-cons Q (renewed_row n end t) (renewed_rows n end ts) (subst P (sym (number_stays n end t)) (All-head Q t ts h)) (all_renewed P n end ts (All-tail Q t ts h))
 
+-- the numbers still rise after a renewal
 pub rising_renewed : (n end : ℕ) (ts : List Live) → AreRising ts → AreRising (renewed_rows n end ts)
 rising_renewed n end [] h = h
 rising_renewed n end (t ∷ ts) h =

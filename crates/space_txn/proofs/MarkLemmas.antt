@@ -40,6 +40,7 @@ cons_same : {X : Type 0} (o : Option X) (xs ys : List X) → cons_option o xs �
 cons_same None xs ys e = e
 cons_same (Some x) xs ys e = cc
 
+-- one thing more, whose mark the rest of the marks begins with, if it has one
 pub Tracks-more : {X : Type 0} (mark : X → Option Mark) (marks : List Mark) (xs : List X) (rest behind : List Mark) (i : ℕ) (x : X) → i < length xs → x ≡ get_or xs i x → rest ≡ cons_option (mark x) behind → Tracks mark marks xs rest i → Tracks mark marks xs behind (i + 1)
 Tracks-more mark marks xs rest behind i x lt is parts h =
     let all = filter_map mark (drop (i + 1) xs) in
@@ -57,10 +58,12 @@ marks_differ mark marks xs rest i x lt is other h e = other (filter_map mark (dr
 none_left : {X : Type 0} (mark : X → Option Mark) (xs : List X) (i : ℕ) → length xs ≤ i → filter_map mark (drop i xs) ≡ []
 none_left mark xs i past = ap (filter_map mark) (drop_of_length-le xs past)
 
+-- behind the last thing, where no mark is left, the marks are those of the things
 pub Tracks-forth : {X : Type 0} (mark : X → Option Mark) (marks : List Mark) (xs : List X) (place i : ℕ) → length xs ≤ i → Tracks mark marks xs (drop place marks) i → eqb place (length marks) ≡ true → marks ≡ filter_map mark xs
 Tracks-forth mark marks xs place i past h all =
     h.forth (ap (λ n. drop n marks) (eqb-true place (length marks) all) ∙ drop-length marks ∙ sym (none_left mark xs i past))
 
+-- and where the marks are those of the things, none is left there
 pub Tracks-back : {X : Type 0} (mark : X → Option Mark) (marks : List Mark) (xs : List X) (place i : ℕ) → length xs ≤ i → place ≤ length marks → Tracks mark marks xs (drop place marks) i → marks ≡ filter_map mark xs → eqb place (length marks) ≡ true
 Tracks-back mark marks xs place i past within h e =
     let left : drop place marks ≡ [] = h.back e ∙ none_left mark xs i past in
@@ -77,6 +80,7 @@ found_at n (x ∷ xs) (suc i) m before lt is at =
     found_at n xs i m (λ k d from to. before (suc k) d (omega arith) (omega arith)) (omega arith) is (λ d. at d)
     ∙ sym (cond-false (eqb x.entry n) (Some x) (find (λ (y : Mark). eqb y.entry n) xs) (ne_eqb _ _ (before zero x (omega arith) (omega arith))))
 
+-- none is found where no mark is on the entry of the number
 pub found_none : (n : ℕ) (xs : List Mark) (i : ℕ) → AllWithin (λ x. x.entry ≢ n) xs 0 i → length xs ≤ i → None ≡ find (λ (x : Mark). eqb x.entry n) xs
 found_none n [] i before past = refl
 found_none n (x ∷ xs) zero before past = absurd (omega arith)
@@ -128,6 +132,7 @@ with_mark_front m (x ∷ xs) above =
     cond-false (ltb x.entry m.entry) (x ∷ with_mark m xs) (cond (eqb x.entry m.entry) (m ∷ xs) (m ∷ x ∷ xs)) (le-ltb _ _ (omega arith))
     ∙ cond-false (eqb x.entry m.entry) (m ∷ xs) (m ∷ x ∷ xs) (ne_eqb _ _ (λ e. omega arith))
 
+-- a mark on an entry, before those on later entries, in the place of an older one on it
 pub with_mark_here : (m : Mark) (e : Entry) (o : Option Hold) (ys : List Mark) → e.number ≡ m.entry → All (λ x. m.entry < x.entry) ys → with_mark m (cons_option (option_map (mark_from e) o) ys) ≡ m ∷ ys
 with_mark_here m e None ys same above = with_mark_front m ys above
 with_mark_here m e (Some h) ys same above =
@@ -135,6 +140,7 @@ with_mark_here m e (Some h) ys same above =
     cond-false (ltb e.number m.entry) (x ∷ with_mark m ys) (cond (eqb e.number m.entry) (m ∷ ys) (m ∷ x ∷ ys)) (le-ltb _ _ (omega arith))
     ∙ cond-true (eqb e.number m.entry) (m ∷ ys) (m ∷ x ∷ ys) (eq-eqb _ _ same)
 
+-- a mark on a later entry goes behind the one on this entry, if there is one
 pub with_mark_later : (m : Mark) (e : Entry) (o : Option Hold) (ys : List Mark) → e.number < m.entry → with_mark m (cons_option (option_map (mark_from e) o) ys) ≡ cons_option (option_map (mark_from e) o) (with_mark m ys)
 with_mark_later m e None ys less = refl
 with_mark_later m e (Some h) ys less =
@@ -145,6 +151,7 @@ above_cons : (least : ℕ) (e : Entry) (o : Option Hold) (ys : List Mark) → le
 above_cons least e None ys less all = all
 above_cons least e (Some h) ys less all = All-cons (λ (x : Mark). least < x.entry) (mark_from e h) ys less all
 
+-- the marks on entries above a number are above it
 pub marks_above : (least number : ℕ) (es : List Entry) → All (λ (e : Entry). least < e.number) es → All (λ (x : Mark). least < x.entry) (marks_of number es)
 marks_above least number [] h = All-nil (λ (x : Mark). least < x.entry)
 marks_above least number (e ∷ es) h =
@@ -305,6 +312,7 @@ rising_more : (e : Entry) (o : Option Hold) (ms : List Mark) → All (λ (x : Ma
 rising_more e None ms above rising = rising
 rising_more e (Some h) ms above rising = AllPairs-cons (λ (x : Mark) (y : Mark). x.entry < y.entry) (mark_from e h) ms above rising
 
+-- a transaction's marks are in rising order of the entries' numbers
 pub marks_rising : (number : ℕ) (es : List Entry) → IsRising es → AllPairs (λ (x : Mark) (y : Mark). x.entry < y.entry) (marks_of number es)
 marks_rising number [] rising = λ i j d below within. absurd (omega arith)
 marks_rising number (e ∷ es) rising =

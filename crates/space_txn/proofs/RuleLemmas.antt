@@ -30,6 +30,7 @@ use Rattle.space_txn.specs.World.{World, world_of, advance_at, abort_at, is_live
 not_live : (old new : World) (t : TxnValue) → is_live_transaction old t.number ≡ false → is_live_transaction old t.number ≡ true → new ≡ old
 not_live old new t dead live = absurd (false≢true (sym dead ∙ live))
 
+-- a call on a transaction that isn't live changes nothing in the world
 pub expired_changes_nothing : (old : World) (t : TxnValue) (call : Call) (answer : Answer) (new : World) (t' : TxnValue) → is_live_transaction old t.number ≡ false → Step old t call answer new t' → new ≡ old
 expired_changes_nothing old t (inp_in template) (found (Stored number)) new t' dead s = not_live old new t dead s.0.live
 expired_changes_nothing old t (inp_in template) (found (Own place)) new t' dead s = s.3
@@ -47,6 +48,7 @@ expired_changes_nothing old t abort done new t' dead s = not_live old new t dead
 expired_changes_nothing old t abort (refused error) new t' dead s = s.1
 expired_changes_nothing old t _ _ new t' dead s = absurd s
 
+-- writes put out leave the moment
 pub put_each_moment : (s : SpaceValue) (writes : List Write) → (put_each s writes).moment ≡ s.moment
 put_each_moment s [] = refl
 put_each_moment s (x ∷ xs) =
@@ -60,6 +62,7 @@ read_moment s holder marks number =
 moment_of : (w v : World) → w ≡ v → w.space.moment ≡ v.space.moment
 moment_of w v e = ap (λ (x : World). x.space.moment) e
 
+-- a call on a transaction leaves the moment
 pub moment_stays : (old : World) (t : TxnValue) (call : Call) (answer : Answer) (new : World) (t' : TxnValue) → Step old t call answer new t' → new.space.moment ≡ old.space.moment
 moment_stays old t (inp_in template) (found (Stored number)) new t' s = moment_of _ _ s.4
 moment_stays old t (inp_in template) (found (Own place)) new t' s = moment_of _ _ s.3
@@ -77,6 +80,7 @@ moment_stays old t abort done new t' s = moment_of _ _ s.1
 moment_stays old t abort (refused error) new t' s = moment_of _ _ s.1
 moment_stays old t _ _ new t' s = absurd s
 
+-- dropping the marks of transactions leaves the moment
 pub aborts_moment : (live : List Live) (s : SpaceValue) → (abort_each live s).moment ≡ s.moment
 aborts_moment [] s = refl
 aborts_moment (t ∷ ts) s = aborts_moment ts (unmarked t.number s)
@@ -108,6 +112,7 @@ earlier_changes_nothing old moment less = cond-true (ltb moment old.space.moment
 pub taken_unreadable : (moment : ℕ) (e : Entry) → is_taken e ≡ true → can_be_read moment e ≡ false
 taken_unreadable moment e taken = and_right (is_live moment e.end) (not (is_taken e)) (ap not taken)
 
+-- what somebody else holds can't be taken
 pub held_untakable : (moment holder : ℕ) (e : Entry) (other : Hold) → Contains e.holds other → other.by ≢ holder → is_open (TakeBy holder) moment e ≡ false
 held_untakable moment holder e other at ne =
     and_right (can_be_read moment e) (list_all (λ (x : Hold). eqb x.by holder) e.holds)
@@ -125,9 +130,11 @@ released_unheld : (holder moment : ℕ) (es : List Entry) → All (λ (e : Entry
 released_unheld holder moment es =
     All-map (λ (e : Entry). is_held_by holder e ≡ false) (unheld holder) (filter (stays_without holder moment) es) (λ k d lt. without_none_by holder _)
 
+-- after an abort the transaction holds nothing
 pub abort_unmarks : (old : World) (number : ℕ) → All (λ (e : Entry). is_held_by number e ≡ false) (abort_at old number).space.entries
 abort_unmarks old number = released_unheld number old.space.moment old.space.entries
 
+-- after a commit the transaction holds nothing
 pub commit_unmarks : (old : World) (t : TxnValue) → All (λ (e : Entry). is_held_by t.number e ≡ false) (commit_at old t).space.entries
 commit_unmarks old t = released_unheld t.number _ _
 

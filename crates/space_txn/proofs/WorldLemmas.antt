@@ -183,6 +183,7 @@ held_others w number s held =
     let left = holds_unmarked (OfLive s.moment w.live) number s held in
     λ k d lt j c within. (let here = left k d lt j c within in live_others s.moment _ number w.live here.1 here.0)
 
+-- what holds of every world holds after a commit, where the commits suffice
 pub world_committed : (w : World) (t : TxnValue) → w.commits < most → IsWorld w → IsWorld (commit_at w t)
 world_committed w t few valid =
     let s = put_each w.space t.writes in
@@ -192,10 +193,12 @@ world_committed w t few valid =
     with_fewer w (unmarked t.number left) (w.commits + 1) (λ (u : Live). not (eqb u.number t.number)) valid (omega arith)
     (held_others w t.number left (All-filter (λ (e : Entry). not (is_taken_by t.number e)) (λ (e : Entry). All (OfLive s.moment w.live) e.holds) s.entries all))
 
+-- it holds after an abort
 pub world_aborted : (w : World) (number : ℕ) → IsWorld w → IsWorld (abort_at w number)
 world_aborted w number valid =
     with_fewer w (unmarked number w.space) w.commits (λ (u : Live). not (eqb u.number number)) valid valid.few_commits (held_others w number w.space valid.held)
 
+-- it holds after a transaction's renewal
 pub world_renewed : (w : World) (number asked : ℕ) → IsWorld w → IsWorld (renew_at w number asked)
 world_renewed w number asked valid =
     let end = granted_end w.space.moment asked in
@@ -234,6 +237,7 @@ held_advanced w moment le held =
     (λ t. let less : moment < s.moment = ltb-true moment s.moment t in absurd (omega arith))
     (λ f. All-filter (is_there moment) (λ (e : Entry). All (OfLive moment (going_at moment w.live)) e.holds) s.entries going)
 
+-- it holds after the moment was moved on
 pub world_advanced : (w : World) (moment : ℕ) → IsWorld w → IsWorld (advance_at w moment)
 world_advanced w moment valid =
     let s = advanced moment (abort_each (ended_at moment w.live) w.space) in
@@ -245,6 +249,7 @@ world_advanced w moment valid =
 same_world : (old new : World) → new ≡ old → IsWorld old → IsWorld new
 same_world old new is valid = subst IsWorld (sym is) valid
 
+-- what holds of every world holds after a call on a transaction, whatever the answer
 pub step_world : (old : World) (t : TxnValue) (call : Call) (answer : Answer) (new : World) (t' : TxnValue) → Step old t call answer new t' → IsWorld old → IsWorld new
 step_world old t (inp_in template) (found (Stored number)) new t' s valid =
     same_world _ new s.4 (with_held old (taken_space old.space t.number number) valid (held_taken old t.number number true valid s.0.live))
@@ -264,6 +269,7 @@ step_world old t abort done new t' s valid = same_world _ new s.1 (world_aborted
 step_world old t abort (refused error) new t' s valid = same_world old new s.1 valid
 step_world old t _ _ new t' s valid = absurd s
 
+-- it holds after a transaction was begun, or refused
 pub begin_world : (old : World) (asked : ℕ) (result : Result TxnValue TxnError) (new : World) → BeginStep old asked result new → IsWorld old → IsWorld new
 begin_world old asked (Ok t) new s valid = same_world _ new s.2 (world_begun old asked s.0 valid)
 begin_world old asked (Err Exhausted) new s valid = same_world old new s.1 valid
@@ -271,6 +277,7 @@ begin_world old asked (Err OutOfMemory) new s valid = same_world old new s.1 val
 begin_world old asked (Err Expired) new s valid = absurd s
 begin_world old asked (Err Foreign) new s valid = absurd s
 
+-- it holds after the moment was moved on, or that was refused
 pub advance_world : (old : World) (moment : ℕ) (result : Result (Unit {0}) SpaceError) (new : World) → AdvanceStep old moment (space.done_reply result) new → IsWorld old → IsWorld new
 advance_world old moment (Ok u) new s valid = same_world _ new s.1 (world_advanced old moment valid)
 advance_world old moment (Err numbers_used_up) new s valid = same_world old new s.1 valid
@@ -281,6 +288,7 @@ advance_world old moment (Err memory_used_up) new s valid = absurd s
 to_space : (old : World) (s v : SpaceValue) → s ≡ v → IsWorld old → AreHeldBy v.moment old.live v.entries → IsWorld (with_space old s)
 to_space old s v is valid held = subst (λ (u : SpaceValue). IsWorld (with_space old u)) (sym is) (with_held old v valid held)
 
+-- it holds after a tuple was put out in the space, or refused
 pub out_world : (old : World) (tuple : List FieldValue) (lease : Lease) (result : Result ℕ (SpaceError × List FieldValue)) (s : SpaceValue)
     → space.Step old.space (space.out tuple lease) (space.out_reply result) s → IsWorld old → IsWorld (with_space old s)
 out_world old tuple lease (Ok number) s h valid = to_space old s _ h.2 valid (holds_put (OfLive old.space.moment old.live) old.space tuple lease valid.held)
@@ -291,12 +299,14 @@ out_world old tuple lease (Err back) s h valid = by back.0 h
     by memory_used_up h = to_space old s old.space h.1 valid valid.held
     by NotThere h = absurd h
 
+-- it holds after a tuple was taken from the space, or none could be had
 pub inp_world : (old : World) (template : List PatternValue) (result : Option (ℕ × List FieldValue)) (s : SpaceValue)
     → space.Step old.space (space.inp template) (space.inp_reply result) s → IsWorld old → IsWorld (with_space old s)
 inp_world old template (Some what) s h valid =
     to_space old s _ h.4 valid (All-filter (λ (e : Entry). not (eqb e.number h.0.number)) (λ (e : Entry). All (OfLive old.space.moment old.live) e.holds) old.space.entries valid.held)
 inp_world old template None s h valid = to_space old s old.space h.1 valid valid.held
 
+-- it holds after a tuple's lease was renewed, or that was refused
 pub renewal_world : (old : World) (number : ℕ) (lease : Lease) (result : Result (Unit {0}) SpaceError) (s : SpaceValue)
     → space.Step old.space (space.renew number lease) (space.done_reply result) s → IsWorld old → IsWorld (with_space old s)
 renewal_world old number lease (Ok u) s h valid =

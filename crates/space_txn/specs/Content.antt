@@ -23,6 +23,7 @@ content_of w = permanent_tuples w.space.entries
 abbrev pub is_gone : (Mark → Bool) → Mark → Bool
 is_gone renewed m = m.taken && (m.permanent || renewed m)
 
+-- the tuples of the marks by which a transaction took something of the content
 abbrev pub gone_of : (Mark → Bool) → List Mark → List (List FieldValue)
 gone_of renewed marks = map (λ m. m.tuple) (filter (is_gone renewed) marks)
 
@@ -34,6 +35,7 @@ is_made_permanent w m = list_any (λ e. (e.number == m.entry) && is_permanent e.
 abbrev pub is_kept : Mark → Bool
 is_kept m = not m.taken && m.permanent
 
+-- the tuples of the content that it read and didn't take
 abbrev pub kept_of : List Mark → List (List FieldValue)
 kept_of marks = map (λ m. m.tuple) (filter is_kept marks)
 
@@ -41,6 +43,7 @@ kept_of marks = map (λ m. m.tuple) (filter is_kept marks)
 abbrev pub is_added : Write → Bool
 is_added x = not x.taken && is_permanent (granted 0 x.lease)
 
+-- the tuples that it wrote to stay forever and didn't take again
 abbrev pub added_of : List Write → List (List FieldValue)
 added_of writes = map (λ x. x.tuple) (filter is_added writes)
 

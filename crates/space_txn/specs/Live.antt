@@ -24,6 +24,7 @@ AreHeldBy moment live entries = All (λ e. All (λ h. is_live_in moment h.by liv
 abbrev pub renewed_row : ℕ → ℕ → Live → Live
 renewed_row number end t = if t.number == number then record t { end = max t.end end } else t
 
+-- the rows of live transactions after the end of the one with this number is moved so
 abbrev pub renewed_rows : ℕ → ℕ → List Live → List Live
 renewed_rows number end live = map (renewed_row number end) live
 
@@ -35,6 +36,7 @@ others number live = filter (λ t. not (t.number == number)) live
 abbrev pub ended_at : ℕ → List Live → List Live
 ended_at moment live = filter (λ t. not (nat_lt moment t.end)) live
 
+-- the rows of transactions whose lease hasn't ended at a moment
 abbrev pub going_at : ℕ → List Live → List Live
 going_at moment live = filter (λ t. nat_lt moment t.end) live
 

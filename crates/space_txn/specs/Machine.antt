@@ -86,6 +86,7 @@ abbrev pub committed_space : SpaceValue → ℕ → List Write → SpaceValue
 committed_space s number writes =
     unmarked number (with_entries (put_each s writes) (without_taken number (put_each s writes).entries))
 
+-- the same with the transaction no longer live, and one more commit counted
 abbrev pub commit_at : World → TxnValue → World
 commit_at w t = world_of (committed_space w.space t.number t.writes) (others t.number w.live) w.begun (w.commits + 1)
 
@@ -93,6 +94,7 @@ commit_at w t = world_of (committed_space w.space t.number t.writes) (others t.n
 abbrev pub HasNumbers : World → List Write → Type 0
 HasNumbers w writes = (w.commits < most) × (w.space.last + put_count writes ≤ most)
 
+-- the commits or the numbers of entries don't suffice for a commit
 abbrev pub UsedUp : World → List Write → Type 0
 UsedUp w writes = (most ≤ w.commits) ⊎ (most < w.space.last + put_count writes)
 
@@ -107,6 +109,7 @@ IsCommitRefusal w t OutOfMemory = IsAccepted w t × HasNumbers w t.writes × (0 
 IsCommitRefusal w t Expired = IsRefused w t Expired
 IsCommitRefusal w t Foreign = IsRefused w t Foreign
 
+-- a search's refusal: memory runs out only where some entry that can be had has no mark yet
 abbrev pub IsFindRefusal : World → TxnValue → Claim → List PatternValue → TxnError → Type 0
 IsFindRefusal w t claim template OutOfMemory = IsAccepted w t × HasUnmarked w t claim template
 IsFindRefusal w t claim template Exhausted = ⊥
@@ -162,10 +165,12 @@ find_answer (Ok (Some what)) = found what
 find_answer (Ok None) = nothing
 find_answer (Err error) = refused error
 
+-- the answer that the result of a renewal is
 abbrev pub renew_answer : Result (Unit {0}) TxnError → Answer
 renew_answer (Ok _) = done
 renew_answer (Err error) = refused error
 
+-- the answer that the result of a commit or an abort is
 abbrev pub end_answer : {A : Type 0} → Result A (TxnError × TxnValue) → Answer
 end_answer (Ok _) = done
 end_answer (Err back) = refused back.0

@@ -14,6 +14,7 @@ pub record MarksValue : Type 0 where
   pub items : List Mark
   pub room : ℕ
 
+-- how many more items fit into a small vector with no allocation
 abbrev pub room_of : {A : Type 0} → SmallVec A → ℕ
 room_of places = places.capacity - small_vec_len places
 

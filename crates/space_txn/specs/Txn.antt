@@ -15,6 +15,7 @@ pub record TxnValue : Type 0 where
   pub marks : List Mark
   pub writes : List Write
 
+-- the value of a transaction with this number, these marks and these writes
 abbrev pub txn_of : ℕ → List Mark → List Write → TxnValue
 txn_of number marks writes = record { number = number; marks = marks; writes = writes }
 

@@ -14,6 +14,7 @@ pub record World : Type 0 where
   pub begun : ℕ
   pub commits : ℕ
 
+-- the world of a space and live transactions, with the last number begun and the count of commits
 abbrev pub world_of : SpaceValue → List Live → ℕ → ℕ → World
 world_of s live begun commits = record { space = s; live = live; begun = begun; commits = commits }
 

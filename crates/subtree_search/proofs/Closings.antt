@@ -1,117 +1,129 @@
--- When no completion of a node costs less than the incumbent.
-use Rattle.std.proofs.Common.{◌≡◌, ℕ, ◌*◌, ◌<◌, List, length, get_or, cond, true, false, nat_eq, refl, sym, ◌∙◌, ap, arith, inl, inr}
-use Rattle.std.specs.Prelude.{ℤ, pos, negsuc, ◌+ℤ◌, ◌-ℤ◌, ◌*ℤ◌, ◌≤ℤ◌, ◌<ℤ◌, ◌⊎◌, unsigned_abs}
-use Rattle.std.proofs.lemmas.Int.{ints}
+-- When a value reaches every bound up to the incumbent's cost, and what follows for the completions of a node.
+use Rattle.std.proofs.Common.{◌≡◌, ℕ, ◌<◌, List, length, get_or, ◌∙◌, ap, subst, inl, arith}
+use Rattle.std.specs.Prelude.{Bool, true, ℤ, pos, Some, ◌+ℤ◌, ◌-ℤ◌, ◌*ℤ◌, ◌≤ℤ◌, ◌<ℤ◌}
+use Rattle.std.proofs.lemmas.Int.{ints, by_lt_z}
 use Rattle.qap_cost.specs.Instance.{Problem}
 use Rattle.qap_cost.specs.Matrix.{total}
 use Rattle.qap_cost.specs.Objective.{cost_of}
-use Rattle.qap_cost.specs.Placement.{Placement, IsPlacement, free_facilities, free_locations}
+use Rattle.qap_cost.specs.Placement.{Placement, IsPlacement, Completes, free_facilities, free_locations}
 use Rattle.qap_cost.specs.Sum.{sum_to}
-use Rattle.qap_cost.proofs.Nodes.{parent_of}
 use Rattle.qap_cost.proofs.Placements.{IsPlacement-placing}
-use Rattle.qap_cost.proofs.Sums.{only_at, sum_to-monotone, sum_to-only_at, *ℤ-+ℤ}
-use Rattle.pair_duals.specs.CostStep.{DividesCosts}
-use Rattle.pair_duals.specs.PairDuals.{Duals, Fit}
-use Rattle.pair_duals.specs.Reduced.{Form, AreLeast, AreLeastOfRows, AreUnder, IsFormOf, IsNonNegative, at, count_of}
+use Rattle.qap_cost.proofs.Sums.{*ℤ-+ℤ}
+use Rattle.pair_duals.specs.CostStep.{step_of}
+use Rattle.pair_duals.specs.PairDuals.{Duals}
+use Rattle.pair_duals.specs.Reduced.{Form, IsFormOf, IsNonNegative, at, count_of, left_of_pair, sum_of_pairs}
 use Rattle.pair_duals.specs.Seats.{child_at}
-use Rattle.pair_duals.proofs.Forms.{seats-le, value-le, row_duals-le}
-use Rattle.pair_duals.proofs.Seatings.{Seats-completed, SeatsFollow-child, facilities_of, locations_of, same_count}
+use Rattle.pair_duals.proofs.CostSteps.{step-divides}
+use Rattle.pair_duals.proofs.Forms.{row_duals-le, value-le}
+use Rattle.pair_duals.proofs.Products.{scale-assoc}
+use Rattle.pair_duals.proofs.Seatings.{Seats-completed, facilities_of, locations_of, same_count}
+use Rattle.proof_tree.specs.Valid.{ReachesBound, under}
+use Rattle.proof_tree.proofs.Multiples.{scaled-monotone}
+use Rattle.proof_tree.proofs.Reaching.{AreUnder-least, Bounded-closed, Bounded-reached}
+use Rattle.proof_tree.proofs.Validity.{valid_bounds}
 use Rattle.subtree_search.specs.Best.{Best, IsIncumbent}
-use Rattle.subtree_search.specs.Closed.{IsClosed, CostsMore, Exceeds, threshold_of}
+use Rattle.subtree_search.specs.Clean.{clean}
+use Rattle.subtree_search.specs.Closed.{HasLeast, IsClosed, Reaches, ReachesTrivially, threshold_of}
+use Rattle.subtree_search.specs.Premises.{AreSound, IsNode}
+use Rattle.subtree_search.specs.Recorded.{HasTree}
+use Rattle.subtree_search.proofs.Cleaning.{Fit-clean, IsEven, IsFormOf-clean}
 
--- by the value of a form with no entry below 0
-pub Exceeds-value : (R : Form) (t : ℤ) → IsNonNegative R → t <ℤ R.value → Exceeds R t
-Exceeds-value R t least above = record {
-  each = λ I D y is fit form. record {
-    more = λ p done.
-        let below = value-le I D y R p is fit form least done in omega (arith, ints, below, above);
-  };
+-- a multiple that is less than another one is a step less
+step_before : (s : ℕ) (x y : ℤ) → (pos s *ℤ x) <ℤ (pos s *ℤ y) → (pos s *ℤ x) ≤ℤ (pos s *ℤ y -ℤ pos s)
+step_before s x y less =
+    by_lt_z x y
+    (λ before.
+    let next = scaled-monotone s (x +ℤ pos 1) y (omega (arith, ints, before)) in
+    let apart = *ℤ-+ℤ (pos s) x (pos 1) in
+    let one : pos s *ℤ pos 1 ≡ pos s = omega (arith, ints) in
+    omega (arith, ints, next, apart, one))
+    (λ behind. let more = scaled-monotone s y x behind in absurd (omega (arith, ints, more, less)))
+
+-- above the threshold of a cost that is a multiple of the step, where a divisor of that gives the threshold
+above-reaches : (step part scale : ℕ) (c q l t value : ℤ) → pos step ≡ pos part *ℤ q → c ≡ pos step *ℤ l → t ≡ threshold_of scale part c → t <ℤ value → (bound : ℤ) → bound ≤ℤ c → ReachesBound step bound scale value
+above-reaches step part scale c q l t value divides multiple is above bound less k below =
+    let own : pos step *ℤ k ≡ pos part *ℤ (q *ℤ k) = ap (λ z. z *ℤ k) divides ∙ scale-assoc part q k in
+    let all : c ≡ pos part *ℤ (q *ℤ l) = multiple ∙ ap (λ z. z *ℤ l) divides ∙ scale-assoc part q l in
+    let before = step_before part (q *ℤ k) (q *ℤ l) (omega (arith, ints, below, less, own, all)) in
+    let scaled = scaled-monotone scale (pos step *ℤ k) (c -ℤ pos part) (omega (arith, ints, before, own, all)) in
+    omega (arith, ints, scaled, is, above)
+
+-- above the incumbent's threshold
+pub Reaches-above : (I : Problem) (D : Duals) (step : ℕ) (b : Best) (t value : ℤ) → AreSound I D step → IsIncumbent I b → t ≡ threshold_of D.scale step b.cost → t <ℤ value → Reaches I D.scale b.cost value
+Reaches-above I D step b t value sound known is above =
+    let own = (step-divides I).each b.permutation known.permutes in
+    above-reaches (step_of I) step D.scale b.cost sound.divides.0 own.0 t value sound.divides.1 (known.cost ∙ own.1) is above
+
+-- the scaled cost of a permutation that costs no less
+Reaches-cost : (I : Problem) (scale : ℕ) (c cost value : ℤ) → 0 < scale → value ≡ pos scale *ℤ cost → c ≤ℤ cost → Reaches I scale c value
+Reaches-cost I scale c cost value positive is most bound less k below =
+    let more = scaled-monotone scale ((pos (step_of I) *ℤ k) +ℤ pos 1) cost (omega (arith, ints, below, less, most)) in
+    let apart = *ℤ-+ℤ (pos scale) (pos (step_of I) *ℤ k) (pos 1) in
+    let one : pos scale *ℤ pos 1 ≡ pos scale = omega (arith, ints) in
+    omega (arith, ints, more, apart, one, is, positive)
+
+-- the value of a form with no rows is the scaled cost of the permutation that the node is
+value-whole : (I : Problem) (D : Duals) (y : Placement) (R : Form) (p : List ℕ) → IsPlacement y → IsFormOf I D y R → count_of R ≡ 0 → Completes y p → R.value ≡ pos D.scale *ℤ cost_of I p
+value-whole I D y R p is form none done =
+    let seated = Seats-completed y p is done in
+    let seat = seated.0 in
+    let all = form.identity p seat done seated.1 in
+    let entries : sum_to (λ r. at R r (get_or seat r 0)) (count_of R) ≡ pos 0 = ap (sum_to (λ r. at R r (get_or seat r 0))) none in
+    let pairs : sum_of_pairs (left_of_pair I D R.rows R.columns seat) (count_of R) ≡ pos 0 = ap (sum_of_pairs (left_of_pair I D R.rows R.columns seat)) none in
+    omega (arith, ints, all, entries, pairs)
+
+pub Reaches-whole : (I : Problem) (D : Duals) (step : ℕ) (y : Placement) (R : Form) (p : List ℕ) (c : ℤ) → IsNode I D step y R → 0 < D.scale → count_of R ≡ 0 → Completes y p → c ≤ℤ cost_of I p → Reaches I D.scale c R.value
+Reaches-whole I D step y R p c n positive none done most = Reaches-cost I D.scale c (cost_of I p) R.value positive (value-whole I D y R p n.placement n.form none done) most
+
+-- by the least numbers, above the incumbent's threshold
+pub ReachesTrivially-above : (I : Problem) (D : Duals) (step : ℕ) (b : Best) (t : ℤ) (R : Form) (closes : Bool) → AreSound I D step → IsIncumbent I b → t ≡ threshold_of D.scale step b.cost → HasLeast R t closes → closes ≡ true → ReachesTrivially I D.scale b.cost R
+ReachesTrivially-above I D step b t R closes sound known is has yes_closes =
+    record { u = has.u; v = has.v; rows = has.rows; columns = has.columns; reaches = Reaches-above I D step b t (R.value +ℤ (total has.u +ℤ total has.v)) sound known is (has.closes yes_closes) }
+
+-- with no rows there are no least numbers
+pub ReachesTrivially-whole : (I : Problem) (scale : ℕ) (c : ℤ) (R : Form) (t : ℤ) (closes : Bool) → count_of R ≡ 0 → HasLeast R t closes → Reaches I scale c R.value → ReachesTrivially I scale c R
+ReachesTrivially-whole I scale c R t closes none has reaches =
+    let u = has.u in
+    let v = has.v in
+    let rows = has.rows in
+    let columns = has.columns in
+    let us : total u ≡ pos 0 = ap (sum_to (λ r. get_or u r (pos 0))) (rows.count ∙ none) in
+    let vs : total v ≡ pos 0 = ap (sum_to (λ r. get_or v r (pos 0))) (columns.count ∙ none) in
+    let same : R.value ≡ R.value +ℤ (total u +ℤ total v) = omega (arith, ints, us, vs) in
+    record { u = u; v = v; rows = rows; columns = columns; reaches = subst (Reaches I scale c) same reaches }
+
+-- ---- what follows for completions
+
+at_most : (c : ℤ) → c ≤ℤ c
+at_most c = omega (arith, ints)
+
+pub IsClosed-trivially : (I : Problem) (D : Duals) (step : ℕ) (y : Placement) (R : Form) (c : ℤ) → IsNode I D step y R → ReachesTrivially I D.scale c R → IsClosed I y c
+IsClosed-trivially I D step y R c n closes = record {
+  least = Bounded-reached I (step_of I) D.scale c (R.value +ℤ (total closes.u +ℤ total closes.v)) y n.size (step-divides I) (closes.reaches c (at_most c))
+      (λ p done.
+      let below = row_duals-le I D y R closes.u closes.v p n.placement n.sound.fit n.form (AreUnder-least R closes.u closes.v closes.columns) done in
+      let us : total closes.u ≡ sum_to (λ r. get_or closes.u r (pos 0)) (count_of R) = ap (sum_to (λ r. get_or closes.u r (pos 0))) closes.rows.count in
+      let vs : total closes.v ≡ sum_to (λ r. get_or closes.v r (pos 0)) (count_of R) = ap (sum_to (λ r. get_or closes.v r (pos 0))) closes.columns.count in
+      omega (arith, ints, below, us, vs));
 }
 
--- by the least numbers of rows and columns
-pub Exceeds-least : (R : Form) (u v : List ℤ) (t : ℤ) → AreLeastOfRows (count_of R) R.entries u → AreLeast (count_of R) R.entries u v → t <ℤ (R.value +ℤ (total u +ℤ total v)) → Exceeds R t
-Exceeds-least R u v t rows columns above =
-    let under : AreUnder R u v = record { below = λ r c hr hc. let h = (columns.least c hc).below r hr in omega (arith, ints, h) } in
-    record {
-      each = λ I D y is fit form. record {
-        more = λ p done.
-            let below = row_duals-le I D y R u v p is fit form under done in
-            let us : total u ≡ sum_to (λ r. get_or u r (pos 0)) (count_of R) = ap (sum_to (λ r. get_or u r (pos 0))) rows.count in
-            let vs : total v ≡ sum_to (λ c. get_or v c (pos 0)) (count_of R) = ap (sum_to (λ c. get_or v c (pos 0))) columns.count in
-            omega (arith, ints, below, above, us, vs);
-      };
-    }
-
--- a number times an order
-scale-monotone : (n : ℕ) (a b : ℤ) → a ≤ℤ b → (pos n *ℤ a) ≤ℤ (pos n *ℤ b)
-scale-monotone n a b h =
-    let k = unsigned_abs (b -ℤ a) in
-    let more : b ≡ a +ℤ pos k = omega (arith, ints) in
-    let apart = *ℤ-+ℤ (pos n) a (pos k) in
-    let own : pos n *ℤ pos k ≡ pos (n * k) = refl in
-    let along : pos n *ℤ b ≡ pos n *ℤ (a +ℤ pos k) = ap (λ (z : ℤ). pos n *ℤ z) more in
-    omega (arith, ints, apart, own, along)
-
--- no more, or at least 1 more
-order : (a b : ℤ) → (a ≤ℤ b) ⊎ ((b +ℤ pos 1) ≤ℤ a)
-order a b = elim (b -ℤ a) as (λ d. b -ℤ a ≡ d → (a ≤ℤ b) ⊎ ((b +ℤ pos 1) ≤ℤ a)) [ pos n ↦ λ e. inl (omega (arith, ints)) | negsuc n ↦ λ e. inr (omega (arith, ints)) ] refl
-
--- a multiple of the step that is above the one before another is no less than that
-step_back : (s g : ℕ) (c d k l : ℤ) → c ≡ pos g *ℤ k → d ≡ pos g *ℤ l → threshold_of s g c <ℤ (pos s *ℤ d) → c ≤ℤ d
-step_back s g c d k l c_is d_is above =
-    elim (order k l) [
-      | inl less ↦ let h = scale-monotone g k l less in omega (arith, ints, h, c_is, d_is)
-      | inr more ↦
-          let h = scale-monotone g (l +ℤ pos 1) k more in
-          let apart = *ℤ-+ℤ (pos g) l (pos 1) in
-          let own : pos g *ℤ pos 1 ≡ pos (g * 1) = refl in
-          let below : d ≤ℤ (c -ℤ pos g) = omega (arith, ints, h, apart, own, c_is, d_is) in
-          let scaled = scale-monotone s d (c -ℤ pos g) below in
-          absurd (omega (arith, ints, scaled, above))
-    ]
-
--- what exceeds the threshold of the incumbent is no better
-pub IsClosed-step : (I : Problem) (D : Duals) (y : Placement) (step : ℕ) (b : Best) → I.size ≡ y.size → DividesCosts I step → IsIncumbent I b → CostsMore I D y (threshold_of D.scale step b.cost) → IsClosed I y b.cost
-IsClosed-step I D y step b size divides known above =
-    let own = divides.each b.permutation known.permutes in
-    record {
-      least = λ p done.
-          let other = divides.each p (record { bijection = done.bijection; same_size = done.same_size ∙ sym size }) in
-          step_back D.scale step b.cost (cost_of I p) own.0 other.0 (known.cost ∙ own.1) other.1 (above.more p done);
-    }
-
--- a node that is closed for a cost is closed for a lower one
-pub IsClosed-lower : (I : Problem) (y : Placement) (c d : ℤ) → IsClosed I y c → d ≤ℤ c → IsClosed I y d
-IsClosed-lower I y c d closed less = record { least = λ p done. let h = closed.least p done in omega (arith, ints, h, less) }
-
--- of terms that are no less than nothing, each is no less than the one at k, or nothing
-only_at-le : (f : ℕ → ℤ) (k i : ℕ) → pos 0 ≤ℤ f i → only_at f k i ≤ℤ f i
-only_at-le f k i h = elim (nat_eq i k) as (λ b. cond b (f i) (pos 0) ≤ℤ f i) [ true ↦ omega (arith, ints) | false ↦ h ]
+pub IsClosed-by_value : (I : Problem) (D : Duals) (step : ℕ) (y : Placement) (R : Form) (c : ℤ) → IsNode I D step y R → IsNonNegative R → Reaches I D.scale c R.value → IsClosed I y c
+IsClosed-by_value I D step y R c n least reaches =
+    record { least = Bounded-reached I (step_of I) D.scale c R.value y n.size (step-divides I) (reaches c (at_most c)) (λ p done. value-le I D y R p n.placement n.sound.fit n.form least done) }
 
 pub IsPlacement-child : (y : Placement) (h g : ℕ) → IsPlacement y → h < length (free_facilities y) → g < length (free_locations y) → IsPlacement (child_at y h g)
 IsPlacement-child y h g is rows columns = IsPlacement-placing y (get_or (free_facilities y) h 0) (get_or (free_locations y) g 0) is ((facilities_of y is).each h rows) ((locations_of y is).each g columns)
 
--- a child whose value exceeds the threshold
-pub CostsMore-pruned : (I : Problem) (D : Duals) (y : Placement) (R : Form) (h g : ℕ) (t : ℤ) → IsPlacement y → Fit I D → IsFormOf I D y R → IsNonNegative R → h < count_of R → g < count_of R → t <ℤ (R.value +ℤ at R h g) → CostsMore I D (child_at y h g) t
-CostsMore-pruned I D y R h g t is fit form least hh hg above =
-    let rows : h < length (free_facilities y) = omega (arith, form.numbers.row_count) in
-    let columns : g < length (free_locations y) = omega (arith, form.numbers.row_count, same_count y is) in
-    record {
-      more = λ p done.
-          let parent = parent_of y (get_or (free_facilities y) h 0) (get_or (free_locations y) g 0) p is done in
-          let seated = Seats-completed y p is parent in
-          let seat = seated.0 in
-          let child_is = IsPlacement-child y h g is rows columns in
-          let next = Seats-completed (child_at y h g) p child_is done in
-          let here = (SeatsFollow-child y h g p seat next.0 is rows columns done seated.1 next.1).here in
-          let m = length R.rows in
-          let f : ℕ → ℤ = λ r. at R r (get_or seat r 0) in
-          let long : length seat ≡ m = omega (arith, seated.1.count, form.numbers.row_count) in
-          let each : (r : ℕ) → r < m → only_at f h r ≤ℤ f r = λ r below.
-          only_at-le f h r (least.each r (get_or seat r 0) below (omega (arith, seated.1.bijection.within r (omega (arith, long)), long))) in
-          let one = sum_to-only_at f h m hh in
-          let all = sum_to-monotone (only_at f h) f m each in
-          let own : f h ≡ at R h g = ap (at R h) here in
-          let below = seats-le I D y R p seat is fit form parent seated.1 in
-          omega (arith, ints, below, all, one, own, above);
-    }
+pub IsClosed-pruned : (I : Problem) (D : Duals) (step : ℕ) (y : Placement) (R : Form) (h g : ℕ) (c : ℤ) → IsNode I D step y R → IsNonNegative R → h < count_of R → g < count_of R → Reaches I D.scale c (R.value +ℤ at R h g) → IsClosed I (child_at y h g) c
+IsClosed-pruned I D step y R h g c n least hh hg reaches =
+    let rows : h < length (free_facilities y) = omega (arith, hh, n.form.numbers.row_count) in
+    let columns : g < length (free_locations y) = omega (arith, hg, n.form.numbers.row_count, same_count y n.placement) in
+    let wide : g < length R.columns = omega (arith, columns, n.form.numbers.column_count) in
+    record { least = Bounded-closed I (step_of I) c y (under D R) h g n.placement (IsPlacement-child y h g n.placement rows columns) n.size (step-divides I) hh wide n.sound.fit n.form least (inl (reaches c (at_most c))) }
+
+-- by a recorded tree
+pub IsClosed-tree : (I : Problem) (D : Duals) (step : ℕ) (y : Placement) (R : Form) (c : ℤ) (old new : List ℕ → Type 0) → IsEven D → IsNode I D step y R → HasTree I D y R c old new → IsClosed I y c
+IsClosed-tree I D step y R c old new even n has = record {
+  least = valid_bounds has.tree I (step_of I) c y (Some (under (clean D) R)) n.placement n.size (step-divides I)
+      (record { fit = Fit-clean I D even n.sound.fit; form = IsFormOf-clean I D y R even n.placement n.form }) (has.valid c (at_most c));
+}

@@ -1,6 +1,11 @@
+pub mod Cleaning
 pub mod Closings
 pub mod Covers
+pub mod Endings
+pub mod KidLists
 pub mod Nodes
 pub mod Progress
+pub mod RowLists
 pub mod Settling
+pub mod Trees
 pub mod Wholes

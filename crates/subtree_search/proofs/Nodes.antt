@@ -1,54 +1,28 @@
 -- The nodes of a search: when they are closed, and their children.
 use Rattle.std.proofs.Common.{◌≡◌, ℕ, ◌+◌, ◌<◌, List, length, get_or, sym, ◌∙◌, ap, ap₂, subst, arith}
-use Rattle.std.specs.Prelude.{ℤ, ◌+ℤ◌, ◌≤ℤ◌, ◌<ℤ◌, pos, ◌*ℤ◌}
+use Rattle.std.specs.Prelude.{ℤ, ◌≤ℤ◌, pos, ◌*ℤ◌}
 use Rattle.qap_cost.specs.Instance.{Problem}
 use Rattle.qap_cost.specs.Objective.{cost_of}
 use Rattle.qap_cost.specs.Placement.{Placement, IsPlacement, IsFreeFacility, IsFreeLocation, Completes, free_facilities, free_locations, placing}
 use Rattle.qap_cost.specs.Symmetry.{Keeps}
-use Rattle.qap_cost.proofs.Nodes.{whole_only}
 use Rattle.gilmore_lawler.proofs.Skips.{length-remove}
 use Rattle.qap_symmetry.specs.Table.{matrix_of}
 use Rattle.qap_symmetry.specs.declared.table.Table.{Table}
 use Rattle.qap_symmetry.specs.declared.table.Table.TheVariants.{Flows, Distances}
 use Rattle.pair_duals.specs.PairDuals.{Duals}
-use Rattle.pair_duals.specs.Reduced.{Form, IsChild, IsFormOf, IsNonNegative, at, count_of}
+use Rattle.pair_duals.specs.Reduced.{Form, IsChild, IsFormOf, IsNonNegative, count_of}
 use Rattle.pair_duals.specs.Seats.{child_at}
 use Rattle.pair_duals.proofs.Forms.{value-le}
 use Rattle.pair_duals.proofs.Seatings.{facilities_of, locations_of, same_count}
-use Rattle.subtree_search.specs.Best.{Best, IsIncumbent}
-use Rattle.subtree_search.specs.Closed.{IsClosed, Exceeds, threshold_of}
-use Rattle.subtree_search.specs.Images.{IsImage, free_of, table_of, taken_of}
+use Rattle.subtree_search.specs.Images.{TakesFree, free_of, taken_of}
 use Rattle.subtree_search.specs.Opens.{IsOpenAt}
-use Rattle.subtree_search.specs.Lines.{IsLineOf, child_on}
 use Rattle.subtree_search.specs.Premises.{AreSound, IsNode}
-use Rattle.subtree_search.specs.declared.line.Line.{Line}
 use Rattle.subtree_search.specs.declared.split.OpenChild.{OpenChild}
-use Rattle.subtree_search.proofs.Covers.{IsClosed-image}
-use Rattle.subtree_search.proofs.Closings.{CostsMore-pruned, IsClosed-step, IsPlacement-child}
-
--- by a value above the threshold
-pub IsClosed-exceeds : (I : Problem) (D : Duals) (step : ℕ) (y : Placement) (R : Form) (b : Best) (t : ℤ) → IsNode I D step y R → IsIncumbent I b → t ≡ threshold_of D.scale step b.cost → Exceeds R t → IsClosed I y b.cost
-IsClosed-exceeds I D step y R b t n known is above =
-    let more : Exceeds R (threshold_of D.scale step b.cost) = subst (Exceeds R) is above in
-    IsClosed-step I D y step b n.size n.sound.divides known (more.each I D y n.placement n.sound.fit n.form)
-
--- a child by that of its parent
-pub IsClosed-pruned : (I : Problem) (D : Duals) (step : ℕ) (y : Placement) (R : Form) (b : Best) (t : ℤ) (h g : ℕ) → IsNode I D step y R → IsNonNegative R → IsIncumbent I b → h < count_of R → g < count_of R → t ≡ threshold_of D.scale step b.cost → t <ℤ (R.value +ℤ at R h g) → IsClosed I (child_at y h g) b.cost
-IsClosed-pruned I D step y R b t h g n least known hh hg is above =
-    IsClosed-step I D (child_at y h g) step b n.size n.sound.divides known
-    (CostsMore-pruned I D y R h g (threshold_of D.scale step b.cost) n.placement n.sound.fit n.form least hh hg (subst (λ (z : ℤ). z <ℤ (R.value +ℤ at R h g)) is above))
+use Rattle.subtree_search.proofs.Closings.{IsPlacement-child}
 
 -- a node whose form has no row is a permutation
 pub whole_from_form : (I : Problem) (D : Duals) (step : ℕ) (y : Placement) (R : Form) → IsNode I D step y R → count_of R ≡ 0 → length y.facilities ≡ y.size
 whole_from_form I D step y R n none = omega (arith, none, n.form.numbers.row_count, (facilities_of y n.placement).count)
-
--- and is closed for the cost of that
-pub IsClosed-whole : (I : Problem) (y : Placement) (p : List ℕ) (c : ℤ) → IsPlacement y → length y.facilities ≡ y.size → Completes y p → c ≤ℤ cost_of I p → IsClosed I y c
-IsClosed-whole I y p c is all done below = record { least = λ q other. subst (λ (r : List ℕ). c ≤ℤ cost_of I r) (whole_only y p q is all done other) below }
-
--- another form of the same node
-pub IsNode-same : (I : Problem) (D : Duals) (step : ℕ) (y : Placement) (R S : Form) → IsNode I D step y R → IsFormOf I D y S → IsNode I D step y S
-IsNode-same I D step y R S n form = record { placement = n.placement; size = n.size; sound = n.sound; form = form }
 
 -- a child has fewer rows than its parent
 pub fewer_rows : (I : Problem) (D : Duals) (old new : Form) (h g : ℕ) → h < count_of old → IsChild I D old h g new → count_of new + 1 ≡ count_of old
@@ -88,25 +62,14 @@ IsNode-start I D step y x R is placement size sound form =
 
 -- ---- images
 
-pub IsClosed-child_image : (I : Problem) (D : Duals) (step : ℕ) (y : Placement) (R : Form) (line : Line) (k : ℕ) (c : ℤ) → IsNode I D step y R → IsLineOf (count_of R) line → k < count_of R → IsImage I y (table_of line) k
-    → ((j : ℕ) → j < k → IsClosed I (child_on y line j) c) → IsClosed I (child_on y line k) c
-IsClosed-child_image I D step y R line k c n on below image closed =
-    let count = n.form.numbers.row_count in
-    IsClosed-image I y line k c n.placement n.size (subst (λ (m : ℕ). IsLineOf m line) count on) (omega (arith, below, count)) image closed
-
 -- the permutation that takes an earlier free number to number k
-pub IsImage-taken : (I : Problem) (y : Placement) (table : Table) (m taken locations : List ℕ) (j k from to : ℕ) → I.size ≡ y.size → Keeps I.size (matrix_of table I) m → j < k → locations ≡ m → taken ≡ taken_of table y
-    → from ≡ get_or (free_of table y) j 0 → to ≡ get_or (free_of table y) k 0 → get_or locations from 0 ≡ to → ((t : ℕ) → t < length taken → get_or locations (get_or taken t 0) 0 ≡ get_or taken t 0) → IsImage I y table k
-IsImage-taken I y table m taken locations j k from to size keeps before is placed from_is to_is takes stays = record {
-  earlier = j;
-  before = before;
-  permutation = m;
-  takes = record {
-    keeps = subst (λ (n : ℕ). Keeps n (matrix_of table I) m) size keeps;
-    stays = subst (λ (l : List ℕ). (t : ℕ) → t < length (taken_of table y) → get_or l (get_or (taken_of table y) t 0) 0 ≡ get_or (taken_of table y) t 0) is
-        (subst (λ (l : List ℕ). (t : ℕ) → t < length l → get_or locations (get_or l t 0) 0 ≡ get_or l t 0) placed stays);
-    takes = ap (λ (i : ℕ). get_or m i 0) (sym from_is) ∙ ap (λ (l : List ℕ). get_or l from 0) (sym is) ∙ takes ∙ to_is;
-  };
+pub TakesFree-taken : (I : Problem) (y : Placement) (table : Table) (m taken locations : List ℕ) (j k from to : ℕ) → I.size ≡ y.size → Keeps I.size (matrix_of table I) m → locations ≡ m → taken ≡ taken_of table y
+    → from ≡ get_or (free_of table y) j 0 → to ≡ get_or (free_of table y) k 0 → get_or locations from 0 ≡ to → ((t : ℕ) → t < length taken → get_or locations (get_or taken t 0) 0 ≡ get_or taken t 0) → TakesFree I y table m j k
+TakesFree-taken I y table m taken locations j k from to size keeps is placed from_is to_is takes stays = record {
+  keeps = subst (λ (n : ℕ). Keeps n (matrix_of table I) m) size keeps;
+  stays = subst (λ (l : List ℕ). (t : ℕ) → t < length (taken_of table y) → get_or l (get_or (taken_of table y) t 0) 0 ≡ get_or (taken_of table y) t 0) is
+      (subst (λ (l : List ℕ). (t : ℕ) → t < length l → get_or locations (get_or l t 0) 0 ≡ get_or l t 0) placed stays);
+  takes = ap (λ (i : ℕ). get_or m i 0) (sym from_is) ∙ ap (λ (l : List ℕ). get_or l from 0) (sym is) ∙ takes ∙ to_is;
 }
 
 -- what is placed is below the size

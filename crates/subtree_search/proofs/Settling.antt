@@ -53,7 +53,7 @@ IsSettled-image I D step y R line k c children n on below image settled =
     let count = n.form.numbers.row_count in
     record {
       each = λ p done.
-          let twin = HasTwin-image I y line k p n.placement n.size (subst (λ (m : ℕ). IsLineOf m line) count on) (omega (arith, below, count)) image done in
+          let twin = HasTwin-image I y line image.permutation image.earlier k p n.placement n.size (subst (λ (m : ℕ). IsLineOf m line) count on) (omega (arith, below, count)) image.before image.takes done in
           elim ((settled image.earlier image.before).each twin.other twin.completes) [
             | inl least ↦ inl (subst (λ z. c ≤ℤ z) twin.cost least)
             | inr found ↦ inr (subst (CompletesOpen I y children) twin.cost found)

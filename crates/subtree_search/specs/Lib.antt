@@ -1,8 +1,14 @@
+pub mod Adding
 pub mod Best
+pub mod Clean
 pub mod Closed
+pub mod Drawn
 pub mod Images
+pub mod Kids
 pub mod Lines
 pub mod Opens
 pub mod Outcomes
 pub mod Path
 pub mod Premises
+pub mod Recorded
+pub mod Rows

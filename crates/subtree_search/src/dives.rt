@@ -2,7 +2,7 @@
 
 ghost use Rattle.std.specs.Prelude.{◌≡◌, ◌<◌, ◌≤◌, ◌≤ℤ◌, ℕ, false, IfOk, OnOk, length};
 ghost use Rattle.std.specs.Option.{IfSome};
-ghost use Rattle.pair_duals.specs.Reduced.{IsNonNegative, count_of};
+ghost use Rattle.pair_duals.specs.Reduced.{count_of};
 ghost use Rattle.subtree_search.specs.Best.{IsIncumbent};
 ghost use Rattle.subtree_search.specs.Lines.{IsLineOf};
 ghost use Rattle.subtree_search.specs.Premises.{AreSymmetries, IsNode};
@@ -57,13 +57,12 @@ impl Ground<'_> {
         k: usize,
     ) -> bool
         requires node { IsNode self.now.instance.now self.now.duals.now self.now.step path.now level.now.form }
-        requires least { IsNonNegative level.now.form }
         requires line { IsLineOf (count_of level.now.form) line }
         requires k_in { k < count_of level.now.form }
         requires symmetries { AreSymmetries self.now.instance.now self.now.flows.now self.now.distances.now }
         requires incumbent { IsIncumbent self.now.instance.now incumbent.now }
     {
-        !self.prunes(level, path, incumbent, line.row(k), line.column(k))
+        !self.prunes(level, incumbent, line.row(k), line.column(k))
             && !self.is_image(level, path, line.table(), k)
     }
 
@@ -81,7 +80,6 @@ impl Ground<'_> {
     /// How many children are left on a line, and the sum of their chances.
     fn chances(&self, level: &Level, path: &Path, incumbent: &Incumbent, line: Line) -> (f64, f64)
         requires node { IsNode self.now.instance.now self.now.duals.now self.now.step path.now level.now.form }
-        requires least { IsNonNegative level.now.form }
         requires line { IsLineOf (count_of level.now.form) line }
         requires symmetries { AreSymmetries self.now.instance.now self.now.flows.now self.now.distances.now }
         requires incumbent { IsIncumbent self.now.instance.now incumbent.now }
@@ -107,7 +105,6 @@ impl Ground<'_> {
         random: &mut Xoshiro256PlusPlus,
     ) -> Option<Draw>
         requires node { IsNode self.now.instance.now self.now.duals.now self.now.step path.now level.now.form }
-        requires least { IsNonNegative level.now.form }
         requires line { IsLineOf (count_of level.now.form) line }
         requires symmetries { AreSymmetries self.now.instance.now self.now.flows.now self.now.distances.now }
         requires incumbent { IsIncumbent self.now.instance.now incumbent.now }
@@ -140,7 +137,6 @@ impl Ground<'_> {
         random: &mut Xoshiro256PlusPlus,
     ) -> Result<f64, AllocError>
         requires node { IsNode self.now.instance.now self.now.duals.now self.now.step path.old level.now.form }
-        requires least { IsNonNegative level.now.form }
         requires line { IsLineOf (count_of level.now.form) line }
         requires room { count_of level.now.form ≤ length deeper.old }
         requires symmetries { AreSymmetries self.now.instance.now self.now.flows.now self.now.distances.now }
@@ -200,7 +196,6 @@ impl Ground<'_> {
         dives: u32,
     ) -> Result<f64, AllocError>
         requires node { IsNode self.now.instance.now self.now.duals.now self.now.step path.old level.now.form }
-        requires least { IsNonNegative level.now.form }
         requires line { IsLineOf (count_of level.now.form) line }
         requires room { count_of level.now.form ≤ length deeper.old }
         requires symmetries { AreSymmetries self.now.instance.now self.now.flows.now self.now.distances.now }
@@ -227,7 +222,6 @@ impl Ground<'_> {
         limit: u64,
     ) -> Result<bool, AllocError>
         requires node { IsNode self.now.instance.now self.now.duals.now self.now.step path.old level.now.form }
-        requires least { IsNonNegative level.now.form }
         requires left { 0 < count_of level.now.form }
         requires room { count_of level.now.form ≤ length deeper.old }
         requires symmetries { AreSymmetries self.now.instance.now self.now.flows.now self.now.distances.now }
@@ -251,7 +245,6 @@ impl Ground<'_> {
         incumbent: &mut Incumbent,
     ) -> Result<Line, AllocError>
         requires node { IsNode self.now.instance.now self.now.duals.now self.now.step path.old level.now.form }
-        requires least { IsNonNegative level.now.form }
         requires left { 0 < count_of level.now.form }
         requires room { count_of level.now.form ≤ length deeper.old }
         requires symmetries { AreSymmetries self.now.instance.now self.now.flows.now self.now.distances.now }

@@ -1,14 +1,16 @@
 //! What a search stands on, and its single steps.
 
-ghost use Rattle.std.specs.Prelude.{◌≡◌, ◌<◌, ◌≤ℤ◌, ℕ, false, IfOk, IsTrue, OnOk, length};
+ghost use Rattle.std.specs.Prelude.{◌≡◌, ◌<◌, ◌+ℤ◌, ◌≤ℤ◌, false, IfOk, IsTrue, OnOk, length};
+ghost use Rattle.qap_proof.specs.Cell.{IsPlaceOf, own_on};
 ghost use Rattle.pair_duals.specs.PairDuals.{AreOf};
-ghost use Rattle.pair_duals.specs.Reduced.{IsNonNegative, count_of};
+ghost use Rattle.pair_duals.specs.Reduced.{IsChild, IsNonNegative, IsStart, at, count_of};
 ghost use Rattle.pair_duals.specs.Seats.{child_at};
 ghost use Rattle.subtree_search.specs.Best.{IsIncumbent};
-ghost use Rattle.subtree_search.specs.Closed.{IsClosed, threshold_of};
+ghost use Rattle.subtree_search.specs.Closed.{IsClosed, Reaches, ReachesTrivially, threshold_of};
+ghost use Rattle.subtree_search.specs.Drawn.{IsDrawn};
+ghost use Rattle.subtree_search.specs.Lines.{IsLineOf, own_of, side_of};
 ghost use Rattle.subtree_search.specs.Opens.{IsOpenAt};
-ghost use Rattle.subtree_search.specs.Lines.{IsLineOf, child_on};
-ghost use Rattle.subtree_search.specs.Premises.{AreSound, AreSymmetries, IsNode};
+ghost use Rattle.subtree_search.specs.Premises.{AreSound, IsNode};
 
 use crate::incumbent::Incumbent;
 use crate::level::Level;
@@ -54,6 +56,7 @@ impl Ground<'_> {
         ensures node { OnOk result (IsNode self.now.instance.now self.now.duals.now self.now.step path.new level.new.form) }
         ensures first { OnOk result (level.new.form.is_lined ≡ false) }
         ensures count { OnOk result (count_of level.new.form ≡ length self.now.duals.now.facilities) }
+        ensures start { OnOk result (IsStart self.now.instance.now self.now.duals.now node.now level.new.form) }
     {
         // Its clause says that the node is one.
         let _depth = node.depth();
@@ -88,46 +91,25 @@ impl Ground<'_> {
         }
     }
 
-    /// Whether the child of number `k` on a line needs no search: the node prunes it, or it is the image of an earlier one.
-    pub fn skips(
-        &self,
-        level: &Level,
-        path: &Path,
-        incumbent: &Incumbent,
-        line: Line,
-        k: usize,
-    ) -> bool
+    /// The facility or the location that a node is split on.
+    pub fn number_of(&self, level: &Level, path: &Path, line: Line) -> u16
         requires node { IsNode self.now.instance.now self.now.duals.now self.now.step path.now level.now.form }
-        requires least { IsNonNegative level.now.form }
-        requires incumbent { IsIncumbent self.now.instance.now incumbent.now }
         requires line { IsLineOf (count_of level.now.form) line }
-        requires k_in { k < count_of level.now.form }
-        requires symmetries { AreSymmetries self.now.instance.now self.now.flows.now self.now.distances.now }
-        requires earlier { (j : ℕ) → j < k → IsClosed self.now.instance.now (child_on path.now line j) incumbent.now.cost }
-        ensures { IsTrue result → IsClosed self.now.instance.now (child_on path.now line k) incumbent.now.cost }
+        ensures { IsPlaceOf (own_on (side_of line) path.now) result (own_of line) }
     {
-        if self.prunes(level, path, incumbent, line.row(k), line.column(k)) {
-            return true;
+        match line {
+            Line::Row(h) => self.duals.facility(usize::from(level.form.rows()[h])) as u16,
+            Line::Column(g) => self.duals.location(usize::from(level.form.columns()[g])) as u16,
         }
-        let is_image = self.is_image(level, path, line.table(), k);
-        is_image
     }
 
     /// Whether the node that the path leads to prunes the child that puts row `h` at column `g`.
-    pub fn prunes(
-        &self,
-        level: &Level,
-        path: &Path,
-        incumbent: &Incumbent,
-        h: usize,
-        g: usize,
-    ) -> bool
-        requires node { IsNode self.now.instance.now self.now.duals.now self.now.step path.now level.now.form }
-        requires least { IsNonNegative level.now.form }
+    pub fn prunes(&self, level: &Level, incumbent: &Incumbent, h: usize, g: usize) -> bool
+        requires sound { AreSound self.now.instance.now self.now.duals.now self.now.step }
         requires incumbent { IsIncumbent self.now.instance.now incumbent.now }
         requires row { h < count_of level.now.form }
         requires column { g < count_of level.now.form }
-        ensures { IsTrue result → IsClosed self.now.instance.now (child_at path.now h g) incumbent.now.cost }
+        ensures { IsTrue result → Reaches self.now.instance.now self.now.duals.now.scale incumbent.now.cost (level.now.form.value +ℤ at level.now.form h g) }
     {
         let prunes = level.form.prunes(h, g, self.threshold(incumbent));
         prunes
@@ -149,6 +131,7 @@ impl Ground<'_> {
         ensures node { OnOk result (IsNode self.now.instance.now self.now.duals.now self.now.step path.new next.new.form) }
         ensures first { OnOk result (next.new.form.is_lined ≡ false) }
         ensures fewer { OnOk result (count_of next.new.form < count_of level.now.form) }
+        ensures child { OnOk result (IsChild self.now.instance.now self.now.duals.now level.now.form h g next.new.form) }
     {
         let facility = self.duals.facility(usize::from(level.form.rows()[h]));
         let location = self.duals.location(usize::from(level.form.columns()[g]));
@@ -163,8 +146,57 @@ impl Ground<'_> {
         Ok(())
     }
 
-    /// Whether the node that the path leads to is closed: by least entries, or once a line is drawn in its form, or since it is a
-    /// permutation, by which the incumbent is improved then.
+    /// Whether the node that the path leads to is closed before a line is drawn: by least entries, or since it is a permutation,
+    /// by which the incumbent is improved then.
+    pub fn closes_at_once(
+        &self,
+        level: &mut Level,
+        path: &Path,
+        incumbent: &mut Incumbent,
+    ) -> Result<bool, AllocError>
+        requires node { IsNode self.now.instance.now self.now.duals.now self.now.step path.now level.old.form }
+        requires incumbent { IsIncumbent self.now.instance.now incumbent.old }
+        ensures closed { IfOk result (λ closes. IsTrue closes → ReachesTrivially self.now.instance.now self.now.duals.now.scale incumbent.new.cost level.old.form) }
+        ensures form { level.new.form ≡ level.old.form }
+        ensures incumbent { IsIncumbent self.now.instance.now incumbent.new }
+        ensures no_worse { incumbent.new.cost ≤ℤ incumbent.old.cost }
+    {
+        if level.closes_trivially(self.threshold(incumbent))? {
+            return Ok(true);
+        }
+        if level.form.free() > 0 {
+            return Ok(false);
+        }
+        self.finish(level, path, incumbent)?;
+        Ok(true)
+    }
+
+    /// Whether the value of the node that the path leads to closes it once a line is drawn; or it is a permutation, by which the
+    /// incumbent is improved then.
+    pub fn closes_by_value(
+        &self,
+        level: &Level,
+        path: &Path,
+        incumbent: &mut Incumbent,
+    ) -> Result<bool, AllocError>
+        requires node { IsNode self.now.instance.now self.now.duals.now self.now.step path.now level.now.form }
+        requires incumbent { IsIncumbent self.now.instance.now incumbent.old }
+        ensures closed { IfOk result (λ closes. IsTrue closes → Reaches self.now.instance.now self.now.duals.now.scale incumbent.new.cost level.now.form.value) }
+        ensures left { IfOk result (λ closes. closes ≡ false → 0 < count_of level.now.form) }
+        ensures incumbent { IsIncumbent self.now.instance.now incumbent.new }
+        ensures no_worse { incumbent.new.cost ≤ℤ incumbent.old.cost }
+    {
+        if level.form.closes(self.threshold(incumbent)) {
+            return Ok(true);
+        }
+        if level.form.free() > 0 {
+            return Ok(false);
+        }
+        self.finish(level, path, incumbent)?;
+        Ok(true)
+    }
+
+    /// Whether the node that the path leads to is closed, by either test. Where it isn't, its line is drawn.
     pub fn closes(
         &self,
         level: &mut Level,
@@ -175,26 +207,16 @@ impl Ground<'_> {
         requires first { level.old.form.is_lined ≡ false }
         requires incumbent { IsIncumbent self.now.instance.now incumbent.old }
         ensures closed { IfOk result (λ closes. IsTrue closes → IsClosed self.now.instance.now path.now incumbent.new.cost) }
-        ensures left { IfOk result (λ closes. closes ≡ false → 0 < count_of level.new.form) }
-        ensures least { IfOk result (λ closes. closes ≡ false → IsNonNegative level.new.form) }
-        ensures node { IfOk result (λ closes. closes ≡ false → IsNode self.now.instance.now self.now.duals.now self.now.step path.now level.new.form) }
-        ensures same { IfOk result (λ closes. closes ≡ false → count_of level.new.form ≡ count_of level.old.form) }
+        ensures left { IfOk result (λ closes. closes ≡ false → IsDrawn level.old.form level.new.form level.new.u.items) }
         ensures incumbent { IsIncumbent self.now.instance.now incumbent.new }
         ensures no_worse { incumbent.new.cost ≤ℤ incumbent.old.cost }
     {
-        let threshold = self.threshold(incumbent);
-        if level.closes_trivially(threshold)? {
+        if self.closes_at_once(level, path, incumbent)? {
             return Ok(true);
         }
-        level.draw_line(threshold)?;
-        if level.closes(threshold) {
-            return Ok(true);
-        }
-        if level.form.free() > 0 {
-            return Ok(false);
-        }
-        self.finish(level, path, incumbent)?;
-        Ok(true)
+        level.draw_line(self.threshold(incumbent))?;
+        let closes = self.closes_by_value(level, path, incumbent)?;
+        Ok(closes)
     }
 
     /// Improves the incumbent by the permutation that a node with no free facility is, where that costs less.
@@ -207,10 +229,12 @@ impl Ground<'_> {
         requires node { IsNode self.now.instance.now self.now.duals.now self.now.step path.now level.now.form }
         requires whole { count_of level.now.form ≡ 0 }
         requires incumbent { IsIncumbent self.now.instance.now incumbent.old }
-        ensures closed { OnOk result (IsClosed self.now.instance.now path.now incumbent.new.cost) }
+        ensures closed { OnOk result (Reaches self.now.instance.now self.now.duals.now.scale incumbent.new.cost level.now.form.value) }
         ensures incumbent { IsIncumbent self.now.instance.now incumbent.new }
         ensures no_worse { incumbent.new.cost ≤ℤ incumbent.old.cost }
     {
+        // Its clause says that the scale is positive.
+        let _free = self.duals.free();
         let candidate = path.completion()?;
         incumbent.offer(self.instance, candidate);
         Ok(())

@@ -1,13 +1,10 @@
 //! What a search keeps of a node on its way.
 
-ghost use Rattle.std.specs.Prelude.{◌≡◌, ◌^◌, ◌≤◌, ℕ, IfOk, IsTrue, OnOk, false, length, unsigned_abs};
-ghost use Rattle.qap_cost.specs.Instance.{Problem};
-ghost use Rattle.qap_cost.specs.Placement.{Placement, IsPlacement};
-ghost use Rattle.pair_duals.specs.PairDuals.{Duals};
-ghost use Rattle.pair_duals.specs.Reduced.{IsFormOf, IsNonNegative, count_of};
-ghost use Rattle.subtree_search.specs.Closed.{Exceeds};
-ghost use Rattle.subtree_search.specs.Premises.{limits_of_64};
+ghost use Rattle.std.specs.Prelude.{◌≡◌, ◌^◌, ◌≤◌, IfOk, OnOk, false, length, unsigned_abs};
 ghost use Rattle.qap_cost.specs.Range.{AllWithin};
+ghost use Rattle.pair_duals.specs.Reduced.{IsLine, count_of};
+ghost use Rattle.subtree_search.specs.Closed.{HasLeast};
+ghost use Rattle.subtree_search.specs.Premises.{limits_of_64};
 
 use dual_ascent::{Assigner, Matching};
 use pair_duals::Reduced;
@@ -97,10 +94,17 @@ impl Level {
         }
     }
 
-    /// Whether the least numbers of rows and columns close the node.
+    /// The numbers of rows: of the last trivial test, or of the line that was drawn.
+    pub fn u(&self) -> &[i64]
+        ensures { result.now ≡ self.now.u.items }
+    {
+        &self.u
+    }
+
+    /// Whether the value with the least numbers of rows and columns is above the threshold.
     pub fn closes_trivially(&mut self, threshold: i128) -> Result<bool, AllocError>
         ensures form { self.new.form ≡ self.old.form }
-        ensures closes { IfOk result (λ closes. IsTrue closes → Exceeds self.old.form threshold) }
+        ensures least { IfOk result (HasLeast self.old.form threshold) }
     {
         let m = self.form.free();
         self.u.resize(m, 0)?;
@@ -111,22 +115,13 @@ impl Level {
         Ok(closes)
     }
 
-    /// Whether its value, once a line is drawn, closes the node.
-    pub fn closes(&self, threshold: i128) -> bool
-        requires { IsNonNegative self.now.form }
-        ensures { IsTrue result → Exceeds self.now.form threshold }
-    {
-        let closes = self.form.closes(threshold);
-        closes
-    }
-
     /// Draws a line by the duals of a least assignment, which are sought from those of the last trivial test, and no further than
     /// it takes to exceed the threshold.
     pub fn draw_line(&mut self, threshold: i128) -> Result<(), AllocError>
         requires { self.old.form.is_lined ≡ false }
-        ensures count { OnOk result (count_of self.new.form ≡ count_of self.old.form) }
-        ensures least { OnOk result (IsNonNegative self.new.form) }
-        ensures form { OnOk result ((I : Problem) (D : Duals) (y : Placement) → IsPlacement y → IsFormOf I D y self.old.form → IsFormOf I D y self.new.form) }
+        ensures count { OnOk result (length self.new.u.items ≡ count_of self.old.form) }
+        ensures range { OnOk result (AllWithin limits_of_64.dual self.new.u.items) }
+        ensures line { OnOk result (IsLine self.old.form self.new.form self.new.u.items self.new.v.items) }
     {
         let m = self.form.free();
         self.u.resize(m, 0)?;

@@ -8,6 +8,7 @@ ghost use Rattle.pair_duals.specs.Reduced.{IsNonNegative, count_of};
 ghost use Rattle.pair_duals.specs.Seats.{child_at};
 ghost use Rattle.subtree_search.specs.Best.{IsIncumbent};
 ghost use Rattle.subtree_search.specs.Closed.{IsClosed};
+ghost use Rattle.subtree_search.specs.Drawn.{IsDrawn};
 ghost use Rattle.subtree_search.specs.Opens.{Adds, Becomes, IsOpen, IsSettled};
 ghost use Rattle.subtree_search.specs.Premises.{AreSound, AreSymmetries, IsNode, limits_of_64};
 
@@ -16,6 +17,7 @@ use crate::incumbent::Incumbent;
 use crate::level::Level;
 use crate::outcome::Outcome;
 use crate::path::Path;
+use crate::record::Silent;
 use crate::search::{Subtree, SubtreeSearch, Task, explore_children, make_room, step_within};
 use crate::stop::Stop;
 use qap_cost::Partial;
@@ -186,7 +188,7 @@ fn try_child<S: Stop>(
     ensures no_worse { incumbent.new.cost ≤ℤ incumbent.old.cost }
 {
     let (h, g) = place;
-    if task.ground.prunes(level, path, incumbent, h, g) {
+    if task.ground.prunes(level, incumbent, h, g) {
         return Ok(None);
     }
     *nodes = nodes.saturating_add(1);
@@ -216,8 +218,7 @@ fn try_node<S: Stop>(
     requires symmetries { AreSymmetries task.now.ground.now.instance.now task.now.ground.now.flows.now task.now.ground.now.distances.now }
     requires incumbent { IsIncumbent task.now.ground.now.instance.now incumbent.old }
     ensures closed { IfOk result (λ closed. IsTrue closed → IsClosed task.now.ground.now.instance.now path.old incumbent.new.cost) }
-    ensures node { IfOk result (λ closed. closed ≡ false → IsNode task.now.ground.now.instance.now task.now.ground.now.duals.now task.now.ground.now.step path.old level.new.form) }
-    ensures least { IfOk result (λ closed. closed ≡ false → IsNonNegative level.new.form) }
+    ensures drawn { IfOk result (λ closed. closed ≡ false → IsDrawn level.old.form level.new.form level.new.u.items) }
     ensures path { OnOk result (path.new ≡ path.old) }
     ensures incumbent { IsIncumbent task.now.ground.now.instance.now incumbent.new }
     ensures no_worse { incumbent.new.cost ≤ℤ incumbent.old.cost }
@@ -240,7 +241,7 @@ fn try_node<S: Stop>(
         limit: nodes.saturating_add(most),
         stop: task.stop,
     };
-    match explore_children(&trial, level, deeper, path, incumbent, nodes)? {
+    match explore_children(&trial, level, deeper, path, incumbent, nodes, &mut Silent)? {
         Outcome::Closed => Ok(true),
         _ => Ok(false),
     }

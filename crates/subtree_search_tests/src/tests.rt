@@ -10,7 +10,7 @@ use qap_symmetry::{Table, symmetries_of};
 use std::alloc::{AllocError, Global};
 use std::process::Abort;
 use std::test::Fail;
-use subtree_search::{Incumbent, Never, OpenChild, Outcome, Stop, Subtree, SubtreeSearch};
+use subtree_search::{Incumbent, Never, OpenChild, Outcome, Silent, Stop, Subtree, SubtreeSearch};
 
 /// Stops a search as soon as it asks.
 #[derive(Clone, Copy, Debug)]
@@ -161,7 +161,7 @@ fn search_below<S: Stop>(
         distances: &distances.permutations,
     };
     let mut search = SubtreeSearch::new(alloc);
-    let outcome = search.search(&subtree, &mut incumbent, limit, stop)?;
+    let outcome = search.search(&subtree, &mut incumbent, limit, stop, &mut Silent)?;
     assert_eq!(rt; incumbent.permutation().len(), instance.size());
     assert_eq!(rt; incumbent.cost(), cost(instance, incumbent.permutation()));
     Ok(Found {

@@ -15,6 +15,7 @@ yes_decides = (λ _. tt, λ _. refl)
 no_decides : Decides false ⊥
 no_decides = (λ e. false≢true e, λ h. absurd h)
 
+-- a pattern is found to match a field if and only if it does
 pub Decides-does_field_match : (p : PatternValue) (f : FieldValue) → Decides (does_field_match p f) (FieldMatches p f)
 Decides-does_field_match (actual wanted) f = Decides-field_eq wanted f
 Decides-does_field_match any_number (number n) = yes_decides
@@ -22,6 +23,7 @@ Decides-does_field_match any_word (word bytes) = yes_decides
 Decides-does_field_match any_numbers (numbers ns) = yes_decides
 Decides-does_field_match _ _ = no_decides
 
+-- the same for the patterns of a template and the fields of a tuple
 pub Decides-does_match : (ps : List PatternValue) (fs : List FieldValue) → Decides (does_match ps fs) (Matches ps fs)
 Decides-does_match [] [] = yes_decides
 Decides-does_match [] (f ∷ fs) = no_decides

@@ -43,9 +43,11 @@ field_eq-refl (number m) = (Decides-int_eq m m).1 refl
 field_eq-refl (word s) = (bytes_eq-Decides s s).1 refl
 field_eq-refl (numbers ms) = (slice_eq-Decides Decides-int_eq ms ms (pointwise int_eq ms ms) refl).1 refl
 
+-- `==` at two fields is true if and only if they are equal
 pub Decides-field_eq : (x y : FieldValue) → Decides (field_eq x y) (x ≡ y)
 Decides-field_eq x y = (same_from_field_eq x y, λ e. subst (λ (z : FieldValue). field_eq x z ≡ true) e (field_eq-refl x))
 
+-- `==` at two tuples is true if and only if they are equal
 pub Decides-tuple_eq : (xs ys : List FieldValue) → Decides (tuple_eq xs ys) (xs ≡ ys)
 Decides-tuple_eq xs ys = slice_eq-Decides Decides-field_eq xs ys (tuple_eq xs ys) refl
 
@@ -57,14 +59,18 @@ equivalence_from_Decides E d = record {
   congr = λ x y z h. ap (λ w. E w z) ((d x y).0 h);
 }
 
+-- `==` at fields is an equivalence
 pub field_eq_equiv : IsEquivalence field_eq
 field_eq_equiv = equivalence_from_Decides field_eq Decides-field_eq
 
+-- it is a partial equivalence, as `PartialEq` asks
 pub field_eq_per : IsPartialEquivalence field_eq
 field_eq_per = partial_equiv_from_equiv field_eq_equiv
 
+-- `==` at tuples is an equivalence
 pub tuple_eq_equiv : IsEquivalence tuple_eq
 tuple_eq_equiv = equivalence_from_Decides tuple_eq Decides-tuple_eq
 
+-- it is a partial equivalence, as `PartialEq` asks
 pub tuple_eq_per : IsPartialEquivalence tuple_eq
 tuple_eq_per = partial_equiv_from_equiv tuple_eq_equiv

@@ -21,7 +21,7 @@ pub fn matches(template: &Template, tuple: &Tuple) -> bool
     rows_match(template.patterns(), tuple.fields())
 }
 
-/// The test `does_match` by which contracts count and keep tuples answers yes just where template and tuple match.
+/// The test `does_match` by which contracts count and keep tuples answers yes if and only if template and tuple match.
 pub fn does_match_law()
     ensures { (template : List PatternValue) (tuple : List FieldValue) →
         IsTrue (does_match template tuple) ↔ Matches template tuple }

@@ -9,7 +9,8 @@ use crate::fields::Field;
 use std::alloc::{AllocError, Global};
 use std::sync::Arc;
 
-/// Fields that a tuple has for itself, or that several tuples share: in a list, or so many in one block, with where its memory is from.
+/// Fields that a tuple has for itself, or that several tuples share: in a list, or this many in one block, with where
+/// its memory is from.
 #[derive(Drop)]
 pub(crate) enum Row {
     Own(Vec<Field>),

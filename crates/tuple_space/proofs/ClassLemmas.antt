@@ -111,5 +111,6 @@ as_many class (e ∷ es) up ns rising same =
     (λ other. (let with = whole false other in let these = rest ns rising (λ n. same n ∙ passed_over class n e es other) in omega (arith, with, these)))
     (cases_Bool (has_class class e.tuple))
 
+-- under a class stand as many numbers as there are entries whose tuples are of it
 pub class_counted : (class : Class) (buckets : List Bucket) (entries : List Entry) → AreIndexed buckets entries → IsRising entries → length (numbers_of class buckets) ≡ count_by (λ (e : Entry). has_class class e.tuple) entries
 class_counted class buckets entries indexed up = as_many class entries up (numbers_of class buckets) (indexed.rising class) (indexed.exact class)

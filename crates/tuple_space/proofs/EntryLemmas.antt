@@ -21,9 +21,11 @@ Differ h k = h.by ≢ k.by
 abbrev pub IsOnce : List Hold → Type 0
 IsOnce holds = AllPairs Differ holds
 
+-- where nobody holds twice, the first holder differs from those behind it
 pub once_head : (h : Hold) (hs : List Hold) → IsOnce (h ∷ hs) → All (Differ h) hs
 once_head h hs o = λ k d lt. o 0 (suc k) d (omega arith) (omega arith)
 
+-- and none of those holds twice
 pub once_tail : (h : Hold) (hs : List Hold) → IsOnce (h ∷ hs) → IsOnce hs
 once_tail h hs o = λ i j d below within. o (suc i) (suc j) d (omega arith) (omega arith)
 
@@ -51,6 +53,7 @@ stays_later Never other e = refl
 stays_later (At n) Never e = refl
 stays_later (At n) (At m) e = e
 
+-- an entry whose lease ends at the later of its end and another
 pub IsEntry-end : (end : LeaseEnd) (e : Entry) → IsEntry e → IsEntry (with_end end e)
 IsEntry-end end e h = record {
   once = h.once;

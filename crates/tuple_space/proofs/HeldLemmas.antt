@@ -24,6 +24,7 @@ use Rattle.tuple_space.specs.declared.lease.Lease.{Lease}
 use Rattle.tuple_space.specs.declared.write.Write.{Write}
 use Rattle.tuple_space.proofs.RowLemmas.{HasNone, any_none, number_none, passes_at, rising_head, rising_tail}
 
+-- an entry that the holder holds has its number among these
 abbrev pub IsNoted : ℕ → List ℕ → Entry → Type 0
 IsNoted holder numbers e = is_held_by holder e ≡ true → is_among e.number numbers ≡ true
 
@@ -31,6 +32,7 @@ IsNoted holder numbers e = is_held_by holder e ≡ true → is_among e.number nu
 pub numbers_mine : (holder : ℕ) (r : Held) (rs : List Held) → eqb r.by holder ≡ true → numbers_by holder (r ∷ rs) ≡ r.entry ∷ numbers_by holder rs
 numbers_mine holder r rs mine = ap (map (λ (x : Held). x.entry)) (cond-true (eqb r.by holder) (r ∷ filter (λ (x : Held). eqb x.by holder) rs) (filter (λ (x : Held). eqb x.by holder) rs) mine)
 
+-- the first row is not the holder's
 pub numbers_other : (holder : ℕ) (r : Held) (rs : List Held) → eqb r.by holder ≡ false → numbers_by holder (r ∷ rs) ≡ numbers_by holder rs
 numbers_other holder r rs other = ap (map (λ (x : Held). x.entry)) (cond-false (eqb r.by holder) (r ∷ filter (λ (x : Held). eqb x.by holder) rs) (filter (λ (x : Held). eqb x.by holder) rs) other)
 
@@ -155,6 +157,7 @@ holds_at holder (e ∷ es) (suc i) d lt held =
     let n = (get_or es i d).number in
     or_right (eqb e.number n && is_held_by holder e) (holds_number holder n es) (holds_at holder es i d (omega arith) held)
 
+-- the number of each entry that a holder holds is among those of the holder
 pub held_each : (holder : ℕ) (numbers : List ℕ) (es : List Entry) → HasHeldBy holder numbers es → All (IsNoted holder numbers) es
 held_each holder numbers es h = λ k d lt held. h.exact (get_or es k d).number ∙ holds_at holder es k d lt held
 
@@ -225,6 +228,7 @@ pub gone_free : (live held : Bool) → (live || held) ≡ false → held ≡ fal
 gone_free true held none = absurd (false≢true (sym none))
 gone_free false held none = none
 
+-- an entry that isn't there is held by nobody
 pub there_free : (moment : ℕ) (es : List Entry) → All (λ (e : Entry). is_there moment e ≡ false → (holder : ℕ) → is_held_by holder e ≡ false) es
 there_free moment es = λ k d lt gone holder. (let e = get_or es k d in nobody holder e.holds (gone_free (is_live moment e.end) (is_held e) gone))
 
@@ -383,6 +387,7 @@ held_put rows w tuple lease h = record {
         list_any-append (λ (e : Entry). eqb e.number n && is_held_by holder e) w.entries (new ∷ [])
         ∙ ap (λ b. holds_number holder n w.entries || (b || false)) (and_false (eqb (w.last + 1) n)) ∙ or_false (holds_number holder n w.entries)
 
+-- the same for several writes
 pub held_put_each : (rows : List Held) (w : SpaceValue) (writes : List Write) → HasHeld rows w.entries → HasHeld rows (put_each w writes).entries
 held_put_each rows w [] h = h
 held_put_each rows w (x ∷ xs) h =
@@ -540,6 +545,7 @@ shared_at holder (e ∷ es) (suc i) d lt shared =
     let n = (get_or es i d).number in
     or_right (eqb e.number n && is_shared holder e) (passes_at n (is_shared holder) es) (shared_at holder es i d (omega arith) shared)
 
+-- where none of a holder's rows is of an entry that it shares, it shares none
 pub none_shared : (holder : ℕ) (rows : List Held) (es : List Entry) → HasHeld rows es → All (λ (r : Held). r.by ≡ holder → passes_at r.entry (is_shared holder) es ≡ false) rows
     → All (λ (e : Entry). is_shared holder e ≡ false) es
 none_shared holder rows es h none = λ k d lt.

@@ -22,8 +22,8 @@ use Rattle.tuple_match.proofs.Deciding.{Decides-does_match}
 use Rattle.tuple_space.specs.Entry.{is_open, is_there}
 use Rattle.tuple_space.specs.Wanted.{is_wanted}
 use Rattle.tuple_space.specs.Held.{AreRising, is_among}
-use Rattle.tuple_space.specs.Index.{AreIndexed, AreOnce, AreOrdered, AreSame, AreUpTo, Class, HasNoneWanted, IsAdded, IsDropped, IsUnwanted, first_word, has_class, is_dropped, is_next, is_numbered, is_of, is_put, is_to_be, is_word, key, last_after, list_at, numbers_of, second_length, sought_word}
-use Rattle.tuple_space.proofs.RowLemmas.{HasNone, any_place, found_at, none_head, none_tail, only_at, rising_head, rising_tail}
+use Rattle.tuple_space.specs.Index.{AreIndexed, AreOnce, AreOrdered, AreSame, AreUpTo, Class, HasNoneWanted, IsAdded, IsDropped, IsUnwanted, first_word, has_class, is_next, is_numbered, is_of, is_put, is_to_be, is_word, key, last_after, list_at, numbers_of, second_length, sought_word}
+use Rattle.tuple_space.proofs.RowLemmas.{HasNone, any_place, found_at, only_at}
 use Rattle.tuple_space.specs.Lease.{granted}
 use Rattle.tuple_space.specs.Rows.{IsRising, without}
 use Rattle.tuple_space.specs.Space.{SpaceValue, put}
@@ -97,6 +97,7 @@ filter_above n (m ∷ ns) h =
     cond-true (not (eqb m n)) (m ∷ filter (λ k. not (eqb k n)) ns) (filter (λ k. not (eqb k n)) ns) (ap not (ne_eqb m n (All-head P m ns h)))
     ∙ ap (λ l. m ∷ l) (filter_above n ns (All-tail P m ns h))
 
+-- of rising numbers, taking out the one at a place takes out that number and no other
 pub number_removed : (ns : List ℕ) (i n : ℕ) → AreRising ns → i < length ns → get_or ns i 0 ≡ n → remove ns i ≡ filter (λ m. not (eqb m n)) ns
 number_removed [] i n rising lt is = absurd (omega arith)
 number_removed (m ∷ ns) zero n rising lt is =
@@ -108,6 +109,7 @@ number_removed (m ∷ ns) (suc i) n rising lt is =
     ap (λ l. m ∷ l) (number_removed ns i n (λ j k d below within. rising (suc j) (suc k) d (omega arith) (omega arith)) (omega arith) is)
     ∙ sym (cond-true (not (eqb m n)) (m ∷ filter (λ k. not (eqb k n)) ns) (filter (λ k. not (eqb k n)) ns) (ap not (ne_eqb m n (λ same. omega arith))))
 
+-- where the numbers before a place are below one and the others above it, there is none to take out
 pub number_absent : (ns : List ℕ) (n i : ℕ) → ((k : ℕ) → k < i → get_or ns k 0 < n) → ((k : ℕ) → i ≤ k → k < length ns → n < get_or ns k 0) → ns ≡ filter (λ m. not (eqb m n)) ns
 number_absent ns n i below above = sym (filter_above n ns (λ k d lt same.
     let at : get_or ns k d ≡ get_or ns k 0 = get_or_default ns k d 0 lt in
@@ -116,6 +118,7 @@ number_absent ns n i below above = sym (filter_above n ns (λ k d lt same.
     (λ after. let more = above k (omega arith) lt in absurd (omega arith))
     (cases_lt k i)))
 
+-- of rising numbers, none is above one at a later place
 pub rises_at : (ns : List ℕ) → AreRising ns → (i j : ℕ) → i ≤ j → j < length ns → get_or ns i 0 ≤ get_or ns j 0
 rises_at ns rising i j le lt = ⊎_elim
     (λ less. let more = rising i j 0 less lt in omega arith)
@@ -129,11 +132,13 @@ list_at_push [] (suc l) v none = refl
 list_at_push (x ∷ xs) zero v none = refl
 list_at_push (x ∷ xs) (suc l) v none = list_at_push xs l v none
 
+-- the list written at a place stands under its length
 pub list_at_set : (ls : List (Vec ℕ)) (i : ℕ) (v : Vec ℕ) → i < length ls → list_at i (set ls i v) ≡ v.items
 list_at_set [] i v lt = absurd (omega arith)
 list_at_set (x ∷ xs) zero v lt = refl
 list_at_set (x ∷ xs) (suc i) v lt = list_at_set xs i v (omega arith)
 
+-- and the lists under other lengths stay
 pub list_at_other : (ls : List (Vec ℕ)) (i l : ℕ) (v : Vec ℕ) → l ≢ i → list_at l (set ls i v) ≡ list_at l ls
 list_at_other [] i l v ne = refl
 list_at_other (x ∷ xs) zero zero v ne = absurd (ne refl)
@@ -141,11 +146,13 @@ list_at_other (x ∷ xs) zero (suc l) v ne = refl
 list_at_other (x ∷ xs) (suc i) zero v ne = refl
 list_at_other (x ∷ xs) (suc i) (suc l) v ne = list_at_other xs i l v (λ e. ne (ap suc e))
 
+-- under a length stands the list at that place
 pub list_at_is : (ls : List (Vec ℕ)) (i : ℕ) (x : Vec ℕ) → i < length ls → x ≡ get_or ls i x → list_at i ls ≡ x.items
 list_at_is [] i x lt is = absurd (omega arith)
 list_at_is (y ∷ ys) zero x lt is = ap (λ (v : Vec ℕ). v.items) (sym is)
 list_at_is (y ∷ ys) (suc i) x lt is = list_at_is ys i x (omega arith) is
 
+-- beyond the last list there are no numbers
 pub list_at_past : (ls : List (Vec ℕ)) (l : ℕ) → length ls ≤ l → list_at l ls ≡ []
 list_at_past [] l le = refl
 list_at_past (x ∷ xs) zero le = absurd (omega arith)
@@ -175,6 +182,7 @@ keys_push : (bs : List Bucket) (b : Bucket) → map key (bs ++ b ∷ []) ≡ map
 keys_push [] b = refl
 keys_push (x ∷ xs) b = ap (λ l. key x ∷ l) (keys_push xs b)
 
+-- a bucket of a new word and count behind the others leaves no two of the same
 pub once_push : (bs : List Bucket) (b : Bucket) (bytes : List ℕ) (count : ℕ) → b.word.items ≡ bytes → b.count ≡ count → All (λ (x : Bucket). is_of bytes count x ≡ false) bs
     → AreOnce bs → AreOnce (bs ++ b ∷ [])
 once_push bs b bytes count spelled counted none once =
@@ -190,6 +198,7 @@ keys_set [] i b lists is = refl
 keys_set (x ∷ xs) zero b lists is = ap (λ (y : Bucket). key y ∷ map key xs) is
 keys_set (x ∷ xs) (suc i) b lists is = ap (λ l. key x ∷ l) (keys_set xs i b lists is)
 
+-- a bucket given other numbers leaves no two of the same word and count
 pub once_set : (bs : List Bucket) (i : ℕ) (b : Bucket) (lists : Vec (Vec ℕ)) → b ≡ get_or bs i b → AreOnce bs → AreOnce (set bs i (with_lists b lists))
 once_set bs i b lists is once = subst (λ (l : List (List ℕ × ℕ)). AllPairs (λ k j. k ≢ j) l) (sym (keys_set bs i b lists is)) once
 
@@ -220,6 +229,7 @@ other_before k bytes count x xs i b h mine = ⊎_elim
     (λ other. other)
     (cases_Bool (is_of k.word k.count x))
 
+-- the numbers of a class are those that the first bucket of its word and count has at its length
 pub numbers_there : (k : Class) (bytes : List ℕ) (count : ℕ) (bs : List Bucket) (i : ℕ) (b : Bucket) → IsFirstOf bytes count bs i b → is_of k.word k.count b ≡ true
     → numbers_of k bs ≡ list_at k.length b.by_length.items
 numbers_there k bytes count [] i b h mine = let w = h.within in absurd (omega arith)
@@ -273,6 +283,7 @@ classless k tuple none =
 dropped_other : (k : Class) (tuple : List FieldValue) (n : ℕ) (ns : List ℕ) → has_class k tuple ≡ false → ns ≡ filter (λ m. not (has_class k tuple && eqb m n)) ns
 dropped_other k tuple n ns other = sym (ap (λ c. filter (λ m. not (c && eqb m n)) ns) other ∙ filter_all ns)
 
+-- a tuple that begins with no word has no number to take out
 pub dropped_classless : (bs : List Bucket) (tuple : List FieldValue) (n : ℕ) → None ≡ first_word tuple → IsDropped tuple n bs bs
 dropped_classless bs tuple n none = λ k. dropped_other k tuple n (numbers_of k bs) (classless k tuple none)
 
@@ -337,10 +348,12 @@ rising_there bs i b tuple bytes first h rising =
     let k : Class = record { word = bytes; count = length tuple; length = second_length tuple } in
     subst AreRising (numbers_there k bytes (length tuple) bs i b h h.of) (rising k)
 
+-- numbers still rise where one was taken out
 pub dropped_order : (tuple : List FieldValue) (n : ℕ) (old new : List Bucket) → IsDropped tuple n old new → AreOrdered old → AreOrdered new
 dropped_order tuple n old new gone rising = λ k.
     subst AreRising (sym (gone k)) (AllPairs-filter (λ (x y : ℕ). x < y) (λ m. not (has_class k tuple && eqb m n)) (numbers_of k old) (rising k))
 
+-- after a tuple's number is taken out, a class has the numbers that it had, but for that one under the tuple's class
 pub dropped_put : (tuple : List FieldValue) (m : ℕ) (old new : List Bucket) → IsDropped tuple m old new → (k : Class) (n : ℕ)
     → is_put k n new ≡ (is_put k n old && not (has_class k tuple && eqb n m))
 dropped_put tuple m old new gone = λ k n.
@@ -350,6 +363,7 @@ dropped_put tuple m old new gone = λ k n.
     and_swap true b = sym (and_true b)
     and_swap false b = sym (and_false b)
 
+-- after a tuple's number is added, a class has the numbers that it had, and that one under the tuple's class
 pub added_put : (tuple : List FieldValue) (m : ℕ) (old new : List Bucket) → IsAdded tuple m old new → (k : Class) (n : ℕ)
     → is_put k n new ≡ (is_put k n old || (has_class k tuple && eqb n m))
 added_put tuple m old new put = λ k n. ap (is_among n) (put k) ∙ by (has_class k tuple) n (numbers_of k old)
@@ -358,6 +372,7 @@ added_put tuple m old new put = λ k n. ap (is_among n) (put k) ∙ by (has_clas
     by true n ns = among_push n m ns
     by false n ns = ap (is_among n) (append-nil ns) ∙ sym (or_false (is_among n ns))
 
+-- numbers up to one, and a greater one added, rise up to that
 pub added_up : (tuple : List FieldValue) (last m : ℕ) (old new : List Bucket) → last < m → IsAdded tuple m old new → AreUpTo last old → AreUpTo m new
 added_up tuple last m old new less put h = record {
   rising = λ k. subst AreRising (sym (put k)) (rises (has_class k tuple) (numbers_of k old) (h.rising k) (h.most k));
@@ -382,6 +397,7 @@ most_of last n k (e ∷ es) h is =
     (λ rest. most_of last n k es (All-tail P e es h) rest)
     (or_cases (eqb e.number n && has_class k e.tuple) (is_numbered k n es) is)
 
+-- the numbers under the classes of entries rise up to the one last given
 pub indexed_up : (last : ℕ) (bs : List Bucket) (es : List Entry) → All (λ (e : Entry). (0 < e.number) × (e.number ≤ last)) es → AreIndexed bs es → AreUpTo last bs
 indexed_up last bs es numbered h = record {
   rising = h.rising;
@@ -440,6 +456,7 @@ numbered_put k n w tuple lease =
     turned true b = sym (and_true b)
     turned false b = sym (and_false b)
 
+-- buckets index the entries after a tuple was put out and its number added
 pub indexed_put : (old new : List Bucket) (w : SpaceValue) (tuple : List FieldValue) (lease : Lease) → All (λ (e : Entry). (0 < e.number) × (e.number ≤ w.last)) w.entries
     → IsAdded tuple (w.last + 1) old new → AreOnce new → AreIndexed old w.entries → AreIndexed new (put w tuple lease).entries
 indexed_put old new w tuple lease numbered put_there once h = record {
@@ -464,6 +481,7 @@ numbered_put_each k n w (x ∷ xs) =
     joined true b c = refl
     joined false b c = refl
 
+-- the same for several writes
 pub indexed_put_each : (old new : List Bucket) (w : SpaceValue) (writes : List Write) → AreOrdered new → AreOnce new
     → ((k : Class) (n : ℕ) → is_put k n new ≡ (is_put k n old || is_to_be k n w.last writes)) → AreIndexed old w.entries → AreIndexed new (put_each w writes).entries
 indexed_put_each old new w writes rising once there h = record {
@@ -495,6 +513,7 @@ pub to_be_more : (k : Class) (n last next : ℕ) (x : Write) (rest l : List Writ
 to_be_more k n last next x rest l is after =
     ap (is_to_be k n last) is ∙ ap (λ m. is_next k n last x || is_to_be k n m rest) (sym after)
 
+-- what stands there and what is still to be put are the same whole once one more was put
 pub put_more : (new mid here rest l : Bool) (whole : Bool) → l ≡ (here || rest) → new ≡ (mid || here) → (mid || l) ≡ whole → (new || rest) ≡ whole
 put_more new mid here rest l whole is put before = ap (λ b. b || rest) put ∙ joined mid here rest ∙ ap (λ b. mid || b) (sym is) ∙ before
   where
@@ -502,9 +521,11 @@ put_more new mid here rest l whole is put before = ap (λ b. b || rest) put ∙ 
     joined true b c = refl
     joined false b c = refl
 
+-- what follows from all that is to be put follows from what is behind the first
 pub later_more : (here rest l whole : Bool) → l ≡ (here || rest) → (l ≡ true → whole ≡ true) → rest ≡ true → whole ≡ true
 later_more here rest l whole is before later = before (is ∙ or_right here rest later)
 
+-- what stands there but for what is still to go is the same once one more is gone
 pub gone_more : (new mid here rest l : Bool) (whole : Bool) → l ≡ (here || rest) → new ≡ (mid && not here) → (mid && not l) ≡ whole → (new && not rest) ≡ whole
 gone_more new mid here rest l whole is gone before = ap (λ b. b && not rest) gone ∙ joined mid here rest ∙ ap (λ b. mid && not b) (sym is) ∙ before
   where
@@ -543,88 +564,6 @@ indexed_undone old mid new last es writes numbered rising once put_there gone h 
     by true true m e never = absurd (never refl refl)
     by true false m e never = and_false m
     by false o m e never = and_true m ∙ sym (or_false m) ∙ e ∙ or_false o
-
-none_numbered : (k : Class) (n : ℕ) (test : Entry → Bool) (es : List Entry) → HasNone n es
-    → (is_numbered k n es ≡ false) × (is_numbered k n (filter test es) ≡ false) × (is_dropped test k n es ≡ false)
-none_numbered k n test [] none = (refl, refl, refl)
-none_numbered k n test (e ∷ es) none =
-    let rest = none_numbered k n test es (none_tail n e es none) in
-    let other = none_head n e es none in
-    let here : (eqb e.number n && has_class k e.tuple) ≡ false = ap (λ b. b && has_class k e.tuple) other in (
-      ap (λ b. b || is_numbered k n es) here ∙ rest.0,
-      cond_both (test e) (e ∷ filter test es) (filter test es) (λ (l : List Entry). is_numbered k n l ≡ false)
-          (λ t. ap (λ b. b || is_numbered k n (filter test es)) here ∙ rest.1) (λ f. rest.1),
-      ap (λ b. (not (test e) && b) || is_dropped test k n es) here ∙ ap (λ b. b || is_dropped test k n es) (and_false (not (test e))) ∙ rest.2,
-    )
-
-kept_numbered : (k : Class) (n : ℕ) (test : Entry → Bool) (es : List Entry) → IsRising es
-    → (is_numbered k n es && not (is_dropped test k n es)) ≡ is_numbered k n (filter test es)
-kept_numbered k n test [] rising = refl
-kept_numbered k n test (e ∷ es) rising =
-    let rest = kept_numbered k n test es (rising_tail e es rising) in
-    let above = rising_head e es rising in
-    ⊎_elim
-    (λ same.
-    let none = none_numbered k n test es (λ i d lt is. (let less = above i d lt in let at = eqb-true e.number n same in omega arith)) in
-    (tail_case (test e) (eqb e.number n && has_class k e.tuple) (is_numbered k n es) (is_numbered k n (filter test es)) (is_dropped test k n es) none.0 none.1 none.2)
-    ∙ sym (kept_head (test e)))
-    (λ other.
-    let off : (eqb e.number n && has_class k e.tuple) ≡ false = ap (λ b. b && has_class k e.tuple) other in
-    ap (λ b. (b || is_numbered k n es) && not ((not (test e) && b) || is_dropped test k n es)) off
-    ∙ ap (λ b. is_numbered k n es && not (b || is_dropped test k n es)) (and_false (not (test e)))
-    ∙ rest
-    ∙ cond_both (test e) (e ∷ filter test es) (filter test es) (λ (l : List Entry). is_numbered k n (filter test es) ≡ is_numbered k n l)
-    (λ t. sym (ap (λ b. b || is_numbered k n (filter test es)) off)) (λ f. refl))
-    (cases_Bool (eqb e.number n))
-  where
-    kept_head : (t : Bool) → is_numbered k n (cond t (e ∷ filter test es) (filter test es))
-        ≡ cond t ((eqb e.number n && has_class k e.tuple) || is_numbered k n (filter test es)) (is_numbered k n (filter test es))
-    kept_head true = refl
-    kept_head false = refl
-
-    tail_case : (t q here kept gone : Bool) → here ≡ false → kept ≡ false → gone ≡ false → ((q || here) && not ((not t && q) || gone)) ≡ cond t (q || kept) kept
-    tail_case true true here kept gone h k g = ap not g
-    tail_case true false here kept gone h k g = rw (h, k) refl
-    tail_case false true here kept gone h k g = sym k
-    tail_case false false here kept gone h k g = rw (h, k) refl
-
--- the entries that a test drops leave their buckets, where all others stay
-pub indexed_kept : (test : Entry → Bool) (es : List Entry) (old new : List Bucket) → IsRising es → AreOrdered new → AreOnce new
-    → ((k : Class) (n : ℕ) → is_put k n new ≡ (is_put k n old && not (is_dropped test k n es))) → AreIndexed old es → AreIndexed new (filter test es)
-indexed_kept test es old new rising ordered once gone h = record {
-  once = once;
-  rising = ordered;
-  exact = λ k n. gone k n ∙ ap (λ b. b && not (is_dropped test k n es)) (h.exact k n) ∙ kept_numbered k n test es rising;
-}
-
--- one entry's number is taken out where the entry isn't kept
-pub gone_put : (kept : Bool) (tuple : List FieldValue) (m : ℕ) (old new : List Bucket) → kept ≡ false → IsDropped tuple m old new → (k : Class) (n : ℕ)
-    → is_put k n new ≡ (is_put k n old && not (not kept && (eqb m n && has_class k tuple)))
-gone_put kept tuple m old new goes gone = λ k n.
-    dropped_put tuple m old new gone k n
-    ∙ ap (λ b. is_put k n old && not b) (turned (has_class k tuple) (eqb n m) ∙ ap (λ b. b && has_class k tuple) (eqb_swap n m)
-    ∙ sym (ap (λ b. not b && (eqb m n && has_class k tuple)) goes))
-  where
-    turned : (a b : Bool) → (a && b) ≡ (b && a)
-    turned true b = sym (and_true b)
-    turned false b = sym (and_false b)
-
--- the numbers of the entries behind a place that aren't kept are taken out, and those of the ones before them
-pub dropped_none : (test : Entry → Bool) (k : Class) (n : ℕ) (l : List Entry) (b : Bool) → l ≡ [] → b ≡ (b && not (is_dropped test k n l))
-dropped_none test k n l b none = sym (ap (λ (m : List Entry). b && not (is_dropped test k n m)) none ∙ and_true b)
-
-pub dropped_more : (test : Entry → Bool) (k : Class) (n : ℕ) (xs rest l : List Entry) (old mid new : Bool) → l ≡ xs ++ rest → mid ≡ (old && not (is_dropped test k n rest))
-    → new ≡ (mid && not (is_dropped test k n xs)) → new ≡ (old && not (is_dropped test k n l))
-dropped_more test k n xs rest l old mid new is before here =
-    here ∙ ap (λ b. b && not (is_dropped test k n xs)) before
-    ∙ by old (is_dropped test k n rest) (is_dropped test k n xs)
-    ∙ ap (λ b. old && not b) (sym (list_any-append (λ (e : Entry). not (test e) && (eqb e.number n && has_class k e.tuple)) xs rest))
-    ∙ ap (λ (m : List Entry). old && not (is_dropped test k n m)) (sym is)
-  where
-    by : (o r t : Bool) → ((o && not r) && not t) ≡ (o && not (t || r))
-    by false r t = refl
-    by true r true = and_false (not r)
-    by true r false = and_true (not r)
 
 -- what holds of all numbers of a bucket holds of one that is in it
 of_among : (P : ℕ → Type 0) (ns : List ℕ) (n : ℕ) → All P ns → is_among n ns ≡ true → P n
@@ -750,6 +689,7 @@ count_none test (x ∷ xs) h =
     let rest = eqb-true (count_by test xs) 0 (count_none test xs (All-tail P x xs h)) in
     eq-eqb (count_by test (x ∷ xs)) 0 (omega (arith, counted, head, rest))
 
+-- and not 0 where the one at a place passes
 pub count_some : (test : Entry → Bool) (es : List Entry) (i : ℕ) → i < length es → HoldsAt (λ (e : Entry). test e ≡ true) es i → eqb (count_by test es) 0 ≡ false
 count_some test [] i lt here = absurd (omega arith)
 count_some test (x ∷ xs) zero lt here =
@@ -761,6 +701,7 @@ count_some test (x ∷ xs) (suc i) lt here =
     let rest = eqb-false (count_by test xs) 0 (count_some test xs i (omega arith) (λ d. here d)) in
     ne_eqb (count_by test (x ∷ xs)) 0 (λ e. rest (omega (arith, counted)))
 
+-- nor where one that stands among them does
 pub count_stands : (test : Entry → Bool) (es : List Entry) (x : Entry) → Contains es x → test x ≡ true → eqb (count_by test es) 0 ≡ false
 count_stands test es x stands passes = count_some test es stands.0 stands.1 (λ d. ap test (get_or_default es stands.0 d x stands.1 ∙ stands.2) ∙ passes)
 

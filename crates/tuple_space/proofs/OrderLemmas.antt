@@ -307,6 +307,7 @@ kept_entries test (q ∷ qs) = by q.1 refl (kept_entries test qs)
         ap (λ (o : Option Entry). entries_of (cond (holds_one test o) (q ∷ kept) kept)) is
         ∙ tests (test e) e is rest ∙ ap (λ (o : Option Entry). filter test (items_in (o ∷ values_of qs))) (sym is)
 
+-- the places whose entries pass a test hold the entries that pass it
 pub kept_in : (test : Entry → Bool) (ps : List (ℕ × Option Entry)) → AreInPlaces ps → AreWritten (filter (λ p. holds_one test p.1) ps) (filter test (entries_of ps))
 kept_in test ps h = record {
   places = kept_places (λ (p : ℕ × Option Entry). holds_one test p.1) ps h;

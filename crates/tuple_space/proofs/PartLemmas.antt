@@ -19,6 +19,7 @@ use Rattle.tuple_space.specs.declared.hold.Hold.{Hold}
 use Rattle.tuple_space.proofs.HeldLemmas.{held_each, numbers_mine, numbers_other}
 use Rattle.tuple_space.proofs.RowLemmas.{HasNone, IsOnlyAt, changed_place, none_behind, none_head, none_tail, only_tail, other_head, rising_head, rising_tail, same_head, without_place}
 
+-- an item removed from between two parts leaves the two
 pub remove_seam : (front : List Entry) (e : Entry) (behind : List Entry) → remove (front ++ e ∷ behind) (length front) ≡ front ++ behind
 remove_seam [] e behind = refl
 remove_seam (x ∷ front) e behind = ap (λ l. x ∷ l) (remove_seam front e behind)
@@ -65,12 +66,15 @@ each_left false x xs = refl
 pub released_gone : (holder moment : ℕ) (e : Entry) → stays_without holder moment e ≡ false → released holder moment (e ∷ []) ≡ []
 released_gone holder moment e gone = ap (λ b. map (unheld holder) (cond b (e ∷ []) [])) gone
 
+-- an entry that stays is let go by the holder
 pub released_stays : (holder moment : ℕ) (e : Entry) → stays_without holder moment e ≡ true → released holder moment (e ∷ []) ≡ unheld holder e ∷ []
 released_stays holder moment e stays = ap (λ b. map (unheld holder) (cond b (e ∷ []) [])) stays
 
+-- leaving out what a holder took drops an entry that it took
 pub taken_gone : (holder : ℕ) (e : Entry) → is_taken_by holder e ≡ true → without_taken holder (e ∷ []) ≡ []
 taken_gone holder e taken = ap (λ b. cond (not b) (e ∷ []) []) taken
 
+-- and keeps one that it didn't take
 pub taken_stays : (holder : ℕ) (e : Entry) → is_taken_by holder e ≡ false → without_taken holder (e ∷ []) ≡ e ∷ []
 taken_stays holder e stays = ap (λ b. cond (not b) (e ∷ []) []) stays
 
@@ -96,6 +100,7 @@ taken_one : (holder : ℕ) (x : Entry) (b : Bool) → is_taken_by holder x ≡ b
 taken_one holder x true taken = inl (taken_gone holder x taken)
 taken_one holder x false stays = inr (x, taken_stays holder x stays, refl, taken_stays holder x stays)
 
+-- ending a holder's holds is such an edit
 pub release_edits : (holder moment : ℕ) → IsEdit holder (released holder moment)
 release_edits holder moment = record {
   none = refl;
@@ -104,6 +109,7 @@ release_edits holder moment = record {
   one = λ x. released_one holder moment x _ refl;
 }
 
+-- and so is leaving out what it took
 pub taking_edits : (holder : ℕ) → IsEdit holder (without_taken holder)
 taking_edits holder = record {
   none = refl;
@@ -126,11 +132,13 @@ pub entry_at : (es front behind : List Entry) (e x : Entry) (place : ℕ) → es
 entry_at es front behind e x place is at here =
     here ∙ ap (λ l. get_or l place x) is ∙ ap (λ k. get_or (front ++ e ∷ behind) k x) (sym at) ∙ get_or-append_seam front e behind x
 
+-- the entry at a place removed: those before it and those behind it are left
 pub removed_at : (es new front behind : List Entry) (e : Entry) (place : ℕ) → es ≡ front ++ e ∷ behind → length front ≡ place → new ≡ remove es place
     → new ≡ front ++ behind
 removed_at es new front behind e place is at gone =
     gone ∙ ap (λ l. remove l place) is ∙ ap (λ k. remove (front ++ e ∷ behind) k) (sym at) ∙ remove_seam front e behind
 
+-- another entry written in its place, between those before it and those behind it
 pub set_at : (es new front behind : List Entry) (e x : Entry) (place : ℕ) → es ≡ front ++ e ∷ behind → length front ≡ place → new ≡ set es place x
     → new ≡ front ++ x ∷ behind
 set_at es new front behind e x place is at changed =

@@ -20,6 +20,7 @@ pub record IsOnlyAt (number : ℕ) (es : List Entry) (i : ℕ) : Type 0 where
 abbrev pub HasNone : ℕ → List Entry → Type 0
 HasNone number es = All (λ e. e.number ≢ number) es
 
+-- of rising entries, the one at a place alone has its number
 pub only_at : (number : ℕ) (es : List Entry) (i : ℕ) → IsRising es → i < length es → HoldsAt (λ e. e.number ≡ number) es i → IsOnlyAt number es i
 only_at number es i rising within here = record {
   within = within;
@@ -30,6 +31,7 @@ only_at number es i rising within here = record {
       (cases_lt k i);
 }
 
+-- what stands alone behind the first entry stands alone without the first
 pub only_tail : (number : ℕ) (x : Entry) (xs : List Entry) (i : ℕ) → IsOnlyAt number (x ∷ xs) (suc i) → IsOnlyAt number xs i
 only_tail number x xs i h = record {
   within = let w = h.within in omega arith;
@@ -37,26 +39,33 @@ only_tail number x xs i h = record {
   others = λ k d lt ne. h.others (suc k) d (omega arith) (λ e. ne (omega arith));
 }
 
+-- where the first entry alone has the number, none behind it has
 pub none_behind : (number : ℕ) (x : Entry) (xs : List Entry) → IsOnlyAt number (x ∷ xs) zero → HasNone number xs
 none_behind number x xs h = λ k d lt. h.others (suc k) d (omega arith) (λ e. omega arith)
 
+-- where a later entry alone has the number, the first doesn't have it
 pub other_head : (number : ℕ) (x : Entry) (xs : List Entry) (i : ℕ) → IsOnlyAt number (x ∷ xs) (suc i) → eqb x.number number ≡ false
 other_head number x xs i h = ne_eqb _ _ (h.others zero x (omega arith) (λ e. omega arith))
 
+-- where the first entry alone has the number, it does have it
 pub same_head : (number : ℕ) (x : Entry) (xs : List Entry) → IsOnlyAt number (x ∷ xs) zero → eqb x.number number ≡ true
 same_head number x xs h = eq-eqb _ _ (h.here x)
 
+-- where no entry has the number, the first doesn't
 pub none_head : (number : ℕ) (x : Entry) (xs : List Entry) → HasNone number (x ∷ xs) → eqb x.number number ≡ false
 none_head number x xs h = ne_eqb _ _ (All-head (λ (e : Entry). e.number ≢ number) x xs h)
 
+-- and none behind it does
 pub none_tail : (number : ℕ) (x : Entry) (xs : List Entry) → HasNone number (x ∷ xs) → HasNone number xs
 none_tail number x xs h = All-tail (λ (e : Entry). e.number ≢ number) x xs h
 
+-- where no entry has the number, there is none to leave out
 pub without_none : (number : ℕ) (es : List Entry) → HasNone number es → without number es ≡ es
 without_none number [] h = refl
 without_none number (x ∷ xs) h =
     cond-true (not (eqb x.number number)) _ _ (ap not (none_head number x xs h)) ∙ ap (λ l. x ∷ l) (without_none number xs (none_tail number x xs h))
 
+-- the entry that alone has the number is left out by removing it
 pub without_place : (number : ℕ) (es : List Entry) (i : ℕ) → IsOnlyAt number es i → remove es i ≡ without number es
 without_place number [] i h = let w = h.within in absurd (omega arith)
 without_place number (x ∷ xs) zero h =
@@ -65,12 +74,14 @@ without_place number (x ∷ xs) (suc i) h =
     ap (λ l. x ∷ l) (without_place number xs i (only_tail number x xs i h))
     ∙ sym (cond-true (not (eqb x.number number)) _ _ (ap not (other_head number x xs i h)))
 
+-- where no entry has the number, there is none to change
 pub changed_none : (number : ℕ) (change : Entry → Entry) (es : List Entry) → HasNone number es → changed number change es ≡ es
 changed_none number change [] h = refl
 changed_none number change (x ∷ xs) h =
     ap (λ y. y ∷ changed number change xs) (cond-false (eqb x.number number) (change x) x (none_head number x xs h))
     ∙ ap (λ l. x ∷ l) (changed_none number change xs (none_tail number x xs h))
 
+-- the entry that alone has the number is changed by writing over it
 pub changed_place : (number : ℕ) (change : Entry → Entry) (es : List Entry) (i : ℕ) (x : Entry) → IsOnlyAt number es i → x ≡ get_or es i x → set es i (change x) ≡ changed number change es
 changed_place number change [] i x h is = let w = h.within in absurd (omega arith)
 changed_place number change (y ∷ ys) zero x h is =
@@ -81,11 +92,13 @@ changed_place number change (y ∷ ys) (suc i) x h is =
     ap (λ l. y ∷ l) (changed_place number change ys i x (only_tail number y ys i h) is)
     ∙ sym (ap (λ z. z ∷ changed number change ys) (cond-false (eqb y.number number) (change y) y (other_head number y ys i h)))
 
+-- where no entry has the number, none is found by it
 pub find_none : (number : ℕ) (es : List Entry) → HasNone number es → None ≡ find (λ (e : Entry). eqb e.number number) es
 find_none number [] h = refl
 find_none number (x ∷ xs) h =
     find_none number xs (none_tail number x xs h) ∙ sym (cond-false (eqb x.number number) _ _ (none_head number x xs h))
 
+-- the entry that alone has the number is found by it
 pub find_place : (number : ℕ) (es : List Entry) (i : ℕ) (x : Entry) → IsOnlyAt number es i → x ≡ get_or es i x → Some x ≡ find (λ (e : Entry). eqb e.number number) es
 find_place number [] i x h is = let w = h.within in absurd (omega arith)
 find_place number (y ∷ ys) zero x h is = ap Some is ∙ sym (cond-true (eqb y.number number) _ _ (same_head number y ys h))
@@ -102,11 +115,13 @@ find_nothing number (x ∷ xs) none = by (eqb x.number number) none (find_nothin
     by true e h = absurd (none-some x (sym e))
     by false e h = ap (λ l. x ∷ l) (h e)
 
+-- where the first applies and nothing passes behind it, its test decides
 pub by_head : (a t r : Bool) → a ≡ true → r ≡ false → ((a && t) || r) ≡ t
 by_head true true r e f = refl
 by_head true false r e f = f
 by_head false t r e f = absurd (false≢true e)
 
+-- where the first doesn't apply, what is behind it decides
 pub by_tail : (a t r : Bool) → a ≡ false → ((a && t) || r) ≡ r
 by_tail true t r e = absurd (false≢true (sym e))
 by_tail false t r e = refl
@@ -115,11 +130,13 @@ by_tail false t r e = refl
 abbrev pub passes_at : ℕ → (Entry → Bool) → List Entry → Bool
 passes_at number test es = list_any (λ e. eqb e.number number && test e) es
 
+-- where no entry has the number, none passes a test
 pub any_none : (number : ℕ) (test : Entry → Bool) (es : List Entry) → HasNone number es → passes_at number test es ≡ false
 any_none number test [] h = refl
 any_none number test (x ∷ xs) h =
     by_tail (eqb x.number number) (test x) (passes_at number test xs) (none_head number x xs h) ∙ any_none number test xs (none_tail number x xs h)
 
+-- the entry that alone has the number decides whether one passes
 pub any_place : (number : ℕ) (test : Entry → Bool) (es : List Entry) (i : ℕ) (x : Entry) → IsOnlyAt number es i → x ≡ get_or es i x → passes_at number test es ≡ test x
 any_place number test [] i x h is = let w = h.within in absurd (omega arith)
 any_place number test (y ∷ ys) zero x h is =
@@ -127,9 +144,11 @@ any_place number test (y ∷ ys) zero x h is =
 any_place number test (y ∷ ys) (suc i) x h is =
     by_tail (eqb y.number number) (test y) (passes_at number test ys) (other_head number y ys i h) ∙ any_place number test ys i x (only_tail number y ys i h) is
 
+-- of rising entries, the first has a smaller number than those behind it
 pub rising_head : (x : Entry) (xs : List Entry) → IsRising (x ∷ xs) → All (λ (y : Entry). x.number < y.number) xs
 rising_head x xs h = λ k d lt. h 0 (suc k) d (omega arith) (omega arith)
 
+-- and those rise
 pub rising_tail : (x : Entry) (xs : List Entry) → IsRising (x ∷ xs) → IsRising xs
 rising_tail x xs h = λ i j d below within. h (suc i) (suc j) d (omega arith) (omega arith)
 
@@ -177,6 +196,7 @@ pub record FoundAt (number : ℕ) (es : List Entry) (x : Entry) : Type 0 where
   pub is : x ≡ get_or es place x
   pub own : x.number ≡ number
 
+-- an entry found by a number stands at a place and alone has it
 pub found_at : (number : ℕ) (es : List Entry) (x : Entry) → IsRising es → Some x ≡ find (λ (e : Entry). eqb e.number number) es → FoundAt number es x
 found_at number [] x rising h = absurd (none-some x (sym h))
 found_at number (y ∷ ys) x rising h = ⊎_elim

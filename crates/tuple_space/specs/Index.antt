@@ -43,9 +43,11 @@ pub record Class : Type 0 where
   pub count : ℕ
   pub length : ℕ
 
+-- the class of this first word, this count of fields and this length of the second field
 abbrev pub class_of : List ℕ → ℕ → ℕ → Class
 class_of bytes count numbered = record { word = bytes; count = count; length = numbered }
 
+-- there is a first word, and it is the one sought
 abbrev pub is_word : Option (List ℕ) → List ℕ → Bool
 is_word (Some bytes) sought = bytes_eq bytes sought
 is_word None sought = false
@@ -109,10 +111,6 @@ is_next class number last write = not write.taken && (has_class class write.tupl
 abbrev pub is_to_be : Class → ℕ → ℕ → List Write → Bool
 is_to_be class number last [] = false
 is_to_be class number last (x ∷ xs) = is_next class number last x || is_to_be class number (last_after last x) xs
-
--- entries that aren't kept, of a class and under a number
-abbrev pub is_dropped : (Entry → Bool) → Class → ℕ → List Entry → Bool
-is_dropped test class number entries = list_any (λ e. not (test e) && ((e.number == number) && has_class class e.tuple)) entries
 
 -- the numbers under each class rise, up to one
 pub record AreUpTo (last : ℕ) (buckets : List Bucket) : Type 0 where

@@ -12,6 +12,7 @@ use Rattle.tuple_space.specs.declared.entry.Entry.{Entry}
 abbrev pub most : ℕ
 most = 2 ^ 62
 
+-- a space: its entries, its moment, and the number given last
 pub record SpaceValue : Type 0 where
   pub entries : List Entry
   pub moment : ℕ
@@ -25,6 +26,7 @@ pub record IsSpace (w : SpaceValue) : Type 0 where
   pub few : w.last ≤ most
   pub early : w.moment ≤ most
 
+-- the space of these entries, at this moment, with this number given last
 abbrev pub space_of : List Entry → ℕ → ℕ → SpaceValue
 space_of entries moment last = record { entries = entries; moment = moment; last = last }
 

@@ -75,15 +75,18 @@ abbrev pub out_reply : Result ℕ (SpaceError × List FieldValue) → Reply
 out_reply (Ok number) = given number
 out_reply (Err back) = refused back.0
 
+-- the same for `inp`: an entry taken, or nothing
 abbrev pub inp_reply : Option (ℕ × List FieldValue) → Reply
 inp_reply (Some found) = got found.0 found.1
 inp_reply None = nothing
 
+-- the same for `rdp`, which may also be refused
 abbrev pub rdp_reply : Result (Option (ℕ × List FieldValue)) SpaceError → Reply
 rdp_reply (Ok (Some found)) = got found.0 found.1
 rdp_reply (Ok None) = nothing
 rdp_reply (Err error) = refused error
 
+-- the same for a call that gives nothing back
 abbrev pub done_reply : Result (Unit {0}) SpaceError → Reply
 done_reply (Ok _) = done
 done_reply (Err error) = refused error

@@ -14,16 +14,6 @@ pub(crate) fn is_there(entry: &Entry, moment: u64) -> bool
     entry.end.is_live(moment) || entry.holds.is_held()
 }
 
-/// Whether a place holds an entry that is there.
-pub(crate) fn is_there_in(place: &Option<Entry>, moment: u64) -> bool
-    ensures { result ≡ holds_one (is_there moment) place.now }
-{
-    match place {
-        Some(entry) => is_there(entry, moment),
-        None => false,
-    }
-}
-
 /// Whether the claim allows the entry.
 fn is_open(entry: &Entry, claim: Claim, moment: u64) -> bool
     ensures { result ≡ is_open claim moment entry.now }

@@ -4,14 +4,13 @@ ghost use Rattle.std.specs.Prelude.{◌≡◌, ◌≢◌, ◌<◌, ◌≤◌, �
 ghost use Rattle.std.specs.List.{list_any};
 ghost use Rattle.std.specs.Option.{option_copied};
 ghost use Rattle.indexmap.specs.IndexMap.{spare, values};
-ghost use Rattle.tuple_space.specs.Entry.{is_held_by, is_there, unheld};
+ghost use Rattle.tuple_space.specs.Entry.{is_held_by, unheld};
 ghost use Rattle.tuple_space.specs.Entries.{AreInPlaces};
 ghost use Rattle.tuple_space.specs.Places.{holds_one, items_in};
 ghost use Rattle.tuple_space.specs.Rows.{IsRising, changed, without};
 ghost use Rattle.tuple_space.specs.Space.{held_by};
 ghost use Rattle.tuple_space.specs.declared.entry.Entry.{Entry};
 
-use crate::admission::is_there_in;
 use crate::entry::Entry;
 use crate::hasher::NumberHasher;
 use crate::hold::Hold;
@@ -260,18 +259,6 @@ impl Entries {
             unreachable!()
         };
         release_in(place, holder);
-    }
-
-    /// Keeps the entries that are there, which close up.
-    pub(crate) fn keep_there(&mut self, moment: u64)
-        ensures { self.new.items ≡ filter (is_there moment) self.old.items }
-    {
-        self.places.retain(
-            |_number: &u64, place: &mut Option<Entry>| -> bool
-                ensures { (result ≡ holds_one (is_there moment) place.old) × (place.new ≡ place.old) }
-            { is_there_in(place, moment) },
-        );
-        self.empty = 0;
     }
 
     /// The places by value, in order of number.

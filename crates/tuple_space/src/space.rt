@@ -12,7 +12,7 @@ ghost use Rattle.tuple_space.specs.Rows.{IsRising, changed, permanent_tuples, wi
 ghost use Rattle.tuple_space.specs.Writes.{IsPutRefusal, put_count, put_each};
 ghost use Rattle.tuple_space.specs.Step.{IsHad, NothingHad, Step, advance, count, done_reply, inp, inp_reply, now, out, out_reply, rdp, rdp_reply, renew, told};
 
-use crate::ends::{end_with, end_with_all, first_end};
+use crate::ends::{Ends, drop_ended, note_writes};
 use crate::entries::Entries;
 use crate::entry::{Claim, Entry, EntryId};
 use crate::error::SpaceError;
@@ -22,7 +22,7 @@ use crate::holding::{
     count_puts, drop_taken, is_any_shared, is_entry_held_by, put_rows, release_all,
 };
 use crate::index::{Bucket, add_entry, class_size};
-use crate::indexing::{add_writes, drop_gone, drop_writes};
+use crate::indexing::{add_writes, drop_writes};
 use crate::lease::Lease;
 use crate::permanent::permanent_of;
 use crate::rows::{change_end, count_of, take_number};
@@ -43,14 +43,14 @@ pub struct Space {
     held: Vec<Held>,
     /// The numbers of the entries whose tuples begin with a word, by that word and how many fields they have.
     buckets: Vec<Bucket>,
-    /// No lease ends before this moment.
-    first_end: u64,
+    /// When the leases of entries end.
+    ends: Ends,
     moment: u64,
     last: u64,
 }
 
 impl Model for Space {
-    ghost use Rattle.tuple_space.specs.Ends.{AreLiveBefore};
+    ghost use Rattle.tuple_space.specs.Ends.{AreWatched};
     ghost use Rattle.tuple_space.specs.Held.{HasHeld};
     ghost use Rattle.tuple_space.specs.Index.{AreIndexed};
     ghost use Rattle.tuple_space.specs.Space.{IsSpace, SpaceValue, space_of};
@@ -59,7 +59,7 @@ impl Model for Space {
 
     ghost view = { λ s. space_of s.entries.items s.moment s.last };
 
-    ghost invariant = { λ s. IsSpace (space_of s.entries.items s.moment s.last) × HasHeld s.held.items s.entries.items × AreIndexed s.buckets.items s.entries.items × AreLiveBefore s.first_end s.entries.items };
+    ghost invariant = { λ s. IsSpace (space_of s.entries.items s.moment s.last) × HasHeld s.held.items s.entries.items × AreIndexed s.buckets.items s.entries.items × AreWatched s.ends.rows s.moment s.entries.items };
 }
 
 impl Space {
@@ -71,7 +71,7 @@ impl Space {
             entries: Entries::new(alloc),
             held: Vec::new(alloc),
             buckets: Vec::new(alloc),
-            first_end: u64::MAX,
+            ends: Ends::new(alloc),
             moment: 0,
             last: 0,
         }
@@ -98,18 +98,21 @@ impl Space {
         if self.entries.reserve(1).is_err() {
             return Err((SpaceError::OutOfMemory, tuple));
         }
+        let end = lease.granted(self.moment);
+        self.ends.drop_gone(&self.entries);
+        if self.ends.note(end, number).is_err() {
+            return Err((SpaceError::OutOfMemory, tuple));
+        }
         if add_entry(&mut self.buckets, &tuple, number).is_err() {
             return Err((SpaceError::OutOfMemory, tuple));
         }
         let holds = Holds::new(self.entries.allocator());
-        let end = lease.granted(self.moment);
         self.entries.push(Entry {
             number,
             tuple,
             end,
             holds,
         });
-        self.first_end = end_with(self.first_end, lease, self.moment);
         self.last = number;
         Ok(EntryId::new(number))
     }
@@ -157,12 +160,7 @@ impl Space {
             return Ok(());
         }
         self.moment = moment;
-        if moment < self.first_end {
-            return Ok(());
-        }
-        drop_gone(&mut self.buckets, self.entries.as_slice(), moment);
-        self.entries.keep_there(moment);
-        self.first_end = first_end(self.entries.as_slice());
+        drop_ended(&mut self.entries, &mut self.buckets, &mut self.ends, moment);
         Ok(())
     }
 
@@ -335,11 +333,14 @@ impl Space {
         if self.entries.reserve(count).is_err() {
             return Err(SpaceError::OutOfMemory);
         }
+        self.ends.drop_gone(&self.entries);
+        if note_writes(&mut self.ends, writes, self.moment, self.last).is_err() {
+            return Err(SpaceError::OutOfMemory);
+        }
         if add_writes(&mut self.buckets, writes, self.last).is_err() {
             drop_writes(&mut self.buckets, writes, self.last);
             return Err(SpaceError::OutOfMemory);
         }
-        self.first_end = end_with_all(self.first_end, writes, self.moment);
         self.last = put_rows(&mut self.entries, &mut writes.rows, self.moment, self.last);
         Ok(())
     }
@@ -358,7 +359,7 @@ impl Space {
             entries,
             held: _,
             buckets: _,
-            first_end: _,
+            ends: _,
             moment: _,
             last: _,
         } = self;

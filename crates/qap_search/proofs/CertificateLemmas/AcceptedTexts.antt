@@ -29,6 +29,7 @@ text_of n content C a = record {
   is = refl;
 }
 
+-- the text of the certificate of a cut tree without open nodes shows its cost to be the least one
 pub text_shown : (I : Problem) (known : Best) (content : List (List FieldValue)) (commits : ℕ) (C : Claim) → IsCutTree (from_root I known) content commits → IsAssembled I.size content C → ShowsVerdict I (certificate_text Second C) (Optimal C.cost)
 text_shown I known content commits C h a = record {
   certificate = C;
@@ -46,11 +47,13 @@ only_optimal C (Gap g c) closed says =
     let below = says.2 in
     absurd (omega (arith, ints))
 
+-- it shows no other verdict
 pub only_shown : (I : Problem) (known : Best) (content : List (List FieldValue)) (commits : ℕ) (C : Claim) (v : Verdict) → IsCutTree (from_root I known) content commits → IsAssembled I.size content C → ShowsVerdict I (certificate_text Second C) v → v ≡ Optimal C.cost
 only_shown I known content commits C v h a shows =
     let same = one_certificate (certificate_text Second C) shows.certificate C shows.is_text (text_of I.size content C a) in
     only_optimal C v a.closed (subst (λ (D : Claim). IsVerdictOf D v) same shows.says)
 
+-- no error refuses it
 pub text_not_refused : (I : Problem) (known : Best) (content : List (List FieldValue)) (commits : ℕ) (C : Claim) (e : CertError) → IsCutTree (from_root I known) content commits → IsAssembled I.size content C → IsRefused I (certificate_text Second C) e → ⊥
 text_not_refused I known content commits C e h a (inl fault) = no_text_fault (certificate_text Second C) C e (text_of I.size content C a) fault
 text_not_refused I known content commits C e h a (inr has) =

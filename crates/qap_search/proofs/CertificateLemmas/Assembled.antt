@@ -163,6 +163,7 @@ pub told_all : (all before told : List (List FieldValue)) → length before ≡ 
 told_all all [] told none same = same
 told_all all (x ∷ xs) told none same = absurd (omega arith)
 
+-- an option that isn't none has an item
 pub some_there : {X : Type 0} (o : Option X) → is_some o ≡ true → (x : X) × (o ≡ Some x)
 some_there None h = absurd (false≢true h)
 some_there (Some x) h = (x, refl)

@@ -66,6 +66,7 @@ mutual
       let others = all_finished P rest y s (c + 1) h.1 (omega arith) in
       (node first.0 others.0, ap (λ (s : SearchTree). tree s rest) first.1 ∙ ap (tree (searched first.0)) others.1)
 
+-- the search trees of a row of certificates' trees are as many as these
 pub tree_count-searched : (ss : Nodes) → tree_count (searched_all ss) ≡ child_count ss
 tree_count-searched no_nodes = refl
 tree_count-searched (node s rest) = ap (λ (n : ℕ). 1 + n) (tree_count-searched rest)
@@ -159,6 +160,7 @@ drop_at ks c less =
     let one : suc c ≡ c + 1 = omega arith in
     drop-cons ks c 0 less ∙ ap (λ (j : ℕ). get_or ks c 0 ∷ drop j ks) one
 
+-- behind the last location there is none
 pub drop_end : (ks : List ℕ) (c : ℕ) → c ≡ length ks → drop c ks ≡ []
 drop_end ks c end = drop_of_length-le ks (omega arith)
 
@@ -192,6 +194,7 @@ mutual
       )
 
 mutual
+  -- the search tree of a certificate's tree has as many decided nodes as that has nodes
   pub node_count-searched : (s : Node) → decided_count (searched s) ≡ node_count s
   node_count-searched (bound u v) = refl
   node_count-searched (split f children) = ap (λ (n : ℕ). 1 + n) (nodes_count-searched_all children)
@@ -218,6 +221,7 @@ pair_bound I p inst h i j hi hj =
     subst (λ (m : ℕ). m ≤ 1000000000 * 1000000000) (sym (unsigned_abs-mul (entry I.size I.a i j) (entry I.size I.b (get_or p i 0) (get_or p j 0))))
     (mul-le _ _ _ _ (inst.a_range (i * I.size + j) (entry_below I.size i j hi hj)) (inst.b_range (get_or p i 0 * I.size + get_or p j 0) (entry_below I.size (get_or p i 0) (get_or p j 0) at_i at_j)))
 
+-- what a permutation of an instance costs is from -10^24 to 10^24
 pub cost_limited : (I : Problem) (p : List ℕ) → IsInstance I → Permutes I p → IsLimited (cost_of I p)
 cost_limited I p inst h =
     let n = I.size in
@@ -227,6 +231,7 @@ cost_limited I p inst h =
     let square : n * (n * (1000000000 * 1000000000)) ≤ 256 * (256 * (1000000000 * 1000000000)) = mul-le _ _ _ _ inst.small rows in
     omega arith
 
+-- the root of 1 to 256 facilities is a node
 pub root_placement : (n : ℕ) → 0 < n → n ≤ 256 → IsPlacement (root_of n)
 root_placement n positive small = record {
   positive = positive;
@@ -262,6 +267,7 @@ certificate_there I known content commits i h none =
       },
     )
 
+-- the permutation of a certificate, with its cost
 abbrev pub best_of : Claim → Best
 best_of C = record { cost = C.cost; permutation = C.permutation }
 
@@ -303,6 +309,7 @@ certificate_valid I known content commits C h a =
     subst (λ (c : ℤ). Valid I c (root_of n) C.tree) costs
     (valid_from I h.cost n C.tree (whole (root_of n)) (root_placement n (omega arith) (omega arith)) (record { size = refl; paired = refl }) shape (closed_in_both I known content commits (best_of C) (searched C.tree) h a.taken_apart))
 
+-- the certificate of a cut tree without open nodes certifies its cost as the least one
 pub certificate_certifies : (I : Problem) (known : Best) (content : List (List FieldValue)) (commits : ℕ) (C : Claim) → IsCutTree (from_root I known) content commits → IsAssembled I.size content C → Certifies I C
 certificate_certifies I known content commits C h a =
     let same = best_is I known content commits (best_of C) (searched C.tree) h a.taken_apart in
@@ -316,6 +323,7 @@ certificate_certifies I known content commits C h a =
 abbrev pub decided_weight : List FieldValue → ℕ
 decided_weight t = cond (eqb (tag t) 115 || (eqb (tag t) 112 || eqb (tag t) 99)) 1 0
 
+-- that weight is 1 at each decided node and 0 at all others
 pub weighs_decided : WeighsDecided decided_weight 1
 weighs_decided = record { at_open = λ x. refl; at_split = λ x f. refl; at_pruned = λ x s d cuts. refl; at_closed = λ x u v. refl; at_mirrored = λ x j m. refl }
 

@@ -8,7 +8,7 @@ use Rattle.qap_search.specs.Tuples.Piece.{node_list}
 use Rattle.qap_search.proofs.CertificateLemmas.Keys.{node_list-placing}
 use Rattle.qap_search.proofs.NodeLemmas.NodeLists.{begins-by_turns, length-by_turns}
 
--- facility and location by turns, and two numbers behind them
+-- facility and location alternately, and two numbers behind them
 abbrev then_two : List ℕ → List ℕ → ℕ → ℕ → List ℤ
 then_two fs ks f k = by_turns fs ks ++ (pos f ∷ pos k ∷ [])
 
@@ -89,6 +89,7 @@ no_child_length x f k list paired other = (
   (λ e. absurd (other (ap length (e ∙ node_list-placing x f k paired) ∙ length-then_two x.facilities x.places f k paired))),
 )
 
+-- a list that doesn't begin with the facilities and locations of a node is that of none of its children
 pub no_child_begins : (x : Placement) (f k : ℕ) (list : List ℤ) → length x.places ≡ length x.facilities → (BeginsByTurns x.facilities x.places list → ⊥) → IsTrue false ↔ (list ≡ node_list (placing x f k))
 no_child_begins x f k list paired other = (
   (λ h. absurd (false≢true h)),
@@ -113,13 +114,14 @@ by_turns-from (g ∷ fs) (l ∷ ks) (x ∷ y ∷ zs) h long begins =
     (ap (λ (j : ℕ). get_or list j (pos 0)) to_f ∙ later.0, ap (λ (j : ℕ). get_or list j (pos 0)) to_k ∙ later.1)) in
     ap₂ (λ (a b : ℤ). a ∷ b ∷ zs) first.0 first.1 ∙ ap (λ (xs : List ℤ). pos g ∷ pos l ∷ xs) rest
 
--- a list is a node's where it is as long and goes by turns as the node does
+-- a list as long as a node's is the node's if and only if it alternates the node's facilities and locations
 pub node_test : (x : Placement) (list : List ℤ) (b : Bool) → length x.places ≡ length x.facilities → length list ≡ 2 * length x.facilities → IsTrue b ↔ BeginsByTurns x.facilities x.places list → IsTrue b ↔ (list ≡ node_list x)
 node_test x list b paired long test = (
   (λ h. by_turns-from x.facilities x.places list paired long (test.0 h)),
   (λ e. test.1 (subst (BeginsByTurns x.facilities x.places) (sym e) (begins-by_turns x.facilities x.places paired))),
 )
 
+-- a list that isn't as long as the node's is not the node's
 pub no_node_length : (x : Placement) (list : List ℤ) → length x.places ≡ length x.facilities → length list ≢ 2 * length x.facilities → IsTrue false ↔ (list ≡ node_list x)
 no_node_length x list paired other = (
   (λ h. absurd (false≢true h)),

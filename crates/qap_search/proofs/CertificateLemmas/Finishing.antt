@@ -134,6 +134,7 @@ only_tree x tuples s t placed a b =
     let same = same_list left right (strictly_rises left (pieces_rise s (whole x) placed a.tree)) (pieces_rise t (whole x) placed b.tree) (λ f. sym (a.taken_apart f) ∙ b.taken_apart f) in
     (one_tree s t (whole x) [] [] a.tree b.tree (root_flag x s a.tree ∙ sym (root_flag x t b.tree)) (ap (λ (l : List (List FieldValue)). l ++ []) same)).0
 
+-- a list of length 0 is empty
 pub no_items : {X : Type 0} (xs : List X) → length xs ≡ 0 → xs ≡ []
 no_items [] none = refl
 no_items (x ∷ xs) none = absurd (omega arith)
@@ -142,6 +143,7 @@ no_items (x ∷ xs) none = absurd (omega arith)
 pub none_counted : (count : ℕ) (b : Bool) → b ≡ nat_eq count 0 → b ≡ true → count ≡ 0
 none_counted count b is h = eqb-true count 0 (sym is ∙ h)
 
+-- a count that was found not to be 0 is above 0
 pub some_counted : (count : ℕ) (b : Bool) → b ≡ nat_eq count 0 → b ≡ false → 0 < count
 some_counted zero b is h = absurd (false≢true (sym h ∙ is))
 some_counted (suc count) b is h = omega arith

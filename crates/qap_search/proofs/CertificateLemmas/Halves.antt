@@ -14,6 +14,7 @@ module _ {X Y : Type 0} (R : X → Y → Type 0) where
   all_zip-append (x ∷ xs) zs [] ws a b = absurd a
   all_zip-append (x ∷ xs) zs (y ∷ ys) ws a b = (a.0, all_zip-append xs zs ys ws a.1 b)
 
+-- tuples in two parts, each of which is closed, are closed together
 pub both_closed : (I : Problem) (old front back new other : List (List FieldValue)) → SameItems old (front ++ back) → AreClosed I front new → AreClosed I back other → AreClosed I old (new ++ other)
 both_closed I old front back new other same a b = record {
   sources = a.sources ++ b.sources;
@@ -27,6 +28,7 @@ both_closed I old front back new other same a b = record {
   closed = all_zip-append (IsClosedTuple I) a.sources b.sources new other a.closed b.closed;
 }
 
+-- where a tuple of the front is named as an open node's and is none, one of all tuples is
 pub none_in_front : (n : ℕ) (old front back : List (List FieldValue)) → SameItems old (front ++ back) → HasNoNode n front → HasNoNode n old
 none_in_front n old front back same h = record {
   tuple = h.tuple;
@@ -42,6 +44,7 @@ none_in_front n old front back same h = record {
   wrong = h.wrong;
 }
 
+-- the same for the back
 pub none_in_back : (n : ℕ) (old front back : List (List FieldValue)) → SameItems old (front ++ back) → HasNoNode n back → HasNoNode n old
 none_in_back n old front back same h = record {
   tuple = h.tuple;

@@ -27,9 +27,11 @@ key t = list_at 1 t
 abbrev is_less : List FieldValue → List FieldValue → Bool
 is_less t s = is_lt (slice_cmp int_cmp (key t) (key s))
 
+-- the list of t's node stands before that of s
 abbrev pub Before : List FieldValue → List FieldValue → Type 0
 Before t s = is_less t s ≡ true
 
+-- the list of t's node doesn't stand behind that of s
 abbrev pub NotAfter : List FieldValue → List FieldValue → Type 0
 NotAfter t s = is_less s t ≡ false
 
@@ -73,6 +75,7 @@ same_first x y xs ys h k same =
           ]
     ]
 
+-- two lists of the same tuples, of which one is in order and the other one strictly so, are one list
 pub same_list : (xs ys : List (List FieldValue)) → Rises NotAfter xs → Rises Before ys → SameItems xs ys → xs ≡ ys
 same_list [] [] h k same = refl
 same_list [] (y ∷ ys) h k same =
@@ -165,6 +168,7 @@ pub said_key : (y : Placement) (s : Split) (d : Option Pair) (cuts : List ℤ) �
 said_key y s None cuts = refl
 said_key y s (Some d) cuts = refl
 
+-- the search trees of a row of proofs' trees are as many as these
 pub tree_count-of_proofs : (ts : Nodes) → tree_count (of_proofs ts) ≡ child_count ts
 tree_count-of_proofs no_nodes = refl
 tree_count-of_proofs (node t rest) = ap (λ (n : ℕ). 1 + n) (tree_count-of_proofs rest)

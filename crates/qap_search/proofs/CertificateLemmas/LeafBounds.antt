@@ -22,11 +22,13 @@ least_alone a = record {
   least = All-cons (λ (x : ℤ). a ≤ℤ x) a [] (omega (arith, ints)) (All-nil (λ (x : ℤ). a ≤ℤ x));
 }
 
+-- the least of two numbers is the first one where that is at most the second
 pub least_first : (a z r : ℤ) → r ≡ a → a ≤ℤ z → IsLeastOf (a ∷ z ∷ []) r
 least_first a z r is less =
     subst (IsLeastOf (a ∷ z ∷ [])) (sym is)
     (record { one = (0, omega arith, refl); least = All-cons (λ (x : ℤ). a ≤ℤ x) a (z ∷ []) (omega (arith, ints)) (All-cons (λ (x : ℤ). a ≤ℤ x) z [] less (All-nil (λ (x : ℤ). a ≤ℤ x))) })
 
+-- it is the second one where that is at most the first
 pub least_second : (a z r : ℤ) → r ≡ z → z ≤ℤ a → IsLeastOf (a ∷ z ∷ []) r
 least_second a z r is less =
     subst (IsLeastOf (a ∷ z ∷ [])) (sym is)
@@ -58,6 +60,7 @@ pub record HaveShown (I : Problem) (x : Placement) (s : Split) (least found : �
   pub trees : AreTrees readable x s c (of_proofs rest)
   pub whole : (g : ℤ) → (AllHaveShape x s c rest → IsLeastOf (found ∷ shown_by_all I x s c rest) g) → AllHaveShape x s 0 all → IsLeastOf (least ∷ shown_by_all I x s 0 all) g
 
+-- before the first child nothing has been found but the number to begin with
 pub HaveShown-none : (I : Problem) (x : Placement) (s : Split) (least : ℤ) (all : Nodes) → AreTrees readable x s 0 (of_proofs all) → HaveShown I x s least least all 0 all
 HaveShown-none I x s least all trees = record { trees = trees; whole = λ g h shape. h shape }
 
@@ -68,12 +71,14 @@ HaveShown-at I x s least found ts i child below is h =
     let at : drop i ts ≡ child ∷ drop (i + 1) ts = drop-cons ts i child below ∙ ap₂ (λ (t : Tree) (j : ℕ). t ∷ drop j ts) (sym is) one in
     subst (λ (us : List Tree). HaveShown I x s least found (nodes_of ts) i (nodes_of us)) at h
 
+-- with the least of what was found and of what child c shows, one child more has been asked
 pub HaveShown-more : (I : Problem) (x : Placement) (s : Split) (least found after : ℤ) (all : Nodes) (c : ℕ) (t : Node) (rest : Nodes) → HaveShown I x s least found all c (node t rest) → ((earlier : ℕ) (duals : Bool) → HasShape (child_of x s c) earlier duals t → IsLeastOf (found ∷ shown I (child_of x s c) t) after) → HaveShown I x s least after all (c + 1) rest
 HaveShown-more I x s least found after all c t rest h shows = record {
   trees = h.trees.1;
   whole = λ g others. h.whole g (λ shape. least_joined found (shown I (child_of x s c) t) after (shown_by_all I x s (c + 1) rest) g (shows c (has_duals s.duals) shape.0) (others shape.1));
 }
 
+-- once all children, of a proof's shape, have been asked, what was found is the least of all that they show
 pub HaveShown-all : (I : Problem) (x : Placement) (s : Split) (least found : ℤ) (all : Nodes) (c : ℕ) (ts : List Tree) → ts ≡ [] → HaveShown I x s least found all c (nodes_of ts) → AllHaveShape x s 0 all → IsLeastOf (least ∷ shown_by_all I x s 0 all) found
 HaveShown-all I x s least found all c ts none h =
     let end = subst (λ (us : List Tree). HaveShown I x s least found all c (nodes_of us)) none h in
@@ -85,6 +90,7 @@ pub record IsSplitAt (x : Placement) (s : Split) (ts : Nodes) : Type 0 where
   pub count : child_count ts ≡ free_count x
   pub trees : AreTrees readable x s 0 (of_proofs ts)
 
+-- a split at a place is on one that is free there, and has a readable tree for each free one of the other side
 pub parts_at : (x : Placement) (s : Split) (ts : Nodes) (t : Node) → t ≡ split s ts → (p : Place) → node_at p ≡ x → IsTree readable p (of_proof t) → IsSplitAt x s ts
 parts_at x s ts t is p at h =
     let there = subst (λ (n : Node). IsTree readable p (of_proof n)) is h in

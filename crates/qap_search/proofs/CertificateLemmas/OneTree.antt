@@ -14,16 +14,20 @@ use Rattle.qap_search.proofs.CertificateLemmas.Keys.{tree_count-of_proofs}
 use Rattle.qap_search.proofs.LawLemmas.Replacing.{pruned_tag, split_tag}
 use Rattle.qap_search.proofs.TupleLemmas.TupleReadings.{list_at, map_pos-same, natural, number_at, tag}
 
+-- the first byte of the word closed
 abbrev pub closed_tag : ℕ
 closed_tag = 99
 
+-- the first byte of the word mirrored
 abbrev pub mirrored_tag : ℕ
 mirrored_tag = 109
 
+-- the first of the tuples, or an empty one
 abbrev pub first_tuple : List (List FieldValue) → List FieldValue
 first_tuple [] = []
 first_tuple (t ∷ ts) = t
 
+-- the tuples behind the first one
 abbrev pub later_tuples : List (List FieldValue) → List (List FieldValue)
 later_tuples [] = []
 later_tuples (t ∷ ts) = ts
@@ -33,16 +37,20 @@ abbrev first_byte : FieldValue → ℕ
 first_byte (word bytes) = get_or bytes 0 0
 first_byte _ = 0
 
+-- the first byte of the word in the third place of a tuple
 abbrev pub side_byte : List FieldValue → ℕ
 side_byte t = first_byte (get_or t 2 (number (pos 0)))
 
+-- the first of the flags, or 0
 abbrev pub first_flag : List ℤ → ℤ
 first_flag flags = get_or flags 0 (pos 0)
 
+-- the flags behind the first one
 abbrev pub later_flags : List ℤ → List ℤ
 later_flags [] = []
 later_flags (z ∷ zs) = zs
 
+-- 0 is not 1
 pub zero_not_one : pos 0 ≡ pos 1 → ⊥
 zero_not_one e = let differ : zero ≡ suc zero = ap natural e in omega arith
 
@@ -51,15 +59,17 @@ pub said_tag : (x : Placement) (s : Split) (d : Option Pair) (cuts : List ℤ) (
 said_tag x s None cuts other no_split no_pruned = no_split
 said_tag x s (Some d) cuts other no_split no_pruned = no_pruned
 
--- what tells a split
+-- what the tuple of a split determines: the split, and the flags where it says duals
 record IsOneSplit (s r : Split) (cuts flags : List ℤ) : Type 0 where
   same : s ≡ r
   flagged : has_duals s.duals ≡ true → cuts ≡ flags
 
+-- a readable split that says no duals is on a facility
 pub plain_side : (side : Side) (k : ℕ) → IsReadableSplit (made_split side k None) → side ≡ Facility
 plain_side side k (inl plain) = plain.0
 plain_side side k (inr duals) = absurd (false≢true duals)
 
+-- the words of the two sides begin with different bytes
 pub one_side : (a b : Side) → get_or (side_word a) 0 0 ≡ get_or (side_word b) 0 0 → a ≡ b
 one_side Facility Facility e = refl
 one_side Facility Location e = absurd (omega arith)
@@ -80,6 +90,7 @@ one_said x a b k l (Some d) (Some e) cuts flags h g same =
       flagged = λ duals. ap (list_at 6) same;
     }
 
+-- two readable splits with the same tuple are one, and where they say duals they cut off the same children
 pub one_split : (x : Placement) (s r : Split) (cuts flags : List ℤ) → IsReadableSplit s → IsReadableSplit r → split_cutting x s s.duals cuts ≡ split_cutting x r r.duals flags → (s ≡ r) × (has_duals s.duals ≡ true → cuts ≡ flags)
 one_split x s r cuts flags h g same =
     let one = one_said x s.side r.side s.number r.number s.duals r.duals cuts flags h g same in
@@ -99,18 +110,20 @@ uncut (split r ts) y s c none h = refl
 uncut cut y s c none h = absurd (false≢true (sym none ∙ h))
 uncut (mirrored j m) y s c none h = refl
 
+-- where a split says no duals, none of its children is cut off
 pub all_uncut : (ts : Nodes) (y : Placement) (s : Split) (c : ℕ) → has_duals s.duals ≡ false → AreTrees readable y s c (of_proofs ts) → cut_numbers (of_proofs ts) ≡ replicate (child_count ts) (pos 0)
 all_uncut no_nodes y s c none h = refl
 all_uncut (node t ts) y s c none h =
     let one : suc (child_count ts) ≡ 1 + child_count ts = omega arith in
     ap₂ (λ (z : ℤ) (zs : List ℤ). z ∷ zs) (uncut t y s c none h.0) (all_uncut ts y s (c + 1) none h.1) ∙ ap (λ (n : ℕ). replicate n (pos 0)) one
 
--- so splits of which as many children are told have the same flags
+-- so the given flags are those of the children, whether the split says duals or not
 pub same_flags : (b : Bool) (ts : Nodes) (y : Placement) (s : Split) (flags : List ℤ) → b ≡ has_duals s.duals → AreTrees readable y s 0 (of_proofs ts) → (has_duals s.duals ≡ true → cut_numbers (of_proofs ts) ≡ flags) → (has_duals s.duals ≡ false → flags ≡ replicate (child_count ts) (pos 0)) → cut_numbers (of_proofs ts) ≡ flags
 same_flags true ts y s flags is h told none = told (sym is)
 same_flags false ts y s flags is h told none = all_uncut ts y s 0 (sym is) h ∙ sym (none (sym is))
 
 mutual
+  -- two readable trees at one place, both cut or neither, at the front of one list of tuples, are one
   pub one_tree : (s t : Node) (p : Place) (a b : List (List FieldValue)) → IsTree readable p (of_proof s) → IsTree readable p (of_proof t) → cut_number (of_proof s) ≡ cut_number (of_proof t) → pieces (node_at p) (of_proof s) ++ a ≡ pieces (node_at p) (of_proof t) ++ b → (s ≡ t) × (a ≡ b)
   one_tree (closed d) (closed w) p a b h k f e =
       (ap₂ (λ (u v : List ℤ). closed (pair u v)) (ap (λ (l : List (List FieldValue)). list_at 2 (first_tuple l)) e) (ap (λ (l : List (List FieldValue)). list_at 3 (first_tuple l)) e), ap later_tuples e)
@@ -148,6 +161,7 @@ mutual
       let row = one_row ss ts y s 0 a b counts flags h.4 moved rows in
       (ap₂ split on.0 row.0, row.1)
 
+  -- the same for two rows of children of a split, as many and with the same flags
   pub one_row : (ss ts : Nodes) (y : Placement) (s : Split) (c : ℕ) (a b : List (List FieldValue)) → child_count ss ≡ child_count ts → cut_numbers (of_proofs ss) ≡ cut_numbers (of_proofs ts) → AreTrees readable y s c (of_proofs ss) → AreTrees readable y s c (of_proofs ts) → pieces_of_all y s c (of_proofs ss) ++ a ≡ pieces_of_all y s c (of_proofs ts) ++ b → (ss ≡ ts) × (a ≡ b)
   one_row no_nodes no_nodes y s c a b counts flags h k e = (refl, e)
   one_row no_nodes (node t ts) y s c a b counts flags h k e = absurd (omega arith)

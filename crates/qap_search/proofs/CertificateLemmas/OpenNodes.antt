@@ -93,6 +93,7 @@ pub record IsOpened (I : Problem) (y : Placement) (t : Node) (tuples rest : List
   pub flag : cut_number search ≡ cut_number (of_proof t)
   pub closed : ClosedTo I y search t
 
+-- the same for the children of a split of y, from number c on
 pub record AreOpened (I : Problem) (y : Placement) (s : Split) (c : ℕ) (ts : Nodes) (tuples rest : List (List FieldValue)) : Type 0 where
   pub searches : SearchTrees
   pub behind : List (List FieldValue)
@@ -139,6 +140,7 @@ split_stays : (I : Problem) (y : Placement) (s : Split) (cuts : List ℤ) (w : L
 split_stays I y s cuts w h = stays I w (split_cutting y s s.duals cuts) (said_tag y s s.duals cuts closed_tag (λ (o : 115 ≡ 99). omega arith) (λ (o : 112 ≡ 99). omega arith)) h
 
 mutual
+  -- tuples that are closed to those of a tree and more begin with those of a search tree that is closed to it
   pub opened : (I : Problem) (t : Node) (y : Placement) → IsNode I.size y → (ws rest : List (List FieldValue)) → AllZip (IsClosedTuple I) ws (pieces y (of_proof t) ++ rest) → IsOpened I y t ws rest
   opened I (closed d) y hy [] rest h = absurd h
   opened I (closed d) y hy (w ∷ ws) rest h = opened_here I y d hy w ws rest h.0 h.1
@@ -192,6 +194,7 @@ pub record IsShut (I : Problem) (y : Placement) (s : SearchTree) (tuples rest : 
   pub flag : cut_number (of_proof tree_of) ≡ cut_number s
   pub closed : ClosedTo I y s tree_of
 
+-- the same for the children of a split of y, from number c on
 pub record AreShut (I : Problem) (y : Placement) (s : Split) (c : ℕ) (ss : SearchTrees) (tuples rest : List (List FieldValue)) : Type 0 where
   pub trees_of : Nodes
   pub behind : List (List FieldValue)
@@ -223,6 +226,7 @@ other_stays I w new other (inl same) = same.1
 other_stays I w new other (inr c) = absurd (other (ap tag c.is))
 
 mutual
+  -- closed tuples that come from those of a search tree and more begin with those of a tree to which it is closed
   pub shut : (I : Problem) (s : SearchTree) (y : Placement) → IsNode I.size y → (ws rest : List (List FieldValue)) → AllZip (IsClosedTuple I) (pieces y s ++ rest) ws → IsShut I y s ws rest
   shut I open_node y hy [] rest h = absurd h
   shut I open_node y hy (w ∷ ws) rest h = shut_here I y hy w ws rest h.0 h.1

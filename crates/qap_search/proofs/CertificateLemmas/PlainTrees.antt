@@ -38,6 +38,7 @@ mutual
   plains_of-as_proofs cert.no_nodes = refl
   plains_of-as_proofs (cert.node t rest) = ap₂ cert.node (plain_of-as_proof t) (plains_of-as_proofs rest)
 
+-- two trees of certificates that give the same tree of a proof are one
 pub as_proof-same : (s t : cert.Node) → as_proof s ≡ as_proof t → s ≡ t
 as_proof-same s t e = sym (plain_of-as_proof s) ∙ ap plain_of e ∙ plain_of-as_proof t
 
@@ -95,6 +96,7 @@ no_cut t is k e =
     let same : kind_of (as_proof k) ≡ kind_of cut = ap kind_of (e ∙ node_of-Cut t is) in
     omega arith
 
+-- no tree of a certificate says a mirrored node
 pub no_mirrored : (t : Tree) (j : ℕ) (m : List ℕ) → t ≡ MirroredTree j m → (k : cert.Node) → as_proof k ≢ node_of t
 no_mirrored t j m is k e =
     let low = plain_kind k in
@@ -119,6 +121,7 @@ pub no_plain_children : (n : Node) (s : Split) (ts : Nodes) → n ≡ split s ts
 no_plain_children n s ts is none (cert.bound u v) e = let same : kind_of (closed (pair u v)) ≡ kind_of (split s ts) = ap kind_of (e ∙ is) in omega arith
 no_plain_children n s ts is none (cert.split f ks) e = none ks (ap children_in (e ∙ is))
 
+-- a certificate's split says a split on a facility without duals where its children say the children
 pub plain_split_made : (n : Node) (s : Split) (ts : Nodes) (f : ℕ) (ks : cert.Nodes) → n ≡ split s ts → s ≡ on_facility f → as_proofs ks ≡ ts → as_proof (cert.split f ks) ≡ n
 plain_split_made n s ts f ks is on same = ap₂ split (sym on) same ∙ sym is
 
@@ -135,6 +138,7 @@ as_proofs-with_last : (ts : cert.Nodes) (t : cert.Node) → as_proofs (cert_with
 as_proofs-with_last cert.no_nodes t = refl
 as_proofs-with_last (cert.node y rest) t = ap (node (as_proof y)) (as_proofs-with_last rest t)
 
+-- where the first trees and the last one are said by trees of certificates, so are all of them
 pub plain_pushed : (trees rest : List Tree) (last : Tree) (plain : List PlainTree) (t : PlainTree) → trees ≡ rest ++ last ∷ [] → as_proofs (cert.nodes_of plain) ≡ nodes_of rest → as_proof (cert.node_of t) ≡ node_of last → as_proofs (cert.nodes_of (plain ++ t ∷ [])) ≡ nodes_of trees
 plain_pushed trees rest last plain t is same one =
     ap as_proofs (cert_push plain t) ∙ as_proofs-with_last (cert.nodes_of plain) (cert.node_of t) ∙ ap₂ with_last same one
@@ -157,9 +161,11 @@ plain_parts (cert.node k ks) (node y ts) t e =
     let rest = plain_parts ks ts t (ap rest_of_row e) in
     (cert.node k rest.0, ap₂ node (ap first_of_row e) rest.1, rest.2)
 
+-- where the first trees are said by none, the row is said by none
 pub no_plain_rest : (trees rest : List Tree) (last : Tree) → trees ≡ rest ++ last ∷ [] → ((ks : cert.Nodes) → as_proofs ks ≢ nodes_of rest) → (ks : cert.Nodes) → as_proofs ks ≢ nodes_of trees
 no_plain_rest trees rest last is none ks e = let parts = plain_parts ks (nodes_of rest) (node_of last) (e ∙ ap nodes_of is ∙ nodes_of-push rest last) in none parts.0 parts.1
 
+-- where the last tree is said by none, the row is said by none
 pub no_plain_last : (trees rest : List Tree) (last : Tree) → trees ≡ rest ++ last ∷ [] → ((k : cert.Node) → as_proof k ≢ node_of last) → (ks : cert.Nodes) → as_proofs ks ≢ nodes_of trees
 no_plain_last trees rest last is none ks e = let parts = plain_parts ks (nodes_of rest) (node_of last) (e ∙ ap nodes_of is ∙ nodes_of-push rest last) in none parts.2.0 parts.2.1
 
@@ -170,5 +176,6 @@ some_nodes (split s ts) = omega arith
 some_nodes cut = omega arith
 some_nodes (mirrored j m) = omega arith
 
+-- the nodes of a row of trees are those of the last one and those of the others
 pub popped_count : (trees rest : List Tree) (last : Tree) → trees ≡ rest ++ last ∷ [] → nodes_count (nodes_of trees) ≡ nodes_count (nodes_of rest) + node_count (node_of last)
 popped_count trees rest last is = ap (λ (ts : List Tree). nodes_count (nodes_of ts)) is ∙ ap nodes_count (nodes_of-push rest last) ∙ nodes_count-with_last (nodes_of rest) (node_of last)

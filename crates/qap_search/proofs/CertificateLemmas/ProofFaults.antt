@@ -57,6 +57,7 @@ mutual
         | inr later ↦ shape_fault_among rest x s (c + 1) (line_after line (node_count t)) e later.1 h.1
       ]
 
+-- a claim of a proof's shape has no fault
 pub claim_fault : (C : Claim) (e : ProofError) → IsClaimFault C e → IsProof C → ⊥
 claim_fault C e fault h =
     elim fault [

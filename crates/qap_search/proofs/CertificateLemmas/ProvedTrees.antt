@@ -113,7 +113,7 @@ cut_tree_tells S content commits i h =
       taken_apart = h.taken_apart;
     }
 
--- what is told where its open nodes are closed
+-- what its tuples say once its open nodes are closed
 pub record IsClosedCutTree (S : Search) (content : List (List FieldValue)) (commits : ℕ) (h : IsCutTree S content commits) (c g : ℤ) (p : List ℕ) (t : Node) : Type 0 where
   pub cost : h.cost ≡ c
   pub best : h.permutation ≡ p
@@ -123,6 +123,7 @@ pub record IsClosedCutTree (S : Search) (content : List (List FieldValue)) (comm
   pub limited : IsLimited c
   pub bound_limited_too : IsLimited g
 
+-- what the closed tuples of a cut tree say is its best permutation, and its tree with each open node closed
 pub closed_cut_tree : (S : Search) (content : List (List FieldValue)) (commits : ℕ) → IsInstance S.instance → (h : IsCutTree S content commits) → (c g : ℤ) (p : List ℕ) (t : Node) → TellClosed S.instance S.root content c p t → IsBoundIf S.instance S.root c t g → IsClosedCutTree S content commits h c g p t
 closed_cut_tree S content commits i h c g p t told bounds =
     let I = S.instance in

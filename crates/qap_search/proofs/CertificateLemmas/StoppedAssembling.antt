@@ -111,7 +111,7 @@ fault_of n tuples e none (inr fault) = subst (IsAssembleFault n tuples) (sym fau
 abbrev pub IsBoundIf : Problem → Placement → ℤ → Node → ℤ → Type 0
 IsBoundIf I x c t g = (earlier : ℕ) (duals : Bool) → HasShape x earlier duals t → IsBoundOf I x c t g
 
--- the certificate of what is told where the open nodes are closed is a stopped search's
+-- the certificate of what the tuples say once the open nodes are closed is a stopped search's
 pub stopped_made : (I : Problem) (tuples : List (List FieldValue)) (c g : ℤ) (p : List ℕ) (t : Node) (C : Claim) → TellClosed I (root_of I.size) tuples c p t → IsBoundIf I (root_of I.size) c t g → IsMadeOf I.size c g p t C → IsStopped I tuples C
 stopped_made I tuples c g p t C told bounds m =
     let root = root_of I.size in
@@ -134,7 +134,7 @@ stopped_made I tuples c g p t C told bounds m =
 tells_search : (n : ℕ) (tuples : List (List FieldValue)) (c : ℤ) (p : List ℕ) (s : SearchTree) → IsUnfinished n tuples c p s → TellSearch (root_of n) tuples c p s
 tells_search n tuples c p s u = record { permutation = u.permutation; tree = trees_by (plain HasDuals) readable plain_readable s (whole (root_of n)) u.tree; taken_apart = u.taken_apart }
 
--- where no certificate is made of what is told, the search tree shows too low a bound
+-- where no certificate is made of what the tuples say, the search tree shows too low a bound
 pub not_stopped : (I : Problem) (tuples : List (List FieldValue)) (c g : ℤ) (p : List ℕ) (t : Node) → IsPlacement (root_of I.size) → TellClosed I (root_of I.size) tuples c p t → IsBoundIf I (root_of I.size) c t g → ((C : Claim) → IsMadeOf I.size c g p t C → ⊥) → IsNotStopped I tuples
 not_stopped I tuples c g p t placed told bounds none d q s u =
     let n = I.size in
@@ -172,7 +172,7 @@ pub stopped_fault : (I : Problem) (tuples : List (List FieldValue)) (c g : ℤ) 
 stopped_fault I tuples c g p t e placed told bounds (inl memory) = subst (IsStoppedFault I tuples) (sym memory) tt
 stopped_fault I tuples c g p t e placed told bounds (inr fault) = subst (IsStoppedFault I tuples) (sym fault.0) (not_stopped I tuples c g p t placed told bounds fault.1)
 
--- or why nothing is told
+-- or why the tuples say nothing
 pub closing_stopped : (I : Problem) (tuples : List (List FieldValue)) (e : AssembleError) → IsClosingFault (root_of I.size) tuples e → IsStoppedFault I tuples e
 closing_stopped I tuples e (inl memory) = subst (IsStoppedFault I tuples) (sym memory) tt
 closing_stopped I tuples e (inr fault) = subst (IsStoppedFault I tuples) (sym fault.0) (λ d q s u. absurd (fault.1 d q s (tells_search I.size tuples d q s u)))

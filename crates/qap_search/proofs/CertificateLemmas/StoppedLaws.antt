@@ -152,6 +152,7 @@ stopped_closed_before I known content commits C h s =
     subst (λ (b : Best). IsTree (plain (certified.ClosesPart I b.cost)) (whole root) s.tree) same
     (closing_tree I h.cost I.size s.tree (whole root) (record { size = refl; paired = refl }) shaped (closed_in_both I known content commits (best_of C) s.tree h s.taken_apart))
 
+-- the certificate of a stopped search certifies what it claims
 pub stopped_certifies : (I : Problem) (known : Best) (content : List (List FieldValue)) (commits : ℕ) (C : Claim) → IsCutTree (from_root I known) content commits → IsStopped I content C → Certifies I C
 stopped_certifies I known content commits C h s =
     let root = root_of I.size in
@@ -191,6 +192,7 @@ mutual
       let parts = sum_by-append open_weight (pieces (child_of y s c) t) (pieces_of_all y s (c + 1) rest) in
       omega arith
 
+-- its tree has a decided node for each commit, and one more for each open node
 pub stopped_counted : (I : Problem) (known : Best) (content : List (List FieldValue)) (commits : ℕ) (C : Claim) → IsCutTree (from_root I known) content commits → (s : IsStopped I content C) → (decided_count s.tree ≡ commits) × (undecided_count s.tree ≡ open_count content) × (cert.node_count C.tree ≡ commits + open_count content)
 stopped_counted I known content commits C h s =
     let root = root_of I.size in
@@ -243,12 +245,14 @@ limited_between : (c g : ℤ) → IsLimited c → g ≤ℤ c → c ≤ℤ g ⊎ 
 limited_between c g limited below (inl above) = subst IsLimited (let same : c ≡ g = omega (arith, ints) in same) limited
 limited_between c g limited below (inr itself) = itself
 
+-- the least of a cost and of numbers that are at least that or within the limits is within the limits
 pub bound_limited : (c : ℤ) (xs : List ℤ) (g : ℤ) → IsLimited c → All (IsHigh c) xs → IsLeastOf (c ∷ xs) g → IsLimited g
 bound_limited c xs g limited above h =
     let all = All-cons (λ (z : ℤ). c ≤ℤ z ⊎ IsLimited z) c xs (inr limited) above in
     let at = h.one in
     limited_between c g limited (h.least 0 c (omega arith)) (subst (λ (z : ℤ). c ≤ℤ z ⊎ IsLimited z) at.2 (all at.0 g at.1))
 
+-- the tuples of a cut tree are those of a search tree and a permutation which show no bound that is too low
 pub stopped_not_refused : (I : Problem) (known : Best) (content : List (List FieldValue)) (commits : ℕ) → IsInstance I → IsCutTree (from_root I known) content commits → IsNotStopped I content → ⊥
 stopped_not_refused I known content commits i h none =
     let root = root_of I.size in

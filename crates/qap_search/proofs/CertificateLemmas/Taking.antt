@@ -48,6 +48,7 @@ at_place (split s children) p h = h
 at_place cut p h = absurd h
 at_place (mirrored j m) p h = absurd h
 
+-- a tree that isn't cut and is at the front of tuples at x as the root is so at each place of the node x
 pub begins_at : (p : Place) (x : Placement) (t : Node) (tuples rest : List (List FieldValue)) → x ≡ node_at p → BeginWith (whole x) (pos 0) t tuples rest → BeginWith p (pos 0) t tuples rest
 begins_at p x t tuples rest is b =
     let there = subst (λ (y : Placement). BeginWith (whole y) (pos 0) t tuples rest) is b in
@@ -78,6 +79,7 @@ pub record HaveTaken (x : Placement) (s : Split) (flags : List ℤ) (old : List 
   pub whole : (us : Nodes) (r : List (List FieldValue)) → GoOn x s flags i us rest r → GoOn x s flags 0 (joined ts us) old r
   pub only : (us : Nodes) (r : List (List FieldValue)) → GoOn x s flags 0 us old r → i ≤ child_count us → (vs : Nodes) × GoOn x s flags i vs rest r × (i + child_count vs ≡ child_count us)
 
+-- before the first child no tree has been taken
 pub HaveTaken-none : (x : Placement) (s : Split) (flags : List ℤ) (old : List (List FieldValue)) → HaveTaken x s flags old no_nodes 0 old
 HaveTaken-none x s flags old = record { counted = refl; within = omega arith; whole = λ us r h. h; only = λ us r h long. (us, h, omega arith) }
 
@@ -113,6 +115,7 @@ first_of x s flags i (node v vs) rest r h less some =
       counted = refl;
     }
 
+-- with the tree of the next child taken, i + 1 trees have been
 pub HaveTaken-more : (x : Placement) (s : Split) (flags : List ℤ) (old : List (List FieldValue)) (ts : Nodes) (i : ℕ) (rest behind : List (List FieldValue)) (t : Node) → HaveTaken x s flags old ts i rest → i < length flags → BeginWith (child x s i) (get_or flags i (pos 0)) t rest behind → HaveTaken x s flags old (with_last ts t) (i + 1) behind
 HaveTaken-more x s flags old ts i rest behind t h less b =
     let at = child_of x s i in
@@ -165,7 +168,7 @@ only_splits x s cuts rest none (split t ts) r b = none t ts r b
 only_splits x s cuts rest none cut r b = absurd b.tree
 only_splits x s cuts rest none (mirrored j m) r b = absurd b.tree
 
--- a split that is told to say no duals is on a facility of its number
+-- a split whose tuple says no duals is on a facility of its number
 plain_told : (x : Placement) (side : Side) (k : ℕ) (d : Option Pair) (cuts : List ℤ) (number : ℤ) → IsReadableSplit (made_split side k d) → IsFreeOn side x k → split_of (node_list x) number ≡ split_cutting x (made_split side k d) d cuts → IsFreeFacility x k × (number ≡ pos k)
 plain_told x side k None cuts number h free e = (subst (λ (s : Side). IsFreeOn s x k) (plain_side side k h) free, ap (number_at 2) e)
 plain_told x side k (Some d) cuts number h free e = let differ : split_tag ≡ pruned_tag = ap tag e in absurd (omega arith)
@@ -179,7 +182,7 @@ none_plain x number rest none (split s ts) r b =
 none_plain x number rest none cut r b = absurd b.tree
 none_plain x number rest none (mirrored j m) r b = absurd b.tree
 
--- what the tuple of a split with duals tells
+-- what the tuple of a split with duals says
 record TellsPruned (k : ℕ) (a : Side) (flags : List ℤ) (side : Side) (number : ℤ) (cuts : List ℤ) : Type 0 where
   side_is : a ≡ side
   number_is : number ≡ pos k
@@ -248,10 +251,12 @@ zero_at zero c = refl
 zero_at (suc n) zero = refl
 zero_at (suc n) (suc c) = zero_at n c
 
+-- a list of n zeros has n numbers
 pub zeros_long : (n : ℕ) → length (replicate n (pos 0)) ≡ n
 zeros_long zero = refl
 zeros_long (suc n) = let rest = zeros_long n in omega arith
 
+-- zeros are flags of the children of any split
 pub zero_flags : (n : ℕ) (s : Split) → AreFlags n s (replicate n (pos 0))
 zero_flags n s = record { one_each = zeros_long n; each = λ c less. inl (zero_at n c) }
 

@@ -43,6 +43,7 @@ pub record IsOneTelling (c d : ℤ) (p q : List ℕ) (s t : Node) : Type 0 where
   pub permutation : p ≡ q
   pub tree : s ≡ t
 
+-- the same tuples say one permutation, one cost and one tree
 pub told_once : (x : Placement) (tuples : List (List FieldValue)) (c d : ℤ) (p q : List ℕ) (s t : Node) → IsPlacement x → Tell x tuples c p s → Tell x tuples d q t → IsOneTelling c d p q s t
 told_once x tuples c d p q s t placed a b =
     let left = pieces x (of_proof s) in
@@ -108,6 +109,7 @@ made_from I x tuples (w ∷ ws) c p t hx same zip =
           omega arith;
     }
 
+-- tuples that say a tree once they are closed are those of a search tree that is closed to it
 pub opened_to : (I : Problem) (x : Placement) (tuples : List (List FieldValue)) (c : ℤ) (p : List ℕ) (t : Node) → IsNode I.size x → TellClosed I x tuples c p t → IsOpenedTo I x tuples c p t
 opened_to I x tuples c p t hx h =
     let r = reordered (IsClosedTuple I) (best_tuple c p ∷ pieces x (of_proof t)) h.closed.sources h.new h.closed.closed h.told.taken_apart in
@@ -142,6 +144,7 @@ made_by I x tuples new (w ∷ ws) c p s hx same zip h =
       };
     }
 
+-- the tuples of a search tree, once they are closed, say a tree to which it is closed
 pub shut_to : (I : Problem) (x : Placement) (tuples new : List (List FieldValue)) (c : ℤ) (p : List ℕ) (s : SearchTree) → IsNode I.size x → AreClosed I tuples new → TellSearch x tuples c p s → IsShutTo I x new c p s
 shut_to I x tuples new c p s hx closed h =
     let back : List FieldValue → List FieldValue → Type 0 = λ a b. IsClosedTuple I b a in
@@ -214,7 +217,7 @@ none_permuted x cost items values tuples same none c p t a = none p a.permutatio
 pub none_of_tree : (x : Placement) (cost : ℤ) (items : List ℤ) (tuples : List (List FieldValue)) → ((t : Node) → AreTuplesOf x tuples t → ⊥) → TellNone x (best_of cost items ∷ tuples)
 none_of_tree x cost items tuples none c p t a = none t (told_tree x cost items tuples c p t a)
 
--- a permutation and a tree are told by their tuples
+-- a permutation's tuple and a tree's tuples say this permutation and this tree
 pub tells : (x : Placement) (cost stated : ℤ) (items values : List ℤ) (tuples : List (List FieldValue)) (p : List ℕ) (t : Node) → stated ≡ cost → values ≡ items → IsPerm p → map pos p ≡ values → AreTuplesOf x tuples t → Tell x (best_of cost items ∷ tuples) stated p t
 tells x cost stated items values tuples p t same_cost same perm is a = record {
   permutation = perm;
@@ -231,6 +234,7 @@ tells x cost stated items values tuples p t same_cost same perm is a = record {
 pub same_told : (x : Placement) (tuples other : List (List FieldValue)) (c : ℤ) (p : List ℕ) (t : Node) → SameItems tuples other → Tell x other c p t → Tell x tuples c p t
 same_told x tuples other c p t same a = record { permutation = a.permutation; tree = a.tree; taken_apart = λ f. same f ∙ a.taken_apart f }
 
+-- the order of tuples has no part in why they aren't put together
 pub same_fault : (x : Placement) (tuples other : List (List FieldValue)) (e : AssembleError) → SameItems tuples other → IsTellingFault x other e → IsTellingFault x tuples e
 same_fault x tuples other e same (inl memory) = inl memory
 same_fault x tuples other e same (inr fault) =

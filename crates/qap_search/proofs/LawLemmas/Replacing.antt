@@ -37,6 +37,7 @@ mutual
   trees_by J K less (mirrored_node j m) (whole x) h = absurd h
   trees_by J K less (mirrored_node j m) (child x s c) h = less.mirrors x s c j m h
 
+  -- the same for the children of a split, from number c on
   pub all_trees_by : (J K : Judge) → AsksForLess J K → (ts : SearchTrees) (x : Placement) (s : Split) (c : ℕ) → AreTrees J x s c ts → AreTrees K x s c ts
   all_trees_by J K less no_trees x s c h = tt
   all_trees_by J K less (tree t rest) x s c h = (trees_by J K less t (child x s c) h.0, all_trees_by J K less rest x s (c + 1) h.1)
@@ -90,7 +91,7 @@ decided_not_cut (mirrored_node j m) one = absurd one
 pub IsNode-child : (n : ℕ) (x : Placement) (s : Split) (c : ℕ) → IsNode n x → IsNode n (child_of x s c)
 IsNode-child n x s c h = IsNode-placing n x (facility_on s.side x s.number c) (location_on s.side x s.number c) h
 
--- the tuple of a split tells which children are cut off, and no more of them
+-- the tuple of a split says which children are cut off, and no more of them
 said_same : (x : Placement) (s : Split) (d : Option Pair) (ts us : SearchTrees) → cut_numbers ts ≡ cut_numbers us → split_said x s d ts ≡ split_said x s d us
 said_same x s None ts us e = refl
 said_same x s (Some d) ts us e = ap (pruned_tuple x s d) e
@@ -100,13 +101,15 @@ pub said_weighs : (w : List FieldValue → ℕ) (each : ℕ) → ((x : Placement
 said_weighs w each at_split at_pruned x s None ts = at_split x s.number
 said_weighs w each at_split at_pruned x s (Some d) ts = at_pruned x s d (cut_numbers ts)
 
--- it is the tuple of no node of another kind
+-- the first byte of the word split
 abbrev pub split_tag : ℕ
 split_tag = 115
 
+-- the first byte of the word pruned
 abbrev pub pruned_tag : ℕ
 pruned_tag = 112
 
+-- the tuple of a split is that of no node of another kind
 pub said_other : (wanted : List FieldValue) → split_tag ≢ tag wanted → pruned_tag ≢ tag wanted → (x : Placement) (s : Split) (d : Option Pair) (ts : SearchTrees) → is_it wanted (split_said x s d ts) ≡ 0
 said_other wanted no_split no_pruned x s d ts =
     said_weighs (is_it wanted) 0 (λ x f. is_it-other wanted (split_tuple x f) no_split) (λ x s d cuts. is_it-other wanted (pruned_tuple x s d cuts) no_pruned) x s d ts
@@ -218,7 +221,7 @@ pub record WeighsDecided (w : List FieldValue → ℕ) (each : ℕ) : Type 0 whe
   pub at_mirrored : (x : Placement) (j : ℕ) (m : List ℕ) → w (mirrored_tuple x j m) ≡ 0
 
 mutual
-  -- what it comes to
+  -- summed over a tree's tuples it is `each` for every decided node
   pub weighed : (w : List FieldValue → ℕ) (each : ℕ) → WeighsDecided w each → (t : SearchTree) (y : Placement) → sum_by w (pieces y t) ≡ each * decided_count t
   weighed w each at open_node y = let one = at.at_open y in omega arith
   weighed w each at (closed_node u v) y = let one = at.at_closed y u v in omega arith
@@ -254,7 +257,7 @@ no_best b t y =
     let none = weighed (is_it (tuple_of b)) 0 (weighs_best (tuple_of b) refl) t y in
     omega arith
 
--- a permutation and its cost are told by their tuple
+-- a permutation and its cost are determined by their tuple
 same_best : (a b : Best) → tuple_of a ≡ tuple_of b → a ≡ b
 same_best a b e =
     let make : ℤ → List ℕ → Best = λ c p. record { cost = c; permutation = p } in
@@ -324,6 +327,7 @@ one_decided (closed_node u v) h = refl
 one_decided cut_node h = absurd h
 one_decided (mirrored_node j m) h = absurd h
 
+-- where an open node of a cut tree gives way to a decided one, the tuples are a cut tree with one commit more
 pub replacement : (S : Search) (gone kept added rest content : List (List FieldValue)) (commits : ℕ) → MayReplace S.cutting S.instance gone kept added → SameItems content (gone ++ (kept ++ rest)) → IsCutTree S content commits → IsCutTree S (added ++ (kept ++ rest)) (commits + 1)
 replacement S gone kept added rest content commits m s h =
     let I = S.instance in

@@ -14,10 +14,12 @@ pub others_count : (side : Side) (x : Placement) → IsPlacement x → length (o
 others_count Facility x placed = free_location_count x placed
 others_count Location x placed = free_facility_count x placed
 
+-- facility f and location k are both free
 pub record IsFreePair (x : Placement) (f k : ℕ) : Type 0 where
   pub facility : IsFreeFacility x f
   pub location : IsFreeLocation x k
 
+-- the facility and the location that child number c of a split puts together are free
 pub free_pair : (side : Side) (x : Placement) (n c : ℕ) → IsPlacement x → IsFreeOn side x n → c < length (others_on side x) → IsFreePair x (facility_on side x n c) (location_on side x n c)
 free_pair Facility x n c placed free less = record { facility = free; location = (ListsFree-free_below x.size x.places placed.places).each c less }
 free_pair Location x n c placed free less = record { facility = (ListsFree-free_below x.size x.facilities placed.facilities).each c less; location = free }

@@ -26,7 +26,7 @@ facilities_listed x h = ListsFree-free_below x.size x.facilities h.facilities
 locations_listed : (x : Placement) → IsPlacement x → ListsFree x.size x.places (free_locations x)
 locations_listed x h = ListsFree-free_below x.size x.places h.places
 
--- what putting the placed and then the free ones comes to
+-- what putting the placed and then the free ones yields
 pub completion_is : (x : Placement) (q zeros mid p matched : List ℕ) → IsPlacement x → IsMatching x q → length zeros ≡ x.size → matched ≡ map (slice_index (free_locations x)) q
     → Puts x.facilities x.places zeros mid → Puts (free_facilities x) matched mid p → IsCompletion x q p
 completion_is x q zeros mid p matched h m long matched_is first second =
@@ -125,6 +125,7 @@ completion_distinct x q p i j h m c (inr a) (inr b) same =
     let rows = m.bijection.distinct a.number b.number (omega arith) (omega arith) columns in
     sym a.is ∙ ap (λ (r : ℕ). get_or (free_facilities x) r 0) rows ∙ b.is
 
+-- what completes a node by a matching is a permutation
 pub completion_perm : (x : Placement) (q p : List ℕ) → IsPlacement x → IsMatching x q → IsCompletion x q p → IsPerm p
 completion_perm x q p h m c =
     let size = c.same_size in

@@ -53,12 +53,12 @@ children_by-count : (c : ℤ) (images : List (Option Image)) (i : ℕ) (zs : Lis
 children_by-count c images i [] = refl
 children_by-count c images i (z ∷ zs) = let rest = children_by-count c images (i + 1) zs in omega arith
 
--- a child that isn't cut off shows what it is to: where it is told to be an image, it is one
+-- a child that isn't cut off shows what it is to: where it is said to be an image, it is one
 uncut-tree : (I : Problem) (c : ℤ) (x : Placement) (s : Split) (i : ℕ) (m : Option Image) → IfSome m (IsImage I x s.side i) → IsTree (proving I c) (child x s i) (uncut m)
 uncut-tree I c x s i None h = tt
 uncut-tree I c x s i (Some m) h = h
 
--- the children of a split with duals, from number i on, by what the duals come to at each, and by which of them are images
+-- the children of a split with duals, from number i on, by what the duals reach at each and by which are images
 children_by-trees : (I : Problem) (c : ℤ) (x : Placement) (s : Split) (d : Pair) (images : List (Option Image)) (i : ℕ) (zs : List ℤ) → s.duals ≡ Some d → AreImages I x s.side images
     → ((k : ℕ) → k < length zs → Reaches I x d (facility_on s.side x s.number (i + k)) (location_on s.side x s.number (i + k)) (get_or zs k (pos 0))) → AreTrees (proving I c) x s i (children_by c images i zs)
 children_by-trees I c x s d images i [] has are reach = tt
@@ -110,7 +110,7 @@ branch_split true I c x t b placed thought h =
       );
     })
 
--- a split on what the thought tells
+-- a split on what the thought says
 pub decides_split : (cutting : Bool) (I : Problem) (c : ℤ) (x : Placement) (t : Thought) (b : Branch) (tuples : List (List FieldValue)) → IsPlacement x → IsThought cutting I x t → t.value <ℤ c → t.branch ≡ Some b → tuples ≡ pieces x (split_by (thought_on x t) c (branch_value b)) → DecidesBy cutting I c (thought_on x t) tuples
 decides_split cutting I c x t b tuples placed thought below branch is =
     let P : Option Branch → Type 0 = λ o. MatchOption o (length x.facilities ≡ x.size) (λ b. IsBranch cutting I x (pair t.u.items t.v.items) (branch_value b)) in
@@ -140,6 +140,7 @@ decides_closed cutting I c x t tuples h enough is =
       by = inl (enough, refl);
     }
 
+-- where the best permutation was read, a node may be replaced by what is decided of it by that
 pub replaces_read : (cutting : Bool) (I : Problem) (x : Placement) (b : Best) (gone kept added tuples : List (List FieldValue)) → IsPlacement x → x.size ≡ I.size → Decides cutting I b.cost x tuples → SameItems gone (node_tuple x ∷ []) → SameItems kept (tuple_of b ∷ []) → SameItems added tuples → MayReplace cutting I gone kept added
 replaces_read cutting I x b gone kept added tuples placed size d takes reads adds =
     let P : List (List FieldValue) → Type 0 = SameItems added in
@@ -155,6 +156,7 @@ replaces_read cutting I x b gone kept added tuples placed size d takes reads add
       tuples = inl (record { same = refl; takes = takes; reads = reads; adds = subst P d.are adds });
     }
 
+-- where it was taken, the same holds with one that is as good in its place, by which the node is decided
 pub replaces_taken : (cutting : Bool) (I : Problem) (x : Placement) (old new : Best) (gone kept added tuples : List (List FieldValue)) → IsPlacement x → x.size ≡ I.size → Decides cutting I new.cost x tuples → IsAsGood I old new → SameItems gone (node_tuple x ∷ tuple_of old ∷ []) → SameItems kept [] → SameItems added (tuple_of new ∷ tuples) → MayReplace cutting I gone kept added
 replaces_taken cutting I x old new gone kept added tuples placed size d good takes reads adds =
     let P : List (List FieldValue) → Type 0 = λ ts. SameItems added (tuple_of new ∷ ts) in
@@ -197,6 +199,7 @@ better_candidate cutting I old x t stated tuples is less d = record {
   decides = subst (λ (c : ℤ). DecidesBeside cutting I c t.candidate (thought_on x t) tuples) is d;
 }
 
+-- where the candidate costs no less than the old one, what is decided beside the old is decided beside the better one
 pub better_old : (cutting : Bool) (I : Problem) (old : Best) (t : ThoughtValue) (stated : ℤ) (tuples : List (List FieldValue)) → stated ≡ old.cost → old.cost ≤ℤ t.candidate.cost → DecidesBeside cutting I stated old.permutation t tuples → DecidesBetter cutting I t old tuples
 better_old cutting I old t stated tuples is more d = record {
   new = old;

@@ -96,7 +96,7 @@ entry_within I x r c value i placed below h =
     let is = h.sum in
     omega (arith, ints, is, linear, least)
 
--- with what the placed facilities cost they come to a number from -10^24 to 10^24
+-- with what the placed facilities cost they sum to a number from -10^24 to 10^24
 pub least_duals_above : (I : Problem) (x : Placement) (u v : List ℤ) → IsInstance I → IsPlacement x → AreLeastDuals I x u v → IsLimited (fixed_cost_of I x +ℤ dual_value u v)
 least_duals_above I x u v i placed h =
     let M = h.matrix in

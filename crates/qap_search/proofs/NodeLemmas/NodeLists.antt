@@ -10,12 +10,14 @@ use Rattle.qap_search.specs.Node.NodeList.{IsListOf, IsNextOf, IsReadFrom}
 use Rattle.qap_search.proofs.CertificateLemmas.Keys.{node_list-placing}
 use Rattle.qap_search.proofs.TupleLemmas.TupleReadings.{natural}
 
+-- a node's list has two numbers for each facility
 pub length-by_turns : (fs ks : List ℕ) → length ks ≡ length fs → length (by_turns fs ks) ≡ 2 * length fs
 length-by_turns [] [] h = omega arith
 length-by_turns [] (l ∷ ks) h = absurd (omega arith)
 length-by_turns (g ∷ fs) [] h = absurd (omega arith)
 length-by_turns (g ∷ fs) (l ∷ ks) h = let rest = length-by_turns fs ks (omega arith) in omega arith
 
+-- it alternates the facilities and their locations
 pub begins-by_turns : (fs ks : List ℕ) → length ks ≡ length fs → BeginsByTurns fs ks (by_turns fs ks)
 begins-by_turns [] ks h t less = absurd (omega arith)
 begins-by_turns (g ∷ fs) [] h t less = absurd (omega arith)
@@ -35,6 +37,7 @@ pub record HasPlaced (n : ℕ) (list : List ℤ) (node : Placement) (t : ℕ) : 
   pub is : node_list node ≡ take (2 * t) list
   pub only : (x : Placement) → IsPlacement x → x.size ≡ n → node_list x ≡ list → (node.facilities ≡ take t x.facilities) × (node.places ≡ take t x.places)
 
+-- before the first pair nothing is placed
 pub HasPlaced-none : (n : ℕ) (list : List ℤ) → IsPlacement (root_of n) → HasPlaced n list (root_of n) 0
 HasPlaced-none n list h = record { placed = h; size = refl; depth = refl; is = refl; only = λ x placed size is. (refl, refl) }
 
@@ -55,6 +58,7 @@ take_two list t a b less first second =
     ∙ ap₂ (λ (xs : List ℤ) (z : ℤ). xs ++ z ∷ []) (take_more list (2 * t) (pos 0) (omega arith) ∙ ap (λ (z : ℤ). take (2 * t) list ++ z ∷ []) first) second
     ∙ append_assoc (take (2 * t) list) (a ∷ []) (b ∷ [])
 
+-- with the next two numbers placed, one pair more is
 pub HasPlaced-more : (n : ℕ) (list : List ℤ) (node next : Placement) (t : ℕ) → HasPlaced n list node t → 2 * t + 1 < length list → IsNextOf node (get_or list (2 * t) (pos 0)) (get_or list (2 * t + 1) (pos 0)) next → HasPlaced n list next (t + 1)
 HasPlaced-more n list node next t h less s =
     let made : HasPlaced n list (placing node s.f s.k) (t + 1) = record {
@@ -89,6 +93,7 @@ next_free taken xs n t is within distinct less i below same =
     let one = distinct i t (omega arith) less (sym at ∙ same) in
     omega arith
 
+-- where the next two numbers are not a free facility and a free location, the list is no node's
 pub none_next : (n : ℕ) (list : List ℤ) (node : Placement) (t : ℕ) → HasPlaced n list node t → 2 * t + 1 < length list → ((f k : ℕ) → IsFreeFacility node f → IsFreeLocation node k → get_or list (2 * t) (pos 0) ≡ pos f → get_or list (2 * t + 1) (pos 0) ≢ pos k) → (x : Placement) → IsPlacement x → x.size ≡ n → node_list x ≢ list
 none_next n list node t h less none x placed size is =
     let long = list_long x list placed is in
@@ -105,9 +110,11 @@ none_next n list node t h less none x placed size is =
     (record { within = omega arith; untaken = next_free node.places x.places x.size t before.1 placed.places.within placed.places.distinct there })
     pair.0 pair.1
 
+-- a list of odd length is no node's
 pub none_odd : (n : ℕ) (list : List ℤ) → ((m : ℕ) → length list ≢ 2 * m) → (x : Placement) → IsPlacement x → x.size ≡ n → node_list x ≢ list
 none_odd n list odd x placed size is = odd (length x.facilities) (list_long x list placed is)
 
+-- once all pairs have been placed, the node is the one whose list this is
 pub all_placed : (n : ℕ) (list : List ℤ) (node : Placement) (t : ℕ) → HasPlaced n list node t → length list ≡ 2 * t → IsReadFrom n list node
 all_placed n list node t h long = record { placement = h.placed; size = h.size; is = h.is ∙ take_all (2 * t) list (omega arith) }
 
@@ -119,9 +126,11 @@ short_list x list h =
     let small = h.placement.small in
     omega arith
 
+-- the list of a node with a facility and a location behind it is the list of the child
 pub child_list : (x : Placement) (list child : List ℤ) (f k : ℕ) → IsListOf x list → child ≡ list ++ (pos f ∷ pos k ∷ []) → child ≡ node_list (placing x f k)
 child_list x list child f k h is = is ∙ ap (λ (xs : List ℤ). xs ++ (pos f ∷ pos k ∷ [])) (sym h.is) ∙ sym (node_list-placing x f k h.placement.paired)
 
+-- such a list has at most 514 numbers
 pub short_child : (x : Placement) (list child : List ℤ) (f k : ℕ) → IsListOf x list → child ≡ list ++ (pos f ∷ pos k ∷ []) → length child ≤ 514
 short_child x list child f k h is =
     let count = ap length is in

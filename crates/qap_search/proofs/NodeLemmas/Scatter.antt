@@ -8,6 +8,7 @@ pub record HasPut (at values old new : List ℕ) (n : ℕ) : Type 0 where
   pub put : (t : ℕ) → t < n → get_or new (get_or at t 0) 0 ≡ get_or values t 0
   pub kept : (i : ℕ) → ((t : ℕ) → t < n → get_or at t 0 ≢ i) → get_or new i 0 ≡ get_or old i 0
 
+-- with value number n put at its place, the first n + 1 values have been put
 pub HasPut-more : (at values old new : List ℕ) (n k x : ℕ) → AreDifferent (length old) at → n < length at → HasPut at values old new n → k ≡ get_or at n 0 → x ≡ get_or values n 0 → length (set new k x) ≡ length new → HasPut at values old (set new k x) (n + 1)
 HasPut-more at values old new n k x different below h is value long = record {
   long = long ∙ h.long;

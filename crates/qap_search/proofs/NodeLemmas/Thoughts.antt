@@ -8,6 +8,7 @@ use Rattle.gilmore_lawler.specs.ReducedMatrix.{IsReduced}
 use Rattle.gilmore_lawler.specs.Closing.{AreDuals}
 use Rattle.qap_search.proofs.CertificateLemmas.Certificates.{free_facility_count}
 
+-- numbers within a limit are within each greater one
 pub within_more : (m n : ℕ) (xs : List ℤ) → m ≤ n → AllWithin m xs → AllWithin n xs
 within_more m n xs more h = record { each = λ j less. (let within = h.each j less in omega arith) }
 

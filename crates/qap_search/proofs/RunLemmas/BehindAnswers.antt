@@ -1,4 +1,4 @@
--- The run behind what a search comes to, from the run that led to what it left.
+-- The run behind what a search yields, from the run that led to what it left.
 use Rattle.std.proofs.Common.{◌≡◌, ℕ, List, Option, Result, Ok, Err, MatchResult, count_by, arith, ap}
 use Rattle.shared_space.specs.Limit.{is_reached}
 use Rattle.shared_space.specs.Place.{place_of}
@@ -21,7 +21,7 @@ accepted_are S workers limit w ran =
     let same = ap (λ (v : World). v.commits) ran.is in
     omega (arith, counted, ran.opens.fresh, same)
 
--- so many commits, as an answer's reports tell them
+-- as many commits as an answer's reports say
 pub ran_so : (S : Search) (workers : ℕ) (limit : Option ℕ) (r : Run) (count : ℕ) (reports : List Report) → RanTo S workers limit r.space → IsEnded S limit r → Tells r count reports → Ran S workers limit (accepted_of reports) count
 ran_so S workers limit r count reports ran ended told =
     let accepted = accepted_are S workers limit r.space ran in
@@ -34,7 +34,7 @@ ran_to_fault S workers limit r (Unfinished count) ran ended fault told =
 ran_to_fault S workers limit r (Stopped a) ran ended fault told = (told.0, ran_so S workers limit r told.0 a.reports.items ran ended told.1, told.2)
 ran_to_fault S workers limit r OutOfMemory ran ended fault told = tt
 
--- what a search comes to, with the run behind it
+-- what a search yields, with the run behind it
 pub ran_behind : {X : Type 0} (reports : X → List Report) (S : Search) (workers : ℕ) (limit : Option ℕ) (r : Run) (P : X → Type 0) (result : Result X SolveError) → RanTo S workers limit r.space → IsEnded S limit r → MatchResult result P (IsEndFault S limit r)
     → MatchResult result (λ a. Tells r 0 (reports a)) (FaultTells r) → MatchResult result (λ a. Ran S workers limit (accepted_of (reports a)) 0) (RanToFault S workers limit)
 ran_behind reports S workers limit r P (Ok a) ran ended answer told = ran_so S workers limit r 0 (reports a) ran ended told

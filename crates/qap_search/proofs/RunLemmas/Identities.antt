@@ -9,6 +9,7 @@ use Rattle.qap_cost.specs.Bijection.{IsPerm}
 same_at : (n i : ℕ) → i < length (range_with_len 0 n) → slice_index (range_with_len 0 n) i ≡ i
 same_at n i h = get_or-range_with_len 0 n i 0 (omega (arith, length-range_with_len 0 n)) ∙ omega arith
 
+-- the numbers below n, ascending, are a permutation
 pub IsPerm-range : (n : ℕ) → 0 < n → n ≤ 256 → IsPerm (range_with_len 0 n)
 IsPerm-range n positive small =
     let count = length-range_with_len 0 n in

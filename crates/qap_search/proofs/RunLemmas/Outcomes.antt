@@ -34,7 +34,7 @@ solve_fault S limit r (Unfinished count) ended left = record { content = content
 solve_fault S limit r (Stopped a) ended stopped = stopped.1
 solve_fault S limit r OutOfMemory ended memory = tt
 
--- what a run comes to is what its search comes to
+-- what a run yields is what its search yields
 pub told_of : {X : Type 0} (S : Search) (workers : ℕ) (limit : Option ℕ) (r : Run) (P : ℕ → X → Type 0) (result : Result X SolveError) → IsEnded S limit r → length r.reports.items ≡ workers → MatchResult result (P (length r.reports.items)) (IsEndFault S limit r) → MatchResult result (P workers) (IsSearchFault S workers limit)
 told_of S workers limit r P (Ok x) ended one_each h = subst (λ (n : ℕ). P n x) one_each h
 told_of S workers limit r P (Err e) ended one_each h = subst (λ (n : ℕ). IsSearchFault S n limit e) one_each (solve_fault S limit r e ended h)
@@ -112,6 +112,8 @@ least_of_all I workers limit a h = record {
   within = h.within;
 }
 
+-- the answer of a search of all permutations from the identity is one for the instance, and so is the fault where there
+-- is none
 pub least_told : (I : Problem) (workers : ℕ) (limit : Option ℕ) (result : Result Least SolveError) → MatchResult result (IsLeastFrom (whole I) workers limit) (IsSearchFault (whole I) workers limit) → MatchResult result (IsLeastAnswer I workers limit) (IsSolveFault I workers limit)
 least_told I workers limit (Ok a) h = least_of_all I workers limit a h
 least_told I workers limit (Err e) h = h

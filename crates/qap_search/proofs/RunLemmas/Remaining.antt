@@ -88,6 +88,7 @@ pub none_of : {X : Type 0} (o : Option X) (A : Type 0) (B : X → Type 0) → is
 none_of None A B e h = h
 none_of (Some x) A B e h = absurd (false≢true (sym e))
 
+-- where an option is some, what it says of its item may be replaced by what follows from it
 pub some_of : {X : Type 0} (o : Option X) (A C : Type 0) (B D : X → Type 0) → is_some o ≡ true → ((x : X) → B x → D x) → MatchOption o A B → MatchOption o C D
 some_of None A C B D e f h = absurd (false≢true e)
 some_of (Some x) A C B D e f h = f x h
@@ -119,6 +120,7 @@ all_in_front P os m h =
     let back = tuples_in (drop m os) in
     subst (All P) (take-append_seam front back) (All-take P (length front) (front ++ back) (subst (All P) (both_parts os m) h))
 
+-- the same for the second part
 pub all_in_back : (P : List FieldValue → Type 0) (os : List (Option Entry)) (m : ℕ) → All P (tuples_in os) → All P (tuples_in (drop m os))
 all_in_back P os m h =
     let front = tuples_in (take m os) in

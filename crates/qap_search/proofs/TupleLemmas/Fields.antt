@@ -16,7 +16,7 @@ abbrev word_in : Option (List ℕ) → List ℕ
 word_in (Some bytes) = bytes
 word_in None = []
 
--- the word that a field is told to be
+-- the word that a field is said to be
 pub word_said : (field : FieldValue) (bytes : List ℕ) → Some bytes ≡ word_of field → field ≡ word bytes
 word_said (number m) bytes e = absurd (none-some bytes (sym e))
 word_said (word s) bytes e = ap word (sym (ap word_in e))
@@ -26,7 +26,7 @@ abbrev bytes_in : FieldValue → List ℕ
 bytes_in (word bytes) = bytes
 bytes_in _ = []
 
--- a test of a word's bytes tells which word the field is
+-- a test of a word's bytes decides which word the field is
 pub word_test : (b : Bool) (s t : List ℕ) (field : FieldValue) → b ≡ bytes_eq s t → field ≡ word s → IsTrue b ↔ (field ≡ word t)
 word_test b s t field tests is =
     let decides = bytes_eq-Decides s t in
@@ -42,6 +42,7 @@ abbrev first_of_row : List FieldValue → FieldValue
 first_of_row [] = word []
 first_of_row (x ∷ xs) = x
 
+-- a test of the word of a field is one of the row that has this field alone
 pub only_word_test : (b : Bool) (fields : List Field) (field : Field) (name : List ℕ) → fields ≡ field ∷ [] → IsTrue b ↔ (field_value field ≡ word name) → IsTrue b ↔ (fields_value fields ≡ word name ∷ [])
 only_word_test b fields field name is test =
     let row : fields_value fields ≡ field_value field ∷ [] = ap fields_value is in
@@ -55,13 +56,13 @@ abbrev numbers_within : Option (List ℤ) → List ℤ
 numbers_within (Some ns) = ns
 numbers_within None = []
 
--- the number that a field is told to be
+-- the number that a field is said to be
 pub number_from : (field : FieldValue) (n : ℤ) → Some n ≡ number_of field → field ≡ number n
 number_from (number m) n e = ap number (sym (ap number_in e))
 number_from (word s) n e = absurd (none-some n (sym e))
 number_from (numbers ms) n e = absurd (none-some n (sym e))
 
--- the list that a field is told to be
+-- the list that a field is said to be
 pub numbers_from : (field : FieldValue) (ns : List ℤ) → Some ns ≡ numbers_of field → field ≡ numbers ns
 numbers_from (number m) ns e = absurd (none-some ns (sym e))
 numbers_from (word s) ns e = absurd (none-some ns (sym e))

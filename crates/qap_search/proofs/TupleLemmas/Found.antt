@@ -15,6 +15,7 @@ use Rattle.qap_search.specs.Law.SearchTree.{SearchTree, open_node, split_node, c
 use Rattle.qap_search.proofs.CertificateLemmas.Certificates.{child_placed}
 use Rattle.qap_search.proofs.TupleLemmas.TupleReadings.{found_in, is_it, is_it-found, is_it-itself, tag}
 
+-- a tuple that stands at some place of a list is found there
 pub found_from_Contains : (xs : List (List FieldValue)) (t : List FieldValue) (k : ℕ) → k < length xs → get_or xs k t ≡ t → 1 ≤ sum_by (is_it t) xs
 found_from_Contains [] t k below is = absurd (omega arith)
 found_from_Contains (x ∷ xs) t zero below is =
@@ -95,6 +96,7 @@ in_cut_tree S content commits w h at =
       | inr later ↦ inr (piece_found (judge_of S.cutting I h.cost) I.size w h.tree (whole root) h.root h.same_size h.valid later)
     ]
 
+-- a tuple of a cut tree that the template of open nodes matches is that of an open node
 pub node_found : (S : Search) (content : List (List FieldValue)) (commits : ℕ) (w : List FieldValue) → IsCutTree S content commits → Contains content w → is_open w ≡ true → IsOpenNode S.instance.size w
 node_found S content commits w h at asked =
     let I = S.instance in
@@ -103,6 +105,7 @@ node_found S content commits w h at asked =
       | inr piece ↦ elim piece as (λ (_ : IsOpenNode I.size w ⊎ IsOtherTuple w). IsOpenNode I.size w) [ inl node ↦ node | inr other ↦ absurd (false≢true (sym other.not_open ∙ asked)) ]
     ]
 
+-- one that the template of the best permutation matches is that of a permutation and its cost
 pub best_found_there : (S : Search) (content : List (List FieldValue)) (commits : ℕ) (w : List FieldValue) → IsCutTree S content commits → Contains content w → is_best w ≡ true → IsBestFound S.instance w
 best_found_there S content commits w h at is =
     let I = S.instance in

@@ -57,6 +57,7 @@ pieces_next c x s images zs n less =
     ∙ pieces-more c x s images 0 (take n zs) (get_or zs n (pos 0))
     ∙ ap (λ (j : ℕ). pieces_of_all x s 0 (children_by c images 0 (take n zs)) ++ pieces (child_of x s j) (child_by c (get_or zs n (pos 0)) (image_at images j))) long
 
+-- with the tuple of a child that isn't cut off, the tuples are those of one child more
 pub child_opened : (c : ℤ) (x : Placement) (s : Split) (images : List (Option Image)) (zs : List ℤ) (n : ℕ) (head : List FieldValue) (old new : List (List FieldValue)) (t : List FieldValue) → n < length zs → get_or zs n (pos 0) <ℤ c → old ≡ head ∷ pieces_of_all x s 0 (children_by c images 0 (take n zs)) → pieces (child_of x s n) (uncut (image_at images n)) ≡ t ∷ [] → new ≡ old ++ t ∷ [] → new ≡ head ∷ pieces_of_all x s 0 (children_by c images 0 (take (n + 1) zs))
 child_opened c x s images zs n head old new t inside less is here pushed =
     let z = get_or zs n (pos 0) in
@@ -66,6 +67,7 @@ child_opened c x s images zs n head old new t inside less is here pushed =
     ∙ ap (λ (r : SearchTree). head ∷ (before ++ pieces (child_of x s n) r)) (sym (by_less c z (image_at images n) less))
     ∙ ap (λ (ts : List (List FieldValue)). head ∷ ts) (sym (pieces_next c x s images zs n inside))
 
+-- a child that is cut off has no tuple, so that they are those of one child more
 pub child_cut : (c : ℤ) (x : Placement) (s : Split) (images : List (Option Image)) (zs : List ℤ) (n : ℕ) (head : List FieldValue) (old : List (List FieldValue)) → n < length zs → c ≤ℤ get_or zs n (pos 0) → old ≡ head ∷ pieces_of_all x s 0 (children_by c images 0 (take n zs)) → old ≡ head ∷ pieces_of_all x s 0 (children_by c images 0 (take (n + 1) zs))
 child_cut c x s images zs n head old inside more is =
     let z = get_or zs n (pos 0) in
@@ -105,17 +107,21 @@ flags_next c zs n less =
     ∙ flags-more c 0 before z
     ∙ ap (λ (f : ℤ). cut_numbers (children_by c [] 0 before) ++ f ∷ []) (same_flag (int_lt z c) (image_at [] (0 + length before)) None)
 
+-- with a 0 for a child that isn't cut off, the flags are those of one child more
 pub flag_open : (c : ℤ) (zs : List ℤ) (n : ℕ) (old new : List ℤ) → n < length zs → get_or zs n (pos 0) <ℤ c → old ≡ cut_numbers (children_by c [] 0 (take n zs)) → new ≡ old ++ pos 0 ∷ [] → new ≡ cut_numbers (children_by c [] 0 (take (n + 1) zs))
 flag_open c zs n old new inside less is pushed =
     pushed ∙ ap₂ (λ (fs : List ℤ) (r : SearchTree). fs ++ cut_number r ∷ []) is (sym (by_less c (get_or zs n (pos 0)) None less)) ∙ sym (flags_next c zs n inside)
 
+-- with a 1 for a child that is cut off, they are so too
 pub flag_cut : (c : ℤ) (zs : List ℤ) (n : ℕ) (old new : List ℤ) → n < length zs → c ≤ℤ get_or zs n (pos 0) → old ≡ cut_numbers (children_by c [] 0 (take n zs)) → new ≡ old ++ pos 1 ∷ [] → new ≡ cut_numbers (children_by c [] 0 (take (n + 1) zs))
 flag_cut c zs n old new inside more is pushed =
     pushed ∙ ap₂ (λ (fs : List ℤ) (r : SearchTree). fs ++ cut_number r ∷ []) is (sym (by_more c (get_or zs n (pos 0)) None more)) ∙ sym (flags_next c zs n inside)
 
+-- once all children have been passed, they are the flags of all of them
 pub flags_all : (c : ℤ) (zs : List ℤ) (n : ℕ) (flags : List ℤ) → length zs ≤ n → flags ≡ cut_numbers (children_by c [] 0 (take n zs)) → flags ≡ cut_numbers (children_by c [] 0 zs)
 flags_all c zs n flags all is = is ∙ ap (λ (ys : List ℤ). cut_numbers (children_by c [] 0 ys)) (take_all n zs all)
 
+-- once all children have been passed, the tuples are those of all of them
 pub children_all : (c : ℤ) (x : Placement) (s : Split) (images : List (Option Image)) (zs : List ℤ) (n : ℕ) (head : List FieldValue) (tuples : List (List FieldValue)) → length zs ≤ n → tuples ≡ head ∷ pieces_of_all x s 0 (children_by c images 0 (take n zs)) → tuples ≡ head ∷ pieces_of_all x s 0 (children_by c images 0 zs)
 children_all c x s images zs n head tuples all is = is ∙ ap (λ (ys : List ℤ). head ∷ pieces_of_all x s 0 (children_by c images 0 ys)) (take_all n zs all)
 
@@ -123,6 +129,7 @@ children_all c x s images zs n head tuples all is = is ∙ ap (λ (ys : List ℤ
 pub seven_fields : (a b c d e f g : FieldValue) → IsField a → IsField b → IsField c → IsField d → IsField e → IsField f → IsField g → IsTuple (a ∷ b ∷ c ∷ d ∷ e ∷ f ∷ g ∷ [])
 seven_fields a b c d e f g ha hb hc hd he hf hg = record { some = omega arith; few = omega arith; each = All-from_recursion IsField (a ∷ b ∷ c ∷ d ∷ e ∷ f ∷ g ∷ []) (ha, (hb, (hc, (hd, (he, (hf, (hg, tt))))))) }
 
+-- the word of either side may stand in a field
 pub side_is_field : (side : Side) → IsField (word (side_word side))
 side_is_field Facility = search rules
 side_is_field Location = search rules

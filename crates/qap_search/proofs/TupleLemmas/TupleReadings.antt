@@ -23,12 +23,15 @@ abbrev counted : FieldValue → ℤ
 counted (number n) = n
 counted _ = pos 0
 
+-- the list in place k of a tuple, or an empty one
 abbrev pub list_at : ℕ → List FieldValue → List ℤ
 list_at k t = listed (get_or t k (number (pos 0)))
 
+-- the number in place k of a tuple, or 0
 abbrev pub number_at : ℕ → List FieldValue → ℤ
 number_at k t = counted (get_or t k (number (pos 0)))
 
+-- a number as a natural one, where it isn't negative
 abbrev pub natural : ℤ → ℕ
 natural (pos n) = n
 natural (negsuc n) = 0
@@ -65,6 +68,7 @@ pub record IsNode (n : ℕ) (x : Placement) : Type 0 where
   pub size : x.size ≡ n
   pub paired : length x.places ≡ length x.facilities
 
+-- a node with one pair more is a node of the same size
 pub IsNode-placing : (n : ℕ) (x : Placement) (f k : ℕ) → IsNode n x → IsNode n (placing x f k)
 IsNode-placing n x f k h =
     let size = h.size in
@@ -73,6 +77,7 @@ IsNode-placing n x f k h =
     let places = length-append x.places (k ∷ []) in
     record { size = h.size; paired = omega arith }
 
+-- two nodes with the same list are one
 pub same_node : (n : ℕ) (x y : Placement) → IsNode n x → IsNode n y → node_list x ≡ node_list y → x ≡ y
 same_node n x y hx hy e =
     let parts = by_turns-same x.facilities x.places y.facilities y.places hx.paired hy.paired e in
@@ -97,12 +102,15 @@ one_from : (b : Bool) → 1 ≤ cond b 1 0 → b ≡ true
 one_from true h = refl
 one_from false h = absurd (omega arith)
 
+-- a tuple that is counted as the wanted one is that one
 pub is_it-found : (wanted t : List FieldValue) → 1 ≤ is_it wanted t → t ≡ wanted
 is_it-found wanted t h = (Decides-tuple_eq t wanted).0 (one_from (tuple_eq t wanted) h)
 
+-- a tuple is counted as itself
 pub is_it-itself : (t : List FieldValue) → is_it t t ≡ 1
 is_it-itself t = ap (λ b. cond b 1 0) ((Decides-tuple_eq t t).1 refl)
 
+-- a tuple whose word begins with another byte isn't counted
 pub is_it-other : (wanted t : List FieldValue) → tag t ≢ tag wanted → is_it wanted t ≡ 0
 is_it-other wanted t different =
     cond_both (tuple_eq t wanted) 1 0 (λ (n : ℕ). n ≡ 0) (λ e. absurd (different (ap tag ((Decides-tuple_eq t wanted).0 e)))) (λ e. refl)

@@ -55,6 +55,8 @@ perm_locations : (number : ℕ) (t : TxnValue) (tuple : List FieldValue) (c : �
 perm_locations number t tuple c locations best there is w =
     (same_best best.cost c (map pos best.permutation) locations (sym w.is ∙ sym (tuple_at number t w.mark tuple w.here there) ∙ is)).1
 
+-- the permutation that is read from the locations in an entry's tuple is the best permutation's, or there is none at
+-- that entry
 pub perm_of : (r : Result (Option (List ℕ)) AllocError) (number : ℕ) (t : TxnValue) (tuple : List FieldValue) (c : ℤ) (locations : List ℤ) → Some tuple ≡ option_map (λ m. m.tuple) (find (λ m. m.entry == number) t.marks) → tuple ≡ best_of c locations → IfOk r (λ found. MatchOption found ((p : List ℕ) → IsPerm p → map pos p ≢ locations) (λ p. IsPerm p × (map pos p ≡ locations))) → IfOk r (λ perm. MatchOption perm ((best : Best) → IsBestAt number t best → ⊥) (λ p. (best : Best) → IsBestAt number t best → best.permutation ≡ p))
 perm_of (Err e) number t tuple c locations there is h = h
 perm_of (Ok None) number t tuple c locations there is h = λ best w. h best.permutation w.permutation (perm_locations number t tuple c locations best there is w)

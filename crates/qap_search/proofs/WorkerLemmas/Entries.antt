@@ -8,6 +8,7 @@ use Rattle.space_txn.specs.Content.{SameItems}
 use Rattle.tuple_match.specs.FieldValue.{FieldValue}
 use Rattle.qap_search.specs.declared.worker.forever_writes.WithEntry.{WithEntry}
 
+-- the tuple that stands with an entry
 abbrev pub tuple_in : WithEntry → List FieldValue
 tuple_in w = w.tuple
 

@@ -26,6 +26,7 @@ use Rattle.qap_search.proofs.TupleLemmas.Found.{node_found}
 matching_open : (tuple : List FieldValue) → IsTrue (is_open tuple) ↔ Matches node_template tuple → Matches node_template tuple → is_open tuple ≡ true
 matching_open tuple test m = test.1 m
 
+-- an error of another kind isn't that of a transaction that has ended
 pub not_expired : (e : TxnError) → (e ≡ Foreign) ⊎ ((e ≡ Exhausted) ⊎ (e ≡ OutOfMemory)) → e ≡ Expired → ⊥
 not_expired e (inl p) q = cc
 not_expired e (inr (inl p)) q = cc
@@ -38,6 +39,7 @@ not_committed_after h new t cost Foreign told other f = f
 not_committed_after h new t cost Exhausted told other f = f
 not_committed_after h new t cost OutOfMemory told other f = f
 
+-- what is known after the call of a new transaction that takes an open node's entry
 pub found_node : (cutting : Bool) (I : Problem) (lawful : Content → ℕ → Type 0) (allowed : Content → Content → Content → Type 0) (t t' : TxnValue) (answer : Answer) → ((template : List PatternValue) (tuple : List FieldValue) → IsTrue (does_match template tuple) ↔ Matches template tuple) → IsInstance I → IsSearchLaw cutting I lawful allowed → t.marks ≡ [] → t.writes ≡ [] → Finds (InLawful lawful) true node_template t answer t' → IsFoundNode I answer t'
 found_node cutting I lawful allowed t t' (found (Stored number)) test instance law no_marks no_writes f =
     let marks : t'.marks ≡ f.0 ∷ [] = ap (λ (x : TxnValue). x.marks) f.4 ∙ ap (with_mark f.0) no_marks in

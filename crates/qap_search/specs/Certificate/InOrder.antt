@@ -10,5 +10,6 @@ use Rattle.qap_search.specs.declared.tuples.parsing.DecidedNode.{DecidedNode}
 abbrev pub is_before : DecidedNode → DecidedNode → Bool
 is_before a b = is_lt (slice_cmp int_cmp (numbers_held a.node) (numbers_held b.node))
 
+-- the nodes are sorted in that order
 abbrev pub AreInOrder : List DecidedNode → Type 0
 AreInOrder nodes = IsSortedBy is_before nodes

@@ -41,6 +41,7 @@ abbrev mutual
   undecided_count (split_node s children) = undecided_counts children
   undecided_count _ = 0
 
+  -- the same for several trees together
   pub undecided_counts : SearchTrees → ℕ
   undecided_counts no_trees = 0
   undecided_counts (tree t rest) = undecided_count t + undecided_counts rest

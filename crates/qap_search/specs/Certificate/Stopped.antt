@@ -62,8 +62,8 @@ IsStoppedFault I tuples (Unfinished count) = ⊥
 IsStoppedFault I tuples NotATree = IsNotStopped I tuples
 IsStoppedFault I tuples OutOfMemory = Unit {0}
 
--- the certificate is that of a search that was stopped when it had decided so many nodes, and had others open; the leaves that
--- were closed before show its cost at least, so that only the open ones may show less
+-- the certificate is that of a search that was stopped when it had decided this many nodes, and had others open; the
+-- leaves that were closed before show its cost at least, so that only the open ones may show less
 pub record CertifiesStopped (I : Problem) (nodes : ℕ) (C : Claim) : Type 0 where
   pub certified : Certifies I C
   pub tree : SearchTree

@@ -23,6 +23,7 @@ pub record TellSearch (x : Placement) (tuples : List (List FieldValue)) (c : ℤ
 abbrev pub Tell : Placement → List (List FieldValue) → ℤ → List ℕ → Node → Type 0
 Tell x tuples c p t = TellSearch x tuples c p (of_proof t)
 
+-- the tuples are those of no permutation and no tree over x without open nodes
 abbrev pub TellNone : Placement → List (List FieldValue) → Type 0
 TellNone x tuples = (c : ℤ) (p : List ℕ) (t : Node) → Tell x tuples c p t → ⊥
 

@@ -26,6 +26,7 @@ pub record BeginWith (p : Place) (flag : ℤ) (t : Node) (tuples rest : List (Li
 abbrev pub BeginWithNone : Place → ℤ → List (List FieldValue) → Type 0
 BeginWithNone p flag tuples = (t : Node) (rest : List (List FieldValue)) → BeginWith p flag t tuples rest → ⊥
 
+-- why no tree is built: there is no memory, or the tuples begin with those of no tree there
 abbrev pub IsBuildFault : Place → ℤ → List (List FieldValue) → AssembleError → Type 0
 IsBuildFault p flag tuples e = (e ≡ OutOfMemory) ⊎ ((e ≡ NotATree) × BeginWithNone p flag tuples)
 
@@ -38,7 +39,7 @@ pub record AreFlags (count : ℕ) (s : Split) (flags : List ℤ) : Type 0 where
   pub one_each : length flags ≡ count
   pub each : (c : ℕ) → c < length flags → IsFlag s (slice_index_or flags c (pos 0))
 
--- each facility and each location of the two rows, by turns, stands at the front of the list
+-- each facility and each location of the two rows, alternately, stands at the front of the list
 abbrev pub BeginsByTurns : List ℕ → List ℕ → List ℤ → Type 0
 BeginsByTurns facilities places list =
     (t : ℕ) → t < length facilities →

@@ -14,6 +14,7 @@ pub record Best : Type 0 where
   pub cost : ℤ
   pub permutation : List ℕ
 
+-- the tuple of a permutation and its cost
 abbrev pub tuple_of : Best → List FieldValue
 tuple_of b = best_tuple b.cost b.permutation
 
@@ -42,7 +43,8 @@ pub record TakesBest (I : Problem) (x : Placement) (old new : Best) (decided : S
   pub reads : SameItems kept []
   pub adds : SameItems added (tuple_of new ∷ pieces x decided)
 
--- an open node gives way to one that is decided, by the best permutation that stands then; whether children may be cut off is told
+-- an open node gives way to one that is decided, by the best permutation that stands then; cutting says whether
+-- children may be cut off
 pub record MayReplace (cutting : Bool) (I : Problem) (gone kept added : List (List FieldValue)) : Type 0 where
   pub at : Placement
   pub placement : IsPlacement at

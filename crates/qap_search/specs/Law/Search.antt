@@ -6,7 +6,7 @@ use Rattle.qap_cost.specs.Objective.{Permutes, cost_of}
 use Rattle.qap_cost.specs.Placement.{Placement, Completes, IsPlacement, root_of}
 use Rattle.qap_search.specs.Law.Replacement.{Best}
 
--- cutting tells whether the search may cut children off by their parent's duals
+-- cutting says whether the search may cut children off by their parent's duals
 pub record Search : Type 0 where
   pub cutting : Bool
   pub instance : Problem
@@ -24,6 +24,7 @@ pub record IsSearch (S : Search) : Type 0 where
 abbrev pub NoneBelow : Search → ℤ → Type 0
 NoneBelow S c = (p : List ℕ) → Completes S.root p → c ≤ℤ cost_of S.instance p
 
+-- the search of I over the root x, by b as the permutation that is known; it may cut children off or may not
 abbrev pub search_of : Bool → Problem → Placement → Best → Search
 search_of cutting I x b = record { cutting = cutting; instance = I; root = x; known = b }
 

@@ -12,9 +12,9 @@ use Rattle.qap_proof.specs.Tree.{Pair, pair, Split, Node, closed, split, cut, mi
 use Rattle.qap_proof.specs.Valid.{IsCut, TakesOn}
 use Rattle.qap_proof.specs.declared.side.Side.TheVariants.{Facility}
 
--- a node that is open; a split, with a child for each free one of the other side, ascending; a node that duals close; a child that
--- the duals of its split cut off; or the image of the earlier child of this number under a permutation
 mutual
+  -- a node that is open; a split, with a child for each free one of the other side, ascending; a node that duals close;
+  -- a child that the duals of its split cut off; or the image of the earlier child of this number under a permutation
   pub data SearchTree : Type 0 where
     open_node : SearchTree
     split_node : Split → SearchTrees → SearchTree
@@ -22,10 +22,12 @@ mutual
     cut_node : SearchTree
     mirrored_node : ℕ → List ℕ → SearchTree
 
+  -- the trees of the children of a split, in order
   pub data SearchTrees : Type 0 where
     no_trees : SearchTrees
     tree : SearchTree → SearchTrees → SearchTrees
 
+-- how many trees the list has
 abbrev pub tree_count : SearchTrees → ℕ
 tree_count no_trees = 0
 tree_count (tree t rest) = 1 + tree_count rest
@@ -107,6 +109,7 @@ abbrev mutual
   decided_count (closed_node u v) = 1
   decided_count _ = 0
 
+  -- the same for several trees together
   pub decided_counts : SearchTrees → ℕ
   decided_counts no_trees = 0
   decided_counts (tree t rest) = decided_count t + decided_counts rest
@@ -130,6 +133,7 @@ abbrev mutual
   of_proof cut = cut_node
   of_proof (mirrored j m) = mirrored_node j m
 
+  -- the same for each of several trees
   pub of_proofs : Nodes → SearchTrees
   of_proofs no_nodes = no_trees
   of_proofs (node t rest) = tree (of_proof t) (of_proofs rest)
@@ -140,6 +144,7 @@ abbrev mutual
   as_proof (cert.split f children) = split (on_facility f) (as_proofs children)
   as_proof (cert.bound u v) = closed (pair u v)
 
+  -- the same for each of several trees
   pub as_proofs : cert.Nodes → Nodes
   as_proofs cert.no_nodes = no_nodes
   as_proofs (cert.node t rest) = node (as_proof t) (as_proofs rest)
@@ -148,10 +153,11 @@ abbrev mutual
 abbrev pub searched : cert.Node → SearchTree
 searched t = of_proof (as_proof t)
 
+-- the same for each of several trees
 abbrev pub searched_all : cert.Nodes → SearchTrees
 searched_all ts = of_proofs (as_proofs ts)
 
--- so many open nodes
+-- this many open nodes
 abbrev pub open_row : ℕ → SearchTrees
 open_row zero = no_trees
 open_row (suc n) = tree open_node (open_row n)

@@ -29,11 +29,11 @@ abbrev pub uncut : Option Image → SearchTree
 uncut None = open_node
 uncut (Some m) = mirrored_node m.earlier m.by
 
--- a child whose duals come to z there: where that is less than c it isn't cut off
+-- a child at which the duals reach z: where that is less than c it isn't cut off
 abbrev pub child_by : ℤ → ℤ → Option Image → SearchTree
 child_by c z m = if int_lt z c then uncut m else cut_node
 
--- the children from number i on, by what the duals come to at each, and which of them are images
+-- the children from number i on, by what the duals reach at each, and which of them are images
 abbrev pub children_by : ℤ → List (Option Image) → ℕ → List ℤ → SearchTrees
 children_by c images i [] = no_trees
 children_by c images i (z ∷ zs) = tree (child_by c z (image_at images i)) (children_by c images (i + 1) zs)
@@ -42,17 +42,18 @@ children_by c images i (z ∷ zs) = tree (child_by c z (image_at images i)) (chi
 abbrev pub pruned_split : Side → ℕ → List ℤ → List ℤ → Split
 pruned_split side number u v = record { side = side; number = number; duals = Some (pair u v) }
 
--- a node split so where the best permutation costs c, by what the duals come to at each child, if that is told: with the thought's
--- duals, which may cut children off, and with images; and else with all children open
+-- a node split so where the best permutation costs c, by what the duals reach at each child, if that is known: with the
+-- thought's duals, which may cut children off, and with images; and else with all children open
 abbrev pub split_with : ThoughtValue → ℤ → BranchValue → Option (List ℤ) → SearchTree
 split_with t c b None = split_open t.node b.number
 split_with t c b (Some zs) = split_node (pruned_split b.side b.number t.u t.v) (children_by c b.images 0 zs)
 
+-- the same, by the values at the children that the branch itself has
 abbrev pub split_by : ThoughtValue → ℤ → BranchValue → SearchTree
 split_by t c b = split_with t c b b.reached
 
--- what a thought makes of its node where the best permutation costs c: its duals close it where its value is at least that, and
--- else it is split on what the thought tells
+-- what a thought makes of its node where the best permutation costs c: its duals close it where its value is at least
+-- that, and else it is split on what the thought says
 abbrev pub IsDecisionOf : ThoughtValue → ℤ → SearchTree → Type 0
 IsDecisionOf t c decided =
     ((c ≤ℤ t.value) × (decided ≡ closed_node t.u t.v))

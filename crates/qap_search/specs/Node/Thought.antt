@@ -19,7 +19,7 @@ use Rattle.qap_search.specs.declared.node.branching.Branch.{Branch}
 use Rattle.qap_search.specs.declared.node.images.Image.{Image}
 use Rattle.qap_search.specs.declared.node.thought.Thought.{Thought}
 
--- for each child of a split of x, what the duals come to there
+-- for each child of a split of x, what the duals reach there
 pub record AreReached (I : Problem) (x : Placement) (d : Pair) (side : Side) (number : ℕ) (reached : List ℤ) : Type 0 where
   pub one_each : length reached ≡ free_count x
   pub are :
@@ -30,42 +30,48 @@ pub record AreReached (I : Problem) (x : Placement) (d : Pair) (side : Side) (nu
 abbrev pub image_at : List (Option Image) → ℕ → Option Image
 image_at images c = slice_index_or images c None
 
--- child number c of a split of x on this side is the image of the earlier child that is told, by the permutation that is told
+-- child number c of a split of x on this side is the image of the earlier child that m names, by its permutation
 abbrev pub IsImage : Problem → Placement → Side → ℕ → Image → Type 0
 IsImage I x side c m = (m.earlier < c) × TakesOn side I x m.earlier c m.by
 
--- so is each child of which the list tells it
+-- so is each child for which the list has an image
 abbrev pub AreImages : Problem → Placement → Side → List (Option Image) → Type 0
 AreImages I x side images = (c : ℕ) → IfSome (image_at images c) (IsImage I x side c)
 
--- what a node is to be split on; where children may be cut off, what its duals come to at each; and which children are images of
--- earlier ones
+-- what a node is to be split on; where children may be cut off, what its duals reach at each; and which children are
+-- images of earlier ones
 pub record BranchValue : Type 0 where
   pub side : Side
   pub number : ℕ
   pub reached : Option (List ℤ)
   pub images : List (Option Image)
 
--- x is to be split on a facility, of whose children nothing is said; or, where children may be cut off, on a facility or a location,
--- and what the duals come to at each child is told, and of some children that they are images of earlier ones
+-- x is to be split on a facility, of whose children nothing is said; or, where children may be cut off, on a facility
+-- or a location, with what the duals reach at each child, and with images of earlier children for some
 abbrev pub IsBranchBy : Bool → Problem → Placement → Pair → BranchValue → Type 0
 IsBranchBy false I x d b = (b.side ≡ Facility) × (b.reached ≡ None)
 IsBranchBy true I x d b = (zs : List ℤ) × (b.reached ≡ Some zs) × AreReached I x d b.side b.number zs × AreImages I x b.side b.images
 
+-- x is to be split so, on a facility or a location that is free
 abbrev pub IsBranch : Bool → Problem → Placement → Pair → BranchValue → Type 0
 IsBranch cutting I x d b = IsFreeOn b.side x b.number × IsBranchBy cutting I x d b
 
+-- the numbers of a list of the code, if there is one
 abbrev pub reached_in : Option (Vec ℤ) → Option (List ℤ)
 reached_in None = None
 reached_in (Some zs) = Some zs.items
 
+-- what a branch of the code says
 abbrev pub branch_value : Branch → BranchValue
 branch_value b = record { side = b.side; number = b.number; reached = reached_in b.reached; images = b.images.items }
 
+-- the same, if there is one
 abbrev pub branch_in : Option Branch → Option BranchValue
 branch_in None = None
 branch_in (Some b) = Some (branch_value b)
 
+-- duals of a least assignment of the reduced matrix of x, the bound that they give, the permutation that completes x by
+-- that assignment, with its cost, and what to split x on unless all facilities are placed
 pub record IsThought (cutting : Bool) (I : Problem) (x : Placement) (t : Thought) : Type 0 where
   pub matrix : Square
   pub square : IsMatrix matrix
@@ -81,6 +87,7 @@ pub record IsThought (cutting : Bool) (I : Problem) (x : Placement) (t : Thought
   pub costs : cost_of I t.candidate ≡ t.cost
   pub branch : MatchOption t.branch (length x.facilities ≡ x.size) (λ b. IsBranch cutting I x (pair t.u.items t.v.items) (branch_value b))
 
+-- the permutation that a thought completed its node to, and its cost
 abbrev pub candidate_of : Thought → Best
 candidate_of t = record { cost = t.cost; permutation = t.candidate }
 
@@ -94,6 +101,6 @@ pub record ThoughtValue : Type 0 where
   pub branch : Option BranchValue
   pub candidate : Best
 
--- what a thought on x tells
+-- what a thought on x says
 abbrev pub thought_on : Placement → Thought → ThoughtValue
 thought_on x t = record { node = x; value = t.value; u = t.u.items; v = t.v.items; branch = branch_in t.branch; candidate = candidate_of t }

@@ -1,4 +1,4 @@
--- What a search comes to.
+-- What a search yields.
 use Rattle.std.specs.Prelude.{◌≡◌, ◌≤ℤ◌, ℕ, ◌<◌, List, length, ℤ, Option, Some, IfSome}
 use Rattle.std.specs.List.{sum_by}
 use Rattle.qap_cost.specs.Instance.{Problem}
@@ -17,7 +17,7 @@ use Rattle.qap_search.specs.declared.worker.report.Report.{Report}
 use Rattle.qap_search.specs.declared.runs.answer.SolveError.{SolveError}
 use Rattle.qap_search.specs.declared.runs.answer.SolveError.TheVariants.{Unfinished, Stopped, OutOfMemory}
 
--- the certificate certifies its cost as the least one of the instance, by a tree of so many nodes
+-- the certificate certifies its cost as the least one of the instance, by a tree of this many nodes
 pub record CertifiesLeast (I : Problem) (nodes : ℕ) (C : Claim) : Type 0 where
   pub certificate : IsCertificate C
   pub certified : Certifies I C
@@ -28,14 +28,14 @@ pub record CertifiesLeast (I : Problem) (nodes : ℕ) (C : Claim) : Type 0 where
 abbrev pub accepted_of : List Report → ℕ
 accepted_of reports = sum_by (λ r. r.accepted) reports
 
--- a certificate of the instance's least cost, and a report for each of so many workers, whose accepted commits are together
--- the nodes of the certificate's tree, and at most the limit
+-- a certificate of the instance's least cost, and a report for each of this many workers, whose accepted commits are
+-- together the nodes of the certificate's tree, and at most the limit
 pub record IsAnswer (I : Problem) (workers : ℕ) (limit : Option ℕ) (a : Answer) : Type 0 where
   pub least : CertifiesLeast I (accepted_of a.reports.items) a.certificate
   pub one_each : length a.reports.items ≡ workers
   pub within : IsWithin limit (accepted_of a.reports.items)
 
--- after so many commits the search has left a cut tree without open nodes, with this best permutation of this cost
+-- after this many commits the search has left a cut tree without open nodes, with this best permutation of this cost
 pub record LeavesBest (S : Search) (commits : ℕ) (p : List ℕ) (c : ℤ) : Type 0 where
   pub content : List (List FieldValue)
   pub tree : IsCutTree S content commits
@@ -43,8 +43,8 @@ pub record LeavesBest (S : Search) (commits : ℕ) (p : List ℕ) (c : ℤ) : Ty
   pub best : tree.permutation ≡ p
   pub costs : tree.cost ≡ c
 
--- a permutation of the instance with its cost, and none that completes the root costs less; and a report for each of so many
--- workers, whose accepted commits are together those of the search that has left it, and at most the limit
+-- a permutation of the instance with its cost, and none that completes the root costs less; and a report for each of
+-- this many workers, whose accepted commits are together those of the search that has left it, and at most the limit
 pub record IsLeastFrom (S : Search) (workers : ℕ) (limit : Option ℕ) (a : Least) : Type 0 where
   pub permutes : Permutes S.instance a.permutation
   pub costs : cost_of S.instance a.permutation ≡ a.cost
@@ -53,8 +53,8 @@ pub record IsLeastFrom (S : Search) (workers : ℕ) (limit : Option ℕ) (a : Le
   pub one_each : length a.reports.items ≡ workers
   pub within : IsWithin limit (accepted_of a.reports.items)
 
--- a permutation of the instance with its cost, and none costs less; and a report for each of so many workers, whose accepted
--- commits are together those of the search that has left it, and at most the limit
+-- a permutation of the instance with its cost, and none costs less; and a report for each of this many workers, whose
+-- accepted commits are together those of the search that has left it, and at most the limit
 pub record IsLeastAnswer (I : Problem) (workers : ℕ) (limit : Option ℕ) (a : Least) : Type 0 where
   pub permutes : Permutes I a.permutation
   pub costs : cost_of I a.permutation ≡ a.cost
@@ -63,16 +63,16 @@ pub record IsLeastAnswer (I : Problem) (workers : ℕ) (limit : Option ℕ) (a :
   pub one_each : length a.reports.items ≡ workers
   pub within : IsWithin limit (accepted_of a.reports.items)
 
--- what is left where the limit of commits was reached while nodes were open: a certificate with these nodes closed, whose
--- permutation costs no more than the one that was known, and a report for each of so many workers, whose accepted commits are
--- together the limit
+-- what is left where the limit of commits was reached while nodes were open: a certificate with these nodes closed,
+-- whose permutation costs no more than the one that was known, and a report for each of this many workers, whose
+-- accepted commits are together the limit
 pub record IsStoppedAnswer (S : Search) (workers : ℕ) (limit : Option ℕ) (a : Answer) : Type 0 where
   pub reached : limit ≡ Some (accepted_of a.reports.items)
   pub one_each : length a.reports.items ≡ workers
   pub stopped : CertifiesStopped S.instance (accepted_of a.reports.items) a.certificate
   pub no_dearer : a.certificate.cost ≤ℤ S.known.cost
 
--- so many nodes of the content are open, and its commits are fewer than the limit
+-- this many nodes of the content are open, and its commits are fewer than the limit
 pub record IsOpenBelow (limit : Option ℕ) (content : List (List FieldValue)) (commits count : ℕ) : Type 0 where
   pub some : 0 < count
   pub counted : open_count content ≡ count
@@ -85,8 +85,8 @@ pub record LeavesOpen (S : Search) (limit : Option ℕ) (count : ℕ) : Type 0 w
   pub tree : IsCutTree S content commits
   pub so_many : IsOpenBelow limit content commits count
 
--- why there is no answer: some nodes are open, so many, and the limit of commits was not reached; it was reached before; or memory
--- ran out
+-- why there is no answer: this many nodes are open, and the limit of commits was not reached; it was reached before; or
+-- memory ran out
 abbrev pub IsSearchFault : Search → ℕ → Option ℕ → SolveError → Type 0
 IsSearchFault S workers limit (Unfinished count) = LeavesOpen S limit count
 IsSearchFault S workers limit (Stopped a) = IsStoppedAnswer S workers limit a

@@ -76,15 +76,16 @@ abbrev pub Runs : Problem → ℕ → Moment → List Step → Moment → Type 0
 Runs I lease old [] new = new ≡ old
 Runs I lease old (s ∷ rest) new = (next : Moment) × Moves I lease old s next × Runs I lease next rest new
 
--- the beginning: the space as a search finds it, and so many workers who have done nothing yet
+-- a worker who has done nothing yet, with nothing counted
 abbrev pub beginner : Problem → ℕ → PostValue
 beginner I lease = record { hand = new_hand false I lease; accepted = 0; refused = 0 }
 
+-- the beginning: the space as a search finds it, and this many workers who have done nothing yet
 abbrev pub start_of : Problem → ℕ → ℕ → Moment
 start_of I lease workers =
     record { posts = replicate workers (beginner I lease); place = place_of (opening_of (whole I)) workers 0 false }
 
--- what is told of the workers at one place
+-- what is reported of the workers at one place
 abbrev pub report_of : PostValue → Report
 report_of p = record { accepted = p.accepted + p.hand.accepted; refused = together p.refused p.hand.refused; ended = Done }
 

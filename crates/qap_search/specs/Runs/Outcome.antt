@@ -23,8 +23,8 @@ pub record IsFinished (r : Run) (f : Finished) : Type 0 where
   pub none_open : open_count f.tuples.items ≡ 0
   pub reports : f.reports.items ≡ r.reports.items
 
--- what the run has left is no answer: so many of its nodes are open, and the limit of commits was not reached; it was reached while
--- some were open; or memory ran out
+-- what the run has left is no answer: this many of its nodes are open, and the limit of commits was not reached; it was
+-- reached while some were open; or memory ran out
 abbrev pub IsEndFault : Search → Option ℕ → Run → SolveError → Type 0
 IsEndFault S limit r (Unfinished count) = IsOpenBelow limit (content_of r.space) r.space.commits count
 IsEndFault S limit r (Stopped a) =

@@ -1,4 +1,4 @@
--- The proof that a search over any node comes to, where nodes may be left open.
+-- The proof that a search over any node yields, where nodes may be left open.
 use Rattle.std.specs.Prelude.{◌≡◌, ◌≤ℤ◌, ℕ, List, length, Option}
 use Rattle.qap_proof.specs.Claim.{Claim, IsProof, Proves}
 use Rattle.shared_space.specs.Limit.{IsWithin}
@@ -22,16 +22,16 @@ pub record IsProofOf (S : Search) (content : List (List FieldValue)) (commits : 
   pub closed : ClosedTo S.instance S.root h.tree C.tree
   pub least : IsBoundOf S.instance S.root C.cost C.tree C.bound
 
--- after so many commits the search has left a cut tree with so many open nodes, and this is its proof
+-- after this many commits the search has left a cut tree with this many open nodes, and this is its proof
 pub record LeavesProof (S : Search) (commits left : ℕ) (C : Claim) : Type 0 where
   pub content : List (List FieldValue)
   pub tree : IsCutTree S content commits
   pub counted : open_count content ≡ left
   pub proof : IsProofOf S content commits tree C
 
--- a proof of the instance over the root, whose permutation costs at most what was known, and whose bound is the cost where no node is left
--- open; and a report for each of so many workers, whose accepted commits are together those of the search that has left it, and at most
--- the limit
+-- a proof of the instance over the root, whose permutation costs at most what was known, and whose bound is the cost
+-- where no node is left open; and a report for each of this many workers, whose accepted commits are together those of
+-- the search that has left it, and at most the limit
 pub record IsProvedFrom (S : Search) (workers : ℕ) (limit : Option ℕ) (a : Proved) : Type 0 where
   pub shape : IsProof a.proof
   pub proves : Proves S.instance a.proof

@@ -1,4 +1,4 @@
--- The run behind what a search comes to: what its workers and its keeper did with the space, act by act.
+-- The run behind what a search yields: what its workers and its keeper did with the space, act by act.
 use Rattle.std.specs.Prelude.{◌≡◌, ℕ, ◌<◌, List, count_by, Option, IfSome}
 use Rattle.shared_space.specs.Limit.{is_reached}
 use Rattle.shared_space.specs.Place.{Place, place_of}
@@ -24,7 +24,7 @@ pub record RanTo (S : Search) (workers : ℕ) (limit : Option ℕ) (w : World) :
   pub is : place.world ≡ w
   pub run : Run (MayReplace S.cutting S.instance) limit (place_of opening workers 0 (is_reached limit 0)) place
 
--- such a run has so many accepted commits, and leaves so many nodes open
+-- such a run has this many accepted commits, and leaves this many nodes open
 pub record Ran (S : Search) (workers : ℕ) (limit : Option ℕ) (commits count : ℕ) : Type 0 where
   pub world : World
   pub ran : RanTo S workers limit world
@@ -37,12 +37,12 @@ RanToFault S workers limit (Unfinished count) = (commits : ℕ) × Ran S workers
 RanToFault S workers limit (Stopped a) = (count : ℕ) × Ran S workers limit (accepted_of a.reports.items) count × (0 < count)
 RanToFault S workers limit OutOfMemory = Unit {0}
 
--- so many nodes are open in what the run has left, and these are its reports
+-- this many nodes are open in what the run has left, and these are its reports
 pub record Tells (r : ends.Run) (count : ℕ) (told : List Report) : Type 0 where
   pub left_open : open_count (content_of r.space) ≡ count
   pub reports : told ≡ r.reports.items
 
--- what a reason for no answer tells of the run
+-- what a reason for no answer says of the run
 abbrev pub FaultTells : ends.Run → SolveError → Type 0
 FaultTells r (Unfinished count) = open_count (content_of r.space) ≡ count
 FaultTells r (Stopped a) = (count : ℕ) × Tells r count a.reports.items × (0 < count)

@@ -34,18 +34,22 @@ mirrored_of xs j ms = word (codes "mirrored") ∷ numbers xs ∷ number j ∷ nu
 abbrev pub best_of : ℤ → List ℤ → List FieldValue
 best_of c ps = word (codes "best") ∷ number c ∷ numbers ps ∷ []
 
+-- what was decided of the node of this list, as a tuple
 abbrev pub decision_tuple : List ℤ → Decision → List FieldValue
 decision_tuple xs (Split f) = split_of xs f
 decision_tuple xs (Pruned s) = pruned_of xs s.side s.number (numbers_held s.duals.u) (numbers_held s.duals.v) (numbers_held s.cuts)
 decision_tuple xs (Closed d) = closed_of xs (numbers_held d.u) (numbers_held d.v)
 decision_tuple xs (Mirrored j ms) = mirrored_of xs j (numbers_held ms)
 
+-- a decided node as a tuple
 abbrev pub decided_tuple : DecidedNode → List FieldValue
 decided_tuple d = decision_tuple (numbers_held d.node) d.decision
 
+-- the best permutation found, and its cost, as a tuple
 abbrev pub found_tuple : BestFound → List FieldValue
 found_tuple b = best_of b.cost (numbers_held b.locations)
 
+-- either of them as a tuple
 abbrev pub piece_tuple : Piece → List FieldValue
 piece_tuple (Best b) = found_tuple b
 piece_tuple (Decided d) = decided_tuple d

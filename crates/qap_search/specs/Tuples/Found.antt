@@ -13,6 +13,7 @@ use Rattle.qap_search.specs.Law.Replacement.{Best, tuple_of}
 abbrev pub best_template : List PatternValue
 best_template = actual (word (codes "best")) ∷ any_number ∷ any_numbers ∷ []
 
+-- the test for the tuple of a best permutation
 abbrev pub is_best : List FieldValue → Bool
 is_best tuple = does_match best_template tuple
 

@@ -11,7 +11,7 @@ use Rattle.tuple_match.specs.Matching.{does_match}
 use Rattle.tuple_match.specs.PatternValue.{PatternValue, actual, any_numbers}
 use Rattle.qap_search.specs.Law.SearchTree.{SearchTree, open_node, split_node, closed_node, cut_node, mirrored_node, SearchTrees, no_trees, tree}
 
--- a node as a list: the facilities that are placed and their locations by turns, in the order of placing
+-- a node as a list: the facilities that are placed and their locations alternately, in the order of placing
 abbrev pub node_list : Placement → List ℤ
 node_list x = by_turns x.facilities x.places
 
@@ -23,6 +23,7 @@ node_tuple x = word (codes "node") ∷ numbers (node_list x) ∷ []
 abbrev pub split_tuple : Placement → ℕ → List FieldValue
 split_tuple x f = word (codes "split") ∷ numbers (node_list x) ∷ number (pos f) ∷ []
 
+-- the word for the side that a node is split on
 abbrev pub side_word : Side → List ℕ
 side_word Facility = codes "facility"
 side_word Location = codes "location"
@@ -36,10 +37,12 @@ pruned_tuple x s d cuts =
 abbrev pub mirrored_tuple : Placement → ℕ → List ℕ → List FieldValue
 mirrored_tuple x j m = word (codes "mirrored") ∷ numbers (node_list x) ∷ number (pos j) ∷ numbers (map pos m) ∷ []
 
+-- 1 for a child that is cut off, 0 for any other
 abbrev pub cut_number : SearchTree → ℤ
 cut_number cut_node = pos 1
 cut_number _ = pos 0
 
+-- the same for each child of a split
 abbrev pub cut_numbers : SearchTrees → List ℤ
 cut_numbers no_trees = []
 cut_numbers (tree t rest) = cut_number t ∷ cut_numbers rest
@@ -49,6 +52,7 @@ abbrev pub split_cutting : Placement → Split → Option Pair → List ℤ → 
 split_cutting x s None cuts = split_tuple x s.number
 split_cutting x s (Some d) cuts = pruned_tuple x s d cuts
 
+-- the same, by the split's children
 abbrev pub split_said : Placement → Split → Option Pair → SearchTrees → List FieldValue
 split_said x s d children = split_cutting x s d (cut_numbers children)
 
@@ -78,6 +82,7 @@ abbrev mutual
 abbrev pub node_template : List PatternValue
 node_template = actual (word (codes "node")) ∷ any_numbers ∷ []
 
+-- the test for the tuple of an open node
 abbrev pub is_open : List FieldValue → Bool
 is_open tuple = does_match node_template tuple
 

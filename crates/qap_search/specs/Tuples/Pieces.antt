@@ -15,5 +15,6 @@ abbrev pub told_tuples : Option BestFound → List DecidedNode → List (List Fi
 told_tuples None nodes = decided_tuples nodes
 told_tuples (Some b) nodes = found_tuple b ∷ decided_tuples nodes
 
+-- the tuple of the best permutation, and those of the decided nodes
 abbrev pub pieces_tuples : Pieces → List (List FieldValue)
 pieces_tuples p = found_tuple p.best ∷ decided_tuples p.decided.items

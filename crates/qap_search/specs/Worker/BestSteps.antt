@@ -83,6 +83,7 @@ pub record WritesNothing (taking : Bool) (last : ThoughtValue) (best : Best) (t 
   pub below : last.value <ℤ standing.cost
   pub same : t' ≡ t
 
+-- what writing results in: all is written; nothing can be written; or memory is lacking, and only the writes may differ
 abbrev pub Writes : Bool → Bool → Problem → ThoughtValue → Best → TxnValue → TxnValue → Result (Option ℤ) AllocError → Type 0
 Writes cutting taking I last best t t' (Ok (Some cost)) = WritesAll cutting taking I last best t t' cost
 Writes cutting taking I last best t t' (Ok None) = WritesNothing taking last best t t'

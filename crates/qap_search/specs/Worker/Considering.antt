@@ -45,6 +45,7 @@ Considers cutting I (Taken t number) old (Ok false) new = HasNoNode I.size numbe
 Considers cutting I stage old (Err error) new = new ≡ old
 Considers cutting I stage old told new = Unit {0}
 
+-- where a worker stands after a thought that was due: by whether the node was thought on
 abbrev pub stage_after : Bool → TxnValue → Stage
 stage_after true t = Considered t
 stage_after false t = GivingUp t

@@ -16,7 +16,7 @@ abbrev pub cuts : Branching → Bool
 cuts Cutting = true
 cuts _ = false
 
--- cutting tells whether the worker may cut children off; best is the cost of the best permutation that it knows of
+-- cutting says whether the worker may cut children off; best is the cost of the best permutation that it knows of
 pub record HandValue : Type 0 where
   pub cutting : Bool
   pub instance : Problem
@@ -27,13 +27,16 @@ pub record HandValue : Type 0 where
   pub accepted : ℕ
   pub refused : ℕ
 
+-- the node that was thought on last, with what was worked out about it
 abbrev pub thought_of : LastThought → ThoughtValue
 thought_of l = thought_on l.node l.thought
 
+-- the same, if any node was thought on
 abbrev pub last_of : Option LastThought → Option ThoughtValue
 last_of None = None
 last_of (Some l) = Some (thought_of l)
 
+-- a worker, by the parts that the code keeps of it
 abbrev pub hand_of : Bool → Problem → ℕ → Option ThoughtValue → Stage → Tally → HandValue
 hand_of cutting I lease last stage tally =
     record { cutting = cutting; instance = I; lease = lease; last = last; stage = stage; best = tally.best; accepted = tally.accepted; refused = tally.refused }
@@ -72,5 +75,6 @@ kind_at (Considered t) false = kinds.ReadBest
 kind_at (Ready t cost) hopeful = kinds.Commit
 kind_at (GivingUp t) hopeful = kinds.Abort
 
+-- the kind of a worker's coming step, where no thought is due
 abbrev pub kind_of : HandValue → Kind
 kind_of h = kind_at h.stage (is_hopeful h.best h.last)

@@ -4,6 +4,7 @@ use Rattle.tuple_match.specs.FieldValue.{FieldValue}
 use Rattle.tuple_space.specs.declared.lease.Lease.TheVariants.{Forever}
 use Rattle.tuple_space.specs.declared.write.Write.{Write}
 
+-- the write of a tuple that is to stay forever
 abbrev pub forever : List FieldValue → Write
 forever tuple = record { tuple = tuple; lease = Forever; taken = false }
 

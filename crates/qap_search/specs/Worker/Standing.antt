@@ -46,6 +46,7 @@ pub record HasNode (x : Placement) (t : TxnValue) : Type 0 where
   pub permanent : mark.permanent ≡ true
   pub is : mark.tuple ≡ node_tuple x
 
+-- what holds of the transaction at each stage of a turn
 abbrev pub IsStage : Bool → Problem → Option ThoughtValue → Stage → Type 0
 IsStage cutting I last Idle = Unit {0}
 IsStage cutting I last (Begun t) = (t.marks ≡ []) × (t.writes ≡ [])

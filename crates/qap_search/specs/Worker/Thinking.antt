@@ -29,6 +29,7 @@ pub record IsLeased (old new : HandValue) (t : TxnValue) (mark : Mark) : Type 0 
   pub leased : mark.permanent ≡ false
   pub leaves : new ≡ record old { stage = GivingUp t }
 
+-- a thought on the entry that was taken: its node is thought on, or its lease ends and it is given up
 pub record Thinks (old new : HandValue) : Type 0 where
   pub t : TxnValue
   pub number : ℕ

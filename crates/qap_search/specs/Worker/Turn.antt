@@ -22,11 +22,11 @@ use Rattle.qap_search.specs.Node.Thought.{ThoughtValue}
 use Rattle.qap_search.specs.declared.worker.stage.Stage.{Stage}
 use Rattle.qap_search.specs.declared.worker.stage.Stage.TheVariants.{Idle, Begun, Taken, Considered, Ready, GivingUp}
 
--- what a step tells: whether it met no refusal, or that there was no memory
+-- what a step reports: whether it met no refusal, or that there was no memory
 abbrev pub Told : Type 0
 Told = Result Bool AllocError
 
--- what a commit comes to; a transaction that is refused it comes back
+-- what a commit yields; a transaction that is refused it comes back
 abbrev pub Committed : Type 0
 Committed = Result (Unit {0}) (CommitError × TxnValue)
 
@@ -42,6 +42,7 @@ AfterRefusal old stage OutOfMemory told new = IsErr told × (new ≡ moved old s
 AfterRefusal old stage Foreign told new = (told ≡ Ok false) × (new ≡ moved old stage)
 AfterRefusal old stage Exhausted told new = (told ≡ Ok false) × (new ≡ moved old stage)
 
+-- after a begin: the worker has a transaction, or it was refused one and is idle
 abbrev pub AfterBegin : HandValue → Result TxnValue TxnError → Told → HandValue → Type 0
 AfterBegin old (Ok t) told new = (told ≡ Ok true) × (new ≡ moved old (Begun t))
 AfterBegin old (Err error) told new = AfterRefusal old Idle error told new
@@ -113,6 +114,8 @@ pub record HasLeased (old : HandValue) (number : ℕ) (t : TxnValue) (told : Tol
   pub tells : told ≡ Ok true
   pub leaves : new ≡ moved old (GivingUp t)
 
+-- after the call that looks for the best permutation: by it the writes are made, or the node is given up, or the call
+-- was refused
 abbrev pub AfterBest : Bool → HandValue → Answer → TxnValue → Told → HandValue → Type 0
 AfterBest taking old (found (Stored number)) t told new = HasBest taking old number t told new ⊎ HasLeased old number t told new
 AfterBest taking old (found (Own place)) t told new = (told ≡ Ok true) × (new ≡ moved old (GivingUp t))
@@ -130,11 +133,14 @@ AfterNoCommit old t cost Limit told new = (told ≡ Ok false) × (new ≡ moved 
 AfterNoCommit old t cost (Txn Expired) told new = (told ≡ Ok false) × (new ≡ record old { stage = Idle; refused = one_more old.refused })
 AfterNoCommit old t cost (Txn error) told new = AfterRefusal old (Ready t cost) error told new
 
+-- after a commit: it was accepted and is counted, and what the best permutation costs is remembered; or it was not
+-- accepted
 abbrev pub AfterCommit : HandValue → TxnValue → ℤ → Committed → Told → HandValue → Type 0
 AfterCommit old t cost (Ok _) told new =
     (told ≡ Ok true) × (new ≡ record old { stage = Idle; best = Some cost; accepted = old.accepted + 1 })
 AfterCommit old t cost (Err back) told new = AfterNoCommit old t cost back.0 told new
 
+-- after an abort: the worker is idle, or the abort was refused
 abbrev pub AfterAbort : HandValue → TxnValue → Answer → Told → HandValue → Type 0
 AfterAbort old t done told new = (told ≡ Ok true) × (new ≡ moved old Idle)
 AfterAbort old t (refused error) told new = AfterRefusal old (GivingUp t) error told new
@@ -145,7 +151,7 @@ abbrev pub best_call : Bool → Call
 best_call true = inp_in best_template
 best_call false = rdp_in best_template
 
--- A step of a worker that stands there: did tells what a call on the room may do.
+-- A step of a worker that stands there: did says what a call on the room may do.
 abbrev pub TurnAt : {R : Type 0} → (R → Event → Reply → R → Type 0) → HandValue → Stage → R → Told → HandValue → R → Type 0
 TurnAt did old Idle before told new after =
     (reply : Result TxnValue TxnError) × did before (begin old.lease) (begun reply) after × AfterBegin old reply told new
@@ -161,5 +167,6 @@ TurnAt did old (GivingUp t) before told new after =
 -- no step comes before the thought that is due
 TurnAt did old (Taken t number) before told new after = ⊥
 
+-- a step of a worker from the stage where it stands
 abbrev pub Turn : {R : Type 0} → (R → Event → Reply → R → Type 0) → HandValue → R → Told → HandValue → R → Type 0
 Turn did old before told new after = TurnAt did old old.stage before told new after

@@ -58,7 +58,7 @@ pub(crate) struct Many<'a, R: Threads> {
 }
 
 impl<'a, R: Threads + Sync> Many<'a, R> {
-    /// So many threads, or up to twice as many.
+    /// This many threads, or up to twice as many.
     pub(crate) fn new(rt: &'a R, threads: u16) -> Many<'a, R> {
         let halvings = u16::BITS - threads.saturating_sub(1).leading_zeros();
         Many { rt, halvings }
@@ -124,7 +124,8 @@ fn both(mut front: Vec<Tuple>, mut back: Vec<Tuple>) -> Result<Vec<Tuple>, Assem
     }
 }
 
-/// The tuples in two lists, dealt out by turns, so that both get as many open nodes: these stand together at the end.
+/// The tuples in two lists, dealt out alternately, so that both get as many open nodes: these stand together at the
+/// end.
 fn dealt(alloc: Global, mut tuples: Vec<Tuple>) -> Result<(Vec<Tuple>, Vec<Tuple>), AllocError>
     ensures { IfOk result (λ dealt. SameItems tuples.items (dealt.0.items ++ dealt.1.items)) }
 {

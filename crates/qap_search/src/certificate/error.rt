@@ -6,7 +6,7 @@ use thiserror::Error;
 /// Why the tuples of a search aren't put together into a certificate.
 #[derive(Clone, Copy, Debug, PartialEq, Eq, Error)]
 pub enum AssembleError {
-    /// Refusal 41: so many nodes are open.
+    /// Refusal 41: this many nodes are open.
     #[error("{0} nodes are open")]
     Unfinished(u64),
     /// Refusal 42: the tuples aren't those of one tree and one permutation of the size.

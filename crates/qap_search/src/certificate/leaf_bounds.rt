@@ -86,7 +86,7 @@ fn least_with(instance: &Instance, node: &Partial, duals: &Duals, least: i128) -
     if value < least { value } else { least }
 }
 
-/// Whether there are so many duals on either side, all within -10^24 to 10^24.
+/// Whether there are this many duals on either side, all within -10^24 to 10^24.
 fn are_duals(duals: &Duals, count: usize) -> bool
     ensures { IsTrue result ↔ AreDuals count duals.now.u.items duals.now.v.items }
 {

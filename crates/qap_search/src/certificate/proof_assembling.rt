@@ -46,7 +46,7 @@ pub(crate) fn proof_of<K: Closers>(
     }
 }
 
-/// The want of memory that the error tells of.
+/// The want of memory that the error reports.
 fn want_of_memory(error: ProofError) -> AllocError
     requires { error ≡ ProofError.OutOfMemory }
 {

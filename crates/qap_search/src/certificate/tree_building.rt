@@ -259,7 +259,7 @@ fn decision_at_child(
     }
 }
 
-/// Whether each of so many flags is a 0 or a 1.
+/// Whether each of this many flags is a 0 or a 1.
 fn are_flags(flags: &[i128], count: usize) -> bool
     ensures { IsTrue result ↔ ((length flags.now ≡ count) × ((i : ℕ) → i < length flags.now → (slice_index_or flags.now i (pos 0) ≡ pos 0) ⊎ (slice_index_or flags.now i (pos 0) ≡ pos 1))) }
 {
@@ -329,7 +329,7 @@ fn ends_with(list: &Numbers<'_>, facility: u16, location: u16) -> bool
     list.at(last - 1) == i128::from(facility) && list.at(last) == i128::from(location)
 }
 
-/// Whether the list begins with these facilities and locations by turns.
+/// Whether the list begins with these facilities and locations alternately.
 fn are_by_turns(facilities: &[u16], places: &[u16], list: &Numbers<'_>) -> bool
     requires paired { length places.now ≡ length facilities.now }
     requires long { 2 * length facilities.now ≤ length (numbers_in list.now) }

@@ -57,9 +57,10 @@ pub enum Branching {
     /// On the free facility whose reduced entries have the greatest sum, each counted at most as far as the best known cost is
     /// above the node's bound; the child whose reduced entry is least is taken first.
     GreatestSum,
-    /// On the free facility or the free location whose reduced entries have the greatest such sum, where a child that is the image of
-    /// an earlier one counts as much as can be. A child at which the node's duals come to the best cost is cut off; of the others,
-    /// those that are images of earlier ones are told as such, and the one at which the duals come to least is taken first.
+    /// On the free facility or the free location whose reduced entries have the greatest such sum, where a child that
+    /// is the image of an earlier one counts as much as can be. A child at which the node's duals reach the best cost
+    /// is cut off; of the others, those that are images of earlier ones are marked as such, and the one at which the
+    /// duals reach least is taken first.
     Cutting,
 }
 
@@ -70,12 +71,12 @@ pub struct Branch {
     pub side: Side,
     /// The number of the facility or the location, from 0.
     pub number: u16,
-    /// What the node's duals come to at each child, where they may cut children off.
+    /// What the node's duals reach at each child, where they may cut children off.
     pub reached: Option<Vec<i128>>,
     /// Of which earlier child each child is the image, where it is one; behind the end none is.
     pub images: Vec<Option<Image>>,
-    /// The reduced entry of each child, where children are taken by these, the least first; none where they are taken by their
-    /// locations or by what the duals come to.
+    /// The reduced entry of each child, where children are taken by these, the least first; none where they are taken
+    /// by their locations or by what the duals reach.
     pub entries: Vec<i128>,
 }
 
@@ -152,8 +153,8 @@ fn on_facility(alloc: Global, free: &Free<'_>, row: usize, entries: Vec<i128>) -
     }
 }
 
-/// A split on the facility or the location of the row or column whose reduced entries have the greatest sum, each counted at most
-/// up to the gap, and those of images as the gap, with what the duals come to at each child.
+/// A split on the facility or the location of the row or column whose reduced entries have the greatest sum, each
+/// counted at most up to the gap, and those of images as the gap, with what the duals reach at each child.
 fn widest_branch(
     alloc: Global,
     symmetries: Option<&InstanceSymmetries>,

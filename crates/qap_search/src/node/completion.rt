@@ -63,7 +63,7 @@ fn pick(numbers: &[u16], at: &[u16], picked: &mut Vec<u16>) -> Result<(), AllocE
     Ok(())
 }
 
-/// The list with so many numbers.
+/// The list with this many numbers.
 fn sized(mut list: Vec<u16>, count: usize) -> Result<Vec<u16>, AllocError>
     ensures { IfOk result (λ v. length v.items ≡ count) }
 {

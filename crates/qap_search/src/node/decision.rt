@@ -42,8 +42,8 @@ pub fn decide(
     Ok(Some(branch_tuples(alloc, node, thought, branch, best)?))
 }
 
-/// The tuples of the node, split on what the thought tells: where its duals may cut children off, those at which they come to the best
-/// cost are, and of the others those are images that it tells of.
+/// The tuples of the node, split on what the thought says: where its duals may cut children off, those at which they
+/// reach the best cost are, and of the others those are images that it says are.
 fn branch_tuples(
     alloc: Global,
     node: &Partial,

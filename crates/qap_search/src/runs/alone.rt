@@ -28,7 +28,8 @@ use std::sync::ledger::Blank;
 use std::sync::{Arc, Wait};
 use tuple_match::Template;
 
-/// The certificate of an instance's least cost, from one worker whose transactions begin with leases of so many milliseconds.
+/// The certificate of an instance's least cost, from one worker whose transactions begin with leases of this many
+/// milliseconds.
 ///
 /// `Unfinished` comes where the worker found no memory and nodes are open, with their number. With a lease of 0 ms no commit is
 /// ever accepted, and the call doesn't return.

@@ -1,4 +1,4 @@
-//! What a search comes to.
+//! What a search yields.
 
 use crate::worker::report::Report;
 use qap_cert::Certificate;
@@ -11,7 +11,7 @@ use thiserror::Error;
 /// Why a search ends without an answer.
 #[derive(Drop, Debug, Error)]
 pub enum SolveError {
-    /// Refusal 41: so many nodes are open.
+    /// Refusal 41: this many nodes are open.
     #[error("{0} nodes are open")]
     Unfinished(u64),
     /// Refusal 43: the limit of commits was reached while nodes were open. The certificate bounds the least cost from below, and
@@ -34,7 +34,7 @@ impl From<AllocError> for SolveError {
     }
 }
 
-/// A certificate of an instance's cost, and what each worker tells of the search.
+/// A certificate of an instance's cost, and what each worker reports of the search.
 #[derive(Drop)]
 pub struct Answer {
     pub certificate: Certificate,
@@ -48,7 +48,7 @@ impl fmt::Debug for Answer {
     }
 }
 
-/// A permutation of an instance's least cost, and what each worker tells of the search.
+/// A permutation of an instance's least cost, and what each worker reports of the search.
 #[derive(Drop)]
 pub struct Least {
     pub permutation: Perm,
@@ -57,7 +57,8 @@ pub struct Least {
     pub reports: Vec<Report>,
 }
 
-/// A permutation of an instance, a bound on what a search's root lets a permutation cost, and what each worker tells of the search.
+/// A permutation of an instance, a bound on what a search's root lets a permutation cost, and what each worker reports
+/// of the search.
 #[derive(Drop)]
 pub struct Bounded {
     /// The best permutation found; where none that completes the root is found that is cheaper, the one that the search began with.
@@ -71,7 +72,7 @@ pub struct Bounded {
     pub reports: Vec<Report>,
 }
 
-/// A proof of what a search's root lets a permutation cost, and what each worker tells of the search.
+/// A proof of what a search's root lets a permutation cost, and what each worker reports of the search.
 #[derive(Drop)]
 pub struct Proved {
     /// Its permutation is the best one found; where none that completes the root is found that is cheaper, the one that the search began

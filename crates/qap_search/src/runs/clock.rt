@@ -1,6 +1,6 @@
-//! What tells the time of a search.
+//! What gives the time of a search.
 
-/// Tells the moment: a number of milliseconds, by which leases end.
+/// Gives the moment: a number of milliseconds, by which leases end.
 pub trait Clock {
     /// The moment now.
     fn now(&self) -> u64;

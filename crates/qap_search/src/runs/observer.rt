@@ -56,7 +56,7 @@ pub(crate) struct Survey<'a> {
 }
 
 impl<'a> Survey<'a> {
-    /// For a root that places so many of the instance's facilities.
+    /// For a root that places this many of the instance's facilities.
     pub(crate) fn new(best: &'a Template, size: usize, depth: usize) -> Survey<'a> {
         let progress = Progress {
             cost: None,
@@ -88,7 +88,7 @@ impl<L: Law> Look<L> for Survey<'_> {
     }
 }
 
-/// How many nodes are open that place at least so many facilities, and at most all.
+/// How many nodes are open that place at least this many facilities, and at most all.
 fn open_below<L: Law>(space: &Limited<L>, depth: usize, size: usize) -> usize {
     let mut open = 0usize;
     for placed in depth..=size {
@@ -97,7 +97,7 @@ fn open_below<L: Law>(space: &Limited<L>, depth: usize, size: usize) -> usize {
     open
 }
 
-/// How many nodes are open that place so many facilities: their lists have two numbers for each.
+/// How many nodes are open that place this many facilities: their lists have two numbers for each.
 fn open_at<L: Law>(space: &Limited<L>, placed: usize) -> usize {
     space.count_of_class("node", 2, placed.saturating_mul(2))
 }

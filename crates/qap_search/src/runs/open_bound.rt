@@ -23,7 +23,7 @@ use std::alloc::{AllocError, Global};
 use std::thread::Threads;
 use tuple_match::Tuple;
 
-/// Memory in which the end of a search is told, taken before it begins.
+/// Memory in which the end of a search is reported, taken before it begins.
 #[derive(Drop)]
 pub(crate) struct Ending {
     ranked: RankedInstance,

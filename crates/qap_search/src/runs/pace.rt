@@ -4,7 +4,7 @@
 /// told after it.
 #[derive(Clone, Copy)]
 pub struct Pace<'a, C, G> {
-    /// Tells the moment.
+    /// Gives the moment.
     pub clock: &'a C,
     /// Lets workers make their steps.
     pub gate: &'a G,

@@ -8,6 +8,6 @@ use space_txn::TxnSpace;
 pub struct Run {
     /// The space at its end.
     pub space: TxnSpace,
-    /// What is told of each worker, those who were lost at its place included.
+    /// What is reported of each worker, those who were lost at its place included.
     pub reports: Vec<Report>,
 }

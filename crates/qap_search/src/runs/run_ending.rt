@@ -1,4 +1,4 @@
-//! What a search comes to, by the space and the reports that it leaves.
+//! What a search yields, by the space and the reports that it leaves.
 
 ghost use Rattle.std.specs.Prelude.{◌≡◌, ◌<◌, ◌≤ℤ◌, ℕ, IfOk, MatchResult, length};
 ghost use Rattle.qap_search.specs.Runs.Answer.{CertifiesLeast, IsAnswer, IsLeastFrom};
@@ -31,7 +31,7 @@ pub(crate) struct Finished {
     pub(crate) reports: Vec<Report>,
 }
 
-/// The certificate that a search comes to.
+/// The certificate that a search yields.
 pub(crate) fn answer_of<K: Closers>(
     closers: &K,
     alloc: Global,
@@ -53,7 +53,7 @@ pub(crate) fn answer_of<K: Closers>(
     })
 }
 
-/// The permutation of least cost that a search comes to.
+/// The permutation of least cost that a search yields.
 pub(crate) fn least_of<K: Closers>(
     closers: &K,
     alloc: Global,

@@ -37,8 +37,8 @@ pub enum Step {
     Lose(u16),
 }
 
-/// Runs a search by a schedule: so many workers, whose transactions may take 1000 ms, make their turns in the order that it gives,
-/// at the moments that it gives. The only error is want of memory.
+/// Runs a search by a schedule: this many workers, whose transactions may take 1000 ms, make their turns in the order
+/// that it gives, at the moments that it gives. The only error is want of memory.
 pub fn play(
     alloc: Global,
     instance: &Instance,
@@ -168,7 +168,7 @@ fn lose<L: Law>(
     Ok(())
 }
 
-/// What is told of each worker.
+/// What is reported of each worker.
 fn reports_of<L: Law>(alloc: Global, posts: &[Post<L>]) -> Result<Vec<Report>, AllocError>
     ensures { IfOk result (λ reports. reports.items ≡ map report_of posts.now) }
 {

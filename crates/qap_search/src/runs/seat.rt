@@ -110,7 +110,7 @@ impl<L: Law> Seat<L> {
         };
     }
 
-    /// The share, and what the worker tells; one that has never run counts as one that found no memory.
+    /// The share, and what the worker reports; one that has never run counts as one that found no memory.
     pub(crate) fn left(self) -> (Share<L>, Report)
         ensures share { result.0 ≡ self }
         ensures counted { result.1.accepted ≡ self }
@@ -153,8 +153,8 @@ fn next_of(hand: &Hand) -> Option<Kind> {
     }
 }
 
-/// Thinks on each node at hand on which a thought is due, and works out what is to be written of it. The error tells how the worker
-/// ends.
+/// Thinks on each node at hand on which a thought is due, and works out what is to be written of it. The error says how
+/// the worker ends.
 fn think_on_all<G: Gate>(hand: &mut Hand, gate: &G) -> Result<(), Ended>
     ensures accepted { hand.new.accepted ≡ hand.old.accepted }
     ensures cutting { hand.new.cutting ≡ hand.old.cutting }
@@ -180,8 +180,8 @@ fn think<G: Gate>(hand: &mut Hand, gate: &G) -> Result<(), Ended>
     Ok(())
 }
 
-/// Goes on from the nodes at hand to others: commits what was decided of them and then, unless the space is closed, takes as many
-/// others. It tells what is lacking where none can be taken; the error tells how the worker ends.
+/// Goes on from the nodes at hand to others: commits what was decided of them and then, unless the space is closed,
+/// takes as many others. It reports what is lacking where none can be taken; the error says how the worker ends.
 fn go_on<L: Law, M: Room<L>>(
     room: &mut M,
     hand: &mut Hand,
@@ -205,7 +205,8 @@ fn go_on<L: Law, M: Room<L>>(
     Ok(None)
 }
 
-/// Commits what is decided of each node at hand, and tells whether there was a best permutation wherever one was looked for.
+/// Commits what is decided of each node at hand, and reports whether there was a best permutation wherever one was
+/// looked for.
 fn commit_all<L: Law, M: Room<L>>(
     room: &mut M,
     hand: &mut Hand,
@@ -247,7 +248,7 @@ fn commit<L: Law, M: Room<L>>(
     Ok(found)
 }
 
-/// Takes an open node for each job, as far as there are any, and tells whether there was one at all.
+/// Takes an open node for each job, as far as there are any, and reports whether there was one at all.
 fn take_all<L: Law, M: Room<L>>(
     room: &mut M,
     hand: &mut Hand,
@@ -271,8 +272,8 @@ fn take_all<L: Law, M: Room<L>>(
     Ok(true)
 }
 
-/// Takes an open node, in a transaction of its own, and tells whether there was one; where there was none the transaction is given
-/// up.
+/// Takes an open node, in a transaction of its own, and reports whether there was one; where there was none the
+/// transaction is given up.
 fn take<L: Law, M: Room<L>>(
     room: &mut M,
     hand: &mut Hand,
@@ -359,9 +360,9 @@ fn step_if<L: Law, M: Room<L>>(
     }
 }
 
-/// One turn: a thought where one is due, else a step that the gate lets pass. No transaction begins on a closed space. A worker that
-/// found no best permutation gives its transaction up at once and waits for one, and one that gave up for another reason waits for a
-/// node. The error tells how the worker ends.
+/// One turn: a thought where one is due, else a step that the gate lets pass. No transaction begins on a closed space.
+/// A worker that found no best permutation gives its transaction up at once and waits for one, and one that gave up for
+/// another reason waits for a node. The error says how the worker ends.
 fn turn<R: Wait, L: Law, G: Gate>(
     place: &Workplace<'_, R, L, G>,
     worker: u16,
@@ -391,7 +392,8 @@ fn turn<R: Wait, L: Law, G: Gate>(
     }
 }
 
-/// Gives the transaction up and waits for a best permutation, which somebody else has taken. The error tells how the worker ends.
+/// Gives the transaction up and waits for a best permutation, which somebody else has taken. The error says how the
+/// worker ends.
 fn wait_for_best<R: Wait, L: Law, G: Gate>(
     place: &Workplace<'_, R, L, G>,
     worker: u16,
@@ -436,8 +438,8 @@ fn step<R: Wait, L: Law, G: Gate>(
     Ok(())
 }
 
-/// Waits until there is a tuple that the template asks for. The error tells how the worker ends: where the space is closed it is
-/// done.
+/// Waits until there is a tuple that the template asks for. The error says how the worker ends: where the space is
+/// closed it is done.
 fn wait_for<R: Wait, L: Law, G: Gate>(
     place: &Workplace<'_, R, L, G>,
     template: &Template,

@@ -71,8 +71,8 @@ const PAUSE_MS: u64 = 1;
 /// How many milliseconds of the clock lie at least between two looks of an observer.
 const LOOK_MS: u64 = 100;
 
-/// The certificate of an instance's least cost, from so many workers, each a thread, whose transactions begin with leases of
-/// so many milliseconds.
+/// The certificate of an instance's least cost, from this many workers, each a thread, whose transactions begin with
+/// leases of this many milliseconds.
 ///
 /// The calling thread keeps the space: it moves the moment on by the clock, and closes the space when no node is left or every
 /// worker has left. The gate is asked before each step of a worker and told after it. `Unfinished` comes where nodes are left,
@@ -106,8 +106,8 @@ where
     solve_from(rt, alloc, instance, &plan, pace)
 }
 
-/// A permutation of an instance's least cost, by the same search: for whoever wants no certificate, which isn't put together
-/// then. What `solve` says of the workers, the gate, the lease, the limit and the errors holds here too.
+/// A permutation of an instance's least cost, by the same search: for callers that want no certificate, which isn't put
+/// together then. What `solve` says of the workers, the gate, the lease, the limit and the errors holds here too.
 pub fn solve_least<R, C, G>(
     rt: &R,
     alloc: Global,
@@ -189,8 +189,8 @@ where
     )
 }
 
-/// The best permutation that a search below the plan's root comes to, and a bound that no permutation which completes the root costs
-/// less than: for whoever searches below any node, and for whoever may stop a search before its end.
+/// The best permutation that a search below the plan's root yields, and a bound that no permutation which completes the
+/// root costs less than: for callers that search below any node, and for those that may stop a search before its end.
 ///
 /// What `solve` says of the workers, the gate, the lease and the limit holds here too. Where the stop is wanted the space is closed
 /// though nodes are open; no worker begins on another node then, and none waits for a lease to end. For whatever reason nodes are
@@ -234,9 +234,9 @@ where
     bounded_of(&Many::new(rt, plan.crew.workers), alloc, ending, run)
 }
 
-/// The proof that a search below the plan's root comes to: that no permutation which completes the root costs less than the proof's bound.
-/// Searches of either kind make proofs, those that cut children off and those that don't. That the facilities of the root ascend is a
-/// condition, since a proof states its root so.
+/// The proof that a search below the plan's root yields: that no permutation which completes the root costs less than
+/// the proof's bound. Searches of either kind make proofs, those that cut children off and those that don't. That the
+/// facilities of the root ascend is a condition, since a proof states its root so.
 ///
 /// What `solve_least_from` says of the workers, the gate, the lease, the limit, the stop and the observer holds here too. Each node that
 /// is left open, for whatever reason, is closed by the duals of a least assignment of its reduced matrix, by as many threads as there are
@@ -382,7 +382,8 @@ struct Keeper<'a, C, G, S, O> {
     aborts: bool,
 }
 
-/// What is watched: the open nodes and the best permutation, below a root that places so many of the instance's facilities.
+/// What is watched: the open nodes and the best permutation, below a root that places this many of the instance's
+/// facilities.
 #[derive(Drop)]
 struct Watch<'a> {
     templates: &'a Templates,
@@ -498,7 +499,7 @@ fn shared_symmetries(
     }
 }
 
-/// The space with its lock and its limit, if there is one, and so many shares.
+/// The space with its lock and its limit, if there is one, and this many shares.
 fn shared_under<L: Law>(
     alloc: Global,
     blank: Blank,
@@ -564,8 +565,8 @@ fn seats_for<L: Law>(
     Ok(seats)
 }
 
-/// How many jobs each of so many workers has beside the one that it is at, in a search on an instance of this size. One worker alone
-/// takes node by node.
+/// How many jobs each of this many workers has beside the one that it is at, in a search on an instance of this size.
+/// One worker alone takes node by node.
 fn jobs_beside(workers: usize, size: usize) -> usize {
     if workers < 2 || size > SMALL_SIZE {
         return 0;
@@ -649,7 +650,7 @@ struct Left<L: Law> {
 }
 
 impl<L: Law> Left<L> {
-    /// Room for what so many workers leave.
+    /// Room for what this many workers leave.
     fn with_capacity(alloc: Global, workers: usize) -> Result<Left<L>, AllocError>
         ensures empty { IfOk result (λ left. (left.shares.items ≡ []) × (left.reports.items ≡ [])) }
         ensures shares { IfOk result (λ left. workers ≤ vec_capacity left.shares) }

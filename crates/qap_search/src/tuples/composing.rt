@@ -73,9 +73,9 @@ pub(crate) struct DualSplit<'a> {
     pub(crate) v: &'a [i128],
 }
 
-/// The tuples of a node that is split so with these duals, where the best permutation costs so much and the duals come to `reached` at
-/// each child: that of the split, and one for each child at which they come to less, as an image or as an open node, in the order of
-/// the children.
+/// The tuples of a node that is split so with these duals, where the best permutation has this cost and the duals reach
+/// `reached` at each child: that of the split, and one for each child at which they reach less, as an image or as an
+/// open node, in the order of the children.
 pub(crate) fn pruned_tuples(
     alloc: Global,
     node: &Partial,
@@ -117,7 +117,7 @@ pub(crate) fn free_others(node: &Partial, side: Side) -> Result<Vec<u16>, AllocE
     }
 }
 
-/// Of each child a 1 where the duals come to the best cost there, and else a 0.
+/// Of each child a 1 where the duals reach the best cost there, and else a 0.
 fn cut_flags(alloc: Global, reached: &[i128], best: i128) -> Result<Vec<i128>, AllocError>
     ensures list { IfOk result (λ v. v.items ≡ cut_numbers (children_by best [] 0 reached.now)) }
     ensures long { IfOk result (λ v. length v.items ≡ length reached.now) }
@@ -294,7 +294,7 @@ fn locations_of(alloc: Global, perm: &Perm) -> Result<Vec<i128>, AllocError>
     Ok(numbers)
 }
 
-/// The node as a list: facility and location by turns, in the order of placing.
+/// The node as a list: facility and location alternately, in the order of placing.
 fn list_of(alloc: Global, node: &Partial) -> Result<NumberList, AllocError>
     ensures list { IfOk result (λ list. IsListOf node.now (numbers_held list)) }
     ensures short { IfOk result (λ list. length (numbers_held list) ≤ 512) }

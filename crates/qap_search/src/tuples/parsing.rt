@@ -36,7 +36,7 @@ pub(crate) struct PrunedSplit {
     pub(crate) cuts: NumberList,
 }
 
-/// A node that is decided: facility and location by turns, in the order of placing.
+/// A node that is decided: facility and location alternately, in the order of placing.
 #[derive(Drop)]
 pub(crate) struct DecidedNode {
     pub(crate) node: NumberList,

@@ -21,8 +21,8 @@ pub(crate) struct Pieces {
     pub(crate) decided: Vec<DecidedNode>,
 }
 
-/// Tells the tuples apart. They are refused where one is none of a best permutation or a decided node, and where there isn't
-/// one best permutation.
+/// Distinguishes the tuples. They are refused where one is none of a best permutation or a decided node, and where
+/// there isn't one best permutation.
 pub(crate) fn tell_apart(alloc: Global, mut tuples: Vec<Tuple>) -> Result<Pieces, AssembleError>
     ensures { MatchResult result
         (λ p. SameItems tuples.items (pieces_tuples p))

@@ -214,8 +214,8 @@ fn told_written(written: Result<Option<i128>, AllocError>, txn: Txn, tally: Tall
     }
 }
 
-/// Writes what the best permutation of the entry, of this cost, leads to, and tells what the one costs that stands then. `None`
-/// where nothing can be written.
+/// Writes what the best permutation of the entry, of this cost, leads to, and returns what the one costs that stands
+/// then. `None` where nothing can be written.
 fn write(
     alloc: Global,
     txn: &mut Txn,

@@ -56,8 +56,8 @@ impl Model for Hand {
 }
 
 impl Hand {
-    /// A worker of this number, which begins its transactions with leases of so many milliseconds, and splits nodes by the greatest
-    /// matched entry.
+    /// A worker of this number, which begins its transactions with leases of this many milliseconds, and splits nodes
+    /// by the greatest matched entry.
     pub fn new(
         alloc: Global,
         worker: u16,
@@ -188,9 +188,9 @@ impl Hand {
         }
     }
 
-    /// Makes the next step, one call on the room, and tells whether it met no refusal. Refused since its transaction has ended
-    /// the worker begins anew; after another refusal its next turn tries the same step. At an error there was no memory, for the
-    /// call or for what it was to write.
+    /// Makes the next step, one call on the room, and reports whether it met no refusal. Refused since its transaction
+    /// has ended the worker begins again; after another refusal its next turn tries the same step. At an error there
+    /// was no memory, for the call or for what it was to write.
     pub fn step<L: Law, M: Room<L>>(
         &mut self,
         room: &mut M,

@@ -31,7 +31,7 @@ impl Job {
     }
 }
 
-/// So many jobs with no node yet.
+/// This many jobs with no node yet.
 pub(crate) fn idle_jobs(alloc: Global, count: usize) -> Result<Vec<Job>, AllocError>
     ensures { IfOk result (λ jobs. All IsIdle jobs.items) }
 {

@@ -132,8 +132,8 @@ pub(crate) struct Tools {
     pub(crate) lease_ms: u64,
     /// By which rule nodes are split.
     pub(crate) branching: Branching,
-    /// What the permutation costs that the search begins with, where that is known: until the worker has read the best one, how far
-    /// above a node's bound the cost may be is told by it.
+    /// What the permutation costs that the search begins with, where that is known: until the worker has read the best
+    /// one, this says how far above a node's bound the cost may be.
     pub(crate) known: Option<i128>,
     /// Asks for any open node.
     pub(crate) node: Template,

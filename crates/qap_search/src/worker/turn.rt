@@ -1,4 +1,5 @@
-//! The steps of a worker's turn that write nothing: each makes one call on the room, and tells where its answer leaves the worker.
+//! The steps of a worker's turn that write nothing: each makes one call on the room, and reports where its answer
+//! leaves the worker.
 
 ghost use Rattle.std.specs.Prelude.{◌≡◌, ◌+◌, ◌<◌, ◌≤◌, [], ℕ, ℤ, Bool, true, false, Ok, Option, IfErr, IfOk, OnErr, OnOk};
 ghost use Rattle.qap_cost.specs.Instance.{IsInstance, Problem};
@@ -88,7 +89,7 @@ pub(crate) fn is_hopeful(tally: &Tally, last: &Option<LastThought>) -> bool
     }
 }
 
-/// Begins a transaction with a lease of so many milliseconds.
+/// Begins a transaction with a lease of this many milliseconds.
 pub(crate) fn begin<L: Law, M: Room<L>>(
     room: &mut M,
     lease_ms: u64,
@@ -184,8 +185,8 @@ pub(crate) fn commit<L: Law, M: Room<L>>(
     told_commit(committed, shared, cost, tally)
 }
 
-/// A commit that is accepted is counted, and the share has so many then. Where the limit of commits is reached, the transaction is
-/// given up.
+/// A commit that is accepted is counted; `shared` is what the share has counted then. Where the limit of commits is
+/// reached, the transaction is given up.
 fn told_commit(
     committed: Result<(), (CommitError, Txn)>,
     shared: u64,

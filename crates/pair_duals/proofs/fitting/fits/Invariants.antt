@@ -1,6 +1,6 @@
 use Rattle.std.proofs.Common.{ℕ, ◌<◌}
-use Rattle.pair_duals.specs.Fitting.{FitsFacility}
+use Rattle.pair_duals.specs.Fitting.{FitsLocation}
 use Rattle.pair_duals.proofs.fitting.fits.Given as goal
 
-abbrev pub invariant-loop-j : goal.invariant-loop-j
-invariant-loop-j g l = (j : ℕ) → j < l.j → FitsFacility l.instance l.duals j
+abbrev pub invariant-loop-k : goal.invariant-loop-k
+invariant-loop-k g l = (k : ℕ) → k < l.k → FitsLocation l.instance l.duals k

@@ -6,6 +6,6 @@ loop-i-preserved g c = below_more _ c.loop-i.i c.loop-i.invariant (c.fits_pair.e
 
 pub returns : goal.returns
 returns g c = (
-  λ t. record { below = λ i k l hi hk hl kl. (c.loop-i.invariant i (omega arith)).below k l hk hl kl },
+  λ t. record { below = λ i l hi hl kl. (c.loop-i.invariant i (omega arith)).below l hl kl },
   λ fit. refl,
 )

@@ -1,114 +1,11 @@
-use Rattle.std.proofs.Common.{◌<◌, length, get_or, arith, below_more, refl, ◌∙◌, ap₂}
-use Rattle.std.specs.Prelude.{pos, ◌+ℤ◌}
-use Rattle.std.proofs.lemmas.Int.{ints}
-use Rattle.qap_cost.specs.Instance.{entry}
-use Rattle.qap_cost.proofs.Objectives.{reads_entry}
-use Rattle.pair_duals.specs.PairDuals.{in_layers}
-use Rattle.pair_duals.proofs.DualRows.{dual_read}
-use Rattle.pair_duals.proofs.PairLines.{part-within, residual-from_parts, scaled_entry-read}
-use Rattle.pair_duals.proofs.Products.{roomy}
+use Rattle.std.proofs.Common.{arith, rules, below_more, refl}
 use Rattle.pair_duals.proofs.fitting.fits_location.Goals as goal
 
-pub plus-requires-in-loop-l : goal.plus-requires-in-loop-l
-plus-requires-in-loop-l g c =
-    let D = c.args.duals.now in
-    let m = length D.facilities in
-    let inside : c.loop-l.l < m = omega (arith, c.free-l-end.ensures.value) in
-    let a = dual_read g.N.Number.value g.N.Number.limits.dual m (in_layers m D.alpha c.args.i c.args.j) c.alpha_row-alpha.result.now c.loop-l.l c.index-alpha-l.result c.alpha_row-alpha.ensures.row c.index-alpha-l.is inside in
-    let b = dual_read g.N.Number.value g.N.Number.limits.dual m (in_layers m D.beta c.args.k c.args.j) c.beta_row-beta.result.now c.loop-l.l c.index-beta-l.result c.beta_row-beta.ensures.row c.index-beta-l.is inside in
-    omega (arith, ints, a.1, b.1, (roomy g.N.Number.limits g.met.N.Number.enough).dual)
-
-pub left_of-left-requires-clause-other : goal.left_of-left-requires-clause-other
-left_of-left-requires-clause-other g c =
-    let D = c.args.duals.now in
-    let m = length D.facilities in
-    let inside : c.loop-l.l < m = omega (arith, c.free-l-end.ensures.value) in
-    let a = dual_read g.N.Number.value g.N.Number.limits.dual m (in_layers m D.alpha c.args.i c.args.j) c.alpha_row-alpha.result.now c.loop-l.l c.index-alpha-l.result c.alpha_row-alpha.ensures.row c.index-alpha-l.is inside in
-    let b = dual_read g.N.Number.value g.N.Number.limits.dual m (in_layers m D.beta c.args.k c.args.j) c.beta_row-beta.result.now c.loop-l.l c.index-beta-l.result c.beta_row-beta.ensures.row c.index-beta-l.is inside in
-    omega (arith, ints, a.1, b.1, c.plus-in-loop-l.ensures)
-
-pub left_of-left-requires-clause-there : goal.left_of-left-requires-clause-there
-left_of-left-requires-clause-there g c =
-    let I = c.args.instance.now in
-    let D = c.args.duals.now in
-    let f = c.facility-facility.result in
-    let h = c.facility-other.result in
-    let at = c.location-location.result in
-    let to = c.location-to.result in
-    let size = c.requires.size in
-    let there = scaled_entry-read D.scale c.scale.result c.scaled_entry-there.result c.a.result (entry I.size I.a f h) c.scaled_entry-there.ensures c.scale.ensures.value c.scale.ensures.duals.scale c.a.ensures.value c.a.ensures.range in
-    let row = c.b_row-distances.ensures in
-    let inside : to < I.size = omega (arith, size, c.location-to.ensures.within) in
-    let distance = reads_entry (get_or c.b_row-distances.result.now to (pos 0)) (row.range.each to (omega (arith, inside, row.row.count))) ∙ row.row.entries to inside in
-    part-within g.N.Number.limits I D.scale f h at to _ _ c.requires.in_scale (omega (arith, size, c.facility-facility.ensures.within)) (omega (arith, size, c.facility-other.ensures.within)) (omega (arith, size, c.location-location.ensures.within)) inside there distance
-
-pub left_of-left-requires-clause-back : goal.left_of-left-requires-clause-back
-left_of-left-requires-clause-back g c =
-    let I = c.args.instance.now in
-    let D = c.args.duals.now in
-    let f = c.facility-facility.result in
-    let h = c.facility-other.result in
-    let at = c.location-location.result in
-    let to = c.location-to.result in
-    let size = c.requires.size in
-    let back = scaled_entry-read D.scale c.scale-2.result c.scaled_entry-back.result c.a-2.result (entry I.size I.a h f) c.scaled_entry-back.ensures c.scale-2.ensures.value c.scale-2.ensures.duals.scale c.a-2.ensures.value c.a-2.ensures.range in
-    let distance = reads_entry c.b.result c.b.ensures.range ∙ c.b.ensures.value in
-    part-within g.N.Number.limits I D.scale h f to at _ _ c.requires.in_scale (omega (arith, size, c.facility-other.ensures.within)) (omega (arith, size, c.facility-facility.ensures.within)) (omega (arith, size, c.location-to.ensures.within)) (omega (arith, size, c.location-location.ensures.within)) back distance
-
-pub returns-then-not-is_met : goal.returns-then-not-is_met
-returns-then-not-is_met g c =
-    let I = c.args.instance.now in
-    let D = c.args.duals.now in
-    let m = length D.facilities in
-    let l = c.loop-l.l in
-    let f = c.facility-facility.result in
-    let h = c.facility-other.result in
-    let to = c.location-to.result in
-    let within : l < m = omega (arith, c.free-l-end.ensures.value) in
-    let inside : to < I.size = omega (arith, c.requires.size, c.location-to.ensures.within) in
-    let there = scaled_entry-read D.scale c.scale.result c.scaled_entry-there.result c.a.result (entry I.size I.a f h) c.scaled_entry-there.ensures c.scale.ensures.value c.scale.ensures.duals.scale c.a.ensures.value c.a.ensures.range in
-    let back = scaled_entry-read D.scale c.scale-2.result c.scaled_entry-back.result c.a-2.result (entry I.size I.a h f) c.scaled_entry-back.ensures c.scale-2.ensures.value c.scale-2.ensures.duals.scale c.a-2.ensures.value c.a-2.ensures.range in
-    let row = c.b_row-distances.ensures in
-    let distance = reads_entry (get_or c.b_row-distances.result.now to (pos 0)) (row.range.each to (omega (arith, inside, row.row.count))) ∙ row.row.entries to inside in
-    let distance_back = reads_entry c.b.result c.b.ensures.range ∙ c.b.ensures.value in
-    let a = dual_read g.N.Number.value g.N.Number.limits.dual m (in_layers m D.alpha c.args.i c.args.j) c.alpha_row-alpha.result.now l c.index-alpha-l.result c.alpha_row-alpha.ensures.row c.index-alpha-l.is within in
-    let b = dual_read g.N.Number.value g.N.Number.limits.dual m (in_layers m D.beta c.args.k c.args.j) c.beta_row-beta.result.now l c.index-beta-l.result c.beta_row-beta.ensures.row c.index-beta-l.is within in
-    let is = residual-from_parts I D c.args.i c.args.k c.args.j l f c.location-location.result h to _ _ _ _ _ _ (g.N.Number.value c.left_of-left.result)
-    c.facility-facility.ensures.value c.location-location.ensures.value c.facility-other.ensures.value c.location-to.ensures.value there distance back distance_back
-    (c.plus.ensures ∙ ap₂ ◌+ℤ◌ c.alpha-own.ensures.value c.beta.ensures.value) (c.plus-in-loop-l.ensures ∙ ap₂ ◌+ℤ◌ a.0 b.0) c.left_of-left.ensures.value in (
-      λ t. cc,
-      λ fit.
-          let met = c.is_met.ensures.1 (λ apart. rw is (fit.below l (omega (arith, within, c.free-l-end.ensures.duals.same_count)) apart)) in
-          absurd cc,
-    )
-
-pub loop-l-preserved : goal.loop-l-preserved
-loop-l-preserved g c =
-    let I = c.args.instance.now in
-    let D = c.args.duals.now in
-    let m = length D.facilities in
-    let l = c.loop-l.l in
-    let f = c.facility-facility.result in
-    let h = c.facility-other.result in
-    let to = c.location-to.result in
-    let within : l < m = omega (arith, c.free-l-end.ensures.value) in
-    let inside : to < I.size = omega (arith, c.requires.size, c.location-to.ensures.within) in
-    let there = scaled_entry-read D.scale c.scale.result c.scaled_entry-there.result c.a.result (entry I.size I.a f h) c.scaled_entry-there.ensures c.scale.ensures.value c.scale.ensures.duals.scale c.a.ensures.value c.a.ensures.range in
-    let back = scaled_entry-read D.scale c.scale-2.result c.scaled_entry-back.result c.a-2.result (entry I.size I.a h f) c.scaled_entry-back.ensures c.scale-2.ensures.value c.scale-2.ensures.duals.scale c.a-2.ensures.value c.a-2.ensures.range in
-    let row = c.b_row-distances.ensures in
-    let distance = reads_entry (get_or c.b_row-distances.result.now to (pos 0)) (row.range.each to (omega (arith, inside, row.row.count))) ∙ row.row.entries to inside in
-    let distance_back = reads_entry c.b.result c.b.ensures.range ∙ c.b.ensures.value in
-    let a = dual_read g.N.Number.value g.N.Number.limits.dual m (in_layers m D.alpha c.args.i c.args.j) c.alpha_row-alpha.result.now l c.index-alpha-l.result c.alpha_row-alpha.ensures.row c.index-alpha-l.is within in
-    let b = dual_read g.N.Number.value g.N.Number.limits.dual m (in_layers m D.beta c.args.k c.args.j) c.beta_row-beta.result.now l c.index-beta-l.result c.beta_row-beta.ensures.row c.index-beta-l.is within in
-    let is = residual-from_parts I D c.args.i c.args.k c.args.j l f c.location-location.result h to _ _ _ _ _ _ (g.N.Number.value c.left_of-left.result)
-    c.facility-facility.ensures.value c.location-location.ensures.value c.facility-other.ensures.value c.location-to.ensures.value there distance back distance_back
-    (c.plus.ensures ∙ ap₂ ◌+ℤ◌ c.alpha-own.ensures.value c.beta.ensures.value) (c.plus-in-loop-l.ensures ∙ ap₂ ◌+ℤ◌ a.0 b.0) c.left_of-left.ensures.value in
-    below_more _ l c.loop-l.invariant (λ apart. rw (← is) (c.is_met.ensures.0 c.if-not-is_met.false apart))
+pub loop-j-preserved : goal.loop-j-preserved
+loop-j-preserved g c = below_more _ c.loop-j.j c.loop-j.invariant (c.fits_facility.ensures.0 (search rules))
 
 pub returns : goal.returns
 returns g c = (
-  λ t. record {
-    below = λ l hl kl. c.loop-l.invariant l (omega (arith, c.free-l-end.ensures.value, c.free-l-end.ensures.duals.same_count)) kl;
-  },
+  λ t. record { below = λ i j l hi hj hl kl. (c.loop-j.invariant j (omega (arith, c.free-m.ensures.value))).below i l hi hl kl },
   λ fit. refl,
 )

@@ -1,7 +1,6 @@
-use Rattle.std.proofs.Common.{◌≢◌, ℕ, ◌<◌}
-use Rattle.std.specs.Prelude.{pos, ◌≤ℤ◌}
-use Rattle.pair_duals.specs.PairDuals.{residual}
+use Rattle.std.proofs.Common.{ℕ, ◌<◌}
+use Rattle.pair_duals.specs.Fitting.{FitsFacility}
 use Rattle.pair_duals.proofs.fitting.fits_location.Given as goal
 
-abbrev pub invariant-loop-l : goal.invariant-loop-l
-invariant-loop-l g s = (l : ℕ) → l < s.l → s.k ≢ l → pos 0 ≤ℤ residual s.instance s.duals s.i s.k s.j l
+abbrev pub invariant-loop-j : goal.invariant-loop-j
+invariant-loop-j g l = (j : ℕ) → j < l.j → FitsFacility l.instance l.duals l.k j

@@ -28,14 +28,14 @@ judge_children-loop-i-init t c =
     BeginsWithTrees-none c.args.task.now.grammar.version c.args.task.now.grammar.size c.args.placed.now c.args.line c.args.text.now
     (AllValid c.args.task.now.ranked.now c.args.task.now.bound c.args.parent.now.node.now c.args.parent.now.facility []) (omega (arith, c.ranges.line.fits)) tt
 
--- what is told of a tree without a fault, and with one
+-- what is reported of a tree without a fault, and with one
 told_valid : (I : Problem) (g : ℤ) (x : Placement) (line : ℕ) (o : Option CertError) (t : Node) → o ≡ None → IsToldOf I g x line o t → Valid I g x t
 told_valid I g x line o t is h = subst (λ (p : Option CertError). IsToldOf I g x line p t) is h
 
 told_fault : (I : Problem) (g : ℤ) (x : Placement) (line : ℕ) (o : Option CertError) (t : Node) (e : CertError) → o ≡ Some e → IsToldOf I g x line o t → IsTreeFault I g x line t e
 told_fault I g x line o t e is h = subst (λ (p : Option CertError). IsToldOf I g x line p t) is h
 
--- what is told of the child at a location
+-- what is reported of the child at a location
 told_child : (I : Problem) (g : ℤ) (s : Split) (x : Placement) (f k line : ℕ) (o : Option CertError) (t : Node) → s ≡ record { instance = I; node = x; facility = f } → IsToldOf I g (placing s.node s.facility k) line o t → IsToldOf I g (placing x f k) line o t
 told_child I g s x f k line o t is h = subst (λ (r : Split). IsToldOf I g (placing r.node r.facility k) line o t) is h
 

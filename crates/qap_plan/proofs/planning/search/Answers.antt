@@ -11,7 +11,7 @@ use Rattle.qap_plan.specs.Planning.{IsPlanned}
 use Rattle.qap_plan.specs.declared.planning.Planned.{Planned}
 use Rattle.qap_plan.proofs.planning.search.Goals as goal
 
--- what is told of a proof is planned, as its permutation, its cost and its bound are
+-- what is reported of a proof is planned, as its permutation, its cost and its bound are
 planned_as : (I : Problem) (start : Option (List ℕ)) (C : Claim) (r : Result Planned AllocError) → IfOk r (λ x. x.permutation ≡ C.permutation) → IfOk r (λ x. x.cost ≡ C.cost) → IfOk r (λ x. x.bound ≡ C.bound)
     → IsPlanned I start C.permutation C.cost C.bound → IfOk r (λ x. IsPlanned I start x.permutation x.cost x.bound)
 planned_as I start C (Ok x) permutation cost bound h =

@@ -17,7 +17,7 @@ decreases-take_plain l = 3 * (l.node.now.size - length l.node.now.facilities) + 
 abbrev pub decreases-take_pruned : goal.decreases-take_pruned
 decreases-take_pruned l = 3 * (l.node.now.size - length l.node.now.facilities) + 2
 
--- so many children have been taken
+-- this many children have been taken
 abbrev pub invariant-take_children-loop-i : goal.invariant-take_children-loop-i
 invariant-take_children-loop-i l =
     HaveTaken l.node (split_of l.split) l.cuts (ahead l.fn.nodes.items) (nodes_of l.children.items) l.i (ahead l.nodes.items)

@@ -1,6 +1,7 @@
-use Rattle.std.proofs.Common.{◌+◌, ◌*◌, ◌<◌, ◌≤◌, arith}
+use Rattle.std.proofs.Common.{ap, length, arith}
 use Rattle.std.proofs.lemmas.Int.{ints}
 use Rattle.subtree_search.proofs.Progress.{back_at}
+use Rattle.subtree_search.proofs.Trees.{IsNode-drawn}
 use Rattle.subtree_search.proofs.ground.Ground.+diving.Goals as goal
 
 pub dive-dive_below-requires : goal.dive-dive_below-requires
@@ -15,9 +16,9 @@ dive-returns-clause-path t c =
 
 pub dive_below-dive-requires : goal.dive_below-dive-requires
 dive_below-dive-requires t c =
-    let ensures = c.in_ok-closes.ensures in
-    let left = c.if-branch.false in
-    (omega (arith, c.decreases), (ensures.node left, (ensures.least left, (c.best_line-line.ensures, (omega (arith, c.requires.room, ensures.same left), (c.requires.symmetries, ensures.incumbent))))))
+    let drawn = c.in_ok-closes.ensures.left c.if-branch.false in
+    let rows = ap length drawn.line.rows in
+    (omega (arith, c.decreases), (IsNode-drawn _ _ _ _ c.args.level.now.form _ _ _ c.requires.node drawn.line, (c.best_line-line.ensures, (omega (arith, c.requires.room, rows), (c.requires.symmetries, c.in_ok-closes.ensures.incumbent)))))
 
 pub dive_below-returns-clause-no_worse : goal.dive_below-returns-clause-no_worse
 dive_below-returns-clause-no_worse t c = let one = c.closes.ensures.no_worse in let other = c.dive.ensures.no_worse in omega (arith, ints, one, other)

@@ -1,44 +1,32 @@
-use Rattle.std.proofs.Common.{◌≡◌, refl, sym, ◌∙◌, subst, arith, to_z, of_z}
-use Rattle.std.specs.Int.{w128}
-use Rattle.std.proofs.lemmas.Int.{ints}
-use Rattle.pair_duals.specs.Reduced.{Form, IsFormOf}
-use Rattle.subtree_search.proofs.Nodes.{IsClosed-exceeds, IsNode-same}
+use Rattle.std.proofs.Common.{◌≡◌, subst}
+use Rattle.std.specs.Prelude.{length}
+use Rattle.pair_duals.specs.Reduced.{Form, IsLine, count_of}
+use Rattle.proof_tree.proofs.Reaching.{IsNonNegative-line}
+use Rattle.subtree_search.proofs.Closings.{IsClosed-by_value, IsClosed-trivially}
+use Rattle.subtree_search.proofs.Trees.{IsNode-drawn}
 use Rattle.subtree_search.proofs.ground.Ground.closes.Goals as goal
 
 pub returns-then-branch-clause-closed : goal.returns-then-branch-clause-closed
 returns-then-branch-clause-closed c = λ _.
-    let t = c.threshold-threshold.result in
-    let passed : to_z w128 (of_z w128 t) ≡ t = omega (arith, ints) in
-    IsClosed-exceeds c.args.self.now.instance.now c.args.self.now.duals.now c.args.self.now.step c.args.path.now c.args.level.now.form c.args.incumbent.now (to_z w128 (of_z w128 t))
-    c.requires.node c.requires.incumbent (passed ∙ c.threshold-threshold.ensures) (c.in_ok-closes_trivially.ensures.closes c.if-branch.true)
+    IsClosed-trivially c.args.self.now.instance.now c.args.self.now.duals.now c.args.self.now.step c.args.path.now c.args.level.now.form c.closes_at_once.new.incumbent.cost c.requires.node (c.in_ok-closes_at_once.ensures.closed c.if-branch.true)
 
-pub returns-then-closes-clause-closed : goal.returns-then-closes-clause-closed
-returns-then-closes-clause-closed c = λ _.
-    let t = c.threshold-threshold.result in
-    let passed : to_z w128 (of_z w128 t) ≡ t = omega (arith, ints) in
-    let I = c.args.self.now.instance.now in
-    let D = c.args.self.now.duals.now in
-    let y = c.args.path.now in
-    let n = c.requires.node in
-    let old = subst (λ (R : Form). IsFormOf I D y R) (sym c.closes_trivially.ensures.form) n.form in
-    IsClosed-exceeds I D c.args.self.now.step y c.draw_line.new.self.form c.args.incumbent.now (to_z w128 (of_z w128 t))
-    (IsNode-same I D c.args.self.now.step y c.args.level.now.form c.draw_line.new.self.form n (c.in_ok-draw_line.ensures.form I D y n.placement old))
-    c.requires.incumbent (passed ∙ c.threshold-threshold.ensures) (c.if-closes.ensures refl)
+pub closes_by_value-requires-clause-node : goal.closes_by_value-requires-clause-node
+closes_by_value-requires-clause-node c =
+    let R = c.args.level.now.form in
+    let line = subst (λ (S : Form). IsLine S c.draw_line.new.self.form c.draw_line.new.self.u.items c.draw_line.new.self.v.items) c.closes_at_once.ensures.form c.in_ok-draw_line.ensures.line in
+    IsNode-drawn _ _ _ _ R _ _ _ c.requires.node line
 
-pub returns-then-free-gt0-clause-node : goal.returns-then-free-gt0-clause-node
-returns-then-free-gt0-clause-node c = λ _.
-    let I = c.args.self.now.instance.now in
-    let D = c.args.self.now.duals.now in
-    let y = c.args.path.now in
-    let n = c.requires.node in
-    let old = subst (λ (R : Form). IsFormOf I D y R) (sym c.closes_trivially.ensures.form) n.form in
-    IsNode-same I D c.args.self.now.step y c.args.level.now.form c.draw_line.new.self.form n (c.in_ok-draw_line.ensures.form I D y n.placement old)
+pub returns-clause-closed : goal.returns-clause-closed
+returns-clause-closed c = λ closes.
+    let R = c.args.level.now.form in
+    let S = c.draw_line.new.self.form in
+    let line = subst (λ (S : Form). IsLine S c.draw_line.new.self.form c.draw_line.new.self.u.items c.draw_line.new.self.v.items) c.closes_at_once.ensures.form c.in_ok-draw_line.ensures.line in
+    IsClosed-by_value c.args.self.now.instance.now c.args.self.now.duals.now c.args.self.now.step c.args.path.now S c.closes_by_value.new.incumbent.cost (IsNode-drawn _ _ _ _ R S _ _ c.requires.node line)
+    (IsNonNegative-line R S _ _ line) (c.in_ok-closes.ensures.closed closes)
 
-pub finish-requires-clause-node : goal.finish-requires-clause-node
-finish-requires-clause-node c =
-    let I = c.args.self.now.instance.now in
-    let D = c.args.self.now.duals.now in
-    let y = c.args.path.now in
-    let n = c.requires.node in
-    let old = subst (λ (R : Form). IsFormOf I D y R) (sym c.closes_trivially.ensures.form) n.form in
-    IsNode-same I D c.args.self.now.step y c.args.level.now.form c.draw_line.new.self.form n (c.in_ok-draw_line.ensures.form I D y n.placement old)
+pub returns-clause-left : goal.returns-clause-left
+returns-clause-left c = λ left.
+    let R = c.args.level.now.form in
+    let line = subst (λ (S : Form). IsLine S c.draw_line.new.self.form c.draw_line.new.self.u.items c.draw_line.new.self.v.items) c.closes_at_once.ensures.form c.in_ok-draw_line.ensures.line in
+    let count = subst (λ (S : Form). length c.draw_line.new.self.u.items ≡ count_of S) c.closes_at_once.ensures.form c.in_ok-draw_line.ensures.count in
+    record { some = c.in_ok-closes.ensures.left left; count = count; range = c.in_ok-draw_line.ensures.range; v = c.draw_line.new.self.v.items; line = line }

@@ -1,4 +1,5 @@
-use Rattle.subtree_search.proofs.Nodes.{IsClosed-whole, whole_from_form}
+use Rattle.subtree_search.proofs.Closings.{Reaches-whole}
+use Rattle.subtree_search.proofs.Nodes.{whole_from_form}
 use Rattle.subtree_search.proofs.ground.Ground.finish.Goals as goal
 
 pub completion-requires : goal.completion-requires
@@ -6,4 +7,5 @@ completion-requires c = whole_from_form _ _ _ _ _ c.requires.node c.requires.who
 
 pub returns-clause-closed : goal.returns-clause-closed
 returns-clause-closed c =
-    IsClosed-whole c.args.self.now.instance.now c.args.path.now c.in_ok-candidate.candidate c.offer.new.self.cost c.requires.node.placement (whole_from_form _ _ _ _ _ c.requires.node c.requires.whole) c.in_ok-candidate.ensures c.offer.ensures.offered
+    Reaches-whole c.args.self.now.instance.now c.args.self.now.duals.now c.args.self.now.step c.args.path.now c.args.level.now.form c.in_ok-candidate.candidate c.offer.new.self.cost c.requires.node c.free-free.ensures.duals.positive c.requires.whole
+    c.in_ok-candidate.ensures c.offer.ensures.offered

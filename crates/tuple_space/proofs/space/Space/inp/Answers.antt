@@ -9,7 +9,7 @@ use Rattle.tuple_space.specs.Space.{IsSpace, SpaceValue, space_of, with_entries}
 use Rattle.tuple_space.specs.Step.{IsHad}
 use Rattle.tuple_space.specs.declared.entry.Entry.{Entry}
 use Rattle.tuple_space.specs.declared.entry.Claim.TheVariants.{Take}
-use Rattle.tuple_space.proofs.EndLemmas.{live_filter}
+use Rattle.tuple_space.proofs.EndLemmas.{watched_filter}
 use Rattle.tuple_space.proofs.HeldLemmas.{found_free, held_filter, open_free}
 use Rattle.tuple_space.proofs.RowLemmas.{stands_found}
 use Rattle.tuple_space.proofs.SpaceLemmas.{IsSpace-filter}
@@ -52,7 +52,7 @@ invariant_of-self-2 c =
       IsSpace-filter stays s.entries.items s.moment s.last s.moment c.self.invariant.0.early c.self.invariant.0,
       held_filter stays s.held.items s.entries.items (found_free x.number x s.entries.items c.self.invariant.0.rising found free) c.self.invariant.1,
       rw c.take_number.ensures.rest at c.take_number.ensures.indexed,
-      live_filter s.first_end stays s.entries.items c.self.invariant.3,
+      watched_filter s.ends.rows s.moment stays s.entries.items c.self.invariant.3,
     )
 
 pub returns : goal.returns

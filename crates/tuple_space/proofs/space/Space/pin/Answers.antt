@@ -1,4 +1,4 @@
-use Rattle.std.proofs.Common.{◌≡◌, ◌∙◌, ℕ, List, ap, cond, eqb, refl, subst, sym, true}
+use Rattle.std.proofs.Common.{◌≡◌, ◌∙◌, ℕ, List, ap, cond, eqb, get_or, refl, subst, sym, true}
 use Rattle.tuple_space.specs.Rows.{has_number}
 use Rattle.tuple_space.specs.Held.{HasHeld}
 use Rattle.tuple_space.specs.declared.entry.Entry.{Entry}
@@ -8,7 +8,7 @@ use Rattle.tuple_space.proofs.RowLemmas.{changed_number}
 use Rattle.tuple_space.proofs.EntryLemmas.{IsEntry-changed, IsEntry-held}
 use Rattle.tuple_space.proofs.HeldLemmas.{held_again, held_pinned}
 use Rattle.tuple_space.proofs.IndexLemmas.{changed_tuple, indexed_map}
-use Rattle.tuple_space.proofs.EndLemmas.{live_changed, live_map}
+use Rattle.tuple_space.proofs.EndLemmas.{watched_changed, watched_held, watched_map}
 use Rattle.tuple_space.proofs.SpaceLemmas.{IsSpace-map}
 use Rattle.tuple_space.proofs.space.Space.pin.Goals as goal
 
@@ -23,7 +23,8 @@ invariant_of-self-2 c =
       held_pinned c.args.holder c.args.taken n c.reserve.new.self.items _ s.entries.items there c.add_held.ensures.rising c.add_held.ensures.among
           (subst (λ (l : List Held). HasHeld l s.entries.items) (sym c.reserve.ensures.items) c.self.invariant.1),
       indexed_map (λ (e : Entry). cond (eqb e.number n) (change e) e) (changed_number n change (λ e. refl)) (changed_tuple n change (λ e. refl)) s.buckets.items s.entries.items c.self.invariant.2,
-      live_map s.first_end (λ (e : Entry). cond (eqb e.number n) (change e) e) (live_changed s.first_end n change (λ e live. live)) s.entries.items c.self.invariant.3,
+      watched_map s.ends.rows s.moment (λ (e : Entry). cond (eqb e.number n) (change e) e) s.entries.items
+          (λ k d lt. watched_changed s.ends.rows s.moment n change (get_or s.entries.items k d) (λ own. watched_held s.ends.rows s.moment c.args.holder c.args.taken (get_or s.entries.items k d))) c.self.invariant.3,
     )
 
 pub invariant_of-self-then-is_entry_held_by : goal.invariant_of-self-then-is_entry_held_by
@@ -37,7 +38,8 @@ invariant_of-self-then-is_entry_held_by c =
       IsSpace-map (λ (e : Entry). cond (eqb e.number n) (change e) e) (changed_number n change (λ e. refl)) (IsEntry-changed n change (IsEntry-held c.args.holder c.args.taken)) s.entries.items s.moment s.last c.self.invariant.0,
       held_again c.args.holder c.args.taken n s.held.items s.entries.items there held c.self.invariant.1,
       indexed_map (λ (e : Entry). cond (eqb e.number n) (change e) e) (changed_number n change (λ e. refl)) (changed_tuple n change (λ e. refl)) s.buckets.items s.entries.items c.self.invariant.2,
-      live_map s.first_end (λ (e : Entry). cond (eqb e.number n) (change e) e) (live_changed s.first_end n change (λ e live. live)) s.entries.items c.self.invariant.3,
+      watched_map s.ends.rows s.moment (λ (e : Entry). cond (eqb e.number n) (change e) e) s.entries.items
+          (λ k d lt. watched_changed s.ends.rows s.moment n change (get_or s.entries.items k d) (λ own. watched_held s.ends.rows s.moment c.args.holder c.args.taken (get_or s.entries.items k d))) c.self.invariant.3,
     )
 
 pub add_held-requires-clause-rising : goal.add_held-requires-clause-rising

@@ -6,7 +6,7 @@ use Rattle.tuple_space.specs.Rows.{without}
 use Rattle.tuple_space.specs.declared.entry.Entry.{Entry}
 use Rattle.tuple_space.specs.declared.held.Held.{Held}
 use Rattle.tuple_space.proofs.HeldLemmas.{found_free, held_filter, held_without}
-use Rattle.tuple_space.proofs.EndLemmas.{live_filter}
+use Rattle.tuple_space.proofs.EndLemmas.{watched_filter}
 use Rattle.tuple_space.proofs.RowLemmas.{find_nothing}
 use Rattle.tuple_space.proofs.SpaceLemmas.{IsSpace-filter}
 use Rattle.tuple_space.proofs.space.Space.remove.Goals as goal
@@ -27,7 +27,7 @@ invariant_of-self-then-is_held c =
       IsSpace-filter stays s.entries.items s.moment s.last s.moment c.self.invariant.0.early c.self.invariant.0,
       subst (λ (l : List Held). HasHeld l (without n s.entries.items)) (sym c.drop_rows_of.ensures) (held_without n s.held.items s.entries.items c.self.invariant.1),
       rw c.take_number.ensures.rest at c.take_number.ensures.indexed,
-      live_filter s.first_end stays s.entries.items c.self.invariant.3,
+      watched_filter s.ends.rows s.moment stays s.entries.items c.self.invariant.3,
     )
 
 pub invariant_of-self-else-is_held : goal.invariant_of-self-else-is_held
@@ -41,5 +41,5 @@ invariant_of-self-else-is_held c =
       IsSpace-filter stays s.entries.items s.moment s.last s.moment c.self.invariant.0.early c.self.invariant.0,
       held_filter stays s.held.items s.entries.items (found_free n c.in_ok-entry.entry s.entries.items c.self.invariant.0.rising found free) c.self.invariant.1,
       rw c.take_number.ensures.rest at c.take_number.ensures.indexed,
-      live_filter s.first_end stays s.entries.items c.self.invariant.3,
+      watched_filter s.ends.rows s.moment stays s.entries.items c.self.invariant.3,
     )

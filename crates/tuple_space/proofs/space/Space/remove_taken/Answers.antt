@@ -5,7 +5,7 @@ use Rattle.tuple_space.specs.declared.entry.Entry.{Entry}
 use Rattle.tuple_space.specs.declared.held.Held.{Held}
 use Rattle.tuple_space.specs.Entry.{is_taken_by}
 use Rattle.tuple_space.proofs.HeldLemmas.{held_taken}
-use Rattle.tuple_space.proofs.EndLemmas.{live_filter}
+use Rattle.tuple_space.proofs.EndLemmas.{watched_filter}
 use Rattle.tuple_space.proofs.SpaceLemmas.{IsSpace-filter}
 use Rattle.tuple_space.proofs.space.Space.remove_taken.Goals as goal
 
@@ -19,5 +19,5 @@ invariant_of-self c =
       subst (λ (l : List Held). HasHeld l (filter stays s.entries.items)) (sym rows)
           (held_taken c.args.holder c.is_any_shared-shared.result s.held.items s.entries.items c.self.invariant.0.rising c.is_any_shared-shared.ensures c.self.invariant.1),
       rw c.drop_taken.ensures.taken at c.drop_taken.ensures.indexed,
-      live_filter s.first_end stays s.entries.items c.self.invariant.3,
+      watched_filter s.ends.rows s.moment stays s.entries.items c.self.invariant.3,
     )

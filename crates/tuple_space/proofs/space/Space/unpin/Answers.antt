@@ -6,7 +6,7 @@ use Rattle.tuple_space.specs.Space.{released, stays_without}
 use Rattle.tuple_space.specs.declared.held.Held.{Held}
 use Rattle.tuple_space.proofs.EntryLemmas.{IsEntry-unheld}
 use Rattle.tuple_space.proofs.HeldLemmas.{held_released}
-use Rattle.tuple_space.proofs.EndLemmas.{live_filter, live_map}
+use Rattle.tuple_space.proofs.EndLemmas.{all_unheld}
 use Rattle.tuple_space.proofs.SpaceLemmas.{IsSpace-filter, IsSpace-map}
 use Rattle.tuple_space.proofs.space.Space.unpin.Goals as goal
 
@@ -19,5 +19,5 @@ invariant_of-self c =
           (IsSpace-filter stays s.entries.items s.moment s.last s.moment c.self.invariant.0.early c.self.invariant.0),
       subst (λ (l : List Held). HasHeld l (released c.args.holder s.moment s.entries.items)) (sym c.drop_rows_by.ensures) (held_released c.args.holder s.moment s.held.items s.entries.items c.self.invariant.1),
       rw c.release_all.ensures.released at c.release_all.ensures.indexed,
-      live_map s.first_end (unheld c.args.holder) (λ e live. live) (filter stays s.entries.items) (live_filter s.first_end stays s.entries.items c.self.invariant.3),
+      all_unheld s.ends.rows s.moment c.args.holder s.entries.items c.self.invariant.3,
     )

@@ -1,0 +1,8 @@
+use Rattle.std.proofs.Common.{◌^◌}
+use Rattle.std.specs.Prelude.{length}
+use Rattle.pair_duals.specs.DualRow.{BeginsDualRow}
+use Rattle.pair_duals.specs.Fitting.{distance}
+use Rattle.pair_duals.proofs.fitting.write_distances_to.Given as goal
+
+abbrev pub invariant-loop-l : goal.invariant-loop-l
+invariant-loop-l g s = BeginsDualRow (10 ^ 9) (length s.duals.locations) (λ l. distance s.instance s.duals l s.k) s.l s.list

@@ -1,0 +1,9 @@
+pub mod Answers
+pub mod Bounds
+pub mod Children
+pub mod Commits
+pub mod Lists
+pub mod Quotients
+pub mod Readings
+pub mod Replacing
+pub mod Runs

@@ -1,0 +1,9 @@
+pub mod Answer
+pub mod Covers
+pub mod Ground
+pub mod Law
+pub mod Opening
+pub mod Replacement
+pub mod Schedule
+pub mod Tuples
+pub mod Worker

@@ -1,0 +1,24 @@
+-- The space as a search finds it.
+use Rattle.std.specs.Prelude.{◌≡◌, List}
+use Rattle.qap_cost.specs.Instance.{Problem}
+use Rattle.qap_cost.specs.Placement.{Placement}
+use Rattle.space_txn.specs.Content.{content_of}
+use Rattle.space_txn.specs.World.{World, with_space}
+use Rattle.subtree_search.specs.Best.{Best}
+use Rattle.tuple_match.specs.FieldValue.{FieldValue}
+use Rattle.tuple_space.specs.Space.{put}
+use Rattle.tuple_space.specs.declared.lease.Lease.TheVariants.{Forever}
+use Rattle.part_search.specs.Law.{IsSearched, Part}
+
+-- the part that is searched, from a permutation
+abbrev pub part_of : Problem → Placement → Best → Part
+part_of I root start = record { instance = I; root = root; start = start }
+
+-- a tuple put out to stay forever
+abbrev pub with_tuple : World → List FieldValue → World
+with_tuple w tuple = with_space w (put w.space tuple Forever)
+
+-- its tuples satisfy the law, before any commit
+pub record IsOpening (S : Part) (w : World) : Type 0 where
+  pub searched : IsSearched S (content_of w)
+  pub fresh : w.commits ≡ 0

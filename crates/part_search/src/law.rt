@@ -1,0 +1,44 @@
+//! Why the tuples of a search stay what its law says, and what they prove of its root.
+
+ghost use Rattle.std.specs.Prelude.{◌≡◌, ◌≤ℤ◌, ◌++◌, ◌∷◌, [], ℤ, Contains};
+ghost use Rattle.shared_space.specs.Law.{Content};
+ghost use Rattle.space_txn.specs.Content.{SameItems};
+ghost use Rattle.subtree_search.specs.Best.{Best};
+ghost use Rattle.subtree_search.specs.Closed.{IsClosed};
+ghost use Rattle.part_search.specs.Law.{IsPart, IsSearched, Part};
+ghost use Rattle.part_search.specs.Replacement.{MayReplace};
+ghost use Rattle.part_search.specs.Tuples.{OpenNode, best_tuple, node_tuple, open_count};
+
+/// The open root, with a value that no completion of it costs less than, and the permutation that is known before satisfy the law.
+pub fn opening_law()
+    ensures { (S : Part) (value : ℤ) → IsPart S → IsClosed S.instance S.root value →
+        IsSearched S (node_tuple (record { node = S.root; value = value }) ∷ best_tuple S.start ∷ []) }
+{}
+
+/// Whether tuples satisfy the law doesn't depend on their order.
+pub fn order_law()
+    ensures { (S : Part) (content other : Content) → SameItems content other → IsSearched S content → IsSearched S other }
+{}
+
+/// A commit that replaces an open node keeps the law.
+pub fn replacement_law()
+    ensures { (S : Part) (gone kept added rest : Content) → MayReplace S.instance gone kept added →
+        IsSearched S (gone ++ (kept ++ rest)) → IsSearched S (added ++ (kept ++ rest)) }
+{}
+
+/// No completion of the root costs less than a number that is at most the best cost and at most the value of each open node.
+pub fn bound_law()
+    ensures { (S : Part) (content : Content) (g : ℤ) → (h : IsSearched S content) → g ≤ℤ h.best.cost →
+        ((o : OpenNode) → Contains content (node_tuple o) → g ≤ℤ o.value) → IsClosed S.instance S.root g }
+{}
+
+/// Where no node is open, no completion of the root costs less than the best permutation.
+pub fn optimal_law()
+    ensures { (S : Part) (content : Content) → (h : IsSearched S content) → open_count content ≡ 0 → IsClosed S.instance S.root h.best.cost }
+{}
+
+/// Of the tuples that satisfy the law one is that of the best permutation, and no other one is that of a permutation.
+pub fn best_law()
+    ensures there { (S : Part) (content : Content) → (h : IsSearched S content) → Contains content (best_tuple h.best) }
+    ensures only { (S : Part) (content : Content) (b : Best) → (h : IsSearched S content) → Contains content (best_tuple b) → b ≡ h.best }
+{}

@@ -1,0 +1,26 @@
+//! Search of a node of an instance by workers on parts of it: each takes an open node, splits it and tries its children, and commits
+//! those that are left open. Nothing is kept of what is closed.
+#![tactic(auto)]
+
+mod answer;
+mod ground;
+mod law;
+mod open_node;
+mod opening;
+mod schedule;
+mod seat;
+mod stage;
+mod steps;
+mod threads;
+mod trying;
+mod tuples;
+mod watch;
+mod worker;
+
+pub use answer::{Answer, answer_of};
+pub use ground::Ground;
+pub use law::{best_law, bound_law, opening_law, optimal_law, order_law, replacement_law};
+pub use schedule::{Step, Task, play};
+pub use threads::{Crew, solve};
+pub use watch::Watch;
+pub use worker::Worker;

@@ -1,0 +1,245 @@
+//! Runs of a search by a schedule: turns of workers, moments and losses in any order.
+
+ghost use Rattle.std.specs.Prelude.{◌≡◌, ◌<◌, ◌≤◌, nat_lt, All, IfOk, OnOk, ℕ, length, vec_len};
+ghost use Rattle.std.specs.Arc.{arc_value};
+ghost use Rattle.qap_cost.specs.Instance.{Problem};
+ghost use Rattle.shared_space.specs.Event.{Did};
+ghost use Rattle.shared_space.specs.Place.{place_of};
+ghost use Rattle.subtree_search.specs.Best.{IsIncumbent};
+ghost use Rattle.part_search.specs.Law.{IsLawOf, best_with};
+ghost use Rattle.part_search.specs.Opening.{IsOpening, part_of};
+ghost use Rattle.part_search.specs.Schedule.{IsRun, Moves, Turns};
+ghost use Rattle.part_search.specs.Worker.{Allows, Made};
+
+use crate::ground::Ground;
+use crate::opening::opening_space;
+use crate::worker::Worker;
+use qap_cost::{Partial, Perm};
+use shared_space::{Alone, Law, Room, Share};
+use space_txn::TxnSpace;
+use std::alloc::{AllocError, Global};
+use std::marker::{Brand, Model};
+use std::sync::Arc;
+use std::sync::ledger::Blank;
+use subtree_search::{Incumbent, Stop};
+
+/// How many milliseconds a transaction of a schedule may take.
+const LEASE_MS: u64 = 1000;
+
+/// One step of a schedule. A number that names no worker, and a moment past the greatest one, change nothing.
+#[derive(Clone, Copy, Debug, PartialEq, Eq)]
+pub enum Step {
+    /// The worker makes its next step, and tries the node that it took.
+    Turn(u16),
+    /// The moment moves on to this one.
+    Advance(u64),
+    /// The worker is lost with its transaction, which isn't ended, and a fresh one stands in its place.
+    Lose(u16),
+}
+
+/// What is searched, and who is asked to stop while children are tried.
+#[derive(Drop)]
+pub struct Task<'a, S> {
+    /// The instance, and what goes with it.
+    pub ground: &'a Arc<Ground>,
+    /// The completions of this node are searched.
+    pub root: &'a Partial,
+    /// The permutation to start from.
+    pub start: &'a Perm,
+    /// Asked while children are tried.
+    pub stop: &'a S,
+}
+
+/// The space that a search leaves which goes by a schedule: this many workers, whose transactions may take 1000 ms, make their turns in the
+/// order that it gives, at the moments that it gives. The only error is want of memory.
+pub fn play<S: Stop>(
+    alloc: Global,
+    task: &Task<'_, S>,
+    workers: u16,
+    steps: &[Step],
+) -> Result<TxnSpace, AllocError>
+    requires some { 0 < workers }
+    requires few { workers ≤ 64 }
+    requires same_size { task.now.root.now.size ≡ (arc_value task.now.ground.now).size }
+    requires start { length task.now.start.now ≡ (arc_value task.now.ground.now).size }
+    ensures { IfOk result (IsRun (part_of (arc_value task.now.ground.now) task.now.root.now (best_with (arc_value task.now.ground.now) task.now.start.now)) workers steps.now) }
+{
+    let instance = task.ground.instance();
+    let start = Incumbent::new(instance, task.start.copy()?);
+    let space = opening_space(alloc, instance, task.root, &start)?;
+    let blank = Blank::new(u64::from(workers));
+    follow::<Brand, S>(alloc, task, space, blank, workers, steps)
+}
+
+/// The same, on a space that stands at the opening, under a law that is the search's.
+fn follow<L: Law, S: Stop>(
+    alloc: Global,
+    task: &Task<'_, S>,
+    space: TxnSpace,
+    blank: Blank,
+    workers: u16,
+    steps: &[Step],
+) -> Result<TxnSpace, AllocError>
+    requires name { blank.name ≡ L.name }
+    requires parts { blank.parts ≡ L.parts }
+    requires one_each { blank.parts ≡ workers }
+    requires few { workers ≤ 64 }
+    requires start { length task.now.start.now ≡ (arc_value task.now.ground.now).size }
+    requires law { IsLawOf (part_of (arc_value task.now.ground.now) task.now.root.now (best_with (arc_value task.now.ground.now) task.now.start.now)) L.lawful L.allowed }
+    requires opening { IsOpening (part_of (arc_value task.now.ground.now) task.now.root.now (best_with (arc_value task.now.ground.now) task.now.start.now)) space }
+    ensures { IfOk result (IsRun (part_of (arc_value task.now.ground.now) task.now.root.now (best_with (arc_value task.now.ground.now) task.now.start.now)) workers steps.now) }
+{
+    let made = Alone::<L>::new(alloc, blank, space, usize::from(workers));
+    let Ok((mut room, shares)) = made else {
+        return Err(AllocError);
+    };
+    let mut posts = posts_for(alloc, task, shares)?;
+    for i in 0..steps.len() {
+        make(alloc, task, steps[i], &mut posts, &mut room)?;
+    }
+    Ok(room.into_space())
+}
+
+/// Where one worker stands, with the share of all who stood there. It is seen as the instance.
+#[derive(Drop)]
+struct Post<L: Law> {
+    worker: Worker,
+    share: Share<L>,
+}
+
+impl<L: Law> Model for Post<L> {
+    ghost use Rattle.qap_cost.specs.Instance.{Problem};
+    ghost use Rattle.part_search.specs.Worker.{Allows};
+
+    ghost Value = { Problem };
+
+    ghost view = { λ p. p.worker };
+
+    ghost invariant = { λ p. Allows p.worker L.allowed };
+}
+
+impl<L: Law> Post<L> {
+    /// The place of a worker with its share.
+    fn new(worker: Worker, share: Share<L>) -> Post<L>
+        requires { Allows worker L.allowed }
+        ensures { result ≡ worker }
+    {
+        Post { worker, share }
+    }
+
+    /// The worker's next step; it tries the node that it took then.
+    fn turn<S: Stop>(&mut self, room: &mut Alone<L>, stop: &S) -> Result<(), AllocError>
+        ensures made { Made Did self.old room.old room.new }
+        ensures instance { self.new ≡ self.old }
+    {
+        turn_of(&mut self.worker, &mut self.share, room, stop)
+    }
+
+    /// Puts a worker in the place of the one who stands there, who is lost with its transaction.
+    fn put(&mut self, worker: Worker)
+        requires { worker ≡ self.old }
+        ensures { self.new ≡ self.old }
+    {
+        self.worker = worker;
+    }
+}
+
+fn turn_of<L: Law, S: Stop>(
+    worker: &mut Worker,
+    share: &mut Share<L>,
+    room: &mut Alone<L>,
+    stop: &S,
+) -> Result<(), AllocError>
+    requires { Allows worker.old L.allowed }
+    ensures made { Made Did worker.old room.old room.new }
+    ensures instance { worker.new ≡ worker.old }
+{
+    worker.step(room, share)?;
+    worker.try_node(stop)
+}
+
+/// A worker who has done nothing yet.
+fn new_worker<S: Stop>(alloc: Global, task: &Task<'_, S>) -> Result<Worker, AllocError>
+    requires start { length task.now.start.now ≡ (arc_value task.now.ground.now).size }
+    ensures { IfOk result (λ (I : Problem). I ≡ arc_value task.now.ground.now) }
+{
+    Worker::new(alloc, task.ground.clone()?, task.start.copy()?, LEASE_MS)
+}
+
+/// A place for each share, with a worker.
+fn posts_for<L: Law, S: Stop>(
+    alloc: Global,
+    task: &Task<'_, S>,
+    shares: Vec<Share<L>>,
+) -> Result<Vec<Post<L>>, AllocError>
+    requires start { length task.now.start.now ≡ (arc_value task.now.ground.now).size }
+    requires law { Allows (arc_value task.now.ground.now) L.allowed }
+    ensures count { IfOk result (λ posts. vec_len posts ≡ vec_len shares) }
+    ensures instance { IfOk result (λ posts. All (λ (I : Problem). I ≡ arc_value task.now.ground.now) posts.items) }
+{
+    let mut posts = Vec::with_capacity(alloc, shares.len())?;
+    let mut rest = shares;
+    while let Some(share) = rest.pop() {
+        posts.push(Post::new(new_worker(alloc, task)?, share))?;
+    }
+    Ok(posts)
+}
+
+/// Makes one step of a schedule.
+fn make<L: Law, S: Stop>(
+    alloc: Global,
+    task: &Task<'_, S>,
+    step: Step,
+    posts: &mut Vec<Post<L>>,
+    room: &mut Alone<L>,
+) -> Result<(), AllocError>
+    requires start { length task.now.start.now ≡ (arc_value task.now.ground.now).size }
+    requires instance { All (λ (I : Problem). I ≡ arc_value task.now.ground.now) posts.old.items }
+    ensures moves { OnOk result (Moves (arc_value task.now.ground.now) (vec_len posts.old) room.old step room.new) }
+    ensures instance { OnOk result (All (λ (I : Problem). I ≡ arc_value task.now.ground.now) posts.new.items) }
+    ensures count { OnOk result (vec_len posts.new ≡ vec_len posts.old) }
+{
+    match step {
+        Step::Turn(worker) => turn(task.stop, usize::from(worker), posts, room),
+        Step::Advance(moment) => {
+            let _ = room.advance(moment);
+            Ok(())
+        }
+        Step::Lose(worker) => lose(alloc, task, usize::from(worker), posts),
+    }
+}
+
+/// The turn of the worker of this number, where there is one.
+fn turn<L: Law, S: Stop>(
+    stop: &S,
+    worker: usize,
+    posts: &mut Vec<Post<L>>,
+    room: &mut Alone<L>,
+) -> Result<(), AllocError>
+    ensures turn { (I : Problem) → All (λ (J : Problem). J ≡ I) posts.old.items → OnOk result (Turns I (nat_lt worker (vec_len posts.old)) room.old room.new) }
+    ensures instance { (I : Problem) → All (λ (J : Problem). J ≡ I) posts.old.items → OnOk result (All (λ (J : Problem). J ≡ I) posts.new.items) }
+    ensures count { OnOk result (vec_len posts.new ≡ vec_len posts.old) }
+{
+    if worker < posts.len() {
+        posts[worker].turn(room, stop)?;
+    }
+    Ok(())
+}
+
+/// Loses the worker of this number, where there is one.
+fn lose<L: Law, S: Stop>(
+    alloc: Global,
+    task: &Task<'_, S>,
+    worker: usize,
+    posts: &mut Vec<Post<L>>,
+) -> Result<(), AllocError>
+    requires start { length task.now.start.now ≡ (arc_value task.now.ground.now).size }
+    requires instance { All (λ (I : Problem). I ≡ arc_value task.now.ground.now) posts.old.items }
+    ensures instance { OnOk result (All (λ (I : Problem). I ≡ arc_value task.now.ground.now) posts.new.items) }
+    ensures count { OnOk result (vec_len posts.new ≡ vec_len posts.old) }
+{
+    if worker < posts.len() {
+        posts[worker].put(new_worker(alloc, task)?);
+    }
+    Ok(())
+}

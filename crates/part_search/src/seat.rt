@@ -1,0 +1,233 @@
+//! A worker with its share, and its run on a shared space.
+
+ghost use Rattle.std.specs.Prelude.{◌≡◌};
+ghost use Rattle.part_search.specs.Worker.{Allows};
+
+use crate::worker::Worker;
+use shared_space::{Law, Room, Share, Shared, SharedError, Steps};
+use std::alloc::AllocError;
+use std::marker::Model;
+use std::sync::Wait;
+use std::sync::atomic::{AtomicBool, AtomicU64, Ordering};
+use std::time::{self, Duration, Instant};
+use subtree_search::Stop;
+use tuple_match::Template;
+
+/// How many steps a worker makes at most until it has no transaction.
+const STEPS_TO_IDLE: usize = 3;
+
+/// Where workers work: the space, what they wait for there, how many wait, whether the search is to stop, how many nodes were taken and
+/// tried, and when children are left open untried.
+#[derive(Drop)]
+pub(crate) struct Workplace<'a, R: Wait + time::Clock, L: Law> {
+    pub(crate) rt: &'a R,
+    pub(crate) shared: &'a Shared<L>,
+    pub(crate) nodes: &'a Template,
+    pub(crate) waiting: &'a AtomicU64,
+    pub(crate) halt: &'a AtomicBool,
+    pub(crate) tried: &'a AtomicU64,
+    pub(crate) turn_ms: u64,
+}
+
+/// Lets a worker try the children of a node until the search is to stop, another worker has no node, or its time is up.
+#[derive(Drop)]
+struct Due<'a, R: Wait + time::Clock> {
+    rt: &'a R,
+    waiting: &'a AtomicU64,
+    halt: &'a AtomicBool,
+    since: Option<Instant>,
+    turn: Duration,
+}
+
+impl<R: Wait + time::Clock> Stop for Due<'_, R> {
+    ghost says = { λ _ _. Unit {0} };
+
+    fn is_requested(&self) -> bool {
+        self.waiting.load(Ordering::SeqCst) > 0
+            || self.halt.load(Ordering::SeqCst)
+            || self.is_over()
+    }
+}
+
+impl<R: Wait + time::Clock> Due<'_, R> {
+    /// Whether its time is up; without a clock it always is.
+    fn is_over(&self) -> bool {
+        match self.since {
+            Some(since) => match since.elapsed(self.rt) {
+                Ok(elapsed) => elapsed >= self.turn,
+                Err(_) => true,
+            },
+            None => true,
+        }
+    }
+}
+
+/// How a worker ended.
+#[derive(Clone, Copy, Debug, PartialEq, Eq)]
+enum Ended {
+    /// The space is closed.
+    Done,
+    /// There was no memory.
+    Memory,
+}
+
+/// A worker with its share of the commits.
+#[derive(Drop)]
+pub(crate) struct Seat<L: Law> {
+    worker: Worker,
+    share: Share<L>,
+    /// How it ended, where it has.
+    ended: Option<Ended>,
+    /// Whether it found no open node when it went on last.
+    lacks: bool,
+}
+
+impl<L: Law> Model for Seat<L> {
+    ghost use Rattle.std.specs.Prelude.{◌≡◌, ℕ};
+    ghost use Rattle.part_search.specs.Worker.{Allows};
+
+    ghost Value = { ℕ };
+
+    ghost view = { λ s. s.share };
+
+    ghost invariant = { λ s. Allows s.worker L.allowed };
+}
+
+impl<L: Law> Seat<L> {
+    /// A worker that hasn't begun, with its share.
+    pub(crate) fn new(worker: Worker, share: Share<L>) -> Seat<L>
+        requires { Allows worker L.allowed }
+        ensures { result ≡ share }
+    {
+        Seat {
+            worker,
+            share,
+            ended: None,
+            lacks: false,
+        }
+    }
+
+    /// Its share.
+    pub(crate) fn into_share(self) -> Share<L>
+        ensures { result ≡ self }
+    {
+        self.share
+    }
+
+    /// Works until the space is closed or there is no memory; a worker that found none gives its node up.
+    pub(crate) fn work<R: Wait + time::Clock>(&mut self, place: &Workplace<'_, R, L>) {
+        for _ in place.rt.forever() {
+            if self.ended.is_some() {
+                return;
+            }
+            self.go_on_at(place);
+        }
+    }
+
+    /// Tries the node that it has, outside the space's lock; then it commits what is left and takes another one under one taking of the
+    /// lock, and waits for one where there is none.
+    fn go_on_at<R: Wait + time::Clock>(&mut self, place: &Workplace<'_, R, L>) {
+        let due = Due {
+            rt: place.rt,
+            waiting: place.waiting,
+            halt: place.halt,
+            since: Instant::now(place.rt).ok(),
+            turn: Duration::from_millis(place.turn_ms),
+        };
+        if self.worker.has_node() {
+            place.tried.fetch_add(1, Ordering::SeqCst);
+        }
+        if self.worker.try_node(&due).is_err() {
+            self.ended = Some(Ended::Memory);
+        }
+        self.lacks = false;
+        place.shared.together(place.rt, self);
+        if self.ended.is_none() && self.lacks {
+            self.ended = wait(place).err();
+        }
+    }
+}
+
+impl<L: Law> Steps<L> for Seat<L> {
+    /// A worker that has ended gives up what it has at hand; any other goes on.
+    fn make<M: Room<L>>(&mut self, room: &mut M) {
+        if self.ended.is_some() {
+            let _ = finish(room, &mut self.worker, &mut self.share);
+            return;
+        }
+        match go_on(room, &mut self.worker, &mut self.share) {
+            Ok(lacks) => self.lacks = lacks,
+            Err(ended) => self.ended = Some(ended),
+        }
+    }
+}
+
+/// Commits what was tried or gives it up, and then, unless the space is closed, takes an open node; tells whether there was none. The
+/// error says how the worker ends.
+fn go_on<L: Law, M: Room<L>>(
+    room: &mut M,
+    worker: &mut Worker,
+    share: &mut Share<L>,
+) -> Result<bool, Ended>
+    requires { Allows worker.old L.allowed }
+    ensures { worker.new ≡ worker.old }
+{
+    finish(room, worker, share)?;
+    if room.closed() {
+        return Err(Ended::Done);
+    }
+    step(room, worker, share)?;
+    step(room, worker, share)?;
+    if worker.has_node() {
+        return Ok(false);
+    }
+    finish(room, worker, share)?;
+    Ok(true)
+}
+
+/// Makes steps until the worker has no transaction.
+fn finish<L: Law, M: Room<L>>(
+    room: &mut M,
+    worker: &mut Worker,
+    share: &mut Share<L>,
+) -> Result<(), Ended>
+    requires { Allows worker.old L.allowed }
+    ensures { worker.new ≡ worker.old }
+{
+    for _ in 0..STEPS_TO_IDLE {
+        if !worker.is_idle() {
+            step(room, worker, share)?;
+        }
+    }
+    Ok(())
+}
+
+/// Makes the next step.
+fn step<L: Law, M: Room<L>>(
+    room: &mut M,
+    worker: &mut Worker,
+    share: &mut Share<L>,
+) -> Result<(), Ended>
+    requires { Allows worker.old L.allowed }
+    ensures { worker.new ≡ worker.old }
+{
+    match worker.step(room, share) {
+        Ok(_) => Ok(()),
+        Err(AllocError) => {
+            worker.give_up();
+            Err(Ended::Memory)
+        }
+    }
+}
+
+/// Waits until there is an open node. The error says how the worker ends: where the space is closed it is done.
+fn wait<R: Wait + time::Clock, L: Law>(place: &Workplace<'_, R, L>) -> Result<(), Ended> {
+    place.waiting.fetch_add(1, Ordering::SeqCst);
+    let found = place.shared.rd(place.rt, place.nodes);
+    place.waiting.fetch_sub(1, Ordering::SeqCst);
+    match found {
+        Ok(_) => Ok(()),
+        Err(SharedError::Closed) => Err(Ended::Done),
+        Err(SharedError::OutOfMemory) => Err(Ended::Memory),
+    }
+}

@@ -1,0 +1,29 @@
+//! Where a worker stands in its turn.
+
+use space_txn::Txn;
+use std::alloc::AllocError;
+use tuple_space::EntryId;
+
+/// Where a worker stands in its turn.
+#[derive(Drop)]
+pub(crate) enum Stage {
+    /// It has no transaction.
+    Idle,
+    /// It has begun one.
+    Begun(Txn),
+    /// It took the entry of an open node, which is to be tried.
+    Taken(Txn, EntryId),
+    /// The node was split and its children were tried; those that are left open are written.
+    Tried(Txn),
+    /// The best permutation was taken, and one that is no worse is written too.
+    Ready(Txn),
+    /// The transaction is to be ended without a commit.
+    GivingUp(Txn),
+}
+
+/// Where a step leaves a worker, and whether it met no refusal.
+#[derive(Drop)]
+pub(crate) struct Outcome {
+    pub(crate) stage: Stage,
+    pub(crate) told: Result<bool, AllocError>,
+}

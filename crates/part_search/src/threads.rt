@@ -1,0 +1,232 @@
+//! A search by many workers, each a thread of its own.
+
+ghost use Rattle.std.specs.Prelude.{◌≡◌, ◌<◌, ◌≤◌, [], None, false, IfOk, length, vec_capacity, vec_len};
+ghost use Rattle.std.specs.Arc.{arc_value};
+ghost use Rattle.shared_space.specs.Place.{place_of};
+ghost use Rattle.space_txn.specs.Content.{content_of};
+ghost use Rattle.part_search.specs.Answer.{IsAnswer};
+ghost use Rattle.part_search.specs.Law.{IsLawOf, IsSearched, Part, best_with};
+ghost use Rattle.part_search.specs.Opening.{IsOpening, part_of};
+ghost use Rattle.part_search.specs.Worker.{Allows};
+
+use crate::answer::{Answer, answer_of};
+use crate::opening::opening_space;
+use crate::schedule::Task;
+use crate::seat::{Seat, Workplace};
+use crate::tuples::node_template;
+use crate::watch::Watch;
+use crate::worker::Worker;
+use shared_space::{Law, Share, Shared};
+use space_txn::TxnSpace;
+use std::alloc::{AllocError, Global};
+use std::marker::Brand;
+use std::sync::atomic::{AtomicBool, AtomicU64, Ordering};
+use std::sync::ledger::Blank;
+use std::sync::{Mutex, Wait};
+use std::thread::Threads;
+use std::time::{Duration, Instant};
+use std::{thread, time};
+use subtree_search::Incumbent;
+use tuple_match::Template;
+
+/// How many milliseconds the keeper pauses before it looks again.
+const PAUSE_MS: u64 = 1;
+
+/// Who searches: this many workers, whose transactions ask for this many milliseconds, and who leave the children of a node open that are
+/// not tried after this many milliseconds.
+#[derive(Clone, Copy, Debug)]
+pub struct Crew {
+    pub workers: u16,
+    pub lease_ms: u64,
+    pub turn_ms: u64,
+}
+
+/// The best permutation that a search by threads finds, and a bound that no completion of the root costs less than: the cost itself,
+/// unless the search was stopped or workers found no memory while nodes were open.
+///
+/// The calling thread keeps the space: it moves the moment on by the clock, and closes the space when no node is open, when every worker
+/// has left, and when the task's watch says so, which that thread alone asks, and shows how many nodes were taken and tried. The only
+/// error is want of memory.
+pub fn solve<R, S>(
+    rt: &R,
+    alloc: Global,
+    task: &Task<'_, S>,
+    crew: Crew,
+) -> Result<Answer, AllocError>
+where
+    R: Threads + Wait + time::Clock + Sync,
+    S: Watch,
+    requires some { 0 < crew.workers }
+    requires few { crew.workers ≤ 64 }
+    requires same_size { task.now.root.now.size ≡ (arc_value task.now.ground.now).size }
+    requires start { length task.now.start.now ≡ (arc_value task.now.ground.now).size }
+    ensures { IfOk result (IsAnswer (part_of (arc_value task.now.ground.now) task.now.root.now (best_with (arc_value task.now.ground.now) task.now.start.now))) }
+{
+    let space = run_of(rt, alloc, task, crew)?;
+    answer_of(alloc, task.ground.instance(), space)
+}
+
+/// The space that such a search leaves.
+fn run_of<R, S>(
+    rt: &R,
+    alloc: Global,
+    task: &Task<'_, S>,
+    crew: Crew,
+) -> Result<TxnSpace, AllocError>
+where
+    R: Threads + Wait + time::Clock + Sync,
+    S: Watch,
+    requires some { 0 < crew.workers }
+    requires few { crew.workers ≤ 64 }
+    requires same_size { task.now.root.now.size ≡ (arc_value task.now.ground.now).size }
+    requires start { length task.now.start.now ≡ (arc_value task.now.ground.now).size }
+    ensures { IfOk result (λ space. IsSearched (part_of (arc_value task.now.ground.now) task.now.root.now (best_with (arc_value task.now.ground.now) task.now.start.now)) (content_of space)) }
+{
+    let instance = task.ground.instance();
+    let start = Incumbent::new(instance, task.start.copy()?);
+    let space = opening_space(alloc, instance, task.root, &start)?;
+    let blank = Blank::new(u64::from(crew.workers));
+    search::<Brand, R, S>(rt, alloc, task, space, blank, crew)
+}
+
+/// The same, on a space that stands at the opening, under a law that is the search's.
+fn search<L, R, S>(
+    rt: &R,
+    alloc: Global,
+    task: &Task<'_, S>,
+    space: TxnSpace,
+    blank: Blank,
+    crew: Crew,
+) -> Result<TxnSpace, AllocError>
+where
+    L: Law + Send + Sync,
+    R: Threads + Wait + time::Clock + Sync,
+    S: Watch,
+    requires some { 0 < crew.workers }
+    requires name { blank.name ≡ L.name }
+    requires parts { blank.parts ≡ L.parts }
+    requires one_each { blank.parts ≡ crew.workers }
+    requires start { length task.now.start.now ≡ (arc_value task.now.ground.now).size }
+    requires law { IsLawOf (part_of (arc_value task.now.ground.now) task.now.root.now (best_with (arc_value task.now.ground.now) task.now.start.now)) L.lawful L.allowed }
+    requires limit { L.limit ≡ None }
+    requires opening { IsOpening (part_of (arc_value task.now.ground.now) task.now.root.now (best_with (arc_value task.now.ground.now) task.now.start.now)) space }
+    requires reached { L.reached (place_of space crew.workers 0 false) }
+    ensures { IfOk result (λ left. IsSearched (part_of (arc_value task.now.ground.now) task.now.root.now (best_with (arc_value task.now.ground.now) task.now.start.now)) (content_of left)) }
+{
+    let count = usize::from(crew.workers);
+    let room = Vec::with_capacity(alloc, count)?;
+    let nodes = node_template(alloc)?;
+    let made = Shared::<L>::new(alloc, blank, space, count);
+    let Ok((shared, shares)) = made else {
+        return Err(AllocError);
+    };
+    let seats = seats_for(alloc, task, crew, shares)?;
+    let waiting = AtomicU64::new(0);
+    let halt = AtomicBool::new(false);
+    let tried = AtomicU64::new(0);
+    let place = Workplace {
+        rt,
+        shared: &shared,
+        nodes: &nodes,
+        waiting: &waiting,
+        halt: &halt,
+        tried: &tried,
+        turn_ms: crew.turn_ms,
+    };
+    work_all(&place, &seats, task.stop);
+    let shares = shares_of(room, seats);
+    let (space, _) = shared.into_inner(shares);
+    Ok(space)
+}
+
+/// A seat for each share, with a worker.
+fn seats_for<L: Law, S>(
+    alloc: Global,
+    task: &Task<'_, S>,
+    crew: Crew,
+    shares: Vec<Share<L>>,
+) -> Result<Vec<Mutex<Seat<L>>>, AllocError>
+    requires start { length task.now.start.now ≡ (arc_value task.now.ground.now).size }
+    requires law { Allows (arc_value task.now.ground.now) L.allowed }
+    ensures { IfOk result (λ seats. vec_len seats ≡ vec_len shares) }
+{
+    let mut seats = Vec::with_capacity(alloc, shares.len())?;
+    let mut rest = shares;
+    while let Some(share) = rest.pop() {
+        let worker = Worker::new(
+            alloc,
+            task.ground.clone()?,
+            task.start.copy()?,
+            crew.lease_ms,
+        )?;
+        seats.push(Mutex::new(Seat::new(worker, share)))?;
+    }
+    Ok(seats)
+}
+
+/// Lets each worker work in a thread of its own, and keeps the space until it is closed. A worker whose thread can't be started has
+/// left.
+fn work_all<R, L, S>(place: &Workplace<'_, R, L>, seats: &[Mutex<Seat<L>>], watch: &S)
+where
+    R: Threads + Wait + time::Clock + Sync,
+    L: Law + Send + Sync,
+    S: Watch,
+{
+    thread::scope(thread::scope_env(), place.rt, |scope| {
+        for seat in seats {
+            if scope.spawn(move || work(place, seat)).is_err() {
+                place.shared.leave(place.rt);
+            }
+        }
+        keep(place, watch);
+    });
+}
+
+/// Lets the worker of a seat work, which it leaves then.
+fn work<R: Wait + time::Clock, L: Law>(place: &Workplace<'_, R, L>, seat: &Mutex<Seat<L>>) {
+    seat.lock(place.rt).work(place);
+    place.shared.leave(place.rt);
+}
+
+/// Moves the moment on by the clock until the space is closed, by itself or since the watch says so.
+fn keep<R: Wait + time::Clock, L: Law, S: Watch>(place: &Workplace<'_, R, L>, watch: &S) {
+    let since = Instant::now(place.rt).ok();
+    for _ in place.rt.forever() {
+        if watch.is_requested() {
+            place.halt.store(true, Ordering::SeqCst);
+            place.shared.shut(place.rt);
+        }
+        if place.shared.close(place.rt, place.nodes) {
+            return;
+        }
+        watch.see(place.tried.load(Ordering::SeqCst));
+        // A moment that is too late changes nothing.
+        let _ = place.shared.advance(place.rt, moment(place.rt, since));
+        thread::sleep(place.rt, Duration::from_millis(PAUSE_MS));
+    }
+}
+
+/// How many milliseconds have passed; none where there is no clock.
+fn moment(clock: &impl time::Clock, since: Option<Instant>) -> u64 {
+    match since {
+        Some(since) => match since.elapsed(clock) {
+            Ok(elapsed) => u64::try_from(elapsed.as_millis()).unwrap_or(u64::MAX),
+            Err(_) => 0,
+        },
+        None => 0,
+    }
+}
+
+/// The shares of the seats, in the room that was made for them.
+fn shares_of<L: Law>(room: Vec<Share<L>>, seats: Vec<Mutex<Seat<L>>>) -> Vec<Share<L>>
+    requires empty { room.items ≡ [] }
+    requires enough { vec_len seats ≤ vec_capacity room }
+    ensures { vec_len result ≡ vec_len seats }
+{
+    let mut shares = room;
+    let mut rest = seats;
+    while let Some(seat) = rest.pop() {
+        shares.push(seat.into_inner().into_share()).unwrap();
+    }
+    shares
+}

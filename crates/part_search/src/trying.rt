@@ -1,0 +1,81 @@
+//! What a worker does with the open node that it took, outside the space.
+
+ghost use Rattle.std.specs.Prelude.{◌≡◌, ◌≤ℤ◌, ◌++◌, ◌∷◌, [], true, IfOk, IfSome, OnOk, map, ◌<◌, ◌≤◌};
+ghost use Rattle.space_txn.specs.Content.{added_of};
+ghost use Rattle.subtree_search.specs.Best.{IsIncumbent};
+ghost use Rattle.part_search.specs.Tuples.{node_tuple, open_of};
+ghost use Rattle.part_search.specs.Worker.{HasOpen, HasTaken, HasTried};
+
+use crate::ground::Ground;
+use crate::open_node::Open;
+use crate::tuples::{read_open, tuple_of_open};
+use shared_space::writing_law;
+use space_txn::Txn;
+use std::alloc::{AllocError, Global};
+use subtree_search::{Incumbent, Stop, SubtreeSearch};
+use tuple_match::Tuple;
+use tuple_space::{EntryId, Lease};
+
+/// Splits the open node that was taken, tries its children, and writes those that are left open. `false` where the entry is none of
+/// an open node, or its lease ends.
+pub(crate) fn try_taken<S: Stop>(
+    alloc: Global,
+    ground: &Ground,
+    search: &mut SubtreeSearch,
+    incumbent: &mut Incumbent,
+    txn: &mut Txn,
+    id: EntryId,
+    stop: &S,
+) -> Result<bool, AllocError>
+    requires incumbent { IsIncumbent ground.now incumbent.old }
+    requires taken { HasTaken txn.old id }
+    ensures tried { IfOk result (λ tried. tried ≡ true → HasTried ground.now incumbent.new.cost txn.new) }
+    ensures incumbent { IsIncumbent ground.now incumbent.new }
+    ensures no_worse { incumbent.new.cost ≤ℤ incumbent.old.cost }
+{
+    let Some(at) = open_at(alloc, ground.instance().size(), txn, id)? else {
+        return Ok(false);
+    };
+    let opens = ground.split(alloc, search, &at, incumbent, stop)?;
+    write_all(alloc, txn, &opens)?;
+    Ok(true)
+}
+
+/// The open node of size `n` in the tuple of an entry that was taken, where that is there to stay.
+fn open_at(alloc: Global, n: usize, txn: &Txn, id: EntryId) -> Result<Option<Open>, AllocError>
+    requires positive { 0 < n }
+    requires small { n ≤ 256 }
+    ensures { IfOk result (λ found. IfSome found (HasOpen n txn.now id)) }
+{
+    if txn.permanent(id) != Some(true) {
+        return Ok(None);
+    }
+    match txn.tuple(id) {
+        Some(tuple) => read_open(alloc, n, tuple),
+        None => Ok(None),
+    }
+}
+
+/// Writes the tuples of the open nodes under the transaction, each to stay forever.
+fn write_all(alloc: Global, txn: &mut Txn, opens: &[Open]) -> Result<(), AllocError>
+    ensures marks { txn.new.marks ≡ txn.old.marks }
+    ensures added { OnOk result (added_of txn.new.writes ≡ added_of txn.old.writes ++ map node_tuple (map open_of opens.now)) }
+{
+    for i in 0..opens.len() {
+        let tuple = tuple_of_open(alloc, &opens[i])?;
+        write_one(txn, tuple)?;
+    }
+    Ok(())
+}
+
+/// Writes a tuple under the transaction, to stay forever.
+pub(crate) fn write_one(txn: &mut Txn, tuple: Tuple) -> Result<(), AllocError>
+    ensures marks { txn.new.marks ≡ txn.old.marks }
+    ensures added { OnOk result (added_of txn.new.writes ≡ added_of txn.old.writes ++ tuple ∷ []) }
+{
+    writing_law();
+    match txn.out_in(tuple, Lease::Forever) {
+        Ok(()) => Ok(()),
+        Err(_) => Err(AllocError),
+    }
+}

@@ -1,0 +1,13 @@
+//! Who watches a search, and may stop it.
+
+use subtree_search::{Never, Stop};
+
+/// May stop a search, and is shown how far it is.
+pub trait Watch: Stop {
+    /// Sees how many open nodes were taken and tried so far, in each round of the thread that keeps the space, outside its lock.
+    fn see(&self, tried: u64);
+}
+
+impl Watch for Never {
+    fn see(&self, _tried: u64) {}
+}

@@ -1,0 +1,210 @@
+//! A worker of a search on parts.
+
+ghost use Rattle.std.specs.Prelude.{◌≡◌, ℤ, IfOk, length};
+ghost use Rattle.std.specs.Arc.{arc_value};
+ghost use Rattle.subtree_search.specs.Best.{IsIncumbent};
+ghost use Rattle.qap_cost.specs.Instance.{Problem};
+ghost use Rattle.part_search.specs.Worker.{Allows, IsStage, IsWorker, Made};
+ghost use Rattle.part_search.specs.declared.stage.Stage.{Stage};
+
+use crate::ground::Ground;
+use crate::stage::{Outcome, Stage};
+use crate::steps::{abort, begin, commit, take_best, take_node};
+use crate::trying::try_taken;
+use crate::tuples::{best_template, node_template};
+use qap_cost::Perm;
+use shared_space::{Law, Room, Share};
+use std::alloc::{AllocError, Global};
+use std::marker::Model;
+use std::mem::replace;
+use std::sync::Arc;
+use subtree_search::{Incumbent, Stop, SubtreeSearch};
+use tuple_match::Template;
+
+/// What a worker's calls are made with.
+#[derive(Drop)]
+pub(crate) struct Tools {
+    /// How many milliseconds its transactions ask for.
+    lease_ms: u64,
+    /// Asks for any open node.
+    node: Template,
+    /// Asks for the best permutation.
+    best: Template,
+}
+
+/// A worker of a search on parts: it takes an open node, splits it and tries its children, and commits those that are left open with
+/// the best permutation that it knows. It is seen as the instance.
+#[derive(Drop)]
+pub struct Worker {
+    alloc: Global,
+    ground: Arc<Ground>,
+    tools: Tools,
+    search: SubtreeSearch,
+    incumbent: Incumbent,
+    stage: Stage,
+}
+
+impl Model for Worker {
+    ghost use Rattle.std.specs.Arc.{arc_value};
+    ghost use Rattle.qap_cost.specs.Instance.{Problem};
+    ghost use Rattle.part_search.specs.Worker.{IsWorker};
+
+    ghost Value = { Problem };
+
+    ghost view = { λ w. arc_value w.ground };
+
+    ghost invariant = { λ w. IsWorker (arc_value w.ground) w.incumbent w.stage };
+}
+
+impl Worker {
+    /// A worker that begins with this permutation, and begins its transactions with leases of this many milliseconds.
+    pub fn new(
+        alloc: Global,
+        ground: Arc<Ground>,
+        start: Perm,
+        lease_ms: u64,
+    ) -> Result<Worker, AllocError>
+        requires { length start ≡ (arc_value ground).size }
+        ensures { IfOk result (λ worker. worker ≡ arc_value ground) }
+    {
+        let tools = Tools {
+            lease_ms,
+            node: node_template(alloc)?,
+            best: best_template(alloc)?,
+        };
+        let incumbent = Incumbent::new(ground.instance(), start);
+        Ok(Worker {
+            alloc,
+            ground,
+            tools,
+            search: SubtreeSearch::new(alloc),
+            incumbent,
+            stage: Stage::Idle,
+        })
+    }
+
+    /// Where it took an open node, splits it and tries its children, outside the space; its next step commits what is left. At an error
+    /// there was no memory, and the node is given up.
+    pub fn try_node<S: Stop>(&mut self, stop: &S) -> Result<(), AllocError>
+        ensures { self.new ≡ self.old }
+    {
+        let stage = replace(&mut self.stage, Stage::Idle);
+        let (stage, tried) = tried(
+            self.alloc,
+            &self.ground,
+            &mut self.search,
+            &mut self.incumbent,
+            stage,
+            stop,
+        );
+        self.stage = stage;
+        tried
+    }
+
+    /// Makes the next step, one call on the room, and answers whether it met no refusal. At an error there was no memory.
+    pub fn step<L: Law, M: Room<L>>(
+        &mut self,
+        room: &mut M,
+        share: &mut Share<L>,
+    ) -> Result<bool, AllocError>
+        requires { Allows self.old L.allowed }
+        ensures made { Made M.did self.old room.old room.new }
+        ensures instance { self.new ≡ self.old }
+    {
+        let stage = replace(&mut self.stage, Stage::Idle);
+        let outcome = turn(
+            self.alloc,
+            &self.ground,
+            &self.tools,
+            room,
+            share,
+            stage,
+            &mut self.incumbent,
+        );
+        self.stage = outcome.stage;
+        outcome.told
+    }
+
+    /// Whether it has no transaction.
+    pub(crate) fn is_idle(&self) -> bool {
+        matches!(self.stage, Stage::Idle)
+    }
+
+    /// Whether it took an open node that is to be tried.
+    pub(crate) fn has_node(&self) -> bool {
+        matches!(self.stage, Stage::Taken(..))
+    }
+
+    /// Gives up the node at hand: where it has a transaction, the next step aborts it.
+    pub(crate) fn give_up(&mut self)
+        ensures { self.new ≡ self.old }
+    {
+        let stage = replace(&mut self.stage, Stage::Idle);
+        self.stage = given_up(stage);
+    }
+}
+
+/// Where a worker stands after it has tried the node that it took, and whether there was memory.
+fn tried<S: Stop>(
+    alloc: Global,
+    ground: &Ground,
+    search: &mut SubtreeSearch,
+    incumbent: &mut Incumbent,
+    stage: Stage,
+    stop: &S,
+) -> (Stage, Result<(), AllocError>)
+    requires worker { IsWorker ground.now incumbent.old stage }
+    ensures { IsWorker ground.now incumbent.new result.0 }
+{
+    match stage {
+        Stage::Taken(mut txn, id) => {
+            let tried = try_taken(alloc, ground, search, incumbent, &mut txn, id, stop);
+            match tried {
+                Ok(true) => (Stage::Tried(txn), Ok(())),
+                Ok(false) => (Stage::GivingUp(txn), Ok(())),
+                Err(error) => (Stage::GivingUp(txn), Err(error)),
+            }
+        }
+        other => (other, Ok(())),
+    }
+}
+
+/// Makes the next step of a worker that stands there. A node that was taken and not tried is given up.
+fn turn<L: Law, M: Room<L>>(
+    alloc: Global,
+    ground: &Ground,
+    tools: &Tools,
+    room: &mut M,
+    share: &mut Share<L>,
+    stage: Stage,
+    incumbent: &mut Incumbent,
+) -> Outcome
+    requires law { Allows ground.now L.allowed }
+    requires worker { IsWorker ground.now incumbent.old stage }
+    ensures made { Made M.did ground.now room.old room.new }
+    ensures worker { IsWorker ground.now incumbent.new result.stage }
+{
+    let instance = ground.instance();
+    match stage {
+        Stage::Idle => begin(room, tools.lease_ms),
+        Stage::Begun(txn) => take_node(room, &tools.node, txn),
+        Stage::Taken(txn, _) => abort(room, txn),
+        Stage::Tried(txn) => take_best(alloc, instance, room, &tools.best, txn, incumbent),
+        Stage::Ready(txn) => commit(room, share, instance, txn),
+        Stage::GivingUp(txn) => abort(room, txn),
+    }
+}
+
+/// Where a worker stands that gives up its node.
+fn given_up(stage: Stage) -> Stage
+    ensures { (I : Problem) (c : ℤ) → IsStage I c result }
+{
+    match stage {
+        Stage::Idle => Stage::Idle,
+        Stage::Begun(txn) => Stage::GivingUp(txn),
+        Stage::Taken(txn, _) => Stage::GivingUp(txn),
+        Stage::Tried(txn) => Stage::GivingUp(txn),
+        Stage::Ready(txn) => Stage::GivingUp(txn),
+        Stage::GivingUp(txn) => Stage::GivingUp(txn),
+    }
+}

@@ -1,0 +1,229 @@
+//! Searches on parts against a listing of all completions.
+
+ghost use Rattle.std.specs.Prelude.{◌≡◌, true};
+
+use itertools::Itertools;
+use part_search::{Ground, Step, Task, answer_of, play};
+use qap_cost::{Instance, Partial, Perm, cost};
+use std::alloc::{AllocError, Global};
+use std::process::Abort;
+use std::sync::Arc;
+use std::test::Fail;
+use subtree_search::{Never, Stop};
+
+/// Leaves each child open untried.
+#[derive(Clone, Copy, Debug)]
+struct AtOnce;
+
+impl Stop for AtOnce {
+    ghost says = { λ _ b. b ≡ true };
+
+    fn is_requested(&self) -> bool {
+        true
+    }
+}
+
+/// The next number of Knuth's linear congruential generator of 64 bits.
+fn next(state: &mut u64) -> u64 {
+    *state = state
+        .wrapping_mul(6364136223846793005)
+        .wrapping_add(1442695040888963407);
+    *state >> 33
+}
+
+/// A matrix of entries from -9 to 9 or, where it is small, from 0 to 2.
+fn matrix(
+    alloc: Global,
+    n: usize,
+    is_small: bool,
+    state: &mut u64,
+) -> Result<Vec<i64>, AllocError> {
+    let mut entries: Vec<i64> = Vec::new(alloc);
+    for _ in 0..n {
+        for _ in 0..n {
+            let number = next(state);
+            entries.push(if is_small {
+                (number % 3) as i64
+            } else {
+                (number % 19) as i64 - 9
+            })?;
+        }
+    }
+    Ok(entries)
+}
+
+/// The instance that this seed gives.
+fn instance(alloc: Global, n: usize, seed: u64) -> Result<Option<Instance>, AllocError> {
+    let mut state = seed;
+    let flows = matrix(alloc, n, seed % 2 == 0, &mut state)?;
+    let distances = matrix(alloc, n, seed % 3 == 0, &mut state)?;
+    Ok(Instance::new(n, flows, distances).ok())
+}
+
+/// Whether a permutation completes a node.
+fn completes(node: &Partial, permutation: &Perm) -> bool {
+    for (f, k) in node.facilities().iter().zip(node.places()) {
+        if permutation.locations().get(usize::from(*f)) != Some(k) {
+            return false;
+        }
+    }
+    true
+}
+
+/// Every permutation with its cost.
+fn listing(alloc: Global, instance: &Instance) -> Result<Vec<(Perm, i128)>, AllocError> {
+    let mut all = Vec::new(alloc);
+    for locations in (0..instance.size() as u16).permutations(alloc, instance.size())? {
+        if let Ok(found) = Perm::new(locations?)
+            && found.len() == instance.size()
+        {
+            let own = cost(instance, &found);
+            all.push((found, own))?;
+        }
+    }
+    Ok(all)
+}
+
+/// The least cost of a completion of the node.
+fn least_of(node: &Partial, all: &[(Perm, i128)]) -> Option<i128> {
+    let mut least = None;
+    for (permutation, own) in all {
+        if completes(node, permutation) {
+            least = match least {
+                Some(other) if other <= *own => Some(other),
+                _ => Some(*own),
+            };
+        }
+    }
+    least
+}
+
+/// The scale of the pair duals.
+const SCALE: u32 = 64;
+
+/// Steps by a formula: mostly turns of three workers, and now and then a moment or a loss.
+fn steps(alloc: Global, count: u64, seed: u64) -> Result<Vec<Step>, AllocError> {
+    let mut state = seed;
+    let mut list = Vec::new(alloc);
+    let mut moment = 0u64;
+    for _ in 0..count {
+        let number = next(&mut state);
+        let worker = (number % 4) as u16;
+        list.push(match number / 4 % 16 {
+            0 => {
+                moment = moment.saturating_add(number % 700);
+                Step::Advance(moment)
+            }
+            1 => Step::Lose(worker),
+            _ => Step::Turn(worker),
+        })?;
+    }
+    Ok(list)
+}
+
+/// What a run of a schedule ends with.
+#[derive(Clone, Copy, Debug, PartialEq)]
+struct Ended {
+    cost: i128,
+    bound: i128,
+    open_nodes: u64,
+}
+
+/// Runs a schedule of three workers.
+fn run<S: Stop>(
+    rt: &impl Abort,
+    alloc: Global,
+    (ground, root): (&Arc<Ground>, &Partial),
+    start: &Perm,
+    steps: &[Step],
+    stop: &S,
+) -> Result<Ended, Fail> {
+    assert_eq!(rt; ground.instance().size(), root.size());
+    assert_eq!(rt; ground.instance().size(), start.len());
+    let task = Task {
+        ground,
+        root,
+        start,
+        stop,
+    };
+    let space = play(alloc, &task, 3, steps)?;
+    let answer = answer_of(alloc, ground.instance(), space)?;
+    let own = cost_of(rt, ground.instance(), answer.best.permutation());
+    assert_eq!(rt; answer.best.cost(), own);
+    Ok(Ended {
+        cost: answer.best.cost(),
+        bound: answer.bound,
+        open_nodes: answer.open_nodes,
+    })
+}
+
+/// What a permutation of the instance costs.
+fn cost_of(rt: &impl Abort, instance: &Instance, permutation: &Perm) -> i128 {
+    assert_eq!(rt; permutation.len(), instance.size());
+    cost(instance, permutation)
+}
+
+/// Asserts what runs of schedules end with.
+fn assert_runs(
+    rt: &impl Abort,
+    alloc: Global,
+    place: (&Arc<Ground>, &Partial),
+    (start, own): (&Perm, i128),
+    least: i128,
+) -> Result<(), Fail> {
+    for seed in 1..4u64 {
+        for count in [0, 1, 3, 10, 60, 2000] {
+            let list = steps(alloc, count, seed)?;
+            let untried = run(rt, alloc, place, start, &list, &AtOnce)?;
+            assert_ended(rt, untried, own, least);
+            let tried = run(rt, alloc, place, start, &list, &Never)?;
+            assert_ended(rt, tried, own, least);
+            if count == 2000 {
+                assert_eq!(rt; tried.open_nodes, 0);
+            }
+        }
+    }
+    Ok(())
+}
+
+/// Asserts that what a run ends with is right.
+fn assert_ended(rt: &impl Abort, ended: Ended, own: i128, least: i128) {
+    assert!(rt; ended.bound <= least);
+    assert!(rt; ended.cost >= own.min(least));
+    assert!(rt; ended.cost <= own);
+    if ended.open_nodes == 0 {
+        assert_eq!(rt; (ended.cost, ended.bound), (own.min(least), own.min(least)));
+    }
+}
+
+/// What searches of an instance rest on, below the root that puts a facility at a location where there are two or more.
+fn assert_instance(rt: &impl Abort, alloc: Global, instance: &Instance) -> Result<(), Fail> {
+    let all = listing(alloc, instance)?;
+    for depth in 0..instance.size().min(2) {
+        let mut root = Partial::root(alloc, instance.size())?;
+        for f in 0..depth as u16 {
+            if !root.is_placed(f) && usize::from(f) < root.size() && root.is_free(f) {
+                root.put(f, f)?;
+            }
+        }
+        assert_eq!(rt; instance.size(), root.size());
+        let ground = Ground::new(alloc, instance, &root, SCALE, 3)?.ok_or("range")?;
+        let ground = Arc::new(alloc, ground)?;
+        let least = least_of(&root, &all).ok_or("no completion")?;
+        let (start, own) = all.get(all.len() / 2).ok_or("no permutation")?;
+        assert_runs(rt, alloc, (&ground, &root), (start, *own), least)?;
+    }
+    Ok(())
+}
+
+/// Schedules of three workers on generated instances of up to four facilities.
+#[test]
+fn schedules(rt: HostRuntime) -> Result<(), Fail> {
+    for n in 1..5usize {
+        for seed in 1..4u64 {
+            let instance = instance(rt.alloc(), n, seed)?.ok_or("entries")?;
+            assert_instance(&rt, rt.alloc(), &instance)?;
+        }
+    }
+    Ok(())
+}

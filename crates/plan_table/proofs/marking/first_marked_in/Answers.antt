@@ -1,0 +1,16 @@
+use Rattle.std.proofs.Common.{◌≡◌, arith, inl, inr, refl, subst}
+use Rattle.std.proofs.lemmas.Bool.{cases_lt}
+use Rattle.csv.specs.Records.{fields_of}
+use Rattle.plan_table.specs.Marking.{IsUnmarked}
+use Rattle.plan_table.specs.Table.{word_at}
+use Rattle.plan_table.proofs.marking.first_marked_in.Goals as goal
+
+pub loop-k-preserved : goal.loop-k-preserved
+loop-k-preserved c j low below =
+    elim (cases_lt j c.loop-k.k) [
+      | inl before ↦ c.loop-k.invariant j low before
+      | inr past ↦
+          let here : c.loop-k.k ≡ j = omega (arith, below, past) in
+          let word = rw (c.as_bytes.ensures.value, c.word_in.ensures) at (c.if-not-is_unmarked.ensures.0 refl) in
+          subst (λ m. IsUnmarked (word_at (fields_of c.args.row.now) m)) here word
+    ]
