@@ -10,6 +10,7 @@ use crate::keeper::Keeper;
 use crate::memory_limit::WithinMemory;
 use crate::options::Options;
 use crate::planning::{Planned, UntilStopped, planned_by, proved_by};
+use crate::subtrees::search_subtrees;
 use plan_fixed::{ascending, completed, completes, improved_keeping};
 use qap_cost::{Instance, Partial, Perm, cost};
 use qap_search::{Always, Branching, Pace, Plan, Stop, identity, prove_from, solve_least_from};
@@ -54,6 +55,9 @@ where
     if options.proves {
         let found = prove_from(system, alloc, instance, &plan, &pace, &within, &within)?;
         let found = proved_by(found)?;
+        return Ok(kept_or_first(instance, fixed, first, found));
+    }
+    if let Some(found) = search_subtrees(system, alloc, instance, &plan, options.nodes, &within)? {
         return Ok(kept_or_first(instance, fixed, first, found));
     }
     let found = solve_least_from(system, alloc, instance, &plan, &pace, &within, &within)?;

@@ -38,6 +38,7 @@ mod split_run;
 mod splitting;
 mod standing;
 mod starting;
+mod subtrees;
 
 ghost use Rattle.qap_plan.specs.Asking.{IsLimitedTask};
 ghost use Rattle.qap_plan.specs.Options.{AreLimited};

@@ -9,6 +9,7 @@ ghost use Rattle.qap_plan.specs.Planning.{IsNoDearer, IsPlanned, ProvesPlanned};
 use crate::keeper::Keeper;
 use crate::memory_limit::WithinMemory;
 use crate::options::Options;
+use crate::subtrees::search_subtrees;
 use qap_cost::{Instance, Partial, Perm};
 use qap_improve::{Hook, tabu_search};
 use qap_proof::Proof;
@@ -79,6 +80,9 @@ where
     if options.proves {
         let found = prove_from(system, alloc, instance, &plan, &pace, &within, &within)?;
         return proved_by(found);
+    }
+    if let Some(found) = search_subtrees(system, alloc, instance, &plan, options.nodes, &within)? {
+        return Ok(found);
     }
     let found = solve_least_from(system, alloc, instance, &plan, &pace, &within, &within)?;
     Ok(planned_by(found))

@@ -107,7 +107,8 @@ impl<R: Eprint + AllocGlobal + Files, T: time::Clock> Keeper for Teller<'_, R, T
 }
 
 /// How far a search has come after this many milliseconds, in at most 79 columns: the seconds, the nodes that are
-/// decided and open, how many were decided in a second, the best cost, and how many of the root's children are done.
+/// decided and open, how many were decided in a second, the best cost, and how many of the root's children are done. Where nothing
+/// is known of the root's children, neither they nor the open nodes are named.
 pub fn progress_line(
     alloc: Global,
     milliseconds: u64,
@@ -117,10 +118,16 @@ pub fn progress_line(
     let seconds = milliseconds / 1000;
     let rate = u128::from(decided) * 1000 / u128::from(milliseconds.max(1));
     let (done, children) = (progress.children_done, progress.children);
-    let mut line = format!(in alloc; "{seconds} s, {decided} nodes, {open} open, {rate}/s")?;
+    let mut line = format!(in alloc; "{seconds} s, {decided} nodes")?;
+    if children > 0 {
+        line.push_str(&format!(in alloc; ", {open} open")?)?;
+    }
+    line.push_str(&format!(in alloc; ", {rate}/s")?)?;
     if let Some(cost) = progress.cost {
         line.push_str(&format!(in alloc; ", best {cost}")?)?;
     }
-    line.push_str(&format!(in alloc; ", {done} of {children} done")?)?;
+    if children > 0 {
+        line.push_str(&format!(in alloc; ", {done} of {children} done")?)?;
+    }
     format!(in alloc; "{line:.79}")
 }

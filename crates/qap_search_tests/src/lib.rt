@@ -2,17 +2,11 @@
 #![tactic(auto)]
 
 #[cfg(test)]
-mod bound_tests;
-#[cfg(test)]
 mod branching_tests;
 #[cfg(test)]
 mod examples;
 #[cfg(test)]
 mod hand_tests;
-#[cfg(test)]
-mod plan_tests;
-#[cfg(test)]
-mod proof_tests;
 #[cfg(test)]
 mod schedule_tests;
 #[cfg(test)]

@@ -17,13 +17,13 @@ use std::thread::{self, Threads};
 use std::time;
 
 /// How many milliseconds a transaction may take.
-pub(crate) const LEASE_MS: u64 = 1000;
+const LEASE_MS: u64 = 1000;
 
 /// How many turns a wait may take.
 const TURNS: u64 = 10_000_000;
 
 /// A clock that stands.
-pub(crate) struct Stopped;
+struct Stopped;
 
 impl Clock for Stopped {
     fn now(&self) -> u64 {

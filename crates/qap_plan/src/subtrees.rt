@@ -1,0 +1,198 @@
+//! Searches below a node under pair duals, by workers on subtrees.
+
+ghost use Rattle.std.specs.Prelude.{◌≡◌, ◌<◌, ◌≤◌, ◌≤ℤ◌, ℕ, ℤ, IfOk, IfSome, List, None};
+ghost use Rattle.qap_cost.specs.Objective.{Permutes, cost_of};
+ghost use Rattle.qap_cost.specs.Placement.{Completes};
+ghost use Rattle.qap_plan.specs.Keeping.{IsSearched};
+
+use crate::keeper::Keeper;
+use crate::memory_limit::WithinMemory;
+use crate::planning::Planned;
+use part_search::{Answer, Crew, Ground, Task, Watch, solve};
+use qap_cost::{Instance, cost};
+use qap_search::Stop as _;
+use qap_search::{Always, Observer, Pace, Plan, Progress, solve_least_from};
+use std::alloc::{AllocError, Global};
+use std::cell::Cell;
+use std::sync::{Arc, Wait};
+use std::thread::Threads;
+use std::time;
+use subtree_search::Stop;
+
+/// The greatest size at which a node is searched so: a worker holds the residuals of a node, four numbers of the size for each.
+const MAX_SIZE: usize = 36;
+
+/// How many rounds find the pair duals of the root.
+const ROUNDS: u32 = 30;
+
+/// For how many milliseconds a worker tries the children of the node that it took.
+const TURN_MS: u64 = 1000;
+
+/// The greatest scale of pair duals.
+const MAX_SCALE: u32 = 1 << 20;
+
+/// What the cost times the scale comes to at least, where the greatest scale allows it.
+const MIN_SCALED: u128 = 1 << 15;
+
+/// In how many rounds of the thread that keeps the space the progress is shown once.
+const ROUNDS_PER_LOOK: u32 = 128;
+
+/// Searches below the plan's root, to the end or until the stop is requested. `None` where the size or a number is out of range, or a
+/// number of nodes limits the search.
+pub(crate) fn search_subtrees<T, K>(
+    system: &T,
+    alloc: Global,
+    instance: &Instance,
+    plan: &Plan<'_>,
+    nodes: Option<u64>,
+    within: &WithinMemory<'_, K>,
+) -> Result<Option<Planned>, AllocError>
+where
+    T: Threads + Wait + time::Clock + Sync,
+    K: Keeper,
+    requires some { 0 < plan.now.crew.workers }
+    requires few { plan.now.crew.workers ≤ 64 }
+    requires start { Permutes instance.now plan.now.start.now }
+    requires same_size { plan.now.root.now.size ≡ instance.now.size }
+    ensures searched { IfOk result (IfSome (λ x. IsSearched instance.now plan.now.root.now plan.now.start.now x.permutation x.cost x.bound)) }
+    ensures proof { IfOk result (IfSome (λ x. x.proof ≡ None)) }
+{
+    if instance.size() > MAX_SIZE || nodes.is_some() {
+        return Ok(None);
+    }
+    let start_cost = cost(instance, plan.start);
+    let scale = scale_for(start_cost);
+    let Some(ground) = Ground::new(alloc, instance, plan.root, scale, ROUNDS)? else {
+        return Ok(None);
+    };
+    let ground = Arc::new(alloc, ground)?;
+    let watcher = Watcher {
+        within,
+        cost: start_cost,
+        looks: Cell::new(0),
+    };
+    let task = Task {
+        ground: &ground,
+        root: plan.root,
+        start: plan.start,
+        stop: &watcher,
+    };
+    let crew = Crew {
+        workers: plan.crew.workers,
+        lease_ms: plan.crew.lease_ms,
+        turn_ms: TURN_MS,
+    };
+    let answer = solve(system, alloc, &task, crew)?;
+    let found = found_by(&answer)?;
+    if found.open_nodes == 0 {
+        return Ok(Some(found));
+    }
+    let bound = root_bound(system, alloc, instance, plan, within)?;
+    Ok(Some(with_bound(found, bound)))
+}
+
+/// The least power of two, times which the cost comes to 2^15, or else the greatest scale.
+fn scale_for(cost: i128) -> u32
+    ensures some { 0 < result }
+{
+    let mut scale: u32 = 1;
+    while scale < MAX_SCALE && cost.unsigned_abs().saturating_mul(u128::from(scale)) < MIN_SCALED {
+        scale *= 2;
+    }
+    scale
+}
+
+/// What the answer says of the completions of the root.
+fn found_by(answer: &Answer) -> Result<Planned, AllocError>
+    ensures permutation { IfOk result (λ x. x.permutation ≡ answer.now.best.permutation) }
+    ensures cost { IfOk result (λ x. x.cost ≡ answer.now.best.cost) }
+    ensures bound { IfOk result (λ x. x.bound ≡ answer.now.bound) }
+    ensures proof { IfOk result (λ x. x.proof ≡ None) }
+{
+    Ok(Planned {
+        permutation: answer.best.permutation().copy()?,
+        cost: answer.best.cost(),
+        bound: answer.bound,
+        nodes: answer.nodes,
+        open_nodes: answer.open_nodes,
+        proof: None,
+    })
+}
+
+/// The bound of the root alone, which a search that is stopped before its first node yields.
+fn root_bound<T, K>(
+    system: &T,
+    alloc: Global,
+    instance: &Instance,
+    plan: &Plan<'_>,
+    within: &WithinMemory<'_, K>,
+) -> Result<i128, AllocError>
+where
+    T: Threads + Wait + time::Clock + Sync,
+    K: Keeper,
+    requires some { 0 < plan.now.crew.workers }
+    requires few { plan.now.crew.workers ≤ 64 }
+    requires start { Permutes instance.now plan.now.start.now }
+    requires same_size { plan.now.root.now.size ≡ instance.now.size }
+    ensures { IfOk result (λ g. (q : List ℕ) → Completes plan.now.root.now q → g ≤ℤ cost_of instance.now q) }
+{
+    let pace = Pace {
+        clock: within,
+        gate: &Always,
+    };
+    let plan = Plan {
+        crew: qap_search::Crew {
+            limit: Some(0),
+            ..plan.crew
+        },
+        ..*plan
+    };
+    let found = solve_least_from(system, alloc, instance, &plan, &pace, within, within)?;
+    Ok(found.bound)
+}
+
+/// The same with the greater of both bounds, and at most the cost.
+fn with_bound(found: Planned, bound: i128) -> Planned
+    ensures permutation { result.permutation ≡ found.permutation }
+    ensures cost { result.cost ≡ found.cost }
+    ensures proof { result.proof ≡ found.proof }
+    ensures none_less { (c : ℤ) → found.bound ≤ℤ c → bound ≤ℤ c → result.bound ≤ℤ c }
+    ensures at_most { result.bound ≤ℤ found.cost }
+{
+    let bound = found.bound.max(bound).min(found.cost);
+    Planned { bound, ..found }
+}
+
+/// Stops a search on subtrees where another keeper wants it, and shows that one how far it has come.
+#[derive(Drop)]
+struct Watcher<'a, 'k, K: Keeper> {
+    within: &'a WithinMemory<'k, K>,
+    /// What the permutation costs that the search begins with.
+    cost: i128,
+    /// How many rounds of the thread that keeps the space have passed.
+    looks: Cell<u32>,
+}
+
+impl<K: Keeper> Stop for Watcher<'_, '_, K> {
+    ghost says = { λ _ _. Unit {0} };
+
+    fn is_requested(&self) -> bool {
+        self.within.is_wanted()
+    }
+}
+
+impl<K: Keeper> Watch for Watcher<'_, '_, K> {
+    fn see(&self, tried: u64) {
+        let looks = self.looks.get().wrapping_add(1);
+        self.looks.set(looks);
+        if looks % ROUNDS_PER_LOOK == 0 && self.within.is_watching() {
+            self.within.see(&Progress {
+                cost: Some(self.cost),
+                decided: tried,
+                open: 0,
+                children: 0,
+                children_done: 0,
+            });
+        }
+    }
+}
