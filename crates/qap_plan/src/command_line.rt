@@ -6,6 +6,7 @@ ghost use Rattle.qap_plan.specs.Options.{AreLimited};
 
 use crate::check_command::{CheckRequest, check_command, check_request};
 use crate::convert_command::{ConvertRequest, convert_command, convert_request};
+use crate::duration::milliseconds_of;
 use crate::options::{MAX_NODES, MAX_WORKERS, Options};
 use crate::part_command::{PartRequest, part_command, part_request};
 use crate::show_command::{ShowRequest, show_command, show_request};
@@ -35,6 +36,8 @@ pub struct Request<'a> {
     pub quiet: bool,
     /// Whether it is to be said on standard error how far the search has come, where that is no terminal.
     pub progress: bool,
+    /// The file whose being there stops the search.
+    pub stop_file: Option<&'a str>,
 }
 
 /// What is to be done.
@@ -71,10 +74,35 @@ pub fn parse<'a>(alloc: Global, words: &'a [String]) -> Result<Task<'a>, Error>
         .subcommand(show_command(alloc)?)?
         .subcommand(check_command(alloc)?)?;
     let matches = command.try_get_matches_from_mut(words)?;
+    if let Some(word) = wrong_time(&matches) {
+        let message = format!(in alloc;
+            "invalid value '{word}' for '--seconds <S>': a time is wanted, as 90, 1.5, 2m or 1h"
+        )?;
+        return Err(command.error(ErrorKind::ValueValidation, &message)?);
+    }
     match asked(&matches) {
         Some(task) => Ok(task),
         None => Err(command.error(ErrorKind::MissingRequiredArgument, "a file is wanted")?),
     }
+}
+
+/// The time limit that is asked for, where it is no time.
+fn wrong_time<'a>(matches: &ArgMatches<'a>) -> Option<&'a str> {
+    match matches.subcommand() {
+        Some(("solve" | "split" | "part", found)) => {
+            let word = found.get_str("seconds")?;
+            match milliseconds_of(word) {
+                Some(_) => None,
+                None => Some(word),
+            }
+        }
+        _ => None,
+    }
+}
+
+/// The time limit that is asked for, in milliseconds.
+pub(crate) fn time_limit(found: &ArgMatches<'_>) -> Option<u64> {
+    milliseconds_of(found.get_str("seconds")?)
 }
 
 /// What the words that were found ask for.
@@ -181,8 +209,7 @@ pub(crate) fn with_limits<'a>(
             Arg::new(alloc, "seconds")
                 .long("seconds")
                 .value_name("S")
-                .value_parser(value_parser!(u64))
-                .help("stop after so many seconds"),
+                .help("stop after this time: seconds, or minutes (2m) or hours (1h)"),
         )?
         .arg(
             Arg::new(alloc, "memory")
@@ -198,6 +225,12 @@ pub(crate) fn with_limits<'a>(
                 .help(
                     "say every ten seconds how far it is, also where standard error is no terminal",
                 ),
+        )?
+        .arg(
+            Arg::new(alloc, "stop-file")
+                .long("stop-file")
+                .value_name("FILE")
+                .help("stop, with the answer so far, once this file is there"),
         )
 }
 
@@ -239,7 +272,7 @@ fn request_of<'a>(found: &ArgMatches<'a>) -> Option<Request<'a>>
         options: Options {
             workers,
             nodes: found.get_one("nodes"),
-            seconds: found.get_one("seconds"),
+            milliseconds: time_limit(found),
             memory: found.get_one("memory"),
             improve: found.get_one("improve")?,
             seed: found.get_one("seed")?,
@@ -252,5 +285,6 @@ fn request_of<'a>(found: &ArgMatches<'a>) -> Option<Request<'a>>
         svg: found.get_str("svg"),
         quiet: found.get_flag("quiet"),
         progress: found.get_flag("progress"),
+        stop_file: found.get_str("stop-file"),
     })
 }

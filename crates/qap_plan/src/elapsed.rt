@@ -15,12 +15,12 @@ pub struct Elapsed<'a, T: time::Clock> {
 }
 
 impl<'a, T: time::Clock> Elapsed<'a, T> {
-    /// A run that begins now, and may take this many seconds.
-    pub fn new(system: &'a T, seconds: Option<u64>) -> Elapsed<'a, T> {
+    /// A run that begins now, and may take this many milliseconds.
+    pub fn new(system: &'a T, limit_ms: Option<u64>) -> Elapsed<'a, T> {
         Elapsed {
             system,
             start: Instant::now(system).ok(),
-            limit_ms: seconds.map(|seconds| seconds.saturating_mul(1000)),
+            limit_ms,
         }
     }
 

@@ -11,6 +11,7 @@ mod command_line;
 mod convert_command;
 mod convert_run;
 mod converting;
+mod duration;
 mod elapsed;
 mod error;
 mod instance_file;
@@ -157,8 +158,13 @@ where
         Ok(outputs) => outputs,
         Err(code) => return code,
     };
-    let elapsed = Elapsed::new(system, request.options.seconds);
-    let teller = Teller::new(rt, &elapsed, telling_of(rt, request.progress));
+    let elapsed = Elapsed::new(system, request.options.milliseconds);
+    let teller = Teller::new(
+        rt,
+        &elapsed,
+        telling_of(rt, request.progress),
+        request.stop_file,
+    );
     let answer = answer_to(system, rt.alloc(), request, &teller, file, start);
     teller.finish();
     match answer {

@@ -30,8 +30,8 @@ pub struct Options {
     pub workers: u16,
     /// After how many decided nodes the search stops.
     pub nodes: Option<u64>,
-    /// After how many seconds the search stops.
-    pub seconds: Option<u64>,
+    /// After how many milliseconds the search stops.
+    pub milliseconds: Option<u64>,
     /// How many megabytes the program may have while it searches.
     pub memory: Option<u64>,
     /// How many exchanges a tabu search makes before the search for a proof begins.

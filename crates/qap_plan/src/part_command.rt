@@ -3,7 +3,7 @@
 ghost use Rattle.std.specs.Prelude.{IfSome};
 ghost use Rattle.qap_plan.specs.Options.{AreLimited};
 
-use crate::command_line::{ignore_rest, with_limits};
+use crate::command_line::{ignore_rest, time_limit, with_limits};
 use crate::options::{MAX_WORKERS, Options};
 use clap::{Arg, ArgMatches, Command};
 use std::alloc::{AllocError, Global};
@@ -22,6 +22,8 @@ pub struct PartRequest<'a> {
     pub proof: &'a str,
     /// Whether it is to be said on standard error how far the search has come, where that is no terminal.
     pub progress: bool,
+    /// The file whose being there stops the search.
+    pub stop_file: Option<&'a str>,
 }
 
 /// The subcommand that solves a part.
@@ -75,7 +77,7 @@ pub fn part_request<'a>(found: &ArgMatches<'a>) -> Option<PartRequest<'a>>
         options: Options {
             workers,
             nodes: found.get_one("nodes"),
-            seconds: found.get_one("seconds"),
+            milliseconds: time_limit(found),
             memory: found.get_one("memory"),
             improve: 0,
             seed: 1,
@@ -84,5 +86,6 @@ pub fn part_request<'a>(found: &ArgMatches<'a>) -> Option<PartRequest<'a>>
         },
         proof: found.get_str("out")?,
         progress: found.get_flag("progress"),
+        stop_file: found.get_str("stop-file"),
     })
 }

@@ -99,8 +99,13 @@ where
         Ok(outputs) => outputs,
         Err(code) => return code,
     };
-    let elapsed = Elapsed::new(system, request.options.seconds);
-    let teller = Teller::new(rt, &elapsed, telling_of(rt, request.progress));
+    let elapsed = Elapsed::new(system, request.options.milliseconds);
+    let teller = Teller::new(
+        rt,
+        &elapsed,
+        telling_of(rt, request.progress),
+        request.stop_file,
+    );
     let options = &request.options;
     let found = search_part(system, alloc, instance, node, start, options, &teller);
     teller.finish();

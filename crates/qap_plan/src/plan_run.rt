@@ -33,7 +33,7 @@ where
     T: Threads + Wait + Clock + Sync,
     requires { AreLimited request.now.options }
 {
-    let elapsed = Elapsed::new(system, request.options.seconds);
+    let elapsed = Elapsed::new(system, request.options.milliseconds);
     let loaded = match loaded_plan(rt, request.file) {
         Ok(loaded) => loaded,
         Err(code) => return code,
@@ -51,7 +51,12 @@ where
         Err(code) => return code,
     };
     let problem = &loaded.problem;
-    let teller = Teller::new(rt, &elapsed, telling_of(rt, request.progress));
+    let teller = Teller::new(
+        rt,
+        &elapsed,
+        telling_of(rt, request.progress),
+        request.stop_file,
+    );
     let alloc = rt.alloc();
     let text = &mut Counted::new(Vec::new(alloc));
     let options = &request.options;

@@ -6,12 +6,15 @@ use crate::resident::resident_bytes;
 use qap_search::{Clock, Observer, Progress, Stop};
 use std::alloc::{AllocError, Global};
 use std::cell::Cell;
-use std::fs::Files;
+use std::fs::{self, Files};
 use std::io::IsTerminal;
 use std::time;
 
 /// How many milliseconds lie at least between two lines.
 const PAUSE_MS: u64 = 10_000;
+
+/// After how many milliseconds it is looked again whether the search is to stop.
+const LOOK_MS: u64 = 100;
 
 /// How a run says how far it has come.
 #[derive(Clone, Copy, Debug, PartialEq, Eq)]
@@ -35,7 +38,7 @@ pub fn telling_of(rt: &HostRuntime, asked: bool) -> Telling {
     }
 }
 
-/// Keeps the time of a search, watches it, reports what memory it takes, and may stop it where its time is over.
+/// Keeps the time of a search, watches it, reports what memory it takes, and may stop it where its time is over or a file asks for that.
 #[derive(Drop)]
 pub struct Teller<'a, R: Eprint + AllocGlobal + Files, T: time::Clock> {
     rt: &'a R,
@@ -43,16 +46,39 @@ pub struct Teller<'a, R: Eprint + AllocGlobal + Files, T: time::Clock> {
     telling: Telling,
     /// When the last line was written, in milliseconds since the run began.
     told_ms: Cell<u64>,
+    /// The file whose being there stops the search.
+    stop_file: Option<&'a str>,
+    /// When it was last looked for, in milliseconds since the run began.
+    looked_ms: Cell<u64>,
+    /// Whether it was there.
+    is_stopped: Cell<bool>,
 }
 
 impl<'a, R: Eprint + AllocGlobal + Files, T: time::Clock> Teller<'a, R, T> {
     /// One that has reported nothing yet.
-    pub fn new(rt: &'a R, elapsed: &'a Elapsed<'a, T>, telling: Telling) -> Teller<'a, R, T> {
+    pub fn new(
+        rt: &'a R,
+        elapsed: &'a Elapsed<'a, T>,
+        telling: Telling,
+        stop_file: Option<&'a str>,
+    ) -> Teller<'a, R, T> {
         Teller {
             rt,
             elapsed,
             telling,
             told_ms: Cell::new(0),
+            stop_file,
+            looked_ms: Cell::new(0),
+            is_stopped: Cell::new(false),
+        }
+    }
+
+    /// Looks whether the file is there that stops the search, ten times in a second.
+    fn look(&self, file: &str) {
+        let now = self.elapsed.milliseconds();
+        if now.saturating_sub(self.looked_ms.get()) >= LOOK_MS {
+            self.looked_ms.set(now);
+            self.is_stopped.set(fs::metadata(self.rt, file).is_ok());
         }
     }
 
@@ -96,7 +122,12 @@ impl<R: Eprint + AllocGlobal + Files, T: time::Clock> Clock for Teller<'_, R, T>
 
 impl<R: Eprint + AllocGlobal + Files, T: time::Clock> Stop for Teller<'_, R, T> {
     fn is_wanted(&self) -> bool {
-        self.elapsed.is_wanted()
+        if let Some(file) = self.stop_file {
+            if !self.is_stopped.get() {
+                self.look(file);
+            }
+        }
+        self.is_stopped.get() || self.elapsed.is_wanted()
     }
 }
 

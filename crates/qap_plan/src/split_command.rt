@@ -3,7 +3,7 @@
 ghost use Rattle.std.specs.Prelude.{IfSome};
 ghost use Rattle.qap_plan.specs.Options.{AreLimited};
 
-use crate::command_line::{ignore_rest, with_improvement, with_start};
+use crate::command_line::{ignore_rest, time_limit, with_improvement, with_start};
 use crate::options::{MAX_NODES, Options};
 use clap::{Arg, ArgMatches, Command, value_parser};
 use std::alloc::{AllocError, Global};
@@ -62,8 +62,7 @@ pub fn split_command<'a>(alloc: Global) -> Result<Command<'a>, AllocError> {
             Arg::new(alloc, "seconds")
                 .long("seconds")
                 .value_name("S")
-                .value_parser(value_parser!(u64))
-                .help("stop after so many seconds"),
+                .help("stop after this time: seconds, or minutes (2m) or hours (1h)"),
         )?
         .arg(ignore_rest(alloc))
 }
@@ -78,7 +77,7 @@ pub fn split_request<'a>(found: &ArgMatches<'a>) -> Option<SplitRequest<'a>>
         options: Options {
             workers: 1,
             nodes: found.get_one("nodes"),
-            seconds: found.get_one("seconds"),
+            milliseconds: time_limit(found),
             memory: None,
             improve: found.get_one("improve")?,
             seed: found.get_one("seed")?,

@@ -31,7 +31,7 @@ where
     T: Threads + Wait + Clock + Sync,
     requires { AreLimited request.now.options }
 {
-    let elapsed = Elapsed::new(system, request.options.seconds);
+    let elapsed = Elapsed::new(system, request.options.milliseconds);
     let (instance, inputs) = match instance_of(rt, request.file, request.options.passes) {
         Ok(found) => found,
         Err(code) => return code,

@@ -173,7 +173,7 @@ fn one_node(nodes: u64) -> Options
     Options {
         workers: 1,
         nodes: Some(nodes),
-        seconds: None,
+        milliseconds: None,
         memory: None,
         improve: 0,
         seed: 1,
