@@ -168,7 +168,7 @@ pub(crate) fn ignore_rest<'a>(alloc: Global) -> Arg<'a> {
     Arg::new(alloc, "ignore-rest")
         .long("ignore-rest")
         .action(ArgAction::SetTrue)
-        .help("pass over what follows an instance in the QAPLIB format")
+        .help("ignore what follows an instance in the QAPLIB format")
 }
 
 /// The command with the option of a start.
@@ -180,7 +180,7 @@ pub(crate) fn with_start<'a>(
         Arg::new(alloc, "start")
             .long("start")
             .value_name("FILE")
-            .help("begin with the solution in this file"),
+            .help("start from the solution in this file"),
     )
 }
 
@@ -196,14 +196,14 @@ pub(crate) fn with_limits<'a>(
                 .value_name("K")
                 .value_parser(value_parser!(u16).range(1..=i64::from(MAX_WORKERS)))
                 .default_value("4")
-                .help("how many threads search"),
+                .help("number of threads"),
         )?
         .arg(
             Arg::new(alloc, "nodes")
                 .long("nodes")
                 .value_name("N")
                 .value_parser(value_parser!(u64).range(0..=MAX_NODES as i64))
-                .help("stop after so many nodes"),
+                .help("stop after N nodes"),
         )?
         .arg(
             Arg::new(alloc, "seconds")
@@ -216,14 +216,14 @@ pub(crate) fn with_limits<'a>(
                 .long("memory")
                 .value_name("MB")
                 .value_parser(value_parser!(u64))
-                .help("stop before about so many megabytes are taken"),
+                .help("stop before more than about MB megabytes are in use"),
         )?
         .arg(
             Arg::new(alloc, "progress")
                 .long("progress")
                 .action(ArgAction::SetTrue)
                 .help(
-                    "say every ten seconds how far it is, also where standard error is no terminal",
+                    "report progress every ten seconds, even if standard error is not a terminal",
                 ),
         )?
         .arg(
@@ -246,7 +246,7 @@ pub(crate) fn with_improvement<'a>(
                 .value_name("ITERATIONS")
                 .value_parser(value_parser!(u64))
                 .default_value("5000")
-                .help("how many exchanges a tabu search makes first"),
+                .help("number of exchanges that a tabu search makes first"),
         )?
         .arg(
             Arg::new(alloc, "seed")
@@ -254,7 +254,7 @@ pub(crate) fn with_improvement<'a>(
                 .value_name("SEED")
                 .value_parser(value_parser!(u64))
                 .default_value("1")
-                .help("where the tabu search takes its random numbers from"),
+                .help("seed of the tabu search"),
         )
 }
 

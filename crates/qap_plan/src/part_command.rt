@@ -41,7 +41,7 @@ pub fn part_command<'a>(alloc: Global) -> Result<Command<'a>, AllocError> {
                 .value_name("NODE")
                 .required(true)
                 .help(
-                    "the part's facilities and locations by turns, counted from 1, as \"1 5 2 7\"",
+                    "the part's facilities, each followed by its location, counted from 1, as \"1 5 2 7\"",
                 ),
         )?
         .arg(
@@ -49,7 +49,7 @@ pub fn part_command<'a>(alloc: Global) -> Result<Command<'a>, AllocError> {
                 .long("start")
                 .value_name("FILE")
                 .required(true)
-                .help("begin with the solution in this file"),
+                .help("start from the solution in this file"),
         )?
         .arg(
             Arg::new(alloc, "out")
@@ -57,7 +57,7 @@ pub fn part_command<'a>(alloc: Global) -> Result<Command<'a>, AllocError> {
                 .long("out")
                 .value_name("PROOF")
                 .required(true)
-                .help("the file of the proof; one that is there and right is left"),
+                .help("write the proof to this file; a complete one that is there is kept"),
         )?;
     with_limits(alloc, command)?.arg(ignore_rest(alloc))
 }

@@ -28,7 +28,7 @@ pub struct SplitRequest<'a> {
 /// The subcommand that cuts a search into parts.
 pub fn split_command<'a>(alloc: Global) -> Result<Command<'a>, AllocError> {
     let command = Command::new(alloc, "split")
-        .about("Cuts the search of an instance into parts, which part solves")
+        .about("Splits the search of an instance into parts, which part solves")
         .arg(
             Arg::new(alloc, "FILE")
                 .required(true)
@@ -40,7 +40,7 @@ pub fn split_command<'a>(alloc: Global) -> Result<Command<'a>, AllocError> {
                 .value_name("N")
                 .value_parser(value_parser!(u64).range(2..=MAX_PARTS as i64))
                 .required(true)
-                .help("how many parts there are to be, or a few more"),
+                .help("number of parts; there may be a few more"),
         )?
         .arg(
             Arg::new(alloc, "out")
@@ -56,7 +56,7 @@ pub fn split_command<'a>(alloc: Global) -> Result<Command<'a>, AllocError> {
                 .long("nodes")
                 .value_name("N")
                 .value_parser(value_parser!(u64).range(0..=MAX_NODES as i64))
-                .help("stop after so many nodes"),
+                .help("stop after N nodes"),
         )?
         .arg(
             Arg::new(alloc, "seconds")
