@@ -1,6 +1,7 @@
 //! Searches below a node under pair duals, by workers on subtrees.
 
 ghost use Rattle.std.specs.Prelude.{◌≡◌, ◌<◌, ◌≤◌, ◌≤ℤ◌, ℕ, ℤ, IfOk, IfSome, List, None};
+ghost use Rattle.std.specs.Arc.{arc_value};
 ghost use Rattle.qap_cost.specs.Objective.{Permutes, cost_of};
 ghost use Rattle.qap_cost.specs.Placement.{Completes};
 ghost use Rattle.qap_plan.specs.Keeping.{IsSearched};
@@ -9,8 +10,8 @@ use crate::keeper::Keeper;
 use crate::memory_limit::WithinMemory;
 use crate::planning::Planned;
 use part_search::{Answer, Crew, Ground, Task, Watch, solve};
-use qap_cost::{Instance, cost};
-use qap_search::{Always, Observer, Pace, Plan, Progress, Stop as _, solve_least_from};
+use qap_cost::{Instance, Partial, cost};
+use qap_search::{Always, Clock, Observer, Pace, Plan, Progress, Stop as _, solve_least_from};
 use std::alloc::{AllocError, Global};
 use std::cell::Cell;
 use std::sync::{Arc, Wait};
@@ -27,11 +28,11 @@ const ROUNDS: u32 = 30;
 /// For how many milliseconds a worker tries the children of the node that it took.
 const TURN_MS: u64 = 1000;
 
-/// The greatest scale of pair duals.
-const MAX_SCALE: u32 = 1 << 20;
+/// The greatest scale of pair duals is this power of two.
+const MAX_EXPONENT: u32 = 16;
 
-/// What the cost times the scale comes to at least, where the greatest scale allows it.
-const MIN_SCALED: u128 = 1 << 15;
+/// How many leading zeros a cost of 2^15 has in 128 bits.
+const SPARE_BITS: u32 = 112;
 
 /// In how many rounds of the thread that keeps the space the progress is shown once.
 const ROUNDS_PER_LOOK: u32 = 128;
@@ -53,18 +54,16 @@ where
     requires few { plan.now.crew.workers ≤ 64 }
     requires start { Permutes instance.now plan.now.start.now }
     requires same_size { plan.now.root.now.size ≡ instance.now.size }
-    ensures searched { IfOk result (IfSome (λ x. IsSearched instance.now plan.now.root.now plan.now.start.now x.permutation x.cost x.bound)) }
-    ensures proof { IfOk result (IfSome (λ x. x.proof ≡ None)) }
+    ensures searched { IfOk result (λ found. IfSome found (λ x. IsSearched instance.now plan.now.root.now plan.now.start.now x.permutation x.cost x.bound)) }
+    ensures proof { IfOk result (λ found. IfSome found (λ x. x.proof ≡ None)) }
 {
     if instance.size() > MAX_SIZE || nodes.is_some() {
         return Ok(None);
     }
     let start_cost = cost(instance, plan.start);
-    let scale = scale_for(start_cost);
-    let Some(ground) = Ground::new(alloc, instance, plan.root, scale, ROUNDS)? else {
+    let Some(ground) = shared_ground(alloc, instance, plan.root, scale_for(start_cost))? else {
         return Ok(None);
     };
-    let ground = Arc::new(alloc, ground)?;
     let watcher = Watcher {
         within,
         cost: start_cost,
@@ -90,15 +89,32 @@ where
     Ok(Some(with_bound(found, bound)))
 }
 
-/// The least power of two, times which the cost comes to 2^15, or else the greatest scale.
+/// What the workers share of the instance. `None` where a number is out of range for the scale.
+fn shared_ground(
+    alloc: Global,
+    instance: &Instance,
+    root: &Partial,
+    scale: u32,
+) -> Result<Option<Arc<Ground>>, AllocError>
+    requires { root.now.size ≡ instance.now.size }
+    ensures { IfOk result (λ found. IfSome found (λ ground. arc_value ground ≡ instance.now)) }
+{
+    match Ground::new(alloc, instance, root, scale, ROUNDS)? {
+        Some(ground) => Ok(Some(Arc::new(alloc, ground)?)),
+        None => Ok(None),
+    }
+}
+
+/// The least power of two, times which the cost comes to 2^15, and at most 2^16.
 fn scale_for(cost: i128) -> u32
     ensures some { 0 < result }
 {
-    let mut scale: u32 = 1;
-    while scale < MAX_SCALE && cost.unsigned_abs().saturating_mul(u128::from(scale)) < MIN_SCALED {
-        scale *= 2;
-    }
-    scale
+    let exponent = cost
+        .unsigned_abs()
+        .leading_zeros()
+        .saturating_sub(SPARE_BITS)
+        .min(MAX_EXPONENT);
+    (1_u32 << exponent).max(1)
 }
 
 /// What the answer says of the completions of the root.
@@ -119,16 +135,16 @@ fn found_by(answer: &Answer) -> Result<Planned, AllocError>
 }
 
 /// The bound of the root alone, which a search that is stopped before its first node yields.
-fn root_bound<T, K>(
+fn root_bound<T, S>(
     system: &T,
     alloc: Global,
     instance: &Instance,
     plan: &Plan<'_>,
-    within: &WithinMemory<'_, K>,
+    within: &S,
 ) -> Result<i128, AllocError>
 where
     T: Threads + Wait + time::Clock + Sync,
-    K: Keeper,
+    S: Clock + qap_search::Stop + Observer,
     requires some { 0 < plan.now.crew.workers }
     requires few { plan.now.crew.workers ≤ 64 }
     requires start { Permutes instance.now plan.now.start.now }

@@ -34,3 +34,7 @@ returns-then-options-clause-kept g c =
 pub returns-clause-kept : goal.returns-clause-kept
 returns-clause-kept g c =
     kept_of c.args.instance.now c.args.fixed.now c.args.start c.in_ok-first.first _ _ _ c.in_ok-first.ensures.no_dearer c.kept_or_first-2.ensures.completes c.kept_or_first-2.ensures.searched
+
+pub returns-in-Some-clause-kept : goal.returns-in-Some-clause-kept
+returns-in-Some-clause-kept g c =
+    kept_of c.args.instance.now c.args.fixed.now c.args.start c.in_ok-first.first _ _ _ c.in_ok-first.ensures.no_dearer c.kept_or_first-in-Some.ensures.completes c.kept_or_first-in-Some.ensures.searched

@@ -39,12 +39,12 @@ returns-then-options-clause-planned g c =
 pub returns-clause-planned : goal.returns-clause-planned
 returns-clause-planned g c =
     let I = c.args.instance.now in
-    let found = c.in_ok-found-2.ensures.answer in
+    let found = c.in_ok-found-3.ensures.answer in
     let told = c.planned_by.ensures in
     rw (told.permutation, told.cost, told.bound) (record {
       permutes = found.permutes;
       costs = found.costs;
-      no_dearer = no_dearer_still I c.args.start c.in_ok-found-2.found.cost (cost_of I c.in_ok-start.start) c.in_ok-start.ensures.no_dearer found.no_dearer;
+      no_dearer = no_dearer_still I c.args.start c.in_ok-found-3.found.cost (cost_of I c.in_ok-start.start) c.in_ok-start.ensures.no_dearer found.no_dearer;
       none_less = λ p permutes.
           found.none_below p
           (subst (λ (x : Placement). Completes x p) (sym c.in_ok-root.ensures.value) (root_completed c.size.result p permutes.bijection (permutes.same_size ∙ sym c.size.ensures.value)));
