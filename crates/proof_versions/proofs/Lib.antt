@@ -1,0 +1,3 @@
+pub mod CostSteps
+pub mod Fronts
+pub mod Verdicts

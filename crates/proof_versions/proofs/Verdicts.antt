@@ -1,0 +1,57 @@
+-- What a text of version 2 shows is so.
+use Rattle.std.proofs.Common.{◌≡◌, ◌⊎◌, ℕ, List, ℤ, Err, Ok, Result, inl, inr, refl, subst}
+use Rattle.std.specs.Prelude.{MatchOption, MatchResult, None, Option, Some}
+use Rattle.qap_cost.specs.Instance.{Problem}
+use Rattle.qap_cost.specs.Placement.{Placement}
+use Rattle.qap_cost.specs.Range.{IsLimited}
+use Rattle.pair_duals.proofs.CostSteps.{step-divides}
+use Rattle.qap_proof.specs.Acceptance.{IsLimitedVerdict, IsRefused, IsSo, ProvesFor}
+use Rattle.qap_proof.specs.OverRoot.{ProvesForAnother}
+use Rattle.qap_proof.specs.declared.error.ProofError.{ProofError}
+use Rattle.qap_proof.specs.declared.error.ProofError.TheVariants.{OutOfMemory}
+use Rattle.qap_proof.specs.declared.over_root.Stated.{Stated}
+use Rattle.qap_proof.specs.declared.acceptance.Verdict.{Verdict}
+use Rattle.qap_proof.specs.declared.acceptance.Verdict.TheVariants.{Gap, Optimal, Part}
+use Rattle.proof_check.proofs.Laws.{gap, optimal, part}
+use Rattle.proof_check.specs.Acceptance.{IsPairVerdictOf, ShowsPairVerdict}
+use Rattle.proof_tree.proofs.Validity.{Proves-NoneCompletesForLess}
+use Rattle.proof_tree.specs.Claim.{IsPairProof, PairClaim}
+use Rattle.qap_proof.specs.Claim.{NoneCompletesForLess}
+use Rattle.proof_versions.specs.OverRoot.{EitherProvesFor, EitherProvesForAnother, PairProvesFor}
+use Rattle.proof_versions.specs.Versions.{EitherIsRefused, EitherIsSo}
+
+-- what version 1 says is so is so
+pub EitherIsSo-first : (I : Problem) (text : List ℕ) (v : Verdict) → IsSo I text v → EitherIsSo I text v
+EitherIsSo-first I text (Optimal c) so = so
+EitherIsSo-first I text (Gap g c) so = so
+EitherIsSo-first I text (Part g) so = (so.0.root, inl (so.0, so.1, refl), so.2)
+
+-- and what version 2 does
+pub EitherIsSo-pairs : (I : Problem) (text : List ℕ) (v : Verdict) → ShowsPairVerdict I text v → EitherIsSo I text v
+EitherIsSo-pairs I text (Optimal c) h = optimal I text c (step-divides I) h
+EitherIsSo-pairs I text (Gap g c) h = gap I text g c (step-divides I) h
+EitherIsSo-pairs I text (Part g) h = (h.proof.root, inr (h.proof, h.is_text, refl), part I text g (step-divides I) h)
+
+limited_verdict : (C : PairClaim) (v : Verdict) → IsPairProof C → IsPairVerdictOf C v → IsLimitedVerdict v
+limited_verdict C (Optimal c) proof says = subst IsLimited says.2 proof.cost
+limited_verdict C (Gap g c) proof says = (subst IsLimited says.1 proof.bound.limited, subst IsLimited says.2 proof.cost)
+limited_verdict C (Part g) proof says = subst IsLimited says.1 proof.bound.limited
+
+-- its numbers are from -10^24 to 10^24
+pub IsLimitedVerdict-pairs : (I : Problem) (text : List ℕ) (v : Verdict) → ShowsPairVerdict I text v → IsLimitedVerdict v
+IsLimitedVerdict-pairs I text v h = limited_verdict h.proof v h.is_text.proof h.says
+
+-- no permutation that completes the root of a proof of version 2 costs less than its bound
+pub NoneCompletesForLess-pairs : (I : Problem) (text : List ℕ) (x : Placement) (c g : ℤ) → PairProvesFor I text x c g → NoneCompletesForLess I x g
+NoneCompletesForLess-pairs I text x c g h =
+    subst (λ y. NoneCompletesForLess I y g) h.root
+    (subst (NoneCompletesForLess I h.proof.root) h.bound (Proves-NoneCompletesForLess I h.proof h.is_text.proof (step-divides I) h.proved))
+
+-- what version 1 shows over a root, either does
+pub over_root-first : (I : Problem) (text : List ℕ) (x : Placement) (r : Result (Option Stated) ProofError)
+    → MatchResult r (λ found. MatchOption found (ProvesForAnother I text x) (λ s. ProvesFor I text x s.cost s.bound)) (λ e. (e ≡ OutOfMemory) ⊎ IsRefused I text e)
+    → MatchResult r (λ found. MatchOption found (EitherProvesForAnother I text x) (λ s. EitherProvesFor I text x s.cost s.bound)) (λ e. (e ≡ OutOfMemory) ⊎ EitherIsRefused I text e)
+over_root-first I text x (Ok None) h = record { other = h.other; cost = h.cost; bound = h.bound; proves = inl h.proves; differs = h.differs }
+over_root-first I text x (Ok (Some s)) h = inl h
+over_root-first I text x (Err e) (inl memory) = inl memory
+over_root-first I text x (Err e) (inr refused) = inr (inr refused)

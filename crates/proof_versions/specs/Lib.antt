@@ -1,0 +1,3 @@
+pub mod OverRoot
+pub mod Part
+pub mod Versions

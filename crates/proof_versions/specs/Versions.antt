@@ -1,0 +1,38 @@
+-- What a text of a proof of either version shows of an instance's costs: of version 1, or of version 2, which has pair duals.
+use Rattle.std.specs.Prelude.{◌≡◌, ◌⊎◌, ℕ, ◌++◌, ◌∷◌, [], List, pos, codes, ◌<ℤ◌}
+use Rattle.qap_cost.specs.Instance.{Problem}
+use Rattle.qap_cost.specs.Objective.{IsLeast, NoneCostsLess, Permutes, cost_of}
+use Rattle.qap_cost.specs.Placement.{Placement}
+use Rattle.qap_lines.specs.LineText.{line_text}
+use Rattle.qap_proof.specs.Acceptance.{IsRefused, ShowsVerdict}
+use Rattle.qap_proof.specs.Claim.{Claim, NoneCompletesForLess}
+use Rattle.qap_proof.specs.Text.{IsProofText}
+use Rattle.qap_proof.specs.declared.acceptance.Verdict.{Verdict}
+use Rattle.qap_proof.specs.declared.acceptance.Verdict.TheVariants.{Gap, Optimal, Part}
+use Rattle.qap_proof.specs.declared.error.ProofError.{ProofError}
+use Rattle.proof_tree.specs.Claim.{IsPairProofText, PairClaim}
+use Rattle.proof_check.specs.Acceptance.{ShowsPairVerdict}
+
+-- the text begins with the line that states version 2
+abbrev pub StatesVersionTwo : List ℕ → Type 0
+StatesVersionTwo text = (rest : List ℕ) × (text ≡ line_text (codes "qapproof") (pos 2 ∷ []) ++ rest)
+
+-- the text is that of a proof of either version, over this root
+abbrev pub EitherHasRoot : List ℕ → Placement → Type 0
+EitherHasRoot text x =
+    ((C : Claim) × IsProofText text C × (C.root ≡ x)) ⊎ ((C : PairClaim) × IsPairProofText text C × (C.root ≡ x))
+
+-- the text is that of a proof of either version which proves what the verdict says
+abbrev pub EitherShows : Problem → List ℕ → Verdict → Type 0
+EitherShows I text v = ShowsVerdict I text v ⊎ ShowsPairVerdict I text v
+
+-- what the verdict says is so: the least cost; a cost that some permutation has, and a bound below it that none is below; or a bound
+-- that no permutation is below which completes the root that the text names
+abbrev pub EitherIsSo : Problem → List ℕ → Verdict → Type 0
+EitherIsSo I text (Optimal c) = IsLeast I c
+EitherIsSo I text (Gap g c) = ((p : List ℕ) × Permutes I p × (cost_of I p ≡ c)) × NoneCostsLess I g × (g <ℤ c)
+EitherIsSo I text (Part g) = (x : Placement) × EitherHasRoot text x × NoneCompletesForLess I x g
+
+-- the first fault of a text that doesn't state version 2, or of the proof of version 1 that it is; of a text that does, any
+abbrev pub EitherIsRefused : Problem → List ℕ → ProofError → Type 0
+EitherIsRefused I text e = StatesVersionTwo text ⊎ IsRefused I text e

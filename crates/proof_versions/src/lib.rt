@@ -1,0 +1,10 @@
+//! Judges texts of proofs of both versions: of version 1, and of version 2, which has pair duals.
+#![tactic(auto)]
+
+mod acceptance;
+mod over_root;
+mod pairs;
+mod part;
+
+pub use acceptance::accept;
+pub use over_root::accept_over;
