@@ -3,24 +3,25 @@ use Rattle.std.specs.Prelude.{◌≡◌, ◌≢◌, ◌⊎◌, ◌↔◌, ℕ, �
 use Rattle.qap_cost.specs.Instance.{Problem}
 use Rattle.qap_cost.specs.Objective.{Permutes, cost_of}
 use Rattle.qap_cost.specs.Placement.{Completes, Placement}
-use Rattle.qap_proof.specs.Acceptance.{IsRefused, ProvesFor}
-use Rattle.qap_proof.specs.OverRoot.{ProvesForAnother}
+use Rattle.qap_proof.specs.Claim.{NoneCompletesForLess}
 use Rattle.qap_proof.specs.declared.error.ProofError.TheVariants as proof_error
+use Rattle.proof_versions.specs.OverRoot.{EitherProvesFor, EitherProvesForAnother}
+use Rattle.proof_versions.specs.Versions.{EitherIsRefused}
 use Rattle.plan_check.specs.declared.fault.ProofFault.{ProofFault}
 use Rattle.plan_check.specs.declared.fault.ProofFault.TheVariants.{OtherCost, OtherRoot, OutOfMemory, Refused}
-use Rattle.qap_proof.specs.Claim.{NoneCompletesForLess}
 
--- the text is that of a proof of this cost, over a node that the same permutations complete as what is fixed; so none of these costs less than g
+-- the text is that of a proof, of either version, of this cost over a node that the same permutations complete as what is fixed; so none of
+-- these costs less than g
 pub record IsProvedBound (I : Problem) (x : Placement) (c : ℤ) (text : List ℕ) (g : ℤ) : Type 0 where
   pub root : Placement
   pub same : (p : List ℕ) → Completes x p ↔ Completes root p
-  pub proves : ProvesFor I text root c g
+  pub proves : EitherProvesFor I text root c g
   pub none_less : NoneCompletesForLess I x g
 
 -- why a text shows nothing of what completes a node: it is refused as a proof, or is one over another node
 abbrev pub IsUnprovedOver : Problem → Placement → List ℕ → ProofFault → Type 0
-IsUnprovedOver I root text (Refused e) = (e ≡ proof_error.OutOfMemory) ⊎ IsRefused I text e
-IsUnprovedOver I root text OtherRoot = ProvesForAnother I text root
+IsUnprovedOver I root text (Refused e) = (e ≡ proof_error.OutOfMemory) ⊎ EitherIsRefused I text e
+IsUnprovedOver I root text OtherRoot = EitherProvesForAnother I text root
 IsUnprovedOver I root text (OtherCost told) = ⊥
 IsUnprovedOver I root text OutOfMemory = Unit {0}
 
@@ -28,7 +29,7 @@ IsUnprovedOver I root text OutOfMemory = Unit {0}
 pub record HasAnotherCost (I : Problem) (root : Placement) (c : ℤ) (text : List ℕ) : Type 0 where
   pub cost : ℤ
   pub bound : ℤ
-  pub proves : ProvesFor I text root cost bound
+  pub proves : EitherProvesFor I text root cost bound
   pub other : cost ≢ c
 
 -- why it shows nothing of a permutation of cost c that keeps what is fixed: so over a node that the same permutations complete, or it is a

@@ -4,19 +4,20 @@ ghost use Rattle.std.specs.Prelude.{◌≡◌, ◌<◌, ◌^◌, ◌≤ℤ◌, I
 ghost use Rattle.plan_check.specs.Proved.{IsLeastKept, IsProvedBound, IsUnproved, IsUnprovedOver};
 ghost use Rattle.qap_cost.specs.Objective.{IsLeast, cost_of};
 ghost use Rattle.qap_cost.specs.Placement.{Completes};
-ghost use Rattle.qap_proof.specs.Acceptance.{ProvesFor};
 ghost use Rattle.qap_proof.specs.Claim.{NoneCompletesForLess};
+ghost use Rattle.proof_versions.specs.OverRoot.{EitherProvesFor};
 
 use crate::fault::ProofFault;
 use crate::number::cost_text;
 use plan_fixed::ascending;
+use proof_versions::accept_over;
 use qap_cost::{Instance, Partial, Perm, cost};
-use qap_proof::{ProofError, Stated, accept_over};
+use qap_proof::{ProofError, Stated};
 use std::alloc::Global;
 
-/// What no arrangement that keeps what is fixed costs less than, where a text is that of a proof which proves it for
-/// the instance, over exactly these arrangements, and with the cost of this permutation. Else why it isn't. The cost of
-/// another proof is reported with this many places behind the point.
+/// What no arrangement that keeps what is fixed costs less than, where a text is that of a proof of either version
+/// which proves it for the instance, over exactly these arrangements, and with the cost of this permutation. Else why
+/// it isn't. The cost of another proof is reported with this many places behind the point.
 pub fn proved_bound(
     alloc: Global,
     instance: &Instance,
@@ -49,7 +50,7 @@ fn stated_over(
     root: &Partial,
     text: &[u8],
 ) -> Result<Stated, ProofFault>
-    ensures proves { IfOk result (λ s. ProvesFor instance.now text.now root.now s.cost s.bound) }
+    ensures proves { IfOk result (λ s. EitherProvesFor instance.now text.now root.now s.cost s.bound) }
     ensures none_less { IfOk result (λ s. NoneCompletesForLess instance.now root.now s.bound) }
     ensures refused { IfErr result (IsUnprovedOver instance.now root.now text.now) }
 {

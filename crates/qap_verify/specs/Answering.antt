@@ -5,18 +5,18 @@ use Rattle.qap_cost.specs.Instance.{Problem}
 use Rattle.qap_io.specs.Counting.{CountedDevice}
 use Rattle.qap_io.specs.Refusal.{refusal_line}
 use Rattle.qap_io.specs.Writing.{BreaksOff, Sends}
-use Rattle.qap_proof.specs.Acceptance.{ShowsVerdict, IsSo}
 use Rattle.qap_proof.specs.declared.acceptance.Verdict.{Verdict}
 use Rattle.qap_proof.specs.declared.acceptance.Verdict.TheVariants.{Optimal, Gap, Part}
+use Rattle.proof_versions.specs.Versions.{EitherIsSo, EitherShows}
 use Rattle.qap_text.specs.Gap.{gap_line}
 use Rattle.qap_verify.specs.Refusal.{HasNoTexts, IsNoProof, refusal_of, status_of}
 use Rattle.qap_verify.specs.Texts.{ComeTo, Inputs}
 use Rattle.qap_verify.specs.declared.refusal.RunError.{RunError}
 use Rattle.qap_verify.specs.declared.refusal.RunError.TheVariants.{Device}
 
--- the text shows what the verdict says, and it is so
+-- the text, of either version, shows what the verdict says, and it is so
 abbrev pub Proves : Problem → List ℕ → Verdict → Type 0
-Proves I text v = ShowsVerdict I text v × IsSo I text v
+Proves I text v = EitherShows I text v × EitherIsSo I text v
 
 -- the line of a least cost, of a bound and the cost above it, or of the bound of a part
 abbrev pub answer_line : Verdict → List ℕ

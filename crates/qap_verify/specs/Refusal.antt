@@ -6,6 +6,7 @@ use Rattle.qap_proof.specs.Acceptance.{IsRefused}
 use Rattle.qap_proof.specs.Refusal.{proof_refusal}
 use Rattle.qap_proof.specs.declared.error.ProofError.{ProofError}
 use Rattle.qap_proof.specs.declared.error.ProofError.TheVariants.{OutOfMemory as ProofMemory, Device as ProofDevice}
+use Rattle.proof_versions.specs.Versions.{EitherIsRefused}
 use Rattle.qap_text.specs.Input.{HasInstance, HasNoInstance, max_input}
 use Rattle.qap_text.specs.Refusal.{text_refusal}
 use Rattle.qap_text.specs.Whole.{IsReadFault}
@@ -53,9 +54,13 @@ pub record WantsMemory {R S : Type 0} (i : Inputs R S) (e : RunError) : Type 0 w
 abbrev pub HasNoTexts : {R S : Type 0} → Inputs R S → RunError → Type 0
 HasNoTexts i e = NoInstance i e ⊎ (ProofUnread i e ⊎ WantsMemory i e)
 
--- the text has this first fault as one of a proof that proves its bound
+-- the text is refused as one of a proof of either version that proves its bound
 abbrev pub IsNoProof : Problem → List ℕ → RunError → Type 0
-IsNoProof I text e = (fault : ProofError) × (e ≡ of_proof fault) × IsRefused I text fault
+IsNoProof I text e = (fault : ProofError) × (e ≡ of_proof fault) × EitherIsRefused I text fault
+
+-- the text has this first fault as one of a proof of version 1 that proves its bound, as that of a whole beside parts is to be
+abbrev pub IsNoWhole : Problem → List ℕ → RunError → Type 0
+IsNoWhole I text e = (fault : ProofError) × (e ≡ of_proof fault) × IsRefused I text fault
 
 -- the refusal that reports a run's error
 abbrev pub refusal_of : RunError → RefusalText

@@ -6,13 +6,14 @@ ghost use Rattle.qap_proof.specs.Cover.{IsOpened};
 ghost use Rattle.qap_text.specs.Input.{input_of};
 ghost use Rattle.qap_verify.specs.Answering.{HasAnswered, HasNotAnswered, Proves, answer_line};
 ghost use Rattle.qap_verify.specs.Parts.{HasAdded, HasNotAdded, HasNotShown, HasShown};
-ghost use Rattle.qap_verify.specs.Refusal.{HasNoTexts, IsNoProof};
+ghost use Rattle.qap_verify.specs.Refusal.{HasNoTexts, IsNoProof, IsNoWhole};
 ghost use Rattle.qap_verify.specs.Texts.{ComeTo, HasTexts, inputs_of};
 
 use crate::refusal::RunError;
+use proof_versions::accept;
 use qap_cost::Instance;
 use qap_io::{Counted, send};
-use qap_proof::{Cover, Verdict, accept};
+use qap_proof::{Cover, Verdict};
 use qap_text::{MAX_INPUT, gap_line, read_all, read_instance};
 use std::alloc::{AllocError, Global};
 use std::io::{Read, Write};
@@ -24,7 +25,7 @@ struct Texts {
     proof: Vec<u8>,
 }
 
-/// Reads an instance and a proof, and writes one line with what the proof shows: the least cost, a bound and the cost above it, or a
+/// Reads an instance and a proof of either version, and writes one line with what the proof shows: the least cost, a bound and the cost above it, or a
 /// bound on what the permutations cost that complete the proof's root.
 ///
 /// The first reader begins with the instance, and what follows it is passed over; the proof is all that the second one has. The
@@ -46,7 +47,8 @@ pub fn verify_stream<R: Read, S: Read, W: Write>(
     Ok(())
 }
 
-/// Reads an instance and the proof of a whole, beside which proofs of parts may come. The readers are asked as by `verify_stream`.
+/// Reads an instance and the proof of a whole, beside which proofs of parts may come; all of them are of version 1. The readers are
+/// asked as by `verify_stream`.
 pub fn cover_stream<R: Read, S: Read>(
     alloc: Global,
     instance: &mut Counted<R>,
@@ -54,7 +56,7 @@ pub fn cover_stream<R: Read, S: Read>(
 ) -> Result<Cover, RunError>
     ensures { let i = inputs_of R.remaining instance.old instance.new S.remaining proof.old proof.new in MatchResult result
         (ComeTo i IsOpened)
-        (λ e. HasNoTexts i e ⊎ ComeTo i IsNoProof e) }
+        (λ e. HasNoTexts i e ⊎ ComeTo i IsNoWhole e) }
 {
     let texts = read_texts(alloc, instance, proof)?;
     Ok(Cover::new(alloc, &texts.instance, texts.proof.as_slice())?)

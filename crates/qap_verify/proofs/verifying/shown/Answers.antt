@@ -1,7 +1,7 @@
 use Rattle.std.proofs.Common.{◌≡◌, ◌⊎◌, List, ℕ, ap, ◌∙◌, inl, inr, ⊎_elim, subst}
 use Rattle.std.proofs.lemmas.Result.{err_from_is_err_and}
-use Rattle.qap_proof.specs.Acceptance.{IsRefused}
 use Rattle.qap_proof.specs.declared.error.ProofError.TheVariants.{OutOfMemory as ProofMemory}
+use Rattle.proof_versions.specs.Versions.{EitherIsRefused}
 use Rattle.qap_verify.specs.Refusal.{of_proof}
 use Rattle.qap_verify.proofs.Comes.{wants_memory}
 use Rattle.qap_verify.proofs.verifying.shown.Goals as goal
@@ -17,7 +17,7 @@ returns-in_err-accept-clause-verdict g c =
     let I = c.in_ok-texts.texts.instance in
     let other = c.in_ok-texts.texts.proof.items in
     let fault = c.in_err-accept.field-0.0 in
-    let refused = subst (λ (text : List ℕ). (fault ≡ ProofMemory) ⊎ IsRefused I text fault) c.as_slice.ensures.value c.in_err-accept.ensures.verdict in
+    let refused = subst (λ (text : List ℕ). (fault ≡ ProofMemory) ⊎ EitherIsRefused I text fault) c.as_slice.ensures.value c.in_err-accept.ensures.verdict in
     rw p.1 (⊎_elim
     (λ memory. inl (wants_memory _ I other p.0 c.in_ok-texts.ensures (p.2 ∙ ap of_proof memory)))
     (λ fault_is. inr (record { problem = I; text = other; texts = c.in_ok-texts.ensures; holds = (fault, p.2, fault_is) }))
