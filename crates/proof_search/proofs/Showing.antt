@@ -1,0 +1,64 @@
+-- Proofs that show their claim.
+use Rattle.std.proofs.Common.{◌≡◌, ℕ, List, [], ◌∷◌, ◌++◌, ℤ, refl, sym, ap, subst, ◌∙◌, arith}
+use Rattle.std.specs.List.{concat}
+use Rattle.std.specs.Prelude.{◌≤ℤ◌}
+use Rattle.std.proofs.lemmas.Int.{ints}
+use Rattle.std.proofs.lemmas.List.{append-nil}
+use Rattle.qap_cost.specs.Bijection.{IsPerm}
+use Rattle.qap_cost.specs.Instance.{Problem}
+use Rattle.qap_cost.specs.Objective.{IsLeast, cost_of}
+use Rattle.qap_cost.specs.Placement.{Placement, root_of}
+use Rattle.qap_cost.specs.Range.{IsLimited}
+use Rattle.qap_proof.specs.Claim.{IsRoot, NoneCompletesForLess}
+use Rattle.pair_duals.specs.CostStep.{DividesCosts, step_of}
+use Rattle.proof_tree.specs.Claim.{IsPairProof, PairClaim, PairProves}
+use Rattle.proof_tree.proofs.Validity.{Proves-IsLeast, Proves-NoneCompletesForLess}
+use Rattle.subtree_search.specs.Best.{Best, IsIncumbent}
+use Rattle.subtree_search.specs.Recorded.{HasProof}
+use Rattle.proof_search.specs.Found.{AreLinesOf, IsProofFor}
+use Rattle.proof_search.specs.Held.{Held, IsHeld, Shows, claim_with}
+use Rattle.proof_search.proofs.Texts.{text_of-claim}
+
+-- what is held over a node with this incumbent and these lines
+abbrev pub held_of : Placement → Best → List ℕ → Held
+held_of y b lines = record { root = y; cost = b.cost; permutation = b.permutation; lines = lines }
+
+-- it shows its claim, where the lines are those of a tree that does
+pub Shows-lines : (I : Problem) (y : Placement) (b : Best) (lines : List ℕ) → IsRoot I.size y → IsIncumbent I b → IsPerm b.permutation → IsLimited b.cost → AreLinesOf I y b.cost lines → Shows I (held_of y b lines)
+Shows-lines I y b lines root incumbent perm limited h = record {
+  tree = h.tree;
+  is_text = record {
+    proof = record {
+      cost = limited;
+      bound = record { limited = limited; at_most = omega (arith, ints) };
+      permutation = perm;
+      root = subst (λ (n : ℕ). IsRoot n y) (sym incumbent.permutes.same_size) root;
+      tree = h.shape;
+    };
+    is = text_of-claim (held_of y b lines) h.tree h.is;
+  };
+  proves = record { same_size = incumbent.permutes.same_size; cost = sym incumbent.cost; tree = h.valid };
+}
+
+-- and so it has a proof's shape
+pub IsHeld-shows : (I : Problem) (h : Held) → Shows I h → IsHeld h
+IsHeld-shows I h shows = record { tree = shows.tree; is_text = shows.is_text }
+
+-- the lines that a search of a node has added to none
+pub AreLinesOf-recorded : (I : Problem) (y : Placement) (c : ℤ) (lines : List ℕ) → HasProof I y c (λ t. [] ≡ t) (λ t. lines ≡ t) → AreLinesOf I y c (concat (lines ∷ []))
+AreLinesOf-recorded I y c lines h = record {
+  tree = h.tree;
+  shape = h.shape;
+  valid = h.valid c (omega (arith, ints));
+  is = append-nil lines ∙ h.adds.each [] refl;
+}
+
+-- what shows its claim over a root is a proof for the root
+pub IsProofFor-shows : (I : Problem) (root : Placement) (start : List ℕ) (h : Held) → DividesCosts I (step_of I) → h.root ≡ root → Shows I h → h.cost ≤ℤ cost_of I start → IsProofFor I root start h
+IsProofFor-shows I root start h divides over shows no_worse = record {
+  over = over;
+  shows = shows;
+  no_worse = no_worse;
+  bound = subst (λ (y : Placement). NoneCompletesForLess I y h.cost) over (Proves-NoneCompletesForLess I (claim_with h shows.tree) shows.is_text.proof divides shows.proves);
+  least = λ empty. Proves-IsLeast I (claim_with h shows.tree) shows.is_text.proof divides shows.proves (over ∙ empty) refl;
+}

@@ -1,0 +1,33 @@
+-- What a search for a proof yields.
+use Rattle.std.specs.Prelude.{◌≡◌, ◌⊎◌, ℕ, Bool, true, false, None, List, ℤ, ◌≤ℤ◌}
+use Rattle.qap_cost.specs.Instance.{Problem}
+use Rattle.qap_cost.specs.Objective.{IsLeast, cost_of}
+use Rattle.qap_cost.specs.Placement.{Placement, root_of}
+use Rattle.qap_proof.specs.Claim.{NoneCompletesForLess}
+use Rattle.dual_ascent.specs.AscentRange.{HasRange}
+use Rattle.pair_duals.specs.CostStep.{step_of}
+use Rattle.proof_tree.specs.Shape.{HasShape}
+use Rattle.proof_tree.specs.Text.{tree_text}
+use Rattle.proof_tree.specs.Tree.{Tree}
+use Rattle.proof_tree.specs.Valid.{Valid}
+use Rattle.proof_search.specs.Held.{Held, Shows}
+
+-- these are the lines of a tree over the node that shows that no completion of it costs less than c
+pub record AreLinesOf (I : Problem) (y : Placement) (c : ℤ) (lines : List ℕ) : Type 0 where
+  pub tree : Tree
+  pub shape : HasShape y false tree
+  pub valid : Valid I (step_of I) c y None tree
+  pub is : lines ≡ tree_text tree
+
+-- a proof over the root for the instance: no completion of the root costs less than its permutation, which costs at most what the
+-- start does; where nothing is placed at the root, that is the least cost
+pub record IsProofFor (I : Problem) (root : Placement) (start : List ℕ) (h : Held) : Type 0 where
+  pub over : h.root ≡ root
+  pub shows : Shows I h
+  pub no_worse : h.cost ≤ℤ cost_of I start
+  pub bound : NoneCompletesForLess I root h.cost
+  pub least : root ≡ root_of I.size → IsLeast I h.cost
+
+-- why there is none: the numbers are out of range for the scale, or the stop said so
+abbrev pub IsUnproved : Problem → ℕ → (Bool → Type 0) → Type 0
+IsUnproved I scale says = (HasRange I scale → ⊥) ⊎ says true

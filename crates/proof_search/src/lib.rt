@@ -1,0 +1,11 @@
+//! Finds proofs with pair duals, and writes them: one search of the completions of a root both improves the permutation and writes the
+//! tree that shows that none of them costs less.
+#![tactic(auto)]
+
+mod proof;
+mod proving;
+mod writing;
+
+pub use proof::PairProof;
+pub use proving::{Found, prove};
+pub use writing::write;
