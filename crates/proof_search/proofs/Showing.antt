@@ -37,7 +37,7 @@ Shows-lines I y b lines root incumbent perm limited h = record {
     };
     is = text_of-claim (held_of y b lines) h.tree h.is;
   };
-  proves = record { same_size = incumbent.permutes.same_size; cost = sym incumbent.cost; tree = h.valid };
+  proves = record { same_size = incumbent.permutes.same_size; cost = sym incumbent.cost; tree = h.valid b.cost (omega (arith, ints)) };
 }
 
 -- and so it has a proof's shape
@@ -45,13 +45,12 @@ pub IsHeld-shows : (I : Problem) (h : Held) → Shows I h → IsHeld h
 IsHeld-shows I h shows = record { tree = shows.tree; is_text = shows.is_text }
 
 -- the lines that a search of a node has added to none
-pub AreLinesOf-recorded : (I : Problem) (y : Placement) (c : ℤ) (lines : List ℕ) → HasProof I y c (λ t. [] ≡ t) (λ t. lines ≡ t) → AreLinesOf I y c (concat (lines ∷ []))
-AreLinesOf-recorded I y c lines h = record {
-  tree = h.tree;
-  shape = h.shape;
-  valid = h.valid c (omega (arith, ints));
-  is = append-nil lines ∙ h.adds.each [] refl;
-}
+pub AreLinesOf-recorded : (I : Problem) (y : Placement) (c : ℤ) (lines : List ℕ) → HasProof I y c (λ t. [] ≡ t) (λ t. lines ≡ t) → AreLinesOf I y c lines
+AreLinesOf-recorded I y c lines h = record { tree = h.tree; shape = h.shape; valid = h.valid; is = h.adds.each [] refl }
+
+-- in one piece
+pub AreLinesOf-one : (I : Problem) (y : Placement) (c : ℤ) (lines : List ℕ) → AreLinesOf I y c lines → AreLinesOf I y c (concat (lines ∷ []))
+AreLinesOf-one I y c lines h = subst (AreLinesOf I y c) (sym (append-nil lines)) h
 
 -- what shows its claim over a root is a proof for the root
 pub IsProofFor-shows : (I : Problem) (root : Placement) (start : List ℕ) (h : Held) → DividesCosts I (step_of I) → h.root ≡ root → Shows I h → h.cost ≤ℤ cost_of I start → IsProofFor I root start h

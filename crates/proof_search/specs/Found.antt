@@ -12,11 +12,11 @@ use Rattle.proof_tree.specs.Tree.{Tree}
 use Rattle.proof_tree.specs.Valid.{Valid}
 use Rattle.proof_search.specs.Held.{Held, Shows}
 
--- these are the lines of a tree over the node that shows that no completion of it costs less than c
+-- these are the lines of a tree over the node that is valid for every bound up to c
 pub record AreLinesOf (I : Problem) (y : Placement) (c : ℤ) (lines : List ℕ) : Type 0 where
   pub tree : Tree
   pub shape : HasShape y false tree
-  pub valid : Valid I (step_of I) c y None tree
+  pub valid : (bound : ℤ) → bound ≤ℤ c → Valid I (step_of I) bound y None tree
   pub is : lines ≡ tree_text tree
 
 -- a proof over the root for the instance: no completion of the root costs less than its permutation, which costs at most what the

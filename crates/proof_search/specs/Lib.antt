@@ -1,2 +1,3 @@
 pub mod Found
+pub mod Ground
 pub mod Held

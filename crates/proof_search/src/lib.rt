@@ -2,6 +2,7 @@
 //! tree that shows that none of them costs less.
 #![tactic(auto)]
 
+mod ground;
 mod proof;
 mod proving;
 mod writing;

@@ -1,0 +1,15 @@
+use Rattle.std.proofs.Common.{◌≡◌, arith}
+use Rattle.std.specs.Prelude.{ℤ, pos, ◌*ℤ◌}
+use Rattle.std.proofs.lemmas.Int.{ints}
+use borrow.Author.Differences.{product_is}
+use Rattle.proof_search.proofs.ground.part_of.Goals as goal
+
+-- 1 divides every number, and every number divides itself
+once : (x : ℤ) → x ≡ pos 1 *ℤ x
+once x = let p = product_is (pos 1) x in omega (arith, ints, p.0, p.1)
+
+pub returns-in-Err : goal.returns-in-Err
+returns-in-Err c = (c.args.step, once c.args.step)
+
+pub returns-in-Ok : goal.returns-in-Ok
+returns-in-Ok c = (pos 1, (let fits = c.in-Ok.ensures in omega (arith, ints, fits)))

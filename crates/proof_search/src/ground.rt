@@ -1,0 +1,117 @@
+//! What searches for a proof rest on, whatever the node.
+
+ghost use Rattle.std.specs.Prelude.{◌≡◌, ◌<◌, ◌≤ℤ◌, ℕ, pos, true, IfOk, MatchOption};
+ghost use Rattle.qap_cost.specs.Instance.{IsInstance, Problem};
+ghost use Rattle.dual_ascent.specs.AscentRange.{HasRange};
+ghost use Rattle.pair_duals.specs.CostStep.{Divides, step_of};
+ghost use Rattle.subtree_search.specs.Best.{IsIncumbent};
+ghost use Rattle.proof_search.specs.Found.{AreLinesOf};
+
+use dual_ascent::{ascend, has_range};
+use pair_duals::{PairDuals, cost_step};
+use qap_cost::{Instance, Partial, Perm};
+use qap_symmetry::{Table, symmetries_of};
+use std::alloc::{AllocError, Global};
+use std::marker::Model;
+use subtree_search::{Incumbent, Outcome, Stop, Subtree, SubtreeSearch, TextRecord};
+
+/// An instance with the symmetries of its matrices, its cost step, a number of 64 bits that divides that, and the scale of pair duals. It
+/// is seen as the instance.
+#[derive(Drop)]
+pub(crate) struct Ground {
+    instance: Instance,
+    flows: Vec<Perm>,
+    distances: Vec<Perm>,
+    step: i128,
+    part: u64,
+    scale: u32,
+}
+
+impl Model for Ground {
+    ghost use Rattle.qap_cost.specs.Instance.{Problem};
+    ghost use Rattle.proof_search.specs.Ground.{IsGround};
+
+    ghost Value = { Problem };
+
+    ghost view = { λ g. g.instance };
+
+    ghost invariant = { λ g. IsGround g.instance g.flows.items g.distances.items g.step g.part g.scale };
+}
+
+impl Ground {
+    /// What searches rest on whose pair duals have this scale; `None` where the instance is out of range for that scale.
+    pub fn new(alloc: Global, instance: &Instance, scale: u32) -> Result<Option<Ground>, AllocError>
+        ensures { IfOk result (λ found. MatchOption found (HasRange instance.now scale → ⊥) (λ (I : Problem). I ≡ instance.now)) }
+    {
+        if !has_range(instance, scale) {
+            return Ok(None);
+        }
+        let flows = symmetries_of(alloc, instance, Table::Flows)?;
+        let distances = symmetries_of(alloc, instance, Table::Distances)?;
+        let step = cost_step(instance);
+        let part = part_of(step);
+        Ok(Some(Ground {
+            instance: instance.copy()?,
+            flows: flows.permutations,
+            distances: distances.permutations,
+            step,
+            part,
+            scale,
+        }))
+    }
+
+    /// The instance.
+    pub fn instance(&self) -> &Instance
+        ensures value { result.now ≡ self.now }
+        ensures instance { IsInstance self.now }
+    {
+        // Its clause says that this is an instance.
+        let _size = self.instance.size();
+        &self.instance
+    }
+
+    /// Searches the subtree below a node, under pair duals of it that this many rounds find, and improves the incumbent: the text of a
+    /// tree over the node, or `None` where the stop said so.
+    pub fn solve<S: Stop>(
+        &self,
+        alloc: Global,
+        search: &mut SubtreeSearch,
+        node: &Partial,
+        start: Option<&PairDuals<i64>>,
+        rounds: u32,
+        incumbent: &mut Incumbent,
+        stop: &S,
+    ) -> Result<Option<TextRecord>, AllocError>
+        requires size { self.now.size ≡ node.now.size }
+        requires incumbent { IsIncumbent self.now incumbent.old }
+        ensures lines { IfOk result (λ found. MatchOption found (S.says stop.now true) (AreLinesOf self.now node.now incumbent.new.cost)) }
+        ensures incumbent { IsIncumbent self.now incumbent.new }
+        ensures no_worse { incumbent.new.cost ≤ℤ incumbent.old.cost }
+    {
+        let duals = ascend(alloc, &self.instance, node, start, rounds, self.scale)?;
+        let subtree = Subtree {
+            instance: &self.instance,
+            node,
+            duals: &duals,
+            step: self.step,
+            flows: &self.flows,
+            distances: &self.distances,
+        };
+        let mut tree = TextRecord::new(alloc);
+        match search.search(&subtree, incumbent, u64::MAX, stop, &mut tree)? {
+            Outcome::Closed => Ok(Some(tree)),
+            Outcome::Stopped => Ok(None),
+            Outcome::LimitReached => Err(AllocError),
+        }
+    }
+}
+
+/// The cost step, where it fits 64 bits, and else 1, which divides it.
+fn part_of(step: i128) -> u64
+    ensures { Divides result step }
+{
+    match u64::try_from(step) {
+        Ok(step) => step,
+        Err(_) => 1,
+    }
+}
