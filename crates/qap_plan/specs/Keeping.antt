@@ -4,6 +4,7 @@ use Rattle.qap_cost.specs.Instance.{Problem}
 use Rattle.qap_cost.specs.Objective.{Permutes, cost_of}
 use Rattle.qap_cost.specs.Placement.{Completes, Placement}
 use Rattle.qap_proof.specs.Claim.{Claim, IsProof, Proves}
+use Rattle.proof_search.specs.Held.{Held, Shows}
 
 -- no dearer than the start, where there is one that keeps what is fixed
 abbrev pub IsNoDearerKept : Problem → Placement → Option (List ℕ) → ℤ → Type 0
@@ -35,3 +36,12 @@ pub record ProvesKept (I : Problem) (x : Placement) (p : List ℕ) (c g : ℤ) (
   pub permutation : C.permutation ≡ p
   pub cost : C.cost ≡ c
   pub bound : C.bound ≡ g
+
+-- a valid proof under pair duals over a node that the same permutations complete as what is fixed, with this permutation and its cost,
+-- which is the bound
+pub record ShowsKept (I : Problem) (x : Placement) (p : List ℕ) (c g : ℤ) (h : Held) : Type 0 where
+  pub shows : Shows I h
+  pub root : (q : List ℕ) → Completes x q ↔ Completes h.root q
+  pub permutation : h.permutation ≡ p
+  pub cost : h.cost ≡ c
+  pub bound : g ≡ c

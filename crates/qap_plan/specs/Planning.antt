@@ -2,8 +2,9 @@
 use Rattle.std.specs.Prelude.{◌≡◌, ◌≤ℤ◌, ℕ, ℤ, List, Option, Some, None}
 use Rattle.qap_cost.specs.Instance.{Problem}
 use Rattle.qap_cost.specs.Objective.{NoneCostsLess, Permutes, cost_of}
-use Rattle.qap_cost.specs.Placement.{root_of}
+use Rattle.qap_cost.specs.Placement.{Placement, root_of}
 use Rattle.qap_proof.specs.Claim.{Claim, IsProof, Proves}
+use Rattle.proof_search.specs.Held.{Held, Shows}
 
 -- no dearer than the start, where there is one
 abbrev pub IsNoDearer : Problem → Option (List ℕ) → ℤ → Type 0
@@ -26,3 +27,11 @@ pub record ProvesPlanned (I : Problem) (p : List ℕ) (c g : ℤ) (C : Claim) : 
   pub permutation : C.permutation ≡ p
   pub cost : C.cost ≡ c
   pub bound : C.bound ≡ g
+
+-- a valid proof under pair duals over this root, with this permutation and its cost, which is the bound
+pub record ShowsPlanned (I : Problem) (root : Placement) (p : List ℕ) (c g : ℤ) (h : Held) : Type 0 where
+  pub shows : Shows I h
+  pub over : h.root ≡ root
+  pub permutation : h.permutation ≡ p
+  pub cost : h.cost ≡ c
+  pub bound : g ≡ c

@@ -3,13 +3,14 @@
 ghost use Rattle.std.specs.Prelude.{◌≡◌, IfOk, IfSome};
 ghost use Rattle.qap_cost.specs.Objective.{Permutes, cost_of};
 ghost use Rattle.qap_cost.specs.Placement.{Completes};
-ghost use Rattle.qap_plan.specs.Keeping.{IsKept, IsNoDearerKept, IsSearched, ProvesKept};
+ghost use Rattle.qap_plan.specs.Keeping.{IsKept, IsNoDearerKept, IsSearched, ProvesKept, ShowsKept};
 ghost use Rattle.qap_plan.specs.Options.{AreLimited};
 
 use crate::keeper::Keeper;
 use crate::memory_limit::WithinMemory;
 use crate::options::Options;
 use crate::planning::{Planned, UntilStopped, planned_by, proved_by};
+use crate::subtree_proof::prove_subtrees;
 use crate::subtrees::search_subtrees;
 use plan_fixed::{ascending, completed, completes, improved_keeping};
 use qap_cost::{Instance, Partial, Perm, cost};
@@ -38,6 +39,7 @@ where
     requires size { fixed.now.size ≡ instance.now.size }
     ensures kept { IfOk result (λ x. IsKept instance.now fixed.now start x.permutation x.cost x.bound) }
     ensures proof { IfOk result (λ x. IfSome x.proof (ProvesKept instance.now fixed.now x.permutation x.cost x.bound)) }
+    ensures pair_proof { IfOk result (λ x. IfSome x.pair_proof (ShowsKept instance.now fixed.now x.permutation x.cost x.bound)) }
 {
     let root = ascending(alloc, fixed)?;
     let first = kept_start(alloc, instance, fixed, start, options, keeper)?;
@@ -53,6 +55,9 @@ where
         branching: Branching::Cutting,
     };
     if options.proves {
+        if let Some(found) = prove_subtrees(alloc, instance, &plan, options.nodes, &within)? {
+            return Ok(kept_or_first(instance, fixed, first, found));
+        }
         let found = prove_from(system, alloc, instance, &plan, &pace, &within, &within)?;
         let found = proved_by(found)?;
         return Ok(kept_or_first(instance, fixed, first, found));
@@ -111,9 +116,11 @@ fn kept_or_first(instance: &Instance, fixed: &Partial, first: Perm, found: Plann
     requires first { Completes fixed.now first }
     requires searched { IsSearched instance.now fixed.now first found.permutation found.cost found.bound }
     requires proof { IfSome found.proof (ProvesKept instance.now fixed.now found.permutation found.cost found.bound) }
+    requires pair_proof { IfSome found.pair_proof (ShowsKept instance.now fixed.now found.permutation found.cost found.bound) }
     ensures completes { Completes fixed.now result.permutation }
     ensures searched { IsSearched instance.now fixed.now first result.permutation result.cost result.bound }
     ensures proof { IfSome result.proof (ProvesKept instance.now fixed.now result.permutation result.cost result.bound) }
+    ensures pair_proof { IfSome result.pair_proof (ShowsKept instance.now fixed.now result.permutation result.cost result.bound) }
 {
     if completes(fixed, &found.permutation) {
         return found;
@@ -125,5 +132,6 @@ fn kept_or_first(instance: &Instance, fixed: &Partial, first: Perm, found: Plann
         nodes: found.nodes,
         open_nodes: found.open_nodes,
         proof: None,
+        pair_proof: None,
     }
 }

@@ -39,6 +39,7 @@ mod split_run;
 mod splitting;
 mod standing;
 mod starting;
+mod subtree_proof;
 mod subtrees;
 
 ghost use Rattle.qap_plan.specs.Asking.{IsLimitedTask};

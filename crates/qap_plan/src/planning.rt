@@ -4,14 +4,16 @@ ghost use Rattle.std.specs.Prelude.{◌≡◌, ◌≤ℤ◌, ◌↔◌, None, So
 ghost use Rattle.qap_cost.specs.Objective.{Permutes, cost_of};
 ghost use Rattle.qap_cost.specs.Placement.{root_of};
 ghost use Rattle.qap_plan.specs.Options.{AreLimited};
-ghost use Rattle.qap_plan.specs.Planning.{IsNoDearer, IsPlanned, ProvesPlanned};
+ghost use Rattle.qap_plan.specs.Planning.{IsNoDearer, IsPlanned, ProvesPlanned, ShowsPlanned};
 
 use crate::keeper::Keeper;
 use crate::memory_limit::WithinMemory;
 use crate::options::Options;
+use crate::subtree_proof::prove_subtrees;
 use crate::subtrees::search_subtrees;
 use qap_cost::{Instance, Partial, Perm};
 use qap_improve::{Hook, tabu_search};
+use proof_search::PairProof;
 use qap_proof::Proof;
 use qap_search::{
     Always, Bounded, Branching, Pace, Plan, Proved, Report, Stop, identity, prove_from,
@@ -34,8 +36,10 @@ pub struct Planned {
     pub nodes: u64,
     /// How many nodes were left open.
     pub open_nodes: u64,
-    /// The proof of the bound, where it was asked for.
+    /// The proof of the bound, where it was asked for, by a search that keeps its nodes.
     pub proof: Option<Proof>,
+    /// The proof of the bound, where it was asked for, under pair duals.
+    pub pair_proof: Option<PairProof>,
 }
 
 impl Planned {
@@ -63,6 +67,7 @@ where
     requires start { IfSome start (Permutes instance.now) }
     ensures planned { IfOk result (λ x. IsPlanned instance.now start x.permutation x.cost x.bound) }
     ensures proof { IfOk result (λ x. IfSome x.proof (ProvesPlanned instance.now x.permutation x.cost x.bound)) }
+    ensures pair_proof { IfOk result (λ x. IfSome x.pair_proof (ShowsPlanned instance.now (root_of instance.now.size) x.permutation x.cost x.bound)) }
 {
     let root = Partial::root(alloc, instance.size())?;
     let start = improved(alloc, instance, start, options, keeper)?;
@@ -78,6 +83,9 @@ where
         branching: Branching::Cutting,
     };
     if options.proves {
+        if let Some(found) = prove_subtrees(alloc, instance, &plan, options.nodes, &within)? {
+            return Ok(found);
+        }
         let found = prove_from(system, alloc, instance, &plan, &pace, &within, &within)?;
         return proved_by(found);
     }
@@ -94,6 +102,7 @@ pub(crate) fn planned_by(found: Bounded) -> Planned
     ensures cost { result.cost ≡ found.cost }
     ensures bound { result.bound ≡ found.bound }
     ensures proof { result.proof ≡ None }
+    ensures pair_proof { result.pair_proof ≡ None }
 {
     let nodes = decided(&found.reports);
     Planned {
@@ -103,6 +112,7 @@ pub(crate) fn planned_by(found: Bounded) -> Planned
         nodes,
         open_nodes: found.open_nodes,
         proof: None,
+        pair_proof: None,
     }
 }
 
@@ -112,6 +122,7 @@ pub(crate) fn proved_by(found: Proved) -> Result<Planned, AllocError>
     ensures cost { IfOk result (λ x. x.cost ≡ found.proof.cost) }
     ensures bound { IfOk result (λ x. x.bound ≡ found.proof.bound) }
     ensures proof { IfOk result (λ x. x.proof ≡ Some found.proof) }
+    ensures pair_proof { IfOk result (λ x. x.pair_proof ≡ None) }
 {
     let nodes = decided(&found.reports);
     let proof = found.proof;
@@ -122,6 +133,7 @@ pub(crate) fn proved_by(found: Proved) -> Result<Planned, AllocError>
         nodes,
         open_nodes: found.open_nodes,
         proof: Some(proof),
+        pair_proof: None,
     })
 }
 

@@ -1,20 +1,32 @@
 //! The text of a proof.
 
-ghost use Rattle.std.specs.Prelude.{IfOk};
+ghost use Rattle.std.specs.Prelude.{◌≡◌, IfOk};
+ghost use Rattle.proof_search.specs.Held.{text_of};
 ghost use Rattle.qap_proof.specs.Text.{IsProofText};
 
 use crate::error::PlanError;
 use crate::planning::Planned;
 use qap_io::Counted;
+use proof_search::PairProof;
 use qap_proof::{Proof, write};
 use std::alloc::Global;
 
 /// The text of an answer's proof; none where it has no proof.
 pub fn proof_text(alloc: Global, answer: &Planned) -> Result<Vec<u8>, PlanError> {
-    match &answer.proof {
-        Some(proof) => text_of_proof(alloc, proof),
-        None => Ok(Vec::new(alloc)),
+    match (&answer.proof, &answer.pair_proof) {
+        (Some(proof), _) => text_of_proof(alloc, proof),
+        (None, Some(proof)) => text_of_pair_proof(alloc, proof),
+        (None, None) => Ok(Vec::new(alloc)),
     }
+}
+
+/// The text of a proof under pair duals.
+fn text_of_pair_proof(alloc: Global, proof: &PairProof) -> Result<Vec<u8>, PlanError>
+    ensures { IfOk result (λ text. text.items ≡ text_of proof.now) }
+{
+    let mut text = Counted::new(Vec::new(alloc));
+    proof_search::write(alloc, &mut text, proof)?;
+    Ok(text.into_inner())
 }
 
 /// The text of a proof.

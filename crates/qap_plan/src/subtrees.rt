@@ -20,10 +20,10 @@ use std::time;
 use subtree_search::Stop;
 
 /// The greatest size at which a node is searched so: a worker holds the residuals of a node, four numbers of the size for each.
-const MAX_SIZE: usize = 36;
+pub(crate) const MAX_SIZE: usize = 36;
 
 /// How many rounds find the pair duals of the root.
-const ROUNDS: u32 = 30;
+pub(crate) const ROUNDS: u32 = 30;
 
 /// For how many milliseconds a worker tries the children of the node that it took.
 const TURN_MS: u64 = 1000;
@@ -56,6 +56,7 @@ where
     requires same_size { plan.now.root.now.size ≡ instance.now.size }
     ensures searched { IfOk result (λ found. IfSome found (λ x. IsSearched instance.now plan.now.root.now plan.now.start.now x.permutation x.cost x.bound)) }
     ensures proof { IfOk result (λ found. IfSome found (λ x. x.proof ≡ None)) }
+    ensures pair_proof { IfOk result (λ found. IfSome found (λ x. x.pair_proof ≡ None)) }
 {
     if instance.size() > MAX_SIZE || nodes.is_some() {
         return Ok(None);
@@ -106,7 +107,7 @@ fn shared_ground(
 }
 
 /// The least power of two, times which the cost comes to 2^15, and at most 2^16.
-fn scale_for(cost: i128) -> u32
+pub(crate) fn scale_for(cost: i128) -> u32
     ensures some { 0 < result }
 {
     let exponent = cost
@@ -123,6 +124,7 @@ fn found_by(answer: &Answer) -> Result<Planned, AllocError>
     ensures cost { IfOk result (λ x. x.cost ≡ answer.now.best.cost) }
     ensures bound { IfOk result (λ x. x.bound ≡ answer.now.bound) }
     ensures proof { IfOk result (λ x. x.proof ≡ None) }
+    ensures pair_proof { IfOk result (λ x. x.pair_proof ≡ None) }
 {
     Ok(Planned {
         permutation: answer.best.permutation().copy()?,
@@ -131,6 +133,7 @@ fn found_by(answer: &Answer) -> Result<Planned, AllocError>
         nodes: answer.nodes,
         open_nodes: answer.open_nodes,
         proof: None,
+        pair_proof: None,
     })
 }
 
@@ -171,6 +174,7 @@ fn with_bound(found: Planned, bound: i128) -> Planned
     ensures permutation { result.permutation ≡ found.permutation }
     ensures cost { result.cost ≡ found.cost }
     ensures proof { result.proof ≡ found.proof }
+    ensures pair_proof { result.pair_proof ≡ found.pair_proof }
     ensures none_less { (c : ℤ) → found.bound ≤ℤ c → bound ≤ℤ c → result.bound ≤ℤ c }
     ensures at_most { result.bound ≤ℤ found.cost }
 {
