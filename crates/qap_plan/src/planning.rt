@@ -11,9 +11,9 @@ use crate::memory_limit::WithinMemory;
 use crate::options::Options;
 use crate::subtree_proof::prove_subtrees;
 use crate::subtrees::search_subtrees;
+use proof_search::PairProof;
 use qap_cost::{Instance, Partial, Perm};
 use qap_improve::{Hook, tabu_search};
-use proof_search::PairProof;
 use qap_proof::Proof;
 use qap_search::{
     Always, Bounded, Branching, Pace, Plan, Proved, Report, Stop, identity, prove_from,

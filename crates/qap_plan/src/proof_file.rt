@@ -6,8 +6,8 @@ ghost use Rattle.qap_proof.specs.Text.{IsProofText};
 
 use crate::error::PlanError;
 use crate::planning::Planned;
-use qap_io::Counted;
 use proof_search::PairProof;
+use qap_io::Counted;
 use qap_proof::{Proof, write};
 use std::alloc::Global;
 
@@ -25,8 +25,11 @@ fn text_of_pair_proof(alloc: Global, proof: &PairProof) -> Result<Vec<u8>, PlanE
     ensures { IfOk result (λ text. text.items ≡ text_of proof.now) }
 {
     let mut text = Counted::new(Vec::new(alloc));
-    proof_search::write(alloc, &mut text, proof)?;
-    Ok(text.into_inner())
+    match proof_search::write(alloc, &mut text, proof) {
+        Ok(()) => Ok(text.into_inner()),
+        // Nothing but want of memory keeps a text from a vector.
+        Err(_) => Err(PlanError::OutOfMemory),
+    }
 }
 
 /// The text of a proof.

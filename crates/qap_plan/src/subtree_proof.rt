@@ -10,10 +10,9 @@ use crate::keeper::Keeper;
 use crate::memory_limit::WithinMemory;
 use crate::planning::Planned;
 use crate::subtrees::{MAX_SIZE, ROUNDS, scale_for};
-use proof_search::{PairProof, prove};
+use proof_search::{Found, PairProof, prove};
 use qap_cost::{Instance, cost};
-use qap_search::Stop as _;
-use qap_search::{Observer, Plan, Progress};
+use qap_search::{Observer, Plan, Progress, Stop as _};
 use std::alloc::{AllocError, Global};
 use std::cell::Cell;
 use subtree_search::Stop;
@@ -30,7 +29,7 @@ pub(crate) fn prove_subtrees<K: Keeper>(
     alloc: Global,
     instance: &Instance,
     plan: &Plan<'_>,
-    nodes: Option<u64>,
+    limit: Option<u64>,
     within: &WithinMemory<'_, K>,
 ) -> Result<Option<Planned>, AllocError>
     requires root { IsRoot instance.now.size plan.now.root.now }
@@ -39,7 +38,7 @@ pub(crate) fn prove_subtrees<K: Keeper>(
     ensures proof { IfOk result (λ found. IfSome found (λ x. x.proof ≡ None)) }
     ensures pair_proof { IfOk result (λ found. IfSome found (λ x. IfSome x.pair_proof (ShowsPlanned instance.now plan.now.root.now x.permutation x.cost x.bound))) }
 {
-    if instance.size() > MAX_SIZE || nodes.is_some() {
+    if instance.size() > MAX_SIZE || limit.is_some() {
         return Ok(None);
     }
     let scale = scale_for(cost(instance, plan.start));
@@ -48,9 +47,9 @@ pub(crate) fn prove_subtrees<K: Keeper>(
         looks: Cell::new(0),
     };
     let start = plan.start.copy()?;
-    let found = prove(alloc, instance, plan.root, start, scale, ROUNDS, &watcher)?;
-    match found.proof {
-        Some(proof) => Ok(Some(planned_of(proof, found.nodes)?)),
+    let Found { proof, nodes } = prove(alloc, instance, plan.root, start, scale, ROUNDS, &watcher)?;
+    match proof {
+        Some(proof) => Ok(Some(planned_of(proof, nodes)?)),
         None => Ok(None),
     }
 }

@@ -4,7 +4,7 @@ use Rattle.std.specs.Prelude.{IfSome}
 use Rattle.std.specs.Arc.{arc_value}
 use Rattle.qap_cost.specs.Instance.{Problem}
 use Rattle.qap_cost.specs.Objective.{cost_of}
-use Rattle.qap_cost.specs.Placement.{Completes, Placement}
+use Rattle.qap_cost.specs.Placement.{Placement}
 use Rattle.part_search.specs.Answer.{IsAnswer}
 use Rattle.part_search.specs.Law.{best_with}
 use Rattle.part_search.specs.Opening.{part_of}
