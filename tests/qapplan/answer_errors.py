@@ -98,7 +98,7 @@ PROOFS = [
      REFUSED.format("line 5: the duals bound their part by too little")),
     ("plan.toml", "first.json", f"{TWO}|b 6 2 3 0|end", REFUSED.format("line 2: the size is not the instance's")),
     ("plan.toml", "first.json", "qapcert 1", REFUSED.format("the first line is not that of a proof")),
-    ("plan.toml", "first.json", "qapproof 2", REFUSED.format("the proof's version is not known")),
+    ("plan.toml", "first.json", "qapproof 3", REFUSED.format("the proof's version is not known")),
     ("plan.toml", "first.json", f"{THREE}|x", REFUSED.format("line 5 is not spelled as it should be")),
     ("plan.toml", "first.json", "", REFUSED.format("the text ends in line 1")),
     ("plan.toml", "first.json", f"{THREE}|b 375 0 0 0 0 0|end|x", REFUSED.format("line 7 follows the last line")),
@@ -129,6 +129,26 @@ PROOFS = [
     ("two.dat", "two.json", f"{TWO}|node 1 2|b 11 0|end", OTHER_ROOT),
 ]
 
+NOUGHTS = "p 1|0 0|0 0|0 0|0 0"
+
+# The same of proofs with pair duals, which are all 0 (docs/PAIR_PROOFS.md). The cost step of the plan is 25 * 5, and
+# that of two.dat 1. With the saw at place C, the lathe costs 1000 or 750; with the saw at A, it costs 375 or 1000.
+PAIR_PROOFS = [
+    ("two.dat", "two.json", f"qapproof 2|n 2|cost 11|perm 2 1|{NOUGHTS}|s 1 .. 0 0",
+     REFUSED.format("the text ends in line 11")),
+    ("two.dat", "two.json", f"qapproof 2|n 2|cost 11|perm 2 1|{NOUGHTS}|x 0 0|end",
+     REFUSED.format("line 10: the duals bound their part by too little")),
+    ("two.dat", "two.json", f"qapproof 2|n 2|cost 17|perm 1 2|{NOUGHTS}|s 1 .. 0 0|end",
+     REFUSED.format("line 10: the duals bound the child by too little")),
+    ("two.dat", "two.json", f"qapproof 2|n 2|cost 17|perm 1 2|bound 11|{NOUGHTS}|s 1 .. 0 0|end",
+     OTHER_COST.format("17")),
+    ("fixed.toml", "kept.json", f"qapproof 2|n 3|cost 1000|perm 3 1 2|node 1 3|bound 750|{NOUGHTS}|x 750 0|end",
+     OTHER_COST.format("10")),
+    ("fixed.toml", "kept.json", f"qapproof 2|n 3|cost 375|perm 1 2 3|node 1 1|{NOUGHTS}|x 375 0|end", OTHER_ROOT),
+    ("plan.toml", "first.json", f"qapproof 2|n 3|cost 375|perm 1 2 3|node 1 1|{NOUGHTS}|x 375 0|end", OTHER_ROOT),
+    ("two.dat", "two.json", "qapproof 2|n 2|cost 11|perm 2 1|node 1 2|p 1||x 11|end", OTHER_ROOT),
+]
+
 UNOPENED = "a file couldn't be opened, read or written"
 
 # The last word names what is no file, or is a folder.
@@ -145,6 +165,10 @@ def cases():
     for number, (source, answer, lines, message) in enumerate(PROOFS):
         text = lines.replace("|", "\\n") + ("\\n" if lines else "")
         yield f"case: proof {number}: {message}\nbytes a.proof: {text}"
+        yield f"run: qapplan check {source} {answer} a.proof\nstderr: error: a.proof: {message}\nstatus: 1"
+    for number, (source, answer, lines, message) in enumerate(PAIR_PROOFS):
+        text = lines.replace("|", "\\n") + "\\n"
+        yield f"case: proof with pair duals {number}: {message}\nunshipped:\nbytes a.proof: {text}"
         yield f"run: qapplan check {source} {answer} a.proof\nstderr: error: a.proof: {message}\nstatus: 1"
     for words in UNREADABLE:
         yield f"case: {words}\nrun: qapplan {words}\nstderr: error: {words.split()[-1]}: {UNOPENED}\nstatus: 1"

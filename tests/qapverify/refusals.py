@@ -19,7 +19,7 @@ PROOFS = [
     (TWO, "qapcert 1", "11 BadHeader"),
     (TWO, "qapproof", "11 BadHeader"),
     (TWO, "qapproof 0", "11 BadHeader"),
-    (TWO, "qapproof 2", "12 BadVersion"),
+    (TWO, "qapproof 3", "12 BadVersion"),
     (TWO, "qapproof 1|n 257", "13 BadLine at 2"),
     (TWO, "qapproof 1|n 02", "13 BadLine at 2"),
     (TWO, "qapproof 1|n 2|cost 1000000000000000000000001", "13 BadLine at 3"),

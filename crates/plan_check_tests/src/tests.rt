@@ -182,7 +182,7 @@ const KEPT: &str =
 
 #[test]
 fn answers_are_checked(rt: HostRuntime) -> Result<(), Fail> {
-    let cases: [(&[u8], &str, Option<&[u8]>, &str); 9] = [
+    let cases: [(&[u8], &str, Option<&[u8]>, &str); 12] = [
         (FREE, FIRST, None, "cost 3.75\n"),
         (FREE, FIRST, Some(LEAST), "cost 3.75, optimal, proved\n"),
         (
@@ -219,6 +219,30 @@ fn answers_are_checked(rt: HostRuntime) -> Result<(), Fail> {
             FIXED,
             KEPT,
             Some(LEAST),
+            "the proof is not over all arrangements that keep what is fixed: name the one that `qapplan solve --proof` wrote with this answer",
+        ),
+        (
+            FIXED,
+            KEPT,
+            Some(
+                b"qapproof 2\nn 3\ncost 750\nperm 3 2 1\nnode 1 3\np 1\n0 0\n0 0\n0 0\n0 0\nx 750 0\nend\n",
+            ),
+            "cost 7.5, optimal among arrangements that keep what is fixed, proved\n",
+        ),
+        (
+            FIXED,
+            KEPT,
+            Some(
+                b"qapproof 2\nn 3\ncost 1000\nperm 3 1 2\nnode 1 3\nbound 750\np 1\n0 0\n0 0\n0 0\n0 0\nx 750 0\nend\n",
+            ),
+            "the proof is of an arrangement that costs 10: name the one that `qapplan solve --proof` wrote with this answer",
+        ),
+        (
+            FIXED,
+            KEPT,
+            Some(
+                b"qapproof 2\nn 3\ncost 375\nperm 1 2 3\nnode 1 1\np 1\n0 0\n0 0\n0 0\n0 0\nx 375 0\nend\n",
+            ),
             "the proof is not over all arrangements that keep what is fixed: name the one that `qapplan solve --proof` wrote with this answer",
         ),
         (

@@ -1,0 +1,103 @@
+//! What no clause says: that proofs of both versions are accepted, and which fault is reported of others.
+
+use proof_versions::{accept, accept_over};
+use qap_cost::{Instance, Partial};
+use qap_proof::{ProofError, Stated, Verdict, read_node_text};
+use std::alloc::{AllocError, Global};
+use std::test::Fail;
+
+/// The permutation 1 2 costs 3*2 + 1*5 = 11, the other one 3*5 + 1*2 = 17.
+const FLOWS: [i64; 4] = [0, 3, 1, 0];
+
+const WAYS: [i64; 4] = [0, 2, 5, 0];
+
+const FIRST: &[u8] = b"qapproof 1\nn 2\ncost 11\nperm 1 2\nb 6 2 0 3\nend\n";
+
+const SECOND: &[u8] =
+    b"qapproof 2\nn 2\ncost 11\nperm 1 2\np 1\n0 0\n0 0\n0 0\n0 0\ns 1 .. 0 0\nend\n";
+
+/// A bound below the cost.
+const GAP: &[u8] =
+    b"qapproof 2\nn 2\ncost 17\nperm 2 1\nbound 11\np 1\n0 0\n0 0\n0 0\n0 0\ns 1 .. 0 0\nend\n";
+
+/// Over the node that puts facility 1 at location 2, with the cost of the other permutation.
+const PART: &[u8] = b"qapproof 2\nn 2\ncost 11\nperm 1 2\nnode 1 2\nbound 10\np 1\n\nx 17\nend\n";
+
+fn two(alloc: Global) -> Result<Option<Instance>, AllocError> {
+    let a = Vec::from_slice(alloc, &FLOWS)?;
+    let b = Vec::from_slice(alloc, &WAYS)?;
+    Ok(Instance::new(2, a, b).ok())
+}
+
+#[test]
+fn both_versions(rt: HostRuntime) -> Result<(), Fail> {
+    let alloc = rt.alloc();
+    let Some(two) = two(alloc)? else {
+        panic!(rt; "an instance is refused");
+    };
+    assert_eq!(rt; accept(alloc, &two, FIRST), Ok(Verdict::Optimal(11)));
+    assert_eq!(rt; accept(alloc, &two, SECOND), Ok(Verdict::Optimal(11)));
+    assert_eq!(rt; accept(alloc, &two, GAP), Ok(Verdict::Gap(11, 17)));
+    assert_eq!(rt; accept(alloc, &two, PART), Ok(Verdict::Part(10)));
+    Ok(())
+}
+
+#[test]
+fn faults(rt: HostRuntime) -> Result<(), Fail> {
+    let alloc = rt.alloc();
+    let Some(two) = two(alloc)? else {
+        panic!(rt; "an instance is refused");
+    };
+    let texts: [(&[u8], ProofError); 5] = [
+        (b"qapproof 3\n", ProofError::BadVersion),
+        (b"qapproof 2", ProofError::Truncated(1)),
+        (b"qapproof 2\n", ProofError::Truncated(2)),
+        (
+            b"qapproof 1\nn 2\ncost 12\nperm 1 2\nb 6 2 0 3\nend\n",
+            ProofError::CostDiffers(3),
+        ),
+        (
+            b"qapproof 2\nn 2\ncost 11\nperm 1 2\nb 6 2 0 3\nend\n",
+            ProofError::BadLine(5),
+        ),
+    ];
+    for (text, fault) in texts {
+        assert_eq!(rt; accept(alloc, &two, text), Err(fault));
+    }
+    Ok(())
+}
+
+#[test]
+fn over_a_root(rt: HostRuntime) -> Result<(), Fail> {
+    let alloc = rt.alloc();
+    let Some(two) = two(alloc)? else {
+        panic!(rt; "an instance is refused");
+    };
+    let empty = Partial::root(alloc, 2)?;
+    let Some(other) = read_node_text(alloc, b"1 1", 2)? else {
+        panic!(rt; "a node is refused");
+    };
+    let Some(node) = read_node_text(alloc, b"1 2", 2)? else {
+        panic!(rt; "a node is refused");
+    };
+    let least = Stated {
+        cost: 11,
+        bound: 11,
+    };
+    let costlier = Stated {
+        cost: 17,
+        bound: 11,
+    };
+    let below = Stated {
+        cost: 11,
+        bound: 10,
+    };
+    assert_eq!(rt; accept_over(alloc, &two, &empty, FIRST), Ok(Some(least)));
+    assert_eq!(rt; accept_over(alloc, &two, &empty, SECOND), Ok(Some(least)));
+    assert_eq!(rt; accept_over(alloc, &two, &empty, GAP), Ok(Some(costlier)));
+    assert_eq!(rt; accept_over(alloc, &two, &empty, PART), Ok(None));
+    assert_eq!(rt; accept_over(alloc, &two, &other, PART), Ok(None));
+    assert_eq!(rt; accept_over(alloc, &two, &node, SECOND), Ok(None));
+    assert_eq!(rt; accept_over(alloc, &two, &node, PART), Ok(Some(below)));
+    Ok(())
+}
