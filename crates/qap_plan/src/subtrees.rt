@@ -98,7 +98,7 @@ fn shared_ground(
     scale: u32,
 ) -> Result<Option<Arc<Ground>>, AllocError>
     requires { root.now.size ≡ instance.now.size }
-    ensures { IfOk result (λ found. IfSome found (λ ground. arc_value ground ≡ instance.now)) }
+    ensures { IfOk result (λ found. IfSome found (λ h. arc_value h ≡ instance.now)) }
 {
     match Ground::new(alloc, instance, root, scale, ROUNDS)? {
         Some(ground) => Ok(Some(Arc::new(alloc, ground)?)),
