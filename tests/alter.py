@@ -1,5 +1,6 @@
 """alter.py TEXT COPY cost|dual: copies a certificate or a proof with the last digit of its cost changed, or with
-its first dual raised to 10^15, which fits no matrix here. Prints the number of the changed line. Cases use it."""
+its first dual raised to 10^15, which fits no matrix here. Prints the number of the changed line, or of the
+line at which pair duals begin. Cases use it."""
 
 import re
 import sys
@@ -10,6 +11,9 @@ def altered(lines, what):
     for at, line in enumerate(lines):
         if what == "cost" and line.startswith("cost "):
             return lines[:at] + [line[:-1] + str((int(line[-1]) + 1) % 10)] + lines[at + 1:], at + 1
+        if what == "dual" and line.startswith("p "):
+            raised = re.sub(r"^-?\d+", "1" + "0" * 15, lines[at + 1])
+            return lines[:at + 1] + [raised] + lines[at + 2:], at + 1
         duals = re.fullmatch(r"(b|[st] \d+) -?\d+( .*)", line)
         if what == "dual" and duals:
             return lines[:at] + [f"{duals[1]} 1{'0' * 15}{duals[2]}"] + lines[at + 1:], at + 1
