@@ -168,7 +168,7 @@ def cases():
         yield f"run: qapplan check {source} {answer} a.proof\nstderr: error: a.proof: {message}\nstatus: 1"
     for number, (source, answer, lines, message) in enumerate(PAIR_PROOFS):
         text = lines.replace("|", "\\n") + "\\n"
-        yield f"case: proof with pair duals {number}: {message}\nunshipped:\nbytes a.proof: {text}"
+        yield f"case: proof with pair duals {number}: {message}\nbytes a.proof: {text}"
         yield f"run: qapplan check {source} {answer} a.proof\nstderr: error: a.proof: {message}\nstatus: 1"
     for words in UNREADABLE:
         yield f"case: {words}\nrun: qapplan {words}\nstderr: error: {words.split()[-1]}: {UNOPENED}\nstatus: 1"

@@ -123,8 +123,6 @@ def cases():
         yield f"case: plan {number}: {message or 'no TOML'}".replace("\n", " ")
         yield "bytes plan.toml: " + text.replace("\n", "\\n").replace("\xff", "\\xff")
         yield "run: qapplan solve plan.toml\nstatus: 1"
-        if message and "stands under" in message:
-            yield "unshipped:"
         if message:
             yield f"stderr: error: plan.toml: {message}"
         else:

@@ -63,7 +63,7 @@ LINES = 18
 
 
 def cases():
-    yield "unshipped:\nuse: examples/corridor.dat examples/corridor.proof2"
+    yield "use: examples/corridor.dat examples/corridor.proof2"
     for number, (line, text, refusal) in enumerate(ALTERED):
         yield f"case: {number}: {refusal}"
         yield f"run: sed '{line}s/.*/{text}/' corridor.proof2 > a.proof; qapverify corridor.dat a.proof"
