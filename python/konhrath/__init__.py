@@ -94,7 +94,7 @@ def verify(
 ) -> str:
     """What a proof shows of the problem: `optimal C`, `gap G C` or `part G`, in the whole numbers that the decimals were scaled to.
 
-    A file that is not a valid proof for this problem raises `KonhrathError`, whoever made it.
+    A file that is not a valid proof for this problem raises `KonhrathError`, no matter who made it.
     """
     with tempfile.TemporaryDirectory(prefix="konhrath-") as room:
         problem = _write(pathlib.Path(room), flow, distance, None)
