@@ -1,4 +1,4 @@
-//! A space of tuples under a law, for workers that count the commits they were told of.
+//! A space of tuples under a law, for workers that count their accepted commits.
 //!
 //! The law says which permanent tuples the space may hold and which commits may change them. A worker's share counts its own
 //! accepted commits; all shares of a space together count every accepted commit.

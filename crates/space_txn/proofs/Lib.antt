@@ -3,6 +3,7 @@ pub mod ContentLemmas
 pub mod FindingLemmas
 pub mod RuleLemmas
 pub mod MarkLemmas
+pub mod MarkOrder
 pub mod LeaseLemmas
 pub mod LiveLemmas
 pub mod WorldLemmas

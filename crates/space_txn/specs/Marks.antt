@@ -1,9 +1,10 @@
 -- The marks that a transaction has put on entries.
-use Rattle.std.specs.Prelude.{◌≡◌, ℕ, ◌-◌, ◌==◌, nat_lt, Bool, List, [], ◌∷◌, find, Contains, None, Option, if◌then◌else◌}
-use Rattle.std.specs.List.{filter_map}
+use Rattle.std.specs.Prelude.{◌≡◌, ℕ, ◌-◌, ◌<◌, ◌≤◌, ◌==◌, nat_lt, Bool, List, [], ◌∷◌, find, map, Contains, None, Some, Option, if◌then◌else◌}
+use Rattle.std.specs.List.{AllPairs, filter_map}
 use Rattle.smallvec.specs.SmallVec.{SmallVec, small_vec_len}
 use Rattle.std.specs.Option.{option_and_then, option_map}
 use Rattle.tuple_space.specs.Lease.{is_permanent}
+use Rattle.tuple_space.specs.Places.{items_in}
 use Rattle.tuple_space.specs.declared.entry.Entry.{Entry}
 use Rattle.tuple_space.specs.declared.held.Held.{Held}
 use Rattle.tuple_space.specs.declared.hold.Hold.{Hold}
@@ -13,6 +14,12 @@ use Rattle.space_txn.specs.declared.mark.Mark.{Mark}
 pub record MarksValue : Type 0 where
   pub items : List Mark
   pub room : ℕ
+
+-- places for marks: each in use holds one, four take no memory, and the marks are in rising order of the entries' numbers
+pub record AreMarks (places : SmallVec (Option Mark)) : Type 0 where
+  pub ready : 4 ≤ places.capacity
+  pub each : places.items ≡ map Some (items_in places.items)
+  pub rising : AllPairs (λ m n. m.entry < n.entry) (items_in places.items)
 
 -- how many more items fit into a small vector with no allocation
 abbrev pub room_of : {A : Type 0} → SmallVec A → ℕ

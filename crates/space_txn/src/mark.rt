@@ -10,6 +10,9 @@ use crate::marks::Marks;
 use tuple_match::Tuple;
 use tuple_space::{Entry, Held, Hold, Space};
 
+/// So many marks are looked up by their numbers alone.
+const FEW: usize = 8;
+
 /// A transaction's mark on an entry: that it took or read it.
 #[derive(Debug, Drop)]
 pub struct Mark {
@@ -50,11 +53,12 @@ fn place_behind(marks: &Marks, place: usize, entry: &Entry, number: u64) -> Opti
 }
 
 /// The place behind a transaction's mark on the entry of a row, if the row is its own, there is such an entry and it has a
-/// mark there, or `None` where another mark stands at the place.
+/// mark there, or `None` where another mark stands at the place. The entry is looked for first in the place that is this far below its number.
 fn place_behind_row(
     marks: &Marks,
     place: usize,
     space: &Space,
+    shift: u64,
     row: Held,
     number: u64,
 ) -> Option<usize>
@@ -66,9 +70,18 @@ fn place_behind_row(
     if row.by != number {
         return Some(place);
     }
-    match space.entry_numbered(row.entry) {
+    match space.entry_shifted(row.entry, shift) {
         Some(entry) => place_behind(marks, place, entry, number),
         None => Some(place),
+    }
+}
+
+/// How far the first mark's number is above the place of its entry, where there are many marks; a few are looked up by their numbers.
+fn first_shift(marks: &Marks, space: &Space) -> u64 {
+    if marks.len() > FEW {
+        space.shift_of(marks.at(0).entry)
+    } else {
+        0
     }
 }
 
@@ -76,9 +89,10 @@ fn place_behind_row(
 fn are_marks_at(marks: &Marks, space: &Space, rows: &[Held], number: u64) -> bool
     ensures { IsTrue result ↔ (marks.now.items ≡ filter_map (mark_in number space.now.entries) rows.now) }
 {
+    let shift = first_shift(marks, space);
     let mut place = 0;
     for row in rows {
-        let Some(behind) = place_behind_row(marks, place, space, *row, number) else {
+        let Some(behind) = place_behind_row(marks, place, space, shift, *row, number) else {
             return false;
         };
         place = behind;
@@ -98,13 +112,19 @@ fn mark_place(marks: &Marks, number: u64) -> usize
     ensures within { result ≤ length marks.now.items }
     ensures before { AllWithin (λ m. m.entry < number) marks.now.items 0 result }
     ensures at { result < length marks.now.items → HoldsAt (λ m. number ≤ m.entry) marks.now.items result }
+    ensures rising { AllPairs (λ m n. m.entry < n.entry) marks.now.items }
 {
-    for place in 0..marks.len() {
-        if marks.at(place).entry >= number {
-            return place;
+    let mut low = 0;
+    let mut high = marks.len();
+    while low < high {
+        let middle = low + (high - low) / 2;
+        if marks.at(middle).entry < number {
+            low = middle + 1;
+        } else {
+            high = middle;
         }
     }
-    marks.len()
+    low
 }
 
 /// Whether the mark at a place is on the entry of this number.
@@ -123,12 +143,11 @@ fn is_mark_at(marks: &Marks, place: usize, number: u64) -> bool
 pub(crate) fn mark_on(marks: &Marks, number: u64) -> Option<&Mark>
     ensures { option_copied result ≡ find (λ m. m.entry == number) marks.now.items }
 {
-    for place in 0..marks.len() {
-        if is_mark_at(marks, place, number) {
-            return Some(marks.at(place));
-        }
+    let place = mark_place(marks, number);
+    if !is_mark_at(marks, place, number) {
+        return None;
     }
-    None
+    Some(marks.at(place))
 }
 
 /// Whether one of the marks is on the entry of this number.

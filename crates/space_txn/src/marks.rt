@@ -1,6 +1,7 @@
 //! A transaction's marks in order.
 
 ghost use Rattle.std.specs.Prelude.{◌≡◌, ◌<◌, ◌≤◌, ◌+◌, [], insert, length, slice_get, slice_index_or, slice_set, true, OnErr, OnOk, Some};
+ghost use Rattle.std.specs.List.{AllPairs, AllWithin, HoldsAt};
 ghost use Rattle.space_txn.specs.declared.mark.Mark.{Mark};
 
 use crate::mark::Mark;
@@ -15,14 +16,14 @@ pub(crate) struct Marks {
 }
 
 impl Model for Marks {
-    ghost use Rattle.tuple_space.specs.Places.{AreFilled, items_in};
-    ghost use Rattle.space_txn.specs.Marks.{MarksValue, room_of};
+    ghost use Rattle.tuple_space.specs.Places.{items_in};
+    ghost use Rattle.space_txn.specs.Marks.{AreMarks, MarksValue, room_of};
 
     ghost Value = { MarksValue };
 
     ghost view = { λ m. record { items = items_in m.places.items; room = room_of m.places } };
 
-    ghost invariant = { λ m. AreFilled 4 m.places };
+    ghost invariant = { λ m. AreMarks m.places };
 }
 
 impl Marks {
@@ -42,9 +43,10 @@ impl Marks {
         self.places.clear();
     }
 
-    /// How many marks there are.
+    /// How many marks there are; they stand in rising order of the entries' numbers.
     pub(crate) fn len(&self) -> usize
-        ensures { result ≡ length self.now.items }
+        ensures len { result ≡ length self.now.items }
+        ensures rising { AllPairs (λ m n. m.entry < n.entry) self.now.items }
     {
         self.places.len()
     }
@@ -68,9 +70,10 @@ impl Marks {
         self.places.reserve(1)
     }
 
-    /// Puts a mark in the place of another one.
+    /// Puts a mark in the place of another one on the same entry.
     pub(crate) fn set(&mut self, place: usize, mark: Mark)
-        requires { place < length self.old.items }
+        requires within { place < length self.old.items }
+        requires same { HoldsAt (λ m. m.entry ≡ mark.entry) self.old.items place }
         ensures { self.new.items ≡ slice_set self.old.items place mark }
     {
         self.places[place] = Some(mark);
@@ -88,9 +91,11 @@ impl Marks {
         mark.permanent = permanent;
     }
 
-    /// Puts a mark between others, where there is room for it.
+    /// Puts a mark between those on entries of lower and of greater numbers, where there is room for it.
     pub(crate) fn insert(&mut self, place: usize, mark: Mark)
         requires within { place ≤ length self.old.items }
+        requires before { AllWithin (λ m. m.entry < mark.entry) self.old.items 0 place }
+        requires above { place < length self.old.items → HoldsAt (λ m. mark.entry < m.entry) self.old.items place }
         requires room { 0 < self.old.room }
         ensures { self.new.items ≡ insert self.old.items place mark }
     {

@@ -1,19 +1,21 @@
 -- The buckets in which the numbers of entries stand.
-use Rattle.std.proofs.Common.{◌≡◌, ℕ, zero, suc, ◌+◌, ◌<◌, ◌≤◌, Bool, true, false, List, [], ◌∷◌, ◌++◌, length, get_or, refl, sym, ap, subst, ◌∙◌, cond, eqb, ⊎_elim, arith}
-use Rattle.std.specs.Prelude.{◌≢◌, ◌&&◌, ◌||◌, not, All, AllPairs, Contains, IfNone, Option, count_by, Some, None, OnErr, OnOk, Result, Ok, Err, filter, find, map, remove}
+use Rattle.std.proofs.Common.{◌≡◌, ℕ, zero, suc, ◌+◌, ◌-◌, ◌%◌, ◌<◌, ◌≤◌, Bool, true, false, List, [], ◌∷◌, ◌++◌, length, get_or, refl, sym, ap, subst, ◌∙◌, cond, eqb, ⊎_elim, arith}
+use Rattle.std.specs.Prelude.{◌≢◌, ◌&&◌, ◌||◌, not, All, AllPairs, Contains, IfNone, MatchOption, Option, count_by, take, unsigned_abs, Some, None, OnErr, OnOk, Result, Ok, Err, filter, find, map, remove}
 use Rattle.std.specs.Global.{Vec}
 use Rattle.std.specs.Result.{is_err}
 use Rattle.std.specs.List.{AllWithin, AllZip, HoldsAt}
 use Rattle.std.specs.Str.{bytes_eq}
 use Rattle.std.proofs.Math.ListN.{set}
+use Rattle.std.proofs.Math.Seq.{take-append_seam}
 use Rattle.std.proofs.lemmas.Bool.{cases_Bool, cases_lt, cond-false, cond-true, cond_both, eq-eqb, eqb-false, eqb-true, ne_eqb, false≢true, or_cases, or_left, or_right}
-use Rattle.std.proofs.lemmas.List.{append-nil, get_or-map, get_or_default, length-map}
-use Rattle.std.proofs.lemmas.List.Elements.{All-head, All-push, All-tail}
+use Rattle.std.proofs.lemmas.List.{append-nil, get_or-map, get_or_default, length-append, length-map}
+use Rattle.std.proofs.lemmas.List.Elements.{All-head, All-nil, All-push, All-tail}
 use Rattle.std.proofs.lemmas.List.Folds.{list_any-append}
 use Rattle.std.proofs.lemmas.List.Kept.{AllPairs-filter}
 use Rattle.std.proofs.lemmas.List.Quantifiers.{all_pairs_push}
 use Rattle.std.proofs.lemmas.List.Sums.{sum_by-cons}
 use Rattle.std.proofs.lemmas.Map.Views.{any-filter_same}
+use Rattle.std.proofs.lemmas.Option.{same_Some}
 use Rattle.std.proofs.lemmas.Slice.Eq.{bytes_eq-Decides}
 use Rattle.tuple_match.specs.FieldValue.{FieldValue, number, word, numbers}
 use Rattle.tuple_match.specs.Matching.{does_match}
@@ -22,16 +24,19 @@ use Rattle.tuple_match.proofs.Deciding.{Decides-does_match}
 use Rattle.tuple_space.specs.Entry.{is_open, is_there}
 use Rattle.tuple_space.specs.Wanted.{is_wanted}
 use Rattle.tuple_space.specs.Held.{AreRising, is_among}
-use Rattle.tuple_space.specs.Index.{AreIndexed, AreOnce, AreOrdered, AreSame, AreUpTo, Class, HasNoneWanted, IsAdded, IsDropped, IsUnwanted, first_word, has_class, is_next, is_numbered, is_of, is_put, is_to_be, is_word, key, last_after, list_at, numbers_of, second_length, sought_word}
+use Rattle.tuple_space.specs.Index.{AreIndexed, AreOnce, AreOrdered, AreSame, AreUpTo, Class, HasNoneWanted, HasSame, IsAdded, IsDropped, IsPutIn, IsTakenFrom, IsUnwanted, first_word, has_class, is_next, is_numbered, is_of, is_put, is_to_be, is_word, key, last_after, list_at, numbers_at, numbers_of, sought_word}
 use Rattle.tuple_space.proofs.RowLemmas.{HasNone, any_place, found_at, only_at}
 use Rattle.tuple_space.specs.Lease.{granted}
 use Rattle.tuple_space.specs.Rows.{IsRising, without}
+use Rattle.tuple_space.specs.Slots.{is_in, is_value, second_length, second_value, slot_of, sought_slot, word_value}
 use Rattle.tuple_space.specs.Space.{SpaceValue, put}
 use Rattle.tuple_space.specs.Writes.{put_count, put_each}
 use Rattle.tuple_space.specs.declared.search.Wanted.{Wanted}
 use Rattle.tuple_space.specs.declared.search.Wanted.TheVariants.{Allowed, There}
 use Rattle.tuple_space.specs.declared.entry.Entry.{Entry}
 use Rattle.tuple_space.specs.declared.index.Bucket.{Bucket}
+use Rattle.tuple_space.specs.declared.index.Slot.{Slot}
+use Rattle.tuple_space.specs.declared.index.Slot.TheVariants.{Length, Value}
 use Rattle.tuple_space.specs.declared.lease.Lease.{Lease}
 use Rattle.tuple_space.specs.declared.write.Write.{Write}
 
@@ -85,7 +90,8 @@ among_at [] i d lt = absurd (omega arith)
 among_at (n ∷ ns) zero d lt = or_left (eqb n n) (is_among n ns) (eq-eqb n n refl)
 among_at (n ∷ ns) (suc i) d lt = or_right (eqb (get_or ns i d) n) (is_among (get_or ns i d) ns) (among_at ns i d (omega arith))
 
-filter_all : (ns : List ℕ) → filter (λ n. true) ns ≡ ns
+-- a filter that passes everything changes nothing
+pub filter_all : (ns : List ℕ) → filter (λ n. true) ns ≡ ns
 filter_all [] = refl
 filter_all (n ∷ ns) = ap (λ l. n ∷ l) (filter_all ns)
 
@@ -169,14 +175,15 @@ of_from : (bytes : List ℕ) (count : ℕ) (b : Bucket) → b.count ≡ count �
 of_from bytes count b counted spelled =
     both (eqb b.count count) (bytes_eq (b.word.items) bytes) (eq-eqb b.count count counted) ((bytes_eq-Decides (b.word.items) bytes).1 spelled)
 
--- a bucket with other numbers
-abbrev pub with_lists : Bucket → Vec (Vec ℕ) → Bucket
-with_lists b lists = record { word = b.word; count = b.count; by_length = lists }
+-- a slot of an empty bucket holds nothing
+none_at : (s : Slot) (b : Bucket) → b.by_length.items ≡ [] → b.by_value.items ≡ [] → numbers_at s b ≡ []
+none_at (Length l) b none without = ap (list_at l) none
+none_at (Value v) b none without = ap (list_at v) without
 
 -- an empty bucket behind the others
-pub numbers_push : (bs : List Bucket) (b : Bucket) → b.by_length.items ≡ [] → AreSame bs (bs ++ b ∷ [])
-numbers_push [] b none = λ k. cond_both (is_of k.word k.count b) (list_at k.length b.by_length.items) [] (λ (l : List ℕ). l ≡ []) (λ t. ap (list_at k.length) none) (λ f. refl)
-numbers_push (x ∷ xs) b none = λ k. ap (λ (l : List ℕ). cond (is_of k.word k.count x) (list_at k.length x.by_length.items) l) (numbers_push xs b none k)
+pub numbers_push : (bs : List Bucket) (b : Bucket) → b.by_length.items ≡ [] → b.by_value.items ≡ [] → AreSame bs (bs ++ b ∷ [])
+numbers_push [] b none without = λ k. cond_both (is_of k.word k.count b) (numbers_at k.slot b) [] (λ (l : List ℕ). l ≡ []) (λ t. none_at k.slot b none without) (λ f. refl)
+numbers_push (x ∷ xs) b none without = λ k. ap (λ (l : List ℕ). cond (is_of k.word k.count x) (numbers_at k.slot x) l) (numbers_push xs b none without k)
 
 keys_push : (bs : List Bucket) (b : Bucket) → map key (bs ++ b ∷ []) ≡ map key bs ++ key b ∷ []
 keys_push [] b = refl
@@ -193,14 +200,18 @@ once_push bs b bytes count spelled counted none once =
     let is : key x ≡ key b = sym (get_or-map key bs k b d (omega arith)) ∙ same in
     false≢true (sym (none k b (omega arith)) ∙ of_from bytes count x (ap (λ (p : List ℕ × ℕ). p.1) is ∙ counted) (ap (λ (p : List ℕ × ℕ). p.0) is ∙ spelled))))
 
-keys_set : (bs : List Bucket) (i : ℕ) (b : Bucket) (lists : Vec (Vec ℕ)) → b ≡ get_or bs i b → map key (set bs i (with_lists b lists)) ≡ map key bs
-keys_set [] i b lists is = refl
-keys_set (x ∷ xs) zero b lists is = ap (λ (y : Bucket). key y ∷ map key xs) is
-keys_set (x ∷ xs) (suc i) b lists is = ap (λ l. key x ∷ l) (keys_set xs i b lists is)
+keys_set : (bs : List Bucket) (i : ℕ) (b new : Bucket) → b ≡ get_or bs i b → key new ≡ key b → map key (set bs i new) ≡ map key bs
+keys_set [] i b new is same = refl
+keys_set (x ∷ xs) zero b new is same = ap (λ p. p ∷ map key xs) (same ∙ ap key is)
+keys_set (x ∷ xs) (suc i) b new is same = ap (λ l. key x ∷ l) (keys_set xs i b new is same)
 
 -- a bucket given other numbers leaves no two of the same word and count
-pub once_set : (bs : List Bucket) (i : ℕ) (b : Bucket) (lists : Vec (Vec ℕ)) → b ≡ get_or bs i b → AreOnce bs → AreOnce (set bs i (with_lists b lists))
-once_set bs i b lists is once = subst (λ (l : List (List ℕ × ℕ)). AllPairs (λ k j. k ≢ j) l) (sym (keys_set bs i b lists is)) once
+pub once_set : (bs : List Bucket) (i : ℕ) (b new : Bucket) → b ≡ get_or bs i b → key new ≡ key b → AreOnce bs → AreOnce (set bs i new)
+once_set bs i b new is same once = subst (λ (l : List (List ℕ × ℕ)). AllPairs (λ k j. k ≢ j) l) (sym (keys_set bs i b new is same)) once
+
+-- buckets of the same word and count are of the same
+of_same : (k : Class) (b new : Bucket) → key new ≡ key b → is_of k.word k.count new ≡ is_of k.word k.count b
+of_same k b new same = ap (λ (p : List ℕ × ℕ). eqb p.1 k.count && bytes_eq p.0 k.word) same
 
 -- the first bucket of a word and a count
 pub record IsFirstOf (bytes : List ℕ) (count : ℕ) (bs : List Bucket) (i : ℕ) (b : Bucket) : Type 0 where
@@ -229,56 +240,61 @@ other_before k bytes count x xs i b h mine = ⊎_elim
     (λ other. other)
     (cases_Bool (is_of k.word k.count x))
 
--- the numbers of a class are those that the first bucket of its word and count has at its length
+-- the numbers of a class are those that the first bucket of its word and count has in its slot
 pub numbers_there : (k : Class) (bytes : List ℕ) (count : ℕ) (bs : List Bucket) (i : ℕ) (b : Bucket) → IsFirstOf bytes count bs i b → is_of k.word k.count b ≡ true
-    → numbers_of k bs ≡ list_at k.length b.by_length.items
+    → numbers_of k bs ≡ numbers_at k.slot b
 numbers_there k bytes count [] i b h mine = let w = h.within in absurd (omega arith)
 numbers_there k bytes count (x ∷ xs) zero b h mine =
-    cond-true (is_of k.word k.count x) (list_at k.length x.by_length.items) (numbers_of k xs) (ap (is_of k.word k.count) (sym h.is) ∙ mine)
-    ∙ ap (λ (y : Bucket). list_at k.length y.by_length.items) (sym h.is)
+    cond-true (is_of k.word k.count x) (numbers_at k.slot x) (numbers_of k xs) (ap (is_of k.word k.count) (sym h.is) ∙ mine)
+    ∙ ap (numbers_at k.slot) (sym h.is)
 numbers_there k bytes count (x ∷ xs) (suc i) b h mine =
-    cond-false (is_of k.word k.count x) (list_at k.length x.by_length.items) (numbers_of k xs) (other_before k bytes count x xs i b h mine)
+    cond-false (is_of k.word k.count x) (numbers_at k.slot x) (numbers_of k xs) (other_before k bytes count x xs i b h mine)
     ∙ numbers_there k bytes count xs i b (first_behind bytes count x xs i b h) mine
 
--- its numbers written anew
-numbers_mine : (k : Class) (bytes : List ℕ) (count : ℕ) (bs : List Bucket) (i : ℕ) (b : Bucket) (lists : Vec (Vec ℕ)) → IsFirstOf bytes count bs i b → is_of k.word k.count b ≡ true
-    → numbers_of k (set bs i (with_lists b lists)) ≡ list_at k.length lists.items
-numbers_mine k bytes count [] i b lists h mine = let w = h.within in absurd (omega arith)
-numbers_mine k bytes count (x ∷ xs) zero b lists h mine = cond-true (is_of k.word k.count b) (list_at k.length lists.items) (numbers_of k xs) mine
-numbers_mine k bytes count (x ∷ xs) (suc i) b lists h mine =
-    cond-false (is_of k.word k.count x) (list_at k.length x.by_length.items) (numbers_of k (set xs i (with_lists b lists))) (other_before k bytes count x xs i b h mine)
-    ∙ numbers_mine k bytes count xs i b lists (first_behind bytes count x xs i b h) mine
+-- its numbers written over
+numbers_mine : (k : Class) (bytes : List ℕ) (count : ℕ) (bs : List Bucket) (i : ℕ) (b new : Bucket) → IsFirstOf bytes count bs i b → key new ≡ key b → is_of k.word k.count b ≡ true
+    → numbers_of k (set bs i new) ≡ numbers_at k.slot new
+numbers_mine k bytes count [] i b new h same mine = let w = h.within in absurd (omega arith)
+numbers_mine k bytes count (x ∷ xs) zero b new h same mine = cond-true (is_of k.word k.count new) (numbers_at k.slot new) (numbers_of k xs) (of_same k b new same ∙ mine)
+numbers_mine k bytes count (x ∷ xs) (suc i) b new h same mine =
+    cond-false (is_of k.word k.count x) (numbers_at k.slot x) (numbers_of k (set xs i new)) (other_before k bytes count x xs i b h mine)
+    ∙ numbers_mine k bytes count xs i b new (first_behind bytes count x xs i b h) same mine
 
 -- those under other classes stay
-numbers_other : (k : Class) (bs : List Bucket) (i : ℕ) (b : Bucket) (lists : Vec (Vec ℕ)) → b ≡ get_or bs i b → is_of k.word k.count b ≡ false
-    → numbers_of k (set bs i (with_lists b lists)) ≡ numbers_of k bs
-numbers_other k [] i b lists is other = refl
-numbers_other k (x ∷ xs) zero b lists is other =
-    cond-false (is_of k.word k.count b) (list_at k.length lists.items) (numbers_of k xs) other
-    ∙ sym (cond-false (is_of k.word k.count x) (list_at k.length x.by_length.items) (numbers_of k xs) (ap (is_of k.word k.count) (sym is) ∙ other))
-numbers_other k (x ∷ xs) (suc i) b lists is other =
-    ap (λ (l : List ℕ). cond (is_of k.word k.count x) (list_at k.length x.by_length.items) l) (numbers_other k xs i b lists is other)
+numbers_other : (k : Class) (bs : List Bucket) (i : ℕ) (b new : Bucket) → b ≡ get_or bs i b → key new ≡ key b → is_of k.word k.count b ≡ false
+    → numbers_of k (set bs i new) ≡ numbers_of k bs
+numbers_other k [] i b new is same other = refl
+numbers_other k (x ∷ xs) zero b new is same other =
+    cond-false (is_of k.word k.count new) (numbers_at k.slot new) (numbers_of k xs) (of_same k b new same ∙ other)
+    ∙ sym (cond-false (is_of k.word k.count x) (numbers_at k.slot x) (numbers_of k xs) (ap (is_of k.word k.count) (sym is) ∙ other))
+numbers_other k (x ∷ xs) (suc i) b new is same other =
+    ap (λ (l : List ℕ). cond (is_of k.word k.count x) (numbers_at k.slot x) l) (numbers_other k xs i b new is same other)
 
 -- under a class of no bucket stands nothing
 pub numbers_none : (k : Class) (bs : List Bucket) → All (λ (b : Bucket). is_of k.word k.count b ≡ false) bs → numbers_of k bs ≡ []
 numbers_none k [] none = refl
 numbers_none k (x ∷ xs) none =
     let P : Bucket → Type 0 = λ b. is_of k.word k.count b ≡ false in
-    cond-false (is_of k.word k.count x) (list_at k.length x.by_length.items) (numbers_of k xs) (All-head P x xs none) ∙ numbers_none k xs (All-tail P x xs none)
+    cond-false (is_of k.word k.count x) (numbers_at k.slot x) (numbers_of k xs) (All-head P x xs none) ∙ numbers_none k xs (All-tail P x xs none)
 
 -- a tuple's class, by its bucket
 class_of : (k : Class) (tuple : List FieldValue) (bytes : List ℕ) (b : Bucket) → Some bytes ≡ first_word tuple → is_of bytes (length tuple) b ≡ true
-    → has_class k tuple ≡ (is_of k.word k.count b && eqb (second_length tuple) k.length)
+    → has_class k tuple ≡ (is_of k.word k.count b && is_in k.slot tuple)
 class_of k tuple bytes b first of =
     let parts = of_parts bytes (length tuple) b of in
-    ap (λ o. (eqb (length tuple) k.count && is_word o k.word) && eqb (second_length tuple) k.length) (sym first)
-    ∙ ap (λ n. (eqb n k.count && bytes_eq bytes k.word) && eqb (second_length tuple) k.length) (sym parts.0)
-    ∙ ap (λ w. (eqb b.count k.count && bytes_eq w k.word) && eqb (second_length tuple) k.length) (sym parts.1)
+    ap (λ o. (eqb (length tuple) k.count && is_word o k.word) && is_in k.slot tuple) (sym first)
+    ∙ ap (λ n. (eqb n k.count && bytes_eq bytes k.word) && is_in k.slot tuple) (sym parts.0)
+    ∙ ap (λ w. (eqb b.count k.count && bytes_eq w k.word) && is_in k.slot tuple) (sym parts.1)
 
 classless : (k : Class) (tuple : List FieldValue) → None ≡ first_word tuple → has_class k tuple ≡ false
 classless k tuple none =
-    ap (λ o. (eqb (length tuple) k.count && is_word o k.word) && eqb (second_length tuple) k.length) (sym none)
-    ∙ ap (λ b. b && eqb (second_length tuple) k.length) (and_false (eqb (length tuple) k.count))
+    ap (λ o. (eqb (length tuple) k.count && is_word o k.word) && is_in k.slot tuple) (sym none)
+    ∙ ap (λ b. b && is_in k.slot tuple) (and_false (eqb (length tuple) k.count))
+
+-- a tuple that begins with no word has no number to put there
+pub added_classless : (bs : List Bucket) (tuple : List FieldValue) (n : ℕ) → None ≡ first_word tuple → IsAdded tuple n bs bs
+added_classless bs tuple n none = λ k.
+    subst (λ c. numbers_of k bs ≡ numbers_of k bs ++ cond c (n ∷ []) []) (sym (classless k tuple none)) (sym (append-nil (numbers_of k bs)))
 
 dropped_other : (k : Class) (tuple : List FieldValue) (n : ℕ) (ns : List ℕ) → has_class k tuple ≡ false → ns ≡ filter (λ m. not (has_class k tuple && eqb m n)) ns
 dropped_other k tuple n ns other = sym (ap (λ c. filter (λ m. not (c && eqb m n)) ns) other ∙ filter_all ns)
@@ -292,7 +308,7 @@ pub dropped_nowhere : (bs : List Bucket) (tuple : List FieldValue) (n : ℕ) (by
     → IsDropped tuple n bs bs
 dropped_nowhere bs tuple n bytes first none = λ k. ⊎_elim
     (λ mine.
-    let parts = both_left (eqb (length tuple) k.count && is_word (first_word tuple) k.word) (eqb (second_length tuple) k.length) mine in
+    let parts = both_left (eqb (length tuple) k.count && is_word (first_word tuple) k.word) (is_in k.slot tuple) mine in
     let counted = eqb-true (length tuple) k.count (both_left (eqb (length tuple) k.count) (is_word (first_word tuple) k.word) parts) in
     let spelled = (bytes_eq-Decides bytes k.word).0 (ap (λ o. is_word o k.word) first ∙ both_right (eqb (length tuple) k.count) (is_word (first_word tuple) k.word) parts) in
     let empty = numbers_none k bs (λ i d lt. subst (λ w. is_of w k.count (get_or bs i d) ≡ false) spelled (subst (λ c. is_of bytes c (get_or bs i d) ≡ false) counted (none i d lt))) in
@@ -301,52 +317,106 @@ dropped_nowhere bs tuple n bytes first none = λ k. ⊎_elim
     (cases_Bool (has_class k tuple))
 
 -- a number put into its bucket, or taken out of it
-module _ (bs : List Bucket) (i : ℕ) (b : Bucket) (lists : Vec (Vec ℕ)) (tuple : List FieldValue) (bytes : List ℕ) (first : Some bytes ≡ first_word tuple)
-    (h : IsFirstOf bytes (length tuple) bs i b) (others : (l : ℕ) → l ≢ second_length tuple → list_at l lists.items ≡ list_at l b.by_length.items) where
-  by_length : (k : Class) (P : Bool → List ℕ → Type 0) → (has_class k tuple ≡ false → numbers_of k (set bs i (with_lists b lists)) ≡ numbers_of k bs → P false (numbers_of k (set bs i (with_lists b lists))))
-      → (second_length tuple ≡ k.length → numbers_of k bs ≡ list_at k.length b.by_length.items → numbers_of k (set bs i (with_lists b lists)) ≡ list_at k.length lists.items
-      → P true (numbers_of k (set bs i (with_lists b lists)))) → P (has_class k tuple) (numbers_of k (set bs i (with_lists b lists)))
-  by_length k P outside inside =
-      let new = numbers_of k (set bs i (with_lists b lists)) in
+module _ (bs : List Bucket) (i : ℕ) (b new : Bucket) (tuple : List FieldValue) (bytes : List ℕ) (first : Some bytes ≡ first_word tuple)
+    (h : IsFirstOf bytes (length tuple) bs i b) (same : key new ≡ key b) where
+  by_slot : (k : Class) (P : Bool → List ℕ → Type 0) → (numbers_of k (set bs i new) ≡ numbers_of k bs → P false (numbers_of k (set bs i new)))
+      → (numbers_of k bs ≡ numbers_at k.slot b → numbers_of k (set bs i new) ≡ numbers_at k.slot new → P (is_in k.slot tuple) (numbers_of k (set bs i new)))
+      → P (has_class k tuple) (numbers_of k (set bs i new))
+  by_slot k P outside inside =
+      let ns = numbers_of k (set bs i new) in
       let class = class_of k tuple bytes b first h.of in
-      let at_false : has_class k tuple ≡ false → numbers_of k (set bs i (with_lists b lists)) ≡ numbers_of k bs → P (has_class k tuple) new =
-      λ other same. subst (λ c. P c new) (sym other) (outside other same) in
       ⊎_elim
-      (λ mine. ⊎_elim
-      (λ long.
-      let is = class ∙ both (is_of k.word k.count b) (eqb (second_length tuple) k.length) mine long in
-      subst (λ c. P c new) (sym is)
-      (inside (eqb-true (second_length tuple) k.length long) (numbers_there k bytes (length tuple) bs i b h mine) (numbers_mine k bytes (length tuple) bs i b lists h mine)))
-      (λ short. at_false (class ∙ ap (λ c. is_of k.word k.count b && c) short ∙ and_false (is_of k.word k.count b))
-      (numbers_mine k bytes (length tuple) bs i b lists h mine ∙ others k.length (λ e. eqb-false (second_length tuple) k.length short (sym e))
-      ∙ sym (numbers_there k bytes (length tuple) bs i b h mine)))
-      (cases_Bool (eqb (second_length tuple) k.length)))
-      (λ other. at_false (class ∙ ap (λ c. c && eqb (second_length tuple) k.length) other) (numbers_other k bs i b lists h.is other))
+      (λ mine. subst (λ c. P c ns) (sym (class ∙ ap (λ c. c && is_in k.slot tuple) mine))
+      (inside (numbers_there k bytes (length tuple) bs i b h mine) (numbers_mine k bytes (length tuple) bs i b new h same mine)))
+      (λ other. subst (λ c. P c ns) (sym (class ∙ ap (λ c. c && is_in k.slot tuple) other)) (outside (numbers_other k bs i b new h.is same other)))
       (cases_Bool (is_of k.word k.count b))
 
-  pub added_there : (n : ℕ) → list_at (second_length tuple) lists.items ≡ list_at (second_length tuple) b.by_length.items ++ n ∷ [] → IsAdded tuple n bs (set bs i (with_lists b lists))
-  added_there n put = λ k. by_length k (λ c ns. ns ≡ numbers_of k bs ++ cond c (n ∷ []) [])
-      (λ other same. same ∙ sym (append-nil (numbers_of k bs)))
-      (λ long before after. after ∙ subst (λ l. list_at l lists.items ≡ list_at l b.by_length.items ++ n ∷ []) long put ∙ ap (λ l. l ++ n ∷ []) (sym before))
+  pub added_there : (n : ℕ) → IsPutIn (second_length tuple) (second_value tuple) n b new → IsAdded tuple n bs (set bs i new)
+  added_there n put = λ k. by_slot k (λ c ns. ns ≡ numbers_of k bs ++ cond c (n ∷ []) [])
+      (λ stays. stays ∙ sym (append-nil (numbers_of k bs)))
+      (λ before after. after ∙ put k.slot ∙ ap (λ l. l ++ cond (is_in k.slot tuple) (n ∷ []) []) (sym before))
 
-  pub dropped_there : (n : ℕ) → list_at (second_length tuple) lists.items ≡ filter (λ m. not (eqb m n)) (list_at (second_length tuple) b.by_length.items)
-      → IsDropped tuple n bs (set bs i (with_lists b lists))
-  dropped_there n gone = λ k. by_length k (λ c ns. ns ≡ filter (λ m. not (c && eqb m n)) (numbers_of k bs))
-      (λ other same. same ∙ sym (filter_all (numbers_of k bs)))
-      (λ long before after. after ∙ subst (λ l. list_at l lists.items ≡ filter (λ m. not (eqb m n)) (list_at l b.by_length.items)) long gone
-      ∙ ap (filter (λ m. not (eqb m n))) (sym before))
+  pub dropped_there : (n : ℕ) → IsTakenFrom tuple n b new → IsDropped tuple n bs (set bs i new)
+  dropped_there n gone = λ k. by_slot k (λ c ns. ns ≡ filter (λ m. not (c && eqb m n)) (numbers_of k bs))
+      (λ stays. stays ∙ sym (filter_all (numbers_of k bs)))
+      (λ before after. after ∙ gone k.slot ∙ ap (filter (λ m. not (is_in k.slot tuple && eqb m n))) (sym before))
 
-  pub same_there : list_at (second_length tuple) lists.items ≡ list_at (second_length tuple) b.by_length.items → AreSame bs (set bs i (with_lists b lists))
-  same_there same = λ k. by_length k (λ c ns. ns ≡ numbers_of k bs)
-      (λ other is. is)
-      (λ long before after. after ∙ subst (λ l. list_at l lists.items ≡ list_at l b.by_length.items) long same ∙ sym before)
+  pub same_there : HasSame b new → AreSame bs (set bs i new)
+  same_there stays_in = λ k. by_slot k (λ c ns. ns ≡ numbers_of k bs)
+      (λ stays. stays)
+      (λ before after. after ∙ stays_in k.slot ∙ sym before)
 
--- the list that a drop works on rises
-pub rising_there : (bs : List Bucket) (i : ℕ) (b : Bucket) (tuple : List FieldValue) (bytes : List ℕ) → Some bytes ≡ first_word tuple → IsFirstOf bytes (length tuple) bs i b → AreOrdered bs
-    → AreRising (list_at (second_length tuple) b.by_length.items)
-rising_there bs i b tuple bytes first h rising =
-    let k : Class = record { word = bytes; count = length tuple; length = second_length tuple } in
-    subst AreRising (numbers_there k bytes (length tuple) bs i b h h.of) (rising k)
+-- the numbers in each slot of the bucket of a word and a count rise
+pub rising_there : (bs : List Bucket) (i : ℕ) (b : Bucket) (bytes : List ℕ) (count : ℕ) → IsFirstOf bytes count bs i b → AreOrdered bs → (s : Slot) → AreRising (numbers_at s b)
+rising_there bs i b bytes count h rising = λ s.
+    let k : Class = record { word = bytes; count = count; slot = s } in
+    subst AreRising (numbers_there k bytes count bs i b h h.of) (rising k)
+
+-- a number put into the list of a length or of a value, as the lists of a bucket show it
+pub put_at : (old new : List (Vec ℕ)) (place n : ℕ) → list_at place new ≡ list_at place old ++ n ∷ [] → ((l : ℕ) → l ≢ place → list_at l new ≡ list_at l old)
+    → (l : ℕ) → list_at l new ≡ list_at l old ++ cond (eqb place l) (n ∷ []) []
+put_at old new place n put others l = ⊎_elim
+    (λ same. subst (λ c. list_at l new ≡ list_at l old ++ cond c (n ∷ []) []) (sym same)
+    (subst (λ m. list_at m new ≡ list_at m old ++ n ∷ []) (eqb-true place l same) put))
+    (λ other. subst (λ c. list_at l new ≡ list_at l old ++ cond c (n ∷ []) []) (sym other)
+    (others l (λ is. eqb-false place l other (sym is)) ∙ sym (append-nil (list_at l old))))
+    (cases_Bool (eqb place l))
+
+-- a list that is as it was stays under each length
+pub same_at : (old new : List (Vec ℕ)) (place : ℕ) → list_at place new ≡ list_at place old → ((l : ℕ) → l ≢ place → list_at l new ≡ list_at l old) → (l : ℕ) → list_at l new ≡ list_at l old
+same_at old new place same others l = ⊎_elim
+    (λ is. subst (λ m. list_at m new ≡ list_at m old) (eqb-true place l is) same)
+    (λ other. others l (λ is. eqb-false place l other (sym is)))
+    (cases_Bool (eqb place l))
+
+-- a number taken out of the list of a length or of a value
+pub taken_at : (old new : List (Vec ℕ)) (place n : ℕ) → list_at place new ≡ filter (λ m. not (eqb m n)) (list_at place old) → ((l : ℕ) → l ≢ place → list_at l new ≡ list_at l old)
+    → (l : ℕ) → list_at l new ≡ filter (λ m. not (eqb place l && eqb m n)) (list_at l old)
+taken_at old new place n gone others l = ⊎_elim
+    (λ same. subst (λ c. list_at l new ≡ filter (λ m. not (c && eqb m n)) (list_at l old)) (sym same)
+    (subst (λ j. list_at j new ≡ filter (λ m. not (eqb m n)) (list_at j old)) (eqb-true place l same) gone))
+    (λ other. subst (λ c. list_at l new ≡ filter (λ m. not (c && eqb m n)) (list_at l old)) (sym other)
+    (others l (λ is. eqb-false place l other (sym is)) ∙ sym (filter_all (list_at l old))))
+    (cases_Bool (eqb place l))
+
+-- the last number taken back leaves those before it
+pub back_at : (ns : List ℕ) (n : ℕ) → take (length (ns ++ n ∷ []) - 1) (ns ++ n ∷ []) ≡ ns
+back_at ns n =
+    let long : length (ns ++ n ∷ []) - 1 ≡ length ns = omega (arith, length-append ns (n ∷ [])) in
+    ap (λ k. take k (ns ++ n ∷ [])) long ∙ take-append_seam ns (n ∷ [])
+
+-- a number put under a length and under a value of a bucket
+pub put_slots : (old new : Bucket) (long value n : ℕ) → ((l : ℕ) → list_at l new.by_length.items ≡ list_at l old.by_length.items ++ cond (eqb long l) (n ∷ []) [])
+    → ((v : ℕ) → list_at v new.by_value.items ≡ list_at v old.by_value.items ++ cond (eqb value v) (n ∷ []) []) → IsPutIn long (Some value) n old new
+put_slots old new long value n lengths values (Length l) = lengths l
+put_slots old new long value n lengths values (Value v) = values v
+
+-- or under a length alone
+pub put_length : (old new : Bucket) (long n : ℕ) → ((l : ℕ) → list_at l new.by_length.items ≡ list_at l old.by_length.items ++ cond (eqb long l) (n ∷ []) [])
+    → new.by_value ≡ old.by_value → IsPutIn long None n old new
+put_length old new long n lengths same (Length l) = lengths l
+put_length old new long n lengths same (Value v) = ap (λ (x : Vec (Vec ℕ)). list_at v x.items) same ∙ sym (append-nil (list_at v old.by_value.items))
+
+-- the lists of a bucket stay
+pub same_slots : (old new : Bucket) → ((l : ℕ) → list_at l new.by_length.items ≡ list_at l old.by_length.items) → ((v : ℕ) → list_at v new.by_value.items ≡ list_at v old.by_value.items) → HasSame old new
+same_slots old new lengths values (Length l) = lengths l
+same_slots old new lengths values (Value v) = values v
+
+-- a number taken out under a length, and under a value, if there is one
+pub taken_slots : (tuple : List FieldValue) (n : ℕ) (old new : Bucket) → ((l : ℕ) → list_at l new.by_length.items ≡ filter (λ m. not (eqb (second_length tuple) l && eqb m n)) (list_at l old.by_length.items))
+    → ((v : ℕ) → list_at v new.by_value.items ≡ filter (λ m. not (is_value (second_value tuple) v && eqb m n)) (list_at v old.by_value.items)) → IsTakenFrom tuple n old new
+taken_slots tuple n old new lengths values (Length l) = lengths l
+taken_slots tuple n old new lengths values (Value v) = values v
+
+-- what follows from an answer that isn't a refusal, and from a refusal
+pub ok_then : {A E : Type 0} (P Q : Type 0) (r : Result A E) → (P → Q) → OnOk r P → OnOk r Q
+ok_then P Q (Ok x) f h = f h
+ok_then P Q (Err x) f h = tt
+
+-- what follows from a clause on errors holds at errors
+pub err_then : {A E : Type 0} (P Q : Type 0) (r : Result A E) → (P → Q) → OnErr r P → OnErr r Q
+err_then P Q (Ok x) f h = tt
+err_then P Q (Err x) f h = f h
 
 -- numbers still rise where one was taken out
 pub dropped_order : (tuple : List FieldValue) (n : ℕ) (old new : List Bucket) → IsDropped tuple n old new → AreOrdered old → AreOrdered new
@@ -573,20 +643,40 @@ of_among P (x ∷ xs) n h among = ⊎_elim
     (λ rest. of_among P xs n (All-tail P x xs h) rest)
     (or_cases (eqb n x) (is_among n xs) among)
 
-of_at : (P : ℕ → Type 0) (lists : List (Vec ℕ)) (l n : ℕ) → All (λ (v : Vec ℕ). All P v.items) lists → is_among n (list_at l lists) ≡ true → P n
-of_at P [] l n h there = absurd (false≢true there)
-of_at P (v ∷ vs) zero n h there = of_among P v.items n (All-head (λ (x : Vec ℕ). All P x.items) v vs h) there
-of_at P (v ∷ vs) (suc l) n h there = of_at P vs l n (All-tail (λ (x : Vec ℕ). All P x.items) v vs h) there
+-- what holds of the numbers of all lists holds of those of one
+all_at : (P : ℕ → Type 0) (lists : List (Vec ℕ)) (l : ℕ) → All (λ (v : Vec ℕ). All P v.items) lists → All P (list_at l lists)
+all_at P [] l h = All-nil P
+all_at P (v ∷ vs) zero h = All-head (λ (x : Vec ℕ). All P x.items) v vs h
+all_at P (v ∷ vs) (suc l) h = all_at P vs l (All-tail (λ (x : Vec ℕ). All P x.items) v vs h)
 
 of_put : (P : ℕ → Type 0) (k : Class) (buckets : List Bucket) (n : ℕ)
-    → All (λ (b : Bucket). is_of k.word k.count b ≡ true → All (λ (l : Vec ℕ). All P l.items) b.by_length.items) buckets → is_put k n buckets ≡ true → P n
+    → All (λ (b : Bucket). is_of k.word k.count b ≡ true → All P (numbers_at k.slot b)) buckets → is_put k n buckets ≡ true → P n
 of_put P k [] n h there = absurd (false≢true there)
 of_put P k (b ∷ bs) n h there =
-    let Q : Bucket → Type 0 = λ b. is_of k.word k.count b ≡ true → All (λ (l : Vec ℕ). All P l.items) b.by_length.items in
-    cond_both (is_of k.word k.count b) (list_at k.length b.by_length.items) (numbers_of k bs) (λ (l : List ℕ). is_among n l ≡ true → P n)
-    (λ t among. of_at P b.by_length.items k.length n (All-head Q b bs h t) among)
+    let Q : Bucket → Type 0 = λ b. is_of k.word k.count b ≡ true → All P (numbers_at k.slot b) in
+    cond_both (is_of k.word k.count b) (numbers_at k.slot b) (numbers_of k bs) (λ (l : List ℕ). is_among n l ≡ true → P n)
+    (λ t among. of_among P (numbers_at k.slot b) n (All-head Q b bs h t) among)
     (λ f among. of_put P k bs n (All-tail Q b bs h) among)
     there
+
+-- a tuple stands in the slot of its second field
+in_own : (first second : FieldValue) (fields : List FieldValue) → is_in (slot_of second) (first ∷ second ∷ fields) ≡ true
+in_own first (number n) fields = eq-eqb (unsigned_abs n % 256) (unsigned_abs n % 256) refl
+in_own first (word bytes) fields = eq-eqb (word_value bytes) (word_value bytes) refl
+in_own first (numbers ns) fields = eq-eqb (length ns) (length ns) refl
+
+-- so one that a template matches stands in the slot of the field that this asks for second
+in_sought : (template : List PatternValue) (tuple : List FieldValue) (s : Slot) → sought_slot template ≡ Some s → Matches template tuple → is_in s tuple ≡ true
+in_sought [] tuple s sought m = absurd (none_some (sym sought))
+in_sought (p ∷ []) tuple s sought m = absurd (none_some (sym sought))
+in_sought (p ∷ actual second ∷ patterns) [] s sought m = absurd m
+in_sought (p ∷ actual second ∷ patterns) (first ∷ []) s sought m = absurd m.1
+in_sought (p ∷ actual second ∷ patterns) (first ∷ other ∷ fields) s sought m =
+    let own = subst (λ (f : FieldValue). is_in (slot_of second) (first ∷ f ∷ fields) ≡ true) m.1.0 (in_own first second fields) in
+    subst (λ (t : Slot). is_in t (first ∷ other ∷ fields) ≡ true) (same_Some (slot_of second) s sought) own
+in_sought (p ∷ any_number ∷ patterns) tuple s sought m = absurd (none_some (sym sought))
+in_sought (p ∷ any_word ∷ patterns) tuple s sought m = absurd (none_some (sym sought))
+in_sought (p ∷ any_numbers ∷ patterns) tuple s sought m = absurd (none_some (sym sought))
 
 -- the number of an entry of a class is that of an entry of it
 numbered_at : (k : Class) (es : List Entry) (i : ℕ) (d : Entry) → i < length es → has_class k (get_or es i d).tuple ≡ true → is_numbered k (get_or es i d).number es ≡ true
@@ -619,18 +709,41 @@ not_wanted : (wanted : Wanted) (moment : ℕ) (template : List PatternValue) (e 
 not_wanted (Allowed claim) moment template e h = not_both (is_open claim moment e) (does_match template e.tuple) h
 not_wanted There moment template e h = not_both (is_there moment e) (does_match template e.tuple) h
 
+-- an entry of a class isn't wanted where none is in the buckets of it
+unwanted_of : (k : Class) (wanted : Wanted) (moment : ℕ) (template : List PatternValue) (es : List Entry) (buckets : List Bucket) (i : ℕ) (d : Entry) → i < length es
+    → first_word (get_or es i d).tuple ≡ Some k.word → length (get_or es i d).tuple ≡ k.count → is_in k.slot (get_or es i d).tuple ≡ true → AreIndexed buckets es
+    → All (λ (b : Bucket). is_of k.word k.count b ≡ true → All (IsUnwanted wanted moment template es) (numbers_at k.slot b)) buckets
+    → is_wanted wanted moment template (get_or es i d) ≡ false
+unwanted_of k wanted moment template es buckets i d lt begins long stands indexed none =
+    let e = get_or es i d in
+    let spelled = ap (λ o. is_word o k.word) begins ∙ (bytes_eq-Decides k.word k.word).1 refl in
+    let class = both (eqb (length e.tuple) k.count && is_word (first_word e.tuple) k.word) (is_in k.slot e.tuple)
+    (both (eqb (length e.tuple) k.count) (is_word (first_word e.tuple) k.word) (eq-eqb (length e.tuple) k.count long) spelled) stands in
+    of_put (IsUnwanted wanted moment template es) k buckets e.number none (indexed.exact k e.number ∙ numbered_at k es i d lt class) i d lt refl
+
 -- where nothing in the bucket of a word is wanted, nothing is
 pub none_wanted : (bytes : List ℕ) (wanted : Wanted) (moment : ℕ) (template : List PatternValue) (es : List Entry) (buckets : List Bucket) → Some bytes ≡ sought_word template
     → AreIndexed buckets es → All (HasNoneWanted bytes wanted moment template es) buckets → All (λ (e : Entry). is_wanted wanted moment template e ≡ false) es
-none_wanted bytes wanted moment template es buckets sought indexed none = λ i d lt.
-    let e = get_or es i d in
-    not_wanted wanted moment template e (λ matched.
-    let first = first_of template e.tuple bytes sought ((Decides-does_match template e.tuple).0 matched) in
-    let k : Class = record { word = bytes; count = length template; length = second_length e.tuple } in
-    let spelled = ap (λ o. is_word o bytes) first.0 ∙ (bytes_eq-Decides bytes bytes).1 refl in
-    let class = both (eqb (length e.tuple) k.count && is_word (first_word e.tuple) bytes) (eqb (second_length e.tuple) k.length)
-    (both (eqb (length e.tuple) k.count) (is_word (first_word e.tuple) bytes) (eq-eqb (length e.tuple) k.count first.1) spelled) (eq-eqb (second_length e.tuple) k.length refl) in
-    of_put (IsUnwanted wanted moment template es) k buckets e.number none (indexed.exact k e.number ∙ numbered_at k es i d lt class) i d lt refl)
+none_wanted bytes wanted moment template es buckets sought indexed none = by (sought_slot template) refl none
+  where
+    by : (o : Option Slot) → sought_slot template ≡ o
+        → All (λ (b : Bucket). is_of bytes (length template) b ≡ true → MatchOption o (All (λ (l : Vec ℕ). All (IsUnwanted wanted moment template es) l.items) b.by_length.items)
+        (λ s. All (IsUnwanted wanted moment template es) (numbers_at s b))) buckets
+        → All (λ (e : Entry). is_wanted wanted moment template e ≡ false) es
+    by None is nothing = λ i d lt.
+        let e = get_or es i d in
+        not_wanted wanted moment template e (λ matched.
+        let first = first_of template e.tuple bytes sought ((Decides-does_match template e.tuple).0 matched) in
+        let k : Class = record { word = bytes; count = length template; slot = Length (second_length e.tuple) } in
+        unwanted_of k wanted moment template es buckets i d lt first.0 first.1 (eq-eqb (second_length e.tuple) (second_length e.tuple) refl) indexed
+        (λ j x within of. all_at (IsUnwanted wanted moment template es) (get_or buckets j x).by_length.items (second_length e.tuple) (nothing j x within of)))
+    by (Some s) is nothing = λ i d lt.
+        let e = get_or es i d in
+        not_wanted wanted moment template e (λ matched.
+        let m = (Decides-does_match template e.tuple).0 matched in
+        let first = first_of template e.tuple bytes sought m in
+        let k : Class = record { word = bytes; count = length template; slot = s } in
+        unwanted_of k wanted moment template es buckets i d lt first.0 first.1 (in_sought template e.tuple s is m) indexed nothing)
 
 -- the entry of a number isn't wanted where the one at its place isn't
 pub unwanted_at : (wanted : Wanted) (moment : ℕ) (template : List PatternValue) (es : List Entry) (n i : ℕ) (x : Entry) → IsRising es → i < length es → HoldsAt (λ (e : Entry). e.number ≡ n) es i

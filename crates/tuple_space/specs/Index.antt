@@ -1,26 +1,24 @@
 -- Where the numbers of entries stand: by the word that a tuple begins with, and how many fields it has.
-use Rattle.std.specs.Prelude.{◌≡◌, ◌≢◌, ◌≤◌, ℕ, zero, suc, ◌+◌, ◌==◌, ◌&&◌, ◌||◌, not, if◌then◌else◌, Bool, true, false, List, [], ◌∷◌, ◌++◌, All, AllPairs, Option, Some, None, filter, length, map}
+use Rattle.std.specs.Prelude.{◌≡◌, ◌≢◌, ◌≤◌, ℕ, zero, suc, ◌+◌, ◌==◌, ◌&&◌, ◌||◌, not, if◌then◌else◌, Bool, true, false, List, [], ◌∷◌, ◌++◌, All, AllPairs, MatchOption, Option, Some, None, filter, length, map}
 use Rattle.std.specs.Global.{Vec}
 use Rattle.std.specs.List.{list_any}
 use Rattle.std.specs.Str.{bytes_eq}
-use Rattle.tuple_match.specs.FieldValue.{FieldValue, word, numbers}
+use Rattle.tuple_match.specs.FieldValue.{FieldValue, word}
 use Rattle.tuple_match.specs.PatternValue.{PatternValue, actual}
 use Rattle.tuple_space.specs.Held.{AreRising, is_among}
+use Rattle.tuple_space.specs.Slots.{is_in, is_slot_of, sought_slot}
 use Rattle.tuple_space.specs.Wanted.{is_wanted}
 use Rattle.tuple_space.specs.declared.search.Wanted.{Wanted}
 use Rattle.tuple_space.specs.declared.entry.Entry.{Entry}
 use Rattle.tuple_space.specs.declared.index.Bucket.{Bucket}
+use Rattle.tuple_space.specs.declared.index.Slot.{Slot}
+use Rattle.tuple_space.specs.declared.index.Slot.TheVariants.{Length, Value}
 use Rattle.tuple_space.specs.declared.write.Write.{Write}
 
 -- the word that a tuple begins with
 abbrev pub first_word : List FieldValue → Option (List ℕ)
 first_word (word bytes ∷ fields) = Some bytes
 first_word _ = None
-
--- the length of a tuple's second field, if that is a list
-abbrev pub second_length : List FieldValue → ℕ
-second_length (first ∷ numbers ns ∷ fields) = length ns
-second_length _ = 0
 
 -- the word that a template asks for first
 abbrev pub sought_word : List PatternValue → Option (List ℕ)
@@ -37,15 +35,20 @@ list_at length [] = []
 list_at zero (l ∷ ls) = l.items
 list_at (suc length) (l ∷ ls) = list_at length ls
 
--- a class of tuples: the word that they begin with, how many fields they have, and the length of the second, 0 where it is no list
+-- the numbers in a slot of a bucket
+abbrev pub numbers_at : Slot → Bucket → List ℕ
+numbers_at (Length l) b = list_at l b.by_length.items
+numbers_at (Value v) b = list_at v b.by_value.items
+
+-- a class of tuples: the word that they begin with, how many fields they have, and a slot in which they stand
 pub record Class : Type 0 where
   pub word : List ℕ
   pub count : ℕ
-  pub length : ℕ
+  pub slot : Slot
 
--- the class of this first word, this count of fields and this length of the second field
+-- the class of this first word, this count of fields and this length of the second field, 0 where it is no list
 abbrev pub class_of : List ℕ → ℕ → ℕ → Class
-class_of bytes count numbered = record { word = bytes; count = count; length = numbered }
+class_of bytes count numbered = record { word = bytes; count = count; slot = Length numbered }
 
 -- there is a first word, and it is the one sought
 abbrev pub is_word : Option (List ℕ) → List ℕ → Bool
@@ -54,12 +57,12 @@ is_word None sought = false
 
 -- a tuple is one of a class; one that begins with no word is of none
 abbrev pub has_class : Class → List FieldValue → Bool
-has_class class tuple = ((length tuple == class.count) && is_word (first_word tuple) class.word) && (second_length tuple == class.length)
+has_class class tuple = ((length tuple == class.count) && is_word (first_word tuple) class.word) && is_in class.slot tuple
 
 -- the numbers that stand under a class
 abbrev pub numbers_of : Class → List Bucket → List ℕ
 numbers_of class [] = []
-numbers_of class (b ∷ bs) = if is_of class.word class.count b then list_at class.length b.by_length.items else numbers_of class bs
+numbers_of class (b ∷ bs) = if is_of class.word class.count b then numbers_at class.slot b else numbers_of class bs
 
 -- a number is one of them
 abbrev pub is_put : Class → ℕ → List Bucket → Bool
@@ -121,7 +124,23 @@ pub record AreUpTo (last : ℕ) (buckets : List Bucket) : Type 0 where
 abbrev pub IsUnwanted : Wanted → ℕ → List PatternValue → List Entry → ℕ → Type 0
 IsUnwanted wanted moment template entries number = All (λ e. e.number ≡ number → is_wanted wanted moment template e ≡ false) entries
 
--- where a bucket is that of a word and of the template's length, no entry whose number is in it is wanted
+-- where a bucket is that of a word and of the template's length, no entry is wanted whose number is in the slot that the template asks for, or in
+-- any where it asks for none
 abbrev pub HasNoneWanted : List ℕ → Wanted → ℕ → List PatternValue → List Entry → Bucket → Type 0
 HasNoneWanted bytes wanted moment template entries bucket =
-    is_of bytes (length template) bucket ≡ true → All (λ (l : Vec ℕ). All (IsUnwanted wanted moment template entries) l.items) bucket.by_length.items
+    is_of bytes (length template) bucket ≡ true →
+    MatchOption (sought_slot template)
+    (All (λ (l : Vec ℕ). All (IsUnwanted wanted moment template entries) l.items) bucket.by_length.items)
+    (λ s. All (IsUnwanted wanted moment template entries) (numbers_at s bucket))
+
+-- a number was put into the slot of a length, and into that of a value, if there is one
+abbrev pub IsPutIn : ℕ → Option ℕ → ℕ → Bucket → Bucket → Type 0
+IsPutIn long value number old new = (s : Slot) → numbers_at s new ≡ numbers_at s old ++ (if is_slot_of long value s then number ∷ [] else [])
+
+-- a number was taken out of the slots of a tuple
+abbrev pub IsTakenFrom : List FieldValue → ℕ → Bucket → Bucket → Type 0
+IsTakenFrom tuple number old new = (s : Slot) → numbers_at s new ≡ filter (λ n. not (is_in s tuple && (n == number))) (numbers_at s old)
+
+-- the numbers in each slot stayed
+abbrev pub HasSame : Bucket → Bucket → Type 0
+HasSame old new = (s : Slot) → numbers_at s new ≡ numbers_at s old

@@ -8,6 +8,7 @@ pub mod Index
 pub mod Lease
 pub mod Places
 pub mod Rows
+pub mod Slots
 pub mod Space
 pub mod Step
 pub mod Wanted

@@ -1,9 +1,9 @@
 //! Entries in order of number, each found by its number in one look.
 
-ghost use Rattle.std.specs.Prelude.{◌≡◌, ◌≢◌, ◌<◌, ◌≤◌, ◌+◌, ◌==◌, ◌&&◌, ◌++◌, ◌∷◌, [], true, All, IsOk, IsTrue, OnErr, OnOk, filter, find, is_some, option_map};
+ghost use Rattle.std.specs.Prelude.{◌≡◌, ◌≢◌, ◌<◌, ◌≤◌, ◌+◌, ◌==◌, ◌&&◌, ◌++◌, ◌∷◌, [], true, All, IfSome, IsOk, IsTrue, OnErr, OnOk, Some, filter, find, is_some, nat_eq, option_map};
 ghost use Rattle.std.specs.List.{list_any};
 ghost use Rattle.std.specs.Option.{option_copied};
-ghost use Rattle.indexmap.specs.IndexMap.{spare, values};
+ghost use Rattle.indexmap.specs.IndexMap.{get, spare, values};
 ghost use Rattle.tuple_space.specs.Entry.{is_held_by, unheld};
 ghost use Rattle.tuple_space.specs.Entries.{AreInPlaces};
 ghost use Rattle.tuple_space.specs.Places.{holds_one, items_in};
@@ -91,6 +91,17 @@ fn release_in(place: &mut Option<Entry>, holder: u64)
     if let Some(entry) = place {
         entry.holds.release(holder);
     }
+}
+
+/// What the place at an index holds, where it is that of a number.
+fn place_at(places: &Places, index: usize, number: u64) -> Option<&Option<Entry>>
+    ensures { IfSome result (λ place. Some place.now ≡ get nat_eq places.now number) }
+{
+    let (key, place) = places.get_index(index)?;
+    if *key != number {
+        return None;
+    }
+    Some(place)
 }
 
 /// Whether the number is above those of all places.
@@ -182,6 +193,25 @@ impl Entries {
         match self.places.get(&number) {
             Some(place) => place.as_ref(),
             None => None,
+        }
+    }
+
+    /// How far the number is above its place, where it has one: as far as those beside it, unless entries between them have left.
+    pub(crate) fn shift_of(&self, number: u64) -> u64 {
+        match self.places.get_index_of(&number) {
+            Some(place) => number.saturating_sub(place as u64),
+            None => 0,
+        }
+    }
+
+    /// The entry of a number, which is looked for first in the place that is this far below it, and then by its hash. So a walk
+    /// over many numbers that follow each other reads the places in order.
+    pub(crate) fn get_shifted(&self, number: u64, shift: u64) -> Option<&Entry>
+        ensures { option_copied result ≡ find (λ e. e.number == number) self.now.items }
+    {
+        match place_at(&self.places, number.saturating_sub(shift) as usize, number) {
+            Some(place) => place.as_ref(),
+            None => self.get(number),
         }
     }
 

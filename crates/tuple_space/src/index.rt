@@ -1,13 +1,28 @@
 //! Where entries stand: the numbers of those whose tuples begin with a word, by that word and how many fields they have.
 
-ghost use Rattle.std.specs.Prelude.{ℕ, ◌≡◌, ◌≢◌, ◌<◌, ◌==◌, ◌++◌, ◌∷◌, [], true, false, not, All, IfNone, IfOk, IfSome, OnErr, OnOk, filter, length, vec_len};
+ghost use Rattle.std.specs.Prelude.{ℕ, ◌≡◌, ◌≢◌, ◌<◌, ◌-◌, ◌%◌, ◌==◌, ◌++◌, ◌∷◌, [], true, false, not, All, IfNone, IfOk, IfSome, OnErr, OnOk, filter, length, take, unsigned_abs, vec_len};
 ghost use Rattle.std.specs.List.{AllWithin, HoldsAt};
 ghost use Rattle.std.specs.Option.{option_copied};
 ghost use Rattle.tuple_space.specs.Held.{AreRising};
-ghost use Rattle.tuple_space.specs.Index.{AreOnce, AreOrdered, AreSame, IsAdded, IsDropped, class_of, first_word, is_of, list_at, numbers_of, second_length, sought_word};
+ghost use Rattle.tuple_match.specs.Field.{field_value};
+ghost use Rattle.tuple_space.specs.Index.{AreOnce, AreOrdered, AreSame, HasSame, IsAdded, IsDropped, IsPutIn, IsTakenFrom, class_of, first_word, is_of, key, list_at, numbers_at, numbers_of, sought_word};
+ghost use Rattle.tuple_space.specs.Slots.{second_length, second_value, slot_of, sought_slot, value_of, word_value};
+ghost use Rattle.tuple_space.specs.declared.index.Slot.{Slot};
 
 use std::alloc::AllocError;
-use tuple_match::{Pattern, Template, Tuple};
+use tuple_match::{Field, Pattern, Template, Tuple};
+
+/// How many values there are under which second fields stand that are no lists.
+const VALUES: usize = 256;
+
+/// Where numbers stand in a bucket.
+#[derive(Clone, Copy, Debug, PartialEq, Eq)]
+pub(crate) enum Slot {
+    /// Under the length of the second field, 0 where it is no list.
+    Length(usize),
+    /// Under the value of the second field, which is no list.
+    Value(usize),
+}
 
 /// The numbers of the entries whose tuples begin with one word and have one count of fields.
 #[derive(Debug, Drop)]
@@ -18,6 +33,8 @@ pub(crate) struct Bucket {
     pub(crate) count: usize,
     /// The numbers in rising order, by the length of the second field where that is a list; 0 for all others.
     pub(crate) by_length: Vec<Vec<u64>>,
+    /// Those whose second field is no list, in rising order, by its value.
+    pub(crate) by_value: Vec<Vec<u64>>,
 }
 
 /// The word that a tuple begins with.
@@ -40,6 +57,68 @@ fn second_length(tuple: &Tuple) -> usize
             None => 0,
         },
         _ => 0,
+    }
+}
+
+/// The value under which a number stands.
+fn number_value(number: i128) -> usize
+    ensures { result ≡ unsigned_abs number % 256 }
+{
+    (number.unsigned_abs() % VALUES as u128) as usize
+}
+
+/// The value under which a word stands.
+fn word_value(word: &[u8]) -> usize
+    ensures { result ≡ word_value word.now }
+{
+    let mut value = 0;
+    for place in (0..word.len()).rev() {
+        value = (usize::from(word[place]) + 31 * value) % VALUES;
+    }
+    value
+}
+
+/// The value under which a field stands, if it is no list.
+fn value_of(field: &Field) -> Option<usize>
+    ensures { result ≡ value_of (field_value field.now) }
+{
+    if let Some(number) = field.as_int() {
+        return Some(number_value(number));
+    }
+    match field.as_word_bytes() {
+        Some(word) => Some(word_value(word)),
+        None => None,
+    }
+}
+
+/// The value under which a tuple's second field stands, if there is one that is no list.
+fn second_value(tuple: &Tuple) -> Option<usize>
+    ensures { result ≡ second_value tuple.now }
+{
+    match tuple.fields() {
+        [_, second, ..] => value_of(second),
+        _ => None,
+    }
+}
+
+/// Where a tuple with this second field stands.
+fn slot_of(field: &Field) -> Slot
+    ensures { result ≡ slot_of (field_value field.now) }
+{
+    match (value_of(field), field.as_list()) {
+        (Some(value), _) => Slot::Value(value),
+        (None, Some(numbers)) => Slot::Length(numbers.len()),
+        (None, None) => unreachable!(),
+    }
+}
+
+/// Where the tuples stand whose second field is the one that a template asks for, if it asks for one field.
+pub(crate) fn sought_slot(template: &Template) -> Option<Slot>
+    ensures { result ≡ sought_slot template.now }
+{
+    match template.patterns() {
+        [_, Pattern::Is(field), ..] => Some(slot_of(field)),
+        _ => None,
     }
 }
 
@@ -90,10 +169,12 @@ fn place_for(buckets: &mut Vec<Bucket>, word: &[u8], count: usize) -> Result<usi
     let alloc = *buckets.allocator();
     let word = Vec::from_slice(alloc, word)?;
     let by_length = Vec::new(alloc);
+    let by_value = Vec::new(alloc);
     buckets.push(Bucket {
         word,
         count,
         by_length,
+        by_value,
     })?;
     Ok(place)
 }
@@ -112,6 +193,7 @@ fn grow(lists: &mut Vec<Vec<u64>>, length: usize) -> Result<(), AllocError>
 
 /// Puts a number behind those of a length.
 fn put_number(lists: &mut Vec<Vec<u64>>, length: usize, number: u64) -> Result<(), AllocError>
+    ensures long { OnOk result (length < vec_len lists.new) }
     ensures put { OnOk result (list_at length lists.new.items ≡ list_at length lists.old.items ++ number ∷ []) }
     ensures err { OnErr result (list_at length lists.new.items ≡ list_at length lists.old.items) }
     ensures others { (l : ℕ) → l ≢ length → list_at l lists.new.items ≡ list_at l lists.old.items }
@@ -119,6 +201,76 @@ fn put_number(lists: &mut Vec<Vec<u64>>, length: usize, number: u64) -> Result<(
     grow(lists, length)?;
     lists[length].push(number)?;
     Ok(())
+}
+
+/// Takes the number that was put last out of a list.
+fn take_back(lists: &mut Vec<Vec<u64>>, place: usize)
+    requires { place < vec_len lists.old }
+    ensures back { list_at place lists.new.items ≡ take (length (list_at place lists.old.items) - 1) (list_at place lists.old.items) }
+    ensures others { (l : ℕ) → l ≢ place → list_at l lists.new.items ≡ list_at l lists.old.items }
+{
+    let last = lists[place].len().saturating_sub(1);
+    lists[place].truncate(last);
+}
+
+/// Puts a number behind those of a length and of a value, or behind neither.
+fn put_both(bucket: &mut Bucket, length: usize, value: usize, number: u64) -> Result<(), AllocError>
+    ensures key { key bucket.new ≡ key bucket.old }
+    ensures put { OnOk result (IsPutIn length (Some value) number bucket.old bucket.new) }
+    ensures err { OnErr result (HasSame bucket.old bucket.new) }
+{
+    put_number(&mut bucket.by_value, value, number)?;
+    let Err(error) = put_number(&mut bucket.by_length, length, number) else {
+        return Ok(());
+    };
+    take_back(&mut bucket.by_value, value);
+    Err(error)
+}
+
+/// Puts the number of a tuple into its slots of a bucket. Refused memory, it is in none.
+fn put_in(bucket: &mut Bucket, tuple: &Tuple, number: u64) -> Result<(), AllocError>
+    ensures key { key bucket.new ≡ key bucket.old }
+    ensures put { OnOk result (IsPutIn (second_length tuple.now) (second_value tuple.now) number bucket.old bucket.new) }
+    ensures err { OnErr result (HasSame bucket.old bucket.new) }
+{
+    let length = second_length(tuple);
+    match second_value(tuple) {
+        Some(value) => put_both(bucket, length, value, number),
+        None => put_number(&mut bucket.by_length, length, number),
+    }
+}
+
+/// Takes the number of a tuple out of its slots of a bucket.
+fn take_from(bucket: &mut Bucket, tuple: &Tuple, number: u64)
+    requires { (s : Slot) → AreRising (numbers_at s bucket.old) }
+    ensures key { key bucket.new ≡ key bucket.old }
+    ensures taken { IsTakenFrom tuple.now number bucket.old bucket.new }
+{
+    take_number(&mut bucket.by_length, second_length(tuple), number);
+    if let Some(value) = second_value(tuple) {
+        take_number(&mut bucket.by_value, value, number);
+    }
+}
+
+/// The numbers in a slot of a bucket.
+pub(crate) fn numbers_at(bucket: &Bucket, slot: Slot) -> &[u64]
+    ensures { result.now ≡ numbers_at slot bucket.now }
+{
+    match slot {
+        Slot::Length(length) => numbers_in(&bucket.by_length, length),
+        Slot::Value(value) => numbers_in(&bucket.by_value, value),
+    }
+}
+
+/// The numbers of a list.
+fn numbers_in(lists: &[Vec<u64>], place: usize) -> &[u64]
+    ensures { result.now ≡ list_at place lists.now }
+{
+    if place < lists.len() {
+        lists[place].as_slice()
+    } else {
+        &[]
+    }
 }
 
 /// How many numbers stand under a class: under a word and a count of fields, those of a length.
@@ -178,8 +330,7 @@ pub(crate) fn add_entry(
         return Ok(());
     };
     let place = place_for(buckets, word, tuple.fields().len())?;
-    put_number(&mut buckets[place].by_length, second_length(tuple), number)?;
-    Ok(())
+    put_in(&mut buckets[place], tuple, number)
 }
 
 /// Takes the number of a tuple out of its bucket.
@@ -192,6 +343,6 @@ pub(crate) fn drop_entry(buckets: &mut Vec<Bucket>, tuple: &Tuple, number: u64)
         return;
     };
     if let Some(place) = place_of_bucket(buckets, word, tuple.fields().len()) {
-        take_number(&mut buckets[place].by_length, second_length(tuple), number);
+        take_from(&mut buckets[place], tuple, number);
     }
 }

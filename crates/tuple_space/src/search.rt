@@ -10,7 +10,7 @@ ghost use Rattle.tuple_space.specs.Rows.{IsRising};
 use crate::admission::{can_be_had, is_counted};
 use crate::entries::Entries;
 use crate::entry::{Claim, Entry};
-use crate::index::{Bucket, is_of, sought_word};
+use crate::index::{Bucket, is_of, numbers_at, sought_slot, sought_word};
 use tuple_match::Template;
 
 /// Which entries are wanted, of those whose tuples a template asks for.
@@ -70,10 +70,11 @@ fn newest_wanted<'a>(
     None
 }
 
-/// The entry of a number, where it is wanted.
+/// The entry of a number, where it is wanted. It is looked for first in the place that is this far below the number.
 fn entry_if_wanted<'a>(
     entries: &'a Entries,
     number: u64,
+    shift: u64,
     wanted: Wanted,
     moment: u64,
     template: &Template,
@@ -83,11 +84,19 @@ fn entry_if_wanted<'a>(
     ensures stands { IfSome result (λ e. Contains entries.now.items e.now) }
     ensures can { IfSome result (λ e. is_wanted wanted moment template.now e.now ≡ true) }
 {
-    let entry = entries.get(number)?;
+    let entry = entries.get_shifted(number, shift)?;
     if !is_wanted(entry, wanted, moment, template) {
         return None;
     }
     Some(entry)
+}
+
+/// How far the last of these numbers is above its place.
+fn last_shift(entries: &Entries, numbers: &[u64]) -> u64 {
+    match numbers.last() {
+        Some(number) => entries.shift_of(*number),
+        None => 0,
+    }
 }
 
 /// The entry that is wanted whose number stands last among these.
@@ -103,8 +112,9 @@ fn last_wanted<'a>(
     ensures stands { IfSome result (λ e. Contains entries.now.items e.now) }
     ensures can { IfSome result (λ e. is_wanted wanted moment template.now e.now ≡ true) }
 {
+    let shift = last_shift(entries, numbers);
     for i in (0..numbers.len()).rev() {
-        if let Some(entry) = entry_if_wanted(entries, numbers[i], wanted, moment, template) {
+        if let Some(entry) = entry_if_wanted(entries, numbers[i], shift, wanted, moment, template) {
             return Some(entry);
         }
     }
@@ -132,7 +142,8 @@ fn longest_wanted<'a>(
     None
 }
 
-/// The entry that is wanted whose number stands so in a bucket, where the bucket is that of a word and of the template's length.
+/// The entry that is wanted whose number stands so in a bucket, where the bucket is that of a word and of the template's length: in the
+/// slot of the second field, if the template asks for one field there.
 fn wanted_in_bucket<'a>(
     entries: &'a Entries,
     bucket: &Bucket,
@@ -149,7 +160,10 @@ fn wanted_in_bucket<'a>(
     if !is_of(bucket, word, template.patterns().len()) {
         return None;
     }
-    longest_wanted(entries, &bucket.by_length, wanted, moment, template)
+    match sought_slot(template) {
+        Some(slot) => last_wanted(entries, numbers_at(bucket, slot), wanted, moment, template),
+        None => longest_wanted(entries, &bucket.by_length, wanted, moment, template),
+    }
 }
 
 /// The entry that is wanted whose number stands so in the bucket of a word and of the template's length.

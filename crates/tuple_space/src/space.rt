@@ -231,6 +231,19 @@ impl Space {
         self.entries.get(number)
     }
 
+    /// How far the number is above the place of its entry, for walks by `entry_shifted`; 0 where it has none.
+    pub fn shift_of(&self, number: u64) -> u64 {
+        self.entries.shift_of(number)
+    }
+
+    /// The entry of a number, which is looked for first in the place that is this far below it: numbers that follow each other are
+    /// this far above their places, unless entries between them have left.
+    pub fn entry_shifted(&self, number: u64, shift: u64) -> Option<&Entry>
+        ensures { option_copied result ≡ find (λ e. e.number == number) self.now.entries }
+    {
+        self.entries.get_shifted(number, shift)
+    }
+
     /// The tuple of the entry of a number.
     pub fn tuple(&self, id: EntryId) -> Option<&Tuple>
         ensures { option_copied result ≡ option_map (λ e. e.tuple) (find (λ e. e.number == id) self.now.entries) }

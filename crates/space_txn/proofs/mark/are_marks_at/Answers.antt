@@ -8,4 +8,4 @@ returns c =
     let marks = c.args.marks.now.items in
     let rows = c.args.rows.now in
     let behind = c.loop-row.invariant in
-    rw c.len.ensures (Tracks-forth mark marks rows c.loop-row.place c.loop-row.row-index c.loop-row-test.false behind.tracks, Tracks-back mark marks rows c.loop-row.place c.loop-row.row-index c.loop-row-test.false behind.within behind.tracks)
+    rw c.len.ensures.len (Tracks-forth mark marks rows c.loop-row.place c.loop-row.row-index c.loop-row-test.false behind.tracks, Tracks-back mark marks rows c.loop-row.place c.loop-row.row-index c.loop-row-test.false behind.within behind.tracks)

@@ -11,8 +11,8 @@ use Rattle.tuple_space.proofs.index.drop_entry.Goals as goal
 pub returns-in_default-clause-dropped : goal.returns-in_default-clause-dropped
 returns-in_default-clause-dropped c = dropped_classless c.args.buckets.now.items c.args.tuple.now c.args.number c.in_default.ensures
 
-pub take_number-requires : goal.take_number-requires
-take_number-requires c =
+pub take_from-requires : goal.take_from-requires
+take_from-requires c =
     let bytes = c.in-Some.word.now in
     let counted : length c.fields.result.now ≡ length c.args.tuple.now = sym (length-map c.fields.result.now field_value) ∙ ap length c.fields.ensures.value in
     let buckets = c.args.buckets.now.items in
@@ -26,7 +26,7 @@ take_number-requires c =
       of = ap (is_of bytes (length c.args.tuple.now)) is ∙ subst (λ n. HoldsAt (λ (x : Bucket). is_of bytes n x ≡ true) buckets i) counted found.is b;
       before = subst (λ n. AllWithin (λ (x : Bucket). is_of bytes n x ≡ false) buckets 0 i) counted found.before;
     } in
-    rw c.second_length.ensures (rising_there buckets i b c.args.tuple.now bytes c.in-Some.ensures first c.requires)
+    rising_there buckets i b bytes (length c.args.tuple.now) first c.requires
 
 pub returns-in-Some-place_of_bucket-clause-dropped : goal.returns-in-Some-place_of_bucket-clause-dropped
 returns-in-Some-place_of_bucket-clause-dropped c =
@@ -43,13 +43,11 @@ returns-in-Some-place_of_bucket-clause-dropped c =
       of = ap (is_of bytes (length c.args.tuple.now)) is ∙ subst (λ n. HoldsAt (λ (x : Bucket). is_of bytes n x ≡ true) buckets i) counted found.is b;
       before = subst (λ n. AllWithin (λ (x : Bucket). is_of bytes n x ≡ false) buckets 0 i) counted found.before;
     } in
-    let others = rw c.second_length.ensures at c.take_number.ensures.others in
-    let gone = rw c.second_length.ensures at c.take_number.ensures.gone in
-    dropped_there buckets i b c.take_number.new.lists c.args.tuple.now bytes c.in-Some.ensures first others c.args.number gone
+    dropped_there buckets i b c.take_from.new.bucket c.args.tuple.now bytes c.in-Some.ensures first c.take_from.ensures.key c.args.number c.take_from.ensures.taken
 
 pub returns-in-Some-place_of_bucket-clause-once : goal.returns-in-Some-place_of_bucket-clause-once
 returns-in-Some-place_of_bucket-clause-once c = λ once.
-    once_set c.args.buckets.now.items c.in-Some-place_of_bucket.place c.index_mut.result.now c.take_number.new.lists c.index_mut.ensures.value once
+    once_set c.args.buckets.now.items c.in-Some-place_of_bucket.place c.index_mut.result.now c.take_from.new.bucket c.index_mut.ensures.value c.take_from.ensures.key once
 
 pub returns-in_default-place_of_bucket-clause-dropped : goal.returns-in_default-place_of_bucket-clause-dropped
 returns-in_default-place_of_bucket-clause-dropped c =
