@@ -47,6 +47,7 @@ best_there S content h =
     let itself = is_it-itself w in
     contained content w (omega arith)
 
+-- a tuple of a best permutation in the content is that of the one that the law names
 pub best_only : (S : Part) (content : Content) (b : Best) → (h : IsSearched S content) → Contains content (best_tuple b) → b ≡ h.best
 best_only S content b h at =
     let w = best_tuple b in
@@ -64,6 +65,7 @@ open_length (o ∷ os) =
     let rest = open_length os in
     omega arith
 
+-- the content has as many tuples of open nodes as the law names
 pub open_counted : (S : Part) (content : Content) → (h : IsSearched S content) → open_count content ≡ length h.opens
 open_counted S content h =
     let all = h.tuples (λ (t : List FieldValue). cond (is_open t) 1 0) in
@@ -76,6 +78,7 @@ no_opens : (opens : List OpenNode) (P : OpenNode → Type 0) → length opens �
 no_opens [] P none = All-nil P
 no_opens (o ∷ os) P none = absurd (omega arith)
 
+-- where no node is open, no completion of the root costs less than the best permutation
 pub optimal : (S : Part) (content : Content) → (h : IsSearched S content) → open_count content ≡ 0 → IsClosed S.instance S.root h.best.cost
 optimal S content h none =
     let counted = open_counted S content h in

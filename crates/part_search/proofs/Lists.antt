@@ -10,6 +10,7 @@ pub All-front : {X : Type 0} (P : X → Type 0) (xs ys : List X) → All P (xs +
 All-front P [] ys h = All-nil P
 All-front P (x ∷ xs) ys h = All-cons P x xs (All-head P x (xs ++ ys) h) (All-front P xs ys (All-tail P x (xs ++ ys) h))
 
+-- what holds of all elements of two lists in succession holds of those of the second
 pub All-back : {X : Type 0} (P : X → Type 0) (xs ys : List X) → All P (xs ++ ys) → All P ys
 All-back P [] ys h = h
 All-back P (x ∷ xs) ys h = All-back P xs ys (All-tail P x (xs ++ ys) h)
@@ -29,6 +30,7 @@ sum_by-images f g (x ∷ xs) ys =
     let rest = sum_by-images f g xs ys in
     omega arith
 
+-- a whole number as a natural one, 0 where it is negative
 abbrev pub natural : ℤ → ℕ
 natural (pos n) = n
 natural (negsuc n) = 0

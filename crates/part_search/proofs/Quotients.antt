@@ -45,6 +45,7 @@ pair_bounded I p i j is hi hj pi pj =
     let most = mul-le (unsigned_abs (entry I.size I.a i j)) (unsigned_abs (entry I.size I.b (get_or p i 0) (get_or p j 0))) (10 ^ 9) (10 ^ 9) a b in
     omega (arith, product, most)
 
+-- no completion of a node of an instance costs less than the least that any permutation can cost
 pub root_closed : (I : Problem) (x : Placement) → IsInstance I → x.size ≡ I.size → IsClosed I x (negsuc 65535999999999999999999)
 root_closed I x is size = record {
   least = λ p done.

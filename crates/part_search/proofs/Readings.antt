@@ -28,6 +28,7 @@ counted _ = pos 0
 abbrev pub list_at : ℕ → List FieldValue → List ℤ
 list_at k t = listed (get_or t k (number (pos 0)))
 
+-- the number in a field of a tuple
 abbrev pub number_at : ℕ → List FieldValue → ℤ
 number_at k t = counted (get_or t k (number (pos 0)))
 
@@ -55,12 +56,15 @@ one_from : (b : Bool) → 1 ≤ cond b 1 0 → b ≡ true
 one_from true h = refl
 one_from false h = absurd (omega arith)
 
+-- a tuple that counts as the wanted one is that
 pub is_it-found : (wanted t : List FieldValue) → 1 ≤ is_it wanted t → t ≡ wanted
 is_it-found wanted t h = (Decides-tuple_eq t wanted).0 (one_from (tuple_eq t wanted) h)
 
+-- a tuple counts as itself
 pub is_it-itself : (t : List FieldValue) → is_it t t ≡ 1
 is_it-itself t = ap (λ b. cond b 1 0) ((Decides-tuple_eq t t).1 refl)
 
+-- a tuple of another kind does not
 pub is_it-other : (wanted t : List FieldValue) → tag t ≢ tag wanted → is_it wanted t ≡ 0
 is_it-other wanted t different =
     cond_both (tuple_eq t wanted) 1 0 (λ (n : ℕ). n ≡ 0) (λ e. absurd (different (ap tag ((Decides-tuple_eq t wanted).0 e)))) (λ e. refl)

@@ -53,6 +53,7 @@ All-apart P front back one h =
     let behind = All-back P front (one ∷ back) h in
     (All-head P one back behind, All-append P front back (All-front P front (one ∷ back) h) (All-tail P one back behind))
 
+-- what holds of an element and of all others holds of all
 pub All-together : (P : OpenNode → Type 0) (front back : List OpenNode) (one : OpenNode) → P one → All P (front ++ back) → All P (front ++ one ∷ back)
 All-together P front back one here h = All-append P front (one ∷ back) (All-front P front back h) (All-cons P one back here (All-back P front back h))
 
@@ -73,6 +74,7 @@ covers_on I root c d front back new one less old own = record {
       (All-together P front back one (own.below g under (All-front P new (front ++ back) all)) (All-back P new (front ++ back) all));
 }
 
+-- an allowed commit keeps the law
 pub replacement : (S : Part) (gone kept added rest : Content) → MayReplace S.instance gone kept added → IsSearched S (gone ++ (kept ++ rest)) → IsSearched S (added ++ (kept ++ rest))
 replacement S gone kept added rest m h =
     let I = S.instance in
@@ -127,6 +129,7 @@ replacement S gone kept added rest m h =
       covers = covers_on I S.root h.best.cost m.new.cost p.front p.back m.opens p.one less (subst (IsCovered I S.root h.best.cost) p.are h.covers) covered;
     }
 
+-- the root with a value that bounds it, and the start, satisfy the law
 pub opening : (S : Part) (value : ℤ) → IsPart S → IsClosed S.instance S.root value → IsSearched S (node_tuple (record { node = S.root; value = value }) ∷ best_tuple S.start ∷ [])
 opening S value h closed =
     let o : OpenNode = record { node = S.root; value = value } in
@@ -144,6 +147,7 @@ opening S value h closed =
       covers = record { below = λ g under all. All-head (IsAbove S.instance g) o [] all };
     }
 
+-- the law does not depend on the order of the tuples
 pub reordered : (S : Part) (content other : Content) → SameItems content other → IsSearched S content → IsSearched S other
 reordered S content other same h = record {
   best = h.best;
@@ -159,8 +163,10 @@ reordered S content other same h = record {
 pub searched_unordered : (S : Part) → IsUnordered (λ content commits. IsSearched S content)
 searched_unordered S xs ys commits same h = reordered S xs ys same h
 
+-- the law is kept by allowed commits
 pub searched_kept : (S : Part) → IsKept (λ content commits. IsSearched S content) (MayReplace S.instance)
 searched_kept S gone kept added rest commits m h = replacement S gone kept added rest m h
 
+-- the law of the search, as a law of a space
 pub searched_law : (S : Part) → IsLawOf S (λ content commits. IsSearched S content) (MayReplace S.instance)
 searched_law S = record { is_searched = λ xs commits h. h; is_lawful = λ xs commits h. h; may_replace = λ gone kept added h. h }

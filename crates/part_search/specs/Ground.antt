@@ -21,6 +21,7 @@ pub record IsFreeChild (y : Placement) (child : OpenChild) : Type 0 where
   pub facility : IsFreeFacility y child.facility
   pub location : IsFreeLocation y child.location
 
+-- its node
 abbrev pub node_part : Open → Placement
 node_part o = o.node
 

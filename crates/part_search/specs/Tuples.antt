@@ -12,6 +12,7 @@ pub record OpenNode : Type 0 where
   pub node : Placement
   pub value : ℤ
 
+-- an open node as the tuples have it
 abbrev pub open_of : Open → OpenNode
 open_of o = record { node = o.node; value = o.value }
 

@@ -7,13 +7,13 @@ ghost use Rattle.pair_duals.specs.CostStep.{Divides, step_of};
 ghost use Rattle.subtree_search.specs.Best.{IsIncumbent};
 ghost use Rattle.proof_search.specs.Found.{AreLinesOf};
 
-use dual_ascent::{ascend, has_range};
-use pair_duals::{PairDuals, cost_step};
+use dual_ascent::{Effort, ascend_softly, has_range};
+use pair_duals::cost_step;
 use qap_cost::{Instance, Partial, Perm};
 use qap_symmetry::{Table, symmetries_of};
 use std::alloc::{AllocError, Global};
 use std::marker::Model;
-use subtree_search::{Incumbent, Outcome, Stop, Subtree, SubtreeSearch, TextRecord};
+use subtree_search::{Incumbent, Stop, Subtree, SubtreeSearch, TextRecord};
 
 /// An instance with the symmetries of its matrices, its cost step, a number of 64 bits that divides that, and the scale of pair duals. It
 /// is seen as the instance.
@@ -70,14 +70,13 @@ impl Ground {
         &self.instance
     }
 
-    /// Searches the subtree below a node, under pair duals of it that this many rounds find, and improves the incumbent: the text of a
-    /// tree over the node, or `None` where the stop said so.
+    /// Searches the subtree below a node, first under pair duals of it that soft sweeps and then this many rounds find, and improves the
+    /// incumbent: the text of a tree over the node, or `None` where the stop said so.
     pub fn solve<S: Stop>(
         &self,
         alloc: Global,
         search: &mut SubtreeSearch,
         node: &Partial,
-        start: Option<&PairDuals<i64>>,
         rounds: u32,
         incumbent: &mut Incumbent,
         stop: &S,
@@ -88,7 +87,11 @@ impl Ground {
         ensures incumbent { IsIncumbent self.now incumbent.new }
         ensures no_worse { incumbent.new.cost ≤ℤ incumbent.old.cost }
     {
-        let duals = ascend(alloc, &self.instance, node, start, rounds, self.scale)?;
+        let effort = Effort {
+            rounds,
+            ..Effort::root()
+        };
+        let duals = ascend_softly(alloc, &self.instance, node, None, &effort, self.scale)?;
         let subtree = Subtree {
             instance: &self.instance,
             node,
@@ -98,10 +101,10 @@ impl Ground {
             distances: &self.distances,
         };
         let mut tree = TextRecord::new(alloc);
-        match search.search(&subtree, incumbent, u64::MAX, stop, &mut tree)? {
-            Outcome::Closed => Ok(Some(tree)),
-            Outcome::Stopped => Ok(None),
-            Outcome::LimitReached => Err(AllocError),
+        if search.prove(&subtree, incumbent, stop, &mut tree)? {
+            Ok(Some(tree))
+        } else {
+            Ok(None)
         }
     }
 }

@@ -20,12 +20,12 @@ pub struct Found {
     pub nodes: u64,
 }
 
-/// Searches the completions of a root, whose facilities ascend, under pair duals of that root, and proves that none of them costs less
-/// than the best permutation known at the end, which is the start where none that costs less was found. The pair duals have this scale,
-/// and are found by this many rounds.
+/// Searches the completions of a root, whose facilities ascend, and proves that none of them costs less than the best permutation known
+/// at the end, which is the start where none that costs less was found. The root has pair duals of this scale, which soft sweeps and then
+/// this many rounds find, and so has each node below it whose trial under those of a node above ends at its limit.
 ///
 /// There is no proof where the instance is out of range for the scale (`dual_ascent::has_range`), and where the stop said so. The error
-/// is want of memory; it is reported as well where 2^64 - 1 nodes were evaluated, which takes thousands of years.
+/// is want of memory.
 pub fn prove<S: Stop>(
     alloc: Global,
     instance: &Instance,
@@ -48,7 +48,7 @@ pub fn prove<S: Stop>(
     step_law();
     let mut search = SubtreeSearch::new(alloc);
     let mut incumbent = Incumbent::new(instance, start);
-    let found = ground.solve(alloc, &mut search, root, None, rounds, &mut incumbent, stop)?;
+    let found = ground.solve(alloc, &mut search, root, rounds, &mut incumbent, stop)?;
     let nodes = search.nodes();
     let Some(tree) = found else {
         return Ok(Found { proof: None, nodes });

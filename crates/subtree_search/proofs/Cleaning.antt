@@ -20,6 +20,7 @@ use Rattle.subtree_search.specs.Clean.{clean, without_columns, without_rows}
 
 -- ---- layers
 
+-- the place of a dual lies within its list
 pub place-within : (m j i k : ℕ) → j < m → i < m → k < m → (j * m + i) * m + k < cube m
 place-within m j i k hj hi hk = let row = row_in_layers m j i hj hi in omega (arith, row, hk)
 
@@ -65,15 +66,19 @@ columns-none m xs i k hi hk =
 
 -- ---- the duals
 
+-- cleaning keeps each dual of two different facilities
 pub alpha-kept : (D : Duals) (i k j : ℕ) → i < length D.facilities → k < length D.facilities → j < length D.facilities → i ≢ j → alpha_of (clean D) i k j ≡ alpha_of D i k j
 alpha-kept D i k j hi hk hj apart = rows-kept (length D.facilities) D.alpha j i k hj hi hk apart
 
+-- and each dual of two different locations
 pub beta-kept : (D : Duals) (i k l : ℕ) → i < length D.facilities → k < length D.facilities → l < length D.facilities → k ≢ l → beta_of (clean D) i k l ≡ beta_of D i k l
 beta-kept D i k l hi hk hl apart = columns-kept (length D.facilities) D.beta l i k hl hi hk apart
 
+-- a facility has no dual with itself
 pub alpha-none : (D : Duals) (i k : ℕ) → i < length D.facilities → k < length D.facilities → alpha_of (clean D) i k i ≡ pos 0
 alpha-none D i k hi hk = rows-none (length D.facilities) D.alpha i k hi hk
 
+-- and neither has a location
 pub beta-none : (D : Duals) (i k : ℕ) → i < length D.facilities → k < length D.facilities → beta_of (clean D) i k k ≡ pos 0
 beta-none D i k hi hk = columns-none (length D.facilities) D.beta i k hi hk
 
@@ -89,6 +94,7 @@ residual-kept I D i k j l hi hk hj hl rows columns =
     (ap₂ ◌+ℤ◌ (alpha-kept D i k j hi hk hj rows) (beta-kept D i k l hi hk hl columns))
     (ap₂ ◌+ℤ◌ (alpha-kept D j l i hj hl hi back) (beta-kept D j l k hj hl hk behind))
 
+-- cleaned pair duals fit where the given ones do
 pub Fit-clean : (I : Problem) (D : Duals) → IsEven D → Fit I D → Fit I (clean D)
 Fit-clean I D even fit = record {
   below = λ i k j l hi hk hj hl rows columns.
@@ -140,6 +146,7 @@ sum_but-same : (k : ℕ) (f g : ℕ → ℤ) (n : ℕ) → ((j : ℕ) → j < n 
 sum_but-same k f g n each =
     sum_to-same (λ j. cond (nat_eq j k) (pos 0) (f j)) (λ j. cond (nat_eq j k) (pos 0) (g j)) n (λ j below. but-same k j (f j) (g j) (each j below))
 
+-- a form at the start is one under the cleaned duals
 pub IsStart-clean : (I : Problem) (D : Duals) (y : Placement) (R : Form) → IsEven D → IsPlacement y → IsStart I D y R → IsStart I (clean D) y R
 IsStart-clean I D y R even is start =
     let n = start.numbers in
@@ -163,9 +170,11 @@ IsStart-clean I D y R even is start =
           start.entries r c hr hc ∙ ap₂ (λ x z. pos D.scale *ℤ linear_cost I y (get_or (free_facilities y) r 0) (get_or (free_locations y) c 0) +ℤ (x +ℤ z)) alphas betas;
     }
 
+-- a number that is passed over is not reached
 pub past-other : (h k : ℕ) → past h k ≢ h
 past-other h k same = skip-other h k (sym (past-skip h k) ∙ same)
 
+-- the others stay within the range
 pub past-within : (h k n : ℕ) → k + 1 < n → past h k < n
 past-within h k n below =
     elim (cases_lt k h) [
@@ -173,6 +182,7 @@ past-within h k n below =
       | inr more ↦ let is = cond-false (nat_lt k h) k (k + 1) (le-ltb k h more) in omega (arith, is, below)
     ]
 
+-- the form of a child is one under the cleaned duals
 pub IsChild-clean : (I : Problem) (D : Duals) (y : Placement) (old new : Form) (h g : ℕ) → IsEven D → IsPlacement y → AreNumbers D y old.rows old.columns → h < count_of old → g < count_of old → IsChild I D old h g new → IsChild I (clean D) old h g new
 IsChild-clean I D y old new h g even is n hh hg child =
     let m = length D.facilities in
@@ -197,6 +207,7 @@ IsChild-clean I D y old new h g even is n hh hg child =
           (rows-apart D y old.rows old.columns row h is n row_in hh (past-other h r)) (columns-apart D y old.rows old.columns col g is n col_in g_in (past-other g c))));
     }
 
+-- so is any form of a node
 pub IsFormOf-clean : (I : Problem) (D : Duals) (y : Placement) (R : Form) → IsEven D → IsPlacement y → IsFormOf I D y R → IsFormOf I (clean D) y R
 IsFormOf-clean I D y R even is form =
     let n = form.numbers in

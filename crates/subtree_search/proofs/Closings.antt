@@ -72,6 +72,7 @@ value-whole I D y R p is form none done =
     let pairs : sum_of_pairs (left_of_pair I D R.rows R.columns seat) (count_of R) ≡ pos 0 = ap (sum_of_pairs (left_of_pair I D R.rows R.columns seat)) none in
     omega (arith, ints, all, entries, pairs)
 
+-- the value of a node that places all facilities reaches what its permutation costs
 pub Reaches-whole : (I : Problem) (D : Duals) (step : ℕ) (y : Placement) (R : Form) (p : List ℕ) (c : ℤ) → IsNode I D step y R → 0 < D.scale → count_of R ≡ 0 → Completes y p → c ≤ℤ cost_of I p → Reaches I D.scale c R.value
 Reaches-whole I D step y R p c n positive none done most = Reaches-cost I D.scale c (cost_of I p) R.value positive (value-whole I D y R p n.placement n.form none done) most
 
@@ -97,6 +98,7 @@ ReachesTrivially-whole I scale c R t closes none has reaches =
 at_most : (c : ℤ) → c ≤ℤ c
 at_most c = omega (arith, ints)
 
+-- a node whose least entries reach c is closed
 pub IsClosed-trivially : (I : Problem) (D : Duals) (step : ℕ) (y : Placement) (R : Form) (c : ℤ) → IsNode I D step y R → ReachesTrivially I D.scale c R → IsClosed I y c
 IsClosed-trivially I D step y R c n closes = record {
   least = Bounded-reached I (step_of I) D.scale c (R.value +ℤ (total closes.u +ℤ total closes.v)) y n.size (step-divides I) (closes.reaches c (at_most c))
@@ -107,13 +109,16 @@ IsClosed-trivially I D step y R c n closes = record {
       omega (arith, ints, below, us, vs));
 }
 
+-- so is one whose value does, after a line
 pub IsClosed-by_value : (I : Problem) (D : Duals) (step : ℕ) (y : Placement) (R : Form) (c : ℤ) → IsNode I D step y R → IsNonNegative R → Reaches I D.scale c R.value → IsClosed I y c
 IsClosed-by_value I D step y R c n least reaches =
     record { least = Bounded-reached I (step_of I) D.scale c R.value y n.size (step-divides I) (reaches c (at_most c)) (λ p done. value-le I D y R p n.placement n.sound.fit n.form least done) }
 
+-- a child of a node is a node
 pub IsPlacement-child : (y : Placement) (h g : ℕ) → IsPlacement y → h < length (free_facilities y) → g < length (free_locations y) → IsPlacement (child_at y h g)
 IsPlacement-child y h g is rows columns = IsPlacement-placing y (get_or (free_facilities y) h 0) (get_or (free_locations y) g 0) is ((facilities_of y is).each h rows) ((locations_of y is).each g columns)
 
+-- a child that its parent prunes is closed
 pub IsClosed-pruned : (I : Problem) (D : Duals) (step : ℕ) (y : Placement) (R : Form) (h g : ℕ) (c : ℤ) → IsNode I D step y R → IsNonNegative R → h < count_of R → g < count_of R → Reaches I D.scale c (R.value +ℤ at R h g) → IsClosed I (child_at y h g) c
 IsClosed-pruned I D step y R h g c n least hh hg reaches =
     let rows : h < length (free_facilities y) = omega (arith, hh, n.form.numbers.row_count) in

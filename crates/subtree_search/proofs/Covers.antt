@@ -21,6 +21,7 @@ pub record HasTwin (I : Problem) (x : Placement) (p : List ℕ) : Type 0 where
   pub completes : Completes x other
   pub cost : cost_of I other ≡ cost_of I p
 
+-- a completion of an image has such a fellow
 pub HasTwin-image : (I : Problem) (y : Placement) (line : Line) (m : List ℕ) (j k : ℕ) (p : List ℕ) → IsPlacement y → I.size ≡ y.size → IsLineOf (length (free_facilities y)) line → k < length (free_facilities y) → j < k → TakesFree I y (table_of line) m j k → Completes (child_on y line k) p
     → HasTwin I (child_on y line j) p
 HasTwin-image I y (Row h) m j k p is size on below earlier takes done =
@@ -43,6 +44,7 @@ HasTwin-image I y (Column g) m j k p is size on below earlier takes done =
 
 -- ---- which child a completion completes
 
+-- the child on a line that a permutation completes
 pub record CompletesChild (y : Placement) (line : Line) (m : ℕ) (p : List ℕ) : Type 0 where
   pub number : ℕ
   pub within : number < m
@@ -52,6 +54,7 @@ own-free : (y : Placement) (line : Line) → IsPlacement y → IsLineOf (length 
 own-free y (Row h) is below = below
 own-free y (Column g) is below = omega (arith, below, same_count y is)
 
+-- each completion of a node completes one of the children on a line
 pub CompletesChild-cover : (y : Placement) (line : Line) (p : List ℕ) → IsPlacement y → IsLineOf (length (free_facilities y)) line → Completes y p → CompletesChild y line (length (free_facilities y)) p
 CompletesChild-cover y line p is below done =
     let found = child_found (side_of line) y (own_of line) p is (own-free y line is below) done in

@@ -8,4 +8,5 @@ pub mod Progress
 pub mod RowLists
 pub mod Settling
 pub mod Trees
+pub mod Tries
 pub mod Wholes

@@ -32,14 +32,17 @@ fewer_rows I D old new h g hh child = omega (arith, ap length child.rows, length
 pub facility_is : (I : Problem) (D : Duals) (step : ℕ) (y : Placement) (R : Form) (h i f : ℕ) → IsNode I D step y R → h < count_of R → i ≡ get_or R.rows h 0 → f ≡ get_or D.facilities i 0 → f ≡ get_or (free_facilities y) h 0
 facility_is I D step y R h i f n hh row is = is ∙ ap (λ (k : ℕ). get_or D.facilities k 0) row ∙ n.form.numbers.facilities h hh
 
+-- the location of a column, by its number
 pub location_is : (I : Problem) (D : Duals) (step : ℕ) (y : Placement) (R : Form) (g k l : ℕ) → IsNode I D step y R → g < count_of R → k ≡ get_or R.columns g 0 → l ≡ get_or D.locations k 0 → l ≡ get_or (free_locations y) g 0
 location_is I D step y R g k l n hg column is =
     is ∙ ap (λ (j : ℕ). get_or D.locations j 0) column
     ∙ n.form.numbers.locations g (omega (arith, n.form.numbers.row_count, n.form.numbers.column_count, same_count y n.placement))
 
+-- the facility of a row is free
 pub facility_free : (I : Problem) (D : Duals) (step : ℕ) (y : Placement) (R : Form) (h f : ℕ) → IsNode I D step y R → h < count_of R → f ≡ get_or (free_facilities y) h 0 → IsFreeFacility y f
 facility_free I D step y R h f n hh is = subst (IsFreeFacility y) (sym is) ((facilities_of y n.placement).each h (omega (arith, n.form.numbers.row_count)))
 
+-- and so is the location of a column
 pub location_free : (I : Problem) (D : Duals) (step : ℕ) (y : Placement) (R : Form) (g k : ℕ) → IsNode I D step y R → g < count_of R → k ≡ get_or (free_locations y) g 0 → IsFreeLocation y k
 location_free I D step y R g k n hg is = subst (IsFreeLocation y) (sym is) ((locations_of y n.placement).each g (omega (arith, n.form.numbers.row_count, same_count y n.placement)))
 
@@ -79,6 +82,7 @@ taken-within y Distances is t below = is.places.within t below
 
 -- ---- open children
 
+-- a child that is left open has the value of its form
 pub IsOpenAt-child : (I : Problem) (D : Duals) (step : ℕ) (y : Placement) (R S : Form) (h g : ℕ) (child : OpenChild) → IsNode I D step y R → h < count_of R → g < count_of R → child.facility ≡ get_or (free_facilities y) h 0 → child.location ≡ get_or (free_locations y) g 0 → child.value ≡ S.value
     → IsNode I D step (child_at y h g) S → IsNonNegative S → IsOpenAt I D.scale y (child_at y h g) child
 IsOpenAt-child I D step y R S h g child n hh hg facility location value next least =

@@ -25,6 +25,7 @@ pub row_within : (m k : ℕ) (line : Line) → IsLineOf m line → k < m → row
 row_within m k (Row h) on below = on
 row_within m k (Column g) on below = below
 
+-- the column lies within the form too
 pub column_within : (m k : ℕ) (line : Line) → IsLineOf m line → k < m → column_on line k < m
 column_within m k (Row h) on below = below
 column_within m k (Column g) on below = on
@@ -36,6 +37,7 @@ front xs x =
     let count : length (xs ++ x ∷ []) - 1 ≡ length xs = omega (arith, length_push xs x) in
     ap (λ (k : ℕ). take k (xs ++ x ∷ [])) count ∙ take-append_seam xs (x ∷ [])
 
+-- the node before the last step to a child is its parent
 pub before_last-child : (y : Placement) (h g : ℕ) → before_last (child_at y h g) ≡ y
 before_last-child y h g =
     ap₂ (λ (F G : List ℕ). record { size = y.size; facilities = F; places = G }) (front y.facilities (get_or (free_facilities y) h 0)) (front y.places (get_or (free_locations y) g 0))

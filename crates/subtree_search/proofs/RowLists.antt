@@ -103,6 +103,7 @@ row-limited D i k duals hi hk =
       };
     }
 
+-- the rows of pair duals are such as a text lists
 pub ArePairRows-of : (D : Duals) → AreDuals limits_of_64 D → ArePairRows (length D.facilities) (rows_of D)
 ArePairRows-of D duals =
     let m = length D.facilities in
@@ -120,6 +121,7 @@ ArePairRows-of D duals =
 
 -- ---- their text
 
+-- the text of one row more
 pub rows_text-push : (rows : List (List ℤ)) (row : List ℤ) → rows_text (rows ++ row ∷ []) ≡ rows_text rows ++ (drop 1 (numbers_text row) ++ 10 ∷ [])
 rows_text-push [] row = refl
 rows_text-push (first ∷ rows) row =

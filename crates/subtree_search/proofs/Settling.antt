@@ -39,9 +39,11 @@ IsSettled-open I scale y x c children child at = record {
 more_open : (I : Problem) (y : Placement) (children more : List OpenChild) (c : ℤ) → CompletesOpen I y children c → CompletesOpen I y (children ++ more) c
 more_open I y children more c h = record { child = h.child; listed = Contains-append_left children more h.child h.listed; other = h.other; completes = h.completes; cost = h.cost }
 
+-- what is settled at a cost is settled at a lower one
 pub IsSettled-lower : (I : Problem) (y x : Placement) (c d : ℤ) (children : List OpenChild) → d ≤ℤ c → IsSettled I y c children x → IsSettled I y d children x
 IsSettled-lower I y x c d children less h = record { each = λ p done. elim (h.each p done) [ inl below ↦ inl (omega (arith, ints, below, less)) | inr found ↦ inr found ] }
 
+-- also with more open children
 pub IsSettled-more : (I : Problem) (y x : Placement) (c d : ℤ) (children more : List OpenChild) → d ≤ℤ c → IsSettled I y c children x → IsSettled I y d (children ++ more) x
 IsSettled-more I y x c d children more less h =
     record { each = λ p done. elim (h.each p done) [ inl below ↦ inl (omega (arith, ints, below, less)) | inr found ↦ inr (more_open I y children more (cost_of I p) found) ] }
@@ -80,14 +82,17 @@ settled_all I D step y R line c children n node on all each =
 
 -- ---- what becomes of a child
 
+-- a child is settled by what becomes of it
 pub IsSettled-become : (I : Problem) (scale : ℕ) (y x : Placement) (c : ℤ) (o : Option OpenChild) (old new : List OpenChild) → Becomes I scale y x c o → Adds o old new → IsSettled I y c new x
 IsSettled-become I scale y x c None old new closed added = IsSettled-closed I y x c new closed
 IsSettled-become I scale y x c (Some child) old new opened added = subst (λ (l : List OpenChild). IsSettled I y c l x) (sym added) (IsSettled-open I scale y x c old child opened)
 
+-- what was settled before stays so
 pub IsSettled-add : (I : Problem) (y x : Placement) (c d : ℤ) (o : Option OpenChild) (old new : List OpenChild) → Adds o old new → d ≤ℤ c → IsSettled I y c old x → IsSettled I y d new x
 IsSettled-add I y x c d None old new added less h = subst (λ (l : List OpenChild). IsSettled I y d l x) (sym added) (IsSettled-lower I y x c d old less h)
 IsSettled-add I y x c d (Some child) old new added less h = subst (λ (l : List OpenChild). IsSettled I y d l x) (sym added) (IsSettled-more I y x c d old (child ∷ []) less h)
 
+-- all children that are left open are open ones, also the one that is added
 pub All-add : (I : Problem) (scale : ℕ) (y x : Placement) (c : ℤ) (o : Option OpenChild) (old new : List OpenChild) → Becomes I scale y x c o → Adds o old new → All (IsOpen I scale y) old → All (IsOpen I scale y) new
 All-add I scale y x c None old new closed added h = subst (All (IsOpen I scale y)) (sym added) h
 All-add I scale y x c (Some child) old new at added h = subst (All (IsOpen I scale y)) (sym added) (All-push (IsOpen I scale y) old child h at.opened)

@@ -140,6 +140,7 @@ HasProof-own I D step y R c old mid new duals of n start own has =
 
 -- ---- children
 
+-- a child that its parent prunes needs no text
 pub HasKid-pruned : (I : Problem) (D : Duals) (y : Placement) (R : Form) (line : Line) (k : ℕ) (c : ℤ) (ends old : List ℕ → Type 0) (h g : ℕ) → h ≡ row_on line k → g ≡ column_on line k → Reaches I D.scale c (R.value +ℤ at R h g) → HasKid I D y R line k c ends old old
 HasKid-pruned I D y R line k c ends old h g row column reaches =
     let here : Reaches I D.scale c (R.value +ℤ at R (row_on line k) (column_on line k)) = subst (Reaches I D.scale c) (ap₂ (λ (a b : ℕ). R.value +ℤ at R a b) row column) reaches in
@@ -164,7 +165,7 @@ HasKid-trivial I D step y R S line k c ends old h g even n hh hg row column chil
     }
 
 -- marked, and then with a text
-marked : (kid : Kid) (ends : List ℕ → Type 0) (k : ℕ) (old mid new : List ℕ → Type 0) → mark_of kid ≡ 43 → ((t before after : List ℕ) → ends t → length before ≡ k → old (t ++ before ++ 46 ∷ after) → mid (t ++ before ++ 43 ∷ after)) → Adds mid new (kid_text kid) → GrowsBy kid ends k old new
+pub marked : (kid : Kid) (ends : List ℕ → Type 0) (k : ℕ) (old mid new : List ℕ → Type 0) → mark_of kid ≡ 43 → ((t before after : List ℕ) → ends t → length before ≡ k → old (t ++ before ++ 46 ∷ after) → mid (t ++ before ++ 43 ∷ after)) → Adds mid new (kid_text kid) → GrowsBy kid ends k old new
 marked kid ends k old mid new mark marks added = record {
   each = λ t before after ends_there long had.
       subst (λ (m : ℕ). new (t ++ before ++ m ∷ after ++ kid_text kid)) (sym mark) (added.each (t ++ before ++ 43 ∷ after) (marks t before after ends_there long had));
@@ -178,6 +179,7 @@ kept-by : (I : Problem) (y : Placement) (line : Line) (m : List ℕ) (j k : ℕ)
 kept-by I y (Row h) m j k takes = record { permutation = takes.keeps.permutation; count = takes.keeps.count }
 kept-by I y (Column g) m j k takes = record { permutation = takes.keeps.permutation; count = takes.keeps.count }
 
+-- an image has the text of its permutation
 pub HasKid-image : (I : Problem) (D : Duals) (y : Placement) (R : Form) (line : Line) (k : ℕ) (c : ℤ) (ends old mid new : List ℕ → Type 0) (table : Table) (m : List ℕ) (j : ℕ) → j < k → table ≡ table_of line → TakesFree I y table m j k
     → ((t before after : List ℕ) → ends t → length before ≡ k → old (t ++ before ++ 46 ∷ after) → mid (t ++ before ++ 43 ∷ after)) → Adds mid new (image_text (by_one j m)) → HasKid I D y R line k c ends old new
 HasKid-image I D y R line k c ends old mid new table m j earlier same takes marks added =
@@ -189,6 +191,7 @@ HasKid-image I D y R line k c ends old mid new table m j earlier same takes mark
       grows = marked (as_image (by_one j m)) ends k old mid new refl marks added;
     }
 
+-- a child that is searched has the text of its tree
 pub HasKid-tree : (I : Problem) (D : Duals) (step : ℕ) (y x : Placement) (R S : Form) (line : Line) (k : ℕ) (c : ℤ) (ends old mid new : List ℕ → Type 0) (h g : ℕ) → IsEven D → IsNode I D step y R → h < count_of R → g < count_of R → h ≡ row_on line k → g ≡ column_on line k
     → x ≡ child_at y h g → IsChild I D R h g S → ((t before after : List ℕ) → ends t → length before ≡ k → old (t ++ before ++ 46 ∷ after) → mid (t ++ before ++ 43 ∷ after)) → HasTree I D x S c mid new → HasKid I D y R line k c ends old new
 HasKid-tree I D step y x R S line k c ends old mid new h g even n hh hg row column is child marks has =
@@ -204,21 +207,26 @@ HasKid-tree I D step y x R S line k c ends old mid new h g even n hh hg row colu
 
 -- ---- what stands before stays
 
+-- a text extends itself
 pub Extends-same : (old : List ℕ → Type 0) → Extends old old
 Extends-same old = record { each = λ t h. ([], subst old (sym (nothing_behind t)) h) }
 
+-- what extends a text with something added extends the text
 pub Extends-added : (old mid new : List ℕ → Type 0) (s : List ℕ) → Adds old mid s → Extends mid new → Extends old new
 Extends-added old mid new s added more = record {
   each = λ t h.
       let behind = more.each (t ++ s) (added.each t h) in (s ++ behind.0, subst new (append_assoc t s behind.0) behind.1);
 }
 
+-- a text with something added extends it
 pub Extends-adds : (old new : List ℕ → Type 0) (s : List ℕ) → Adds old new s → Extends old new
 Extends-adds old new s added = record { each = λ t h. (s, added.each t h) }
 
+-- a text grows behind a mark by nothing
 pub GrowsBehind-same : (ends : List ℕ → Type 0) (k : ℕ) (old : List ℕ → Type 0) → GrowsBehind ends k old old
 GrowsBehind-same ends k old = record { each = λ t before after there long had. (before ++ 46 ∷ after, subst old (append_assoc t before (46 ∷ after)) had) }
 
+-- it grows behind the mark of a child that gets a text
 pub GrowsBehind-marked : (ends : List ℕ → Type 0) (k : ℕ) (old mid new : List ℕ → Type 0) → ((t before after : List ℕ) → ends t → length before ≡ k → old (t ++ before ++ 46 ∷ after) → mid (t ++ before ++ 43 ∷ after)) → Extends mid new → GrowsBehind ends k old new
 GrowsBehind-marked ends k old mid new marks more = record {
   each = λ t before after there long had.

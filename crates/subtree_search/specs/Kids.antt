@@ -31,6 +31,7 @@ mark_of bare = 46
 mark_of (as_image m) = 43
 mark_of (as_tree t) = 43
 
+-- the text that it has behind the line of the split
 abbrev pub kid_text : Kid → List ℕ
 kid_text bare = []
 kid_text (as_image m) = image_text m

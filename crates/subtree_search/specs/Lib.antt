@@ -12,3 +12,4 @@ pub mod Path
 pub mod Premises
 pub mod Recorded
 pub mod Rows
+pub mod Trials

@@ -21,6 +21,7 @@ own_of (Column g) = g
 abbrev pub row_on : Line → ℕ → ℕ
 row_on line k = row_of (side_of line) (own_of line) k
 
+-- the column of that entry
 abbrev pub column_on : Line → ℕ → ℕ
 column_on line k = column_of (side_of line) (own_of line) k
 

@@ -5,17 +5,20 @@ ghost use Rattle.qap_proof.specs.Cell.{IsPlaceOf, own_on};
 ghost use Rattle.pair_duals.specs.PairDuals.{AreOf};
 ghost use Rattle.pair_duals.specs.Reduced.{IsChild, IsNonNegative, IsStart, at, count_of};
 ghost use Rattle.pair_duals.specs.Seats.{child_at};
+ghost use Rattle.subtree_search.specs.Adding.{Extends};
 ghost use Rattle.subtree_search.specs.Best.{IsIncumbent};
 ghost use Rattle.subtree_search.specs.Closed.{IsClosed, Reaches, ReachesTrivially, threshold_of};
 ghost use Rattle.subtree_search.specs.Drawn.{IsDrawn};
 ghost use Rattle.subtree_search.specs.Lines.{IsLineOf, own_of, side_of};
 ghost use Rattle.subtree_search.specs.Opens.{IsOpenAt};
 ghost use Rattle.subtree_search.specs.Premises.{AreSound, IsNode};
+ghost use Rattle.subtree_search.specs.Recorded.{HasTree};
 
 use crate::incumbent::Incumbent;
 use crate::level::Level;
 use crate::line::Line;
 use crate::path::Path;
+use crate::record::Record;
 use crate::split::OpenChild;
 use crate::threshold::threshold;
 use pair_duals::PairDuals;
@@ -217,6 +220,32 @@ impl Ground<'_> {
         level.draw_line(self.threshold(incumbent))?;
         let closes = self.closes_by_value(level, path, incumbent)?;
         Ok(closes)
+    }
+
+    /// Draws the line of the node that the path leads to. Whether its value closes the node then, which is recorded as a leaf.
+    pub fn closes_as_leaf<W: Record>(
+        &self,
+        level: &mut Level,
+        path: &Path,
+        incumbent: &mut Incumbent,
+        proof: &mut W,
+    ) -> Result<bool, AllocError>
+        requires node { IsNode self.now.instance.now self.now.duals.now self.now.step path.now level.old.form }
+        requires first { level.old.form.is_lined ≡ false }
+        requires incumbent { IsIncumbent self.now.instance.now incumbent.old }
+        ensures recorded { IfOk result (λ closes. IsTrue closes → HasTree self.now.instance.now self.now.duals.now path.now level.old.form incumbent.new.cost (W.holds proof.old) (W.holds proof.new)) }
+        ensures extended { OnOk result (Extends (W.holds proof.old) (W.holds proof.new)) }
+        ensures drawn { IfOk result (λ closes. closes ≡ false → IsDrawn level.old.form level.new.form level.new.u.items) }
+        ensures left { IfOk result (λ closes. closes ≡ false → proof.new ≡ proof.old) }
+        ensures incumbent { IsIncumbent self.now.instance.now incumbent.new }
+        ensures no_worse { incumbent.new.cost ≤ℤ incumbent.old.cost }
+    {
+        level.draw_line(self.threshold(incumbent))?;
+        if self.closes_by_value(level, path, incumbent)? {
+            proof.leaf(level.u())?;
+            return Ok(true);
+        }
+        Ok(false)
     }
 
     /// Improves the incumbent by the permutation that a node with no free facility is, where that costs less.

@@ -1,4 +1,4 @@
-//! Depth-first search of the whole subtree below a node, under pair duals of that node.
+//! Depth-first search of the whole subtree below a node, under pair duals of that node, and proofs of nodes by such searches.
 #![tactic(auto)]
 
 mod dives;
@@ -9,12 +9,14 @@ mod level;
 mod line;
 mod outcome;
 mod path;
+mod proving;
 mod record;
 mod search;
 mod split;
 mod stop;
 mod text_record;
 mod threshold;
+mod trial;
 
 pub use incumbent::Incumbent;
 pub use outcome::Outcome;

@@ -1,25 +1,23 @@
 //! The split of a node whose children are tried, each within a limit.
 
-ghost use Rattle.std.specs.Prelude.{◌≡◌, ◌<◌, ◌≤◌, ◌≤ℤ◌, pos, false, All, IfOk, IsTrue, OnOk, length};
+ghost use Rattle.std.specs.Prelude.{◌≡◌, ◌<◌, ◌≤◌, ◌≤ℤ◌, pos, All, IfOk, OnOk, length};
 ghost use Rattle.pair_duals.specs.CostStep.{step_of};
 ghost use Rattle.pair_duals.specs.PairDuals.{AreOf, Fit};
 ghost use Rattle.pair_duals.specs.Range.{IsInScale};
 ghost use Rattle.pair_duals.specs.Reduced.{IsNonNegative, count_of};
-ghost use Rattle.pair_duals.specs.Seats.{child_at};
 ghost use Rattle.subtree_search.specs.Best.{IsIncumbent};
-ghost use Rattle.subtree_search.specs.Closed.{IsClosed};
-ghost use Rattle.subtree_search.specs.Drawn.{IsDrawn};
+ghost use Rattle.subtree_search.specs.Lines.{IsLineOf, child_on};
 ghost use Rattle.subtree_search.specs.Opens.{Adds, Becomes, IsOpen, IsSettled};
 ghost use Rattle.subtree_search.specs.Premises.{AreSound, AreSymmetries, IsNode, limits_of_64};
 
 use crate::ground::Ground;
 use crate::incumbent::Incumbent;
 use crate::level::Level;
-use crate::outcome::Outcome;
 use crate::path::Path;
 use crate::record::Silent;
-use crate::search::{Subtree, SubtreeSearch, Task, explore_children, make_room, step_within};
+use crate::search::{Split, Subtree, SubtreeSearch, Task, make_room, step_within};
 use crate::stop::Stop;
+use crate::trial::try_child;
 use qap_cost::Partial;
 use std::alloc::{AllocError, Global};
 
@@ -31,11 +29,6 @@ pub struct OpenChild {
     pub location: u16,
     pub value: i128,
 }
-
-/// The least and the greatest limit of a trial.
-const LEAST_TRIAL: u64 = 200;
-
-const MOST_TRIAL: u64 = 100_000;
 
 impl SubtreeSearch {
     /// Splits a node on a row or column, tries each child that is neither pruned nor symmetric to an earlier one, and returns those
@@ -143,13 +136,17 @@ fn split_children<S: Stop>(
     ensures no_worse { incumbent.new.cost ≤ℤ incumbent.old.cost }
 {
     let line = task.ground.sampled_line(level, deeper, path, incumbent)?;
+    let split = Split {
+        level,
+        line,
+        marks: 0,
+    };
     let mut children = Vec::new(alloc);
     for k in 0..level.form.free() {
-        let place = (line.row(k), line.column(k));
         if task.ground.is_image(level, path, line.table(), k) {
             continue;
         }
-        let child = try_child(task, level, place, deeper, path, incumbent, nodes)?;
+        let child = child_left(task, &split, k, deeper, path, incumbent, nodes)?;
         add(&mut children, child)?;
     }
     Ok(children)
@@ -165,92 +162,32 @@ fn add(children: &mut Vec<OpenChild>, child: Option<OpenChild>) -> Result<(), Al
     Ok(())
 }
 
-/// The child that puts a row at a column, where it is left open; `None` where it is closed.
-fn try_child<S: Stop>(
+/// The child of number `k`, where it is left open; `None` where it is pruned or its trial closes it.
+fn child_left<S: Stop>(
     task: &Task<'_, S>,
-    level: &Level,
-    place: (usize, usize),
+    split: &Split<'_>,
+    k: usize,
     deeper: &mut [Level],
     path: &mut Path,
     incumbent: &mut Incumbent,
     nodes: &mut u64,
 ) -> Result<Option<OpenChild>, AllocError>
-    requires node { IsNode task.now.ground.now.instance.now task.now.ground.now.duals.now task.now.ground.now.step path.old level.now.form }
-    requires least { IsNonNegative level.now.form }
-    requires row { place.0 < count_of level.now.form }
-    requires column { place.1 < count_of level.now.form }
-    requires room { count_of level.now.form ≤ length deeper.old }
+    requires node { IsNode task.now.ground.now.instance.now task.now.ground.now.duals.now task.now.ground.now.step path.old split.now.level.now.form }
+    requires least { IsNonNegative split.now.level.now.form }
+    requires line { IsLineOf (count_of split.now.level.now.form) split.now.line }
+    requires k_in { k < count_of split.now.level.now.form }
+    requires room { count_of split.now.level.now.form ≤ length deeper.old }
     requires symmetries { AreSymmetries task.now.ground.now.instance.now task.now.ground.now.flows.now task.now.ground.now.distances.now }
     requires incumbent { IsIncumbent task.now.ground.now.instance.now incumbent.old }
-    ensures child { IfOk result (Becomes task.now.ground.now.instance.now task.now.ground.now.duals.now.scale path.old (child_at path.old place.0 place.1) incumbent.new.cost) }
+    ensures child { IfOk result (Becomes task.now.ground.now.instance.now task.now.ground.now.duals.now.scale path.old (child_on path.old split.now.line k) incumbent.new.cost) }
     ensures path { OnOk result (path.new ≡ path.old) }
     ensures incumbent { IsIncumbent task.now.ground.now.instance.now incumbent.new }
     ensures no_worse { incumbent.new.cost ≤ℤ incumbent.old.cost }
 {
-    let (h, g) = place;
-    if task.ground.prunes(level, incumbent, h, g) {
+    let (h, g) = (split.line.row(k), split.line.column(k));
+    if task.ground.prunes(split.level, incumbent, h, g) {
         return Ok(None);
     }
-    *nodes = nodes.saturating_add(1);
-    let (first, rest) = deeper.split_at_mut(1);
-    let next = &mut first[0];
-    task.ground.descend(level, next, path, h, g)?;
-    let is_closed = try_node(task, next, rest, path, incumbent, nodes)?;
-    path.pop();
-    if is_closed {
-        return Ok(None);
-    }
-    Ok(Some(task.ground.open_child(level, next, path, h, g)))
-}
-
-/// Whether the node that the path leads to is closed, or becomes so within the limit of its trial.
-fn try_node<S: Stop>(
-    task: &Task<'_, S>,
-    level: &mut Level,
-    deeper: &mut [Level],
-    path: &mut Path,
-    incumbent: &mut Incumbent,
-    nodes: &mut u64,
-) -> Result<bool, AllocError>
-    requires node { IsNode task.now.ground.now.instance.now task.now.ground.now.duals.now task.now.ground.now.step path.old level.old.form }
-    requires first { level.old.form.is_lined ≡ false }
-    requires room { count_of level.old.form ≤ length deeper.old }
-    requires symmetries { AreSymmetries task.now.ground.now.instance.now task.now.ground.now.flows.now task.now.ground.now.distances.now }
-    requires incumbent { IsIncumbent task.now.ground.now.instance.now incumbent.old }
-    ensures closed { IfOk result (λ closed. IsTrue closed → IsClosed task.now.ground.now.instance.now path.old incumbent.new.cost) }
-    ensures drawn { IfOk result (λ closed. closed ≡ false → IsDrawn level.old.form level.new.form level.new.u.items) }
-    ensures path { OnOk result (path.new ≡ path.old) }
-    ensures incumbent { IsIncumbent task.now.ground.now.instance.now incumbent.new }
-    ensures no_worse { incumbent.new.cost ≤ℤ incumbent.old.cost }
-{
-    if task.ground.closes(level, path, incumbent)? {
-        return Ok(true);
-    }
-    if task.stop.is_requested() {
-        return Ok(false);
-    }
-    let most = trial_limit(level.form.free());
-    if task
-        .ground
-        .is_hopeless(level, deeper, path, incumbent, most)?
-    {
-        return Ok(false);
-    }
-    let trial = Task {
-        ground: task.ground,
-        limit: nodes.saturating_add(most),
-        stop: task.stop,
-    };
-    match explore_children(&trial, level, deeper, path, incumbent, nodes, &mut Silent)? {
-        Outcome::Closed => Ok(true),
-        _ => Ok(false),
-    }
-}
-
-/// How many nodes the trial of a child with `m` free facilities evaluates at most.
-fn trial_limit(m: usize) -> u64 {
-    let m = m as u64;
-    let square = m.saturating_mul(m);
-    let limit = square.saturating_mul(square) / 8;
-    limit.max(LEAST_TRIAL).min(MOST_TRIAL)
+    let child = try_child(task, split, k, deeper, path, incumbent, nodes, &mut Silent)?;
+    Ok(child)
 }

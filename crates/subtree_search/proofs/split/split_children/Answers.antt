@@ -3,12 +3,10 @@ use Rattle.std.proofs.lemmas.Int.{ints}
 use Rattle.qap_cost.specs.Placement.{Placement}
 use Rattle.qap_symmetry.specs.declared.table.Table.{Table}
 use Rattle.pair_duals.specs.Reduced.{count_of}
-use Rattle.pair_duals.specs.Seats.{child_at}
 use Rattle.subtree_search.specs.Images.{IsImage}
-use Rattle.subtree_search.specs.Lines.{child_on}
+use Rattle.subtree_search.specs.Lines.{child_on, column_on, row_on}
 use Rattle.subtree_search.specs.Opens.{Becomes}
 use Rattle.subtree_search.specs.Premises.{IsNode}
-use Rattle.subtree_search.proofs.Progress.{column_within, row_within}
 use Rattle.subtree_search.proofs.Settling.{All-add, IsSettled-add, IsSettled-child, IsSettled-image, settled_all, settled_more}
 use Rattle.subtree_search.proofs.split.split_children.Goals as goal
 
@@ -39,34 +37,32 @@ loop-k-preserved g c =
     let kept = c.loop-k.invariant in
     let ensures = c.in_ok-child.ensures in
     let child = c.in_ok-child.child in
-    let cost = c.try_child.new.incumbent.cost in
+    let cost = c.child_left.new.incumbent.cost in
     let old = c.loop-k.children.items in
     let new = c.add.new.children.items in
     record {
       incumbent = ensures.incumbent;
       no_worse = (let one = ensures.no_worse in let other = kept.no_worse in omega (arith, ints, one, other));
       path = ensures.path ∙ kept.path;
-      opened = All-add I s y (child_at y c.row.result c.column.result) cost child old new
-          (subst (λ (z : Placement). Becomes I s z (child_at z c.row.result c.column.result) cost child) kept.path ensures.child) c.in_ok-add.ensures kept.opened;
+      opened = All-add I s y (child_on y line c.loop-k.k) cost child old new
+          (subst (λ (z : Placement). Becomes I s z (child_on z line c.loop-k.k) cost child) kept.path ensures.child) c.in_ok-add.ensures kept.opened;
       settled = settled_more I y line cost new c.loop-k.k (λ j below. IsSettled-add I y (child_on y line j) c.loop-k.incumbent.cost cost child old new c.in_ok-add.ensures ensures.no_worse (kept.settled j below))
-          (IsSettled-child I s c.loop-k.path y line c.row.result c.column.result c.loop-k.k cost child old new kept.path c.row.ensures c.column.ensures ensures.child c.in_ok-add.ensures);
+          (IsSettled-child I s c.loop-k.path y line (row_on line c.loop-k.k) (column_on line c.loop-k.k) c.loop-k.k cost child old new kept.path refl refl ensures.child c.in_ok-add.ensures);
     }
 
-pub try_child-requires : goal.try_child-requires
-try_child-requires g c =
+pub child_left-requires : goal.child_left-requires
+child_left-requires g c =
     let I = c.args.task.now.ground.now.instance.now in
     let D = c.args.task.now.ground.now.duals.now in
     let s = c.args.task.now.ground.now.step in
     let R = c.args.level.now.form in
     let kept = c.loop-k.invariant in
     let below : c.loop-k.k < count_of R = omega (arith, c.loop-k-test.true, c.free-k-end.ensures.value) in
-    let row = row_within (count_of R) c.loop-k.k c.in_ok-line.line c.in_ok-line.ensures.line below in
-    let column = column_within (count_of R) c.loop-k.k c.in_ok-line.line c.in_ok-line.ensures.line below in
     record {
       node = subst (λ (z : Placement). IsNode I D s z R) (sym kept.path) c.requires.node;
       least = c.requires.least;
-      row = omega (arith, row, c.row.ensures);
-      column = omega (arith, column, c.column.ensures);
+      line = c.in_ok-line.ensures.line;
+      k_in = below;
       room = omega (arith, c.requires.room, c.loop-k.auto.deeper);
       symmetries = c.requires.symmetries;
       incumbent = kept.incumbent;
@@ -79,4 +75,4 @@ returns-clause-settled g c =
     c.requires.node c.in_ok-line.ensures.line (omega (arith, c.loop-k-test.false, c.free-k-end.ensures.value)) kept.settled
 
 pub returns-in_err-add-clause-no_worse : goal.returns-in_err-add-clause-no_worse
-returns-in_err-add-clause-no_worse g c = let one = c.try_child.ensures.no_worse in let other = c.loop-k.invariant.no_worse in omega (arith, ints, one, other)
+returns-in_err-add-clause-no_worse g c = let one = c.child_left.ensures.no_worse in let other = c.loop-k.invariant.no_worse in omega (arith, ints, one, other)

@@ -1,0 +1,23 @@
+use Rattle.std.proofs.Common.{refl, subst, arith}
+use Rattle.qap_cost.specs.Placement.{Placement}
+use Rattle.pair_duals.specs.Reduced.{count_of}
+use Rattle.pair_duals.specs.Seats.{child_at}
+use Rattle.subtree_search.specs.Closed.{IsClosed}
+use Rattle.subtree_search.proofs.Closings.{IsClosed-pruned}
+use Rattle.subtree_search.proofs.Progress.{column_within, row_within}
+use Rattle.subtree_search.proofs.Tries.{at_child}
+use Rattle.subtree_search.proofs.split.child_left.Goals as goal
+
+pub returns-then-prunes-clause-child : goal.returns-then-prunes-clause-child
+returns-then-prunes-clause-child g c =
+    let I = c.args.task.now.ground.now.instance.now in
+    let y = c.args.path.now in
+    let R = c.args.split.now.level.now.form in
+    let line = c.args.split.now.line in
+    let h = c.row-h.result in
+    let l = c.column-g.result in
+    let cost = c.args.incumbent.now.cost in
+    let row = row_within (count_of R) c.args.k line c.requires.line c.requires.k_in in
+    let column = column_within (count_of R) c.args.k line c.requires.line c.requires.k_in in
+    subst (λ (x : Placement). IsClosed I x cost) (at_child y (child_at y h l) line c.args.k h l refl c.row-h.ensures c.column-g.ensures)
+    (IsClosed-pruned I c.args.task.now.ground.now.duals.now c.args.task.now.ground.now.step y R h l cost c.requires.node c.requires.least (omega (arith, row, c.row-h.ensures)) (omega (arith, column, c.column-g.ensures)) (c.if-prunes.ensures refl))
