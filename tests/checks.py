@@ -250,6 +250,12 @@ def json(run, name, source, optimum, status="optimal"):
     if source.lower().endswith(".toml"):
         keys |= {"departments", "places", "arrangement", "flow_scale", "distance_scale"}
         plan = Plan(run, source)
+        if "gap" in answer:  # programs shipped before lack these
+            keys |= {"gap", "pairs"} | ({"fixed"} if plan.fixed else set())
+            expect(answer.get("fixed", {}) == plan.fixed, f"what is fixed is {answer.get('fixed')}")
+            due = gap_of(Fraction(answer["cost"]), Fraction(answer["bound"]))
+            expect(answer["gap"] == due, f"the gap is {answer['gap']}")
+            expect_pairs(plan, answer)
         expect(answer["departments"] == plan.departments, "other departments than the table has")
         expect(answer["places"] == plan.places, "other places than the table has")
         permutation = permutation_of(answer["permutation"], len(plan.places))
@@ -269,6 +275,23 @@ def json(run, name, source, optimum, status="optimal"):
     expect(re.fullmatch(r"\d+\.\d+\.\d+", answer["version"]), f"the version is {answer['version']}")
     counts = [answer[key] for key in ("nodes", "open", "milliseconds")]
     expect(all(type(count) is int and count >= 0 for count in counts), f"the counts are {counts}")
+
+
+def gap_of(cost, bound):
+    """(C - G) / G in percent, rounded up to tenths; None where G is not above 0."""
+    if bound <= 0:
+        return None
+    return decimal(Fraction(-(-(cost - bound) * 1000 // bound), 10))
+
+
+def expect_pairs(plan, answer):
+    """The pairs are the five that cost most, the costliest first, each with what it costs."""
+    places = dict(zip(answer["departments"], answer["arrangement"]))
+    costs = plan.pair_costs(places)
+    dear = sorted((cost for cost in costs.values() if cost > 0), reverse=True)[:5]
+    told = [(pair["from"], pair["to"], Fraction(pair["cost"])) for pair in answer["pairs"]]
+    expect([cost for _, _, cost in told] == dear, f"the pairs cost {told}")
+    expect(all(costs[i, j] == cost for i, j, cost in told), f"the pairs are {told}")
 
 
 def picture(run, name, source, answer):

@@ -25,17 +25,17 @@ file two.json: {"permutation":[2,1],"cost":"11","bound":"10","status":"bounded"}
 """
 
 NAMED = "name a file that `qapplan solve --json` wrote"
-NO_JSON = f"the text is no JSON: {NAMED}"
-NO_LIST = f'the key "permutation" is to be a list of locations: {NAMED}'
-LOCATION = 'the key "permutation[{0}]" is to be a whole number from 1 to {1}: name an answer to this plan'
-TEXT = 'the key "{0}" is to be a text in quotes: ' + NAMED
-NAMES = 'the key "{0}" is to be a list of {1} names: name an answer to this plan'
-NAME = 'the key "{0}[{1}]" is to be "{2}": name an answer to this plan'
-COST = 'the key "cost" is to be "{0}", which is what the arrangement costs: solve the plan again'
-BOUND = 'the key "bound" is to be a number that is no larger than the cost, "{0}": solve the plan again'
-STATUS = 'the key "status" is to be "{0}", by the cost and the bound: solve the plan again'
-FIXED = 'the key "permutation[{0}]" is to be {1}, where the plan fixes that department: solve the plan again'
-NO_NAMES = 'the key "{0}" is there, and an instance has no names: name the plan in its place'
+NO_JSON = f"the text is not JSON: {NAMED}"
+NO_LIST = f'the key "permutation" must be a list of locations: {NAMED}'
+LOCATION = 'the key "permutation[{0}]" must be a whole number from 1 to {1}: name an answer to this plan'
+TEXT = 'the key "{0}" must be text in quotes: ' + NAMED
+NAMES = 'the key "{0}" must be a list of {1} names: name an answer to this plan'
+NAME = 'the key "{0}[{1}]" must be "{2}": name an answer to this plan'
+COST = 'the key "cost" must be "{0}", which is what the arrangement costs: solve the plan again'
+BOUND = 'the key "bound" must be a number that is no larger than the cost, "{0}": solve the plan again'
+STATUS = 'the key "status" must be "{0}" according to the cost and the bound: solve the plan again'
+FIXED = 'the key "permutation[{0}]" must be {1}, where the plan fixes that department: solve the plan again'
+NO_NAMES = 'the key "{0}" is present, but an instance has no names: name the plan instead'
 
 # A plan or an instance, the text of an answer, and what is said of it. The permutation 1 2 3 costs 3.75 in the plan.
 ANSWERS = [
@@ -47,13 +47,13 @@ ANSWERS = [
     ("plan.toml", "{}", NO_LIST),
     ("plan.toml", '{"permutation":"123"}', NO_LIST),
     ("plan.toml", '{"permutation":[1,2]}',
-     'the key "permutation" has 2 locations, where 3 are wanted: name an answer to this plan'),
+     'the key "permutation" has 2 locations instead of 3: name an answer to this plan'),
     ("plan.toml", '{"permutation":[1,2,4]}', LOCATION.format(3, 3)),
     ("plan.toml", '{"permutation":[0,2,3]}', LOCATION.format(1, 3)),
     ("plan.toml", '{"permutation":[1,2.5,3]}', LOCATION.format(2, 3)),
     ("plan.toml", '{"permutation":[1,"2",3]}', LOCATION.format(2, 3)),
     ("plan.toml", '{"permutation":[1,2,2]}',
-     'the key "permutation[3]": the location 2 stands twice: give each facility a location of its own'),
+     'the key "permutation[3]": the location 2 occurs twice: give each facility a location of its own'),
     ("fixed.toml", '{"permutation":[1,2,3]}', FIXED.format(1, 3)),
     ("plan.toml", '{"permutation":[1,2,3]}', TEXT.format("cost")),
     ("plan.toml", '{"permutation":[1,2,3],"cost":3.75}', TEXT.format("cost")),
@@ -73,7 +73,7 @@ ANSWERS = [
     ("plan.toml", '{"permutation":[1,2,3],"cost":"3.75","bound":"3.75","status":"optimal","arrangement":["A","C"]}',
      NAME.format("arrangement", 2, "B")),
     ("two.dat", '{"permutation":[1,2,3]}',
-     'the key "permutation" has 3 locations, where 2 are wanted: name an answer to this plan'),
+     'the key "permutation" has 3 locations instead of 2: name an answer to this plan'),
     ("two.dat", '{"permutation":[2,1],"cost":"17"}', COST.format("11")),
     ("two.dat", '{"places":[]}', NO_NAMES.format("places")),
     ("two.dat", '{"departments":["a","b"],"permutation":[2,1],"cost":"11","bound":"11","status":"optimal"}',

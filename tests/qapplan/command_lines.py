@@ -12,7 +12,7 @@ LINES = [
     ("solve a.dat --workers", "error: a value is required for '--workers <K>' but none was supplied"),
     ("solve a.dat --nodes -1", "error:"),
     ("solve a.dat --nodes 4611686018427387905", RANGE.format("4611686018427387905", "--nodes <N>", NODES)),
-    ("solve a.dat --seconds 1.", "error: invalid value '1.' for '--seconds <S>': a time is wanted, as 90, 1.5, 2m or 1h"),
+    ("solve a.dat --seconds 1.", "error: invalid value '1.' for '--seconds <S>': a time is expected, such as 90, 1.5, 2m or 1h"),
     ("solve a.dat --seconds 1,5", "error: invalid value '1,5' for '--seconds <S>'"),
     ("solve a.dat --seconds 1.2345", "error: invalid value '1.2345' for '--seconds <S>'"),
     ("solve a.dat --seconds 2d", "error: invalid value '2d' for '--seconds <S>'"),

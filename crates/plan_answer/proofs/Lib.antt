@@ -1,3 +1,4 @@
 pub mod Kept
 pub mod PairLines
 pub mod Putting
+pub mod Moves

@@ -3,7 +3,7 @@ use Rattle.std.specs.Prelude.{◌≡◌, ℕ, ◌+◌, Bool, nat_lt, List, lengt
 use Rattle.plan_table.specs.Spelling.{Spells}
 use Rattle.plan_file.specs.declared.tables.NamedProblem.{NamedProblem}
 use Rattle.plan_answer.specs.Gap.{IsApartText}
-use Rattle.plan_answer.specs.Lines.{empty_lines, kept_text, stands_lines, verdict_line}
+use Rattle.plan_answer.specs.Lines.{empty_lines, kept_text, rounded_text, stands_lines, verdict_line}
 use Rattle.plan_answer.specs.Listing.{IsListing}
 use Rattle.plan_answer.specs.Pairs.{AreDearest}
 use Rattle.plan_answer.specs.declared.pairs.Pair.{Pair}
@@ -36,13 +36,15 @@ pub record IsVerdictText (P : NamedProblem) (c g : ℤ) (text : List ℕ) : Type
   pub told_apart : IsApartText c g apart
   pub is : text ≡ verdict_line (int_lt g c) cost bound (kept_text (has_fixed P)) apart
 
--- the pairs that cost most
+-- that the tables' numbers were rounded, where they were, and the pairs that cost most
 pub record IsPairsText (P : NamedProblem) (p : List ℕ) (text : List ℕ) : Type 0 where
   pub pairs : List Pair
+  pub listing : List ℕ
   pub dearest : AreDearest P.instance p told_pairs pairs
-  pub listed : IsListing (map string_bytes P.departments.items) (cost_scale P) pairs text
+  pub listed : IsListing (map string_bytes P.departments.items) (cost_scale P) pairs listing
+  pub is : text ≡ rounded_text P.rounded ++ listing
 
--- where each department stands, what is proved of the cost, and the pairs that cost most
+-- where each department stands, what is proved of the cost, that numbers were rounded, and the pairs that cost most
 pub record IsAnswerText (P : NamedProblem) (p : List ℕ) (c g : ℤ) (text : List ℕ) : Type 0 where
   pub verdict : List ℕ
   pub listing : List ℕ

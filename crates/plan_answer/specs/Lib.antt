@@ -1,5 +1,7 @@
 pub mod Answer
+pub mod Compared
 pub mod Gap
+pub mod Layout
 pub mod Lines
 pub mod Listing
 pub mod Pairs

@@ -1,5 +1,6 @@
 -- The lines of an answer with names.
-use Rattle.std.specs.Prelude.{ℕ, ◌+◌, Bool, List, [], ◌∷◌, ◌++◌, codes, if◌then◌else◌, ◌==◌, slice_index_or}
+use Rattle.std.specs.Prelude.{ℕ, ◌+◌, Bool, List, [], ◌∷◌, ◌++◌, Option, None, Some, codes, if◌then◌else◌, ◌==◌, slice_index_or}
+use Rattle.std.specs.Fmt.{decimal}
 use Rattle.std.specs.List.{list_any}
 
 -- a department stands at a place
@@ -36,3 +37,8 @@ verdict_line is_open cost bound kept apart =
     if is_open
     then codes "cost " ++ cost ++ open_verdict cost bound kept apart
     else codes "cost " ++ cost ++ codes ", optimal" ++ kept ++ codes ", proved\n"
+
+-- how many decimals the tables' numbers were rounded to, where they were
+abbrev pub rounded_text : Option ℕ → List ℕ
+rounded_text None = []
+rounded_text (Some places) = codes "numbers rounded, decimals kept: " ++ decimal places ++ codes "\n"

@@ -5,7 +5,7 @@ ghost use Rattle.plan_file.specs.Tables.{HasSizes};
 ghost use Rattle.plan_answer.specs.Answer.{IsAnswerText, IsPairsText, IsVerdictText, places_text};
 
 use crate::gap::apart_text;
-use crate::lines::{kept_text, push_departments, push_empty_places, push_verdict};
+use crate::lines::{kept_text, push_departments, push_empty_places, push_verdict, rounded_text};
 use crate::listing::{cost_text, pairs_text};
 use crate::pairs::dearest_pairs;
 use plan_file::NamedProblem;
@@ -61,7 +61,7 @@ pub fn verdict_text(
     Ok(text)
 }
 
-/// The lines of the pairs that cost most.
+/// The line that says that the tables' numbers were rounded, where they were, and those of the pairs that cost most.
 pub(crate) fn dearest_text(
     alloc: Global,
     problem: &NamedProblem,
@@ -72,7 +72,9 @@ pub(crate) fn dearest_text(
     ensures { IfOk result (λ text. IsPairsText problem.now permutation.now text.items) }
 {
     let pairs = dearest_pairs(alloc, &problem.instance, permutation, PAIRS)?;
-    pairs_text(alloc, problem, &pairs)
+    let mut text = rounded_text(alloc, problem.rounded)?;
+    text.extend_from_slice(&pairs_text(alloc, problem, &pairs)?)?;
+    Ok(text)
 }
 
 /// The lines that say where each department stands, and which places stay empty.

@@ -3,6 +3,7 @@
 ghost use Rattle.std.specs.Prelude.{◌≡◌, ◌<◌, ◌≤◌, ◌*◌, false, true, IfOk, MatchOption, pos};
 ghost use Rattle.std.specs.Int.{div_ceil};
 ghost use Rattle.qap_cost.specs.Limits.{max_value};
+ghost use Rattle.plan_table.specs.Spelling.{Spells};
 ghost use Rattle.plan_answer.specs.Gap.{IsApartText, IsPercentText, is_told, tenths_above};
 
 use plan_table::decimal_text;
@@ -16,6 +17,16 @@ pub fn apart_text(alloc: Global, cost: i128, bound: i128) -> Result<Vec<u8>, All
     match tenths_apart(cost, bound) {
         Some(tenths) => percent_text(alloc, tenths),
         None => Ok(Vec::new(alloc)),
+    }
+}
+
+/// The same as a number alone, in percent; `None` where the bound isn't above zero.
+pub fn gap_text(alloc: Global, cost: i128, bound: i128) -> Result<Option<Vec<u8>>, AllocError>
+    ensures { IfOk result (λ found. MatchOption found (is_told cost bound ≡ false) (λ text. (is_told cost bound ≡ true) × Spells text.items (pos (tenths_above cost bound)) 1)) }
+{
+    match tenths_apart(cost, bound) {
+        Some(tenths) => Ok(Some(decimal_text(alloc, tenths, 1)?)),
+        None => Ok(None),
     }
 }
 

@@ -2,13 +2,18 @@
 #![tactic(auto)]
 
 mod answer;
+mod compared;
 mod gap;
+mod layout;
 mod lines;
 mod listing;
 mod pairs;
 mod stated;
 
 pub use answer::{answer_text, verdict_text};
+pub use compared::compared_text;
+pub use gap::gap_text;
+pub use layout::layout_text;
 pub use listing::cost_text;
 pub use pairs::{Pair, dearest_pairs};
 pub use stated::{cost_line, stated_text};

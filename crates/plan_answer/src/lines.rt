@@ -1,8 +1,8 @@
 //! The lines of an answer.
 
-ghost use Rattle.std.specs.Prelude.{◌≡◌, ◌==◌, ◌<◌, ◌≤◌, ◌++◌, [], ℕ, if◌then◌else◌, length, map, slice_index, IfOk, OnOk, string_bytes};
+ghost use Rattle.std.specs.Prelude.{◌≡◌, ◌==◌, ◌<◌, ◌≤◌, ◌++◌, [], ℕ, if◌then◌else◌, length, map, slice_index, IfOk, OnOk, Some, string_bytes};
 ghost use Rattle.std.specs.List.{list_any};
-ghost use Rattle.plan_answer.specs.Lines.{empty_line, empty_lines, kept_text, open_verdict, stands_line, stands_lines, verdict_line};
+ghost use Rattle.plan_answer.specs.Lines.{empty_line, empty_lines, kept_text, open_verdict, rounded_text, stands_line, stands_lines, verdict_line};
 
 use std::alloc::{AllocError, Global};
 
@@ -76,6 +76,22 @@ fn empty_line(alloc: Global, place: &str) -> Result<String, AllocError>
     ensures { IfOk result (λ line. string_bytes line ≡ empty_line place.now) }
 {
     format!(in alloc; "{place} stays empty\n")
+}
+
+/// The line that says how many decimals the tables' numbers were rounded to, where they were.
+pub fn rounded_text(alloc: Global, rounded: Option<usize>) -> Result<Vec<u8>, AllocError>
+    ensures { IfOk result (λ text. text.items ≡ rounded_text rounded) }
+{
+    match rounded {
+        Some(places) => Ok(rounded_line(alloc, places)?.into_bytes()),
+        None => Ok(Vec::new(alloc)),
+    }
+}
+
+fn rounded_line(alloc: Global, places: usize) -> Result<String, AllocError>
+    ensures { IfOk result (λ line. string_bytes line ≡ rounded_text (Some places)) }
+{
+    format!(in alloc; "numbers rounded, decimals kept: {places}\n")
 }
 
 /// Among which arrangements something is proved: where something is fixed, among those that keep it.

@@ -1,5 +1,6 @@
 pub mod Answer
 pub mod Apart
+pub mod Layout
 pub mod Names
 pub mod Proved
 pub mod Refusal

@@ -7,73 +7,73 @@ use thiserror::Error;
 #[derive(Debug, Drop, Error)]
 pub enum AnswerError {
     /// It is no JSON.
-    #[error("line {line}, column {column}: the text is no JSON: name a file that `qapplan solve --json` wrote")]
+    #[error("line {line}, column {column}: the text is not JSON: name a file that `qapplan solve --json` wrote")]
     NoJson {
         line: usize,
         column: usize,
     },
     /// There is no list of locations.
-    #[error("the key \"permutation\" is to be a list of locations: name a file that `qapplan solve --json` wrote")]
+    #[error("the key \"permutation\" must be a list of locations: name a file that `qapplan solve --json` wrote")]
     NoList,
     /// The list has another length than there are facilities.
-    #[error("the key \"permutation\" has {found} locations, where {wanted} are wanted: name an answer to this plan")]
+    #[error("the key \"permutation\" has {found} locations instead of {wanted}: name an answer to this plan")]
     OtherCount {
         found: usize,
         wanted: usize,
     },
     /// An item of the list is no location.
-    #[error("the key \"permutation[{number}]\" is to be a whole number from 1 to {size}: name an answer to this plan")]
+    #[error("the key \"permutation[{number}]\" must be a whole number from 1 to {size}: name an answer to this plan")]
     NoLocation {
         number: usize,
         size: usize,
     },
     /// A location stands twice.
-    #[error("the key \"permutation[{number}]\": the location {location} stands twice: give each facility a location of its own")]
+    #[error("the key \"permutation[{number}]\": the location {location} occurs twice: give each facility a location of its own")]
     LocationTwice {
         number: usize,
         location: u64,
     },
     /// A department doesn't stand where it is fixed.
-    #[error("the key \"permutation[{number}]\" is to be {location}, where the plan fixes that department: solve the plan again")]
+    #[error("the key \"permutation[{number}]\" must be {location}, where the plan fixes that department: solve the plan again")]
     Moved {
         number: usize,
         location: usize,
     },
     /// There is another number of names.
-    #[error("the key \"{key}\" is to be a list of {count} names: name an answer to this plan")]
+    #[error("the key \"{key}\" must be a list of {count} names: name an answer to this plan")]
     OtherNames {
         key: &'static str,
         count: usize,
     },
     /// A name is another one than the plan's.
-    #[error("the key \"{key}[{number}]\" is to be \"{name}\": name an answer to this plan")]
+    #[error("the key \"{key}[{number}]\" must be \"{name}\": name an answer to this plan")]
     OtherName {
         key: &'static str,
         number: usize,
         name: String,
     },
     /// There are names, where an instance has none.
-    #[error("the key \"{key}\" is there, and an instance has no names: name the plan in its place")]
+    #[error("the key \"{key}\" is present, but an instance has no names: name the plan instead")]
     Named {
         key: &'static str,
     },
     /// A key has no text.
-    #[error("the key \"{key}\" is to be a text in quotes: name a file that `qapplan solve --json` wrote")]
+    #[error("the key \"{key}\" must be text in quotes: name a file that `qapplan solve --json` wrote")]
     NoText {
         key: &'static str,
     },
     /// Another cost is stated than the arrangement has.
-    #[error("the key \"cost\" is to be \"{cost}\", which is what the arrangement costs: solve the plan again")]
+    #[error("the key \"cost\" must be \"{cost}\", which is what the arrangement costs: solve the plan again")]
     OtherCost {
         cost: String,
     },
     /// The bound is no number, or above the cost.
-    #[error("the key \"bound\" is to be a number that is no larger than the cost, \"{cost}\": solve the plan again")]
+    #[error("the key \"bound\" must be a number that is no larger than the cost, \"{cost}\": solve the plan again")]
     OtherBound {
         cost: String,
     },
     /// The status isn't the one that cost and bound have.
-    #[error("the key \"status\" is to be \"{status}\", by the cost and the bound: solve the plan again")]
+    #[error("the key \"status\" must be \"{status}\" according to the cost and the bound: solve the plan again")]
     OtherStatus {
         status: &'static str,
     },

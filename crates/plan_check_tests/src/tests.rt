@@ -87,72 +87,72 @@ const REFUSED: [Refused; 14] = [
     (
         FREE,
         "x",
-        "line 1, column 1: the text is no JSON: name a file that `qapplan solve --json` wrote",
+        "line 1, column 1: the text is not JSON: name a file that `qapplan solve --json` wrote",
     ),
     (
         FREE,
         "[]",
-        "the key \"permutation\" is to be a list of locations: name a file that `qapplan solve --json` wrote",
+        "the key \"permutation\" must be a list of locations: name a file that `qapplan solve --json` wrote",
     ),
     (
         FREE,
         "{\"permutation\":[1,2]}",
-        "the key \"permutation\" has 2 locations, where 3 are wanted: name an answer to this plan",
+        "the key \"permutation\" has 2 locations instead of 3: name an answer to this plan",
     ),
     (
         FREE,
         "{\"permutation\":[1,2,4]}",
-        "the key \"permutation[3]\" is to be a whole number from 1 to 3: name an answer to this plan",
+        "the key \"permutation[3]\" must be a whole number from 1 to 3: name an answer to this plan",
     ),
     (
         FREE,
         "{\"permutation\":[1,2.5,3]}",
-        "the key \"permutation[2]\" is to be a whole number from 1 to 3: name an answer to this plan",
+        "the key \"permutation[2]\" must be a whole number from 1 to 3: name an answer to this plan",
     ),
     (
         FREE,
         "{\"permutation\":[1,2,2]}",
-        "the key \"permutation[3]\": the location 2 stands twice: give each facility a location of its own",
+        "the key \"permutation[3]\": the location 2 occurs twice: give each facility a location of its own",
     ),
     (
         FIXED,
         "{\"permutation\":[1,2,3]}",
-        "the key \"permutation[1]\" is to be 3, where the plan fixes that department: solve the plan again",
+        "the key \"permutation[1]\" must be 3, where the plan fixes that department: solve the plan again",
     ),
     (
         FREE,
         "{\"permutation\":[1,2,3]}",
-        "the key \"cost\" is to be a text in quotes: name a file that `qapplan solve --json` wrote",
+        "the key \"cost\" must be text in quotes: name a file that `qapplan solve --json` wrote",
     ),
     (
         FREE,
         "{\"permutation\":[1,2,3],\"cost\":\"3.74\"}",
-        "the key \"cost\" is to be \"3.75\", which is what the arrangement costs: solve the plan again",
+        "the key \"cost\" must be \"3.75\", which is what the arrangement costs: solve the plan again",
     ),
     (
         FREE,
         "{\"permutation\":[1,2,3],\"cost\":\"3.75\",\"bound\":\"3.76\"}",
-        "the key \"bound\" is to be a number that is no larger than the cost, \"3.75\": solve the plan again",
+        "the key \"bound\" must be a number that is no larger than the cost, \"3.75\": solve the plan again",
     ),
     (
         FREE,
         "{\"permutation\":[1,2,3],\"cost\":\"3.75\",\"bound\":\"3.7\",\"status\":\"optimal\"}",
-        "the key \"status\" is to be \"bounded\", by the cost and the bound: solve the plan again",
+        "the key \"status\" must be \"bounded\" according to the cost and the bound: solve the plan again",
     ),
     (
         FREE,
         "{\"departments\":[\"Saw\",\"Drill\"]}",
-        "the key \"departments[2]\" is to be \"Lathe\": name an answer to this plan",
+        "the key \"departments[2]\" must be \"Lathe\": name an answer to this plan",
     ),
     (
         FREE,
         "{\"places\":[\"A\",\"B\"]}",
-        "the key \"places\" is to be a list of 3 names: name an answer to this plan",
+        "the key \"places\" must be a list of 3 names: name an answer to this plan",
     ),
     (
         FREE,
         "{\"permutation\":[1,2,3],\"cost\":\"3.75\",\"bound\":\"3.75\",\"status\":\"optimal\",\"arrangement\":[\"A\",\"C\"]}",
-        "the key \"arrangement[2]\" is to be \"B\": name an answer to this plan",
+        "the key \"arrangement[2]\" must be \"B\": name an answer to this plan",
     ),
 ];
 
@@ -278,7 +278,7 @@ fn answers_to_instances(rt: HostRuntime) -> Result<(), Fail> {
     };
     assert_eq!(rt;
         told.as_str(),
-        "the key \"places\" is there, and an instance has no names: name the plan in its place"
+        "the key \"places\" is present, but an instance has no names: name the plan instead"
     );
     Ok(())
 }

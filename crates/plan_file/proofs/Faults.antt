@@ -1,9 +1,11 @@
 -- What an error says of a table, where it comes from one of its parts.
-use Rattle.std.proofs.Common.{List, ℕ, codes}
+use Rattle.std.proofs.Common.{◌≡◌, ◌∙◌, List, ℕ, Some, None, codes, sym}
+use Rattle.std.specs.Prelude.{IsUtf8}
+use Rattle.toml.specs.Parse.{parse_document}
 use Rattle.toml.specs.Data.{Members}
-use Rattle.plan_file.specs.Plan.{HasSome, IsFaultOf, IsFixingFault, IsNamesFault, IsPlanFault, IsTable}
+use Rattle.plan_file.specs.Plan.{HasSome, IsFaultOf, IsFixingFault, IsNamesFault, IsPlanFault, IsSyntaxError, IsTable}
 use Rattle.plan_file.specs.declared.error.PlanError.{PlanError}
-use Rattle.plan_file.specs.declared.error.PlanError.TheVariants.{Syntax, UnknownKey, NoText, ControlInText, NeitherKey, AmongFixed, BothKeys, MissingKey, LoneKey, OtherMetric, OtherMark, NoDecimals, ExactMetric, Departments, Fixed, OutOfMemory}
+use Rattle.plan_file.specs.declared.error.PlanError.TheVariants.{Syntax, UnknownKey, NoText, ControlInText, NeitherKey, AmongFixed, BothKeys, MissingKey, LoneKey, OtherMetric, OtherMark, NoRound, NoSymmetric, OtherDuplicates, NoDecimals, ExactMetric, Departments, Fixed, OutOfMemory}
 
 -- what is wrong with a list of names is a fault of a table that gives the departments
 pub fault_of_names : (ms : Members) (e : PlanError) → HasSome ms (codes "departments") → IsNamesFault e → IsFaultOf ms e
@@ -20,6 +22,9 @@ fault_of_names ms (MissingKey key other) there h = absurd h
 fault_of_names ms (LoneKey key other) there h = absurd h
 fault_of_names ms (OtherMetric found) there h = absurd h
 fault_of_names ms (OtherMark found) there h = absurd h
+fault_of_names ms NoRound there h = absurd h
+fault_of_names ms NoSymmetric there h = absurd h
+fault_of_names ms (OtherDuplicates found) there h = absurd h
 fault_of_names ms NoDecimals there h = absurd h
 fault_of_names ms (ExactMetric metric) there h = absurd h
 fault_of_names ms (Fixed fault) there h = absurd h
@@ -39,6 +44,9 @@ fault_of_fixing ms (MissingKey key other) there h = absurd h
 fault_of_fixing ms (LoneKey key other) there h = absurd h
 fault_of_fixing ms (OtherMetric found) there h = absurd h
 fault_of_fixing ms (OtherMark found) there h = absurd h
+fault_of_fixing ms NoRound there h = absurd h
+fault_of_fixing ms NoSymmetric there h = absurd h
+fault_of_fixing ms (OtherDuplicates found) there h = absurd h
 fault_of_fixing ms NoDecimals there h = absurd h
 fault_of_fixing ms (ExactMetric metric) there h = absurd h
 fault_of_fixing ms (Departments fault) there h = absurd h
@@ -57,7 +65,22 @@ fault_of_table text ms (MissingKey key other) is h = (ms, is, h)
 fault_of_table text ms (LoneKey key other) is h = (ms, is, h)
 fault_of_table text ms (OtherMetric found) is h = (ms, is, h)
 fault_of_table text ms (OtherMark found) is h = (ms, is, h)
+fault_of_table text ms NoRound is h = (ms, is, h)
+fault_of_table text ms NoSymmetric is h = (ms, is, h)
+fault_of_table text ms (OtherDuplicates found) is h = (ms, is, h)
 fault_of_table text ms NoDecimals is h = (ms, is, h)
 fault_of_table text ms (ExactMetric metric) is h = (ms, is, h)
 fault_of_table text ms (Departments fault) is h = (ms, is, h)
 fault_of_table text ms (Fixed fault) is h = (ms, is, h)
+
+-- a text that was read is this table
+pub is_table : (text : List ℕ) (ms : Members) → (IsUtf8 text) × (parse_document text ≡ Some ms) → IsTable text ms
+is_table text ms (utf8, read) = record { utf8 = utf8; read = read }
+
+-- where a text is no TOML, unless memory ends, it has no table
+pub fault_of_syntax : (text : List ℕ) (Memory : Type 0) (e : PlanError) → IsSyntaxError e → (Memory → e ≡ OutOfMemory) → ((Memory → ⊥) → IsUtf8 text → parse_document text ≡ None) → IsPlanFault text e
+fault_of_syntax text Memory (Syntax place message) syntax ended none = λ members is.
+    let missing = none (λ m. absurd (let other = ended m in cc)) is.utf8 in
+    absurd (let both = sym missing ∙ is.read in cc)
+fault_of_syntax text Memory OutOfMemory syntax ended none = tt
+fault_of_syntax text Memory _ syntax ended none = absurd syntax

@@ -9,7 +9,7 @@ use Rattle.plan_table.specs.Names.{AreDifferent, IsNew}
 use Rattle.plan_table.proofs.NameLists.{AreDifferent-more}
 use Rattle.plan_file.specs.Fixing.{AreFixed, AreNamed, IsNameAt}
 use Rattle.plan_file.specs.Plan.{ArePins, IsPin, strings_of}
-use Rattle.plan_file.specs.declared.source.Pin.{Pin}
+use Rattle.plan_table.specs.declared.pin.Pin.{Pin}
 
 -- texts as items, with one more at the end of either
 pub strings_push : (ss : List (List ℕ)) (s : List ℕ) → strings_of (ss ++ s ∷ []) ≡ push_item (strings_of ss) (string s)

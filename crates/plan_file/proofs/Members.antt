@@ -1,8 +1,8 @@
 -- The keys of a table, and the texts at them.
-use Rattle.std.proofs.Common.{◌≡◌, ◌∙◌, ℕ, ℤ, ap, sym, Bor, BTreeMap, List, [], ◌∷◌, Option, Some, None, String, Global, option_map, string_bytes}
+use Rattle.std.proofs.Common.{◌≡◌, ◌∙◌, ℕ, ℤ, Bool, ap, sym, Bor, BTreeMap, List, [], ◌∷◌, Option, Some, None, String, Global, option_map, string_bytes}
 use Rattle.std.specs.Prelude.{⊤, MatchOption, option_copied}
 use Rattle.std.specs.Map.{keys_of}
-use Rattle.toml.specs.Data.{Data, Items, Members, get_member, string, integer, float, boolean, datetime, array, table, as_array, as_integer, as_str, as_table}
+use Rattle.toml.specs.Data.{Data, Items, Members, get_member, string, integer, float, boolean, datetime, array, table, as_array, as_bool, as_integer, as_str, as_table}
 use Rattle.toml.specs.View.{members_view, table_view, view}
 use Rattle.toml.specs.declared.value.Value.{Value}
 use Rattle.toml.proofs.Views.{Entry}
@@ -49,6 +49,17 @@ number_or_none (boolean b) (Some z) is = absurd (cc)
 number_or_none (datetime t) (Some z) is = absurd (cc)
 number_or_none (array ds) (Some z) is = absurd (cc)
 number_or_none (table ms) (Some z) is = absurd (cc)
+
+-- a value says true or false as it is found of it, or neither
+pub bool_or_none : (d : Data) (found : Option Bool) → found ≡ as_bool d → MatchOption found ((b : Bool) → d ≡ boolean b → ⊥) (λ b. d ≡ boolean b)
+bool_or_none d None is = λ b same. absurd (let differs = is ∙ ap as_bool same in cc)
+bool_or_none (boolean a) (Some b) is = cc
+bool_or_none (string t) (Some b) is = absurd (cc)
+bool_or_none (integer z) (Some b) is = absurd (cc)
+bool_or_none (float x) (Some b) is = absurd (cc)
+bool_or_none (datetime t) (Some b) is = absurd (cc)
+bool_or_none (array ds) (Some b) is = absurd (cc)
+bool_or_none (table ms) (Some b) is = absurd (cc)
 
 -- a value is the table that is found of it, or it is none
 pub table_or_none : (d : Data) (found : Option (Bor (BTreeMap (String Global) Value))) → option_map (λ m. table_view m.now) found ≡ as_table d

@@ -2,7 +2,7 @@
 use Rattle.std.specs.Prelude.{◌≡◌, ℕ, ◌<◌, ⊤, List, [], ◌∷◌, length, string_bytes}
 use Rattle.qap_cost.specs.Placement.{Placement}
 use Rattle.plan_table.specs.Trips.{name_at}
-use Rattle.plan_file.specs.declared.source.Pin.{Pin}
+use Rattle.plan_table.specs.declared.pin.Pin.{Pin}
 
 -- a number is that of a name
 abbrev pub IsNameAt : List (List ℕ) → ℕ → List ℕ → Type 0

@@ -1,5 +1,6 @@
 pub mod Filling
 pub mod Fixing
+pub mod Layout
 pub mod Plan
 pub mod Problem
 pub mod Tables

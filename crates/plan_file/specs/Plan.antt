@@ -1,12 +1,13 @@
 -- A plan: a text in TOML that names the files of its tables, and says what is fixed.
-use Rattle.std.specs.Prelude.{◌≡◌, ◌≢◌, ◌⊎◌, ⊤, ℕ, ◌≤◌, List, [], ◌∷◌, map, Option, None, Some, IsUtf8, pos, codes, string_bytes}
-use Rattle.toml.specs.Data.{Data, Items, no_items, item, Members, no_members, member, string, integer, array, table, get_member}
+use Rattle.std.specs.Prelude.{◌≡◌, ◌≢◌, ◌⊎◌, ⊤, ℕ, ◌≤◌, Bool, true, false, List, [], ◌∷◌, map, Option, None, Some, IsUtf8, pos, codes, string_bytes}
+use Rattle.toml.specs.Data.{Data, Items, no_items, item, Members, no_members, member, string, integer, boolean, array, table, get_member}
 use Rattle.toml.specs.Parse.{parse_document}
 use Rattle.std.specs.Str.{chars}
 use Rattle.plan_table.specs.Control.{HasNoControl, shown_chars}
 use Rattle.plan_table.specs.Names.{AreNames}
 use Rattle.plan_table.specs.declared.numeral.DecimalMark.{DecimalMark}
 use Rattle.plan_table.specs.declared.numeral.DecimalMark.TheVariants.{Point, Comma}
+use Rattle.plan_table.specs.declared.rules.Rules.{Rules}
 use Rattle.plan_metric.specs.declared.metric.Metric.{Metric}
 use Rattle.plan_metric.specs.declared.metric.Metric.TheVariants.{Rectilinear, Euclidean, Squared}
 use Rattle.plan_file.specs.declared.error.PlanError.{PlanError}
@@ -15,7 +16,7 @@ use Rattle.plan_file.specs.declared.source.Distances.{Distances}
 use Rattle.plan_file.specs.declared.source.Distances.TheVariants as far
 use Rattle.plan_file.specs.declared.source.Flows.{Flows}
 use Rattle.plan_file.specs.declared.source.Flows.TheVariants as flow
-use Rattle.plan_file.specs.declared.source.Pin.{Pin}
+use Rattle.plan_table.specs.declared.pin.Pin.{Pin}
 use Rattle.plan_file.specs.declared.source.Plan.{Plan}
 
 -- the keys by which a plan gives the flows
@@ -26,9 +27,13 @@ IsKnownOfFlows key = (key ≡ codes "flows") ⊎ ((key ≡ codes "trips") ⊎ (k
 abbrev pub IsKnownOfDistances : List ℕ → Type 0
 IsKnownOfDistances key = (key ≡ codes "distances") ⊎ ((key ≡ codes "places") ⊎ ((key ≡ codes "metric") ⊎ (key ≡ codes "decimals")))
 
--- the keys that a plan may have: of the flows, of the distances, for the decimal mark, and for what is fixed
+-- the keys that say how the tables are read
+abbrev pub IsKnownOfRules : List ℕ → Type 0
+IsKnownOfRules key = (key ≡ codes "decimal_mark") ⊎ ((key ≡ codes "round") ⊎ ((key ≡ codes "symmetric") ⊎ (key ≡ codes "duplicates")))
+
+-- the keys that a plan may have: of the flows, of the distances, of how they are read, and for what is fixed
 abbrev pub IsKnown : List ℕ → Type 0
-IsKnown key = IsKnownOfFlows key ⊎ (IsKnownOfDistances key ⊎ ((key ≡ codes "decimal_mark") ⊎ (key ≡ codes "fixed")))
+IsKnown key = IsKnownOfFlows key ⊎ (IsKnownOfDistances key ⊎ (IsKnownOfRules key ⊎ (key ≡ codes "fixed")))
 
 -- each key of a table is one that a plan may have
 abbrev pub AreKnown : Members → Type 0
@@ -89,6 +94,28 @@ SaysMark ms None = HasNone ms (codes "decimal_mark")
 SaysMark ms (Some Point) = HasText ms (codes "decimal_mark") (codes ".")
 SaysMark ms (Some Comma) = HasText ms (codes "decimal_mark") (codes ",")
 
+-- to how many places behind the point the numbers of the tables are rounded, if anything is said of it
+abbrev pub SaysRound : Members → Option ℕ → Type 0
+SaysRound ms None = HasNone ms (codes "round")
+SaysRound ms (Some n) = (get_member (codes "round") ms ≡ Some (integer (pos n))) × (n ≤ 9)
+
+-- whether each half of a table stands for the other: not where nothing is said of it
+abbrev pub SaysSymmetric : Members → Bool → Type 0
+SaysSymmetric ms true = get_member (codes "symmetric") ms ≡ Some (boolean true)
+SaysSymmetric ms false = HasNone ms (codes "symmetric") ⊎ (get_member (codes "symmetric") ms ≡ Some (boolean false))
+
+-- whether the amounts of a list add up: not where nothing is said of it
+abbrev pub SaysSums : Members → Bool → Type 0
+SaysSums ms true = HasText ms (codes "duplicates") (codes "sum")
+SaysSums ms false = HasNone ms (codes "duplicates")
+
+-- how the tables are read
+pub record SaysRules (ms : Members) (rules : Rules) : Type 0 where
+  pub mark : SaysMark ms rules.decimal_mark
+  pub round : SaysRound ms rules.round
+  pub symmetric : SaysSymmetric ms rules.is_symmetric
+  pub sums : SaysSums ms rules.adds_up
+
 -- a key with its text, neither of which has a control character
 pub record IsPin (key : List ℕ) (d : Data) (pin : Pin) : Type 0 where
   pub department : string_bytes pin.department ≡ key
@@ -115,7 +142,7 @@ pub record IsPlanText (text : List ℕ) (plan : Plan) : Type 0 where
   pub known : AreKnown members
   pub flows : SaysFlows members plan.flows
   pub distances : SaysDistances members plan.distances
-  pub mark : SaysMark members plan.decimal_mark
+  pub rules : SaysRules members plan.rules
   pub fixed : SaysFixed (get_member (codes "fixed") members) plan.fixed.items
 
 -- the table has something at a key
@@ -149,6 +176,9 @@ IsFaultOf ms (error.OtherMetric found) =
     HasText ms (codes "metric") (string_bytes found) × (string_bytes found ≢ codes "rectilinear") × (string_bytes found ≢ codes "euclidean") × (string_bytes found ≢ codes "squared")
 IsFaultOf ms (error.OtherMark found) =
     HasText ms (codes "decimal_mark") (string_bytes found) × (string_bytes found ≢ codes ".") × (string_bytes found ≢ codes ",")
+IsFaultOf ms error.NoRound = HasSome ms (codes "round")
+IsFaultOf ms error.NoSymmetric = HasSome ms (codes "symmetric")
+IsFaultOf ms (error.OtherDuplicates found) = HasText ms (codes "duplicates") (string_bytes found) × (string_bytes found ≢ codes "sum")
 IsFaultOf ms error.NoDecimals = HasSome ms (codes "decimals")
 IsFaultOf ms (error.ExactMetric metric) = HasSome ms (codes "decimals") × HasText ms (codes "metric") metric.now
 IsFaultOf ms (error.Departments fault) = HasSome ms (codes "departments")

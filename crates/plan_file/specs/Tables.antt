@@ -1,15 +1,16 @@
 -- A problem with names, as a plan and the texts of its tables spell it.
-use Rattle.std.specs.Prelude.{◌≡◌, ℕ, ◌≤◌, ⊤, List, [], map, length, Option, ℤ, string_bytes}
+use Rattle.std.specs.Prelude.{◌≡◌, ℕ, ◌≤◌, ⊤, List, [], map, length, ℤ, string_bytes}
 use Rattle.qap_cost.specs.Placement.{IsPlacement}
 use Rattle.plan_metric.specs.Distances.{AreDistances}
 use Rattle.plan_metric.specs.Metric.{IsFine, distance_scale}
 use Rattle.plan_metric.specs.declared.metric.Metric.{Metric}
+use Rattle.plan_table.specs.Lists.{IsTripsText}
 use Rattle.plan_table.specs.Names.{AreNames}
 use Rattle.plan_table.specs.Places.{IsPlacesText}
 use Rattle.plan_table.specs.Table.{IsMatrixText}
-use Rattle.plan_table.specs.Trips.{AppearInOrder, IsTripsText, words_of}
-use Rattle.plan_table.specs.declared.numeral.DecimalMark.{DecimalMark}
+use Rattle.plan_table.specs.Trips.{AppearInOrder, words_of}
 use Rattle.plan_table.specs.declared.places.Point.{Point}
+use Rattle.plan_table.specs.declared.rules.Rules.{Rules}
 use Rattle.plan_file.specs.Fixing.{AreFixed}
 use Rattle.plan_file.specs.Problem.{IsProblemOf}
 use Rattle.plan_file.specs.declared.source.Distances.{Distances}
@@ -40,29 +41,30 @@ pub record IsSound (plan : Plan) : Type 0 where
 
 -- the text is a matrix of flows between departments of these names, or lists them pair by pair: then the names are those that are given, or those of
 -- the list in the order in which they first appear
-abbrev pub IsFlowText : Flows → Option DecimalMark → List ℕ → List (List ℕ) → ℕ → List ℤ → Type 0
-IsFlowText (flow.Matrix file) mark text names scale entries = IsMatrixText mark text names scale entries
-IsFlowText (flow.Trips file) mark text names scale entries = (t : IsTripsText mark text names scale entries) × AppearInOrder (words_of t.rows) names
-IsFlowText (flow.TripsBetween file given) mark text names scale entries = IsTripsText mark text names scale entries × (names ≡ map string_bytes given.items)
+abbrev pub IsFlowText : Flows → Rules → List ℕ → List (List ℕ) → ℕ → List ℤ → Type 0
+IsFlowText (flow.Matrix file) rules text names scale entries = IsMatrixText rules text names scale entries
+IsFlowText (flow.Trips file) rules text names scale entries = (t : IsTripsText rules text names scale entries) × AppearInOrder (words_of t.rows) names
+IsFlowText (flow.TripsBetween file given) rules text names scale entries = IsTripsText rules text names scale entries × (names ≡ map string_bytes given.items)
 
 -- the text has these points for places of these names, and the entries are how far apart they lie
-pub record IsMeasured (metric : Metric) (mark : Option DecimalMark) (text : List ℕ) (names : List (List ℕ)) (scale : ℕ) (points : List Point) (entries : List ℤ) : Type 0 where
+pub record IsMeasured (metric : Metric) (rules : Rules) (text : List ℕ) (names : List (List ℕ)) (scale : ℕ) (points : List Point) (entries : List ℤ) : Type 0 where
   pub coordinate_scale : ℕ
-  pub read : IsPlacesText mark text names coordinate_scale points
+  pub read : IsPlacesText rules text names coordinate_scale points
   pub by : scale ≡ distance_scale metric coordinate_scale
   pub distances : AreDistances metric coordinate_scale points entries
 
 -- the text is a matrix of distances between places of these names, or they are measured
-abbrev pub IsDistanceText : Distances → Option DecimalMark → List ℕ → List (List ℕ) → ℕ → List Point → List ℤ → Type 0
-IsDistanceText (far.Matrix file) mark text names scale points entries = IsMatrixText mark text names scale entries × (points ≡ [])
-IsDistanceText (far.Places file metric) mark text names scale points entries = IsMeasured metric mark text names scale points entries
+abbrev pub IsDistanceText : Distances → Rules → List ℕ → List (List ℕ) → ℕ → List Point → List ℤ → Type 0
+IsDistanceText (far.Matrix file) rules text names scale points entries = IsMatrixText rules text names scale entries × (points ≡ [])
+IsDistanceText (far.Places file metric) rules text names scale points entries = IsMeasured metric rules text names scale points entries
 
 -- one text has the flows between the departments of a problem, the other one the distances between its places; the problem is that of the two
 pub record AreTablesOf (plan : Plan) (flows distances : List ℕ) (P : NamedProblem) : Type 0 where
   pub flow_entries : List ℤ
   pub distance_entries : List ℤ
-  pub flow_text : IsFlowText plan.flows plan.decimal_mark flows (map string_bytes P.departments.items) P.flow_scale flow_entries
-  pub distance_text : IsDistanceText plan.distances plan.decimal_mark distances (map string_bytes P.places.items) P.distance_scale P.points.items distance_entries
+  pub flow_text : IsFlowText plan.flows plan.rules flows (map string_bytes P.departments.items) P.flow_scale flow_entries
+  pub distance_text : IsDistanceText plan.distances plan.rules distances (map string_bytes P.places.items) P.distance_scale P.points.items distance_entries
+  pub rounded : P.rounded ≡ plan.rules.round
   pub problem : IsProblemOf (length P.departments.items) flow_entries (length P.places.items) distance_entries P.instance
   pub fixed : AreFixed plan.fixed.items (map string_bytes P.departments.items) (map string_bytes P.places.items) P.fixed
 

@@ -9,13 +9,13 @@ use thiserror::Error;
 #[derive(Debug, Drop, Error)]
 pub enum PlanError {
     /// It is no TOML.
-    #[error("{place}: {message}: write a key, `=` and a file in quotes on each line, as `flows = \"trips.csv\"`")]
+    #[error("{place}: {message}: write a key, `=` and a file in quotes on each line, as in `flows = \"trips.csv\"`")]
     Syntax {
         place: TextPlace,
         message: String,
     },
     /// It has another key than a plan may have.
-    #[error("the key \"{key}\" is unknown: a plan has the keys flows or trips, departments, distances or places, metric, decimals, decimal_mark and fixed")]
+    #[error("the key \"{key}\" is unknown: a plan has the keys flows or trips, departments, distances or places, metric, decimals, decimal_mark, round, symmetric, duplicates and fixed")]
     UnknownKey {
         key: String,
     },
@@ -38,24 +38,24 @@ pub enum PlanError {
         other: &'static str,
     },
     /// A key is missing, and stands in the table of what is fixed.
-    #[error("the key \"{key}\" stands under `[fixed]`: move `[fixed]` and the lines that belong to it to the end of the plan")]
+    #[error("the key \"{key}\" is under `[fixed]`: move `[fixed]` and the lines that belong to it to the end of the plan")]
     AmongFixed {
         key: &'static str,
     },
     /// Two keys are there, of which each stands for the other.
-    #[error("the keys \"{key}\" and \"{other}\" are both there: keep one of them")]
+    #[error("the keys \"{key}\" and \"{other}\" are both present: keep one of them")]
     BothKeys {
         key: &'static str,
         other: &'static str,
     },
     /// A key is missing that another one wants.
-    #[error("the key \"{key}\" is missing: \"{other}\" wants it; write `{key} = \"rectilinear\"`, or \"euclidean\" or \"squared\"")]
+    #[error("the key \"{key}\" is missing: \"{other}\" needs it; write `{key} = \"rectilinear\"`, or \"euclidean\" or \"squared\"")]
     MissingKey {
         key: &'static str,
         other: &'static str,
     },
     /// A key is there, and not the one that it goes with.
-    #[error("the key \"{key}\" goes with \"{other}\", which is missing: take it away, or add that one")]
+    #[error("the key \"{key}\" goes with \"{other}\", which is missing: remove it, or add that one")]
     LoneKey {
         key: &'static str,
         other: &'static str,
@@ -70,11 +70,22 @@ pub enum PlanError {
     OtherMark {
         found: String,
     },
+    /// What is to be the number of places that numbers are rounded to is none.
+    #[error("the key \"round\" must be a whole number from 0 to 9, without quotes, as in `round = 3`")]
+    NoRound,
+    /// What is to be true or false is neither.
+    #[error("the key \"symmetric\" must be true or false, without quotes, as in `symmetric = true`")]
+    NoSymmetric,
+    /// No treatment of pairs that stand twice has that name.
+    #[error("the key \"duplicates\" says \"{found}\": write \"sum\", or remove it")]
+    OtherDuplicates {
+        found: String,
+    },
     /// What is to be the number of decimals is none.
-    #[error("the key \"decimals\" is to be a whole number from 0 to 9, without quotes, as `decimals = 2`")]
+    #[error("the key \"decimals\" must be a whole number from 0 to 9, without quotes, as in `decimals = 2`")]
     NoDecimals,
     /// Distances by that metric are exact.
-    #[error("the key \"decimals\" goes with `metric = \"euclidean\"` alone: distances by \"{metric}\" are exact, so take it away")]
+    #[error("the key \"decimals\" goes with `metric = \"euclidean\"` alone: distances by \"{metric}\" are exact, so remove it")]
     ExactMetric {
         metric: &'static str,
     },
@@ -93,7 +104,7 @@ pub enum PlanError {
 #[derive(Debug, Drop, Error)]
 pub enum NamesFault {
     /// They are no list.
-    #[error("the key \"departments\" has the type {found}: write a list of names, as `departments = [\"Saw\", \"Lathe\"]`")]
+    #[error("the key \"departments\" has the type {found}: write a list of names, as in `departments = [\"Saw\", \"Lathe\"]`")]
     NoList { found: &'static str },
     /// The list is empty, or too long.
     #[error("the key \"departments\" has {count} names: write 1 to 256")]
@@ -102,13 +113,13 @@ pub enum NamesFault {
     #[error("the key \"departments[{number}]\" has the type {found}: write a name in quotes")]
     NoName { number: usize, found: &'static str },
     /// A name is empty.
-    #[error("the key \"departments[{number}]\" is empty: write a name there, or take it away")]
+    #[error("the key \"departments[{number}]\" is empty: write a name there, or remove it")]
     EmptyName { number: usize },
     /// A name has a control character.
     #[error("the key \"departments[{number}]\" has the control character U+{code:04X}: write names without line breaks, tabs and other control characters")]
     ControlInName { number: usize, code: u32 },
     /// A name stands twice.
-    #[error("the key \"departments[{number}]\": the name \"{name}\" stands twice: give each department a name of its own")]
+    #[error("the key \"departments[{number}]\": the name \"{name}\" occurs twice: give each department a name of its own")]
     NameTwice { number: usize, name: String },
 }
 
@@ -116,7 +127,7 @@ pub enum NamesFault {
 #[derive(Debug, Drop, Error)]
 pub enum PinsFault {
     /// It is no table.
-    #[error("the key \"fixed\" has the type {found}: write `[fixed]` on a line of its own, and below it a line as `Saw = \"A\"` for each department that stays at its place")]
+    #[error("the key \"fixed\" has the type {found}: write `[fixed]` on a line of its own, and below it a line such as `Saw = \"A\"` for each department that stays at its place")]
     NoTable {
         found: &'static str,
     },
@@ -177,10 +188,13 @@ impl From<AllocError> for ProblemError {
 #[derive(Debug, Drop, Error)]
 pub enum FixingError {
     /// No department has the name.
-    #[error("the key \"fixed.{department}\": no department has that name: mend it, or take the line away")]
+    #[error("the key \"fixed.{department}\": no department has that name: correct it, or remove the line")]
     UnknownDepartment { department: String },
+    /// No department has the name, which is that of a key of the plan.
+    #[error("the key \"{key}\" is under `[fixed]`: move `[fixed]` and the lines that belong to it to the end of the plan")]
+    KeyAmongFixed { key: String },
     /// No place has the name.
-    #[error("the key \"fixed.{department}\": no place has the name \"{place}\": mend it, or take the line away")]
+    #[error("the key \"fixed.{department}\": no place has the name \"{place}\": correct it, or remove the line")]
     UnknownPlace { department: String, place: String },
     /// Another department is fixed at the place.
     #[error("the key \"fixed.{department}\": another department is fixed at \"{place}\": give each a place of its own")]
@@ -211,16 +225,16 @@ pub enum TablesError {
     #[error("{0}")]
     Distances(TableError),
     /// The numbers of the table of flows have too many places behind the point.
-    #[error("a number has more than 100 places behind the point: round the numbers, or choose a smaller unit")]
+    #[error("a number has more than 100 digits after the point: round the numbers, or choose a smaller unit")]
     FlowsTooFine,
     /// The numbers of the table of distances have too many places behind the point.
-    #[error("a number has more than 100 places behind the point: round the numbers, or choose a smaller unit")]
+    #[error("a number has more than 100 digits after the point: round the numbers, or choose a smaller unit")]
     DistancesTooFine,
     /// The coordinates have too many places behind the point.
-    #[error("a coordinate has more than 9 places behind the point: round the coordinates, or choose a smaller unit")]
+    #[error("a coordinate has more than 9 digits after the point: round the coordinates, or choose a smaller unit")]
     CoordinatesTooFine,
     /// Two places lie too far apart.
-    #[error("the places \"{from}\" and \"{to}\" lie too far apart: with its places behind the point dropped, a distance is at most 10^9; round the coordinates, keep fewer decimals or choose a larger unit")]
+    #[error("the places \"{from}\" and \"{to}\" lie too far apart: with the digits after its point dropped, a distance is at most 10^9; round the coordinates, keep fewer decimals or choose a larger unit")]
     TooFar { from: String, to: String },
     /// Both are tables, and make no problem.
     #[error("{0}")]

@@ -5,8 +5,8 @@ ghost use Rattle.qap_cost.specs.Placement.{IsPlacement, placing};
 ghost use Rattle.plan_file.specs.Fixing.{AreFixed, IsNameAt};
 
 use crate::error::FixingError;
-use crate::source::Pin;
-use plan_table::find_name;
+use crate::plan::is_known;
+use plan_table::{Pin, find_name};
 use qap_cost::Partial;
 use std::alloc::Global;
 
@@ -47,9 +47,7 @@ fn place_pin(
     ensures placement { OnOk result (IsPlacement node.new) }
 {
     let Some(facility) = find_name(departments, pin.department.as_str()) else {
-        return Err(FixingError::UnknownDepartment {
-            department: pin.department.clone()?,
-        });
+        return Err(unknown_department(pin.department.clone()?));
     };
     let Some(location) = find_name(places, pin.place.as_str()) else {
         return Err(FixingError::UnknownPlace {
@@ -67,4 +65,13 @@ fn place_pin(
     }
     node.put(facility, location)?;
     Ok(())
+}
+
+/// What is wrong with a name that no department has: it may be that of a key which stands behind `[fixed]`.
+fn unknown_department(name: String) -> FixingError {
+    if is_known(name.as_str()) {
+        FixingError::KeyAmongFixed { key: name }
+    } else {
+        FixingError::UnknownDepartment { department: name }
+    }
 }

@@ -3,19 +3,22 @@
 
 mod error;
 mod fixing;
+mod layout;
 mod lookup;
 mod measuring;
 mod names;
 mod place;
 mod plan;
 mod problem;
+mod ruling;
 mod source;
 mod tables;
 mod values;
 
 pub use error::{FixingError, NamesFault, PinsFault, PlanError, ProblemError, TablesError};
+pub use layout::{LayoutError, layout_node};
 pub use place::TextPlace;
 pub use plan::read_plan;
 pub use problem::problem_of;
-pub use source::{Distances, Flows, Pin, Plan};
+pub use source::{Distances, Flows, Plan};
 pub use tables::{MAX_PLACES, NamedProblem, read_tables};

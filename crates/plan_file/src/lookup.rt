@@ -1,7 +1,7 @@
 //! What stands in a table, as its data.
 
-ghost use Rattle.std.specs.Prelude.{◌≡◌, ◌≢◌, ℕ, ℤ, List, MatchOption, Some};
-ghost use Rattle.toml.specs.Data.{Items, Members, array, get_member, integer, string, table as table_of};
+ghost use Rattle.std.specs.Prelude.{◌≡◌, ◌≢◌, ℕ, ℤ, Bool, List, MatchOption, Some};
+ghost use Rattle.toml.specs.Data.{Items, Members, array, boolean, get_member, integer, string, table as table_of};
 ghost use Rattle.toml.specs.View.{items_view, table_view, view};
 ghost use Rattle.plan_file.specs.Plan.{HasNone};
 
@@ -26,6 +26,13 @@ pub fn number_in(value: &Value) -> Option<i64>
     ensures { MatchOption result ((number : ℤ) → view value.now ≢ integer number) (λ number. view value.now ≡ integer number) }
 {
     value.as_integer()
+}
+
+/// What a value says that is true or false.
+pub fn bool_in(value: &Value) -> Option<bool>
+    ensures { MatchOption result ((said : Bool) → view value.now ≢ boolean said) (λ said. view value.now ≡ boolean said) }
+{
+    value.as_bool()
 }
 
 /// The items of the list that a value is.

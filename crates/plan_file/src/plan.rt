@@ -3,22 +3,23 @@
 ghost use Rattle.std.specs.Prelude.{◌≡◌, ◌↔◌, IfErr, IfOk, IsTrue, MatchOption, OnOk};
 ghost use Rattle.toml.specs.Errors.{IsMemory};
 ghost use Rattle.toml.specs.View.{table_view};
-ghost use Rattle.plan_file.specs.Plan.{AreKnown, IsFaultOf, IsKnown, IsKnownOfDistances, IsKnownOfFlows, IsPlanFault, IsPlanText, IsSyntaxError};
+ghost use Rattle.plan_file.specs.Plan.{AreKnown, IsFaultOf, IsKnown, IsKnownOfDistances, IsKnownOfFlows, IsKnownOfRules, IsPlanFault, IsPlanText, IsSyntaxError};
 ghost use Rattle.plan_file.specs.Tables.{IsSound};
 ghost use Rattle.plan_file.specs.declared.error.PlanError.TheVariants.{OutOfMemory as WantOfMemory};
 
 use crate::error::PlanError;
 use crate::measuring::distances_of;
 use crate::place::TextPlace;
+use crate::ruling::rules_of;
 use crate::source::Plan;
-use crate::values::{fixed_of, flows_of, mark_of};
+use crate::values::{fixed_of, flows_of};
 use plan_table::shown;
 use std::alloc::Global;
 use toml::de::Error;
 use toml::{Table, table_from_slice};
 
-/// Reads a plan: a text in TOML with the keys `flows` or `trips`, `departments`, `distances` or `places`, `metric`, `decimals`, `decimal_mark`
-/// and `fixed`, and no other.
+/// Reads a plan: a text in TOML with the keys `flows` or `trips`, `departments`, `distances` or `places`, `metric`, `decimals`, `decimal_mark`,
+/// `round`, `symmetric`, `duplicates` and `fixed`, and no other.
 ///
 /// `departments` goes with `trips` alone; `metric` goes with `places` and must be there; `decimals` goes with the Euclidean metric alone.
 pub fn read_plan(alloc: Global, text: &[u8]) -> Result<Plan, PlanError>
@@ -33,12 +34,12 @@ pub fn read_plan(alloc: Global, text: &[u8]) -> Result<Plan, PlanError>
     check_keys(alloc, &table)?;
     let flows = flows_of(alloc, &table)?;
     let distances = distances_of(alloc, &table)?;
-    let decimal_mark = mark_of(alloc, &table)?;
+    let rules = rules_of(alloc, &table)?;
     let fixed = fixed_of(alloc, &table)?;
     Ok(Plan {
         flows,
         distances,
-        decimal_mark,
+        rules,
         fixed,
     })
 }
@@ -87,10 +88,17 @@ fn unknown_key(table: &Table) -> Option<&str>
 }
 
 /// Whether a plan may have a key.
-fn is_known(key: &str) -> bool
+pub fn is_known(key: &str) -> bool
     ensures { IsTrue result ↔ IsKnown key.now }
 {
-    is_known_of_flows(key) || is_known_of_distances(key) || key == "decimal_mark" || key == "fixed"
+    is_known_of_flows(key) || is_known_of_distances(key) || is_known_of_rules(key) || key == "fixed"
+}
+
+/// Whether a plan may have a key that says how the tables are read.
+fn is_known_of_rules(key: &str) -> bool
+    ensures { IsTrue result ↔ IsKnownOfRules key.now }
+{
+    key == "decimal_mark" || key == "round" || key == "symmetric" || key == "duplicates"
 }
 
 /// Whether a plan may have a key that says of the flows.

@@ -1,15 +1,15 @@
 //! What a plan says.
 
 use plan_metric::Metric;
-use plan_table::DecimalMark;
+use plan_table::{Pin, Rules};
 
-/// What a plan says: where its flows and distances stand, how their numbers are written, and what is fixed.
+/// What a plan says: where its flows and distances stand, how they are read, and what is fixed.
 #[derive(Debug, Drop)]
 pub struct Plan {
     pub flows: Flows,
     pub distances: Distances,
-    /// The decimal mark of the tables, where the plan has one.
-    pub decimal_mark: Option<DecimalMark>,
+    /// How the tables are read.
+    pub rules: Rules,
     /// Departments that stand at places given beforehand.
     pub fixed: Vec<Pin>,
 }
@@ -52,11 +52,4 @@ impl Distances {
             Distances::Matrix(file) | Distances::Places(file, _) => file.as_str(),
         }
     }
-}
-
-/// A department and its place, by their names.
-#[derive(Debug, Drop)]
-pub struct Pin {
-    pub department: String,
-    pub place: String,
 }

@@ -14,8 +14,7 @@ use plan_metric::{
     DistanceError, MAX_PLACES as MAX_COORDINATE_PLACES, Metric, distance_matrix, distance_scale,
 };
 use plan_table::{
-    DecimalMark, NamedMatrix, Point, TableError, read_matrix, read_places, read_trips,
-    read_trips_between,
+    NamedMatrix, Point, Rules, TableError, read_matrix, read_places, read_trips, read_trips_between,
 };
 use qap_cost::{Instance, Partial};
 use std::alloc::{AllocError, Global};
@@ -38,6 +37,8 @@ pub struct NamedProblem {
     pub points: Vec<Point>,
     /// The departments that are fixed, at their places.
     pub fixed: Partial,
+    /// To how many places behind the point the tables' numbers were rounded, where they were.
+    pub rounded: Option<usize>,
 }
 
 /// The distances between places, and where these are, if that is known.
@@ -59,11 +60,11 @@ pub fn read_tables(
     ensures tables { IfOk result (AreTablesOf plan.now flows.now distances.now) }
     ensures sizes { IfOk result HasSizes }
 {
-    let flows = read_flows(alloc, &plan.flows, plan.decimal_mark, flows)?;
+    let flows = read_flows(alloc, &plan.flows, plan.rules, flows)?;
     let Layout {
         matrix: distances,
         points,
-    } = read_layout(alloc, &plan.distances, plan.decimal_mark, distances)?;
+    } = read_layout(alloc, &plan.distances, plan.rules, distances)?;
     let instance = match problem_of(alloc, &flows, &distances) {
         Ok(instance) => instance,
         Err(error) => return Err(TablesError::Problem(error)),
@@ -80,6 +81,7 @@ pub fn read_tables(
         instance,
         points,
         fixed,
+        rounded: plan.rules.round,
     })
 }
 
@@ -87,19 +89,19 @@ pub fn read_tables(
 fn read_flows(
     alloc: Global,
     source: &Flows,
-    mark: Option<DecimalMark>,
+    rules: Rules,
     text: &[u8],
 ) -> Result<NamedMatrix, TablesError>
     requires { IsSoundFlows source.now }
-    ensures text { IfOk result (λ m. IsFlowText source.now mark text.now (map string_bytes m.names.items) m.scale m.entries.items) }
+    ensures text { IfOk result (λ m. IsFlowText source.now rules text.now (map string_bytes m.names.items) m.scale m.entries.items) }
     ensures square { IfOk result (λ m. IsNamedSquare (map string_bytes m.names.items) m.entries.items) }
     ensures fine { IfOk result (λ m. m.scale ≤ max_places) }
 {
     match source {
-        Flows::Matrix(_) => fine_flows(read_matrix(alloc, text, mark)),
-        Flows::Trips(_) => fine_flows(read_trips(alloc, text, mark)),
+        Flows::Matrix(_) => fine_flows(read_matrix(alloc, text, rules)),
+        Flows::Trips(_) => fine_flows(read_trips(alloc, text, rules)),
         Flows::TripsBetween(_, names) => {
-            fine_flows(read_trips_between(alloc, text, mark, copied(alloc, names)?))
+            fine_flows(read_trips_between(alloc, text, rules, copied(alloc, names)?))
         }
     }
 }
@@ -131,31 +133,27 @@ fn copied(alloc: Global, names: &[String]) -> Result<Vec<String>, AllocError>
 fn read_layout(
     alloc: Global,
     source: &Distances,
-    mark: Option<DecimalMark>,
+    rules: Rules,
     text: &[u8],
 ) -> Result<Layout, TablesError>
     requires { IsSoundDistances source.now }
-    ensures text { IfOk result (λ l. IsDistanceText source.now mark text.now (map string_bytes l.matrix.names.items) l.matrix.scale l.points.items l.matrix.entries.items) }
+    ensures text { IfOk result (λ l. IsDistanceText source.now rules text.now (map string_bytes l.matrix.names.items) l.matrix.scale l.points.items l.matrix.entries.items) }
     ensures square { IfOk result (λ l. IsNamedSquare (map string_bytes l.matrix.names.items) l.matrix.entries.items) }
     ensures fine { IfOk result (λ l. l.matrix.scale ≤ max_places) }
 {
     match source {
-        Distances::Matrix(_) => read_distances(alloc, mark, text),
-        Distances::Places(_, metric) => read_measured(alloc, *metric, mark, text),
+        Distances::Matrix(_) => read_distances(alloc, rules, text),
+        Distances::Places(_, metric) => read_measured(alloc, *metric, rules, text),
     }
 }
 
 /// The matrix of distances.
-fn read_distances(
-    alloc: Global,
-    mark: Option<DecimalMark>,
-    text: &[u8],
-) -> Result<Layout, TablesError>
-    ensures text { IfOk result (λ l. IsMatrixText mark text.now (map string_bytes l.matrix.names.items) l.matrix.scale l.matrix.entries.items × (l.points.items ≡ [])) }
+fn read_distances(alloc: Global, rules: Rules, text: &[u8]) -> Result<Layout, TablesError>
+    ensures text { IfOk result (λ l. IsMatrixText rules text.now (map string_bytes l.matrix.names.items) l.matrix.scale l.matrix.entries.items × (l.points.items ≡ [])) }
     ensures square { IfOk result (λ l. IsNamedSquare (map string_bytes l.matrix.names.items) l.matrix.entries.items) }
     ensures fine { IfOk result (λ l. l.matrix.scale ≤ max_places) }
 {
-    match read_matrix(alloc, text, mark) {
+    match read_matrix(alloc, text, rules) {
         Ok(matrix) if matrix.scale > MAX_PLACES => Err(TablesError::DistancesTooFine),
         Ok(matrix) => Ok(Layout {
             matrix,
@@ -169,15 +167,15 @@ fn read_distances(
 fn read_measured(
     alloc: Global,
     metric: Metric,
-    mark: Option<DecimalMark>,
+    rules: Rules,
     text: &[u8],
 ) -> Result<Layout, TablesError>
     requires { IsFine metric }
-    ensures text { IfOk result (λ l. IsMeasured metric mark text.now (map string_bytes l.matrix.names.items) l.matrix.scale l.points.items l.matrix.entries.items) }
+    ensures text { IfOk result (λ l. IsMeasured metric rules text.now (map string_bytes l.matrix.names.items) l.matrix.scale l.points.items l.matrix.entries.items) }
     ensures square { IfOk result (λ l. IsNamedSquare (map string_bytes l.matrix.names.items) l.matrix.entries.items) }
     ensures fine { IfOk result (λ l. l.matrix.scale ≤ max_places) }
 {
-    let table = match read_places(alloc, text, mark) {
+    let table = match read_places(alloc, text, rules) {
         Ok(table) => table,
         Err(error) => return Err(TablesError::Distances(error)),
     };

@@ -5,13 +5,13 @@ ghost use Rattle.toml.specs.Data.{array, get_member};
 ghost use Rattle.toml.specs.View.{table_view, view};
 ghost use Rattle.plan_table.specs.Control.{HasNoControl};
 ghost use Rattle.plan_table.specs.Names.{AreNames};
-ghost use Rattle.plan_file.specs.Plan.{ArePins, HasNone, HasText, IsAmongFixed, IsFaultOf, IsFixingFault, IsPin, SaysFixed, SaysFlows, SaysMark, strings_of};
+ghost use Rattle.plan_file.specs.Plan.{ArePins, HasNone, HasText, IsAmongFixed, IsFaultOf, IsFixingFault, IsPin, SaysFixed, SaysFlows, strings_of};
 
 use crate::error::{NamesFault, PinsFault, PlanError};
 use crate::lookup::{items_in, table_in, text_in, value_at};
 use crate::names::names_of;
-use crate::source::{Flows, Pin};
-use plan_table::{DecimalMark, first_control, shown};
+use crate::source::Flows;
+use plan_table::{Pin, first_control, shown};
 use std::alloc::Global;
 use toml::{Table, Value};
 
@@ -89,23 +89,6 @@ pub fn flows_of(alloc: Global, table: &Table) -> Result<Flows, PlanError>
         (None, Some(file), None) => Ok(Flows::Trips(file)),
         (None, Some(file), Some(names)) => Ok(Flows::TripsBetween(file, names)),
     }
-}
-
-/// The decimal mark of the tables, where the plan has one.
-pub fn mark_of(alloc: Global, table: &Table) -> Result<Option<DecimalMark>, PlanError>
-    ensures mark { IfOk result (SaysMark (table_view table.now)) }
-    ensures refused { IfErr result (IsFaultOf (table_view table.now)) }
-{
-    let Some(word) = text_of(alloc, table, "decimal_mark")? else {
-        return Ok(None);
-    };
-    if word.as_str() == "." {
-        return Ok(Some(DecimalMark::Point));
-    }
-    if word.as_str() == "," {
-        return Ok(Some(DecimalMark::Comma));
-    }
-    Err(PlanError::OtherMark { found: word })
 }
 
 /// The departments that are named, where they are.

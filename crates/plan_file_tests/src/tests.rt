@@ -42,7 +42,7 @@ const PLANS: [Told; 29] = [
     ),
     (
         b"flow = \"a.csv\"\ndistances = \"b.csv\"\n",
-        "the key \"flow\" is unknown: a plan has the keys flows or trips, departments, distances or places, metric, decimals, decimal_mark and fixed",
+        "the key \"flow\" is unknown: a plan has the keys flows or trips, departments, distances or places, metric, decimals, decimal_mark, round, symmetric, duplicates and fixed",
     ),
     (
         b"distances = \"b.csv\"\nflows = 3\n",
@@ -50,7 +50,7 @@ const PLANS: [Told; 29] = [
     ),
     (
         b"flows = \"a.csv\"\ndistances = b.csv\n",
-        "line 2, column 13: invalid value, expected a string, number, boolean, date-time, array or inline table: write a key, `=` and a file in quotes on each line, as `flows = \"trips.csv\"`",
+        "line 2, column 13: invalid value, expected a string, number, boolean, date-time, array or inline table: write a key, `=` and a file in quotes on each line, as in `flows = \"trips.csv\"`",
     ),
     (
         b"",
@@ -58,23 +58,23 @@ const PLANS: [Told; 29] = [
     ),
     (
         b"flows = \"a.csv\"\ntrips = \"t.csv\"\ndistances = \"b.csv\"\n",
-        "the keys \"flows\" and \"trips\" are both there: keep one of them",
+        "the keys \"flows\" and \"trips\" are both present: keep one of them",
     ),
     (
         b"flows = \"a.csv\"\nplaces = \"t.csv\"\ndistances = \"b.csv\"\n",
-        "the keys \"distances\" and \"places\" are both there: keep one of them",
+        "the keys \"distances\" and \"places\" are both present: keep one of them",
     ),
     (
         b"flows = \"a.csv\"\nplaces = \"t.csv\"\n",
-        "the key \"metric\" is missing: \"places\" wants it; write `metric = \"rectilinear\"`, or \"euclidean\" or \"squared\"",
+        "the key \"metric\" is missing: \"places\" needs it; write `metric = \"rectilinear\"`, or \"euclidean\" or \"squared\"",
     ),
     (
         b"flows = \"a.csv\"\ndistances = \"t.csv\"\nmetric = \"squared\"\n",
-        "the key \"metric\" goes with \"places\", which is missing: take it away, or add that one",
+        "the key \"metric\" goes with \"places\", which is missing: remove it, or add that one",
     ),
     (
         b"flows = \"a.csv\"\ndistances = \"t.csv\"\ndepartments = [\"A\"]\n",
-        "the key \"departments\" goes with \"trips\", which is missing: take it away, or add that one",
+        "the key \"departments\" goes with \"trips\", which is missing: remove it, or add that one",
     ),
     (
         b"flows = \"a.csv\"\nplaces = \"t.csv\"\nmetric = \"manhattan\"\n",
@@ -82,19 +82,19 @@ const PLANS: [Told; 29] = [
     ),
     (
         b"flows = \"a.csv\"\nplaces = \"t.csv\"\nmetric = \"euclidean\"\ndecimals = 10\n",
-        "the key \"decimals\" is to be a whole number from 0 to 9, without quotes, as `decimals = 2`",
+        "the key \"decimals\" must be a whole number from 0 to 9, without quotes, as in `decimals = 2`",
     ),
     (
         b"flows = \"a.csv\"\nplaces = \"t.csv\"\nmetric = \"euclidean\"\ndecimals = -1\n",
-        "the key \"decimals\" is to be a whole number from 0 to 9, without quotes, as `decimals = 2`",
+        "the key \"decimals\" must be a whole number from 0 to 9, without quotes, as in `decimals = 2`",
     ),
     (
         b"flows = \"a.csv\"\nplaces = \"t.csv\"\nmetric = \"squared\"\ndecimals = 1\n",
-        "the key \"decimals\" goes with `metric = \"euclidean\"` alone: distances by \"squared\" are exact, so take it away",
+        "the key \"decimals\" goes with `metric = \"euclidean\"` alone: distances by \"squared\" are exact, so remove it",
     ),
     (
         b"trips = \"a.csv\"\ndistances = \"t.csv\"\ndepartments = \"A\"\n",
-        "the key \"departments\" has the type string: write a list of names, as `departments = [\"Saw\", \"Lathe\"]`",
+        "the key \"departments\" has the type string: write a list of names, as in `departments = [\"Saw\", \"Lathe\"]`",
     ),
     (
         b"trips = \"a.csv\"\ndistances = \"t.csv\"\ndepartments = []\n",
@@ -106,15 +106,15 @@ const PLANS: [Told; 29] = [
     ),
     (
         b"trips = \"a.csv\"\ndistances = \"t.csv\"\ndepartments = [\"A\", \"\"]\n",
-        "the key \"departments[2]\" is empty: write a name there, or take it away",
+        "the key \"departments[2]\" is empty: write a name there, or remove it",
     ),
     (
         b"trips = \"a.csv\"\ndistances = \"t.csv\"\ndepartments = [\"A\", \"B\", \"A\"]\n",
-        "the key \"departments[3]\": the name \"A\" stands twice: give each department a name of its own",
+        "the key \"departments[3]\": the name \"A\" occurs twice: give each department a name of its own",
     ),
     (
         b"flows = \"a.csv\"\ndistances = \"t.csv\"\nfixed = \"A\"\n",
-        "the key \"fixed\" has the type string: write `[fixed]` on a line of its own, and below it a line as `Saw = \"A\"` for each department that stays at its place",
+        "the key \"fixed\" has the type string: write `[fixed]` on a line of its own, and below it a line such as `Saw = \"A\"` for each department that stays at its place",
     ),
     (
         b"flows = \"a.csv\"\ndistances = \"t.csv\"\n[fixed]\nSaw = 4\n",
@@ -138,7 +138,7 @@ const PLANS: [Told; 29] = [
     ),
     (
         b"\"fl\\u001b[2Jows\" = \"a.csv\"\n",
-        "the key \"fl\\u{1b}[2Jows\" is unknown: a plan has the keys flows or trips, departments, distances or places, metric, decimals, decimal_mark and fixed",
+        "the key \"fl\\u{1b}[2Jows\" is unknown: a plan has the keys flows or trips, departments, distances or places, metric, decimals, decimal_mark, round, symmetric, duplicates and fixed",
     ),
 ];
 
@@ -240,7 +240,7 @@ const UNMADE: [Unmade; 8] = [
         MATRICES,
         b",a\na,3,5\n",
         DISTANCES,
-        "line 2, field 3: the cell \"5\" is one too many: take it away, or put a number with a comma in quotes",
+        "line 2, field 3: the cell \"5\" is one too many: remove it, or put a number with a comma in quotes",
     ),
     (
         MATRICES,
@@ -252,25 +252,25 @@ const UNMADE: [Unmade; 8] = [
         b"flows = 'f'\nplaces = 'p'\nmetric = 'squared'\n",
         FLOWS,
         b"name,x,y\nA,0,0\nB,0,100000\n",
-        "the places \"A\" and \"B\" lie too far apart: with its places behind the point dropped, a distance is at most 10^9; round the coordinates, keep fewer decimals or choose a larger unit",
+        "the places \"A\" and \"B\" lie too far apart: with the digits after its point dropped, a distance is at most 10^9; round the coordinates, keep fewer decimals or choose a larger unit",
     ),
     (
         b"flows = 'f'\nplaces = 'p'\nmetric = 'squared'\n",
         FLOWS,
         b"name,x,y\nA,0,0\nB,0,0.0000000001\n",
-        "a coordinate has more than 9 places behind the point: round the coordinates, or choose a smaller unit",
+        "a coordinate has more than 9 digits after the point: round the coordinates, or choose a smaller unit",
     ),
     (
         b"flows = 'f'\ndistances = 'd'\n[fixed]\nMill = 'A'\n",
         FLOWS,
         DISTANCES,
-        "the key \"fixed.Mill\": no department has that name: mend it, or take the line away",
+        "the key \"fixed.Mill\": no department has that name: correct it, or remove the line",
     ),
     (
         b"flows = 'f'\ndistances = 'd'\n[fixed]\nSaw = 'D'\n",
         FLOWS,
         DISTANCES,
-        "the key \"fixed.Saw\": no place has the name \"D\": mend it, or take the line away",
+        "the key \"fixed.Saw\": no place has the name \"D\": correct it, or remove the line",
     ),
     (
         b"flows = 'f'\ndistances = 'd'\n[fixed]\nSaw = 'A'\nLathe = 'A'\n",

@@ -22,7 +22,7 @@ const SUFFIX: &str = ".toml";
 #[derive(Debug, Drop, Error)]
 pub enum LoadError {
     /// A file isn't there, is a folder, or can't be read.
-    #[error("{file}: the file can't be read: name one that is there; the files of tables are sought from the plan's folder")]
+    #[error("{file}: the file can't be read: name one that is there; tables are looked up from the plan's folder")]
     Unread { file: String },
     /// A file is too long.
     #[error("{file}: the file is longer than 1 GiB")]

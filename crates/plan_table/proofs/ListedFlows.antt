@@ -1,21 +1,26 @@
 -- Flows that are listed pair by pair: the names that they have, and the matrix that they make.
-use Rattle.std.proofs.Common.{◌≡◌, ◌≢◌, ℕ, false, ◌+◌, ◌*◌, ◌<◌, ◌≤◌, List, [], ◌∷◌, ◌++◌, length, map, take, get_or, set, replicate, Option, Some, None, ℤ, pos, unsigned_abs, refl, sym, ap, ap₂, ◌∙◌, subst, inl, inr, arith, length-append, append_assoc, get_or-set_same, get_or-set_other, below_more}
-use Rattle.std.specs.Prelude.{All}
+use Rattle.std.proofs.Common.{◌≡◌, ◌≢◌, ℕ, zero, suc, Bool, true, false, cond, eq-eqb, add-one, ◌+◌, ◌*◌, ◌/◌, ◌%◌, ◌<◌, ◌≤◌, List, [], ◌∷◌, ◌++◌, length, map, take, get_or, set, replicate, Option, Some, None, ℤ, pos, unsigned_abs, refl, sym, ap, ap₂, ◌∙◌, subst, inl, inr, arith, length-append, append_assoc, get_or-set_same, get_or-set_other, below_more}
+use Rattle.std.specs.Prelude.{All, ◌==◌, ◌&&◌, ◌⊎◌}
 use Rattle.std.specs.Option.{is_some}
-use Rattle.std.proofs.lemmas.Bool.{cases_eq, cases_lt, cases_order, false≢true}
+use Rattle.std.proofs.lemmas.Bool.{cases_Bool, cases_eq, cases_lt, eqb-false, false≢true, ne_eqb}
 use Rattle.std.proofs.lemmas.List.{get_or-map, get_or-replicate, get_or_at, get_or_append_left, get_or_past, length-map, length-set, length-replicate, take_all, take-append-le}
 use Rattle.std.proofs.lemmas.List.Elements.{All-from_get_or}
+use Rattle.std.proofs.lemmas.Nat.{div_below, mod_below}
 use Rattle.std.proofs.Math.Nat.{mul-le-mul_right}
 use Rattle.csv.specs.Records.{field_at}
 use Rattle.csv.proofs.RecordFacts.{field-get}
 use Rattle.plan_table.specs.Decimal.{max_entry}
-use Rattle.plan_table.specs.Listing.{ArePlaced, AreTripsOf, IsTripOf, IsWith, cell_at, cell_of, filled, trip_at}
-use Rattle.plan_table.specs.Names.{AreDifferent, AreNames, HasName}
+use Rattle.plan_table.specs.Halves.{AreMirrored, IsSymmetric, either, mirror_of, of_halves}
+use Rattle.plan_table.specs.Listing.{AreEntriesOf, ArePlaced, AreTripsOf, IsTripOf, IsWith, added, cell_at, cell_of, filled, sum_of, trip_at}
+use Rattle.plan_table.specs.Lists.{IsTripsMatrix}
+use Rattle.plan_table.specs.Names.{AreNames, HasName}
+use Rattle.plan_table.specs.Numerals.{cell_in, is_nothing, kept_in}
 use Rattle.plan_table.specs.Scale.{AreScaled, IsLeastScale}
 use Rattle.plan_table.specs.Shape.{IsNamedSquare}
-use Rattle.plan_table.specs.Trips.{AppearInOrder, AreTrips, IsTripsMatrix, name_at, pair_row, row_at, words_of}
+use Rattle.plan_table.specs.Trips.{AppearInOrder, name_at, row_at, words_of}
 use Rattle.plan_table.specs.declared.decimal.Decimal.{Decimal}
-use Rattle.plan_table.specs.declared.numeral.DecimalMark.{DecimalMark}
+use Rattle.plan_table.specs.declared.numeral.Reading.{Reading}
+use Rattle.plan_table.specs.declared.rules.Rules.{Rules}
 use Rattle.plan_table.specs.declared.trips.Trip.{Trip}
 use Rattle.plan_table.proofs.Fields.{field_inside}
 
@@ -122,165 +127,178 @@ replicate_none count c =
     ]
 
 -- no cell is filled
-pub ArePlaced-none : (n : ℕ) (trips : List Trip) (amounts : List ℤ) (count : ℕ) (cells : List (Option ℤ)) → count ≡ n * n → cells ≡ replicate count None → ArePlaced n trips amounts 0 cells
-ArePlaced-none n trips amounts count cells many is = record {
+pub ArePlaced-none : (n : ℕ) (adds_up : Bool) (trips : List Trip) (amounts : List ℤ) (count : ℕ) (cells : List (Option ℤ)) → count ≡ n * n → cells ≡ replicate count None → ArePlaced n adds_up trips amounts 0 cells
+ArePlaced-none n adds_up trips amounts count cells many is = record {
   many = ap (λ (l : List (Option ℤ)). length l) is ∙ length-replicate count None ∙ many;
-  there = λ k below. absurd (omega arith);
-  once = λ j k before below. absurd (omega arith);
-  rest = λ c none. ap (λ (l : List (Option ℤ)). cell_at l c) is ∙ replicate_none count c;
+  each = λ c below. ap (λ (l : List (Option ℤ)). cell_at l c) is ∙ replicate_none count c;
+  once = λ off j k before below. absurd (omega arith);
   small = λ c.
       let empty : cell_at cells c ≡ None = ap (λ (l : List (Option ℤ)). cell_at l c) is ∙ replicate_none count c in
       subst (λ (x : Option ℤ). unsigned_abs (filled x) ≤ max_entry) (sym empty) (omega arith);
 }
 
--- one cell more, which was empty
-pub ArePlaced-more : (n : ℕ) (trips : List Trip) (amounts : List ℤ) (k cell : ℕ) (cells newer : List (Option ℤ)) (amount : ℤ) → ArePlaced n trips amounts k cells → cell ≡ cell_of n (trip_at trips k) → cell < length cells
-    → cell_at cells cell ≡ None → amount ≡ get_or amounts k (pos 0) → unsigned_abs amount ≤ max_entry → newer ≡ set cells cell (Some amount) → ArePlaced n trips amounts (k + 1) newer
-ArePlaced-more n trips amounts k cell cells newer amount placed is inside empty amount_is within written =
-    let other : (j : ℕ) → j < k → cell_of n (trip_at trips j) ≢ cell =
-    λ j before same. let filled_one = sym (placed.there j before) ∙ ap (cell_at cells) same ∙ empty in absurd (cc) in
-    subst (ArePlaced n trips amounts (k + 1)) (sym written) (record {
-      many = length-set cells cell (Some amount) ∙ placed.many;
-      there = below_more (λ j. cell_at (set cells cell (Some amount)) (cell_of n (trip_at trips j)) ≡ Some (get_or amounts j (pos 0))) k
-          (λ j before. get_or-set_other cells cell (cell_of n (trip_at trips j)) (Some amount) None (other j before) ∙ placed.there j before)
-          (ap (λ c. cell_at (set cells cell (Some amount)) c) (sym is) ∙ get_or-set_same cells cell (Some amount) None inside ∙ ap Some amount_is);
-      once = λ i j earlier below.
+-- one trip more
+one_more : (n : ℕ) (trips : List Trip) (amounts : List ℤ) (cell k : ℕ) (same : Bool) → (cell_of n (trip_at trips k) == cell) ≡ same
+    → sum_of n trips amounts cell (k + 1) ≡ cond same (Some (added (sum_of n trips amounts cell k) (get_or amounts k (pos 0)))) (sum_of n trips amounts cell k)
+one_more n trips amounts cell k same is =
+    ap (λ m. sum_of n trips amounts cell m) (add-one k)
+    ∙ ap (λ b. cond b (Some (added (sum_of n trips amounts cell k) (get_or amounts k (pos 0)))) (sum_of n trips amounts cell k)) is
+
+-- where the sum of a cell is none, no trip is of it
+none_of : (n : ℕ) (trips : List Trip) (amounts : List ℤ) (cell k : ℕ) → sum_of n trips amounts cell k ≡ None → (j : ℕ) → j < k → cell_of n (trip_at trips j) ≢ cell
+none_of n trips amounts cell zero none j below = absurd (omega arith)
+none_of n trips amounts cell (suc k) none j below = λ same.
+    elim (cases_Bool (cell_of n (trip_at trips k) == cell)) [
+      | inl here ↦ absurd (let is = sym (ap (λ b. cond b (Some (added (sum_of n trips amounts cell k) (get_or amounts k (pos 0)))) (sum_of n trips amounts cell k)) here) ∙ none in cc)
+      | inr other ↦
+          let fewer : sum_of n trips amounts cell k ≡ None = sym (ap (λ b. cond b (Some (added (sum_of n trips amounts cell k) (get_or amounts k (pos 0)))) (sum_of n trips amounts cell k)) other) ∙ none in
           elim (cases_lt j k) [
-            | inl before ↦ placed.once i j earlier before
+            | inl before ↦ none_of n trips amounts cell k fewer j before same
             | inr past ↦
                 let last : j ≡ k = omega (arith, below, past) in
-                λ same. other i (omega (arith, earlier, last)) (same ∙ ap (λ m. cell_of n (trip_at trips m)) last ∙ sym is)
+                let differs = eqb-false (cell_of n (trip_at trips k)) cell other in
+                differs (ap (λ m. cell_of n (trip_at trips m)) (sym last) ∙ same)
+          ]
+    ]
+
+-- one amount more in its cell
+pub ArePlaced-more : (n : ℕ) (adds_up : Bool) (trips : List Trip) (amounts : List ℤ) (k cell : ℕ) (cells newer : List (Option ℤ)) (amount sum : ℤ) → ArePlaced n adds_up trips amounts k cells → cell ≡ cell_of n (trip_at trips k) → cell < length cells
+    → (adds_up ≡ false → cell_at cells cell ≡ None) → amount ≡ get_or amounts k (pos 0) → sum ≡ added (cell_at cells cell) amount → unsigned_abs sum ≤ max_entry → newer ≡ set cells cell (Some sum)
+    → ArePlaced n adds_up trips amounts (k + 1) newer
+ArePlaced-more n adds_up trips amounts k cell cells newer amount sum placed is inside empty amount_is sum_is within written =
+    let within_matrix : cell < n * n = omega (arith, inside, placed.many) in
+    subst (ArePlaced n adds_up trips amounts (k + 1)) (sym written) (record {
+      many = length-set cells cell (Some sum) ∙ placed.many;
+      each = λ c below.
+          elim (cases_eq c cell) [
+            | inl same ↦
+                ap (λ m. cell_at (set cells cell (Some sum)) m) same
+                ∙ get_or-set_same cells cell (Some sum) None inside
+                ∙ ap Some (sum_is ∙ ap₂ added (placed.each cell within_matrix) amount_is)
+                ∙ sym (one_more n trips amounts cell k true (eq-eqb _ _ (sym is)))
+                ∙ ap (λ m. sum_of n trips amounts m (k + 1)) (sym same)
+            | inr differs ↦
+                get_or-set_other cells cell c (Some sum) None differs
+                ∙ placed.each c below
+                ∙ sym (one_more n trips amounts c k false (ne_eqb _ _ (λ same. differs (sym same ∙ sym is))))
           ];
-      rest = λ c none.
-          get_or-set_other cells cell c (Some amount) None (λ same. none k (omega arith) (sym is ∙ sym same))
-          ∙ placed.rest c (λ j before. none j (omega (arith, before)));
+      once = λ off i j earlier below.
+          elim (cases_lt j k) [
+            | inl before ↦ placed.once off i j earlier before
+            | inr past ↦
+                let last : j ≡ k = omega (arith, below, past) in
+                λ same.
+                none_of n trips amounts cell k (sym (placed.each cell within_matrix) ∙ empty off) i (omega (arith, earlier, last)) (same ∙ ap (λ m. cell_of n (trip_at trips m)) last ∙ sym is)
+          ];
       small = λ c.
           elim (cases_eq c cell) [
             | inl same ↦
-                let here : cell_at (set cells cell (Some amount)) c ≡ Some amount =
-                ap (λ m. cell_at (set cells cell (Some amount)) m) same ∙ get_or-set_same cells cell (Some amount) None inside in
+                let here : cell_at (set cells cell (Some sum)) c ≡ Some sum =
+                ap (λ m. cell_at (set cells cell (Some sum)) m) same ∙ get_or-set_same cells cell (Some sum) None inside in
                 subst (λ (x : Option ℤ). unsigned_abs (filled x) ≤ max_entry) (sym here) within
             | inr differs ↦
-                subst (λ (x : Option ℤ). unsigned_abs (filled x) ≤ max_entry) (sym (get_or-set_other cells cell c (Some amount) None differs)) (placed.small c)
+                subst (λ (x : Option ℤ). unsigned_abs (filled x) ≤ max_entry) (sym (get_or-set_other cells cell c (Some sum) None differs)) (placed.small c)
           ];
     })
-
-names_once : (names : List (List ℕ)) (i j : ℕ) → AreDifferent names → i < length names → j < length names → name_at names i ≡ name_at names j → i ≡ j
-names_once names i j different first second same =
-    elim (cases_order i j) [
-      | inl equal ↦ equal
-      | inr (inl below) ↦ absurd (different.once i j below second same)
-      | inr (inr above) ↦ absurd (different.once j i above first (sym same))
-    ]
-
--- a cell is that of one pair alone
-one_pair : (n i j k l : ℕ) → j < n → l < n → i * n + j ≡ k * n + l → (i ≡ k) × (j ≡ l)
-one_pair n i j k l first second same =
-    elim (cases_order i k) [
-      | inl equal ↦ (equal, omega (arith, same, ap (λ x. x * n) equal))
-      | inr (inl below) ↦
-          let further : (i + 1) * n ≤ k * n = mul-le-mul_right n (omega (arith, below)) in
-          absurd (omega (arith, same, first, further, second))
-      | inr (inr above) ↦
-          let further : (k + 1) * n ≤ i * n = mul-le-mul_right n (omega (arith, above)) in
-          absurd (omega (arith, same, first, further, second))
-    ]
 
 -- the cell of two departments lies in the matrix
 pub cell_inside : (n i j : ℕ) → i < n → j < n → i * n + j < n * n
 cell_inside n i j first second =
     let further : (i + 1) * n ≤ n * n = mul-le-mul_right n (omega (arith, first)) in omega (arith, further, second)
 
--- the names of a pair, and the departments that have them
-same_pair : (a b c d v w : List ℕ) → pair_row a b v ≡ pair_row c d w → (a ≡ c) × (b ≡ d)
-same_pair a b c d v w same = (ap (λ (l : List (List ℕ)). get_or l 0 []) same, ap (λ (l : List (List ℕ)). get_or l 1 []) same)
+-- the cell of the way back lies in the matrix
+pub mirror_inside : (n c : ℕ) → c < n * n → mirror_of n c < n * n
+mirror_inside n c below =
+    let some : 0 < n = positive n c below in
+    cell_inside n (c % n) (c / n) (mod_below c n some) (div_below c n n some below)
+  where
+    positive : (n c : ℕ) → c < n * n → 0 < n
+    positive zero c none = absurd (omega arith)
+    positive (suc n) c some = omega arith
+
+half_of : (is_symmetric : Bool) (own other : Option ℤ) → (of_halves is_symmetric own other ≡ own) ⊎ (of_halves is_symmetric own other ≡ other)
+half_of false own other = inl refl
+half_of true None other = inr refl
+half_of true (Some z) other = inl refl
 
 -- the matrix of placed trips is what their records tell
-pub placed_trips : (mark : DecimalMark) (names : List (List ℕ)) (rows : List (List (List ℕ))) (trips : List Trip) (amounts : List ℤ) (cells : List (Option ℤ)) → AreDifferent names → AreTripsOf mark names rows trips
-    → ArePlaced (length names) trips amounts (length trips) cells → AreTrips mark names rows (map (λ t. t.amount) trips) amounts (map filled cells)
-placed_trips mark names rows trips amounts cells different read placed =
-    let n = length names in
-    let one = λ (k : ℕ) (below : k < length rows). read.each k (omega (arith, read.many, below)) in
+pub listed_matrix : (rules : Rules) (reading : Reading) (names : List (List ℕ)) (rows : List (List (List ℕ))) (n m scale : ℕ) (trips : List Trip) (decimals : List Decimal) (amounts entries : List ℤ) (cells : List (Option ℤ)) → n ≡ length names → m ≡ length names
+    → decimals ≡ map (λ t. t.amount) trips → AreTripsOf reading names rows trips → ArePlaced n rules.adds_up trips amounts (length trips) cells → AreEntriesOf rules.is_symmetric m cells entries → IsLeastScale decimals scale
+    → AreScaled scale decimals amounts → IsTripsMatrix rules reading names rows scale entries
+listed_matrix rules reading names rows n m scale trips decimals amounts entries cells many as_many numbers read placed_so entries_so least scaled =
+    let count = length names in
+    let placed : ArePlaced count rules.adds_up trips amounts (length trips) cells = subst (λ (m : ℕ). ArePlaced m rules.adds_up trips amounts (length trips) cells) many placed_so in
+    let said : AreEntriesOf rules.is_symmetric count cells entries = subst (λ (k : ℕ). AreEntriesOf rules.is_symmetric k cells entries) as_many entries_so in
     record {
-      many = length-map trips (λ t. t.amount) ∙ read.many;
-      square = length-map cells filled ∙ placed.many;
-      told = λ k below.
-          let is = one k below in
-          let t = trip_at trips k in
-          let within : k < length trips = omega (arith, read.many, below) in
-          let small : t.from * n + t.to < n * n = cell_inside n t.from t.to is.from_inside is.to_inside in
-          record {
-            from = t.from;
-            to = t.to;
-            word = is.word;
-            from_inside = is.from_inside;
-            to_inside = is.to_inside;
-            is = is.is;
-            spelled = is.spelled ∙ ap Some (sym (get_or-map (λ (u : Trip). u.amount) trips k _ _ within));
-            entry = get_or-map filled cells (t.from * n + t.to) None (pos 0) (omega (arith, placed.many, small)) ∙ ap filled (placed.there k within);
-          };
-      once = λ j k before below from to v w first second.
-          let left = one j (omega (arith, before, below)) in
-          let right = one k below in
-          let left_names = same_pair _ _ _ _ _ _ (sym left.is ∙ first) in
-          let right_names = same_pair _ _ _ _ _ _ (sym right.is ∙ second) in
-          let from_same = names_once names _ _ different left.from_inside right.from_inside (left_names.0 ∙ sym right_names.0) in
-          let to_same = names_once names _ _ different left.to_inside right.to_inside (left_names.1 ∙ sym right_names.1) in
-          placed.once j k before (omega (arith, read.many, below)) (ap₂ (λ a b. a * n + b) from_same to_same);
-      rest = λ i j i_inside j_inside unlisted.
-          let small : i * n + j < n * n = cell_inside n i j i_inside j_inside in
-          let empty : cell_at cells (i * n + j) ≡ None =
-          placed.rest (i * n + j) (λ k below same.
-          let is = read.each k below in
-          let pair = one_pair n (trip_at trips k).from (trip_at trips k).to i j is.to_inside j_inside same in
-          unlisted k (omega (arith, read.many, below)) is.word (is.is ∙ ap₂ (λ a b. pair_row (name_at names a) (name_at names b) is.word) pair.0 pair.1)) in
-          get_or-map filled cells (i * n + j) None (pos 0) (omega (arith, placed.many, small)) ∙ ap filled empty;
-    }
-
--- so do the numbers that it was made of
-pub listed_matrix : (mark : DecimalMark) (names : List (List ℕ)) (rows : List (List (List ℕ))) (n scale : ℕ) (trips : List Trip) (decimals : List Decimal) (amounts entries : List ℤ) (cells : List (Option ℤ)) → n ≡ length names
-    → decimals ≡ map (λ t. t.amount) trips → entries ≡ map filled cells → AreDifferent names → AreTripsOf mark names rows trips → ArePlaced n trips amounts (length trips) cells → IsLeastScale decimals scale
-    → AreScaled scale decimals amounts → IsTripsMatrix mark names rows scale entries
-listed_matrix mark names rows n scale trips decimals amounts entries cells many numbers entries_is different read placed least scaled =
-    let here : ArePlaced (length names) trips amounts (length trips) cells = subst (λ (m : ℕ). ArePlaced m trips amounts (length trips) cells) many placed in
-    let all = placed_trips mark names rows trips amounts cells different read here in
-    record {
-      decimals = decimals;
+      trips = trips;
       amounts = amounts;
-      trips =
-          subst (λ (l : List ℤ). AreTrips mark names rows decimals amounts l) (sym entries_is)
-          (subst (λ (l : List Decimal). AreTrips mark names rows l amounts (map filled cells)) (sym numbers) all);
-      least = least;
-      scaled = scaled;
+      told = read;
+      least = subst (λ (l : List Decimal). IsLeastScale l scale) numbers least;
+      scaled = subst (λ (l : List Decimal). AreScaled scale l amounts) numbers scaled;
+      square = said.many;
+      sums = λ c below.
+          said.each c below
+          ∙ ap₂ (λ own other. filled (of_halves rules.is_symmetric own other)) (placed.each c below) (placed.each (mirror_of count c) (mirror_inside count c below));
+      once = placed.once;
+      halves = said.halves;
     }
 
 -- the matrix is square, and no entry lies further from 0 than the largest
-pub listed_square : (names : List (List ℕ)) (n count : ℕ) (trips : List Trip) (amounts entries : List ℤ) (cells : List (Option ℤ)) → n ≡ length names → AreNames names → entries ≡ map filled cells
-    → ArePlaced n trips amounts count cells → IsNamedSquare names entries
-listed_square names n count trips amounts entries cells many named entries_is placed = record {
+pub listed_square : (names : List (List ℕ)) (n m count : ℕ) (rules : Rules) (trips : List Trip) (amounts entries : List ℤ) (cells : List (Option ℤ)) → m ≡ length names → AreNames names
+    → ArePlaced n rules.adds_up trips amounts count cells → AreEntriesOf rules.is_symmetric m cells entries → IsNamedSquare names entries
+listed_square names n m count rules trips amounts entries cells many named placed said = record {
   named = named;
-  square =
-      ap (λ (l : List ℤ). length l) entries_is
-      ∙ length-map cells filled
-      ∙ placed.many
-      ∙ ap (λ m. m * m) many;
+  square = said.many ∙ ap (λ k. k * k) many;
   in_range =
-      subst (λ (l : List ℤ). All (λ z. unsigned_abs z ≤ max_entry) l) (sym entries_is) (All-from_get_or (λ z. unsigned_abs z ≤ max_entry) (map filled cells) (pos 0) (λ c below.
-      let inside : c < length cells = omega (arith, length-map cells filled, below) in
-      subst (λ z. unsigned_abs z ≤ max_entry) (sym (get_or-map filled cells c None (pos 0) inside)) (placed.small c)));
+      All-from_get_or (λ z. unsigned_abs z ≤ max_entry) entries (pos 0) (λ c below.
+      let inside : c < m * m = omega (arith, below, said.many) in
+      subst (λ z. unsigned_abs z ≤ max_entry) (sym (said.each c inside)) (elim (half_of rules.is_symmetric (cell_at cells c) (cell_at cells (mirror_of m c))) [
+        | inl own ↦ subst (λ (x : Option ℤ). unsigned_abs (filled x) ≤ max_entry) (sym own) (placed.small c)
+        | inr other ↦ subst (λ (x : Option ℤ). unsigned_abs (filled x) ≤ max_entry) (sym other) (placed.small (mirror_of m c))
+      ]));
+}
+
+-- a cell of a list is read as any word
+pub listed_cell : (reading : Reading) (i c : ℕ) (word : List ℕ) → reading.is_square ≡ false → cell_in reading i c word ≡ kept_in reading word
+listed_cell reading i c word listed =
+    let nothing : Decimal = record { number = pos 0; places = 0 } in
+    ap (λ b. cond ((b && (i == c)) && is_nothing word) (Some nothing) (kept_in reading word)) listed
+
+-- the entries are what the cells say
+pub entries_plain : (is_symmetric : Bool) (n : ℕ) (cells : List (Option ℤ)) (entries : List ℤ) → is_symmetric ≡ false → length cells ≡ n * n → entries ≡ map filled cells → AreEntriesOf is_symmetric n cells entries
+entries_plain is_symmetric n cells entries off many is = record {
+  many = ap (λ (l : List ℤ). length l) is ∙ length-map cells filled ∙ many;
+  each = λ c below.
+      ap (λ (l : List ℤ). get_or l c (pos 0)) is
+      ∙ get_or-map filled cells c None (pos 0) (omega (arith, many, below))
+      ∙ ap (λ b. filled (of_halves b (cell_at cells c) (cell_at cells (mirror_of n c)))) (sym off);
+  halves = subst (λ b. IsSymmetric b n entries) (sym off) tt;
+}
+
+-- or what those of the way back say, and both halves are the same
+pub entries_mirrored : (is_symmetric : Bool) (n : ℕ) (cells all : List (Option ℤ)) (entries : List ℤ) → is_symmetric ≡ true → length all ≡ n * n
+    → ((c : ℕ) → c < n * n → cell_at all c ≡ either (cell_at cells c) (cell_at cells (mirror_of n c))) → entries ≡ map filled all → AreMirrored n entries → AreEntriesOf is_symmetric n cells entries
+entries_mirrored is_symmetric n cells all entries on many each is mirrored = record {
+  many = ap (λ (l : List ℤ). length l) is ∙ length-map all filled ∙ many;
+  each = λ c below.
+      ap (λ (l : List ℤ). get_or l c (pos 0)) is
+      ∙ get_or-map filled all c None (pos 0) (omega (arith, many, below))
+      ∙ ap filled (each c below)
+      ∙ ap (λ b. filled (of_halves b (cell_at cells c) (cell_at cells (mirror_of n c)))) (sym on);
+  halves = subst (λ b. IsSymmetric b n entries) (sym on) mirrored;
 }
 
 -- one record more, and the trip that it says
-pub AreTripsOf-more : (mark : DecimalMark) (names : List (List ℕ)) (rows : List (List (List ℕ))) (i : ℕ) (trips newer : List Trip) (t : Trip) → length trips ≡ i → ((k : ℕ) → k < length trips → IsTripOf mark names (row_at rows k) (trip_at trips k))
-    → IsTripOf mark names (row_at rows i) t → newer ≡ trips ++ t ∷ [] → (length newer ≡ i + 1) × ((k : ℕ) → k < length newer → IsTripOf mark names (row_at rows k) (trip_at newer k))
-AreTripsOf-more mark names rows i trips newer t many each is pushed =
+pub AreTripsOf-more : (reading : Reading) (names : List (List ℕ)) (rows : List (List (List ℕ))) (i : ℕ) (trips newer : List Trip) (t : Trip) → length trips ≡ i → ((k : ℕ) → k < length trips → IsTripOf reading names (row_at rows k) (trip_at trips k))
+    → IsTripOf reading names (row_at rows i) t → newer ≡ trips ++ t ∷ [] → (length newer ≡ i + 1) × ((k : ℕ) → k < length newer → IsTripOf reading names (row_at rows k) (trip_at newer k))
+AreTripsOf-more reading names rows i trips newer t many each is pushed =
     let long : length newer ≡ i + 1 = omega (arith, ap (λ (l : List Trip). length l) pushed, length-append trips (t ∷ []), many) in (
       long,
       λ k below.
-          subst (λ (l : List Trip). IsTripOf mark names (row_at rows k) (trip_at l k)) (sym pushed) (elim (cases_lt k (length trips)) [
-            | inl inside ↦ subst (λ (u : Trip). IsTripOf mark names (row_at rows k) u) (sym (get_or_append_left trips (t ∷ []) _ k inside)) (each k inside)
+          subst (λ (l : List Trip). IsTripOf reading names (row_at rows k) (trip_at l k)) (sym pushed) (elim (cases_lt k (length trips)) [
+            | inl inside ↦ subst (λ (u : Trip). IsTripOf reading names (row_at rows k) u) (sym (get_or_append_left trips (t ∷ []) _ k inside)) (each k inside)
             | inr past ↦
                 let here : length trips ≡ k = omega (arith, long, below, many, past) in
-                subst (λ (u : Trip). IsTripOf mark names (row_at rows k) u) (sym (get_or_at trips t [] _ k here)) (subst (λ m. IsTripOf mark names (row_at rows m) t) (sym many ∙ here) is)
+                subst (λ (u : Trip). IsTripOf reading names (row_at rows k) u) (sym (get_or_at trips t [] _ k here)) (subst (λ m. IsTripOf reading names (row_at rows m) t) (sym many ∙ here) is)
           ]),
     )

@@ -33,7 +33,7 @@ are_digits-some : (b : ℕ) (bs : List ℕ) → AllDigits (b ∷ bs) → are_dig
 are_digits-some b bs all = ap (λ t. not t && list_all is_digit (b ∷ bs)) (ne_eqb (length (b ∷ bs)) 0 (omega arith)) ∙ all
 
 -- a digit is no point and no sign
-digit-range : (b : ℕ) → is_digit b ≡ true → (48 ≤ b) × (b ≤ 57)
+pub digit-range : (b : ℕ) → is_digit b ≡ true → (48 ≤ b) × (b ≤ 57)
 digit-range b is =
     let parts = and_parts _ _ is in (leb-true 48 b parts.0, leb-true b 57 parts.1)
 
@@ -80,7 +80,7 @@ before_kept-digits b [] digit all =
     ]
 before_kept-digits b (c ∷ cs) digit all = both (is_digit b) (list_all is_digit (c ∷ cs)) digit all
 
-without_zeros-digits : (xs : List ℕ) → AllDigits xs → AllDigits (without_zeros xs)
+pub without_zeros-digits : (xs : List ℕ) → AllDigits xs → AllDigits (without_zeros xs)
 without_zeros-digits [] all = refl
 without_zeros-digits (b ∷ bs) all =
     let parts = and_parts (is_digit b) (list_all is_digit bs) all in

@@ -1,5 +1,5 @@
 -- Names that a reader would take for one another.
-use Rattle.std.specs.Prelude.{◌≡◌, ◌≢◌, ℕ, ◌<◌, ◌==◌, not, List, [], length, slice_index_or}
+use Rattle.std.specs.Prelude.{◌≢◌, ℕ, ◌<◌, ◌==◌, not, List, [], length, slice_index_or}
 use Rattle.std.specs.List.{filter}
 use Rattle.std.specs.StrCase.Lower.{str_to_lowercase}
 

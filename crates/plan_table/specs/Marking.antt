@@ -1,14 +1,13 @@
 -- Which decimal mark a table has, where it may say so itself.
 use Rattle.std.specs.Prelude.{◌≡◌, ℕ, ◌<◌, ◌≤◌, ◌⊎◌, ◌==◌, ◌||◌, Bool, not, true, List, [], length, Option, Some, None, slice_index_or}
 use Rattle.std.specs.List.{list_all}
-use Rattle.plan_table.specs.Numerals.{fraction_of, is_nothing, is_numeral, whole_of, without_sign}
+use Rattle.plan_table.specs.Numerals.{is_nothing, is_spelled, number_bytes}
 use Rattle.plan_table.specs.declared.numeral.DecimalMark.{DecimalMark}
 use Rattle.plan_table.specs.declared.numeral.DecimalMark.TheVariants.{Point, Comma}
 
 -- a word is a number by this mark, or says nothing
-abbrev pub IsWritten : DecimalMark → List ℕ → Type 0
-IsWritten mark word =
-    (is_nothing word || is_numeral mark (whole_of mark (without_sign word)) (fraction_of mark (without_sign word))) ≡ true
+unfoldable pub IsWritten : DecimalMark → List ℕ → Type 0
+IsWritten mark word = (is_nothing word || is_spelled mark (number_bytes word)) ≡ true
 
 -- a byte is neither a point nor a comma
 abbrev pub is_no_mark : ℕ → Bool

@@ -1,7 +1,9 @@
--- Numbers as spreadsheets write them: by a point or a comma, and in groups of three digits.
-use Rattle.std.specs.Prelude.{ℕ, ◌+◌, ◌%◌, ◌==◌, Bool, true, false, not, ◌&&◌, ◌||◌, if◌then◌else◌, List, [], ◌∷◌, ◌++◌, length, take, drop, position, Option, Some, None, pos}
+-- Numbers as spreadsheets write them: by a point or a comma, in groups of three digits, and with an exponent.
+use Rattle.std.specs.Prelude.{ℕ, ◌+◌, ◌-◌, ◌%◌, ◌==◌, Bool, true, false, not, ◌&&◌, ◌||◌, nat_le, nat_lt, if◌then◌else◌, List, [], ◌∷◌, ◌++◌, length, map, replicate, take, drop, position, Option, Some, None, pos}
 use Rattle.std.specs.List.{filter, list_all}
-use Rattle.plan_table.specs.Decimal.{decimal_of, is_digit}
+use Rattle.std.specs.Str.{chars}
+use Rattle.plan_table.specs.Decimal.{decimal_of, is_digit, magnitude_of}
+use Rattle.plan_table.specs.Rounding.{rounded_decimal_of}
 use Rattle.plan_table.specs.declared.decimal.Decimal.{Decimal}
 use Rattle.plan_table.specs.declared.numeral.DecimalMark.{DecimalMark}
 use Rattle.plan_table.specs.declared.numeral.DecimalMark.TheVariants.{Point, Comma}
@@ -87,15 +89,83 @@ abbrev pub plain_fraction : List ℕ → List ℕ
 plain_fraction [] = []
 plain_fraction (b ∷ bs) = 46 ∷ b ∷ bs
 
--- the plain text of a sign, a whole part and a fraction; none where they make no number
-abbrev pub plain_parts : DecimalMark → List ℕ → List ℕ → List ℕ → Option (List ℕ)
-plain_parts mark sign whole fraction =
-    if is_numeral mark whole fraction then Some (sign ++ (plain_whole whole ++ plain_fraction fraction)) else None
+-- a byte begins an exponent
+abbrev pub is_exponent_sign : ℕ → Bool
+is_exponent_sign b = b == 101 || b == 69
+
+-- the place of a word's exponent, if it has one
+abbrev pub exponent_at : List ℕ → Option ℕ
+exponent_at word = position is_exponent_sign word
+
+-- what stands before the exponent
+abbrev pub mantissa_of : List ℕ → List ℕ
+mantissa_of word = front_to word (exponent_at word)
+
+-- one to three digits
+abbrev pub is_power : List ℕ → Bool
+is_power digits = not (length digits == 0) && (nat_le (length digits) 3 && list_all is_digit digits)
+
+-- an exponent, where there is one, is one to three digits behind an optional sign
+abbrev pub is_exponent : List ℕ → Option ℕ → Bool
+is_exponent word None = true
+is_exponent word (Some i) = is_power (without_sign (drop (i + 1) word))
+
+-- a word is a number by this mark
+abbrev pub is_spelled : DecimalMark → List ℕ → Bool
+is_spelled mark word =
+    is_numeral mark (whole_of mark (without_sign (mantissa_of word))) (fraction_of mark (without_sign (mantissa_of word)))
+    && is_exponent word (exponent_at word)
+
+-- digits, of which so many stand behind the point; a zero in front changes nothing
+abbrev pub pointed_digits : List ℕ → ℕ → List ℕ
+pointed_digits digits places =
+    (48 ∷ take (length digits - places) digits) ++ plain_fraction (drop (length digits - places) digits)
+
+-- so many zeros
+abbrev pub zeros : ℕ → List ℕ
+zeros count = replicate count 48
+
+-- a number times 10^power: as many zeros more behind its digits
+abbrev pub raised_text : ℕ → List ℕ → List ℕ → List ℕ
+raised_text power whole fraction = pointed_digits ((filter is_digit whole ++ fraction) ++ zeros power) (length fraction)
+
+-- a number over 10^power: as many zeros more before its digits, and as many places more behind the point
+abbrev pub lowered_text : ℕ → List ℕ → List ℕ → List ℕ
+lowered_text power whole fraction = pointed_digits ((zeros power ++ filter is_digit whole) ++ fraction) (length fraction + power)
+
+-- a number times a power of ten, or over it where the sign is a minus
+abbrev pub shifted_text : List ℕ → List ℕ → List ℕ → List ℕ → List ℕ
+shifted_text [] digits whole fraction = raised_text (magnitude_of digits) whole fraction
+shifted_text (b ∷ bs) digits whole fraction =
+    if b == 45 then lowered_text (magnitude_of digits) whole fraction else raised_text (magnitude_of digits) whole fraction
+
+-- the digits of a whole part and of a fraction, with the point where the exponent moves it
+abbrev pub unsigned_text : List ℕ → Option ℕ → List ℕ → List ℕ → List ℕ
+unsigned_text word None whole fraction = plain_whole whole ++ plain_fraction fraction
+unsigned_text word (Some i) whole fraction =
+    shifted_text (sign_of (drop (i + 1) word)) (without_sign (drop (i + 1) word)) whole fraction
+
+-- the plain text of a number: its sign, no mark between groups, a point only before a fraction, and no exponent
+abbrev pub plain_text : DecimalMark → List ℕ → List ℕ
+plain_text mark word =
+    sign_of (mantissa_of word)
+    ++ unsigned_text word (exponent_at word) (whole_of mark (without_sign (mantissa_of word))) (fraction_of mark (without_sign (mantissa_of word)))
 
 -- the plain text of the number that a word spells by this mark; none where it spells none
 abbrev pub plain : DecimalMark → List ℕ → Option (List ℕ)
-plain mark word =
-    plain_parts mark (sign_of word) (whole_of mark (without_sign word)) (fraction_of mark (without_sign word))
+plain mark word = if is_spelled mark word then Some (plain_text mark word) else None
+
+-- a character is a blank: an ordinary one, or one that is narrow or keeps a line together
+abbrev pub is_blank : ℕ → Bool
+is_blank c = c == 32 || (c == 0xA0 || (c == 0x2009 || c == 0x202F))
+
+-- a character as a byte: each blank is an ordinary one, and 255 stands for each that no number has
+abbrev pub byte_for : ℕ → ℕ
+byte_for c = if is_blank c then 32 else if nat_lt c 128 then c else 255
+
+-- the bytes for a word's characters
+abbrev pub number_bytes : List ℕ → List ℕ
+number_bytes word = map byte_for (chars word)
 
 -- the decimal number that a plain text spells, where there is one
 abbrev pub decimal_of_plain : Option (List ℕ) → Option Decimal
@@ -103,8 +173,18 @@ decimal_of_plain None = None
 decimal_of_plain (Some text) = decimal_of text
 
 -- the decimal number that a word spells by this mark; none where it spells none
-abbrev pub number_in : DecimalMark → List ℕ → Option Decimal
-number_in mark word = decimal_of_plain (plain mark word)
+unfoldable pub number_in : DecimalMark → List ℕ → Option Decimal
+number_in mark word = decimal_of_plain (plain mark (number_bytes word))
+
+-- the same, rounded where that is wanted
+abbrev pub rounded_plain : Option ℕ → Option (List ℕ) → Option Decimal
+rounded_plain None text = decimal_of_plain text
+rounded_plain (Some places) None = None
+rounded_plain (Some places) (Some text) = rounded_decimal_of places text
+
+-- the decimal number that is read from a word: what it spells, rounded where that is wanted
+unfoldable pub kept_in : Reading → List ℕ → Option Decimal
+kept_in reading word = rounded_plain reading.round (plain reading.mark (number_bytes word))
 
 -- nothing, a dash or a cross, as tables have them between a thing and itself
 abbrev pub is_nothing : List ℕ → Bool
@@ -115,4 +195,4 @@ is_nothing (b ∷ c ∷ bs) = false
 -- the number of the cell in this row and column: in a square table, a cell between a thing and itself may say nothing
 abbrev pub cell_in : Reading → ℕ → ℕ → List ℕ → Option Decimal
 cell_in reading i c word =
-    if (reading.is_square && (i == c)) && is_nothing word then Some (record { number = pos 0; places = 0 }) else number_in reading.mark word
+    if (reading.is_square && (i == c)) && is_nothing word then Some (record { number = pos 0; places = 0 }) else kept_in reading word

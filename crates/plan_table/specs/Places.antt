@@ -1,5 +1,5 @@
 -- Places with coordinates, as the records of a text spell them.
-use Rattle.std.specs.Prelude.{◌≡◌, ◌≢◌, ℕ, ◌<◌, ◌≤◌, false, List, [], ◌∷◌, length, Option, All, ℤ, pos, codes, slice_index_or, unsigned_abs}
+use Rattle.std.specs.Prelude.{◌≡◌, ◌≢◌, ℕ, ◌<◌, ◌≤◌, false, List, [], ◌∷◌, length, All, ℤ, pos, codes, slice_index_or, unsigned_abs}
 use Rattle.plan_table.specs.Alike.{AreUnlike}
 use Rattle.plan_table.specs.Decimal.{max_entry}
 use Rattle.plan_table.specs.Heads.{IsHead}
@@ -10,6 +10,7 @@ use Rattle.plan_table.specs.Table.{AreRecordsOf, AreRowsOf}
 use Rattle.plan_table.specs.declared.decimal.Decimal.{Decimal}
 use Rattle.plan_table.specs.declared.numeral.DecimalMark.{DecimalMark}
 use Rattle.plan_table.specs.declared.places.Point.{Point}
+use Rattle.plan_table.specs.declared.rules.Rules.{Rules}
 
 -- the fields of the first line
 abbrev pub places_head : List (List ℕ)
@@ -34,7 +35,7 @@ IsNear p = (unsigned_abs p.x ≤ max_entry) × (unsigned_abs p.y ≤ max_entry)
 
 -- the text has the first line, in capital or small letters, and then for each of these names, in their order, a line with the name and
 -- the numbers x and y; the coordinates are these numbers, all times the same power of ten, which is the least that makes them whole
-pub record IsPlacesText (given : Option DecimalMark) (text : List ℕ) (names : List (List ℕ)) (scale : ℕ) (points : List Point) : Type 0 where
+pub record IsPlacesText (rules : Rules) (text : List ℕ) (names : List (List ℕ)) (scale : ℕ) (points : List Point) : Type 0 where
   pub head : List (List ℕ)
   pub rows : List (List (List ℕ))
   pub mark : DecimalMark
@@ -43,8 +44,8 @@ pub record IsPlacesText (given : Option DecimalMark) (text : List ℕ) (names : 
   pub headed : IsHead places_head head
   pub named : AreNames names
   pub unlike : AreUnlike names
-  pub marked : IsMark given rows 1 3 mark
-  pub spelled : AreRowsOf (record { mark = mark; is_square = false }) 2 names rows decimals
+  pub marked : IsMark rules.decimal_mark rows 1 3 mark
+  pub spelled : AreRowsOf (record { mark = mark; round = rules.round; is_square = false }) 2 names rows decimals
   pub least : IsLeastScale decimals scale
   pub scaled : AreScaled scale decimals (coordinates_of points)
   pub apart : AreApart points

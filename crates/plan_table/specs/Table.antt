@@ -1,11 +1,12 @@
 -- A matrix with names, as the records of a text spell it.
-use Rattle.std.specs.Prelude.{◌≡◌, ℕ, ◌+◌, ◌<◌, ◌≤◌, true, List, [], ◌∷◌, ◌++◌, length, map, Option, None, Some, ℤ, pos, slice_index_or}
+use Rattle.std.specs.Prelude.{◌≡◌, ℕ, ◌+◌, ◌<◌, ◌≤◌, true, List, [], ◌∷◌, ◌++◌, length, map, None, Some, ℤ, pos, slice_index_or}
 use Rattle.csv.specs.Reading.{AreRecords, default_config, strip_bom}
 use Rattle.csv.specs.declared.parser.Config.{Config}
 use Rattle.csv.specs.declared.parser.State.TheVariants as state
 use Rattle.plan_table.specs.CsvText.{IsCsv}
 use Rattle.csv.specs.Records.{field_at}
 use Rattle.plan_table.specs.Alike.{AreUnlike}
+use Rattle.plan_table.specs.Halves.{AreReadFrom, IsSymmetric}
 use Rattle.plan_table.specs.Marking.{IsMark}
 use Rattle.plan_table.specs.Marks.{byte_of}
 use Rattle.plan_table.specs.Names.{AreNames}
@@ -16,6 +17,7 @@ use Rattle.plan_table.specs.Tidy.{tidied}
 use Rattle.plan_table.specs.declared.decimal.Decimal.{Decimal}
 use Rattle.plan_table.specs.declared.numeral.DecimalMark.{DecimalMark}
 use Rattle.plan_table.specs.declared.numeral.Reading.{Reading}
+use Rattle.plan_table.specs.declared.rules.Rules.{Rules}
 use Rattle.plan_table.specs.declared.separator.Separator.{Separator}
 
 -- how the text of a table with this separator is read
@@ -64,24 +66,35 @@ pub record AreRowsOf (reading : Reading) (count : ℕ) (names : List (List ℕ))
   pub inside : (i : ℕ) → i < length order → slice_index_or order i 0 < length rows
   pub read : AreRows reading 0 count names (in_order rows order) decimals
 
--- the records are a first field, which is no number, and the names, and then the rows of these names with as many cells, in any
--- order; the entries are the numbers of the cells by rows, all times the same power of ten, which is the least that makes them whole
-pub record IsMatrix (given : Option DecimalMark) (records : List (List (List ℕ))) (names : List (List ℕ)) (scale : ℕ) (entries : List ℤ) : Type 0 where
-  pub corner : List ℕ
-  pub rows : List (List (List ℕ))
+-- these rows are those of the names, with as many cells each, in any order; the entries are the numbers of the cells by rows, all times
+-- the same power of ten, which is the least that makes them whole. The corner of the table is no number by the same mark
+pub record AreNumbersOf (rules : Rules) (corner : List ℕ) (rows : List (List (List ℕ))) (names : List (List ℕ)) (scale : ℕ) (entries : List ℤ) : Type 0 where
   pub mark : DecimalMark
   pub decimals : List Decimal
-  pub is : records ≡ (corner ∷ names) ∷ rows
   pub unnumbered : number_in mark corner ≡ None
-  pub named : AreNames names
-  pub unlike : AreUnlike names
-  pub marked : IsMark given rows 1 (length names + 1) mark
-  pub read : AreRowsOf (record { mark = mark; is_square = true }) (length names) names rows decimals
+  pub marked : IsMark rules.decimal_mark rows 1 (length names + 1) mark
+  pub read : AreRowsOf (record { mark = mark; round = rules.round; is_square = true }) (length names) names rows decimals
   pub least : IsLeastScale decimals scale
   pub scaled : AreScaled scale decimals entries
 
+-- the rows are completed first where one half of them may stand for the other, and then both halves are the same
+pub record IsNumbered (rules : Rules) (corner : List ℕ) (rows : List (List (List ℕ))) (names : List (List ℕ)) (scale : ℕ) (entries : List ℤ) : Type 0 where
+  pub filled : List (List (List ℕ))
+  pub completed : AreReadFrom rules.is_symmetric names rows filled
+  pub numbers : AreNumbersOf rules corner filled names scale entries
+  pub halves : IsSymmetric rules.is_symmetric (length names) entries
+
+-- the records are a first field, which is no number, and the names, and then the rows of these names
+pub record IsMatrix (rules : Rules) (records : List (List (List ℕ))) (names : List (List ℕ)) (scale : ℕ) (entries : List ℤ) : Type 0 where
+  pub corner : List ℕ
+  pub rows : List (List (List ℕ))
+  pub is : records ≡ (corner ∷ names) ∷ rows
+  pub named : AreNames names
+  pub unlike : AreUnlike names
+  pub numbered : IsNumbered rules corner rows names scale entries
+
 -- the text is that of this matrix
-pub record IsMatrixText (given : Option DecimalMark) (text : List ℕ) (names : List (List ℕ)) (scale : ℕ) (entries : List ℤ) : Type 0 where
+pub record IsMatrixText (rules : Rules) (text : List ℕ) (names : List (List ℕ)) (scale : ℕ) (entries : List ℤ) : Type 0 where
   pub records : List (List (List ℕ))
   pub read : AreRecordsOf text records
-  pub matrix : IsMatrix given records names scale entries
+  pub matrix : IsMatrix rules records names scale entries

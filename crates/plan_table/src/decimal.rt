@@ -17,7 +17,7 @@ pub const MAX_ENTRY: u64 = 1_000_000_000;
 pub const MAX_NUMBER: u128 = 1_000_000_000_000_000_000_000_000_000_000_000_000;
 
 /// Stands for each number that is larger.
-const BEYOND: u128 = MAX_NUMBER + 1;
+pub const BEYOND: u128 = MAX_NUMBER + 1;
 
 /// A decimal number, `number / 10^places`, with as few places as it can have.
 #[derive(Clone, Copy, Debug, PartialEq, Eq)]
@@ -94,7 +94,7 @@ pub fn parse_unsigned(word: &[u8]) -> Option<Unsigned>
 }
 
 /// The place of the first point of a word.
-fn first_point(word: &[u8]) -> Option<usize>
+pub fn first_point(word: &[u8]) -> Option<usize>
     ensures place { result ≡ position is_point word.now }
     ensures inside { IfSome result (λ i. i < length word.now) }
 {
@@ -102,7 +102,7 @@ fn first_point(word: &[u8]) -> Option<usize>
 }
 
 /// The number that digits with no point spell.
-fn whole(digits: &[u8]) -> Option<Unsigned>
+pub fn whole(digits: &[u8]) -> Option<Unsigned>
     ensures { result ≡ option_map held_unsigned (whole_of digits.now) }
 {
     if are_digits(digits) {
@@ -124,7 +124,7 @@ fn pointed(whole: &[u8], fraction: &[u8]) -> Option<Unsigned>
 }
 
 /// Whether these are one or more digits, and nothing else.
-fn are_digits(text: &[u8]) -> bool
+pub fn are_digits(text: &[u8]) -> bool
     ensures { result ≡ digits_of text.now }
 {
     !text.is_empty() && all_digits(text)
@@ -159,7 +159,7 @@ pub fn without_zeros(digits: &[u8]) -> &[u8]
 }
 
 /// The number that digits and places stand for, held to one above 10^36.
-fn held(whole: &[u8], fraction: &[u8]) -> Unsigned
+pub fn held(whole: &[u8], fraction: &[u8]) -> Unsigned
     ensures { result ≡ held_unsigned (unsigned whole.now fraction.now) }
 {
     let before = followed_by(0, whole);
@@ -171,7 +171,7 @@ fn held(whole: &[u8], fraction: &[u8]) -> Unsigned
 }
 
 /// What digits stand for that follow digits which stand for `before`, held to one above 10^36.
-fn followed_by(before: u128, digits: &[u8]) -> u128
+pub fn followed_by(before: u128, digits: &[u8]) -> u128
     requires { before ≤ max_number + 1 }
     ensures held { result ≤ max_number + 1 }
     ensures value { (front : List ℕ) → before ≡ held_magnitude front → result ≡ held_magnitude (front ++ digits.now) }

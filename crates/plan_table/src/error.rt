@@ -21,10 +21,10 @@ impl fmt::Display for Place {
 #[derive(Clone, Copy, Debug, PartialEq, Eq, Error)]
 pub enum Misspelling {
     /// Something follows the quote that ends a field.
-    #[error("text follows the closing quote: write a quote that belongs to the field twice, or take the quotes away")]
+    #[error("text follows the closing quote: write a quote that belongs to the field twice, or remove the quotes")]
     AfterQuote,
     /// A field has a quote, and doesn't begin with one.
-    #[error("a quote stands inside a field without quotes: put the whole field in quotes, and write each quote inside twice")]
+    #[error("a field without quotes has a quote inside: put the whole field in quotes, and write each quote inside twice")]
     QuoteInside,
     /// A carriage return ends a field, and no line feed follows.
     #[error("a carriage return without a line feed follows: end each line in LF or CRLF")]
@@ -49,7 +49,7 @@ pub enum TableError {
     #[error("the table is empty: begin with a line of an empty field and the names, as `,Saw,Lathe`")]
     Empty,
     /// The first record has one field alone.
-    #[error("line {line} has no name: write an empty field and then 1 to 256 names, as `,Saw,Lathe`")]
+    #[error("line {line} has no name: write an empty field and then 1 to 256 names, as in `,Saw,Lathe`")]
     NoName {
         line: u64,
     },
@@ -84,7 +84,7 @@ pub enum TableError {
     #[error("the list has no pair: write a line for each below the first, or name the departments in the plan")]
     NoPair,
     /// There are more than 256 departments; another one stands here.
-    #[error("{place}: the name \"{name}\" is that of one department more than 256: at most so many are read, so split the list")]
+    #[error("{place}: the name \"{name}\" is that of a 257th department: at most 256 are read, so split the list")]
     TooManyDepartments {
         place: Place,
         name: String,
@@ -95,20 +95,20 @@ pub enum TableError {
         place: Place,
     },
     /// A name is none of the departments'.
-    #[error("{place}: no department has the name \"{name}\": mend it, or add it to the departments of the plan")]
+    #[error("{place}: no department has the name \"{name}\": correct it, or add it to the departments of the plan")]
     UnknownName {
         place: Place,
         name: String,
     },
     /// A pair stands twice.
-    #[error("{place}: the pair from \"{from}\" to \"{to}\" stands twice: write one line with the sum of both")]
+    #[error("{place}: the pair from \"{from}\" to \"{to}\" occurs twice: write one line with the sum of both, or say `duplicates = \"sum\"` in the plan")]
     PairTwice {
         place: Place,
         from: String,
         to: String,
     },
     /// A name is empty.
-    #[error("{place} is empty: write a name there, or take its column or its line away")]
+    #[error("{place} is empty: write a name there, or remove its column or its line")]
     EmptyName {
         place: Place,
     },
@@ -119,7 +119,7 @@ pub enum TableError {
         code: u32,
     },
     /// A name stands twice.
-    #[error("{place}: the name \"{name}\" stands twice: give each a name of its own")]
+    #[error("{place}: the name \"{name}\" occurs twice: give each a name of its own")]
     NameTwice {
         place: Place,
         name: String,
@@ -147,13 +147,13 @@ pub enum TableError {
         second: String,
     },
     /// The first field is a number.
-    #[error("line {line} begins with the number \"{word}\" where names should be: write an empty field and then the names, as `,Saw,Lathe`")]
+    #[error("line {line} begins with the number \"{word}\" where names should be: write an empty field and then the names, as in `,Saw,Lathe`")]
     NoNames {
         line: u64,
         word: String,
     },
     /// Two places stand at one point.
-    #[error("the places \"{first}\" and \"{second}\" stand at one point: give each its own")]
+    #[error("the places \"{first}\" and \"{second}\" are at the same point: give each its own")]
     SamePoint {
         first: String,
         second: String,
@@ -165,13 +165,13 @@ pub enum TableError {
         word: String,
     },
     /// A record has a cell too many.
-    #[error("{place}: the cell \"{word}\" is one too many: take it away, or put a number with a comma in quotes")]
+    #[error("{place}: the cell \"{word}\" is one too many: remove it, or put a number with a comma in quotes")]
     ExtraCell {
         place: Place,
         word: String,
     },
     /// A cell is no decimal number.
-    #[error("{place}: \"{word}\" is no number: write digits and at most one decimal mark, as `12` or `-0.25`, with no unit or exponent")]
+    #[error("{place}: \"{word}\" is not a number: write digits and at most one decimal mark, such as `12`, `-0.25` or `1e3`, with no unit")]
     NotANumber {
         place: Place,
         word: String,
@@ -182,8 +182,21 @@ pub enum TableError {
         place: Place,
         word: String,
     },
+    /// The amounts of a pair add up to too much.
+    #[error("{place}: the amounts from \"{from}\" to \"{to}\" add up to too much: times the power of ten that makes all numbers whole the sum lies outside -10^9 to 10^9; round the numbers or choose a larger unit")]
+    SumTooLarge {
+        place: Place,
+        from: String,
+        to: String,
+    },
+    /// The two halves of a table differ, where each stands for the other.
+    #[error("the cells from \"{from}\" to \"{to}\" and back hold different numbers: with `symmetric = true` leave one of them empty, or write the same number in both")]
+    NotMirrored {
+        from: String,
+        to: String,
+    },
     /// A row and a column hold the sums of the others.
-    #[error("the row and the column \"{name}\" hold the sums of the others: take both away, since they would count as one more")]
+    #[error("the row and the column \"{name}\" hold the sums of the others: remove both, since they would count as one more")]
     Total {
         name: String,
     },
@@ -194,7 +207,7 @@ pub enum TableError {
     #[error("{0}")]
     NotCsv(#[from] CsvFault),
     /// A record is no UTF-8.
-    #[error("line {line} is no UTF-8: save the table as \"CSV UTF-8\"")]
+    #[error("line {line} is not UTF-8: save the table as \"CSV UTF-8\"")]
     NotText {
         line: u64,
     },

@@ -54,7 +54,7 @@ fn has_words(
 }
 
 /// Whether a field is a word, in capital or small letters.
-fn is_word(alloc: Global, field: &str, word: &str) -> Result<bool, AllocError>
+pub fn is_word(alloc: Global, field: &str, word: &str) -> Result<bool, AllocError>
     ensures { IfOk result (λ same. IsTrue same → map to_ascii_lowercase field.now ≡ word.now) }
 {
     let small = field.to_ascii_lowercase(alloc)?;

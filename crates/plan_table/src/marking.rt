@@ -10,7 +10,7 @@ use crate::error::TableError;
 use crate::numeral::{DecimalMark, is_unmarked, is_written};
 use crate::rows::{place_of, word_in};
 use csv::StringRecord;
-use std::alloc::Global;
+use std::alloc::{AllocError, Global};
 
 /// The decimal mark of a table's numbers, which stand in the fields from `first` to before `end`: the one that is given, or else the one by
 /// which all of them can be read. Where both can read them and would read them differently, that is an error.
@@ -27,10 +27,10 @@ pub fn mark_of_table(
     if let Some(mark) = given {
         return Ok(mark);
     }
-    if !are_written(DecimalMark::Comma, rows, first, end) {
+    if !are_written(alloc, DecimalMark::Comma, rows, first, end)? {
         return Ok(DecimalMark::Point);
     }
-    if !are_written(DecimalMark::Point, rows, first, end) {
+    if !are_written(alloc, DecimalMark::Point, rows, first, end)? {
         return Ok(DecimalMark::Comma);
     }
     match first_marked(rows, first, end) {
@@ -40,27 +40,41 @@ pub fn mark_of_table(
 }
 
 /// Whether all fields there are numbers by a mark, or say nothing.
-fn are_written(mark: DecimalMark, rows: &[StringRecord], first: usize, end: usize) -> bool
-    ensures { IsTrue result ↔ AreEach (IsWritten mark) (map fields_of rows.now) first end }
+fn are_written(
+    alloc: Global,
+    mark: DecimalMark,
+    rows: &[StringRecord],
+    first: usize,
+    end: usize,
+) -> Result<bool, AllocError>
+    ensures { IfOk result (λ all. IsTrue all ↔ AreEach (IsWritten mark) (map fields_of rows.now) first end) }
 {
     for row in rows {
-        if !is_row_written(mark, row, first, end) {
-            return false;
+        let written = is_row_written(alloc, mark, row, first, end)?;
+        if !written {
+            return Ok(false);
         }
     }
-    true
+    Ok(true)
 }
 
 /// Whether those of a row are.
-fn is_row_written(mark: DecimalMark, row: &StringRecord, first: usize, end: usize) -> bool
-    ensures { IsTrue result ↔ ((k : ℕ) → first ≤ k → k < end → IsWritten mark (word_at (fields_of row.now) k)) }
+fn is_row_written(
+    alloc: Global,
+    mark: DecimalMark,
+    row: &StringRecord,
+    first: usize,
+    end: usize,
+) -> Result<bool, AllocError>
+    ensures { IfOk result (λ all. IsTrue all ↔ ((k : ℕ) → first ≤ k → k < end → IsWritten mark (word_at (fields_of row.now) k))) }
 {
     for k in first..end {
-        if !is_written(mark, word_in(row, k).as_bytes()) {
-            return false;
+        let written = is_written(alloc, mark, word_in(row, k))?;
+        if !written {
+            return Ok(false);
         }
     }
-    true
+    Ok(true)
 }
 
 /// The number of the first record that has a point or a comma in a field there, and the number of that field.

@@ -1,13 +1,15 @@
-//! Numbers as spreadsheets write them: by a point or a comma, and in groups of three digits.
+//! Numbers as spreadsheets write them: by a point or a comma, in groups of three digits, and with an exponent.
 
-ghost use Rattle.std.specs.Prelude.{◌≡◌, ◌↔◌, ◌++◌, ◌==◌, ◌||◌, ◌<◌, length, position, IfOk, IfSome, IsTrue, OnOk, Some};
-ghost use Rattle.std.specs.List.{list_all};
+ghost use Rattle.std.specs.Prelude.{◌≡◌, ◌↔◌, ◌++◌, ◌==◌, ◌||◌, ◌<◌, false, length, position, IfOk, IfSome, IsTrue, None, OnOk, Some};
+ghost use Rattle.std.specs.List.{filter, list_all};
 ghost use Rattle.std.specs.Option.{option_map};
 ghost use Rattle.plan_table.specs.Decimal.{is_digit as digit_of};
 ghost use Rattle.plan_table.specs.Marking.{IsUnmarked, IsWritten, is_no_mark};
-ghost use Rattle.plan_table.specs.Numerals.{are_groups, are_in_place, decimal_byte, fraction_of, group_byte, is_in_place, is_nothing, is_numeral, is_sign, is_whole, leads_with_zero, number_in, plain, plain_fraction, plain_whole, sign_of, whole_of, without_sign};
+ghost use Rattle.plan_table.specs.Numerals.{are_groups, are_in_place, byte_for, decimal_byte, fraction_of, group_byte, is_blank, is_in_place, is_nothing, is_numeral, is_sign, is_spelled, is_whole, kept_in, leads_with_zero, number_bytes, number_in, plain, plain_fraction, plain_whole, sign_of, whole_of, without_sign};
 
 use crate::decimal::{Decimal, NumberFault, all_digits, is_digit, parse_decimal};
+use crate::exponent::{exponent_at, front_to, is_exponent, push_unsigned};
+use crate::rounding::parse_rounded;
 use std::alloc::{AllocError, Global};
 
 /// What stands before the fraction of a number.
@@ -43,55 +45,108 @@ impl DecimalMark {
 #[derive(Clone, Copy, Debug, PartialEq, Eq)]
 pub struct Reading {
     pub mark: DecimalMark,
+    /// To how many places behind the point numbers are rounded, where they are.
+    pub round: Option<usize>,
     /// Whether row `i` and column `i` are of the same thing, so that the cell there may say nothing.
     pub is_square: bool,
 }
 
-/// The plain text of the number that a word spells: without marks between groups, with a point before the fraction.
+/// The plain text of the number that a word spells: without marks between groups and without an exponent, with a point before the fraction.
 ///
 /// A number has an optional sign, digits and optionally the mark with digits behind it; digits may lack on one side of the mark. The digits
 /// before the mark may stand in groups of three from the right, with the other mark, a blank or an apostrophe between them, unless the first
-/// of them is 0.
-pub fn plain_number(
+/// of them is 0. At the end there may be an exponent: `e` or `E`, an optional sign, and one to three digits.
+fn plain_number(
     alloc: Global,
     mark: DecimalMark,
     word: &[u8],
 ) -> Result<Option<Vec<u8>>, AllocError>
     ensures { IfOk result (λ found. option_map (λ v. v.items) found ≡ plain mark word.now) }
 {
-    let (sign, digits) = split_sign(word);
-    let (whole, fraction) = split_fraction(mark, digits);
-    if !is_numeral(mark, whole, fraction) {
+    if !is_spelled(mark, word) {
         return Ok(None);
     }
+    let at = exponent_at(word);
+    let (sign, digits) = split_sign(front_to(word, at));
+    let (whole, fraction) = split_fraction(mark, digits);
     let mut text = Vec::new(alloc);
     text.extend_from_slice(sign)?;
-    push_whole(&mut text, whole)?;
-    push_fraction(&mut text, fraction)?;
+    push_unsigned(alloc, &mut text, word, at, whole, fraction)?;
     Ok(Some(text))
 }
 
-/// The number that a word spells.
+/// Whether a word spells a number.
+#[tactic(auto, unfolding(crate::specs::Numerals::number_in))]
+pub fn is_number(alloc: Global, mark: DecimalMark, word: &str) -> Result<bool, AllocError>
+    ensures { IfOk result (λ is. is ≡ false → number_in mark word.now ≡ None) }
+{
+    let bytes = number_bytes(alloc, word)?;
+    Ok(is_spelled(mark, &bytes))
+}
+
+/// The number that is read from a word.
+#[tactic(auto, unfolding(crate::specs::Numerals::kept_in))]
 pub fn read_number(
     alloc: Global,
-    mark: DecimalMark,
-    word: &[u8],
+    reading: Reading,
+    word: &str,
 ) -> Result<Result<Decimal, NumberFault>, AllocError>
-    ensures { IfOk result (λ read. IfOk read (λ d. number_in mark word.now ≡ Some d)) }
+    ensures { IfOk result (λ read. IfOk read (λ d. kept_in reading word.now ≡ Some d)) }
 {
-    match plain_number(alloc, mark, word)? {
-        Some(text) => Ok(parse_decimal(&text)),
-        None => Ok(Err(NumberFault::NotANumber)),
+    let bytes = number_bytes(alloc, word)?;
+    let Some(text) = plain_number(alloc, reading.mark, &bytes)? else {
+        return Ok(Err(NumberFault::NotANumber));
+    };
+    match reading.round {
+        None => Ok(parse_decimal(&text)),
+        Some(places) => Ok(parse_rounded(&text, places)),
     }
 }
 
 /// Whether a word is a number, or says nothing.
-pub fn is_written(mark: DecimalMark, word: &[u8]) -> bool
-    ensures { IsTrue result ↔ IsWritten mark word.now }
+#[tactic(auto, unfolding(crate::specs::Marking::IsWritten))]
+pub fn is_written(alloc: Global, mark: DecimalMark, word: &str) -> Result<bool, AllocError>
+    ensures { IfOk result (λ written. IsTrue written ↔ IsWritten mark word.now) }
 {
-    let (_, digits) = split_sign(word);
+    let bytes = number_bytes(alloc, word)?;
+    Ok(is_nothing(word.as_bytes()) || is_spelled(mark, &bytes))
+}
+
+/// The bytes for a word's characters.
+fn number_bytes(alloc: Global, word: &str) -> Result<Vec<u8>, AllocError>
+    ensures { IfOk result (λ v. v.items ≡ number_bytes word.now) }
+{
+    word.chars().map(|c| byte_for(c)).collect(alloc)
+}
+
+/// A character as a byte: each blank is an ordinary one, and 255 stands for each that no number has.
+fn byte_for(c: char) -> u8
+    ensures { result ≡ byte_for c }
+{
+    if is_blank(c) {
+        b' '
+    } else if u32::from(c) < 128 {
+        c as u8
+    } else {
+        255
+    }
+}
+
+/// Whether a character is a blank: an ordinary one, or one that is narrow or keeps a line together.
+fn is_blank(c: char) -> bool
+    ensures { result ≡ is_blank c }
+{
+    c == ' ' || c == '\u{A0}' || c == '\u{2009}' || c == '\u{202F}'
+}
+
+/// Whether a word is a number by a mark.
+fn is_spelled(mark: DecimalMark, word: &[u8]) -> bool
+    ensures { result ≡ is_spelled mark word.now }
+{
+    let at = exponent_at(word);
+    let (_, digits) = split_sign(front_to(word, at));
     let (whole, fraction) = split_fraction(mark, digits);
-    is_nothing(word) || is_numeral(mark, whole, fraction)
+    is_numeral(mark, whole, fraction) && is_exponent(word, at)
 }
 
 /// Whether a word has neither a point nor a comma.
@@ -115,7 +170,7 @@ fn is_no_mark(byte: u8) -> bool
 }
 
 /// A word's sign, where it has one, and what follows it.
-fn split_sign(word: &[u8]) -> (&[u8], &[u8])
+pub fn split_sign(word: &[u8]) -> (&[u8], &[u8])
     ensures sign { result.0.now ≡ sign_of word.now }
     ensures rest { result.1.now ≡ without_sign word.now }
 {
@@ -211,13 +266,20 @@ fn is_in_place(group: u8, byte: u8, left: usize) -> bool
 }
 
 /// Puts the digits of a whole part behind a text, or a zero where there is none.
-fn push_whole(text: &mut Vec<u8>, whole: &[u8]) -> Result<(), AllocError>
+pub fn push_whole(text: &mut Vec<u8>, whole: &[u8]) -> Result<(), AllocError>
     ensures { OnOk result (text.new.items ≡ text.old.items ++ plain_whole whole.now) }
 {
     if whole.is_empty() {
         text.push(b'0')?;
         return Ok(());
     }
+    push_digits(text, whole)
+}
+
+/// Puts the digits among these bytes behind a text.
+pub fn push_digits(text: &mut Vec<u8>, whole: &[u8]) -> Result<(), AllocError>
+    ensures { OnOk result (text.new.items ≡ text.old.items ++ filter digit_of whole.now) }
+{
     for byte in whole {
         if is_digit(*byte) {
             text.push(*byte)?;
@@ -227,7 +289,7 @@ fn push_whole(text: &mut Vec<u8>, whole: &[u8]) -> Result<(), AllocError>
 }
 
 /// Puts a point and the digits of a fraction behind a text, where there are any.
-fn push_fraction(text: &mut Vec<u8>, fraction: &[u8]) -> Result<(), AllocError>
+pub fn push_fraction(text: &mut Vec<u8>, fraction: &[u8]) -> Result<(), AllocError>
     ensures { OnOk result (text.new.items ≡ text.old.items ++ plain_fraction fraction.now) }
 {
     if fraction.is_empty() {

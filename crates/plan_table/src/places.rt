@@ -10,9 +10,10 @@ use crate::error::TableError;
 use crate::head::check_head;
 use crate::marking::mark_of_table;
 use crate::names::read_first_names;
-use crate::numeral::{DecimalMark, Reading};
+use crate::numeral::Reading;
 use crate::records::read_records;
 use crate::rows::{read_rows, too_large};
+use crate::rules::Rules;
 use crate::scale::{ScaleError, least_scale, scaled_entries};
 use std::alloc::{AllocError, Global};
 
@@ -31,17 +32,13 @@ pub struct PlaceTable {
     pub points: Vec<Point>,
 }
 
-/// Reads places with coordinates from a text in CSV, and each number exactly.
+/// Reads places with coordinates from a text in CSV, and each number exactly, or rounded where the rules say so.
 ///
 /// The first record is `name,x,y`, in capital or small letters; each further one has a name and two numbers. There are 1 to 256 names, none
 /// empty, and no two that differ only in capital letters and blanks. All numbers are multiplied by the least power of ten that makes them
 /// whole, and lie from -10^9 to 10^9 then. No two places stand at one point.
-pub fn read_places(
-    alloc: Global,
-    text: &[u8],
-    given: Option<DecimalMark>,
-) -> Result<PlaceTable, TableError>
-    ensures text { IfOk result (λ t. IsPlacesText given text.now (map string_bytes t.names.items) t.scale t.points.items) }
+pub fn read_places(alloc: Global, text: &[u8], rules: Rules) -> Result<PlaceTable, TableError>
+    ensures text { IfOk result (λ t. IsPlacesText rules text.now (map string_bytes t.names.items) t.scale t.points.items) }
     ensures points { IfOk result (λ t. AreNamedPoints (map string_bytes t.names.items) t.points.items) }
 {
     let records = read_records(alloc, text)?;
@@ -54,9 +51,10 @@ pub fn read_places(
     check_head(alloc, text, head, "name", "x", "y", "place")?;
     let names = read_first_names(alloc, text, rows)?;
     check_unlike(alloc, &names)?;
-    let mark = mark_of_table(alloc, text, given, rows, 1, 3)?;
+    let mark = mark_of_table(alloc, text, rules.decimal_mark, rows, 1, 3)?;
     let reading = Reading {
         mark,
+        round: rules.round,
         is_square: false,
     };
     let decimals = read_rows(alloc, text, rows, &names, 2, reading)?;

@@ -169,7 +169,7 @@ pub fn read_cell(
             places: 0,
         });
     }
-    match read_number(alloc, reading.mark, word.as_bytes())? {
+    match read_number(alloc, reading, word)? {
         Ok(decimal) => Ok(decimal),
         Err(fault) => Err(cell_fault(alloc, text, row, column + 1, fault)),
     }

@@ -5,16 +5,19 @@ ghost use Rattle.std.specs.String.{string_bytes};
 ghost use Rattle.csv.specs.Records.{fields_of};
 ghost use Rattle.plan_table.specs.Numerals.{number_in};
 ghost use Rattle.plan_table.specs.Shape.{IsNamedSquare};
-ghost use Rattle.plan_table.specs.Table.{IsMatrixText, word_at};
+ghost use Rattle.plan_table.specs.Names.{AreNames};
+ghost use Rattle.plan_table.specs.Table.{AreNumbersOf, IsMatrixText, IsNumbered, word_at};
 
 use crate::alike::check_unlike;
 use crate::control::shown;
 use crate::error::TableError;
+use crate::halves::{check_mirrored, completed};
 use crate::marking::mark_of_table;
 use crate::names::read_names;
-use crate::numeral::{DecimalMark, Reading, plain_number};
+use crate::numeral::{DecimalMark, Reading, is_number};
 use crate::records::{line_of, read_records};
 use crate::rows::{read_rows, too_large, word_in};
+use crate::rules::Rules;
 use crate::scale::{ScaleError, least_scale, scaled_entries};
 use crate::totals::check_no_total;
 use csv::StringRecord;
@@ -29,21 +32,20 @@ pub struct NamedMatrix {
     pub entries: Vec<i64>,
 }
 
-/// Reads a matrix with names from a text in CSV, and each number exactly.
+/// Reads a matrix with names from a text in CSV, and each number exactly, or rounded where the rules say so.
 ///
 /// The first record has a first field, which is no number, and then 1 to 256 names; each further record has a name and as many numbers, in
-/// the columns' order. The rows stand in any order. A row and a column called a total that are the sums of the others are refused. No name is empty, and no two differ only in capital letters and blanks. The separator
-/// is that of the first line. Blanks around fields, and empty fields at a record's end, count for nothing.
+/// the columns' order. The rows stand in any order. A row and a column called a total that are the sums of the others are refused. No name is
+/// empty, and no two differ only in capital letters and blanks. The separator is that of the first line. Blanks around fields, and empty
+/// fields at a record's end, count for nothing.
 ///
-/// A number has an optional sign, digits, and optionally a decimal mark with digits; see `DecimalMark`. Without a given mark, it is the one by
-/// which all numbers can be read. A cell between a thing and itself may be empty, a dash or a cross, for 0. All numbers are multiplied by the
-/// least power of ten that makes them whole, and lie from -10^9 to 10^9 then. A byte order mark at the front is passed over.
-pub fn read_matrix(
-    alloc: Global,
-    text: &[u8],
-    given: Option<DecimalMark>,
-) -> Result<NamedMatrix, TableError>
-    ensures text { IfOk result (λ m. IsMatrixText given text.now (map string_bytes m.names.items) m.scale m.entries.items) }
+/// A number has an optional sign, digits, optionally a decimal mark with digits, and optionally an exponent; see `DecimalMark`. Without a
+/// given mark, it is the one by which all numbers can be read. A cell between a thing and itself may be empty, a dash or a cross, for 0; where
+/// the halves of the matrix stand for each other, each such cell is that of the way back, and where both say something, they say the same. All
+/// numbers are multiplied by the least power of ten that makes them whole, and lie from -10^9 to 10^9 then. A byte order mark at the front is
+/// passed over.
+pub fn read_matrix(alloc: Global, text: &[u8], rules: Rules) -> Result<NamedMatrix, TableError>
+    ensures text { IfOk result (λ m. IsMatrixText rules text.now (map string_bytes m.names.items) m.scale m.entries.items) }
     ensures square { IfOk result (λ m. IsNamedSquare (map string_bytes m.names.items) m.entries.items) }
 {
     let records = read_records(alloc, text)?;
@@ -52,25 +54,73 @@ pub fn read_matrix(
     };
     let names = read_names(alloc, text, head)?;
     check_unlike(alloc, &names)?;
+    let numbers = read_numbers(alloc, text, rules, head, rows, &names)?;
+    Ok(NamedMatrix {
+        names,
+        scale: numbers.scale,
+        entries: numbers.entries,
+    })
+}
+
+/// The numbers of a matrix, all times a power of ten.
+#[derive(Drop)]
+struct Numbers {
+    scale: usize,
+    entries: Vec<i64>,
+}
+
+/// The numbers of the rows of these names.
+fn read_numbers(
+    alloc: Global,
+    text: &[u8],
+    rules: Rules,
+    head: &StringRecord,
+    rows: &[StringRecord],
+    names: &[String],
+) -> Result<Numbers, TableError>
+    requires { AreNames (map string_bytes names.now) }
+    ensures numbers { IfOk result (λ m. IsNumbered rules (word_at (fields_of head.now) 0) (map fields_of rows.now) (map string_bytes names.now) m.scale m.entries.items) }
+    ensures square { IfOk result (λ m. IsNamedSquare (map string_bytes names.now) m.entries.items) }
+{
+    if !rules.is_symmetric {
+        let numbers = numbers_of_rows(alloc, text, rules, head, rows, names)?;
+        return Ok(numbers);
+    }
+    let filled = completed(alloc, rows, names)?;
+    let numbers = numbers_of_rows(alloc, text, rules, head, &filled, names)?;
+    check_mirrored(names, &numbers.entries)?;
+    Ok(numbers)
+}
+
+/// The numbers of these rows, each of which is complete.
+fn numbers_of_rows(
+    alloc: Global,
+    text: &[u8],
+    rules: Rules,
+    head: &StringRecord,
+    rows: &[StringRecord],
+    names: &[String],
+) -> Result<Numbers, TableError>
+    requires { AreNames (map string_bytes names.now) }
+    ensures numbers { IfOk result (λ m. AreNumbersOf rules (word_at (fields_of head.now) 0) (map fields_of rows.now) (map string_bytes names.now) m.scale m.entries.items) }
+    ensures square { IfOk result (λ m. IsNamedSquare (map string_bytes names.now) m.entries.items) }
+{
     let columns = names.len();
-    let mark = mark_of_table(alloc, text, given, rows, 1, columns + 1)?;
+    let mark = mark_of_table(alloc, text, rules.decimal_mark, rows, 1, columns + 1)?;
     check_corner(alloc, text, head, mark)?;
     let reading = Reading {
         mark,
+        round: rules.round,
         is_square: true,
     };
-    let decimals = read_rows(alloc, text, rows, &names, columns, reading)?;
+    let decimals = read_rows(alloc, text, rows, names, columns, reading)?;
     let scale = least_scale(&decimals);
     match scaled_entries(alloc, &decimals, scale) {
         Ok(entries) => {
-            check_no_total(alloc, &names, &entries)?;
-            Ok(NamedMatrix {
-                names,
-                scale,
-                entries,
-            })
+            check_no_total(alloc, names, &entries)?;
+            Ok(Numbers { scale, entries })
         }
-        Err(ScaleError::TooLarge(i)) => { Err(too_large(alloc, text, rows, &names, columns, i)) }
+        Err(ScaleError::TooLarge(i)) => Err(too_large(alloc, text, rows, names, columns, i)),
         Err(ScaleError::OutOfMemory) => Err(TableError::OutOfMemory),
     }
 }
@@ -85,11 +135,11 @@ fn check_corner(
     ensures { OnOk result (number_in mark (word_at (fields_of head.now) 0) ≡ None) }
 {
     let corner = word_in(head, 0);
-    match plain_number(alloc, mark, corner.as_bytes())? {
-        None => Ok(()),
-        Some(_) => Err(TableError::NoNames {
+    if is_number(alloc, mark, corner)? {
+        return Err(TableError::NoNames {
             line: line_of(text, head),
             word: shown(alloc, corner)?,
-        }),
+        });
     }
+    Ok(())
 }

@@ -1,29 +1,32 @@
 //! Flows listed pair by pair.
 
-ghost use Rattle.std.specs.Prelude.{◌≡◌, ◌*◌, ◌<◌, ◌≤◌, ◌^◌, ◌-◌, length, map, replicate, take, unsigned_abs, All, None, Some, IfOk, OnOk};
+ghost use Rattle.std.specs.Prelude.{◌≡◌, ◌*◌, ◌<◌, ◌≤◌, ◌^◌, ◌-◌, length, map, replicate, take, unsigned_abs, false, All, None, Some, IfOk, IfSome, OnOk};
 ghost use Rattle.std.specs.String.{string_bytes};
 ghost use Rattle.csv.specs.Records.{fields_of, field_at};
 ghost use Rattle.plan_table.specs.Alike.{AreUnlike};
 ghost use Rattle.plan_table.specs.Decimal.{max_entry};
-ghost use Rattle.plan_table.specs.Listing.{AreInside, ArePlaced, AreTripsOf, IsTripOf, cell_of as cell_number, filled as filled_with};
+ghost use Rattle.plan_table.specs.Listing.{AreEntriesOf, AreInside, ArePlaced, AreTripsOf, IsTripOf, added as added_to, cell_of as cell_number, filled as filled_with};
+ghost use Rattle.plan_table.specs.Lists.{IsList, IsTripsMatrix, IsTripsText};
 ghost use Rattle.plan_table.specs.Marking.{IsMark};
 ghost use Rattle.plan_table.specs.Names.{AreNames, max_names};
 ghost use Rattle.plan_table.specs.Numbers.{AreNumbers};
 ghost use Rattle.plan_table.specs.Shape.{IsNamedSquare};
-ghost use Rattle.plan_table.specs.Trips.{AppearInOrder, IsList, IsTripsMatrix, IsTripsText, name_at, words_of};
+ghost use Rattle.plan_table.specs.Trips.{AppearInOrder, name_at, words_of};
 ghost use Rattle.plan_table.specs.declared.numeral.DecimalMark.{DecimalMark as MarkOf};
 
 use crate::alike::check_unlike;
 use crate::control::shown;
-use crate::decimal::Decimal;
+use crate::decimal::{Decimal, MAX_ENTRY};
 use crate::departments::appearing_names;
 use crate::error::TableError;
+use crate::halves::{check_mirrored, mirrored};
 use crate::head::check_head;
 use crate::marking::mark_of_table;
 use crate::numbers::{NameNumbers, number_of, numbers_of};
-use crate::numeral::{DecimalMark, Reading};
+use crate::numeral::Reading;
 use crate::records::read_records;
 use crate::rows::{check_end, place_of, read_cell, too_large_in};
+use crate::rules::Rules;
 use crate::scale::{ScaleError, least_scale, scaled_entries};
 use crate::table::NamedMatrix;
 use csv::StringRecord;
@@ -37,24 +40,20 @@ pub struct Trip {
     pub amount: Decimal,
 }
 
-/// Reads flows that are listed pair by pair from a text in CSV, and each number exactly; the departments are those of the list, in the order in
+/// Reads flows that are listed pair by pair from a text in CSV, and each number exactly, or rounded where the rules say so; the departments are those of the list, in the order in
 /// which they first appear.
 ///
 /// The first record begins with `from,to,amount`, in capital or small letters; each further one has the names of two departments and a number.
-/// Further columns don't count. No pair stands twice; one that isn't listed has no flow. No two names differ only in capital letters and
-/// blanks. All numbers are multiplied by the least power of ten that makes them whole, and lie from -10^9 to 10^9 then.
-pub fn read_trips(
-    alloc: Global,
-    text: &[u8],
-    given: Option<DecimalMark>,
-) -> Result<NamedMatrix, TableError>
+/// Further columns don't count. No pair stands twice, unless the rules add such amounts up; one that isn't listed has no flow, or that of the
+/// way back where the rules say so. No two names differ only in capital letters and blanks. All numbers are multiplied by the least power of ten that makes them whole, and lie from -10^9 to 10^9 then.
+pub fn read_trips(alloc: Global, text: &[u8], rules: Rules) -> Result<NamedMatrix, TableError>
     ensures text { IfOk result (λ m. let names = map string_bytes m.names.items in
-        (t : IsTripsText given text.now names m.scale m.entries.items) × AppearInOrder (words_of t.rows) names) }
+        (t : IsTripsText rules text.now names m.scale m.entries.items) × AppearInOrder (words_of t.rows) names) }
     ensures square { IfOk result (λ m. IsNamedSquare (map string_bytes m.names.items) m.entries.items) }
 {
     let rows = read_list(alloc, text)?;
     let names = appearing_names(alloc, text, &rows)?;
-    let matrix = matrix_of(alloc, text, given, &rows, names)?;
+    let matrix = matrix_of(alloc, text, rules, &rows, names)?;
     Ok(matrix)
 }
 
@@ -62,16 +61,16 @@ pub fn read_trips(
 pub fn read_trips_between(
     alloc: Global,
     text: &[u8],
-    given: Option<DecimalMark>,
+    rules: Rules,
     departments: Vec<String>,
 ) -> Result<NamedMatrix, TableError>
     requires { AreNames (map string_bytes departments.items) }
-    ensures text { IfOk result (λ m. IsTripsText given text.now (map string_bytes m.names.items) m.scale m.entries.items) }
+    ensures text { IfOk result (λ m. IsTripsText rules text.now (map string_bytes m.names.items) m.scale m.entries.items) }
     ensures names { IfOk result (λ m. m.names ≡ departments) }
     ensures square { IfOk result (λ m. IsNamedSquare (map string_bytes m.names.items) m.entries.items) }
 {
     let rows = read_list(alloc, text)?;
-    let matrix = matrix_of(alloc, text, given, &rows, departments)?;
+    let matrix = matrix_of(alloc, text, rules, &rows, departments)?;
     Ok(matrix)
 }
 
@@ -125,19 +124,25 @@ fn front_of(row: &StringRecord) -> Result<StringRecord, AllocError>
 fn matrix_of(
     alloc: Global,
     text: &[u8],
-    given: Option<DecimalMark>,
+    rules: Rules,
     rows: &[StringRecord],
     names: Vec<String>,
 ) -> Result<NamedMatrix, TableError>
     requires { AreNames (map string_bytes names.items) }
     ensures names { IfOk result (λ m. m.names ≡ names) }
     ensures unlike { IfOk result (λ m. AreUnlike (map string_bytes m.names.items)) }
-    ensures matrix { IfOk result (λ m. (mark : MarkOf) × IsMark given (map fields_of rows.now) 2 3 mark × IsTripsMatrix mark (map string_bytes m.names.items) (map fields_of rows.now) m.scale m.entries.items) }
+    ensures matrix { IfOk result (λ m. (mark : MarkOf) × IsMark rules.decimal_mark (map fields_of rows.now) 2 3 mark
+        × IsTripsMatrix rules (record { mark = mark; round = rules.round; is_square = false }) (map string_bytes m.names.items) (map fields_of rows.now) m.scale m.entries.items) }
     ensures square { IfOk result (λ m. IsNamedSquare (map string_bytes m.names.items) m.entries.items) }
 {
     check_unlike(alloc, &names)?;
-    let mark = mark_of_table(alloc, text, given, rows, 2, 3)?;
-    let trips = read_rows_of_trips(alloc, text, rows, &names, mark)?;
+    let mark = mark_of_table(alloc, text, rules.decimal_mark, rows, 2, 3)?;
+    let reading = Reading {
+        mark,
+        round: rules.round,
+        is_square: false,
+    };
+    let trips = read_rows_of_trips(alloc, text, rows, &names, reading)?;
     let decimals = decimals_of(alloc, &trips)?;
     let scale = least_scale(&decimals);
     let amounts = match scaled_entries(alloc, &decimals, scale) {
@@ -145,11 +150,20 @@ fn matrix_of(
         Err(ScaleError::TooLarge(k)) => return Err(too_large_in(alloc, text, &rows[k], 2)),
         Err(ScaleError::OutOfMemory) => return Err(TableError::OutOfMemory),
     };
-    let cells = place_trips(alloc, text, rows, names.len(), &trips, &amounts)?;
+    let cells = place_trips(
+        alloc,
+        text,
+        rows,
+        names.len(),
+        rules.adds_up,
+        &trips,
+        &amounts,
+    )?;
+    let entries = entries_of(alloc, rules.is_symmetric, &names, cells)?;
     Ok(NamedMatrix {
         names,
         scale,
-        entries: entries_of(alloc, &cells)?,
+        entries,
     })
 }
 
@@ -159,14 +173,15 @@ fn read_rows_of_trips(
     text: &[u8],
     rows: &[StringRecord],
     names: &[String],
-    mark: DecimalMark,
+    reading: Reading,
 ) -> Result<Vec<Trip>, TableError>
-    ensures { IfOk result (λ v. AreTripsOf mark (map string_bytes names.now) (map fields_of rows.now) v.items) }
+    requires { reading.is_square ≡ false }
+    ensures { IfOk result (λ v. AreTripsOf reading (map string_bytes names.now) (map fields_of rows.now) v.items) }
 {
     let numbers = numbers_of(alloc, names)?;
     let mut trips = Vec::new(alloc);
     for row in rows {
-        let trip = read_trip(alloc, text, row, names, &numbers, mark)?;
+        let trip = read_trip(alloc, text, row, names, &numbers, reading)?;
         trips.push(trip).map_err(|_| TableError::OutOfMemory)?;
     }
     Ok(trips)
@@ -179,17 +194,14 @@ fn read_trip(
     row: &StringRecord,
     names: &[String],
     numbers: &NameNumbers,
-    mark: DecimalMark,
+    reading: Reading,
 ) -> Result<Trip, TableError>
-    requires { AreNumbers numbers.now (map string_bytes names.now) }
-    ensures { IfOk result (IsTripOf mark (map string_bytes names.now) (fields_of row.now)) }
+    requires numbered { AreNumbers numbers.now (map string_bytes names.now) }
+    requires listed { reading.is_square ≡ false }
+    ensures { IfOk result (IsTripOf reading (map string_bytes names.now) (fields_of row.now)) }
 {
     check_start(text, row)?;
     check_end(alloc, text, row, 2)?;
-    let reading = Reading {
-        mark,
-        is_square: false,
-    };
     Ok(Trip {
         from: department_in(alloc, text, row, 0, names, numbers)?,
         to: department_in(alloc, text, row, 1, names, numbers)?,
@@ -243,12 +255,13 @@ fn decimals_of(alloc: Global, trips: &[Trip]) -> Result<Vec<Decimal>, AllocError
     trips.iter().map(|trip| trip.amount).collect(alloc)
 }
 
-/// The matrix of trips, in which each amount has a cell of its own; no pair stands twice.
+/// The matrix of trips, in which each cell has the sum of the amounts that are of it; no pair stands twice, unless amounts add up.
 fn place_trips(
     alloc: Global,
     text: &[u8],
     rows: &[StringRecord],
     departments: usize,
+    adds_up: bool,
     trips: &[Trip],
     amounts: &[i64],
 ) -> Result<Vec<Option<i64>>, TableError>
@@ -257,17 +270,38 @@ fn place_trips(
     requires rows { length rows.now ≡ length trips.now }
     requires amounts { length amounts.now ≡ length trips.now }
     requires small { All (λ z. unsigned_abs z ≤ max_entry) amounts.now }
-    ensures { IfOk result (λ v. ArePlaced departments trips.now amounts.now (length trips.now) v.items) }
+    ensures { IfOk result (λ v. ArePlaced departments adds_up trips.now amounts.now (length trips.now) v.items) }
 {
     let mut cells = empty_cells(alloc, departments * departments)?;
     for k in 0..trips.len() {
         let cell = cell_of(&trips[k], departments);
-        if cells[cell].is_some() {
+        let before = cells[cell];
+        if before.is_some() && !adds_up {
             return Err(pair_twice(alloc, text, &rows[k]));
         }
-        cells[cell] = Some(amounts[k]);
+        let Some(sum) = added(before, amounts[k]) else {
+            return Err(sum_too_large(alloc, text, &rows[k]));
+        };
+        cells[cell] = Some(sum);
     }
     Ok(cells)
+}
+
+/// An amount more, where the sum lies from -10^9 to 10^9.
+fn added(before: Option<i64>, amount: i64) -> Option<i64>
+    requires before { unsigned_abs (filled_with before) ≤ max_entry }
+    requires amount { unsigned_abs amount ≤ max_entry }
+    ensures { IfSome result (λ sum. (sum ≡ added_to before amount) × (unsigned_abs sum ≤ max_entry)) }
+{
+    let Some(before) = before else {
+        return Some(amount);
+    };
+    let sum = before + amount;
+    if sum.unsigned_abs() > MAX_ENTRY {
+        None
+    } else {
+        Some(sum)
+    }
 }
 
 /// So many cells that say nothing.
@@ -302,8 +336,43 @@ fn pair_twice(alloc: Global, text: &[u8], row: &StringRecord) -> TableError {
     }
 }
 
-/// The entries of cells; one that is empty says 0.
-fn entries_of(alloc: Global, cells: &[Option<i64>]) -> Result<Vec<i64>, AllocError>
+/// The error of a row whose amount, with those of the same pair before it, is too much.
+fn sum_too_large(alloc: Global, text: &[u8], row: &StringRecord) -> TableError {
+    let from = shown(alloc, row.get(0).unwrap_or(""));
+    let to = shown(alloc, row.get(1).unwrap_or(""));
+    match (from, to) {
+        (Ok(from), Ok(to)) => TableError::SumTooLarge {
+            place: place_of(text, row, 2),
+            from,
+            to,
+        },
+        _ => TableError::OutOfMemory,
+    }
+}
+
+/// The entries of cells; one that is empty says 0, or what that of the way back says where each half stands for the other.
+fn entries_of(
+    alloc: Global,
+    is_symmetric: bool,
+    names: &[String],
+    cells: Vec<Option<i64>>,
+) -> Result<Vec<i64>, TableError>
+    requires few { length names.now ≤ max_names }
+    requires square { length cells.items ≡ length names.now * length names.now }
+    ensures { IfOk result (λ v. AreEntriesOf is_symmetric (length names.now) cells.items v.items) }
+{
+    if !is_symmetric {
+        let entries = filled_cells(alloc, &cells)?;
+        return Ok(entries);
+    }
+    let all = mirrored(alloc, names.len(), &cells)?;
+    let entries = filled_cells(alloc, &all)?;
+    check_mirrored(names, &entries)?;
+    Ok(entries)
+}
+
+/// What cells say.
+fn filled_cells(alloc: Global, cells: &[Option<i64>]) -> Result<Vec<i64>, AllocError>
     ensures { IfOk result (λ v. v.items ≡ map filled_with cells.now) }
 {
     cells.iter().map(|cell| filled(*cell)).collect(alloc)

@@ -1,8 +1,8 @@
 //! What no clause says: that calls succeed, and what worked tables are read as.
 
 use plan_table::{
-    DecimalMark, Encoding, NamedMatrix, Point, decimal_text, decode, read_matrix, read_places,
-    read_trips,
+    DecimalMark, Encoding, NamedMatrix, Point, Rules, decimal_text, decode, read_matrix,
+    read_places, read_trips,
 };
 use std::process::Abort;
 use std::test::Fail;
@@ -23,6 +23,14 @@ fn assert_read(
     assert_eq!(rt; matrix.entries.as_slice(), entries);
 }
 
+/// The rules that give a mark alone.
+fn with_mark(mark: DecimalMark) -> Rules {
+    Rules {
+        decimal_mark: Some(mark),
+        ..Rules::NONE
+    }
+}
+
 #[test]
 fn reads_a_table(rt: HostRuntime) -> Result<(), Fail> {
     let names = ["Saw", "Lathe", "Paint"];
@@ -30,7 +38,7 @@ fn reads_a_table(rt: HostRuntime) -> Result<(), Fail> {
     let table = b",Saw,Lathe,Paint\nSaw,0,2.5,0\nLathe,1,0,12\nPaint,0,0.25,0\n";
     assert_read(
         &rt,
-        &read_matrix(rt.alloc(), table, None)?,
+        &read_matrix(rt.alloc(), table, Rules::NONE)?,
         &names,
         2,
         &entries,
@@ -39,7 +47,7 @@ fn reads_a_table(rt: HostRuntime) -> Result<(), Fail> {
         b"\xef\xbb\xbfflow,Saw,\"Lathe\",Paint\r\nSaw,0,\"2.50\",0\r\n\r\nLathe,+1,-0,12.000\r\nPaint,0,0.25,00";
     assert_read(
         &rt,
-        &read_matrix(rt.alloc(), windows, None)?,
+        &read_matrix(rt.alloc(), windows, Rules::NONE)?,
         &names,
         2,
         &entries,
@@ -53,7 +61,7 @@ fn reads_large_and_small_numbers(rt: HostRuntime) -> Result<(), Fail> {
     let entries = [-1_000_000_000, 0, 999_999_999, 0];
     assert_read(
         &rt,
-        &read_matrix(rt.alloc(), table, None)?,
+        &read_matrix(rt.alloc(), table, Rules::NONE)?,
         &["a, b", "c"],
         0,
         &entries,
@@ -61,7 +69,7 @@ fn reads_large_and_small_numbers(rt: HostRuntime) -> Result<(), Fail> {
     let tiny = b"x,y\ny,-0.00000000000000000000000000000000000123";
     assert_read(
         &rt,
-        &read_matrix(rt.alloc(), tiny, None)?,
+        &read_matrix(rt.alloc(), tiny, Rules::NONE)?,
         &["y"],
         38,
         &[-123],
@@ -72,7 +80,7 @@ fn reads_large_and_small_numbers(rt: HostRuntime) -> Result<(), Fail> {
 #[test]
 fn reads_places(rt: HostRuntime) -> Result<(), Fail> {
     let text = b"\xef\xbb\xbfname,x,y\r\nDock,0,-1.5\r\n\"Hall, north\",12.25,4\r\n";
-    let table = read_places(rt.alloc(), text, None)?;
+    let table = read_places(rt.alloc(), text, Rules::NONE)?;
     assert_eq!(rt; table.names.len(), 2);
     assert_eq!(rt; table.names[0].as_str(), "Dock");
     assert_eq!(rt; table.names[1].as_str(), "Hall, north");
@@ -88,7 +96,13 @@ fn reads_flows_pair_by_pair(rt: HostRuntime) -> Result<(), Fail> {
     let text = b"from,to,amount\nSaw,Lathe,2.5\nPaint,Saw,1\nLathe,Saw,12\nPaint,Paint,-3\n";
     let entries = [0, 25, 0, 120, 0, 0, 10, 0, -30];
     let names = ["Saw", "Lathe", "Paint"];
-    assert_read(&rt, &read_trips(alloc, text, None)?, &names, 1, &entries);
+    assert_read(
+        &rt,
+        &read_trips(alloc, text, Rules::NONE)?,
+        &names,
+        1,
+        &entries,
+    );
     Ok(())
 }
 
@@ -99,7 +113,7 @@ fn reads_what_spreadsheets_write(rt: HostRuntime) -> Result<(), Fail> {
     let entries = [0, 123_425, -50, 0];
     assert_read(
         &rt,
-        &read_matrix(alloc, german, None)?,
+        &read_matrix(alloc, german, Rules::NONE)?,
         &["A", "B"],
         2,
         &entries,
@@ -107,24 +121,90 @@ fn reads_what_spreadsheets_write(rt: HostRuntime) -> Result<(), Fail> {
     let english = b"\tA\tB\nA\t-\t1,234.25\nB\t-.5\t\n";
     assert_read(
         &rt,
-        &read_matrix(alloc, english, None)?,
+        &read_matrix(alloc, english, Rules::NONE)?,
         &["A", "B"],
         2,
         &entries,
     );
     let either = b",A,B\nA,0,\"1,234\"\nB,0,0\n";
-    let point = read_matrix(alloc, either, Some(DecimalMark::Point))?;
+    let point = read_matrix(alloc, either, with_mark(DecimalMark::Point))?;
     assert_read(&rt, &point, &["A", "B"], 0, &[0, 1234, 0, 0]);
-    let comma = read_matrix(alloc, either, Some(DecimalMark::Comma))?;
+    let comma = read_matrix(alloc, either, with_mark(DecimalMark::Comma))?;
     assert_read(&rt, &comma, &["A", "B"], 3, &[0, 1234, 0, 0]);
-    assert!(rt; read_matrix(alloc, either, None).is_err());
+    assert!(rt; read_matrix(alloc, either, Rules::NONE).is_err());
     let list = b"FROM;TO;AMOUNT;BY\nA;B;2,5;hand\n";
     assert_read(
         &rt,
-        &read_trips(alloc, list, None)?,
+        &read_trips(alloc, list, Rules::NONE)?,
         &["A", "B"],
         1,
         &[0, 25, 0, 0],
+    );
+    Ok(())
+}
+
+#[test]
+fn reads_by_rules(rt: HostRuntime) -> Result<(), Fail> {
+    let alloc = rt.alloc();
+    let names = ["A", "B"];
+    let powers = b",A,B\nA,1e3,2.5E-2\nB,-1.25e1,0E+00\n";
+    let entries = [1_000_000, 25, -12_500, 0];
+    assert_read(
+        &rt,
+        &read_matrix(alloc, powers, Rules::NONE)?,
+        &names,
+        3,
+        &entries,
+    );
+    let narrow = "\tA\tB\nA\t\t1\u{202F}234\u{A0}567,5\nB\t2\u{2009}000\t\n";
+    let entries = [0, 12_345_675, 20_000, 0];
+    assert_read(
+        &rt,
+        &read_matrix(alloc, narrow.as_bytes(), Rules::NONE)?,
+        &names,
+        1,
+        &entries,
+    );
+    let rounds = Rules {
+        round: Some(2),
+        ..Rules::NONE
+    };
+    let long = b",A,B\nA,0.125,-0.125\nB,0.33333333333333333333,2.994999\n";
+    let entries = [13, -13, 33, 299];
+    assert_read(&rt, &read_matrix(alloc, long, rounds)?, &names, 2, &entries);
+    let halves = Rules {
+        is_symmetric: true,
+        ..Rules::NONE
+    };
+    let upper = b",A,B,C\nA,,1,2\nC,,3,\nB,1,,\n";
+    let entries = [0, 1, 2, 1, 0, 3, 2, 3, 0];
+    assert_read(
+        &rt,
+        &read_matrix(alloc, upper, halves)?,
+        &["A", "B", "C"],
+        0,
+        &entries,
+    );
+    assert!(rt; read_matrix(alloc, b",A,B\nA,0,1\nB,2,0\n", halves).is_err());
+    let sums = Rules {
+        adds_up: true,
+        ..Rules::NONE
+    };
+    let list = b"from,to,amount\nA,B,1.5\nA,B,2\nB,A,3\nA,B,-1\n";
+    assert_read(
+        &rt,
+        &read_trips(alloc, list, sums)?,
+        &names,
+        1,
+        &[0, 25, 30, 0],
+    );
+    let one_way = b"from,to,amount\nA,B,1.5\nA,A,2\n";
+    assert_read(
+        &rt,
+        &read_trips(alloc, one_way, halves)?,
+        &names,
+        1,
+        &[20, 15, 15, 0],
     );
     Ok(())
 }
@@ -140,9 +220,9 @@ fn refuses_what_is_hardly_meant(rt: HostRuntime) -> Result<(), Fail> {
         b"PK\x03\x04",
     ];
     for table in tables {
-        assert!(rt; read_matrix(alloc, table, None).is_err());
+        assert!(rt; read_matrix(alloc, table, Rules::NONE).is_err());
     }
-    assert!(rt; read_places(alloc, b"name,x,y\nA,1,2\nB,1,2\n", None).is_err());
+    assert!(rt; read_places(alloc, b"name,x,y\nA,1,2\nB,1,2\n", Rules::NONE).is_err());
     Ok(())
 }
 

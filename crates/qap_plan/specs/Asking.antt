@@ -2,7 +2,7 @@
 use Rattle.std.specs.Prelude.{⊤}
 use Rattle.qap_plan.specs.Options.{AreLimited}
 use Rattle.qap_plan.specs.declared.command_line.Task.{Task}
-use Rattle.qap_plan.specs.declared.command_line.Task.TheVariants.{Solve, Split, Part, Convert, Show, Check}
+use Rattle.qap_plan.specs.declared.command_line.Task.TheVariants.{Solve, Split, Part, Convert, Show, Check, Compare}
 
 -- the options of a search are within their limits
 abbrev pub IsLimitedTask : Task → Type 0
@@ -12,3 +12,4 @@ IsLimitedTask (Part r) = AreLimited r.options
 IsLimitedTask (Convert r) = ⊤
 IsLimitedTask (Show r) = ⊤
 IsLimitedTask (Check r) = ⊤
+IsLimitedTask (Compare r) = AreLimited r.options

@@ -5,6 +5,7 @@ ghost use Rattle.qap_plan.specs.Asking.{IsLimitedTask};
 ghost use Rattle.qap_plan.specs.Options.{AreLimited};
 
 use crate::check_command::{CheckRequest, check_command, check_request};
+use crate::compare_command::{CompareRequest, compare_command, compare_request};
 use crate::convert_command::{ConvertRequest, convert_command, convert_request};
 use crate::duration::milliseconds_of;
 use crate::options::{MAX_NODES, MAX_WORKERS, Options};
@@ -28,6 +29,8 @@ pub struct Request<'a> {
     pub out: Option<&'a str>,
     /// The file that the answer is written to as JSON too.
     pub json: Option<&'a str>,
+    /// The file that an answer to a plan is written to as a table of departments and places.
+    pub csv: Option<&'a str>,
     /// The file that the proof is written to.
     pub proof: Option<&'a str>,
     /// The file that a picture of the answer to a plan is written to.
@@ -55,6 +58,8 @@ pub enum Task<'a> {
     Show(ShowRequest<'a>),
     /// To judge an answer.
     Check(CheckRequest<'a>),
+    /// To compare today's arrangement with the best one.
+    Compare(CompareRequest<'a>),
 }
 
 /// What the words of a command line ask for, the program's name being the first. That help or the version is asked for is an error
@@ -72,11 +77,12 @@ pub fn parse<'a>(alloc: Global, words: &'a [String]) -> Result<Task<'a>, Error>
         .subcommand(part_command(alloc)?)?
         .subcommand(convert_command(alloc)?)?
         .subcommand(show_command(alloc)?)?
-        .subcommand(check_command(alloc)?)?;
+        .subcommand(check_command(alloc)?)?
+        .subcommand(compare_command(alloc)?)?;
     let matches = command.try_get_matches_from_mut(words)?;
     if let Some(word) = wrong_time(&matches) {
         let message = format!(in alloc;
-            "invalid value '{word}' for '--seconds <S>': a time is wanted, as 90, 1.5, 2m or 1h"
+            "invalid value '{word}' for '--seconds <S>': a time is expected, such as 90, 1.5, 2m or 1h"
         )?;
         return Err(command.error(ErrorKind::ValueValidation, &message)?);
     }
@@ -89,7 +95,7 @@ pub fn parse<'a>(alloc: Global, words: &'a [String]) -> Result<Task<'a>, Error>
 /// The time limit that is asked for, where it is no time.
 fn wrong_time<'a>(matches: &ArgMatches<'a>) -> Option<&'a str> {
     match matches.subcommand() {
-        Some(("solve" | "split" | "part", found)) => {
+        Some(("solve" | "split" | "part" | "compare", found)) => {
             let word = found.get_str("seconds")?;
             match milliseconds_of(word) {
                 Some(_) => None,
@@ -116,6 +122,7 @@ fn asked<'a>(matches: &ArgMatches<'a>) -> Option<Task<'a>>
         Some(("convert", found)) => Some(Task::Convert(convert_request(found)?)),
         Some(("show", found)) => Some(Task::Show(show_request(found)?)),
         Some(("check", found)) => Some(Task::Check(check_request(found)?)),
+        Some(("compare", found)) => Some(Task::Compare(compare_request(found)?)),
         _ => None,
     }
 }
@@ -150,6 +157,11 @@ fn solve_command<'a>(alloc: Global) -> Result<Command<'a>, AllocError> {
                 .help("write the answer to this file too, as JSON"),
         )?
         .arg(
+            Arg::new(alloc, "csv").long("csv").value_name("FILE").help(
+                "write the answer to a plan to this file too, as a table of departments and places",
+            ),
+        )?
+        .arg(
             Arg::new(alloc, "proof")
                 .long("proof")
                 .value_name("FILE")
@@ -180,7 +192,7 @@ pub(crate) fn with_start<'a>(
         Arg::new(alloc, "start")
             .long("start")
             .value_name("FILE")
-            .help("start from the solution in this file"),
+            .help("start from the arrangement in this file"),
     )
 }
 
@@ -258,30 +270,39 @@ pub(crate) fn with_improvement<'a>(
         )
 }
 
-/// The request that was found; `None` where something is missing, or there are too many workers.
-fn request_of<'a>(found: &ArgMatches<'a>) -> Option<Request<'a>>
-    ensures { IfSome result (λ request. AreLimited request.options) }
+/// The options of a search; `None` where something is missing, or there are too many workers.
+pub(crate) fn options_of(found: &ArgMatches<'_>, passes: bool, proves: bool) -> Option<Options>
+    ensures { IfSome result AreLimited }
 {
     let workers = found.get_one("workers")?;
     if workers == 0 || workers > MAX_WORKERS {
         return None;
     }
+    Some(Options {
+        workers,
+        nodes: found.get_one("nodes"),
+        milliseconds: time_limit(found),
+        memory: found.get_one("memory"),
+        improve: found.get_one("improve")?,
+        seed: found.get_one("seed")?,
+        passes,
+        proves,
+    })
+}
+
+/// The request that was found; `None` where something is missing, or there are too many workers.
+fn request_of<'a>(found: &ArgMatches<'a>) -> Option<Request<'a>>
+    ensures { IfSome result (λ request. AreLimited request.options) }
+{
+    let proof = found.get_str("proof");
     Some(Request {
         file: found.get_str("FILE")?,
         start: found.get_str("start"),
-        options: Options {
-            workers,
-            nodes: found.get_one("nodes"),
-            milliseconds: time_limit(found),
-            memory: found.get_one("memory"),
-            improve: found.get_one("improve")?,
-            seed: found.get_one("seed")?,
-            passes: found.get_flag("ignore-rest"),
-            proves: found.get_str("proof").is_some(),
-        },
+        options: options_of(found, found.get_flag("ignore-rest"), proof.is_some())?,
         out: found.get_str("out"),
         json: found.get_str("json"),
-        proof: found.get_str("proof"),
+        csv: found.get_str("csv"),
+        proof,
         svg: found.get_str("svg"),
         quiet: found.get_flag("quiet"),
         progress: found.get_flag("progress"),

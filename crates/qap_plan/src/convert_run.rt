@@ -77,7 +77,7 @@ fn is_device(rt: &HostRuntime, name: &str) -> bool {
 /// Tells that an instance without names isn't converted.
 fn refuse_instance(rt: &HostRuntime, file: &str) -> ExitCode {
     let _ = rt.eprintln(format_args!(
-        "error: {file}: a plan is wanted, whose file's name ends in .toml: name one; an instance in the QAPLIB format stays as it is"
+        "error: {file}: a plan is required, a file whose name ends in .toml: name one; an instance in the QAPLIB format stays as it is"
     ));
     ExitCode::from(Status::Usage.code())
 }

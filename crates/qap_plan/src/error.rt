@@ -25,7 +25,7 @@ pub enum PlanError {
     #[error("the arrangement costs {0}, which is not what the file states")]
     StartCost(i128),
     /// A text gives no node.
-    #[error("the node is no facilities and locations by turns, as \"1 5 2 7\": counted from 1, facilities ascending, one blank between")]
+    #[error("the node is not a list of facilities, each followed by its location, such as \"1 5 2 7\": count from 1, facilities ascending, one blank between")]
     Node,
     /// A proof that was put together is none for the instance.
     #[error("the proof is refused: {0}")]

@@ -1,14 +1,18 @@
 //! An answer as JSON.
 
 ghost use Rattle.plan_file.specs.Tables.{HasSizes};
+ghost use Rattle.qap_cost.specs.Placement.{Completes};
 
 use crate::planning::Planned;
-use plan_answer::cost_text;
+use plan_answer::{cost_text, dearest_pairs, gap_text};
 use plan_file::NamedProblem;
 use qap_command::VERSION;
 use qap_cost::Perm;
 use serde_json::{Map, Value, json};
 use std::alloc::{AllocError, Global};
+
+/// How many of the costliest pairs are listed.
+const PAIRS: usize = 5;
 
 /// The answer, in one object: `status` is `optimal` or `bounded`; `cost` and `bound` are texts, since they may pass 64
 /// bits; `permutation` has the location of each facility, counted from 1; `nodes` were decided and `open` were left
@@ -30,31 +34,83 @@ pub fn json_text(alloc: Global, answer: &Planned, milliseconds: u64) -> Result<S
 }
 
 /// The same of a problem with names: `cost` and `bound` are in the plan's own units, `departments` and `places` are the names, in the tables' order, and
-/// `arrangement` has the place of each department, by its name.
+/// `arrangement` has the place of each department, by its name. `gap` is how far the cost may lie above the least, in percent, or null where that is
+/// unknown; `pairs` are the costliest; `fixed`, where something is fixed, has the place of each department that is, and `round`, where the tables'
+/// numbers were rounded, how many decimals they kept.
 pub fn named_json_text(
     alloc: Global,
     problem: &NamedProblem,
     answer: &Planned,
     milliseconds: u64,
 ) -> Result<String, AllocError>
-    requires { HasSizes problem.now }
+    requires sizes { HasSizes problem.now }
+    requires kept { Completes problem.now.fixed answer.now.permutation }
 {
-    let value = json!(in alloc; {
+    let mut value = json!(in alloc; {
         "version": VERSION,
         "status": status_word(answer),
         "cost": cost_value(alloc, problem, answer.cost)?,
         "bound": cost_value(alloc, problem, answer.bound)?,
+        "gap": gap_value(alloc, answer)?,
         "departments": names_value(alloc, &problem.departments)?,
         "places": names_value(alloc, &problem.places)?,
         "arrangement": arrangement(alloc, problem, &answer.permutation)?,
         "permutation": locations(alloc, &answer.permutation)?,
+        "pairs": pairs_value(alloc, problem, &answer.permutation)?,
         "flow_scale": problem.flow_scale as u64,
         "distance_scale": problem.distance_scale as u64,
         "nodes": answer.nodes,
         "open": answer.open_nodes,
         "milliseconds": milliseconds,
     })?;
+    add_fixed(alloc, problem, &mut value)?;
+    if let (Some(places), Some(fields)) = (problem.rounded, value.as_object_mut()) {
+        fields.insert(
+            String::from_str(alloc, "round")?,
+            Value::from(places as u64),
+        )?;
+    }
     value.to_string(alloc)
+}
+
+/// How far the cost may lie above the least, in percent, or null.
+fn gap_value(alloc: Global, answer: &Planned) -> Result<Value, AllocError> {
+    match gap_text(alloc, answer.cost, answer.bound)? {
+        Some(text) => Ok(Value::String(String::from_str(
+            alloc,
+            std::str::from_utf8(&text).unwrap_or(""),
+        )?)),
+        None => Ok(Value::Null),
+    }
+}
+
+/// The pairs of departments that cost most, each with its cost in the plan's own units.
+fn pairs_value(
+    alloc: Global,
+    problem: &NamedProblem,
+    permutation: &Perm,
+) -> Result<Value, AllocError>
+    requires sizes { HasSizes problem.now }
+    requires kept { Completes problem.now.fixed permutation.now }
+{
+    let mut values = Vec::new(alloc);
+    for pair in &dearest_pairs(alloc, &problem.instance, permutation, PAIRS)? {
+        let value = json!(in alloc; {
+            "from": name_value(alloc, problem, pair.from)?,
+            "to": name_value(alloc, problem, pair.to)?,
+            "cost": cost_value(alloc, problem, i128::from(pair.cost))?,
+        })?;
+        values.push(value)?;
+    }
+    Ok(Value::Array(values))
+}
+
+/// The name of a department.
+fn name_value(alloc: Global, problem: &NamedProblem, i: usize) -> Result<String, AllocError> {
+    match problem.departments.get(i) {
+        Some(name) => name.clone(),
+        None => Ok(String::new(alloc)),
+    }
 }
 
 /// What a problem's instance only numbers: `departments` and `places` are the names, in the tables' order, `flow_scale` and `distance_scale` the powers of
@@ -67,6 +123,12 @@ pub fn names_text(alloc: Global, problem: &NamedProblem) -> Result<String, Alloc
         "flow_scale": problem.flow_scale as u64,
         "distance_scale": problem.distance_scale as u64,
     })?;
+    add_fixed(alloc, problem, &mut value)?;
+    value.to_string(alloc)
+}
+
+/// Adds the places of what is fixed to an object, where something is.
+fn add_fixed(alloc: Global, problem: &NamedProblem, value: &mut Value) -> Result<(), AllocError> {
     if problem.fixed.depth() > 0 {
         if let Some(fields) = value.as_object_mut() {
             fields.insert(
@@ -75,7 +137,7 @@ pub fn names_text(alloc: Global, problem: &NamedProblem) -> Result<String, Alloc
             )?;
         }
     }
-    value.to_string(alloc)
+    Ok(())
 }
 
 /// The place of each department that is fixed, by its name.

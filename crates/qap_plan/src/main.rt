@@ -8,6 +8,8 @@ mod check_command;
 mod check_run;
 mod checking;
 mod command_line;
+mod compare_command;
+mod compare_run;
 mod convert_command;
 mod convert_run;
 mod converting;
@@ -19,6 +21,7 @@ mod json;
 mod judged_files;
 mod keeper;
 mod keeping;
+mod layout_file;
 mod memory_limit;
 mod node_lines;
 mod options;
@@ -51,6 +54,7 @@ use check_run::run_check;
 use clap::Error;
 use clap::error::ErrorKind;
 use command_line::{Request, Task, parse};
+use compare_run::run_compare;
 use convert_run::run_convert;
 use elapsed::Elapsed;
 use error::PlanError;
@@ -101,6 +105,7 @@ where
         Task::Convert(request) => run_convert(rt, request),
         Task::Show(request) => run_show(rt, request),
         Task::Check(request) => run_check(rt, request),
+        Task::Compare(request) => run_compare(system, rt, request),
     }
 }
 
@@ -147,6 +152,9 @@ where
     if request.svg.is_some() {
         return refuse_picture(rt, request.file);
     }
+    if request.csv.is_some() {
+        return refuse_table(rt, request.file);
+    }
     let Ok(file) = fs::open(rt, request.file) else {
         return refuse(rt, request.file, PlanError::Device);
     };
@@ -177,7 +185,15 @@ where
 /// Tells that there is no picture of an instance without names.
 pub(crate) fn refuse_picture(rt: &HostRuntime, file: &str) -> ExitCode {
     let _ = rt.eprintln(format_args!(
-        "error: {file}: a picture wants a plan, whose file's name ends in .toml: take --svg away, or write one"
+        "error: {file}: a picture needs a plan, a file whose name ends in .toml: remove --svg, or write one"
+    ));
+    ExitCode::from(Status::Usage.code())
+}
+
+/// Tells that there is no table of places of an instance without names.
+fn refuse_table(rt: &HostRuntime, file: &str) -> ExitCode {
+    let _ = rt.eprintln(format_args!(
+        "error: {file}: a table of places needs a plan, a file whose name ends in .toml: remove --csv, or write one"
     ));
     ExitCode::from(Status::Usage.code())
 }

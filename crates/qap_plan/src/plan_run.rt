@@ -1,5 +1,7 @@
 //! A run on a plan that names its tables.
 
+ghost use Rattle.std.specs.Prelude.{◌≡◌, IfOk};
+ghost use Rattle.plan_answer.specs.Layout.{layout_text as layout_of};
 ghost use Rattle.plan_file.specs.Tables.{HasSizes};
 ghost use Rattle.qap_cost.specs.Placement.{Completes};
 ghost use Rattle.qap_plan.specs.Options.{AreLimited};
@@ -10,12 +12,13 @@ use crate::elapsed::Elapsed;
 use crate::error::PlanError;
 use crate::instance_file::{inputs_of, loaded_plan};
 use crate::json::named_json_text;
+use crate::layout_file::start_text;
 use crate::outputs::{Outputs, print_text, worse};
 use crate::planning::Planned;
 use crate::progress::{Teller, telling_of};
 use crate::proof_file::proof_text;
-use crate::{bytes_of_json, end_of, faulty_file, refuse, refuse_with, start_of};
-use plan_answer::{answer_text, cost_text};
+use crate::{bytes_of_json, end_of, faulty_file, refuse, refuse_with};
+use plan_answer::{answer_text, cost_text, layout_text};
 use plan_file::NamedProblem;
 use plan_input::{Loaded, notes_of};
 use plan_picture::picture;
@@ -41,11 +44,17 @@ where
     if !request.quiet {
         tell_notes(rt, &loaded);
     }
-    let mut start = match start_of(rt, request) {
+    let start = match start_text(rt, &loaded.problem, request.start) {
         Ok(start) => start,
-        Err(name) => return refuse(rt, name, PlanError::Device),
+        Err(code) => return code,
     };
-    let names = [request.out, request.json, request.svg, request.proof];
+    let names = [
+        request.out,
+        request.json,
+        request.csv,
+        request.svg,
+        request.proof,
+    ];
     let outputs = match Outputs::open(rt, &names, &inputs_of(rt, request.file, &loaded)) {
         Ok(outputs) => outputs,
         Err(code) => return code,
@@ -60,7 +69,8 @@ where
     let alloc = rt.alloc();
     let text = &mut Counted::new(Vec::new(alloc));
     let options = &request.options;
-    let answer = plan_named(system, alloc, problem, &mut start, text, options, &teller);
+    let mut reader = reader_of(&start);
+    let answer = plan_named(system, alloc, problem, &mut reader, text, options, &teller);
     teller.finish();
     match answer {
         Ok(answer) => finish(
@@ -75,8 +85,16 @@ where
     }
 }
 
+/// A reader of the text of a start, where there is one.
+fn reader_of(start: &Option<Vec<u8>>) -> Option<Counted<&[u8]>> {
+    match start {
+        Some(text) => Some(Counted::new(text.as_slice())),
+        None => None,
+    }
+}
+
 /// Says on standard error what the tables were understood as, and what may not be meant.
-fn tell_notes(rt: &HostRuntime, loaded: &Loaded) {
+pub(crate) fn tell_notes(rt: &HostRuntime, loaded: &Loaded) {
     if let Ok(notes) = notes_of(rt.alloc(), loaded) {
         for note in &notes {
             let _ = rt.eprintln(format_args!("{note}"));
@@ -107,6 +125,10 @@ fn finish(
     if request.json.is_some() {
         let json = bytes_of_json(named_json_text(rt.alloc(), problem, answer, milliseconds));
         status = worse(status, outputs.put(rt, request.json, json));
+    }
+    if request.csv.is_some() {
+        let csv = csv_text(rt.alloc(), problem, &answer.permutation);
+        status = worse(status, outputs.put(rt, request.csv, csv));
     }
     if request.svg.is_some() {
         let svg = picture_text(rt.alloc(), problem, &answer.permutation, answer.cost);
@@ -142,6 +164,20 @@ fn out_text(alloc: Global, problem: &NamedProblem, answer: &Planned) -> Result<V
         answer.cost,
         answer.bound,
     )?)
+}
+
+/// An arrangement as a table of departments and places.
+pub(crate) fn csv_text(
+    alloc: Global,
+    problem: &NamedProblem,
+    permutation: &Perm,
+) -> Result<Vec<u8>, PlanError>
+    requires sizes { HasSizes problem.now }
+    requires kept { Completes problem.now.fixed permutation.now }
+    ensures { IfOk result (λ text. text.items ≡ layout_of problem.now permutation.now) }
+{
+    let text = layout_text(alloc, problem, permutation)?;
+    Ok(text)
 }
 
 /// A picture of an arrangement of this cost.

@@ -17,8 +17,8 @@ use std::alloc::{AllocError, Global};
 use std::cell::Cell;
 use subtree_search::Stop;
 
-/// How many nodes are evaluated between two questions whether to stop.
-const NODES_PER_LOOK: u64 = 1000;
+/// How many nodes are evaluated between two questions whether to stop, about: there is one every 1,000 nodes, and one after each trial.
+const NODES_PER_LOOK: u64 = 500;
 
 /// After so many of these questions the progress is shown once.
 const LOOKS: u64 = 16;

@@ -1,4 +1,4 @@
-use Rattle.std.proofs.Common.{◌≡◌, ◌∙◌, [], ap, arith, below_more, get_or, map, sym}
+use Rattle.std.proofs.Common.{◌∙◌, [], ap, arith, below_more, sym}
 use Rattle.std.specs.Cmp.Lexicographic.{other_text}
 use Rattle.std.proofs.lemmas.List.{get_or-map}
 use Rattle.plan_table.proofs.alike.same_before.Goals as goal

@@ -1,4 +1,4 @@
-use Rattle.std.proofs.Common.{◌≡◌, arith, inl, inr, refl, subst}
+use Rattle.std.proofs.Common.{◌≡◌, arith, inl, inr, subst}
 use Rattle.std.proofs.lemmas.Bool.{cases_lt}
 use Rattle.csv.specs.Records.{fields_of}
 use Rattle.plan_table.specs.Marking.{IsWritten}
@@ -11,6 +11,6 @@ loop-k-preserved c j low below =
       | inl before ↦ c.loop-k.invariant j low before
       | inr past ↦
           let here : c.loop-k.k ≡ j = omega (arith, below, past) in
-          let word = rw (c.as_bytes.ensures.value, c.word_in.ensures) at (c.if-not-is_written.ensures.0 refl) in
+          let word = rw c.word_in.ensures at (c.in_ok-written.ensures.0 c.if-not-written.false) in
           subst (λ m. IsWritten c.args.mark (word_at (fields_of c.args.row.now) m)) here word
     ]

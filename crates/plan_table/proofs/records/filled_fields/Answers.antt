@@ -1,4 +1,4 @@
-use Rattle.std.proofs.Common.{◌≡◌, ◌∙◌, ◌+◌, ◌<◌, length, ap, arith, refl, sym}
+use Rattle.std.proofs.Common.{◌<◌, length, arith}
 use Rattle.csv.specs.Records.{fields_of}
 use Rattle.plan_table.proofs.TidyRecords.{filled_off, filled_on}
 use Rattle.plan_table.proofs.records.filled_fields.Goals as goal

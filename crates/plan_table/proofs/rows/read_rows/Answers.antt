@@ -1,9 +1,8 @@
-use Rattle.std.proofs.Common.{◌≡◌, ◌++◌, ◌∷◌, ◌<◌, ◌≤◌, ◌∙◌, [], ap, arith, get_or, length, map, refl, subst, sym, take}
+use Rattle.std.proofs.Common.{◌≡◌, ◌++◌, ◌∷◌, ◌≤◌, ◌∙◌, [], ap, arith, get_or, length, map, refl, sym, take}
 use Rattle.std.specs.String.{string_bytes}
 use Rattle.std.proofs.lemmas.List.{get_or-map, length-map, length-take-le}
 use Rattle.csv.specs.Records.{field_at, fields_of}
 use Rattle.std.proofs.Common.{Some}
-use Rattle.plan_table.specs.Table.{AreRowsOf}
 use Rattle.plan_table.proofs.RowLists.{AreRows-more, inside_more}
 use Rattle.plan_table.proofs.rows.read_rows.Goals as goal
 

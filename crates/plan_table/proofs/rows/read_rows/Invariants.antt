@@ -1,4 +1,4 @@
-use Rattle.std.proofs.Common.{◌≡◌, ◌<◌, ℕ, List, get_or, length, map, take}
+use Rattle.std.proofs.Common.{◌<◌, ℕ, List, get_or, length, map, take}
 use Rattle.std.specs.String.{string_bytes}
 use Rattle.csv.specs.Records.{fields_of}
 use Rattle.plan_table.specs.Table.{AreRows, in_order}

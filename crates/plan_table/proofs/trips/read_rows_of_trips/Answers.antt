@@ -14,5 +14,5 @@ loop-row-preserved c =
     let t = c.in_ok-trip.trip in
     let here : get_or rows i [] ≡ fields_of c.row-item.result = get_or-map fields_of c.args.rows.now i c.row-item.result [] c.loop-row-test.true ∙ ap fields_of (sym c.row-item.is) in
     let pushed : c.push.new.self.items ≡ c.loop-row.trips.items ++ t ∷ [] = search rules in
-    let more = AreTripsOf-more c.args.mark names rows i c.loop-row.trips.items c.push.new.self.items t c.loop-row.invariant.many c.loop-row.invariant.each (subst (λ r. IsTripOf c.args.mark names r t) (sym here) c.in_ok-trip.ensures) pushed in
+    let more = AreTripsOf-more c.args.reading names rows i c.loop-row.trips.items c.push.new.self.items t c.loop-row.invariant.many c.loop-row.invariant.each (subst (λ r. IsTripOf c.args.reading names r t) (sym here) c.in_ok-trip.ensures) pushed in
     record { many = more.0; each = more.1 }

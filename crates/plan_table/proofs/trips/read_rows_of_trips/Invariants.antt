@@ -8,5 +8,5 @@ use Rattle.plan_table.proofs.trips.read_rows_of_trips.Given as goal
 abbrev pub invariant-loop-row : goal.invariant-loop-row
 invariant-loop-row l = record {
   many : length l.trips.items ≡ l.row-index;
-  each : (k : ℕ) → k < length l.trips.items → IsTripOf l.mark (map string_bytes l.names) (row_at (map fields_of l.rows) k) (trip_at l.trips.items k);
+  each : (k : ℕ) → k < length l.trips.items → IsTripOf l.reading (map string_bytes l.names) (row_at (map fields_of l.rows) k) (trip_at l.trips.items k);
 }

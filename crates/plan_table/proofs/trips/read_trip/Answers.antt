@@ -1,9 +1,10 @@
-use Rattle.std.proofs.Common.{◌≡◌, ◌∙◌, Some, arith, ap, map, sym}
+use Rattle.std.proofs.Common.{◌∙◌, arith, map, sym}
 use Rattle.std.specs.String.{string_bytes}
 use Rattle.std.proofs.lemmas.List.{length-map}
-use Rattle.csv.specs.Records.{field_at, fields_of}
+use Rattle.csv.specs.Records.{fields_of}
 use Rattle.plan_table.specs.Table.{word_at}
 use Rattle.plan_table.proofs.Fields.{there_is_word, three_fields}
+use Rattle.plan_table.proofs.ListedFlows.{listed_cell}
 use Rattle.plan_table.proofs.trips.read_trip.Goals as goal
 
 pub returns : goal.returns
@@ -19,5 +20,5 @@ returns c =
       to_inside = omega (arith, as_many, to_inside);
       word = word_at fields 2;
       is = three_fields fields _ _ (word_at fields 2) (omega (arith, c.in_ok-check_start.ensures, c.in_ok-check_end.ensures)) from to there;
-      spelled = c.in_ok-read_cell.ensures;
+      spelled = sym (listed_cell c.args.reading 0 1 (word_at fields 2) c.requires.listed) ∙ c.in_ok-read_cell.ensures;
     }
