@@ -2,8 +2,6 @@
 #![tactic(auto)]
 
 #[cfg(test)]
-mod branching_tests;
-#[cfg(test)]
 mod examples;
 #[cfg(test)]
 mod hand_tests;
