@@ -174,7 +174,9 @@ fn judge_child<'a>(
     judge_tree(buffers, task, &part, text, placed, line)
 }
 
-/// Judges the line of a bound, and reports what keeps its duals from closing the node, if something does.
+/// Judges the line of a bound, and reports what keeps its duals from closing the node, if something does. It isn't inlined, so that the
+/// walk keeps nothing of it at its levels.
+#[inline(never)]
 fn judge_bound(
     buffers: &mut Buffers,
     task: &Task<'_>,
@@ -203,6 +205,7 @@ fn judge_bound(
 }
 
 /// The same for the bound of the child at this location.
+#[inline(never)]
 fn judge_child_bound(
     buffers: &mut Buffers,
     task: &Task<'_>,

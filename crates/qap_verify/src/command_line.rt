@@ -46,6 +46,6 @@ pub fn parse<'a>(alloc: Global, words: &'a [String]) -> Result<Files<'a>, Error>
                 parts,
             })
         }
-        _ => Err(command.error(ErrorKind::MissingRequiredArgument, "two files are wanted")?),
+        _ => Err(command.error(ErrorKind::MissingRequiredArgument, "two files are required")?),
     }
 }
