@@ -5,7 +5,7 @@
 >>> answer.cost, answer.optimal
 (42, True)
 
-The work is done by the programs `qapplan` and `qapverify`, whose answers are proved: `bound` is never above the least cost.
+The programs `qapplan` and `qapverify` do the work, and their answers are proved: `bound` is never above the least cost.
 """
 from __future__ import annotations
 
@@ -25,7 +25,7 @@ Matrix = Sequence[Sequence[Number]]
 
 
 class KonhrathError(Exception):
-    """A program refused its input; the text is what it said."""
+    """A program refused its input; the text is its message."""
 
 
 @dataclasses.dataclass(frozen=True)
@@ -35,15 +35,15 @@ class Answer:
     permutation: list[int]
     """The location of each facility, counted from 0."""
     cost: Number
-    """What the permutation costs."""
+    """The cost of the permutation."""
     bound: Number
-    """No permutation costs less (none that keeps what is fixed)."""
+    """No permutation costs less (with fixed facilities: none that respects them)."""
     optimal: bool
-    """Whether the bound is the cost: then the permutation is optimal, and that is proved."""
+    """Whether the bound equals the cost, so that the permutation is proved optimal."""
     seconds: float
-    """How long it took."""
+    """The elapsed time."""
     proof: Optional[str] = None
-    """The file of the proof, if one was asked for."""
+    """The file of the proof, if one was requested."""
 
 
 def solve(
@@ -55,12 +55,12 @@ def solve(
     workers: Optional[int] = None,
     proof: Union[str, os.PathLike, None] = None,
 ) -> Answer:
-    """Finds a permutation p for which the sum of flow[i][j] * distance[p[i]][p[j]] over all i and j is least.
+    """Finds a permutation p that minimizes the sum of flow[i][j] * distance[p[i]][p[j]] over all i and j.
 
-    `flow` and `distance` are square, of one size up to 256: nested sequences or NumPy arrays, of whole or decimal numbers; a float counts as
-    the shortest decimal number that it prints as. `fixed` puts facilities at locations, counted from 0. After `seconds`, or at Ctrl-C, the best
-    permutation so far is returned, with a bound. `workers` is how many threads search, 4 by default. With `proof` a proof is written to that
-    file, which `verify` checks.
+    `flow` and `distance` are square matrices of the same size, up to 256: nested sequences or NumPy arrays of whole or decimal numbers; a
+    float stands for the shortest decimal number that it prints as. `fixed` maps facilities to locations, counted from 0. After `seconds`, or
+    at Ctrl-C, the best permutation found so far is returned, with a bound. `workers` is the number of search threads, 4 by default. With
+    `proof`, a proof is written to that file; `verify` checks it.
     """
     with tempfile.TemporaryDirectory(prefix="konhrath-") as room:
         problem = _write(pathlib.Path(room), flow, distance, fixed)
@@ -92,9 +92,9 @@ def verify(
     distance: Matrix,
     proof: Union[str, os.PathLike],
 ) -> str:
-    """What a proof shows of the problem: `optimal C`, `gap G C` or `part G`, in the whole numbers that the decimals were scaled to.
+    """What a proof establishes: `optimal C`, `gap G C` or `part G`, in the whole numbers that the decimals were scaled to.
 
-    A file that is not a valid proof for this problem raises `KonhrathError`, no matter who made it.
+    A file that is not a valid proof for this problem raises `KonhrathError`, no matter who produced it.
     """
     with tempfile.TemporaryDirectory(prefix="konhrath-") as room:
         problem = _write(pathlib.Path(room), flow, distance, None)
@@ -107,13 +107,13 @@ def verify(
 
 
 def _program(name: str) -> str:
-    """The program's path: the one of the package, or of the folder that KONHRATH_BIN names."""
+    """The path of a program, in the folder that KONHRATH_BIN names or else in the package."""
     folder = os.environ.get("KONHRATH_BIN") or pathlib.Path(__file__).parent / "bin"
     return os.path.join(folder, name)
 
 
 def _run(command: list, stop: pathlib.Path) -> tuple[int, str]:
-    """The status of a command and what it said; Ctrl-C stops it with its answer, and a second one at once."""
+    """The status of a command and its messages; Ctrl-C stops it with its answer, a second one kills it."""
     child = subprocess.Popen(
         [os.fspath(word) for word in command],
         stdin=subprocess.DEVNULL,
