@@ -1,4 +1,4 @@
-//! The least assignment, a row at a time (Kuhn 1955; Jonker and Volgenant 1987).
+//! Computes a least assignment one row at a time (Kuhn 1955; Jonker and Volgenant 1987).
 
 ghost use Rattle.std.specs.Prelude.{◌≡◌, ℕ, ◌+◌, ◌*◌, ◌^◌, ◌<◌, ◌≤◌, List, length, map, ℤ, ◌≤ℤ◌, pos, replicate, IfOk, IsOk, OnOk, Option, None};
 ghost use Rattle.qap_cost.specs.Bijection.{IsBijection};

@@ -1,4 +1,4 @@
-//! A least assignment of a matrix's rows to its columns, with duals that prove it.
+//! Least assignments of a matrix's rows to its columns, with duals that prove them.
 #![tactic(auto)]
 
 mod assignment;

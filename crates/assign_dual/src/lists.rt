@@ -1,4 +1,4 @@
-//! The lists in which an assignment is sought, kept from one to the next.
+//! The lists of an assignment, kept from one to the next.
 
 ghost use Rattle.std.specs.Prelude.{◌≡◌, ◌≤◌, ◌*◌, ℕ, None, length, map, pos, replicate, vec_capacity, IfOk, IsOk, OnOk};
 ghost use Rattle.assign_dual.specs.Lists.{HoldsNumbers, HoldsTrees};

@@ -1,4 +1,4 @@
-//! The numbers in which an assignment is sought: of 64 bits where a matrix's entries allow it, and else of 128.
+//! The number types of an assignment: 64 bits if a matrix's entries allow it, else 128.
 
 ghost use Rattle.std.specs.Prelude.{◌≡◌, false, ℕ, ℤ, ◌*◌, ◌^◌, ◌≤◌, ◌+ℤ◌, ◌-ℤ◌, ◌<ℤ◌, ◌≤ℤ◌, IsTrue, unsigned_abs};
 ghost use Rattle.std.proofs.Common.{lit<};

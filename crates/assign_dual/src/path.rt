@@ -1,4 +1,4 @@
-//! The exchange along the shortest path, which gives the new row a column.
+//! Augments along the shortest path, which assigns the new row a column.
 
 ghost use Rattle.std.specs.Prelude.{◌≡◌, ℕ, ◌+◌, ◌<◌, ◌≤◌, List, length, slice_index, Option, None};
 ghost use Rattle.assign_dual.specs.Partial.{IsMatching};

@@ -1,4 +1,4 @@
-//! The test for the entries that are taken.
+//! The test for entries that are in range.
 
 ghost use Rattle.std.specs.Prelude.{◌↔◌, ◌^◌, IsTrue};
 ghost use Rattle.qap_cost.specs.Range.{AllWithin};

@@ -1,4 +1,4 @@
-//! The lists in which rows are placed.
+//! The lists to which rows are added.
 
 ghost use Rattle.std.specs.Prelude.{◌≡◌, ◌*◌, length, map, pos, replicate};
 ghost use Rattle.qap_cost.specs.Bijection.{IsBijection};

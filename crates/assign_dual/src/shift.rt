@@ -1,4 +1,4 @@
-//! The change of the duals that makes each edge of a tree tight.
+//! Updates the duals so that each edge of a tree becomes tight.
 
 ghost use Rattle.std.specs.Prelude.{◌≡◌, ℕ, ◌+◌, ◌*◌, ◌^◌, ◌<◌, ◌≤◌, List, length, map, ℤ, ◌+ℤ◌, ◌-ℤ◌, slice_index, unsigned_abs};
 ghost use Rattle.qap_cost.specs.Bijection.{IsBijection};

@@ -1,4 +1,4 @@
-//! Least assignments, one after the other, in memory that is kept.
+//! Solves a sequence of assignments in memory that is kept.
 
 ghost use Rattle.std.specs.Prelude.{◌≡◌, ◌≤◌, ◌^◌, ℕ, IfOk, IsOk, OnOk};
 ghost use Rattle.qap_cost.specs.Range.{AllWithin};

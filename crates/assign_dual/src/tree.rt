@@ -1,4 +1,4 @@
-//! The tree of shortest alternating paths from a row that is being placed (Jonker and Volgenant 1987).
+//! The tree of shortest alternating paths from a row that is being assigned (Jonker and Volgenant 1987).
 
 ghost use Rattle.std.specs.Prelude.{◌≡◌, ℕ, ◌+◌, ◌*◌, ◌^◌, ◌<◌, ◌≤◌, List, length, map, ℤ, pos, ◌+ℤ◌, ◌-ℤ◌, ◌≤ℤ◌, slice_index, slice_index_or, Option, None, unsigned_abs};
 ghost use Rattle.qap_cost.specs.Bijection.{IsBijection};

@@ -1,4 +1,4 @@
-//! The tests of `assign_dual`, on its public calls alone: in a crate of their own they need no second proof of it.
+//! The tests of `assign_dual`, on its public calls only: in a separate crate, they do not cause a second proof of it.
 #![tactic(auto)]
 
 #[cfg(test)]

@@ -1,4 +1,4 @@
-//! Worked rows, and many small matrices against a listing of all assignments.
+//! Worked rows, and many small matrices against an enumeration of all assignments.
 
 use assign_dual::{Assignment, Solver, is_in_range, solve};
 use qap_cost::Matrix;

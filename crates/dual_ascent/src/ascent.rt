@@ -1,4 +1,4 @@
-//! Pair duals found for a node.
+//! Finds pair duals for a node.
 
 ghost use Rattle.std.specs.Prelude.{◌≡◌, IfOk, IsTrue};
 ghost use Rattle.std.specs.Option.{IfSome};

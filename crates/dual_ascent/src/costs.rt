@@ -1,4 +1,4 @@
-//! What the pair duals of a node leave of its costs.
+//! What remains of a node's costs under its pair duals.
 
 use crate::places::{at, row_of, row_of_mut};
 use crate::rows::{add, combine, gather, take};

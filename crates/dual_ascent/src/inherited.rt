@@ -1,4 +1,4 @@
-//! Pair duals of a node above, restricted to a node.
+//! Pair duals of an ancestor, restricted to a node.
 
 use crate::costs::Free;
 use crate::places::put;

@@ -1,8 +1,8 @@
 //! Finds pair duals of a node: dual ascent on the level-1 reformulation of the quadratic assignment problem (Adams and
 //! Johnson 1994; Hahn and Grant 1998).
 //!
-//! What is found is advice until one pass of the crate `pair_duals` has established that it fits. So the search
-//! computes with integers that wrap, and reads places of lists by `get`: it is safe whatever the numbers are.
+//! The results are unverified until one pass of the crate `pair_duals` has established that they fit. The search
+//! therefore uses wrapping integers and reads lists by `get`: it is safe for all numbers.
 #![tactic(auto)]
 
 mod ascent;

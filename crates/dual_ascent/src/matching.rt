@@ -1,4 +1,4 @@
-//! Which rows and columns of a matrix belong together.
+//! Which rows and columns of a matrix are matched.
 
 use crate::places::{index_of, past};
 use std::alloc::{AllocError, Global};

@@ -1,4 +1,4 @@
-//! Places of lists, and rows of lists of rows; what isn't there is 0, or no row.
+//! Elements of lists, and rows of lists of rows; a missing one reads as 0, or as no row.
 
 /// Row `r` of rows of `n` numbers.
 pub fn row_of(numbers: &[i64], n: usize, r: usize) -> &[i64] {

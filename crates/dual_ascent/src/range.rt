@@ -1,4 +1,4 @@
-//! Which instances and scales an ascent takes.
+//! Which instances and scales an ascent accepts.
 
 ghost use Rattle.std.specs.Prelude.{◌↔◌, ◌≤◌, ◌^◌, IsTrue};
 ghost use Rattle.dual_ascent.specs.AscentRange.{AreSmall, HasRange};

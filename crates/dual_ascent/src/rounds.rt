@@ -1,4 +1,4 @@
-//! Rounds of dual ascent in whole numbers (Hahn and Grant 1998).
+//! Rounds of dual ascent in integers (Hahn and Grant 1998).
 
 use crate::places::{add_at, at, past, row_of, row_of_mut};
 use crate::rows::{add, add_scattered, copy, copy_but, copy_with_zero, scatter, share, take};

@@ -1,4 +1,4 @@
-//! Sums, differences and copies of rows of numbers. Rows whose lengths don't belong together stay as they are.
+//! Sums, differences and copies of rows of numbers. Rows of unequal lengths are left unchanged.
 
 /// Adds a number and those of another row.
 pub fn add(row: &mut [i64], own: i64, numbers: &[i64]) {

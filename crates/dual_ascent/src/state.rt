@@ -1,4 +1,4 @@
-//! What an ascent works on.
+//! The state of an ascent.
 
 use crate::assigner::Assigner;
 use crate::places::{put, row_of_mut};

@@ -1,10 +1,10 @@
-//! Soft sweeps: block coordinate ascent on the dual of the level-1 reformulation with entropy, as Sinkhorn's scaling of
-//! a matrix is on that of the assignment problem (Cuturi 2013).
+//! Soft sweeps: block coordinate ascent on the dual of the level-1 reformulation with entropy, the analogue of
+//! Sinkhorn's scaling for the assignment problem (Cuturi 2013).
 //!
-//! At a temperature t a pair has the weight exp(-E / t), where E is what the duals leave of it, and a facility at a
-//! location the weight exp(-R / t), where R is what is left there. A sweep moves the duals of each facility i at each
-//! location k so that the weights of its pairs with each other facility, and with each other location, add up to its
-//! own weight.
+//! At a temperature t a pair has the weight exp(-E / t), where E is its residual under the duals, and a facility at a
+//! location the weight exp(-R / t), where R is the residual there. A sweep moves the duals of each facility i at each
+//! location k so that the weights of its pairs with each other facility, and with each other location, sum to its own
+//! weight.
 
 use crate::state::State;
 use crate::weights::{

@@ -1,4 +1,4 @@
-//! Pair duals that fit, though they are worth little.
+//! Pair duals that trivially fit, but give a weak bound.
 
 ghost use Rattle.std.specs.Prelude.{◌≡◌, ◌<◌, ◌≤◌, ◌^◌, ◌*◌, ℕ, negsuc, pos, length, replicate, slice_index, IfOk};
 ghost use Rattle.qap_cost.specs.Instance.{Problem};

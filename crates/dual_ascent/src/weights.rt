@@ -1,4 +1,4 @@
-//! Rows of floating-point numbers. Rows whose lengths don't belong together stay as they are.
+//! Rows of floating-point numbers. Rows of unequal lengths are left unchanged.
 
 use std::num::nearest_i64_to_f64;
 

@@ -1,4 +1,4 @@
-//! Assignments against a listing, and bounds against the costs of all completions.
+//! Assignments against enumeration, and bounds against the costs of all completions.
 
 mod assignments;
 mod bounds;

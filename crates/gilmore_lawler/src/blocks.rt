@@ -1,4 +1,4 @@
-//! Sums of the products of two rows, place by place.
+//! Dot products of rows.
 
 ghost use Rattle.std.specs.Prelude.{◌≡◌, ◌+◌, ◌*◌, ◌^◌, ◌≤◌, ◌*ℤ◌, IsTrue, length, pos, slice_index_or, unsigned_abs};
 ghost use Rattle.qap_cost.specs.Range.{AllInRange};

@@ -1,4 +1,4 @@
-//! Why duals that fit a reduced matrix bound the cost of every completion.
+//! Why duals that fit a Gilmore-Lawler matrix bound the cost of every completion.
 
 ghost use Rattle.std.specs.Prelude.{◌≡◌, ◌+ℤ◌, ◌≤ℤ◌, List, ℕ, ℤ};
 ghost use Rattle.qap_cost.specs.Instance.{Problem};

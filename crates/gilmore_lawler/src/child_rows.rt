@@ -1,4 +1,4 @@
-//! The rows of the distances of a node, from those where one location fewer is taken.
+//! The rows of a node's distances, derived from those of its parent.
 
 ghost use Rattle.std.specs.Prelude.{◌≡◌, ◌≢◌, ◌<◌, ◌≤◌, ◌+◌, ◌-◌, ◌*◌, ◌++◌, ◌∷◌, [], drop, length, pos, remove, slice_index, slice_index_or, take, ℕ, ⊤, MatchOption, OnOk};
 ghost use Rattle.qap_cost.specs.Instance.{IsInstance, entry};

@@ -1,4 +1,4 @@
-//! The rows from which the entries of a reduced matrix are products.
+//! The rows whose products are the entries of a Gilmore-Lawler matrix.
 
 ghost use Rattle.std.specs.Prelude.{◌≡◌, ◌<◌, ◌≤◌, ◌==◌, ◌+◌, ◌*◌, ◌++◌, ◌∷◌, [], false, length, map, take, OnOk, slice_index, slice_index_or, ℕ};
 ghost use Rattle.std.specs.List.{flat_map};

@@ -1,4 +1,4 @@
-//! Whether duals fit products of rows, which are made one by one and not kept.
+//! Whether duals fit products of rows, which are computed one by one and not stored.
 
 ghost use Rattle.std.specs.Prelude.{◌≡◌, ◌+◌, ◌*◌, ◌^◌, ◌≤◌, ◌↔◌, length, IsTrue, unsigned_abs};
 ghost use Rattle.qap_cost.specs.Range.{AllInRange, AllLimited, IsLimited};

@@ -1,4 +1,4 @@
-//! Rows of the flows that are kept for the nodes at which the same facilities are placed.
+//! Rows of the flows, kept for the nodes with the same placed facilities.
 
 ghost use Rattle.std.specs.Prelude.{◌≡◌, OnOk};
 ghost use Rattle.qap_cost.specs.Instance.{Problem};

@@ -1,4 +1,4 @@
-//! The rows of the flows, kept for all nodes at which the same facilities are placed.
+//! Rows of the flows, kept for all nodes with the same placed facilities.
 
 ghost use Rattle.std.specs.Prelude.{◌≡◌, ◌-◌, ◌*◌, ◌^◌, length, IfOk};
 ghost use Rattle.qap_cost.specs.Bijection.{AreDifferent};

@@ -1,4 +1,4 @@
-//! A row of distances in order without one of its numbers.
+//! A sorted row of distances without one of its numbers.
 
 ghost use Rattle.std.specs.Prelude.{◌≡◌, ◌<◌, ◌≤◌, ◌+◌, ◌++◌, ◌<ℤ◌, ◌≤ℤ◌, length, pos, remove, slice_index_or, take, ℕ};
 ghost use Rattle.gilmore_lawler.specs.Order.{IsDescending};

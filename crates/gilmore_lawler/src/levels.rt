@@ -1,4 +1,4 @@
-//! Rows that are kept, one level for each count of facilities that are placed.
+//! Kept rows, one level for each number of placed facilities.
 
 ghost use Rattle.std.specs.Prelude.{◌≡◌, ◌<◌, ◌≤◌, ⊤, length, IsTrue, MatchOption, OnOk};
 ghost use Rattle.std.specs.List.{All};

@@ -1,4 +1,4 @@
-//! The bound of Gilmore and Lawler: reduced matrices of the quadratic assignment problem.
+//! The bound of Gilmore and Lawler on the cost of a node of the quadratic assignment problem.
 #![tactic(auto)]
 
 mod blocks;

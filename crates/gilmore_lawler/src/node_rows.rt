@@ -1,4 +1,4 @@
-//! Rows of a lent instance that are kept from one node to the next.
+//! Rows of a borrowed instance that are kept from one node to the next.
 
 ghost use Rattle.std.specs.Prelude.{◌≡◌, ◌-◌, ◌*◌, ◌^◌, length, IfOk};
 ghost use Rattle.qap_cost.specs.Instance.{IsInstance};

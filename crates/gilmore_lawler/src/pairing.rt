@@ -1,4 +1,4 @@
-//! The least sum of products of two lists, over all ways to pair their numbers.
+//! The least sum of products of two lists over all pairings of their numbers.
 
 ghost use Rattle.std.specs.Prelude.{◌≡◌, ◌*◌, ◌^◌, ◌≤◌, ◌*ℤ◌, length, IfOk, pos, slice_index_or, unsigned_abs};
 ghost use Rattle.qap_cost.specs.Range.{AllInRange};

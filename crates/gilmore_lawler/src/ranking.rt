@@ -1,4 +1,4 @@
-//! The rows of the two matrices, each in order of its entries.
+//! The rows of the two matrices, each sorted.
 
 ghost use Rattle.std.specs.Prelude.{◌≡◌, ◌+◌, ◌<◌, ◌≤◌, ◌++◌, IfOk, OnOk, length, map, take};
 ghost use Rattle.std.specs.List.{All, range_with_len};

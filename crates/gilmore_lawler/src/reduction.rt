@@ -1,4 +1,4 @@
-//! The reduced matrix of a node.
+//! The Gilmore-Lawler matrix of a node.
 
 ghost use Rattle.std.specs.Prelude.{◌≡◌, ◌<◌, ◌≤◌, ◌*◌, ◌-◌, ◌^◌, ◌++◌, length, IfOk, IsTrue, OnOk};
 ghost use Rattle.qap_cost.specs.Bijection.{AreDifferent};

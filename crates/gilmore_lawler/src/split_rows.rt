@@ -1,4 +1,4 @@
-//! What the children of a split have in common.
+//! What the children of a split share, computed once.
 
 ghost use Rattle.std.specs.Prelude.{◌≡◌, ◌≤◌, ◌+◌, ◌-◌, ◌*◌, ◌^◌, ◌++◌, ◌∷◌, [], length, unsigned_abs, IfOk};
 ghost use Rattle.qap_cost.specs.Placement.{IsFreeFacility, IsFreeLocation, fixed_cost_of, placing};

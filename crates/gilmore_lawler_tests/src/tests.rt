@@ -1,4 +1,4 @@
-//! What no clause says: that calls succeed, and that the numbers are those of worked examples.
+//! What no clause states: that calls succeed, and that the numbers are those of worked examples.
 
 use gilmore_lawler::{KeptRows, RankedInstance, Workspace, fits, least_product, reduced};
 use qap_cost::{Instance, Matrix, Partial};

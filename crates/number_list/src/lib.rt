@@ -1,4 +1,4 @@
-//! Lists of whole numbers in as few bits as they need: each of its numbers in 8, 16, 32 or 128, and short lists in place.
+//! Lists of integers in as few bits as they need: each number in 8, 16, 32 or 128, and short lists in place.
 #![tactic(auto)]
 
 mod few;

@@ -1,4 +1,4 @@
-//! Lists of numbers, in whatever width they lie.
+//! Lists of numbers, regardless of their width.
 
 ghost use Rattle.std.specs.Prelude.{◌≡◌, ◌∷◌, ◌++◌, [], IfOk, IfSome, length, pos};
 ghost use Rattle.number_list.specs.NumberList.{numbers_held};

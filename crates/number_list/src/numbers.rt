@@ -1,4 +1,4 @@
-//! The numbers of a list, in whatever width they lie.
+//! The numbers of a list, regardless of its width.
 
 ghost use Rattle.std.specs.Prelude.{◌≡◌, ◌<◌, ◌↔◌, IfOk, IsTrue, length, map, pos, slice_index_or};
 ghost use Rattle.std.specs.Cmp.Lexicographic.{pointwise, slice_cmp};

@@ -1,4 +1,4 @@
-//! The widths in which the numbers of a list lie.
+//! The widths in which the numbers of a list are stored.
 
 ghost use Rattle.std.specs.Prelude.{◌≡◌, ◌≤◌, ℤ, IfOk, IfSome, IsTrue, length, map, pos, take};
 

@@ -1,4 +1,4 @@
-//! Files that a program writes whole, or leaves as they were.
+//! Files that a program replaces atomically or leaves unchanged.
 #![tactic(auto)]
 
 mod opening;

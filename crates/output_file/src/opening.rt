@@ -1,4 +1,4 @@
-//! How a file that is to be written is found to be writable.
+//! Checks that a file can be written.
 
 use crate::output::{Output, file_id};
 use std::alloc::{AllocError, Global};

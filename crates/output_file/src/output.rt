@@ -1,4 +1,4 @@
-//! A file that is to be written.
+//! A file to be written.
 
 ghost use Rattle.std.specs.Prelude.{◌≡◌, ◌↔◌, true, Some, IsTrue, OnOk};
 ghost use Rattle.std.specs.Io.KnownBytes.{Appends};

@@ -1,4 +1,4 @@
-//! Why a file can't be written.
+//! Why a file cannot be written.
 
 use std::alloc::{AllocError, Global};
 use std::io;

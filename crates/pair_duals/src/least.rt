@@ -1,4 +1,4 @@
-//! The least numbers of the rows and the columns of a square matrix, and the matrix less these.
+//! Row and column minima of a square matrix, and the matrix with these subtracted.
 
 ghost use Rattle.std.specs.Prelude.{◌≡◌, ◌+◌, ◌*◌, ◌<◌, ◌≤◌, ℕ, ℤ, ◌-ℤ◌, pos, length, map, slice_index_or, unsigned_abs};
 ghost use Rattle.qap_cost.specs.Instance.{entry};

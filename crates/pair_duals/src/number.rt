@@ -1,4 +1,4 @@
-//! The numbers of pair duals: of 64 bits where the instance and the scale allow it, and else of 128.
+//! The number types of pair duals: 64 bits if the instance and the scale allow it, else 128.
 
 ghost use Rattle.std.specs.Prelude.{◌≡◌, ◌+◌, ◌*◌, ◌^◌, ◌≤◌, ℤ, ◌+ℤ◌, ◌-ℤ◌, ◌*ℤ◌, ◌<ℤ◌, ◌↔◌, IsTrue, unsigned_abs};
 ghost use Rattle.std.proofs.Common.{lit<, lit≤};

@@ -1,4 +1,4 @@
-//! What a pair costs, and what pair duals leave of it.
+//! The cost of a pair, and its residual under pair duals.
 
 ghost use Rattle.std.specs.Prelude.{◌≡◌, ◌*◌, ◌^◌, ◌<◌, ◌≤◌, pos, ◌+ℤ◌, ◌-ℤ◌, ◌*ℤ◌, length, unsigned_abs};
 ghost use Rattle.qap_cost.specs.Range.{InRange};

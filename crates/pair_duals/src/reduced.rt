@@ -1,4 +1,4 @@
-//! The reduced form of a node: a number and a matrix that say, with pair duals, what each completion costs.
+//! The reduced form of a node: a number and a matrix that, with pair duals, give the cost of each completion.
 
 ghost use Rattle.std.specs.Prelude.{◌≡◌, ◌+◌, ◌<◌, ◌↔◌, [], ℕ, ℤ, pos, ◌+ℤ◌, ◌<ℤ◌, false, length, map, IfOk, IsTrue, OnErr, OnOk};
 ghost use Rattle.qap_cost.specs.Instance.{Problem};

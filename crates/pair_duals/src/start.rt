@@ -1,4 +1,4 @@
-//! The matrix of a node by its pair duals alone.
+//! The matrix of a node from its own pair duals.
 
 ghost use Rattle.std.specs.Prelude.{◌≡◌, ◌*◌, ◌^◌, ◌<◌, ◌≤◌, ◌+◌, pos, ◌*ℤ◌, length, map, unsigned_abs, IfOk};
 ghost use Rattle.qap_cost.specs.Placement.{IsFreeFacility, IsPlacement};

@@ -1,4 +1,5 @@
-//! What no clause says: that calls succeed, and that the numbers are those of a worked example and of a listing.
+//! What no clause states: that calls succeed, and that the numbers are those of a worked example and of an
+//! enumeration.
 
 ghost use Rattle.std.specs.Prelude.{◌≡◌, ◌<◌, ◌↔◌, ℕ, length, slice_index, IfOk, IfSome, IsTrue};
 ghost use Rattle.pair_duals.specs.PairDuals.{AreOf};

@@ -1,4 +1,4 @@
-//! What a search on parts rests on, whatever the node.
+//! What a search on parts needs regardless of the node.
 
 ghost use Rattle.std.specs.Prelude.{◌≡◌, ◌<◌, ◌≤ℤ◌, ◌<ℤ◌, ◌*ℤ◌, ℕ, ℤ, pos, All, IfOk, IfSome, MatchOption, map};
 ghost use Rattle.dual_ascent.specs.AscentRange.{HasRange};

@@ -1,4 +1,4 @@
-//! Why the tuples of a search stay what its law says, and what they prove of its root.
+//! Why the tuples of a search preserve its law, and what they prove about its root.
 
 ghost use Rattle.std.specs.Prelude.{◌≡◌, ◌≤ℤ◌, ◌++◌, ◌∷◌, [], ℤ, Contains};
 ghost use Rattle.shared_space.specs.Law.{Content};

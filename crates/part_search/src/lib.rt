@@ -1,5 +1,5 @@
-//! Search of a node of an instance by workers on parts of it: each takes an open node, splits it and tries its children, and commits
-//! those that are left open. Nothing is kept of what is closed.
+//! Searches a node of an instance by workers: each takes an open node, splits it and tries its children, and commits
+//! those that remain open. Closed nodes are not stored.
 #![tactic(auto)]
 
 mod answer;

@@ -1,4 +1,4 @@
-//! The space as a search finds it.
+//! The initial space of a search.
 
 ghost use Rattle.std.specs.Prelude.{◌≡◌, ◌<◌, IfOk, OnOk, length};
 ghost use Rattle.space_txn.specs.World.{with_space};

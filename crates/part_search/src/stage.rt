@@ -1,4 +1,4 @@
-//! Where a worker stands in its turn.
+//! The stages of a worker's turn.
 
 use space_txn::Txn;
 use std::alloc::AllocError;

@@ -1,4 +1,4 @@
-//! A search by many workers, each a thread of its own.
+//! A search by several workers, each in its own thread.
 
 ghost use Rattle.std.specs.Prelude.{◌≡◌, ◌<◌, ◌≤◌, [], None, false, IfOk, length, vec_capacity, vec_len};
 ghost use Rattle.std.specs.Arc.{arc_value};

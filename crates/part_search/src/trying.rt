@@ -1,4 +1,4 @@
-//! What a worker does with the open node that it took, outside the space.
+//! A worker's work on the open node that it took, outside the space.
 
 ghost use Rattle.std.specs.Prelude.{◌≡◌, ◌≤ℤ◌, ◌++◌, ◌∷◌, [], true, IfOk, IfSome, OnOk, map, ◌<◌, ◌≤◌};
 ghost use Rattle.space_txn.specs.Content.{added_of};

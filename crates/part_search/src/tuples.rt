@@ -1,4 +1,4 @@
-//! The tuples of open nodes and of the best permutation, written and read.
+//! The tuples of open nodes and of the incumbent, written and read.
 
 ghost use Rattle.std.specs.Prelude.{◌≡◌, ◌<◌, ◌≤◌, IfOk, IfSome, length, map, pos};
 ghost use Rattle.qap_cost.specs.Placement.{Placement};

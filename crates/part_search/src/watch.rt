@@ -1,4 +1,4 @@
-//! Who watches a search, and may stop it.
+//! Observers of a search, which may stop it.
 
 use subtree_search::{Never, Stop};
 

@@ -1,4 +1,4 @@
-//! Searches on parts against a listing of all completions.
+//! Searches on parts against an enumeration of all completions.
 
 ghost use Rattle.std.specs.Prelude.{◌≡◌, true};
 

@@ -1,4 +1,4 @@
-//! Two arrangements compared: that of today, and the best one.
+//! Compares today's arrangement with the best one.
 
 ghost use Rattle.std.specs.Prelude.{◌≡◌, ◌==◌, ◌<◌, ◌≤◌, ◌*◌, ◌/◌, ◌++◌, [], ℕ, false, true, IfOk, MatchOption, OnOk, if◌then◌else◌, length, map, pos, slice_index, slice_index_or, string_bytes, unsigned_abs};
 ghost use Rattle.qap_cost.specs.Limits.{max_value};

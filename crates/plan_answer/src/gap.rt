@@ -1,4 +1,4 @@
-//! How far a cost may lie above the least.
+//! How far a cost may be above the least.
 
 ghost use Rattle.std.specs.Prelude.{◌≡◌, ◌<◌, ◌≤◌, ◌*◌, false, true, IfOk, MatchOption, pos};
 ghost use Rattle.std.specs.Int.{div_ceil};

@@ -1,4 +1,4 @@
-//! Answers with names: where each department stands, what that costs in the plan's own units, and which pairs cost most.
+//! Answers with names: the place of each department, the cost in the plan's own units, and the costliest pairs.
 #![tactic(auto)]
 
 mod answer;

@@ -1,4 +1,4 @@
-//! The pairs of facilities that cost most.
+//! The costliest pairs of facilities.
 
 ghost use Rattle.std.specs.Prelude.{◌≡◌, ◌<◌, ◌≤◌, IfOk, OnOk, int_lt, length};
 ghost use Rattle.std.specs.List.{position_or_len};

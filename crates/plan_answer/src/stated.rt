@@ -1,4 +1,4 @@
-//! The text of an answer whose bound is stated, and not shown.
+//! The text of an answer whose bound is stated, not proved.
 
 ghost use Rattle.std.specs.Prelude.{◌≡◌, ◌++◌, IfOk, OnOk, length};
 ghost use Rattle.plan_file.specs.Tables.{HasSizes};

@@ -1,4 +1,4 @@
-//! Answers that are judged against what they are answers to.
+//! Checks answers against their plan or instance.
 
 ghost use Rattle.std.specs.Prelude.{◌≡◌, ◌≢◌, ◌<◌, ◌^◌, MatchOption, MatchResult, length, slice_index};
 ghost use Rattle.serde_json.specs.View.{view};

@@ -1,4 +1,4 @@
-//! Why a text is no answer, and what to do about it.
+//! Why a text is not an answer, and how to fix it.
 
 use std::alloc::AllocError;
 use thiserror::Error;

@@ -1,4 +1,4 @@
-//! Why a proof shows nothing of an answer, and what to do about it.
+//! Why a proof establishes nothing about an answer, and how to fix it.
 
 use qap_proof::ProofError;
 use std::alloc::AllocError;

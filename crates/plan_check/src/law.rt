@@ -1,4 +1,4 @@
-//! What a refusal says of a text.
+//! What a refusal implies about a text.
 
 ghost use Rattle.std.specs.Prelude.{◌≢◌, ℕ, ℤ, List};
 ghost use Rattle.plan_check.specs.Answer.{IsAnswerToInstance, IsAnswerToPlan};

@@ -1,4 +1,4 @@
-//! Arrangements that a text lists, as permutations.
+//! Listed arrangements as permutations.
 
 ghost use Rattle.std.specs.Prelude.{◌≡◌, IfOk, length};
 ghost use Rattle.plan_check.specs.Layout.{IsLayoutOf};

@@ -1,4 +1,4 @@
-//! Answers to plans and to instances, judged: what their JSON states, and what a proof shows of them.
+//! Checks answers to plans and to instances: what their JSON states, and what a proof establishes about them.
 #![tactic(auto)]
 
 mod answer;

@@ -1,4 +1,4 @@
-//! What a JSON value is, as its data.
+//! JSON values as the data that contracts see.
 
 ghost use Rattle.std.specs.Prelude.{◌≡◌, ◌≢◌, ◌↔◌, ℕ, IsTrue, List, MatchOption, None, Some};
 ghost use Rattle.serde_json.specs.Data.{Data, array, string};

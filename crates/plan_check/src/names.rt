@@ -1,4 +1,4 @@
-//! The names of an answer, where they are there.
+//! The names in an answer, if present.
 
 ghost use Rattle.std.specs.Prelude.{◌≡◌, ◌≢◌, ◌⊎◌, ◌<◌, IfOk, MatchOption, MatchResult, None, codes, length, map, slice_get, string_bytes};
 ghost use Rattle.serde_json.specs.Data.{string};

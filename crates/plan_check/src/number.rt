@@ -1,4 +1,4 @@
-//! The numbers that an answer states: what its arrangement costs, and what none costs less than.
+//! The numbers that an answer states: the cost of its arrangement, and a lower bound.
 
 ghost use Rattle.std.specs.Prelude.{◌≡◌, ◌⊎◌, ◌<◌, ◌≤◌, ◌^◌, MatchResult, codes, unsigned_abs};
 ghost use Rattle.serde_json.specs.View.{view};

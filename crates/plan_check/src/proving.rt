@@ -1,4 +1,4 @@
-//! What a proof shows of an arrangement.
+//! What a proof establishes about an arrangement.
 
 ghost use Rattle.std.specs.Prelude.{◌≡◌, ◌<◌, ◌^◌, ◌≤ℤ◌, IfErr, IfOk, length};
 ghost use Rattle.plan_check.specs.Proved.{IsLeastKept, IsProvedBound, IsUnproved, IsUnprovedOver};

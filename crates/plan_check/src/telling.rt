@@ -1,4 +1,4 @@
-//! What is reported of an answer to a plan that was judged.
+//! The report on a checked answer to a plan.
 
 ghost use Rattle.std.specs.Prelude.{IfOk, MatchOption};
 ghost use Rattle.plan_answer.specs.Stated.{IsCostLine};

@@ -1,4 +1,4 @@
-//! What no clause says: that calls succeed, and how each refusal is told.
+//! What no clause states: that calls succeed, and the message of each refusal.
 
 ghost use Rattle.std.specs.Prelude.{IfOk};
 ghost use Rattle.plan_file.specs.Tables.{HasSizes};

@@ -1,4 +1,4 @@
-//! Why there is no plan or no problem, and what to do about it.
+//! Why there is no plan or no problem, and how to fix it.
 
 use crate::place::TextPlace;
 use plan_table::TableError;

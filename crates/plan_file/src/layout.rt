@@ -1,4 +1,4 @@
-//! Arrangements of a plan's departments that are listed.
+//! Listed arrangements of a plan's departments.
 
 ghost use Rattle.std.specs.Prelude.{◌≡◌, ◌<◌, ◌≤◌, IfOk, length, map, string_bytes};
 ghost use Rattle.qap_cost.specs.Placement.{IsPlacement};

@@ -1,4 +1,5 @@
-//! Plans that name their tables: read from TOML, and made into the instance of flows between departments and distances between places.
+//! Plans that name their tables: read from TOML, and turned into an instance with flows between departments and
+//! distances between places.
 #![tactic(auto)]
 
 mod error;

@@ -1,4 +1,4 @@
-//! What stands in a table, as its data.
+//! The values of a TOML table as the data that contracts see.
 
 ghost use Rattle.std.specs.Prelude.{◌≡◌, ◌≢◌, ℕ, ℤ, Bool, List, MatchOption, Some};
 ghost use Rattle.toml.specs.Data.{Items, Members, array, boolean, get_member, integer, string, table as table_of};

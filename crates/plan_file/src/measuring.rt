@@ -1,4 +1,4 @@
-//! Where the distances of a plan come from.
+//! The source of a plan's distances.
 
 ghost use Rattle.std.specs.Prelude.{IfErr, IfOk, OnOk, codes};
 ghost use Rattle.toml.specs.Data.{get_member};

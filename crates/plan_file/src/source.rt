@@ -1,4 +1,4 @@
-//! What a plan says.
+//! The content of a plan.
 
 use plan_metric::Metric;
 use plan_table::{Pin, Rules};

@@ -1,4 +1,4 @@
-//! What stands at the keys of a plan.
+//! The values at the keys of a plan.
 
 ghost use Rattle.std.specs.Prelude.{◌≡◌, ◌↔◌, IfErr, IfOk, IfSome, IsTrue, MatchOption, None, OnOk, Some, codes, map, string_bytes};
 ghost use Rattle.toml.specs.Data.{array, get_member};

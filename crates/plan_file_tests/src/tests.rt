@@ -1,4 +1,4 @@
-//! What no clause says: that calls succeed, what worked plans and tables are read as, and how each refusal is told.
+//! What no clause states: that calls succeed, how worked plans and tables are read, and the message of each refusal.
 
 use plan_answer::{Pair, dearest_pairs};
 use plan_file::{read_plan, read_tables};

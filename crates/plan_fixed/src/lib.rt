@@ -1,4 +1,4 @@
-//! Permutations that keep what is fixed: those that complete a node, and a search among them.
+//! Permutations that respect what is fixed: those that complete a node, and a search among them.
 #![tactic(auto)]
 
 ghost use Rattle.std.specs.Prelude.{◌≡◌, ◌≢◌, ◌<◌, ◌≤ℤ◌, ◌↔◌, ◌+◌, ℕ, List, IfOk, IsTrue, MatchOption, OnOk, length, slice_index};

@@ -1,4 +1,4 @@
-//! The problem of a planner: of a plan's file, and of the tables that it names.
+//! Loads the problem of a plan's file and of the tables that it names.
 #![tactic(auto)]
 
 mod loading;

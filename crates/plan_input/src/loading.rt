@@ -1,4 +1,4 @@
-//! Loads the problem of a plan, and of the tables that it names.
+//! Loads the problem of a plan and of the tables that it names.
 
 ghost use Rattle.std.specs.Prelude.{◌≡◌, IfOk};
 ghost use Rattle.plan_file.specs.Tables.{HasSizes};

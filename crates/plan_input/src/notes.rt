@@ -1,4 +1,4 @@
-//! What a plan's tables were understood as, and what may not be meant.
+//! How a plan's tables were read, and warnings about likely mistakes.
 
 use crate::loading::Loaded;
 use plan_file::NamedProblem;

@@ -1,4 +1,4 @@
-//! Distances between points of the plane, as whole numbers over a power of ten.
+//! Distances between points of the plane, as integers over a power of ten.
 #![tactic(auto)]
 
 mod distances;

@@ -1,4 +1,4 @@
-//! How far apart two points lie.
+//! The distance of two points.
 
 ghost use Rattle.std.specs.Prelude.{◌≡◌, ◌*◌, ◌^◌, ◌<◌, ◌≤◌, unsigned_abs};
 ghost use Rattle.plan_table.specs.Decimal.{max_entry};

@@ -1,4 +1,4 @@
-//! Where boxes stand in a picture.
+//! The positions of boxes in a picture.
 
 ghost use Rattle.std.specs.Prelude.{◌≡◌, ◌<◌, IfOk, length};
 

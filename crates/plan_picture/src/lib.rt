@@ -1,4 +1,4 @@
-//! Pictures of arrangements: each department at its place, and lines as wide as the flows, as SVG.
+//! Pictures of arrangements as SVG: each department at its place, and lines as wide as the flows.
 #![tactic(auto)]
 
 mod boxes;

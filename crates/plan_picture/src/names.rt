@@ -1,4 +1,4 @@
-//! How names are shown, and how much room they take.
+//! How names are shown, and how much space they take.
 
 ghost use Rattle.std.specs.Prelude.{◌≡◌, ◌≤◌, ◌++◌, IfOk, OnOk, string_bytes};
 ghost use Rattle.std.specs.Str.{chars};

@@ -1,4 +1,4 @@
-//! Names that a reader would take for one another.
+//! Names that a reader would confuse.
 
 ghost use Rattle.std.specs.Prelude.{◌≡◌, ◌≢◌, ◌<◌, ℕ, [], length, map, slice_index_or, IfOk, MatchOption, OnOk};
 ghost use Rattle.std.specs.String.{string_bytes};

@@ -1,4 +1,4 @@
-//! Control characters, which no name has and no message shows as they are.
+//! Control characters, which no name may have and no message shows unescaped.
 
 ghost use Rattle.std.specs.Prelude.{◌≡◌, ◌++◌, find, IfOk, OnOk};
 ghost use Rattle.std.specs.Char.{is_control};

@@ -1,5 +1,5 @@
-//! Whether a text is spelled as CSV is (RFC 4180), where a semicolon or a tab may stand in place of the comma, and a line may also end
-//! in a line feed alone.
+//! Whether a text is CSV (RFC 4180), where a semicolon or a tab may replace the comma, and a line may also end with a
+//! line feed alone.
 
 ghost use Rattle.std.specs.Prelude.{◌≡◌, MatchResult};
 ghost use Rattle.csv.specs.Reading.{strip_bom};

@@ -1,4 +1,4 @@
-//! Why a text is no matrix with names, and what to do about it.
+//! Why a text is not a matrix with names, and how to fix it.
 
 use std::alloc::AllocError;
 use std::fmt;

@@ -1,4 +1,4 @@
-//! Exponents of numbers, which move the point.
+//! Exponents of numbers, which shift the point.
 
 ghost use Rattle.std.specs.Prelude.{◌≡◌, ◌++◌, ◌+◌, ◌<◌, ◌^◌, length, true, IfOk, IfSome, OnOk};
 ghost use Rattle.plan_table.specs.Decimal.{magnitude_of};

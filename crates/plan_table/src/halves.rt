@@ -1,4 +1,4 @@
-//! Tables of which each half may stand for the other.
+//! Tables in which one half may be left empty.
 
 ghost use Rattle.std.specs.Prelude.{◌≡◌, ◌*◌, ◌+◌, ◌<◌, ◌≤◌, ℕ, length, map, pos, slice_index_or, unsigned_abs, IfOk, MatchOption, None, OnOk, Some};
 ghost use Rattle.std.specs.String.{string_bytes};

@@ -1,4 +1,4 @@
-//! First lines that say what the columns are.
+//! First lines that name the columns.
 
 ghost use Rattle.std.specs.Prelude.{◌≡◌, ◌≤◌, ◌∷◌, [], length, map, IfOk, IsTrue, OnOk};
 ghost use Rattle.std.specs.Char.{to_ascii_lowercase};

@@ -1,4 +1,4 @@
-//! Arrangements that are listed, department by department.
+//! Arrangements listed department by department.
 
 ghost use Rattle.std.specs.Prelude.{◌≡◌, ◌∷◌, [], map, take, IfOk, IsTrue, OnOk};
 ghost use Rattle.std.specs.Char.{to_ascii_lowercase};

@@ -1,4 +1,4 @@
-//! Tables of planners, a matrix with names, read exactly.
+//! Planners' tables, such as a matrix with names, read exactly.
 #![tactic(auto)]
 
 mod alike;

@@ -1,4 +1,4 @@
-//! Which decimal mark a table has.
+//! The decimal mark of a table.
 
 ghost use Rattle.std.specs.Prelude.{◌≡◌, ◌↔◌, ◌<◌, ◌≤◌, ◌-◌, ◌^◌, ℕ, [], length, map, slice_index_or, IfOk, IsTrue, MatchOption};
 ghost use Rattle.csv.specs.Records.{fields_of};

@@ -1,4 +1,4 @@
-//! The numbers of names, found without a walk over the names.
+//! The numbers of names, looked up without a scan of the names.
 
 ghost use Rattle.std.specs.Prelude.{◌≡◌, ◌∷◌, ◌++◌, [], ℕ, List, length, map, ◌↔◌, IfOk, IsTrue, OnOk};
 ghost use Rattle.std.specs.HashMap.{get_by_text};

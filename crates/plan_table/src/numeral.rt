@@ -1,4 +1,4 @@
-//! Numbers as spreadsheets write them: by a point or a comma, in groups of three digits, and with an exponent.
+//! Numbers as spreadsheets write them: with a point or a comma, in groups of three digits, and with an exponent.
 
 ghost use Rattle.std.specs.Prelude.{◌≡◌, ◌↔◌, ◌++◌, ◌==◌, ◌||◌, ◌<◌, false, length, position, IfOk, IfSome, IsTrue, None, OnOk, Some};
 ghost use Rattle.std.specs.List.{filter, list_all};

@@ -1,4 +1,4 @@
-//! Numbers rounded to so many places behind the point, half away from zero.
+//! Numbers rounded to a given number of decimals, half away from zero.
 
 ghost use Rattle.std.specs.Prelude.{◌≡◌, ◌≤◌, ◌<◌, true, length, unsigned_abs, MatchResult, Some};
 ghost use Rattle.std.specs.Option.{option_map};

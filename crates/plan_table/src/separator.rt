@@ -1,4 +1,4 @@
-//! What stands between the fields of a table's text.
+//! The separator of the fields in a table's text.
 
 ghost use Rattle.std.specs.Prelude.{◌≡◌, false};
 ghost use Rattle.plan_table.specs.Marks.{byte_of};

@@ -1,4 +1,4 @@
-//! Numbers over a power of ten, read from decimal numbers: from what `decimal_text` writes, and from each other spelling.
+//! Numbers over a power of ten, read from decimal numbers: in the form that `decimal_text` writes, and in any other.
 
 ghost use Rattle.std.specs.Prelude.{◌≡◌, ◌<◌, ◌≤◌, ◌*◌, ◌^◌, ℕ, pos, neg_ℤ, if◌then◌else◌, MatchOption};
 ghost use Rattle.plan_table.specs.Decimal.{decimal_of, max_number, signed_of};

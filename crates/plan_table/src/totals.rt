@@ -1,4 +1,4 @@
-//! Rows and columns of sums, which spreadsheets add to a table.
+//! Rows and columns of totals, which spreadsheets add to a table.
 
 use crate::alike::folded_name;
 use crate::error::TableError;

@@ -1,4 +1,4 @@
-//! What no clause says: that calls succeed, and what worked tables are read as.
+//! What no clause states: that calls succeed, and how worked tables are read.
 
 use plan_table::{
     DecimalMark, Encoding, NamedMatrix, Point, Rules, decimal_text, decode, read_matrix,

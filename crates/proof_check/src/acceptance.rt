@@ -1,4 +1,4 @@
-//! Judges texts of proofs with pair duals.
+//! Checks texts of proofs with pair duals.
 
 ghost use Rattle.std.specs.Prelude.{◌≡◌, ◌^◌, ◌<◌, ◌≤◌, ℕ, List, length, codes, IfOk, OnOk};
 ghost use Rattle.qap_cost.specs.Objective.{cost_of};

@@ -1,4 +1,4 @@
-//! The lines of a text, one after the other.
+//! The lines of a text, in sequence.
 
 ghost use Rattle.std.specs.Prelude.{◌≡◌, ◌++◌, ◌∷◌, [], OnOk};
 ghost use Rattle.std.specs.Io.KnownBytes.{Consumes, IsAtEnd};

@@ -1,4 +1,4 @@
-//! Why what a text with pair duals shows is so.
+//! Why what a text with pair duals establishes is true.
 
 ghost use Rattle.std.specs.Prelude.{◌≡◌, ℕ, ℤ, List, ◌<ℤ◌};
 ghost use Rattle.qap_cost.specs.Instance.{Problem};

@@ -1,4 +1,4 @@
-//! Pair duals in memory from the rows that list them.
+//! Pair duals in memory, from the rows that list them.
 
 ghost use Rattle.std.specs.Prelude.{◌≡◌, ◌+◌, ◌-◌, ◌*◌, ◌<◌, ◌≤◌, ◌^◌, All, length, IfOk, IfSome};
 ghost use Rattle.qap_cost.specs.Placement.{IsPlacement};

@@ -1,5 +1,5 @@
-//! Judges a tree as its lines come, and holds none of it: of each node above the line that is read its reduced form, and of those with
-//! pair duals of their own these.
+//! Checks a tree as its lines are read, without storing it: it keeps the reduced form of each node above the current
+//! line, and the pair duals of those that have their own.
 
 ghost use Rattle.std.specs.Prelude.{◌≡◌, ◌+◌, ◌^◌, ◌<◌, ◌≤◌, ℤ, pos, ◌*ℤ◌, Option, None, Some, IsTrue, List, length, false, IfOk, IfSome, OnOk, unsigned_abs};
 ghost use Rattle.qap_cost.specs.Instance.{Problem};

@@ -1,4 +1,4 @@
-//! What no clause says: that proofs are accepted, and which fault is reported of others.
+//! What no clause states: that proofs are accepted, and which fault is reported for others.
 
 use pair_duals::cost_step;
 use proof_check::accept;

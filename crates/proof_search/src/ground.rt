@@ -1,4 +1,4 @@
-//! What searches for a proof rest on, whatever the node.
+//! What searches for a proof need regardless of the node.
 
 ghost use Rattle.std.specs.Prelude.{◌≡◌, ◌<◌, ◌≤ℤ◌, ℕ, pos, true, IfOk, MatchOption};
 ghost use Rattle.qap_cost.specs.Instance.{IsInstance, Problem};

@@ -1,5 +1,5 @@
-//! Finds proofs with pair duals, and writes them: one search of the completions of a root both improves the permutation and writes the
-//! tree that shows that none of them costs less.
+//! Finds proofs with pair duals and writes them: one search of the completions of a root both improves the permutation
+//! and writes the tree that excludes cheaper ones.
 #![tactic(auto)]
 
 mod ground;

@@ -1,4 +1,4 @@
-//! Proofs with pair duals, as they are held.
+//! Proofs with pair duals, in memory.
 
 ghost use Rattle.std.specs.Prelude.{◌≡◌, IfOk};
 ghost use Rattle.std.specs.List.{concat};

@@ -1,4 +1,4 @@
-//! Why a valid tree shows that no completion of its root costs less than the bound.
+//! Why a valid tree establishes that no completion of its root costs less than the bound.
 
 ghost use Rattle.std.specs.Prelude.{◌≡◌, ◌↔◌, ℕ, ℤ, pos, ◌+ℤ◌, ◌*ℤ◌, ◌<ℤ◌, ◌≤ℤ◌, Option, Some, None};
 ghost use Rattle.qap_cost.specs.Instance.{Problem};

@@ -1,4 +1,4 @@
-//! Proofs of bounds with pair duals: what a tree has to show, and why that is enough.
+//! Proofs of bounds with pair duals: what a valid tree is, and why validity suffices.
 #![tactic(auto)]
 
 mod law;

@@ -1,4 +1,4 @@
-//! Judges texts of proofs of both versions.
+//! Checks texts of proofs in both versions.
 
 ghost use Rattle.std.specs.Prelude.{◌≡◌, ◌⊎◌, IfOk, MatchResult};
 ghost use Rattle.qap_proof.specs.Acceptance.{IsLimitedVerdict};

@@ -1,4 +1,4 @@
-//! Judges texts of proofs of both versions: of version 1, and of version 2, which has pair duals.
+//! Checks texts of proofs in both versions: version 1, and version 2, which has pair duals.
 #![tactic(auto)]
 
 mod acceptance;

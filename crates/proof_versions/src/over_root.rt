@@ -1,4 +1,4 @@
-//! Judges texts of proofs of both versions over a root that is known.
+//! Checks texts of proofs in both versions over a known root.
 
 ghost use Rattle.std.specs.Prelude.{◌≡◌, ◌⊎◌, ◌↔◌, IsTrue, IfOk, IfSome, MatchOption, MatchResult};
 ghost use Rattle.qap_proof.specs.Claim.{NoneCompletesForLess};

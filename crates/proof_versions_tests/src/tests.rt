@@ -1,4 +1,4 @@
-//! What no clause says: that proofs of both versions are accepted, and which fault is reported of others.
+//! What no clause states: that proofs in both versions are accepted, and which fault is reported for others.
 
 use proof_versions::{accept, accept_over};
 use qap_cost::{Instance, Partial};

@@ -1,4 +1,4 @@
-//! Judges texts of certificates.
+//! Checks texts of certificates.
 
 ghost use Rattle.std.specs.Prelude.{◌≡◌, ◌≤◌, ◌⊎◌, ℕ, List, IfOk, MatchResult};
 ghost use Rattle.qap_cost.specs.Instance.{IsInstance};

@@ -1,4 +1,4 @@
-//! Whether a certificate shows that no permutation costs less than its bound.
+//! Whether a certificate establishes that no permutation costs less than its bound.
 
 ghost use Rattle.std.specs.Prelude.{◌≡◌, ◌+◌, ◌-◌, ◌*◌, ◌^◌, ◌<◌, ◌≤◌, ◌⊎◌, ◌++◌, ◌∷◌, [], ℕ, length, IfOk, MatchResult, OnOk, slice_index, unsigned_abs};
 ghost use Rattle.qap_cost.specs.Objective.{IsLeast, NoneCostsLess, cost_of};

@@ -1,5 +1,5 @@
-//! Why a certificate that certifies its bound shows that no permutation costs less, that a fault keeps it from that, and
-//! that a text is that of one certificate.
+//! Why a certificate that certifies its bound establishes that no permutation costs less, why a fault prevents that,
+//! and why a text is that of one certificate.
 
 ghost use Rattle.std.specs.Prelude.{◌≡◌, List, ℕ};
 ghost use Rattle.qap_cost.specs.Instance.{Problem, IsInstance};

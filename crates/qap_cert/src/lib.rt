@@ -1,5 +1,5 @@
-//! Certificates of least costs and of bounds on them: what a tree has to show, why that is enough, and what decides
-//! whether it does.
+//! Certificates of least costs and of lower bounds: what a valid tree is, why validity suffices, and how it is
+//! decided.
 #![tactic(auto)]
 
 mod acceptance;

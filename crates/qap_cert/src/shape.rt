@@ -1,4 +1,4 @@
-//! Whether a tree has the shape that its size asks for.
+//! Whether a tree has the shape that its size requires.
 
 ghost use Rattle.std.specs.Prelude.{◌≡◌, ◌-◌, ◌<◌, ◌≤◌, ◌↔◌, IsTrue, length, MatchResult};
 ghost use Rattle.number_list.specs.Numbers.{numbers_in};

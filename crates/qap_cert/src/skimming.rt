@@ -1,4 +1,4 @@
-//! Judges the lines of a tree by the grammar alone, and keeps nothing of them.
+//! Checks only the syntax of a tree's lines, and stores nothing of them.
 
 ghost use Rattle.std.specs.Prelude.{◌≡◌, ◌⊎◌, ◌+◌, ◌-◌, ◌<◌, ◌≤◌, length, ℕ, MatchResult};
 ghost use Rattle.qap_cert.specs.TextFault.{IsTreeTextFault};

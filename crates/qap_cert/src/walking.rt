@@ -1,4 +1,4 @@
-//! Judges a tree as its lines come, and holds none of it.
+//! Checks a tree as its lines are read, without storing it.
 
 ghost use Rattle.std.specs.Prelude.{◌≡◌, ◌⊎◌, ◌++◌, ◌∷◌, [], ◌+◌, ◌-◌, ◌<◌, ◌≤◌, length, slice_index, ℕ, MatchResult};
 ghost use Rattle.qap_cost.specs.Placement.{IsFreeFacility, IsFreeLocation, placing};

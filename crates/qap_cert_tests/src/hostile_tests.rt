@@ -1,5 +1,5 @@
-//! What `read` and `accept` say of texts that are cut short, have numbers of a million digits or belong to another instance, and
-//! what goes out where the writer fails.
+//! What `read` and `accept` report for texts that are truncated, have numbers of a million digits or belong to another
+//! instance, and what is written before the writer fails.
 
 ghost use Rattle.std.specs.Prelude.{◌<◌};
 

@@ -1,4 +1,5 @@
-//! What no clause says: that calls succeed, and that the costs, the duals and the lines are those of worked examples.
+//! What no clause states: that calls succeed, and that the costs, the duals and the lines are those of worked
+//! examples.
 
 use number_list::NumberList;
 use qap_cert::{CertError, Certificate, Tree, check};

@@ -1,4 +1,4 @@
-//! What no clause says of texts: that calls succeed, and that texts are those of worked examples.
+//! What no clause states about texts: that calls succeed, and that texts are those of worked examples.
 
 use qap_cert::{CertError, Certificate, Verdict, accept, read, write};
 use qap_cost::{Instance, Perm, least_by_listing};

@@ -1,4 +1,4 @@
-//! A text judged line by line comes to what reading it and then checking the certificate comes to.
+//! Checking a text line by line gives the same result as reading it and then checking the certificate.
 
 use crate::text_tests::{assert_judged, instance, judged, ring};
 use qap_cert::{CertError, Certificate, Verdict, check, read};

@@ -1,4 +1,4 @@
-//! A question answered, from the devices to the exit status.
+//! Answers a request, from the devices to the exit status.
 
 ghost use Rattle.std.specs.Prelude.{◌≡◌, MatchResult};
 ghost use Rattle.qap_check.specs.Refusal.{status_of};

@@ -1,4 +1,4 @@
-//! What the command line asks for.
+//! Parses the command line.
 
 use clap::{Arg, Command};
 use qap_command::CommandError;

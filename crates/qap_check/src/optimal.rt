@@ -1,4 +1,4 @@
-//! A claimed optimum checked, from bytes to bytes.
+//! Checks a claimed optimum, from bytes to bytes.
 
 ghost use Rattle.std.specs.Prelude.{◌≡◌, ◌⊎◌, IfOk, MatchResult, string_bytes};
 ghost use Rattle.qap_io.specs.Writing.{Sends, BreaksOff};

@@ -1,4 +1,4 @@
-//! What an instance and a solution yield.
+//! The costs that an instance and a solution yield.
 
 ghost use Rattle.std.specs.Prelude.{◌≡◌, IfOk, length, string_bytes};
 

@@ -1,4 +1,4 @@
-//! A claimed cost checked, from bytes to bytes.
+//! Checks a claimed cost, from bytes to bytes.
 
 ghost use Rattle.std.specs.Prelude.{◌≡◌, ◌⊎◌, IfOk, IfErr, MatchResult};
 ghost use Rattle.qap_io.specs.Writing.{Sends, BreaksOff};

@@ -1,4 +1,4 @@
-//! Why a command line asks for nothing.
+//! Why a command line is rejected.
 
 use clap::error::ErrorKind;
 use std::alloc::AllocError;

@@ -1,4 +1,4 @@
-//! The words of a program's own command line, and what it says where they ask for nothing.
+//! The words of a program's own command line, and its message if they are rejected.
 
 use crate::command_error::CommandError;
 use qap_io::Status;

@@ -1,4 +1,4 @@
-//! What the command lines of the programs share: their words and their version, and how a usage is printed.
+//! What the programs' command lines share: reading their words, the version, and the usage line.
 #![tactic(auto)]
 
 mod command_error;

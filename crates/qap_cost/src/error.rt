@@ -1,4 +1,4 @@
-//! Why numbers are no instance, or no permutation.
+//! Why numbers do not form an instance, or a permutation.
 
 use thiserror::Error;
 

@@ -1,4 +1,4 @@
-//! Instances of the quadratic assignment problem, permutations, and what a permutation costs.
+//! Instances of the quadratic assignment problem, permutations, and the cost of a permutation.
 #![tactic(auto)]
 
 mod error;

@@ -1,4 +1,4 @@
-//! The least cost by trying every permutation: slow and plain, as a measure for faster ways.
+//! The least cost by trying every permutation: slow and plain, as an oracle for faster methods.
 
 ghost use Rattle.std.specs.Prelude.{◌≡◌, ◌≤◌, ◌-◌, ◌≤ℤ◌, [], IfOk, MatchOption, ◌⊎◌, length};
 ghost use Rattle.std.specs.List.{range_with_len};

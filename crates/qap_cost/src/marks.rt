@@ -1,4 +1,4 @@
-//! Numbers told apart from others by marks.
+//! Sets of numbers as marks.
 
 ghost use Rattle.std.specs.Prelude.{◌≡◌, ◌<◌, ◌==◌, false, length, slice_index, slice_index_or, ℕ};
 ghost use Rattle.std.specs.List.{list_any};

@@ -1,4 +1,4 @@
-//! What a permutation costs.
+//! The cost of a permutation.
 
 ghost use Rattle.std.specs.Prelude.{◌≡◌, ◌*◌, ◌^◌, ◌<◌, ◌≤◌, ◌*ℤ◌, List, ℕ, length, slice_index, unsigned_abs};
 ghost use Rattle.qap_cost.specs.Sum.{sum_to};

@@ -1,4 +1,4 @@
-//! A node of a search: some facilities stand at locations of their own, the others are free.
+//! A node of a search: some facilities are placed at distinct locations, the others are free.
 
 ghost use Rattle.std.specs.Prelude.{◌≡◌, ◌*◌, ◌^◌, ◌<◌, ◌≤◌, ◌↔◌, ◌++◌, ◌∷◌, [], IfOk, IsOk, IsTrue, MatchOption, OnErr, OnOk, length, slice_index, unsigned_abs, ℕ};
 ghost use Rattle.qap_cost.specs.Bijection.{AreDifferent};

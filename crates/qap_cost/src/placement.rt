@@ -1,4 +1,4 @@
-//! The laws of the nodes of a search: which permutations complete a node and its children, and what they cost.
+//! Laws about the nodes of a search: which permutations complete a node and its children, and what they cost.
 
 ghost use Rattle.std.specs.Prelude.{◌≡◌, List, ℕ, length, slice_index};
 ghost use Rattle.qap_cost.specs.Bijection.{AreDifferent, IsBijection};

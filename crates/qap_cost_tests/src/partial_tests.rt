@@ -1,4 +1,4 @@
-//! What no clause says of nodes and of the listing: that calls succeed, and the costs of worked examples.
+//! What no clause states about nodes and the enumeration: that calls succeed, and the costs of worked examples.
 
 use qap_cost::{Instance, Matrix, Partial, Perm, cost, least_by_listing, marked, product};
 use std::alloc::{AllocError, Global};

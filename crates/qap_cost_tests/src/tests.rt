@@ -1,4 +1,4 @@
-//! What no clause says: that calls succeed, and that the costs are those of worked examples.
+//! What no clause states: that calls succeed, and that the costs are those of worked examples.
 
 use qap_cost::{CostError, Instance, Matrix, Perm, cost};
 use std::alloc::{AllocError, Global};

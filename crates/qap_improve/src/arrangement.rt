@@ -1,6 +1,6 @@
-//! Facilities at locations, with what an exchange of two changes the cost by at hand (Burkard and Rendl 1984).
+//! Facilities at locations, with fast access to the cost change of an exchange (Burkard and Rendl 1984).
 //!
-//! The flows and the distances stand in tables in the order of the facilities, with both transposed beside them, so that a
+//! The flows and the distances are in tables in the order of the facilities, beside their transposes, so that a
 //! difference reads eight rows from left to right.
 
 ghost use Rattle.std.specs.Prelude.{◌≡◌, ◌≢◌, ◌*◌, ◌^◌, ◌<◌, ◌≤◌, ◌+ℤ◌, IfOk, length, unsigned_abs};

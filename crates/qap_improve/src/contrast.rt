@@ -1,4 +1,5 @@
-//! How facilities differ in their flows and distances to two that are exchanged, and what that changes (Taillard 1991).
+//! How facilities differ in their flows and distances to two that are exchanged, and the resulting change (Taillard
+//! 1991).
 
 ghost use Rattle.std.specs.Prelude.{◌≡◌, ◌*◌, ◌^◌, ◌<◌, ◌≤◌, ◌*ℤ◌, length, unsigned_abs};
 ghost use Rattle.qap_improve.specs.Arrangement.{IsArrangement};

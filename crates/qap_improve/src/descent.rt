@@ -1,4 +1,4 @@
-//! Exchanges of two facilities' locations for as long as one gains (Armour and Buffa 1963).
+//! Exchanges of two facilities' locations as long as one improves the cost (Armour and Buffa 1963).
 
 ghost use Rattle.std.specs.Prelude.{◌≡◌, ◌<◌, ◌≤ℤ◌, IfOk, length};
 ghost use Rattle.qap_cost.specs.Instance.{IsInstance};

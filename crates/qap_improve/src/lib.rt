@@ -1,4 +1,4 @@
-//! From a permutation, one that costs no more.
+//! Improves permutations, by exchanges and by tabu search.
 #![tactic(auto)]
 
 mod arrangement;

@@ -1,4 +1,4 @@
-//! What a tabu search remembers: when each facility may go back to each location (Taillard 1991).
+//! The memory of a tabu search: when each facility may return to each location (Taillard 1991).
 
 ghost use Rattle.std.specs.Prelude.{◌≡◌, ◌*◌, ◌<◌, ◌≤◌, IfOk, vec_len};
 

@@ -1,5 +1,4 @@
-//! The numbers in which a search keeps what exchanges change the cost by: of 64 bits where an instance's entries are small,
-//! and else of 128.
+//! The number types of cost changes: 64 bits if an instance's entries are small, else 128.
 
 ghost use Rattle.std.specs.Prelude.{◌≡◌, ℕ, ℤ, ◌*◌, ◌^◌, ◌≤◌, ◌+ℤ◌, length, IfOk, unsigned_abs};
 ghost use Rattle.std.proofs.Common.{lit<};

@@ -1,4 +1,4 @@
-//! What a permutation's cost changes by when two facilities exchange their locations (Burkard and Rendl 1984).
+//! The cost change when two facilities exchange their locations (Burkard and Rendl 1984).
 
 ghost use Rattle.std.specs.Prelude.{◌≡◌, ◌≢◌, ◌*◌, ◌^◌, ◌<◌, ◌≤◌, ◌+ℤ◌, ◌-ℤ◌, ◌*ℤ◌, length, unsigned_abs};
 ghost use Rattle.qap_cost.specs.Objective.{Permutes, cost_of};

@@ -1,4 +1,4 @@
-//! What the exchange of two facilities changes the cost by, where rows of 32 bits are read from left to right.
+//! The cost change when two facilities are exchanged, from rows of 32 bits read from left to right.
 
 ghost use Rattle.std.specs.Prelude.{◌≡◌, ◌*◌, ◌^◌, ◌<◌, ◌≤◌, ◌+ℤ◌, ◌-ℤ◌, ◌*ℤ◌, IsTrue, pos, slice_index_or, unsigned_abs};
 ghost use Rattle.qap_cost.specs.Range.{InRange};

@@ -1,4 +1,4 @@
-//! What each exchange of two facilities would change the cost by, kept from one exchange to the next (Taillard 1991).
+//! The cost change of each exchange of two facilities, kept from one exchange to the next (Taillard 1991).
 
 ghost use Rattle.std.specs.Prelude.{◌≡◌, ◌≢◌, ◌+◌, ◌*◌, ◌<◌, length, map, pos, slice_index_or, slice_set, IfOk};
 ghost use Rattle.qap_improve.specs.Arrangement.{HasEntriesWithin, IsArrangement};

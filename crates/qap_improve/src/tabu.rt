@@ -1,4 +1,4 @@
-//! Robust tabu search: the best exchange that isn't forbidden, over and over (Taillard 1991).
+//! Robust tabu search: repeatedly the best exchange that is not tabu (Taillard 1991).
 
 ghost use Rattle.std.specs.Prelude.{◌≡◌, ◌+◌, ◌*◌, ◌<◌, ◌≤◌, ◌≤ℤ◌, ℕ, Bool, List, IfOk, length};
 ghost use Rattle.qap_improve.specs.Arrangement.{HasEntriesWithin};

@@ -1,4 +1,4 @@
-//! Differences against the double sum, and descents worked by hand.
+//! Differences against the double sum, and descents computed by hand.
 
 use qap_cost::{Instance, Perm, cost};
 use qap_improve::{difference, exchange};

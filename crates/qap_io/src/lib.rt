@@ -1,5 +1,5 @@
-//! What every text of the project stands on: readers and writers whose failures are counted, what reads from and writes
-//! to them, decimal digits, and how programs report refusals and end.
+//! What all texts share: readers and writers whose failures are counted, reading and writing, decimal digits, and how
+//! programs report refusals and exit.
 #![tactic(auto)]
 
 mod counting;

@@ -1,4 +1,4 @@
-//! Lines of a name and numbers, made in memory and written.
+//! Lines of a name and numbers, built in memory and written.
 
 ghost use Rattle.std.specs.Prelude.{◌≡◌, ◌+◌, ◌++◌, ◌∷◌, [], pos, length, codes, OnOk};
 ghost use Rattle.std.specs.Fmt.{signed_decimal};

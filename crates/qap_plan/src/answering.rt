@@ -1,4 +1,4 @@
-//! An instance planned, from bytes to bytes.
+//! Solves an instance, from bytes to bytes.
 
 ghost use Rattle.std.specs.Prelude.{◌≡◌, MatchResult};
 ghost use Rattle.qap_text.specs.Input.{input_of};

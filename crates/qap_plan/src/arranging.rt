@@ -1,4 +1,4 @@
-//! A problem with names planned.
+//! Solves a problem with names.
 
 ghost use Rattle.std.specs.Prelude.{◌≡◌, MatchResult};
 ghost use Rattle.plan_file.specs.Tables.{HasSizes};

@@ -1,4 +1,4 @@
-//! What a command line asks for that judges an answer.
+//! The command line of `check`.
 
 use crate::command_line::ignore_rest;
 use crate::show_command::with_answer;

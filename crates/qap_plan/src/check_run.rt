@@ -1,4 +1,4 @@
-//! A run that judges an answer.
+//! A run of `check`, which checks an answer.
 
 use crate::check_command::CheckRequest;
 use crate::checking::checked_numbers;

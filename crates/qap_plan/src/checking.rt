@@ -1,4 +1,4 @@
-//! What is reported of an answer to an instance that was judged.
+//! The report on a checked answer to an instance.
 
 ghost use Rattle.std.specs.Prelude.{◌≡◌, IfOk, MatchOption};
 ghost use Rattle.qap_cost.specs.Objective.{Permutes, cost_of};

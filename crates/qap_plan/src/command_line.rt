@@ -1,4 +1,4 @@
-//! What the command line asks for.
+//! Parses the command line.
 
 ghost use Rattle.std.specs.Prelude.{IfOk, IfSome};
 ghost use Rattle.qap_plan.specs.Asking.{IsLimitedTask};

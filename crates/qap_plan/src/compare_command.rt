@@ -1,4 +1,4 @@
-//! What a command line asks for that compares today's arrangement with the best one.
+//! The command line of `compare`.
 
 ghost use Rattle.std.specs.Prelude.{IfSome};
 ghost use Rattle.qap_plan.specs.Options.{AreLimited};

@@ -1,4 +1,4 @@
-//! A run that compares today's arrangement with the best one.
+//! A run of `compare`, which compares today's arrangement with the best one.
 
 ghost use Rattle.std.specs.Prelude.{◌≡◌, IfOk, length};
 ghost use Rattle.plan_answer.specs.Compared.{IsComparedText};

@@ -1,4 +1,4 @@
-//! What a command line asks for that writes a plan's tables as a text of numbers.
+//! The command line of `convert`.
 
 use clap::{Arg, ArgMatches, Command};
 use std::alloc::{AllocError, Global};

@@ -1,4 +1,4 @@
-//! A run that writes a plan's tables as a text of numbers.
+//! A run of `convert`, which writes a plan's tables as a text of numbers.
 
 use crate::convert_command::ConvertRequest;
 use crate::converting::{Converted, convert, summary};

@@ -1,4 +1,4 @@
-//! A plan's tables as a text of numbers, and what the numbers stand for.
+//! A plan's tables as a text of numbers, and what the numbers mean.
 
 ghost use Rattle.std.specs.Prelude.{◌∷◌, [], IfOk};
 ghost use Rattle.qap_text.specs.InstanceText.{IsInstanceText};

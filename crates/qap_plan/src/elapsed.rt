@@ -1,4 +1,4 @@
-//! The time that a run has taken: the clock of its search, and what stops it.
+//! The elapsed time of a run: the clock of its search, and its time limit.
 
 use crate::keeper::Keeper;
 use qap_search::{Clock, Observer, Progress, Stop};

@@ -1,4 +1,4 @@
-//! The files of answers and proofs that are judged, and what is reported of them.
+//! The files of answers and proofs to be checked, and reports on them.
 
 use crate::error::PlanError;
 use crate::outputs::print_text;

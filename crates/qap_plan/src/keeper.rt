@@ -1,4 +1,4 @@
-//! Who keeps a run.
+//! The clock, stop and observer of a run.
 
 use qap_search::{Clock, Observer, Stop};
 

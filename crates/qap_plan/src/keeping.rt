@@ -1,4 +1,4 @@
-//! Searches an instance for a permutation of least cost among those that keep what is fixed.
+//! Searches an instance for a permutation of least cost among those that respect what is fixed.
 
 ghost use Rattle.std.specs.Prelude.{◌≡◌, IfOk, IfSome};
 ghost use Rattle.qap_cost.specs.Objective.{Permutes, cost_of};

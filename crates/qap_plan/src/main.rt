@@ -1,4 +1,4 @@
-//! Plans: arrangements of least cost, with what is proved of them, for people.
+//! Plans: arrangements of least cost for people, with what is proved about them.
 #![tactic(auto)]
 
 mod answer;

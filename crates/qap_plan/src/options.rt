@@ -1,4 +1,4 @@
-//! How an instance is to be searched.
+//! The options of a search.
 
 ghost use Rattle.std.specs.Prelude.{◌≡◌, ◌<◌};
 

@@ -1,4 +1,5 @@
-//! The files that a run writes, and what it prints. Each is written whatever became of the others; the worst status wins.
+//! The files that a run writes, and what it prints. Each is written independently of the others; the most serious
+//! status wins.
 
 ghost use Rattle.std.specs.Prelude.{◌≡◌, ◌⊎◌, ◌≤◌};
 ghost use Rattle.qap_plan.specs.Outputs.{severity};

@@ -1,4 +1,4 @@
-//! What a command line asks for that solves a part.
+//! The command line of `part`.
 
 ghost use Rattle.std.specs.Prelude.{IfSome};
 ghost use Rattle.qap_plan.specs.Options.{AreLimited};

@@ -1,4 +1,4 @@
-//! A run that solves a part.
+//! A run of `part`, which solves a part.
 
 ghost use Rattle.std.specs.Prelude.{IfOk};
 ghost use Rattle.qap_proof.specs.Claim.{IsRoot};

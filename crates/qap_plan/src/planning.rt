@@ -1,4 +1,4 @@
-//! Searches an instance for a permutation of least cost, from one that a tabu search finds.
+//! Searches an instance for a permutation of least cost, starting from the result of a tabu search.
 
 ghost use Rattle.std.specs.Prelude.{◌≡◌, ◌≤ℤ◌, ◌↔◌, None, Some, true, IfOk, IfSome};
 ghost use Rattle.qap_cost.specs.Objective.{Permutes, cost_of};

@@ -1,4 +1,4 @@
-//! Says how far a search has come, on standard error.
+//! Reports on standard error how far a search has come.
 
 use crate::elapsed::Elapsed;
 use crate::keeper::Keeper;

@@ -1,4 +1,4 @@
-//! Reads an instance that stands alone in its file.
+//! Reads an instance from a file that has nothing else.
 
 ghost use Rattle.std.specs.Prelude.{MatchResult};
 ghost use Rattle.qap_text.specs.Input.{input_of};

@@ -1,4 +1,4 @@
-//! How much memory the program takes.
+//! How much memory the program uses.
 
 use qap_io::Counted;
 use qap_text::read_all;

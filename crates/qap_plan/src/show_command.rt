@@ -1,4 +1,4 @@
-//! What a command line asks for that shows an answer again.
+//! The command line of `show`.
 
 use crate::command_line::ignore_rest;
 use clap::{Arg, ArgMatches, Command};

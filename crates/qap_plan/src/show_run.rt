@@ -1,4 +1,4 @@
-//! A run that shows an answer again.
+//! A run of `show`, which shows an answer again.
 
 ghost use Rattle.plan_file.specs.Tables.{HasSizes};
 ghost use Rattle.qap_cost.specs.Placement.{Completes};

@@ -1,4 +1,4 @@
-//! What a command line asks for that cuts a search into parts.
+//! The command line of `split`.
 
 ghost use Rattle.std.specs.Prelude.{IfSome};
 ghost use Rattle.qap_plan.specs.Options.{AreLimited};

@@ -1,4 +1,4 @@
-//! A run that cuts a search into parts.
+//! A run of `split`, which splits a search into parts.
 
 ghost use Rattle.std.specs.Prelude.{IfOk, IfSome};
 ghost use Rattle.qap_cost.specs.Objective.{Permutes};

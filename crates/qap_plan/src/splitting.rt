@@ -1,4 +1,4 @@
-//! Cuts a search into parts.
+//! Splits a search into parts.
 
 ghost use Rattle.std.specs.Prelude.{◌≤ℤ◌, IfOk, IfSome};
 ghost use Rattle.qap_cost.specs.Objective.{Permutes, cost_of};

@@ -1,4 +1,4 @@
-//! Whether the proof of a part stands already.
+//! Whether the proof of a part already exists.
 
 ghost use Rattle.std.specs.Prelude.{◌↔◌, IfOk, IfSome, IsTrue};
 ghost use Rattle.qap_plan.specs.Standing.{IsComplete, IsStanding};

@@ -1,4 +1,4 @@
-//! Reads what a search is to begin with.
+//! Reads the start of a search.
 
 ghost use Rattle.std.specs.Prelude.{◌≡◌, ◌≢◌, ◌<◌, ◌≤◌, ◌⊎◌, IfOk, IfSome, MatchResult, length};
 ghost use Rattle.qap_cost.specs.Objective.{Permutes, cost_of};

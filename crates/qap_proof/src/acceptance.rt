@@ -1,4 +1,4 @@
-//! Judges texts of proofs.
+//! Checks texts of proofs.
 
 ghost use Rattle.std.specs.Prelude.{◌≡◌, ◌⊎◌, ℕ, List, IfOk, MatchOption, MatchResult, length, None};
 ghost use Rattle.qap_cost.specs.Instance.{IsInstance};

@@ -1,4 +1,4 @@
-//! Whether a proof shows that no permutation which completes its root costs less than its bound.
+//! Whether a proof establishes that no permutation which completes its root costs less than its bound.
 
 ghost use Rattle.std.specs.Prelude.{◌≡◌, ◌<◌, ◌⊎◌, length, true, false, MatchResult, None, OnOk};
 ghost use Rattle.number_list.specs.NumberList.{numbers_held};

@@ -1,4 +1,4 @@
-//! Proofs of parts beside the proof of a whole: what they show together.
+//! Proofs of parts added to the proof of a whole: what they establish together.
 
 ghost use Rattle.std.specs.Prelude.{◌≡◌, ◌⊎◌, ◌↔◌, ◌<◌, ◌∷◌, ℤ, List, length, map, slice_index_or, slice_index, IfOk, IsTrue, MatchResult};
 ghost use Rattle.qap_cost.specs.Placement.{StandsAt};

@@ -1,5 +1,5 @@
-//! Why a valid tree, and a valid proof, show that no permutation which completes their root costs less than their bound, that a fault
-//! keeps a proof from that, and that a text is that of one proof.
+//! Why a valid tree, and a valid proof, establish that no permutation which completes their root costs less than their
+//! bound, why a fault prevents that, and why a text is that of one proof.
 
 ghost use Rattle.std.specs.Prelude.{◌≡◌, List, ℕ, ℤ};
 ghost use Rattle.qap_cost.specs.Instance.{Problem, IsInstance};

@@ -1,4 +1,4 @@
-//! The leaves of a tree, and what each of them shows.
+//! The leaves of a tree, and the bound of each.
 
 ghost use Rattle.std.specs.Prelude.{◌≡◌, ◌<◌, ◌++◌, ◌∷◌, [], length, pos, slice_index_or, IfOk, OnOk, false};
 ghost use Rattle.number_list.specs.NumberList.{numbers_held};

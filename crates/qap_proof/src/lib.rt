@@ -1,5 +1,5 @@
-//! Proofs of least costs and of bounds: what a tree with cut and mirrored parts has to show, why that is enough, and
-//! what decides whether it does.
+//! Proofs of least costs and of lower bounds: what a valid tree with pruned and symmetric children is, why validity
+//! suffices, and how it is decided.
 #![tactic(auto)]
 
 mod acceptance;

@@ -1,4 +1,4 @@
-//! The parts that are missing beside a proof.
+//! The parts that a proof still needs.
 
 ghost use Rattle.std.specs.Prelude.{◌≡◌, All, IfOk, OnOk};
 ghost use Rattle.std.specs.List.Sorted.{IsPermutation};

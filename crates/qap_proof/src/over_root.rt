@@ -1,4 +1,4 @@
-//! Judges texts of proofs over a root that is known.
+//! Checks texts of proofs over a known root.
 
 ghost use Rattle.std.specs.Prelude.{◌≡◌, ◌⊎◌, ◌↔◌, IsTrue, IfOk, IfSome, MatchOption, MatchResult};
 ghost use Rattle.qap_proof.specs.Acceptance.{IsRefused, ProvesFor};

@@ -1,4 +1,4 @@
-//! What the duals of a split yield for each of its children.
+//! The bound of each child of a split under the split's duals.
 
 ghost use Rattle.std.specs.Prelude.{◌≡◌, ◌-◌, ◌*◌, ◌^◌, ◌<◌, ◌≤◌, ◌-ℤ◌, length, IfOk, ℕ, pos, slice_index, slice_index_or, unsigned_abs};
 ghost use Rattle.qap_cost.specs.Matrix.{DualsFit, entry_of};

@@ -1,4 +1,4 @@
-//! A proof one of whose leaves is taken further.
+//! Refines a proof at one of its leaves.
 
 ghost use Rattle.std.specs.Prelude.{◌≡◌, IfOk};
 ghost use Rattle.qap_proof.specs.Refining.{IsGrafted, IsRefined};

@@ -1,4 +1,4 @@
-//! Whether a tree has the shape that its root asks for.
+//! Whether a tree has the shape that its root requires.
 
 ghost use Rattle.std.specs.Prelude.{◌≡◌, ◌<◌, ◌≤◌, ◌⊎◌, ◌↔◌, IsTrue, length, true, false, MatchResult};
 ghost use Rattle.number_list.specs.NumberList.{numbers_held};

@@ -1,4 +1,4 @@
-//! Judges a tree as its lines come, and holds none of it.
+//! Checks a tree as its lines are read, without storing it.
 
 ghost use Rattle.std.specs.Prelude.{◌≡◌, ◌⊎◌, ◌-◌, ◌<◌, ◌≤◌, ◌↔◌, IsTrue, length, IfOk, MatchResult, None, true, false};
 ghost use Rattle.qap_cost.specs.Placement.{IsPlacement};

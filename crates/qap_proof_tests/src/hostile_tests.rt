@@ -1,4 +1,4 @@
-//! Proofs of which one byte is changed: what is still accepted is true of all permutations, each of which is tried.
+//! Proofs with one byte changed: what is still accepted holds for all permutations, each of which is tried.
 
 ghost use Rattle.std.specs.Prelude.{IfOk, IfSome};
 ghost use Rattle.qap_cost.specs.Objective.{Permutes};

@@ -1,4 +1,4 @@
-//! The parts that are missing beside a proof, proofs whose leaves are taken further, proofs over a root that is known, and nodes as texts.
+//! The parts that a proof still needs, proofs refined at a leaf, proofs over a known root, and nodes as texts.
 
 use crate::tests::two;
 use qap_cost::{Instance, Partial};

@@ -1,4 +1,4 @@
-//! Proofs in memory: what is read, written again, checked, and refused by its shape.
+//! Proofs in memory: read, written again, checked, and refused because of their shape.
 
 ghost use Rattle.std.specs.Prelude.{◌<◌};
 

@@ -1,4 +1,4 @@
-//! Proofs that are accepted, worked by hand: each form of line, and each verdict.
+//! Accepted proofs, written by hand: each form of line, and each verdict.
 
 use crate::proof_tests::checked;
 use qap_cost::Instance;

@@ -1,4 +1,4 @@
-//! The certificate or the proof that the tuples of a search make.
+//! The certificate or the proof that the tuples of a search form.
 
 pub(crate) mod assembling;
 pub(crate) mod best_permutation;

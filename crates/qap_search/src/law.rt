@@ -1,4 +1,4 @@
-//! Why the tuples of a search stay a cut tree, and why those of a finished or a stopped one give a certificate.
+//! Why the tuples of a search remain a cut tree, and why those of a finished or a stopped one yield a certificate.
 
 ghost use Rattle.std.specs.Prelude.{◌≡◌, ◌≤ℤ◌, ◌+◌, ◌++◌, ◌∷◌, [], ℕ, Bool, ℤ, List, Contains, true};
 ghost use Rattle.qap_cost.specs.Instance.{Problem, IsInstance};

@@ -1,4 +1,4 @@
-//! The search for a least permutation: what its tuples are at any moment, and the certificate or the proof that they leave.
+//! The search for a least permutation: its tuples at any moment, and the certificate or the proof that they yield.
 #![tactic(auto)]
 
 mod certificate;

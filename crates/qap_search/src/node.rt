@@ -1,4 +1,4 @@
-//! A node of the search, and what is thought of it and decided there.
+//! A node of the search, its evaluation, and the decision made there.
 
 pub(crate) mod branching;
 pub(crate) mod completion;

@@ -1,4 +1,4 @@
-//! The tuples of a search: how they are composed, parsed and asked for.
+//! The tuples of a search: how they are composed, parsed and requested.
 
 pub(crate) mod composing;
 pub(crate) mod parsing;

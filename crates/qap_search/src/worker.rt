@@ -1,4 +1,4 @@
-//! A worker: the steps of its turns, and what it reports of them.
+//! A worker: the steps of its turns, and its reports.
 
 pub(crate) mod best_steps;
 pub(crate) mod forever_writes;

@@ -1,5 +1,5 @@
-//! Instances that the tests share, and calls in functions that promise no more than their callers need, so that what makes several
-//! of them is cheap to prove.
+//! Instances that the tests share, and calls in functions that promise no more than their callers need, so that
+//! callers that make several are cheap to prove.
 
 ghost use Rattle.std.specs.Prelude.{◌≡◌, ◌≤◌, IfOk};
 ghost use Rattle.std.specs.Arc.{arc_value};

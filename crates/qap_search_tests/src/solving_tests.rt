@@ -1,4 +1,4 @@
-//! Answers of a search by one worker, against the listing of all permutations.
+//! Answers of a search by one worker, against an enumeration of all permutations.
 
 use crate::examples::{least_of, patterned, told};
 use qap_cost::Instance;

@@ -1,4 +1,5 @@
-//! What no clause says: that tuples are put together, with the certificates of worked examples, and each kind of refusal.
+//! What no clause states: that tuples are assembled, with the certificates of worked examples, and each kind of
+//! refusal.
 
 ghost use Rattle.std.specs.Prelude.{◌≡◌, IfOk};
 ghost use Rattle.qap_search.specs.Node.Decision.{IsOn};

@@ -1,7 +1,7 @@
-//! What no clause says of workers: that each is a thread, that they think and commit while others do, and that a late commit is
-//! refused; and the least costs of small instances, by as many workers as are asked for.
+//! What no clause states about workers: that each is a thread, that they evaluate and commit concurrently, and that a
+//! late commit is refused; and the least costs of small instances, with any requested number of workers.
 //!
-//! Each wait has a limit of turns, past which the test fails.
+//! Each wait is limited to a number of turns, after which the test fails.
 
 use crate::examples::{FIRST, Matrices, SECOND, least_of, patterned, three, told};
 use qap_cost::Instance;

@@ -1,4 +1,4 @@
-//! A request answered, from the devices to the exit status.
+//! Answers a request, from the devices to the exit status.
 
 ghost use Rattle.std.specs.Prelude.{◌≡◌, MatchResult};
 ghost use Rattle.qap_solve.specs.Answering.{HasAnswered, HasNotAnswered, HasRun, HasTold};

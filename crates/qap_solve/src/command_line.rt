@@ -1,4 +1,4 @@
-//! What the command line asks for.
+//! Parses the command line.
 
 ghost use Rattle.std.specs.Prelude.{IfOk};
 ghost use Rattle.qap_solve.specs.Options.{AreLimited, MayRun};

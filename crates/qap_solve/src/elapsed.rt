@@ -1,4 +1,4 @@
-//! The time that a run has taken, as the clock of its search.
+//! The elapsed time of a run, as the clock of its search.
 
 use qap_search::Clock;
 use std::time::{self, Instant};

@@ -1,4 +1,4 @@
-//! Solves instances of the quadratic assignment problem, and carries out scripts of the tuple space.
+//! Solves instances of the quadratic assignment problem, and executes scripts of the tuple space.
 #![tactic(auto)]
 
 mod answering;

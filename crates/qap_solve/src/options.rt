@@ -1,4 +1,4 @@
-//! How an instance is to be solved.
+//! The options of a run.
 
 ghost use Rattle.std.specs.Prelude.{◌≡◌, ◌↔◌, IsTrue, MatchOption};
 ghost use Rattle.qap_solve.specs.Options.{AreLimited, AreCountable};

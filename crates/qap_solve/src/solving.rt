@@ -1,4 +1,4 @@
-//! An instance solved, from bytes to bytes.
+//! Solves an instance, from bytes to bytes.
 
 ghost use Rattle.std.specs.Prelude.{◌≡◌, ◌⊎◌, ◌++◌, ℕ, List, IfOk, MatchResult, Option, false, string_bytes, true};
 ghost use Rattle.qap_cert.specs.Certificate.{Certifies, IsCertificate};

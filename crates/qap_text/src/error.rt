@@ -1,4 +1,4 @@
-//! Why a text is no instance, or no solution, and how that is reported.
+//! Why a text is not an instance, or not a solution, and how that is reported.
 
 use qap_io::{Device, Refusal};
 use std::alloc::AllocError;

@@ -1,4 +1,4 @@
-//! The line of a bound and a cost.
+//! The line with a bound and a cost.
 
 ghost use Rattle.std.specs.Prelude.{◌≡◌, IfOk, string_bytes};
 ghost use Rattle.qap_text.specs.Gap.{gap_line};

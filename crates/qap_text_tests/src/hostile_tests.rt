@@ -1,4 +1,4 @@
-//! What texts come to that are cut short, or that have numbers of a million digits.
+//! The results for texts that are truncated, or have numbers of a million digits.
 
 use qap_text::{TextError, read_instance, read_solution};
 use std::alloc::{AllocError, Global};

@@ -1,4 +1,4 @@
-//! What no clause says: that calls succeed, and what worked texts are read as.
+//! What no clause states: that calls succeed, and how worked texts are read.
 
 use qap_cost::Perm;
 use qap_io::{Counted, FailAt, OneByte};

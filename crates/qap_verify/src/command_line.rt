@@ -1,4 +1,4 @@
-//! What the command line asks for.
+//! Parses the command line.
 
 use clap::error::ErrorKind;
 use clap::{Arg, Command, Error};

@@ -1,4 +1,4 @@
-//! The leaves of a proof that show less than the cost.
+//! The leaves of a proof whose bounds are below the cost.
 
 use qap_proof::{Cover, Leaf};
 use std::alloc::{AllocError, Global};

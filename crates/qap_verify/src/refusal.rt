@@ -1,4 +1,4 @@
-//! Why a run answers no verdict, and how that is reported.
+//! Why a run yields no verdict, and how that is reported.
 
 ghost use Rattle.std.specs.Prelude.{◌≡◌, MatchResult};
 ghost use Rattle.qap_io.specs.Refusal.{refusal_line};

@@ -1,4 +1,4 @@
-//! A proof verified, from bytes to bytes.
+//! Verifies a proof, from bytes to bytes.
 
 ghost use Rattle.std.specs.Prelude.{◌≡◌, ◌⊎◌, IfOk, MatchResult, string_bytes};
 ghost use Rattle.qap_proof.specs.Acceptance.{IsLimitedVerdict};

@@ -1,4 +1,4 @@
-//! Instances written as QAPLIB texts.
+//! Writes instances as QAPLIB texts.
 #![tactic(auto)]
 
 mod writing;

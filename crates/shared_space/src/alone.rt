@@ -1,4 +1,4 @@
-//! A space of one thread, under its law.
+//! A single-threaded space under its law.
 
 ghost use Rattle.std.specs.Prelude.{◌≡◌, ◌<◌, IfErr, IfOk, IfSome, false, true, replicate, sum, vec_len};
 ghost use Rattle.tuple_match.specs.PatternValue.{Matches};

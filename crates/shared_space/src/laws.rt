@@ -1,4 +1,4 @@
-//! What a transaction's commit takes out of the content and puts in, and what runs of a space result in.
+//! How a transaction's commit changes the content, and what runs of a space result in.
 
 ghost use Rattle.std.specs.Prelude.{◌≡◌, ◌+◌, ℕ, List, [], ◌∷◌, ◌++◌, true, false, Bool, Option, count_by};
 ghost use Rattle.tuple_match.specs.FieldValue.{FieldValue};

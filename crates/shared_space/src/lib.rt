@@ -1,7 +1,7 @@
 //! A space of tuples under a law, for workers that count their accepted commits.
 //!
-//! The law says which permanent tuples the space may hold and which commits may change them. A worker's share counts its own
-//! accepted commits; all shares of a space together count every accepted commit.
+//! The law defines which permanent tuples the space may hold and which commits may change them. A worker's share
+//! counts its own accepted commits; the shares of a space together count every accepted commit.
 #![tactic(auto)]
 
 mod alone;

@@ -1,4 +1,4 @@
-//! A space of one thread with the limit of its law.
+//! A single-threaded space with the limit of its law.
 
 ghost use Rattle.std.specs.Prelude.{◌≡◌, ◌<◌, ◌||◌, IfErr, IfOk, IfSome, Option, Some, count_by, false, true, replicate, sum, vec_len};
 ghost use Rattle.tuple_match.specs.PatternValue.{Matches};

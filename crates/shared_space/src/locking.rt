@@ -1,4 +1,4 @@
-//! How a thread takes a lock that others hold for a moment at a time.
+//! How a thread takes a lock that others hold only briefly.
 
 use std::hint::spin_loop;
 use std::sync::{Mutex, MutexGuard, Wait};

@@ -1,4 +1,4 @@
-//! A look at a space.
+//! Observes a space.
 
 use crate::law::Law;
 use crate::limited::Limited;

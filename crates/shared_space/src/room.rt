@@ -1,4 +1,4 @@
-//! What a worker asks of a space.
+//! The interface through which workers use a space.
 
 ghost use Rattle.std.specs.Prelude.{◌≡◌, ◌+◌, [], true, false, IfErr, IfOk, IfSome, OnErr, OnOk};
 ghost use Rattle.tuple_space.specs.Step.{done_reply};

@@ -1,4 +1,4 @@
-//! A space of many threads, under its law.
+//! A multi-threaded space under its law.
 
 ghost use Rattle.std.specs.Prelude.{◌≡◌, ◌+◌, ◌<◌, ◌≤◌, [], true, false, None, Some, IfErr, IfOk, IfSome, MatchResult, OnErr, OnOk, replicate, sum, vec_len};
 ghost use Rattle.tuple_match.specs.PatternValue.{Matches};

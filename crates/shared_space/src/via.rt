@@ -1,4 +1,4 @@
-//! A space of many threads, as one of its workers sees it.
+//! A multi-threaded space, as one of its workers sees it.
 
 ghost use Rattle.shared_space.specs.Event.{Event, Reply};
 

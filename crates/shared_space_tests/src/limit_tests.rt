@@ -1,5 +1,5 @@
-//! A limit of commits: that the commit which reaches it closes the space, that none is accepted past it, and that
-//! threads which race to it make exactly that many.
+//! A limit of commits: the commit that reaches it closes the space, none is accepted past it, and threads that race to
+//! it make exactly that many.
 
 ghost use Rattle.std.specs.Prelude.{◌≡◌, IfOk, Some, vec_len};
 ghost use Rattle.shared_space.specs.Law.{IsFree};

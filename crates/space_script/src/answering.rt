@@ -1,4 +1,4 @@
-//! The lines of a script answered.
+//! Answers the lines of a script.
 
 ghost use Rattle.std.specs.Prelude.{IfOk};
 ghost use Rattle.space_script.specs.Run.{Answers};

@@ -1,4 +1,4 @@
-//! What follows the first word of a command.
+//! The arguments of a command.
 
 ghost use Rattle.std.specs.Prelude.{◌≡◌, ℕ, List, Option, map, codes, IfOk, MatchOption};
 ghost use Rattle.tuple_match.specs.PatternValue.{PatternValue};

@@ -1,4 +1,4 @@
-//! The calls outside all transactions that commands ask for, and how the answers of the space are told.
+//! Executes commands outside all transactions, and formats the space's answers.
 
 ghost use Rattle.std.specs.Prelude.{◌≡◌, IfOk, IfSome};
 ghost use Rattle.space_txn.specs.Finding.{Shows};

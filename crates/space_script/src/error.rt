@@ -1,4 +1,4 @@
-//! Why a line of a script asks for nothing.
+//! Why a line of a script is not a command.
 
 ghost use Rattle.std.specs.Prelude.{◌≡◌};
 

@@ -1,4 +1,4 @@
-//! What is done under the transactions that a script keeps, and how they begin and end.
+//! Executes commands under a script's transactions, and begins and ends these.
 
 ghost use Rattle.std.specs.Prelude.{◌≡◌, IfOk};
 ghost use Rattle.space_txn.specs.Machine.{abort as abort_call, commit as commit_call, inp_in, rdp_in, renew_txn};

@@ -1,4 +1,4 @@
-//! The transactions that a script keeps, each found by its number in one look.
+//! The transactions of a script, found by number in one lookup.
 
 ghost use Rattle.std.specs.Prelude.{◌≡◌, ◌≢◌, ◌<◌, ◌++◌, ◌∷◌, [], All, IfOk, IfSome, MatchOption, MatchResult, OnErr, OnOk, length, remove, slice_get, slice_set, Some};
 ghost use Rattle.std.specs.List.{list_all};

@@ -1,4 +1,4 @@
-//! Scripts of the tuple space: their commands read and carried out, and their replies written.
+//! Scripts of the tuple space: reads and executes their commands, and writes the replies.
 #![tactic(auto)]
 
 mod answering;

@@ -1,4 +1,4 @@
-//! Why a script is broken off, and how that is told.
+//! Why a script is aborted, and how that is reported.
 
 ghost use Rattle.std.specs.Prelude.{◌≡◌};
 ghost use Rattle.space_script.specs.Refusal.{script_refusal};

@@ -1,4 +1,4 @@
-//! A space on which the commands of a script are carried out.
+//! The space on which the commands of a script are executed.
 
 ghost use Rattle.std.specs.Prelude.{◌≡◌, IfOk};
 ghost use Rattle.space_script.specs.Session.{IsSession, Performs, session_of, start};

@@ -1,4 +1,5 @@
-//! What no contract says of whole scripts: that they run to their end while there is memory, and how they are cut into lines.
+//! What no contract states about whole scripts: that they run to their end while there is memory, and how they are
+//! split into lines.
 
 use qap_io::{Counted, FailAt, OneByte};
 use space_script::{ScriptError, run_script};

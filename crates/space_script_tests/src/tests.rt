@@ -1,4 +1,4 @@
-//! What no contract says: that lines are read and replies written while there is memory, and how they look.
+//! What no contract states: that lines are read and replies written while there is memory, and their format.
 
 use crate::run_tests::expect_output;
 use qap_io::OneByte;

@@ -1,4 +1,4 @@
-//! What a transaction's search finds, and the mark that it puts there.
+//! What a transaction's lookup finds, and the mark that it leaves.
 
 ghost use Rattle.std.specs.Prelude.{◌≡◌, ◌==◌, is_some, find, true, Contains, IfOk, OnErr, OnOk, MatchOption};
 ghost use Rattle.tuple_space.specs.Lease.{is_permanent};

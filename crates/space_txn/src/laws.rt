@@ -1,4 +1,4 @@
-//! Laws of the machine, by which a reader checks its definition.
+//! Laws of the machine, with which a reader can check its definition.
 
 ghost use Rattle.std.specs.Prelude.{◌≡◌, ◌≢◌, ◌<◌, ◌≤◌, ℕ, true, false, nat_lt, filter, [], List, All, Contains, Result, Ok};
 ghost use Rattle.tuple_match.specs.PatternValue.{PatternValue};

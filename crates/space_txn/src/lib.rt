@@ -1,7 +1,7 @@
-//! Transactions on a space of tuples: what a transaction takes or reads it holds until it commits or ends.
+//! Transactions on a space of tuples: a transaction holds what it takes or reads until it commits or ends.
 //!
-//! The rules are this project's own, in the manner of JavaSpaces. A transaction has a lease; once that has ended, nothing
-//! that it did counts.
+//! The rules are this project's own, in the style of JavaSpaces. A transaction has a lease; once that has ended,
+//! nothing that it did counts.
 #![tactic(auto)]
 
 mod error;

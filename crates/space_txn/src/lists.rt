@@ -1,4 +1,4 @@
-//! The memory of a transaction's lists: one block, which is handed on from a transaction that has ended to another one.
+//! The memory of a transaction's lists: one block, which later transactions reuse.
 
 ghost use Rattle.std.specs.Prelude.{◌≡◌, [], IfOk};
 

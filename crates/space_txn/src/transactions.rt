@@ -1,4 +1,4 @@
-//! The live transactions, each found by its number in one look.
+//! The live transactions, each found by its number in one lookup.
 
 ghost use Rattle.std.specs.Prelude.{◌≡◌, ◌≢◌, ◌<◌, ◌++◌, ◌∷◌, [], All, IfNone, IfSome, OnErr, OnOk, length, nat_lt, not};
 ghost use Rattle.std.specs.List.{HoldsAt, list_any};

@@ -1,4 +1,4 @@
-//! A transaction's own value.
+//! The value of a transaction.
 
 ghost use Rattle.std.specs.Prelude.{◌≡◌, ◌<◌, ◌==◌, ◌++◌, ◌∷◌, [], true, false, length, find, slice_get, option_map, IfErr, IsOk, OnOk, OnErr, All, IfNone, IfSome};
 ghost use Rattle.std.specs.Option.{option_copied};

@@ -1,4 +1,4 @@
-//! The line to split on, by random dives that estimate the nodes below (Knuth 1975).
+//! Chooses the line to split on, by random dives that estimate the number of nodes below (Knuth 1975).
 
 ghost use Rattle.std.specs.Prelude.{◌≡◌, ◌<◌, ◌≤◌, ◌≤ℤ◌, ℕ, false, IfOk, OnOk, length};
 ghost use Rattle.std.specs.Option.{IfSome};

@@ -1,4 +1,4 @@
-//! What a search stands on, and its single steps.
+//! What a search needs, and its single steps.
 
 ghost use Rattle.std.specs.Prelude.{◌≡◌, ◌<◌, ◌+ℤ◌, ◌≤ℤ◌, false, IfOk, IsTrue, OnOk, length};
 ghost use Rattle.qap_proof.specs.Cell.{IsPlaceOf, own_on};

@@ -1,4 +1,4 @@
-//! The best permutation known.
+//! The incumbent.
 
 ghost use Rattle.std.specs.Prelude.{◌≡◌, ◌*◌, ◌^◌, ◌≤◌, ◌≤ℤ◌, length, unsigned_abs};
 ghost use Rattle.qap_cost.specs.Objective.{Permutes, cost_of};

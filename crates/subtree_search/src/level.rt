@@ -1,4 +1,4 @@
-//! What a search keeps of a node on its way.
+//! What a search stores of a node on its path.
 
 ghost use Rattle.std.specs.Prelude.{◌≡◌, ◌^◌, ◌≤◌, IfOk, OnOk, false, length, unsigned_abs};
 ghost use Rattle.qap_cost.specs.Range.{AllWithin};

@@ -1,4 +1,5 @@
-//! Depth-first search of the whole subtree below a node, under pair duals of that node, and proofs of nodes by such searches.
+//! Depth-first search of the whole subtree below a node, under pair duals of that node, and proofs of nodes by such
+//! searches.
 #![tactic(auto)]
 
 mod dives;

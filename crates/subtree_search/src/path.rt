@@ -1,4 +1,4 @@
-//! The node that a search has come to.
+//! The path from the root of a search to its current node.
 
 ghost use Rattle.std.specs.Prelude.{◌≡◌, ◌<◌, ℕ, IfOk, OnErr, OnOk, length, slice_index};
 ghost use Rattle.qap_cost.specs.Bijection.{IsPerm};

@@ -1,4 +1,4 @@
-//! The proof of a node: each split's children are tried, and those that are left open get pair duals of their own.
+//! The proof of a node: each split's children are tried, and those that remain open get their own pair duals.
 
 ghost use Rattle.std.specs.Prelude.{◌≡◌, ◌<◌, ◌≤◌, ◌≤ℤ◌, pos, false, true, IfOk, IsTrue, OnOk, length};
 ghost use Rattle.qap_cost.specs.Placement.{free_facilities};

@@ -1,4 +1,4 @@
-//! Above which value a node is closed.
+//! The value above which a node is closed.
 
 ghost use Rattle.std.specs.Prelude.{◌≡◌, ◌*◌, ◌^◌, ◌<◌, ◌≤◌, unsigned_abs};
 ghost use Rattle.subtree_search.specs.Closed.{threshold_of};

@@ -1,4 +1,4 @@
-//! Searches against a listing of all completions.
+//! Searches against an enumeration of all completions.
 
 ghost use Rattle.std.specs.Prelude.{◌≡◌, true};
 

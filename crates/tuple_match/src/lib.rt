@@ -1,8 +1,8 @@
 //! Tuples, templates and matching, as in Linda (Gelernter, Generative Communication in Linda, 1985).
 //!
-//! A tuple is a row of 1 to 8 fields, each a number, a word or a list of numbers. A template is a
-//! row of as many patterns: an actual, which asks for one field, or a formal, which asks for a type.
-//! `matches` says whether a tuple is one that a template asks for.
+//! A tuple is a row of 1 to 8 fields, each a number, a word or a list of numbers. A template is a row of as many
+//! patterns: an actual, which specifies a field, or a formal, which specifies a type. `matches` decides whether a
+//! tuple matches a template.
 #![tactic(auto)]
 
 mod block;

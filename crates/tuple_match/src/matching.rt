@@ -1,4 +1,4 @@
-//! Whether a tuple is one that a template asks for.
+//! Whether a tuple matches a template.
 
 ghost use Rattle.std.specs.Prelude.{◌≡◌, ◌↔◌, IsTrue, List};
 ghost use Rattle.tuple_match.specs.FieldValue.{FieldValue};

@@ -1,4 +1,4 @@
-//! Why fields are no tuple, or patterns no template.
+//! Why fields do not form a tuple, or patterns a template.
 
 use thiserror::Error;
 

@@ -1,4 +1,4 @@
-//! Which entries are there, and which can be had.
+//! Which entries exist, and which are available.
 
 ghost use Rattle.std.specs.Prelude.{◌≡◌};
 ghost use Rattle.tuple_space.specs.Entry.{can_be_had, is_counted, is_open, is_there};

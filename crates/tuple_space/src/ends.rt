@@ -1,4 +1,4 @@
-//! When the leases of entries end.
+//! The ends of the leases of entries.
 
 ghost use Rattle.std.specs.Prelude.{ℕ, ◌≡◌, ◌≢◌, ◌<◌, ◌≤◌, ◌+◌, ◌++◌, [], All, IfNone, IfOk, IfSome, IsOk, IsPermutation, OnErr, OnOk, filter, true, if◌then◌else◌};
 ghost use Rattle.tuple_space.specs.Ends.{AreWatched, IsTakenOut, IsWatched, KeepsEndings, Watches, count_come, ending};

@@ -1,4 +1,4 @@
-//! Entries in order of number, each found by its number in one look.
+//! Entries in order of number, each found by its number in one lookup.
 
 ghost use Rattle.std.specs.Prelude.{◌≡◌, ◌≢◌, ◌<◌, ◌≤◌, ◌+◌, ◌==◌, ◌&&◌, ◌++◌, ◌∷◌, [], true, All, IfSome, IsOk, IsTrue, OnErr, OnOk, Some, filter, find, is_some, nat_eq, option_map};
 ghost use Rattle.std.specs.List.{list_any};

@@ -1,4 +1,4 @@
-//! Hashes of numbers, by which numbers that follow each other lie side by side.
+//! Hashes of numbers under which consecutive numbers are adjacent.
 
 ghost use Rattle.std.specs.Prelude.{◌≡◌};
 ghost use Rattle.tuple_space.specs.Hasher as hashing;

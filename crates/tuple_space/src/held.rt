@@ -1,4 +1,4 @@
-//! Who holds which entries, by their numbers.
+//! Which entries each holder holds, by number.
 
 ghost use Rattle.std.specs.Prelude.{ℕ, ◌≡◌, ◌≢◌, ◌<◌, ◌≤◌, ◌+◌, ◌==◌, ◌||◌, ◌&&◌, MatchBool, filter, length, not, vec_capacity, vec_len};
 ghost use Rattle.std.specs.List.{AllWithin, HoldsAt};

@@ -1,4 +1,4 @@
-//! Those who hold an entry.
+//! The holders of an entry.
 
 ghost use Rattle.std.specs.Prelude.{◌≡◌, ◌≢◌, ◌<◌, ◌≤◌, ◌==◌, ◌&&◌, [], true, not, length, MatchOption, OnOk, OnErr, IsOk};
 ghost use Rattle.std.specs.List.{list_any, list_all, find, AllWithin, HoldsAt};

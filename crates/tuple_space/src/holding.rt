@@ -1,4 +1,4 @@
-//! What holding entries does to rows of them.
+//! The effect of holding entries on rows of them.
 
 ghost use Rattle.std.specs.Prelude.{◌≡◌, All, ◌+◌, ◌≤◌, ◌==◌, ◌&&◌, false, [], ◌∷◌};
 ghost use Rattle.std.specs.List.{list_any};

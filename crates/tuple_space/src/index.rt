@@ -1,4 +1,4 @@
-//! Where entries stand: the numbers of those whose tuples begin with a word, by that word and how many fields they have.
+//! The index of entries: the numbers of those whose tuples begin with a word, by that word and their number of fields.
 
 ghost use Rattle.std.specs.Prelude.{ℕ, ◌≡◌, ◌≢◌, ◌<◌, ◌-◌, ◌%◌, ◌==◌, ◌++◌, ◌∷◌, [], true, false, not, All, IfNone, IfOk, IfSome, OnErr, OnOk, filter, length, take, unsigned_abs, vec_len};
 ghost use Rattle.std.specs.List.{AllWithin, HoldsAt};

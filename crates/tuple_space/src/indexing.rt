@@ -1,4 +1,4 @@
-//! What the calls of the space do to the buckets.
+//! The effect of the space's calls on the buckets.
 
 ghost use Rattle.std.specs.Prelude.{ℕ, ◌≡◌, ◌+◌, ◌≤◌, ◌==◌, ◌&&◌, ◌||◌, true, not, IfOk, OnErr, OnOk};
 ghost use Rattle.tuple_space.specs.Index.{AreOnce, AreOrdered, AreUpTo, Class, is_next, is_put, is_to_be, last_after};

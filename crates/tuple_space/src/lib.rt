@@ -1,7 +1,7 @@
-//! A space of tuples with leases, in the manner of Linda (Gelernter, Generative Communication in Linda, 1985).
+//! A space of tuples with leases, in the style of Linda (Gelernter, Generative Communication in Linda, 1985).
 //!
-//! Tuples are put out under numbers that rise from 1, each with a lease, and are taken or read by templates. Time is a
-//! number of milliseconds that the caller moves on. A layer above may hold entries for transactions of its own.
+//! Tuples are written under numbers that increase from 1, each with a lease, and are taken or read by templates. Time
+//! is a number of milliseconds that the caller advances. A layer above may hold entries for its own transactions.
 #![tactic(auto)]
 
 mod admission;

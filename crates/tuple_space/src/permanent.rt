@@ -1,4 +1,4 @@
-//! Permanent tuples, taken out of their entries.
+//! Permanent tuples, extracted from their entries.
 
 ghost use Rattle.std.specs.Prelude.{◌≡◌, ◌≤◌, [], length, vec_capacity};
 ghost use Rattle.tuple_space.specs.Rows.{permanent_tuples};

@@ -1,4 +1,4 @@
-//! Entries in rising order of number.
+//! Entries in ascending order of number.
 
 ghost use Rattle.std.specs.Prelude.{◌≡◌, ◌==◌, ◌&&◌, true, false, MatchBool, count_by, find};
 ghost use Rattle.std.specs.List.{list_any};

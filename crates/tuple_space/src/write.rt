@@ -1,4 +1,4 @@
-//! Tuples that are to be put out together.
+//! Tuples that are to be written together.
 
 ghost use Rattle.std.specs.Prelude.{◌≡◌, ◌<◌, ◌+◌, ◌++◌, ◌∷◌, [], false, drop, length, IfErr, IsOk, OnOk, OnErr, slice_get, slice_index_or};
 ghost use Rattle.std.specs.Option.{option_copied};

@@ -1,4 +1,4 @@
-//! The duals of many small matrices, from nothing and from others, against a listing of all assignments.
+//! The duals of many small matrices, from scratch and from other duals, against an enumeration of all assignments.
 
 use dual_ascent::{Assigner, Matching};
 use std::alloc::{AllocError, Global};

@@ -1,4 +1,4 @@
-//! The bounds of every node of small instances, against a listing of its completions.
+//! The bounds of every node of small instances, against an enumeration of its completions.
 
 ghost use Rattle.std.specs.Prelude.{◌≡◌, IfOk};
 ghost use Rattle.pair_duals.specs.PairDuals.{AreOf};

@@ -1,7 +1,7 @@
 //! Bounds of published instances.
 //!
-//! What they must reach was found by another program (in C++) with the same method: after 50 hard rounds 510.8 for
-//! nug12, and 521.6 after 200 soft sweeps and 10 hard rounds. The Gilmore-Lawler bound of nug12 is 493, and its least
+//! The bounds to reach were found by another program (in C++) with the same method: 510.8 for nug12 after 50 hard
+//! rounds, and 521.6 after 200 soft sweeps and 10 hard rounds. The Gilmore-Lawler bound of nug12 is 493, and its least
 //! cost 578; that of chr12a is 9552.
 
 use crate::tests::bounds::{ascended, bound};

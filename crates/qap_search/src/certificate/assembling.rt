@@ -1,4 +1,4 @@
-//! Puts the tuples of a finished search together: into a tree and a permutation, and into a certificate.
+//! Assembles the tuples of a finished search into a tree and a permutation, and into a certificate.
 
 ghost use Rattle.std.specs.Prelude.{◌≡◌, ◌≢◌, ◌⊎◌, ◌<◌, ◌≤◌, [], ℕ, IfOk, IsTrue, MatchOption, MatchResult, SomeIndex, List, length, map, pos, slice_index_or};
 ghost use Rattle.qap_cost.specs.Bijection.{IsPerm};

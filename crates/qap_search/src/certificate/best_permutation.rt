@@ -1,4 +1,4 @@
-//! The best permutation among the tuples of a search.
+//! The incumbent among the tuples of a search.
 
 ghost use Rattle.std.specs.Prelude.{◌≡◌, ◌≢◌, All, Contains, IfOk, List, MatchOption, ℕ, ℤ};
 ghost use Rattle.qap_search.specs.Law.CutTree.{IsCutTree};

@@ -1,4 +1,4 @@
-//! Closes the nodes that are open in the tuples of a search.
+//! Closes the open nodes among the tuples of a search.
 
 ghost use Rattle.std.specs.Prelude.{◌≡◌, ◌<◌, ◌≤◌, ◌⊎◌, IfOk, MatchResult, OnOk};
 ghost use Rattle.qap_cost.specs.Placement.{IsPlacement};

@@ -1,4 +1,4 @@
-//! Who closes the nodes that a stopped search has left open: the calling thread, or many.
+//! Closes the nodes that a stopped search has left open, by the calling thread or by several.
 
 ghost use denote.Param.Send.{IsSync};
 ghost use Rattle.std.specs.Prelude.{◌≡◌, ◌⊎◌, ◌++◌, IfOk, MatchResult};

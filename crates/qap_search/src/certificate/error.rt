@@ -1,4 +1,4 @@
-//! Why the tuples of a search aren't put together into a certificate.
+//! Why the tuples of a search cannot be assembled into a certificate.
 
 use std::alloc::AllocError;
 use thiserror::Error;

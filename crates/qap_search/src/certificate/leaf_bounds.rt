@@ -1,4 +1,4 @@
-//! What the leaves of a tree show.
+//! The bounds of the leaves of a tree.
 
 ghost use Rattle.std.specs.Prelude.{◌≡◌, ◌↔◌, ◌+ℤ◌, ◌∷◌, [], ℕ, Bool, IfOk, IsTrue, length};
 ghost use Rattle.qap_cost.specs.Matrix.{dual_value};

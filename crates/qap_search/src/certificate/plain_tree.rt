@@ -1,4 +1,4 @@
-//! Trees of proofs that say no more than a certificate can.
+//! Trees of proofs that use only what a certificate can express.
 
 ghost use Rattle.std.specs.Prelude.{◌≡◌, ◌≢◌, ◌⊎◌, ℕ, MatchOption, MatchResult};
 ghost use Rattle.qap_cert.specs.Tree.{Node as CertNode, Nodes as CertNodes, node_of as cert_node_of, nodes_of as cert_nodes_of};

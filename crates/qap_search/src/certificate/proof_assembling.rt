@@ -1,4 +1,4 @@
-//! Puts the tuples of a search together into a proof.
+//! Assembles the tuples of a search into a proof.
 
 ghost use Rattle.std.specs.Prelude.{◌≡◌, ℕ, Bool, IfOk};
 ghost use Rattle.qap_proof.specs.Claim.{IsRoot};

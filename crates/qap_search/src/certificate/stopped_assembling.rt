@@ -1,4 +1,4 @@
-//! Puts the tuples of a search together whose open nodes are closed first.
+//! Assembles the tuples of a stopped search, whose open nodes are closed first.
 
 ghost use Rattle.std.specs.Prelude.{◌≡◌, MatchResult};
 ghost use Rattle.qap_proof.specs.Memory.{node_of};

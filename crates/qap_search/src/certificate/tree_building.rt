@@ -1,4 +1,4 @@
-//! Builds a tree of decided nodes that stand in the order of their lists.
+//! Builds a tree from decided nodes in the order of their lists.
 
 ghost use Rattle.std.specs.Prelude.{◌≡◌, ◌≢◌, ◌↔◌, ◌⊎◌, ◌*◌, ◌<◌, ◌≤◌, ◌∷◌, ℕ, ℤ, List, IsTrue, MatchOption, MatchResult, length, map, pos, slice_index, slice_index_or};
 ghost use Rattle.number_list.specs.NumberList.{numbers_held};

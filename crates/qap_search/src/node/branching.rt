@@ -1,4 +1,4 @@
-//! What a node is split on, and the order in which its children are taken.
+//! The branching rule of a node, and the order in which its children are taken.
 
 ghost use Rattle.std.specs.Prelude.{◌≡◌, ◌-◌, ◌*◌, ◌^◌, ◌<◌, ℕ, true, false, IfOk, IfSome, MatchOption, length, slice_index};
 ghost use Rattle.qap_cost.specs.Instance.{Problem};

@@ -1,4 +1,4 @@
-//! What is decided at a node, once the cost of the best permutation is known.
+//! The decision at a node, once the incumbent's cost is known.
 
 ghost use Rattle.std.specs.Prelude.{◌≡◌, ◌<ℤ◌, Bool, Some, IfOk, MatchOption, length};
 ghost use Rattle.qap_cost.specs.Instance.{Problem};

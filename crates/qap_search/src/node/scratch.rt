@@ -1,4 +1,4 @@
-//! Memory in which thoughts on nodes are worked out, kept from one to the next.
+//! Memory for evaluating nodes, kept from one to the next.
 
 ghost use Rattle.std.specs.Prelude.{◌≡◌, ◌*◌, ◌^◌, IfOk, IfSome};
 ghost use Rattle.qap_cost.specs.Range.{AllWithin};

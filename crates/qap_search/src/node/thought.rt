@@ -1,4 +1,4 @@
-//! What is worked out about a node before anything is decided there.
+//! The evaluation of a node before any decision.
 
 ghost use Rattle.std.specs.Prelude.{◌≡◌, ◌*◌, ◌^◌, IfOk};
 ghost use Rattle.qap_cost.specs.Range.{AllWithin};

@@ -1,4 +1,4 @@
-//! A search by one worker, on a space of its own.
+//! A search by one worker on its own space.
 
 ghost use Rattle.std.specs.Prelude.{◌≡◌, ◌∷◌, [], IfOk, MatchResult, None, length};
 ghost use Rattle.std.specs.Arc.{arc_value};

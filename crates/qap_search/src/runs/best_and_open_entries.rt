@@ -1,4 +1,4 @@
-//! What the entries of a space tell of a search, read in their places.
+//! Reads the incumbent and the open nodes from the entries of a space.
 
 ghost use Rattle.std.specs.Prelude.{◌≡◌, ◌≢◌, ◌∷◌, [], All, Contains, IfOk, List, MatchOption, ℕ, ℤ};
 ghost use Rattle.qap_search.specs.Law.CutTree.{IsCutTree};

@@ -1,4 +1,4 @@
-//! The bound by the open nodes that entries tell, worked out by many threads.
+//! The bound over the open nodes, computed by several threads.
 
 ghost use denote.Param.Send.{IsSync};
 ghost use Rattle.std.specs.Prelude.{◌≡◌, ◌≤◌, ◌++◌, All, IfOk, length, ℕ};

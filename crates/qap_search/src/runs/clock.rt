@@ -1,4 +1,4 @@
-//! What gives the time of a search.
+//! The clock of a search.
 
 /// Gives the moment: a number of milliseconds, by which leases end.
 pub trait Clock {

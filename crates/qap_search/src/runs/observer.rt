@@ -1,4 +1,4 @@
-//! Who is shown how far a search has come.
+//! Observers of a search's progress.
 
 use crate::worker::best_steps::best_fields;
 use shared_space::{Law, Limited, Look};

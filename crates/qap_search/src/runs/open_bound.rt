@@ -1,4 +1,4 @@
-//! The bound of a search whose nodes may be open.
+//! The bound of a search that may have open nodes.
 
 ghost use Rattle.std.specs.Prelude.{◌≡◌, ◌∷◌, [], Bool, IfOk, Option, ℕ, length};
 ghost use Rattle.qap_cost.specs.Placement.{IsPlacement, Placement};

@@ -1,4 +1,4 @@
-//! The space as a search finds it.
+//! The initial space of a search.
 
 ghost use Rattle.std.specs.Prelude.{◌≡◌, ◌<◌, ◌≤◌, ℕ, Bool, IfOk, OnOk};
 ghost use Rattle.std.specs.List.{range_with_len};

@@ -1,4 +1,4 @@
-//! What the workers of a search go by.
+//! What controls the workers of a search: a clock and a gate.
 
 /// What the workers of a search go by: a clock, by which the moment moves on, and a gate, which is asked before each of their steps and
 /// told after it.

@@ -1,4 +1,4 @@
-//! How a search goes.
+//! The parameters of a search.
 
 use crate::node::branching::Branching;
 use qap_cost::{Partial, Perm};

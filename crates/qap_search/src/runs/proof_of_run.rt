@@ -1,4 +1,4 @@
-//! The proof of a search whose nodes may be open.
+//! The proof of a search that may have open nodes.
 
 ghost use Rattle.std.specs.Prelude.{ℕ, Bool, IfOk, Option, length};
 ghost use Rattle.qap_proof.specs.Claim.{IsRoot};

@@ -1,4 +1,4 @@
-//! What a search leaves.
+//! What a search leaves behind.
 
 use crate::worker::report::Report;
 use space_txn::TxnSpace;

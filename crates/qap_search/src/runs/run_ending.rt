@@ -1,4 +1,4 @@
-//! What a search yields, by the space and the reports that it leaves.
+//! The result of a search, from the space and the reports that it leaves.
 
 ghost use Rattle.std.specs.Prelude.{◌≡◌, ◌<◌, ◌≤ℤ◌, ℕ, IfOk, MatchResult, length};
 ghost use Rattle.qap_search.specs.Runs.Answer.{CertifiesLeast, IsAnswer, IsLeastFrom};

@@ -1,4 +1,4 @@
-//! Who may stop a search before its end.
+//! Requests to stop a search early.
 
 ghost use Rattle.std.specs.Prelude.{◌≡◌, false};
 

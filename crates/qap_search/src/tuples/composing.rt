@@ -1,4 +1,4 @@
-//! The tuples of nodes and of the best permutation.
+//! Composes the tuples of nodes and of the incumbent.
 
 ghost use Rattle.std.specs.Prelude.{◌≡◌, ◌<◌, ◌≤◌, ◌∷◌, [], IfOk, length, map, option_map, pos};
 ghost use Rattle.qap_cost.specs.Placement.{IsPlacement, placing};

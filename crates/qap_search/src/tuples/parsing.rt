@@ -1,4 +1,4 @@
-//! Tuples of decided nodes and of the best permutation found, taken apart.
+//! Parses the tuples of decided nodes and of the incumbent.
 
 ghost use Rattle.std.specs.Prelude.{◌≡◌, ◌≢◌, ◌↔◌, ◌++◌, ◌∷◌, [], List, ℤ, IfOk, IsTrue, MatchOption, codes, length, ◌<◌, string_bytes};
 ghost use Rattle.number_list.specs.NumberList.{numbers_held};

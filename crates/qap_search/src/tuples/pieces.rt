@@ -1,4 +1,4 @@
-//! The tuples of a search without open nodes, told apart.
+//! Distinguishes the tuples of a search without open nodes.
 
 ghost use Rattle.std.specs.Prelude.{◌≡◌, ◌⊎◌, ◌∷◌, MatchResult, Some};
 ghost use Rattle.qap_cost.specs.Placement.{Placement};

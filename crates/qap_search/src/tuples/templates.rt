@@ -1,4 +1,4 @@
-//! The templates by which the tuples of a search are asked for.
+//! The templates with which the tuples of a search are requested.
 
 ghost use Rattle.std.specs.Prelude.{◌≡◌, IfOk};
 ghost use Rattle.qap_search.specs.Tuples.Found.{best_template};

@@ -1,4 +1,4 @@
-//! The steps of a worker's turn that find the best permutation, and the writes that it leads to.
+//! The steps of a worker's turn that read the incumbent, and the writes that follow.
 
 ghost use Rattle.std.specs.Prelude.{◌≡◌, ◌≢◌, ◌==◌, ℕ, ℤ, Bool, true, false, ◌++◌, Some, IfOk, MatchOption, OnOk, List};
 ghost use Rattle.qap_cost.specs.Instance.{IsInstance, Problem};

@@ -1,4 +1,4 @@
-//! Puts tuples into a transaction, to stay once it is committed.
+//! Writes tuples into a transaction that are permanent once it commits.
 
 ghost use Rattle.std.specs.Prelude.{◌≡◌, ◌++◌, IfErr, IfOk, OnOk, map};
 ghost use Rattle.space_txn.specs.Content.{SameItems, added_of};

@@ -1,4 +1,4 @@
-//! What a worker's next step is, and who is asked before it.
+//! The gate that is consulted before each step of a worker.
 
 ghost use Rattle.std.specs.Prelude.{IsTrue};
 

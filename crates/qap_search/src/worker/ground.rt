@@ -1,4 +1,4 @@
-//! What a worker works out thoughts from: the instance, and its symmetries.
+//! What workers share for evaluating nodes: the instance and its symmetries.
 
 ghost use Rattle.std.specs.Prelude.{◌≡◌, ◌-◌, ◌*◌, ◌^◌, length, IfSome, OnOk};
 ghost use Rattle.std.specs.Arc.{arc_value};

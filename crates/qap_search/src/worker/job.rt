@@ -1,4 +1,4 @@
-//! A node that a worker has at hand, with its transaction.
+//! A node that a worker is working on, with its transaction.
 
 ghost use Rattle.std.specs.Prelude.{All, IfOk};
 ghost use Rattle.qap_search.specs.Worker.Standing.{IsIdle};

@@ -1,4 +1,4 @@
-//! What a worker is to write, worked out before it has read what the best permutation costs.
+//! A worker's writes, prepared before it has read the incumbent's cost.
 
 ghost use Rattle.std.specs.Prelude.{◌≡◌, ◌↔◌, Bool, IfSome, IsTrue, None, OnErr, Some};
 ghost use Rattle.qap_cost.specs.Instance.{Problem};

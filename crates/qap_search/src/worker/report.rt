@@ -1,4 +1,4 @@
-//! What a worker did.
+//! A worker's report.
 
 /// Why a worker ended.
 #[derive(Clone, Copy, Debug, PartialEq, Eq)]

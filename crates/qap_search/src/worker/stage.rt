@@ -1,4 +1,4 @@
-//! Where a worker stands in its turn.
+//! The stages of a worker's turn.
 
 ghost use Rattle.std.specs.Prelude.{◌≡◌, ◌+◌, ◌<◌, ◌-◌, ◌^◌, None, Some};
 ghost use Rattle.qap_search.specs.Worker.Hand.{given_up, is_hopeful, thought_of};

@@ -1,4 +1,4 @@
-//! A worker's thought on the node that it took.
+//! A worker's evaluation of the node that it took.
 
 ghost use Rattle.std.specs.Prelude.{◌≡◌, ◌≢◌, ◌↔◌, ◌<◌, ◌≤◌, ◌∷◌, [], ℕ, ℤ, List, codes, IfOk, IsTrue, MatchBool, MatchOption, OnErr, OnOk, Some};
 ghost use Rattle.qap_cost.specs.Placement.{IsPlacement};

@@ -1,5 +1,5 @@
-//! The steps of a worker's turn that write nothing: each makes one call on the room, and reports where its answer
-//! leaves the worker.
+//! The steps of a worker's turn that write nothing: each makes one call on the room, and returns the state in which
+//! its answer leaves the worker.
 
 ghost use Rattle.std.specs.Prelude.{◌≡◌, ◌+◌, ◌<◌, ◌≤◌, [], ℕ, ℤ, Bool, true, false, Ok, Option, IfErr, IfOk, OnErr, OnOk};
 ghost use Rattle.qap_cost.specs.Instance.{IsInstance, Problem};
