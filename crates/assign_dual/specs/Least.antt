@@ -6,13 +6,13 @@ use Rattle.assign_dual.specs.Partial.{IsPartial}
 use Rattle.assign_dual.specs.Range.{NoneAbove}
 use Rattle.assign_dual.specs.declared.assignment.Assignment.{Assignment}
 
--- every row is placed, at the least cost, as the duals prove
+-- every row is assigned, at least cost, as the duals prove
 pub record IsPlacedWhole (M : Square) (matching : List ℕ) (u v : List ℤ) : Type 0 where
   pub row_of : List (Option ℕ)
   pub placed : IsPartial M M.size matching row_of u v
 
--- each row takes a column of its own, no entry is below its two duals, whose sum is what the assignment costs, and no assignment costs
--- less; the duals are not much further from 0 than the entries, and those of the columns not above it
+-- each row is assigned a distinct column; every entry is at least the sum of its two duals, the assignment costs the sum of all duals, and no
+-- assignment costs less; the duals are not much further from 0 than the entries, and those of the columns are not positive
 pub record IsLeast (M : Square) (a : Assignment) : Type 0 where
   pub assigns : Assigns M a.matching.items
   pub fits : DualsFit M a.u.items a.v.items

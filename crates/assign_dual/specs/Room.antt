@@ -1,9 +1,9 @@
--- The lists in which rows are placed.
+-- The lists that store assigned rows.
 use Rattle.std.specs.Prelude.{◌≡◌, ℕ, length}
 use Rattle.qap_cost.specs.Bijection.{IsBijection}
 use Rattle.assign_dual.specs.declared.room.Room.{Room}
 
--- a place for each of n columns in every list, and the columns each once
+-- each list has an element for each of n columns, and the columns are listed once each
 pub record HasRoom {X : Type 0} (n : ℕ) (room : Room X) : Type 0 where
   pub order : IsBijection room.columns.now
   pub columns_count : length room.columns.now ≡ n

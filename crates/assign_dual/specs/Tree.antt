@@ -1,16 +1,16 @@
--- The tree of shortest alternating paths from a row that is being placed (Jonker and Volgenant 1987).
+-- The tree of shortest alternating paths from a row that is being assigned (Jonker and Volgenant 1987).
 use Rattle.std.specs.Prelude.{◌≡◌, ℕ, ◌+◌, ◌<◌, ◌≤◌, List, length, ℤ, pos, ◌+ℤ◌, ◌-ℤ◌, ◌≤ℤ◌, slice_index, Option, Some}
 use Rattle.qap_cost.specs.Matrix.{Square, entry_of}
 use Rattle.qap_cost.specs.Bijection.{IsBijection}
 use Rattle.assign_dual.specs.Partial.{owner_of}
 use Rattle.assign_dual.specs.Number.{number_at}
 
--- what is left of an entry once the duals of its row and its column are taken off
+-- the reduced cost of an entry under the duals of its row and its column
 abbrev pub reduced_cost : Square → List ℤ → List ℤ → ℕ → ℕ → ℤ
 reduced_cost M u v i k = (entry_of M i k -ℤ number_at u i) -ℤ number_at v k
 
--- The first `done` of the columns are scanned, each with its row at the next place of the tree; place 0 has the root.
--- A distance is the length of the shortest path found so far, and the origin the place that it comes from.
+-- The first `done` of the columns are scanned, each with its row at the next position of the tree; position 0 has the root.
+-- A distance is the length of the shortest path found so far, and the origin is the position from which it comes.
 pub record IsTree (M : Square) (root : ℕ) (row_of : List (Option ℕ)) (u v : List ℤ) (columns tree_rows : List ℕ) (row_distances distances : List ℤ) (origins : List ℕ) (done : ℕ) : Type 0 where
   pub order : IsBijection columns
   pub columns_count : length columns ≡ M.size
@@ -31,7 +31,7 @@ pub record IsTree (M : Square) (root : ℕ) (row_of : List (Option ℕ)) (u v : 
   pub ascending : (p q : ℕ) → p < done → p ≤ q → q < M.size →
       number_at distances (slice_index columns p) ≤ℤ number_at distances (slice_index columns q)
 
--- no column that isn't scanned is nearer than the next one
+-- no unscanned column is nearer than the next one
 pub record IsNext (columns : List ℕ) (distances : List ℤ) (done : ℕ) : Type 0 where
   pub nearest : (q : ℕ) → done ≤ q → q < length columns →
       number_at distances (slice_index columns done) ≤ℤ number_at distances (slice_index columns q)

@@ -1,4 +1,4 @@
--- Which instances and scales an ascent takes.
+-- Which instances and scales an ascent accepts.
 use Rattle.std.specs.Prelude.{ℕ, ◌*◌, ◌^◌, ◌<◌, ◌≤◌, unsigned_abs}
 use Rattle.qap_cost.specs.Instance.{Problem, entry}
 

@@ -1,5 +1,5 @@
--- Duals that close a node: they fit its reduced matrix, so that no permutation that completes the node costs less than
--- their sum and what the placed facilities cost (Gilmore 1962; Lawler 1963).
+-- Duals that close a node: they fit its Gilmore-Lawler matrix, so that every permutation that completes the node costs at
+-- least their sum plus the cost of the placed facilities (Gilmore 1962; Lawler 1963).
 use Rattle.std.specs.Prelude.{◌≡◌, ℕ, List, length, ℤ, ◌+ℤ◌, ◌≤ℤ◌}
 use Rattle.qap_cost.specs.Instance.{Problem}
 use Rattle.qap_cost.specs.Matrix.{Square, IsMatrix, DualsFit, dual_value}
@@ -14,14 +14,14 @@ pub record AreDuals (m : ℕ) (u v : List ℤ) : Type 0 where
   pub u_range : AllLimited u
   pub v_range : AllLimited v
 
--- the duals fit the reduced matrix
+-- the duals fit the Gilmore-Lawler matrix
 pub record Fits (I : Problem) (x : Placement) (u v : List ℤ) : Type 0 where
   pub matrix : Square
   pub square : IsMatrix matrix
   pub reduced : IsReduced I x matrix
   pub fits : DualsFit matrix u v
 
--- the duals fit, and with what the placed facilities cost they sum to at least g
+-- the duals fit, and their sum plus the cost of the placed facilities is at least g
 pub record Closes (I : Problem) (g : ℤ) (x : Placement) (u v : List ℤ) : Type 0 where
   pub fits : Fits I x u v
   pub enough : g ≤ℤ (fixed_cost_of I x +ℤ dual_value u v)

@@ -1,4 +1,4 @@
--- Numbers for the rows and the columns of a matrix, also of one whose entries are products of rows, or of a node's reduced one.
+-- Duals of the rows and columns of a matrix, including a matrix whose entries are products of rows, and that of a node.
 use Rattle.std.specs.Prelude.{ℕ, ◌<◌, ◌↔◌, Bool, IsTrue, List, length, ℤ, pos, ◌+ℤ◌, ◌≤ℤ◌, slice_index_or}
 use Rattle.qap_cost.specs.Instance.{Problem}
 use Rattle.qap_cost.specs.Matrix.{Square, IsMatrix, DualsFit}
@@ -6,19 +6,19 @@ use Rattle.qap_cost.specs.Placement.{Placement}
 use Rattle.gilmore_lawler.specs.ReducedMatrix.{IsReduced}
 use Rattle.gilmore_lawler.specs.Table.{segment, dot}
 
--- no number of the row is below the row's dual and the dual of its column together
+-- no number of the row is below the sum of the row's dual and that of its column
 pub record RowFits (row : List ℤ) (x : ℤ) (v : List ℤ) : Type 0 where
   pub below : (k : ℕ) → k < length row → (x +ℤ slice_index_or v k (pos 0)) ≤ℤ slice_index_or row k (pos 0)
 
--- no product of the row with one of these others is below the row's dual and the dual of its column together
+-- no product of the row with one of these others is below the sum of the row's dual and that of its column
 pub record RowProductsFit (row others : List ℤ) (x : ℤ) (v : List ℤ) : Type 0 where
   pub below : (k : ℕ) → k < length v → (x +ℤ slice_index_or v k (pos 0)) ≤ℤ dot row (segment (length row) others k)
 
--- the same of each row of this width
+-- likewise for each row of this width
 pub record ProductsFit (width : ℕ) (rows others u v : List ℤ) : Type 0 where
   pub below : (i k : ℕ) → i < length u → k < length v → (slice_index_or u i (pos 0) +ℤ slice_index_or v k (pos 0)) ≤ℤ dot (segment width rows i) (segment width others k)
 
--- it is true if and only if the duals fit the node's reduced matrix
+-- true if and only if the duals fit the node's Gilmore-Lawler matrix
 pub record TellsFit (I : Problem) (x : Placement) (u v : List ℤ) (fit : Bool) : Type 0 where
   pub matrix : Square
   pub square : IsMatrix matrix

@@ -5,7 +5,7 @@ use Rattle.qap_cost.specs.Sum.{sum_to}
 use Rattle.qap_cost.specs.Bijection.{IsBijection}
 use Rattle.qap_cost.specs.Row.{product_at}
 
--- p pairs the number at each place j of one list with the number at p(j) of the other
+-- p pairs the number at each position j of one list with the number at p(j) of the other
 pub record Pairs (xs ys : List ℤ) (p : List ℕ) : Type 0 where
   pub bijection : IsBijection p
   pub left : length p ≡ length xs

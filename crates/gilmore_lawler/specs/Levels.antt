@@ -1,4 +1,4 @@
--- Rows that are kept, one level for each count of facilities that are placed.
+-- Kept rows, one level for each number of placed facilities.
 use Rattle.std.specs.Prelude.{◌≡◌, ◌<◌, IsTrue, List, length, ℕ, slice_index_or}
 use Rattle.qap_cost.specs.Instance.{Problem}
 use Rattle.qap_cost.specs.Placement.{Placement}
@@ -8,16 +8,16 @@ use Rattle.gilmore_lawler.specs.declared.flow_level.FlowLevel.{FlowLevel}
 use Rattle.gilmore_lawler.specs.declared.levels.DistanceLevel.{DistanceLevel}
 use Rattle.gilmore_lawler.specs.declared.levels.Level.{Level}
 
--- they are the rows where these locations are taken
+-- these are the rows with these locations taken
 pub record AreRowsAt (I : Problem) (places : List ℕ) (known : LocationRows) : Type 0 where
   pub at : known.places.items ≡ places
   pub are_theirs : HasLocationRows I known.places.items known.free.items known.rows.items
 
--- the rows of the flows are those for their facilities, where it is said that they were made
+-- the rows of the flows are those for their facilities, if they are marked as computed
 abbrev pub KeepsFlows : Problem → FlowLevel → Type 0
 KeepsFlows I level = KeepsFlowRows level.are_made (record { instance = I; facilities = level.facilities.items }) level.rows.items
 
--- the rows of the distances are those of their locations, where it is said that they were made
+-- the rows of the distances are those for their locations, if they are marked as computed
 pub record KeepsDistances (I : Problem) (level : DistanceLevel) : Type 0 where
   pub are_theirs : IsTrue level.are_made → HasLocationRows I level.known.places.items level.known.free.items level.known.rows.items
 

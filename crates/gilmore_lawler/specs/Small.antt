@@ -1,5 +1,5 @@
--- Entries so small that a sum of products of two rows stays within 64 bits: 512 products of two numbers that are no
--- further from 0 than 10^8 sum to 512 * 10^16 at most, which is below 2^63.
+-- Entries so small that a sum of products of two rows stays within 64 bits: 512 products of two numbers no further
+-- from 0 than 10^8 sum to at most 512 * 10^16, which is below 2^63.
 use Rattle.std.specs.Prelude.{◌^◌, List, ℤ}
 use Rattle.qap_cost.specs.Range.{AllWithin}
 

@@ -1,4 +1,4 @@
--- Lists that hold rows of one length, and the rows from which the entries of a reduced matrix are products.
+-- Lists of rows of one length, and the rows whose products are the entries of a Gilmore-Lawler matrix.
 use Rattle.std.specs.Prelude.{◌≡◌, ℕ, ◌*◌, ◌<◌, ◌++◌, ◌∷◌, [], List, length, map, take, drop, ℤ, pos, ◌*ℤ◌, slice_index, slice_index_or}
 use Rattle.std.specs.List.{flat_map, range_with_len}
 use Rattle.qap_cost.specs.Sum.{sum_to}
@@ -12,12 +12,12 @@ use Rattle.gilmore_lawler.specs.ReducedMatrix.{others}
 abbrev pub segment : {X : Type 0} → ℕ → List X → ℕ → List X
 segment width xs r = take width (drop (r * width) xs)
 
--- this many rows of this length, of which each has its property
+-- this many rows of this length, each of which has its property
 pub record IsTable {X : Type 0} (width count : ℕ) (P : ℕ → List X → Type 0) (xs : List X) : Type 0 where
   pub size : length xs ≡ count * width
   pub rows : (r : ℕ) → r < count → P r (segment width xs r)
 
--- the sum of the products of two lists, place by place
+-- the dot product of two lists
 abbrev pub dot : List ℤ → List ℤ → ℤ
 dot xs ys = sum_to (λ j. slice_index_or xs j (pos 0) *ℤ slice_index_or ys j (pos 0)) (length xs)
 
@@ -30,12 +30,12 @@ abbrev pub matrix_of : Problem → Side → List ℤ
 matrix_of I Flow = I.a
 matrix_of I Distance = I.b
 
--- flows ascend, distances descend
+-- flows are sorted in ascending order, distances in descending order
 abbrev pub IsOrdered : Side → List ℤ → Type 0
 IsOrdered Flow xs = IsAscending xs
 IsOrdered Distance xs = IsDescending xs
 
--- the entry of i with another one, and of that one with it
+-- the entry of i with another one, and of that one with i
 abbrev pub pair_with : ℕ → List ℤ → ℕ → ℕ → List ℤ
 pair_with n matrix i h = entry n matrix i h ∷ entry n matrix h i ∷ []
 
@@ -43,7 +43,7 @@ pair_with n matrix i h = entry n matrix i h ∷ entry n matrix h i ∷ []
 abbrev pub linear_row : ℕ → List ℤ → List ℕ → ℕ → List ℤ
 linear_row n matrix placed i = entry n matrix i i ∷ flat_map (pair_with n matrix i) placed
 
--- the row of the free one of number r: with itself and the placed ones, and then, in order, with the other free ones
+-- the row of the r-th free one: with itself and the placed ones, and then, sorted, with the other free ones
 pub record IsFactorRow (I : Problem) (side : Side) (placed free : List ℕ) (r : ℕ) (row : List ℤ) : Type 0 where
   pub sorted : List ℤ
   pub moved : IsArranged (others I.size (matrix_of I side) free r) sorted

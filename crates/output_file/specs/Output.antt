@@ -1,14 +1,14 @@
--- Where an output goes.
+-- The target of an output.
 use Rattle.std.specs.Prelude.{◌≡◌, ℕ, ◌⊎◌, Bool, true, List, Option, Some, None}
 use Rattle.output_file.specs.declared.output.FileId.{FileId}
 
--- the bytes of the place's full name, whether a regular file stands or is to stand there, and which file stood there before
+-- the bytes of the target's full name, whether it is or will be a regular file, and which file was there before
 pub record Place : Type 0 where
   pub name : List ℕ
   pub regular : Bool
   pub earlier : Option FileId
 
--- both names stood for the same file
+-- both names referred to the same file
 abbrev pub IsSameFile : Option FileId → Option FileId → Type 0
 IsSameFile None q = ⊥
 IsSameFile (Some p) None = ⊥

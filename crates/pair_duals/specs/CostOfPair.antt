@@ -1,4 +1,4 @@
--- What two facilities cost together (Koopmans and Beckmann 1957).
+-- The cost of a pair of facilities (Koopmans and Beckmann 1957).
 use Rattle.std.specs.Prelude.{ℕ, ℤ, ◌+ℤ◌, ◌*ℤ◌}
 use Rattle.qap_cost.specs.Instance.{Problem, entry}
 

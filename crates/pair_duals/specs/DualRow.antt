@@ -2,7 +2,7 @@
 use Rattle.std.specs.Prelude.{◌≡◌, ℕ, ◌<◌, ◌≤◌, List, length, ℤ, pos, slice_index_or, unsigned_abs}
 use Rattle.qap_cost.specs.Range.{AllWithin}
 
--- the numbers f(0), .., f(m - 1), none of them further from 0 than the limit
+-- the numbers f(0), .., f(m - 1), each within the limit
 pub record IsDualRow (limit m : ℕ) (f : ℕ → ℤ) (xs : List ℤ) : Type 0 where
   pub count : length xs ≡ m
   pub entries : (k : ℕ) → k < m → slice_index_or xs k (pos 0) ≡ f k

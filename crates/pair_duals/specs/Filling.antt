@@ -1,4 +1,4 @@
--- Square matrices, listed by rows, of which one entry after the other is written.
+-- Square matrices, listed by rows, that are written entry by entry.
 use Rattle.std.specs.Prelude.{◌≡◌, ℕ, ◌+◌, ◌*◌, ◌<◌, ◌≤◌, List, length, ℤ, pos, slice_index_or}
 use Rattle.qap_cost.specs.Instance.{entry}
 
@@ -6,14 +6,14 @@ use Rattle.qap_cost.specs.Instance.{entry}
 pub record AreEntries (m : ℕ) (f : ℕ → ℕ → ℤ) (xs : List ℤ) : Type 0 where
   pub entries : (r c : ℕ) → r < m → c < m → entry m xs r c ≡ f r c
 
--- the first so many entries of row r were written, and those before the row and behind them are as they were
+-- the first `count` entries of row r have been written, and all others are unchanged
 pub record FillsPart (m : ℕ) (f : ℕ → ℕ → ℤ) (r count : ℕ) (old new : List ℤ) : Type 0 where
   pub same_length : length new ≡ length old
   pub row : (c : ℕ) → c < count → entry m new r c ≡ f r c
   pub before : (k : ℕ) → k < r * m → slice_index_or new k (pos 0) ≡ slice_index_or old k (pos 0)
   pub after : (k : ℕ) → r * m + count ≤ k → slice_index_or new k (pos 0) ≡ slice_index_or old k (pos 0)
 
--- the first so many rows were written, and what is behind them is as it was
+-- the first `count` rows have been written, and what follows them is unchanged
 pub record FillsRows (m : ℕ) (f : ℕ → ℕ → ℤ) (count : ℕ) (old new : List ℤ) : Type 0 where
   pub same_length : length new ≡ length old
   pub rows : (r c : ℕ) → r < count → c < m → entry m new r c ≡ f r c

@@ -1,20 +1,20 @@
--- Parts of what it takes for pair duals to fit.
+-- Parts of the test whether pair duals fit.
 use Rattle.std.specs.Prelude.{◌≢◌, ℕ, ◌<◌, length, ℤ, pos, ◌≤ℤ◌, slice_index}
 use Rattle.qap_cost.specs.Instance.{Problem, entry}
 use Rattle.pair_duals.specs.PairDuals.{Duals, residual}
 
--- the entry of B from location number k to location number l
+-- the entry of B from the k-th location to the l-th
 abbrev pub distance : Problem → Duals → ℕ → ℕ → ℤ
 distance I D k l = entry I.size I.b (slice_index D.locations k) (slice_index D.locations l)
 
--- facility number i at location number k leaves facility number j no less than nothing, at each other location
+-- the residual of facility i at location k with facility j is nonnegative at each other location
 pub record FitsPair (I : Problem) (D : Duals) (i k j : ℕ) : Type 0 where
   pub below : (l : ℕ) → l < length D.locations → k ≢ l → pos 0 ≤ℤ residual I D i k j l
 
--- the same for each facility of a number below j
+-- likewise for each facility below j
 pub record FitsFacility (I : Problem) (D : Duals) (k j : ℕ) : Type 0 where
   pub below : (i l : ℕ) → i < j → l < length D.locations → k ≢ l → pos 0 ≤ℤ residual I D i k j l
 
--- the same for any two facilities
+-- likewise for any two facilities
 pub record FitsLocation (I : Problem) (D : Duals) (k : ℕ) : Type 0 where
   pub below : (i j l : ℕ) → i < j → j < length D.facilities → l < length D.locations → k ≢ l → pos 0 ≤ℤ residual I D i k j l

@@ -8,7 +8,7 @@ pub record IsLargest (n : ℕ) (matrix : List ℤ) (largest : ℕ) : Type 0 wher
   pub reached : (i : ℕ) × (j : ℕ) × (i < n) × (j < n) × (largest ≡ unsigned_abs (entry n matrix i j))
   pub small : largest ≤ 10 ^ 9
 
--- of its first so many rows, or 0
+-- of its first rows, this many, or 0
 pub record IsLargestSoFar (n : ℕ) (matrix : List ℤ) (rows largest : ℕ) : Type 0 where
   pub above : (i j : ℕ) → i < rows → j < n → unsigned_abs (entry n matrix i j) ≤ largest
   pub reached : (largest ≡ 0) ⊎ ((i : ℕ) × (j : ℕ) × (i < rows) × (j < n) × (largest ≡ unsigned_abs (entry n matrix i j)))

@@ -1,4 +1,4 @@
--- Numbers for each two facilities or locations.
+-- Numbers indexed by two facilities or locations.
 use Rattle.std.specs.Prelude.{ℕ, ℤ}
 use Rattle.qap_cost.specs.Instance.{Problem, entry}
 use Rattle.pair_duals.specs.CostStep.{both_ways}

@@ -1,5 +1,5 @@
--- The reduced form of the cost of the completions of a node under pair duals (Hahn and Grant 1998): a number, a matrix, and what
--- the duals leave of each pair.
+-- The reduced form of the cost of the completions of a node under pair duals (Hahn and Grant 1998): a number, a matrix, and the
+-- residual of each pair.
 use Rattle.std.specs.Prelude.{◌≡◌, ℕ, ◌+◌, ◌<◌, ◌==◌, if◌then◌else◌, Bool, true, false, List, [], length, remove, ℤ, pos, ◌+ℤ◌, ◌-ℤ◌, ◌*ℤ◌, ◌≤ℤ◌, slice_index, slice_index_or, nat_lt}
 use Rattle.qap_cost.specs.Sum.{sum_to}
 use Rattle.qap_cost.specs.Instance.{Problem, entry}
@@ -9,7 +9,7 @@ use Rattle.gilmore_lawler.specs.ReducedMatrix.{linear_cost}
 use Rattle.pair_duals.specs.PairDuals.{Duals, alpha_of, beta_of, residual}
 use Rattle.pair_duals.specs.Seats.{Seats}
 
--- a number, and a square matrix with a row for each free facility and a column for each free location of a node, which are given
+-- a number, and a square matrix with a row for each free facility and a column for each free location of a given node
 pub record Form : Type 0 where
   pub value : ℤ
   pub rows : List ℕ
@@ -22,7 +22,7 @@ pub record Form : Type 0 where
 abbrev pub empty_form : Form
 empty_form = record { value = pos 0; rows = []; columns = []; entries = []; depth = 0; is_lined = false }
 
--- how many rows a form has
+-- the number of rows of a form
 abbrev pub count_of : Form → ℕ
 count_of R = length R.rows
 
@@ -30,7 +30,7 @@ count_of R = length R.rows
 abbrev pub at : Form → ℕ → ℕ → ℤ
 at R r c = entry (length R.rows) R.entries r c
 
--- the free facilities and locations of y are those of these numbers among the duals'
+-- the free facilities and locations of y are those at these indices among the duals'
 pub record AreNumbers (D : Duals) (y : Placement) (rows columns : List ℕ) : Type 0 where
   pub row_count : length rows ≡ length (free_facilities y)
   pub column_count : length columns ≡ length (free_locations y)
@@ -39,7 +39,7 @@ pub record AreNumbers (D : Duals) (y : Placement) (rows columns : List ℕ) : Ty
   pub facilities : (r : ℕ) → r < length rows → slice_index D.facilities (slice_index rows r) ≡ slice_index (free_facilities y) r
   pub locations : (c : ℕ) → c < length columns → slice_index D.locations (slice_index columns c) ≡ slice_index (free_locations y) c
 
--- there are such facilities and locations
+-- such facilities and locations exist
 pub record AreWithin (D : Duals) (rows columns : List ℕ) : Type 0 where
   pub each_row : (r : ℕ) → r < length rows → slice_index rows r < length D.facilities
   pub each_column : (c : ℕ) → c < length columns → slice_index columns c < length D.locations
@@ -48,7 +48,7 @@ pub record AreWithin (D : Duals) (rows columns : List ℕ) : Type 0 where
 abbrev pub sum_of_pairs : (ℕ → ℕ → ℤ) → ℕ → ℤ
 sum_of_pairs f m = sum_to (λ r. sum_to (f r) r) m
 
--- what the duals leave of rows r and t where they take these columns
+-- the residual of rows r and t if they take these columns
 abbrev pub left_of_pair : Problem → Duals → List ℕ → List ℕ → List ℕ → ℕ → ℕ → ℤ
 left_of_pair I D rows columns seat r t =
     residual I D (slice_index rows r) (slice_index columns (slice_index seat r)) (slice_index rows t) (slice_index columns (slice_index seat t))
@@ -63,13 +63,13 @@ pub record IsFormOf (I : Problem) (D : Duals) (y : Placement) (R : Form) : Type 
 pub record IsNonNegative (R : Form) : Type 0 where
   pub each : (r c : ℕ) → r < count_of R → c < count_of R → pos 0 ≤ℤ at R r c
 
--- a number for each row and one for each column; no entry is below the sum of its two
+-- a number for each row and one for each column; every entry is at least their sum
 pub record AreUnder (R : Form) (u v : List ℤ) : Type 0 where
   pub below : (r c : ℕ) → r < count_of R → c < count_of R → (slice_index_or u r (pos 0) +ℤ slice_index_or v c (pos 0)) ≤ℤ at R r c
 
 -- ---- a node's own form
 
--- f, but 0 at k
+-- f, except 0 at k
 abbrev pub but : ℕ → (ℕ → ℤ) → ℕ → ℤ
 but k f j = (if j == k then pos 0 else f j)
 
@@ -77,14 +77,14 @@ but k f j = (if j == k then pos 0 else f j)
 abbrev pub sum_but : ℕ → (ℕ → ℤ) → ℕ → ℤ
 sum_but k f n = sum_to (but k f) n
 
--- the linear cost, scaled, and the duals for each other free facility and each other free location of y
+-- the scaled linear cost, plus the duals for each other free facility and each other free location of y
 abbrev pub dual_entry : Problem → Duals → Placement → List ℕ → List ℕ → ℕ → ℕ → ℤ
 dual_entry I D y rows columns r c =
     pos D.scale *ℤ linear_cost I y (slice_index (free_facilities y) r) (slice_index (free_locations y) c)
     +ℤ (sum_but r (λ t. alpha_of D (slice_index rows r) (slice_index columns c) (slice_index rows t)) (length rows)
     +ℤ sum_but c (λ d. beta_of D (slice_index rows r) (slice_index columns c) (slice_index columns d)) (length columns))
 
--- the form of y by the duals alone
+-- the form of y from the duals alone
 pub record IsStart (I : Problem) (D : Duals) (y : Placement) (R : Form) : Type 0 where
   pub numbers : AreNumbers D y R.rows R.columns
   pub depth : R.depth ≡ 0
@@ -103,12 +103,12 @@ pub record IsLeast (f : ℕ → ℤ) (m : ℕ) (least : ℤ) : Type 0 where
 abbrev pub less_row : ℕ → List ℤ → List ℤ → ℕ → ℕ → ℤ
 less_row m entries u c r = entry m entries r c -ℤ slice_index_or u r (pos 0)
 
--- each number is the least of its column, less a number of each row
+-- each number is the minimum of its column after subtracting a number from each row
 pub record AreLeast (m : ℕ) (entries u v : List ℤ) : Type 0 where
   pub count : length v ≡ m
   pub least : (c : ℕ) → c < m → IsLeast (less_row m entries u c) m (slice_index_or v c (pos 0))
 
--- each number is the least of its row
+-- each number is the minimum of its row
 pub record AreLeastOfRows (m : ℕ) (entries u : List ℤ) : Type 0 where
   pub count : length u ≡ m
   pub least : (r : ℕ) → r < m → IsLeast (entry m entries r) m (slice_index_or u r (pos 0))
@@ -117,11 +117,11 @@ pub record AreLeastOfRows (m : ℕ) (entries u : List ℤ) : Type 0 where
 abbrev pub less_both : ℕ → List ℤ → List ℤ → List ℤ → ℕ → ℕ → ℤ
 less_both m entries u v r c = entry m entries r c -ℤ (slice_index_or u r (pos 0) +ℤ slice_index_or v c (pos 0))
 
--- the same with the row's number itself
+-- the same with the row's own number
 abbrev pub less_own : ℕ → List ℤ → ℤ → List ℤ → ℕ → ℕ → ℤ
 less_own m entries own v r c = entry m entries r c -ℤ (own +ℤ slice_index_or v c (pos 0))
 
--- a number for each row, and the least that they leave in each column, go from the matrix to the value
+-- a number for each row, and the column minima that remain, move from the matrix to the value
 pub record IsLine (old new : Form) (u v : List ℤ) : Type 0 where
   pub least : AreLeast (count_of old) old.entries u v
   pub rows : new.rows ≡ old.rows
@@ -133,17 +133,17 @@ pub record IsLine (old new : Form) (u v : List ℤ) : Type 0 where
 
 -- ---- a child
 
--- the number, among all, of the one of number k among those other than h
+-- the index, among all, of the k-th of those other than h
 abbrev pub past : ℕ → ℕ → ℕ
 past h k = (if nat_lt k h then k else k + 1)
 
--- what the child that puts row h at column g has in its row r, column c
+-- the entry in row r, column c of the child that puts row h at column g
 abbrev pub child_entry : Problem → Duals → List ℕ → List ℕ → List ℤ → ℕ → ℕ → ℕ → ℕ → ℤ
 child_entry I D rows columns entries h g r c =
     entry (length rows) entries (past h r) (past g c) +ℤ residual I D (slice_index rows (past h r)) (slice_index columns (past g c)) (slice_index rows h) (slice_index columns g)
 
--- the form of the child that puts row h at column g: the entry there goes to the value, and what the duals leave of the pairs
--- with it to the other entries
+-- the form of the child that puts row h at column g: the entry there is added to the value, and the residuals of the pairs with it
+-- to the other entries
 pub record IsChild (I : Problem) (D : Duals) (old : Form) (h g : ℕ) (new : Form) : Type 0 where
   pub depth : new.depth ≡ old.depth + 1
   pub is_lined : new.is_lined ≡ false

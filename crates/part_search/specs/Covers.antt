@@ -1,4 +1,4 @@
--- Open nodes that stand for another node, and the values proved of them.
+-- Open nodes that cover another node, and the values proved for them.
 use Rattle.std.specs.Prelude.{◌≡◌, ℤ, ◌≤ℤ◌, List, All}
 use Rattle.qap_cost.specs.Instance.{Problem}
 use Rattle.qap_cost.specs.Placement.{Placement, IsPlacement}
@@ -9,11 +9,11 @@ use Rattle.part_search.specs.Tuples.{OpenNode}
 abbrev pub IsAbove : Problem → ℤ → OpenNode → Type 0
 IsAbove I g o = IsClosed I o.node g
 
--- for every g up to c, if no completion of any of the open nodes costs less than g, then no completion of x does
+-- for every g up to c: if no completion of any of the open nodes costs less than g, then no completion of x does
 pub record IsCovered (I : Problem) (x : Placement) (c : ℤ) (opens : List OpenNode) : Type 0 where
   pub below : (g : ℤ) → g ≤ℤ c → All (IsAbove I g) opens → IsClosed I x g
 
--- a node of the instance, of which no completion costs less than the lesser of its value and c
+-- a node of the instance, no completion of which costs less than the smaller of its value and c
 pub record HasValue (I : Problem) (c : ℤ) (o : OpenNode) : Type 0 where
   pub placement : IsPlacement o.node
   pub same_size : o.node.size ≡ I.size

@@ -1,4 +1,4 @@
--- What a search on parts rests on, whatever the node.
+-- What a search on parts needs regardless of the node.
 use Rattle.std.specs.Prelude.{◌≡◌, ℕ, ℤ, pos, ◌≤ℤ◌, ◌*ℤ◌, ◌⊎◌, List, All}
 use Rattle.qap_cost.specs.Instance.{Problem}
 use Rattle.qap_cost.specs.Placement.{Placement, IsFreeFacility, IsFreeLocation}
@@ -25,11 +25,11 @@ pub record IsFreeChild (y : Placement) (child : OpenChild) : Type 0 where
 abbrev pub node_part : Open → Placement
 node_part o = o.node
 
--- the value of a child: its parent's, or what no cost lies below that, scaled, is at least this
+-- the value of a child: its parent's, or one that no cost lies below which, scaled, is at least this
 abbrev pub IsChildValue : ℤ → ℤ → ℕ → ℤ → Type 0
 IsChildValue parent scaled scale value = (value ≡ parent) ⊎ ((cost : ℤ) → scaled ≤ℤ (pos scale *ℤ cost) → value ≤ℤ cost)
 
--- open nodes that cover another one at c, and have their values wherever that has its own
+-- open nodes that cover another one at c, and whose values are valid whenever that one's is
 pub record StandFor (I : Problem) (c : ℤ) (at : OpenNode) (opens : List OpenNode) : Type 0 where
   pub values : (d : ℤ) → HasValue I d at → All (HasValue I d) opens
   pub covers : IsCovered I at.node c opens

@@ -1,4 +1,4 @@
--- What the tuples of a search on parts say at any moment.
+-- The tuples of a search on parts at any moment.
 use Rattle.std.specs.Prelude.{◌≡◌, ◌≤ℤ◌, ℕ, List, ◌∷◌, All, map}
 use Rattle.qap_cost.specs.Instance.{Problem}
 use Rattle.qap_cost.specs.Objective.{cost_of}
@@ -10,7 +10,7 @@ use Rattle.part_search.specs.Covers.{HasValue, IsCovered}
 use Rattle.part_search.specs.Replacement.{MayReplace}
 use Rattle.part_search.specs.Tuples.{OpenNode, best_tuple, node_tuple}
 
--- what is searched: the completions of a node of an instance, from a permutation that is known before and need not be one of them
+-- what is searched: the completions of a node of an instance, starting from a known permutation that need not be one of them
 pub record Part : Type 0 where
   pub instance : Problem
   pub root : Placement
@@ -26,9 +26,9 @@ pub record IsPart (S : Part) : Type 0 where
   pub same_size : S.root.size ≡ S.instance.size
   pub start : IsIncumbent S.instance S.start
 
--- The tuples, in any order, are those of open nodes and of the best permutation, which is no worse than the one known before: no
--- completion of an open node costs less than the lesser of its value and the best cost, and the open nodes cover the root at the
--- best cost.
+-- The tuples, in any order, are those of open nodes and of the incumbent, which is no worse than the permutation known before: no
+-- completion of an open node costs less than the smaller of its value and the incumbent's cost, and the open nodes cover the root
+-- at the incumbent's cost.
 pub record IsSearched (S : Part) (content : Content) : Type 0 where
   pub best : Best
   pub opens : List OpenNode
@@ -38,7 +38,7 @@ pub record IsSearched (S : Part) (content : Content) : Type 0 where
   pub values : All (HasValue S.instance best.cost) opens
   pub covers : IsCovered S.instance S.root best.cost opens
 
--- the law of a space that holds the search: such tuples and no others are lawful, and a commit is allowed that replaces an open node
+-- the law of a space that holds the search: exactly such tuples are lawful, and a commit is allowed if it replaces an open node
 pub record IsLawOf (S : Part) (lawful : Content → ℕ → Type 0) (allowed : Content → Content → Content → Type 0) : Type 0 where
   pub is_searched : (xs : Content) (commits : ℕ) → lawful xs commits → IsSearched S xs
   pub is_lawful : (xs : Content) (commits : ℕ) → IsSearched S xs → lawful xs commits

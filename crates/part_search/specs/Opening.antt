@@ -1,4 +1,4 @@
--- The space as a search finds it.
+-- The initial space of a search.
 use Rattle.std.specs.Prelude.{◌≡◌, List}
 use Rattle.qap_cost.specs.Instance.{Problem}
 use Rattle.qap_cost.specs.Placement.{Placement}
@@ -10,11 +10,11 @@ use Rattle.tuple_space.specs.Space.{put}
 use Rattle.tuple_space.specs.declared.lease.Lease.TheVariants.{Forever}
 use Rattle.part_search.specs.Law.{IsSearched, Part}
 
--- the part that is searched, from a permutation
+-- the part that is searched, starting from a permutation
 abbrev pub part_of : Problem → Placement → Best → Part
 part_of I root start = record { instance = I; root = root; start = start }
 
--- a tuple put out to stay forever
+-- a tuple written permanently
 abbrev pub with_tuple : World → List FieldValue → World
 with_tuple w tuple = with_space w (put w.space tuple Forever)
 

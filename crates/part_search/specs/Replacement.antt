@@ -1,4 +1,4 @@
--- What one commit may put in the place of an open node.
+-- What one commit may replace an open node with.
 use Rattle.std.specs.Prelude.{◌≡◌, ◌≤ℤ◌, List, [], ◌∷◌, All, map}
 use Rattle.qap_cost.specs.Instance.{Problem}
 use Rattle.shared_space.specs.Law.{Content}
@@ -7,8 +7,8 @@ use Rattle.subtree_search.specs.Best.{Best, IsIncumbent}
 use Rattle.part_search.specs.Covers.{HasValue, IsCovered}
 use Rattle.part_search.specs.Tuples.{OpenNode, best_tuple, node_tuple}
 
--- The commit takes an open node and the best permutation, and puts open nodes and a best permutation that is no worse in their
--- place: the new nodes cover the old one at the best cost that stands then, and have the values that are written of them.
+-- The commit takes an open node and the incumbent, and replaces them with open nodes and an incumbent that is no worse: the new nodes
+-- cover the old one at the new incumbent's cost, and have the values that are written for them.
 pub record MayReplace (I : Problem) (gone kept added : Content) : Type 0 where
   pub at : OpenNode
   pub old : Best

@@ -1,4 +1,4 @@
--- The tuples of a search on parts: one for each open node, and one for the best permutation known.
+-- The tuples of a search on parts: one for each open node, and one for the incumbent.
 use Rattle.std.specs.Prelude.{◌≡◌, ℕ, ℤ, pos, Bool, List, [], ◌∷◌, codes, count_by, map}
 use Rattle.qap_cost.specs.Placement.{Placement}
 use Rattle.tuple_match.specs.FieldValue.{FieldValue, number, word, numbers}
@@ -7,16 +7,16 @@ use Rattle.tuple_match.specs.PatternValue.{PatternValue, actual, any_number, any
 use Rattle.subtree_search.specs.Best.{Best}
 use Rattle.part_search.specs.declared.open_node.Open.{Open}
 
--- a node whose completions are still to be searched, and the value proved of it, in units of cost
+-- a node whose completions remain to be searched, and the value proved for it, in units of cost
 pub record OpenNode : Type 0 where
   pub node : Placement
   pub value : ℤ
 
--- an open node as the tuples have it
+-- an open node as the tuples represent it
 abbrev pub open_of : Open → OpenNode
 open_of o = record { node = o.node; value = o.value }
 
--- the word, the facilities that are placed, their locations, both in the order of placing, and the value
+-- the word, the placed facilities, their locations, both in the order of placement, and the value
 abbrev pub node_tuple : OpenNode → List FieldValue
 node_tuple o = word (codes "node") ∷ numbers (map pos o.node.facilities) ∷ numbers (map pos o.node.places) ∷ number o.value ∷ []
 
@@ -28,7 +28,7 @@ best_tuple b = word (codes "best") ∷ number b.cost ∷ numbers (map pos b.perm
 abbrev pub node_template : List PatternValue
 node_template = actual (word (codes "node")) ∷ any_numbers ∷ any_numbers ∷ any_number ∷ []
 
--- the best permutation
+-- the incumbent
 abbrev pub best_template : List PatternValue
 best_template = actual (word (codes "best")) ∷ any_number ∷ any_numbers ∷ []
 
@@ -40,7 +40,7 @@ is_open tuple = does_match node_template tuple
 abbrev pub open_count : List (List FieldValue) → ℕ
 open_count tuples = count_by is_open tuples
 
--- an open node of size n that the tuple is of
+-- the tuple is that of an open node of size n
 pub record IsReadOf (n : ℕ) (tuple : List FieldValue) (o : Open) : Type 0 where
   pub is : node_tuple (open_of o) ≡ tuple
   pub size : o.node.size ≡ n

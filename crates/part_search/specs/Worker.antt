@@ -1,4 +1,4 @@
--- What a worker's transaction holds, by where it stands in its turn, and the calls that it makes on the space.
+-- What a worker's transaction holds at each stage of its turn, and the calls that it makes on the space.
 use Rattle.std.specs.Prelude.{◌≡◌, ◌==◌, ℕ, ℤ, true, [], ◌∷◌, List, Some, find, map}
 use Rattle.qap_cost.specs.Instance.{Problem}
 use Rattle.shared_space.specs.Event.{Event, Reply, begin, call}
@@ -19,7 +19,7 @@ use Rattle.part_search.specs.declared.open_node.Open.{Open}
 use Rattle.part_search.specs.declared.stage.Stage.{Stage}
 use Rattle.part_search.specs.declared.stage.Stage.TheVariants.{Idle, Begun, Taken, Tried, Ready, GivingUp}
 
--- it took this entry and no other
+-- it took exactly this entry
 pub record HasTaken (t : TxnValue) (number : ℕ) : Type 0 where
   pub mark : Mark
   pub marks : t.marks ≡ mark ∷ []
@@ -27,14 +27,14 @@ pub record HasTaken (t : TxnValue) (number : ℕ) : Type 0 where
   pub entry : mark.entry ≡ number
   pub taken : mark.taken ≡ true
 
--- it has marked this entry, whose tuple is that of an open node of size n and there to stay
+-- it has marked this entry, whose tuple is that of an open node of size n and permanent
 pub record HasOpen (n : ℕ) (t : TxnValue) (number : ℕ) (o : Open) : Type 0 where
   pub mark : Mark
   pub here : find (λ m. m.entry == number) t.marks ≡ Some mark
   pub permanent : mark.permanent ≡ true
   pub read : IsReadOf n mark.tuple o
 
--- it has marked this entry, whose tuple is that of a permutation with its cost and there to stay
+-- it has marked this entry, whose tuple is that of a permutation with its cost and permanent
 pub record HasBest (I : Problem) (t : TxnValue) (number : ℕ) (b : Best) : Type 0 where
   pub mark : Mark
   pub here : find (λ m. m.entry == number) t.marks ≡ Some mark
@@ -42,7 +42,7 @@ pub record HasBest (I : Problem) (t : TxnValue) (number : ℕ) (b : Best) : Type
   pub is : best_tuple b ≡ mark.tuple
   pub incumbent : IsIncumbent I b
 
--- it took the tuple of an open node, which was there to stay, and writes open nodes that stand for it at c
+-- it took the tuple of an open node, which was permanent, and writes open nodes that cover it at c
 pub record HasTried (I : Problem) (c : ℤ) (t : TxnValue) : Type 0 where
   pub mark : Mark
   pub marks : t.marks ≡ mark ∷ []
@@ -55,7 +55,7 @@ pub record HasTried (I : Problem) (c : ℤ) (t : TxnValue) : Type 0 where
   pub added : added_of t.writes ≡ map node_tuple opens
   pub stand : StandFor I c at opens
 
--- beside that it took this entry
+-- in addition, it took this entry
 pub record HasBoth (I : Problem) (c : ℤ) (number : ℕ) (t : TxnValue) : Type 0 where
   pub before : TxnValue
   pub tried : HasTried I c before
@@ -66,19 +66,19 @@ pub record HasBoth (I : Problem) (c : ℤ) (number : ℕ) (t : TxnValue) : Type 
   pub taken : best.taken ≡ true
   pub here : find (λ m. m.entry == number) t.marks ≡ Some best
 
--- what is known of it after the call that takes an open node's entry
+-- what is known about it after the call that takes an open node's entry
 abbrev pub IsFoundOpen : Answer → TxnValue → Type 0
 IsFoundOpen (found (Stored number)) t = HasTaken t number
 IsFoundOpen (refused error) t = (t.marks ≡ []) × (t.writes ≡ [])
 IsFoundOpen _ t = Unit {0}
 
--- and after the one that takes the best permutation's
+-- and after the one that takes the incumbent's
 abbrev pub IsFoundBest : Problem → ℤ → Answer → TxnValue → Type 0
 IsFoundBest I c (found (Stored number)) t = HasBoth I c number t
 IsFoundBest I c (refused error) t = HasTried I c t
 IsFoundBest I c _ t = Unit {0}
 
--- where the worker's best permutation costs c
+-- when the worker's incumbent costs c
 abbrev pub IsStage : Problem → ℤ → Stage → Type 0
 IsStage I c Idle = Unit {0}
 IsStage I c (Begun t) = (t.marks ≡ []) × (t.writes ≡ [])
@@ -91,7 +91,7 @@ IsStage I c (GivingUp t) = Unit {0}
 abbrev pub Allows : Problem → (Content → Content → Content → Type 0) → Type 0
 Allows I allowed = (gone kept added : Content) → MayReplace I gone kept added → allowed gone kept added
 
--- a transaction's begin, or a call on one
+-- the beginning of a transaction, or a call on one
 abbrev pub IsCall : Event → Type 0
 IsCall (begin asked) = Unit {0}
 IsCall (call t c) = Unit {0}
@@ -102,7 +102,7 @@ abbrev pub Made : {R : Type 0} → (R → Event → Reply → R → Type 0) → 
 Made did I before after =
     (event : Event) × (reply : Reply) × IsCall event × IsAllowedAct (MayReplace I) (asks event reply) × did before event reply after
 
--- what holds of every worker on the instance
+-- what holds for every worker on the instance
 pub record IsWorker (I : Problem) (best : Best) (stage : Stage) : Type 0 where
   pub incumbent : IsIncumbent I best
   pub stage_is : IsStage I best.cost stage

@@ -8,11 +8,11 @@ use Rattle.plan_answer.specs.Listing.{IsListing}
 use Rattle.plan_answer.specs.Pairs.{AreDearest}
 use Rattle.plan_answer.specs.declared.pairs.Pair.{Pair}
 
--- how many places behind the point a cost has
+-- the number of decimals of a cost
 abbrev pub cost_scale : NamedProblem → ℕ
 cost_scale P = P.flow_scale + P.distance_scale
 
--- where each department stands, and which places stay empty
+-- the place of each department, and the places that stay empty
 abbrev pub places_text : NamedProblem → List ℕ → List ℕ
 places_text P p =
     stands_lines (map string_bytes P.departments.items) (map string_bytes P.places.items) p
@@ -26,7 +26,7 @@ has_fixed P = nat_lt 0 (length P.fixed.facilities)
 abbrev pub told_pairs : ℕ
 told_pairs = 5
 
--- what is proved of the cost, in the plan's own units
+-- what is proved about the cost, in the plan's own units
 pub record IsVerdictText (P : NamedProblem) (c g : ℤ) (text : List ℕ) : Type 0 where
   pub cost : List ℕ
   pub bound : List ℕ
@@ -36,7 +36,7 @@ pub record IsVerdictText (P : NamedProblem) (c g : ℤ) (text : List ℕ) : Type
   pub told_apart : IsApartText c g apart
   pub is : text ≡ verdict_line (int_lt g c) cost bound (kept_text (has_fixed P)) apart
 
--- that the tables' numbers were rounded, where they were, and the pairs that cost most
+-- a line if the tables' numbers were rounded, and the costliest pairs
 pub record IsPairsText (P : NamedProblem) (p : List ℕ) (text : List ℕ) : Type 0 where
   pub pairs : List Pair
   pub listing : List ℕ
@@ -44,7 +44,7 @@ pub record IsPairsText (P : NamedProblem) (p : List ℕ) (text : List ℕ) : Typ
   pub listed : IsListing (map string_bytes P.departments.items) (cost_scale P) pairs listing
   pub is : text ≡ rounded_text P.rounded ++ listing
 
--- where each department stands, what is proved of the cost, that numbers were rounded, and the pairs that cost most
+-- the place of each department, what is proved about the cost, a line if numbers were rounded, and the costliest pairs
 pub record IsAnswerText (P : NamedProblem) (p : List ℕ) (c g : ℤ) (text : List ℕ) : Type 0 where
   pub verdict : List ℕ
   pub listing : List ℕ

@@ -1,4 +1,4 @@
--- Two arrangements compared: that of today, and the best one.
+-- A comparison of today's arrangement with the best one.
 use Rattle.std.specs.Prelude.{◌≡◌, ℕ, ◌+◌, ◌*◌, ◌/◌, ◌==◌, Bool, ◌&&◌, not, MatchBool, List, [], ◌∷◌, ◌++◌, length, map, ℤ, pos, ◌-ℤ◌, int_lt, unsigned_abs, codes, if◌then◌else◌, slice_index_or, string_bytes}
 use Rattle.std.specs.Fmt.{decimal}
 use Rattle.qap_cost.specs.Objective.{cost_of}
@@ -7,7 +7,7 @@ use Rattle.plan_file.specs.declared.tables.NamedProblem.{NamedProblem}
 use Rattle.plan_answer.specs.Answer.{cost_scale, has_fixed}
 use Rattle.plan_answer.specs.Lines.{kept_text}
 
--- it is stated where the cost of today lies above zero, and no lower than the best
+-- the percentage is stated if today's cost is positive and no lower than the best
 abbrev pub is_saving : ℤ → ℤ → Bool
 is_saving today best = int_lt (pos 0) today && not (int_lt today best)
 
@@ -15,13 +15,13 @@ is_saving today best = int_lt (pos 0) today && not (int_lt today best)
 abbrev pub tenths_less : ℤ → ℤ → ℕ
 tenths_less today best = unsigned_abs (today -ℤ best) * 1000 / unsigned_abs today
 
--- this many tenths of a percent
+-- this number of tenths of a percent
 pub record IsSavingText (tenths : ℤ) (text : List ℕ) : Type 0 where
   pub percent : List ℕ
   pub spelled : Spells percent tenths 1
   pub is : text ≡ codes " (" ++ percent ++ codes "% less)"
 
--- the percentage where it is stated, and else nothing
+-- the percentage if it is stated, else nothing
 abbrev pub IsLessText : ℤ → ℤ → List ℕ → Type 0
 IsLessText today best text = MatchBool (is_saving today best) (IsSavingText (pos (tenths_less today best)) text) (text ≡ [])
 
@@ -29,16 +29,16 @@ IsLessText today best text = MatchBool (is_saving today best) (IsSavingText (pos
 abbrev pub costs_of : List ℕ → List ℕ → List ℕ → List ℕ
 costs_of today best less = today ++ codes ", best " ++ best ++ less
 
--- what is proved of the best where it isn't shown to be optimal
+-- what is proved about the best if it is not known to be optimal
 abbrev pub open_text : List ℕ → List ℕ → List ℕ → List ℕ
 open_text best bound kept = codes ", within " ++ bound ++ codes " to " ++ best ++ kept ++ codes ", proved"
 
--- what is proved of the best
+-- what is proved about the best
 abbrev pub proved_text : Bool → List ℕ → List ℕ → List ℕ → List ℕ
 proved_text is_open best bound kept =
     if is_open then open_text best bound kept else codes ", optimal" ++ kept ++ codes ", proved"
 
--- the costs of the two arrangements in the plan's own units, and what is proved of the best
+-- the costs of the two arrangements in the plan's own units, and what is proved about the best
 pub record IsCostsText (P : NamedProblem) (t b g : ℤ) (text : List ℕ) : Type 0 where
   pub today : List ℕ
   pub best : List ℕ
@@ -50,7 +50,7 @@ pub record IsCostsText (P : NamedProblem) (t b g : ℤ) (text : List ℕ) : Type
   pub told_less : IsLessText t b less
   pub is : text ≡ (codes "today " ++ costs_of today best less) ++ proved_text (int_lt g b) best bound (kept_text (has_fixed P))
 
--- of the departments those whose places differ
+-- the number of departments whose places differ
 abbrev pub moved_count : List (List ℕ) → List ℕ → List ℕ → ℕ
 moved_count [] today best = 0
 moved_count (d ∷ ds) [] best = 0
@@ -73,7 +73,7 @@ move_lines (d ∷ ds) places (j ∷ js) (k ∷ ks) =
 abbrev pub count_line : ℕ → ℕ → List ℕ
 count_line moved all = codes "; " ++ decimal moved ++ codes " of " ++ decimal all ++ codes " move\n"
 
--- what each of the two arrangements costs, what is proved of the second, and which departments move
+-- the costs of the two arrangements, what is proved about the second, and which departments move
 pub record IsComparedText (P : NamedProblem) (today best : List ℕ) (g : ℤ) (text : List ℕ) : Type 0 where
   pub costs : List ℕ
   pub told : IsCostsText P (cost_of P.instance today) (cost_of P.instance best) g costs

@@ -1,10 +1,10 @@
--- How far a cost may lie above the least.
+-- How far a cost may be above the least.
 use Rattle.std.specs.Prelude.{◌≡◌, ℕ, ◌*◌, Bool, MatchBool, ◌&&◌, not, List, [], ◌++◌, ℤ, pos, codes, int_lt, ◌-ℤ◌, unsigned_abs}
 use Rattle.std.specs.Int.{div_ceil}
 use Rattle.qap_cost.specs.Limits.{max_value}
 use Rattle.plan_table.specs.Spelling.{Spells}
 
--- it is stated where the bound lies above zero and no higher than the cost, which is no larger than a cost can be
+-- the gap is stated if the bound is positive and no higher than the cost, which is within the range of costs
 abbrev pub is_told : ℤ → ℤ → Bool
 is_told c g = int_lt (pos 0) g && not (int_lt c g) && not (int_lt (pos max_value) c)
 
@@ -12,12 +12,12 @@ is_told c g = int_lt (pos 0) g && not (int_lt c g) && not (int_lt (pos max_value
 abbrev pub tenths_above : ℤ → ℤ → ℕ
 tenths_above c g = div_ceil (unsigned_abs (c -ℤ g) * 1000) (unsigned_abs g)
 
--- this many tenths of a percent
+-- this number of tenths of a percent
 pub record IsPercentText (tenths : ℤ) (text : List ℕ) : Type 0 where
   pub percent : List ℕ
   pub spelled : Spells percent tenths 1
   pub is : text ≡ codes ", at most " ++ percent ++ codes "% above the least"
 
--- the percentage where it is stated, and else nothing
+-- the percentage if it is stated, else nothing
 abbrev pub IsApartText : ℤ → ℤ → List ℕ → Type 0
 IsApartText c g text = MatchBool (is_told c g) (IsPercentText (pos (tenths_above c g)) text) (text ≡ [])

@@ -4,7 +4,7 @@ use Rattle.std.specs.List.{list_any}
 use Rattle.plan_table.specs.CsvText.{doubled}
 use Rattle.plan_file.specs.declared.tables.NamedProblem.{NamedProblem}
 
--- a byte by which a field has to be in quotes: a quote, or one that may separate fields
+-- a byte that requires its field to be quoted: a quote, or one that may separate fields
 abbrev pub is_special : ℕ → Bool
 is_special b = b == 34 || (b == 44 || b == 59)
 
@@ -16,7 +16,7 @@ csv_field name = if list_any is_special name then codes "\"" ++ doubled name ++ 
 abbrev pub csv_line : List ℕ → List ℕ → List ℕ
 csv_line department place = csv_field department ++ codes "," ++ csv_field place ++ codes "\n"
 
--- the departments, one by one, at the places of these numbers
+-- the departments, in order, at the places with these numbers
 abbrev pub csv_lines : List (List ℕ) → List (List ℕ) → List ℕ → List ℕ
 csv_lines [] places locations = []
 csv_lines (d ∷ ds) places [] = []

@@ -3,19 +3,19 @@ use Rattle.std.specs.Prelude.{◌≡◌, ℕ, List, [], ◌∷◌, ◌++◌, cod
 use Rattle.plan_table.specs.Spelling.{Spells}
 use Rattle.plan_answer.specs.declared.pairs.Pair.{Pair}
 
--- from one department to another goes what costs this
+-- the flow from one department to another costs this
 abbrev pub pair_line : List ℕ → List ℕ → List ℕ → List ℕ
 pair_line from to cost = from ++ codes " to " ++ to ++ codes ": " ++ cost ++ codes "\n"
 
--- a line for each pair, in order: with the names of its two departments, of which an added one has none, and what it
--- costs, in units with this many places behind the point
+-- a line for each pair, in order: with the names of its two departments, where a dummy has none, and its cost,
+-- in units with this many decimals
 abbrev pub ArePairLines : List (List ℕ) → ℕ → List Pair → List ℕ → Type 0
 ArePairLines names scale [] text = text ≡ []
 ArePairLines names scale (x ∷ xs) text =
     (cost : List ℕ) × (rest : List ℕ) × Spells cost x.cost scale × ArePairLines names scale xs rest
     × (text ≡ pair_line (slice_index_or names x.from []) (slice_index_or names x.to []) cost ++ rest)
 
--- above the lines, where there are any
+-- the heading of the lines, if there are any
 abbrev pub heading : List Pair → List ℕ
 heading [] = []
 heading (x ∷ xs) = codes "dearest pairs:\n"

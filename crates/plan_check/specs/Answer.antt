@@ -21,34 +21,34 @@ pub record IsJsonOf (text : List ℕ) (d : Data) : Type 0 where
 abbrev pub ListsLocations : Data → List ℕ → Type 0
 ListsLocations d p = ListsNumbers d (codes "permutation") (map (λ k. k + 1) p)
 
--- it lists a permutation that keeps what is fixed
+-- it lists a permutation that respects what is fixed
 pub record IsListed (I : Problem) (x : Placement) (d : Data) (p : List ℕ) : Type 0 where
   pub locations : ListsLocations d p
   pub permutes : Permutes I p
   pub completes : Completes x p
 
--- it states a number, from -10^36 on, that is no larger than this cost, and how the search ended
+-- it states a number, at least -10^36, that is no larger than this cost, and how the search ended
 pub record IsBoundStated (scale : ℕ) (d : Data) (c g : ℤ) : Type 0 where
   pub number : StatesNumber d (codes "bound") g scale
   pub small : unsigned_abs g ≤ max_number
   pub at_most : g ≤ℤ c
   pub status : StatesText d (codes "status") (status_of g c)
 
--- it lists such a permutation, and states what it costs and such a bound
+-- it lists such a permutation, and states its cost and such a bound
 pub record IsStated (I : Problem) (x : Placement) (scale : ℕ) (d : Data) (p : List ℕ) (c g : ℤ) : Type 0 where
   pub listed : IsListed I x d p
   pub costs : cost_of I p ≡ c
   pub cost : StatesNumber d (codes "cost") c scale
   pub bound : IsBoundStated scale d c g
 
--- the text is the JSON of an answer to a plan; names that are there are the plan's
+-- the text is the JSON of an answer to a plan; names, if present, are the plan's
 pub record IsAnswerToPlan (P : NamedProblem) (text p : List ℕ) (c g : ℤ) : Type 0 where
   pub value : Data
   pub json : IsJsonOf text value
   pub stated : IsStated P.instance P.fixed (cost_scale P) value p c g
   pub named : HasNamesOf P p value
 
--- the same of an instance, which has no names
+-- likewise for an instance, which has no names
 pub record IsAnswerToInstance (I : Problem) (text p : List ℕ) (c g : ℤ) : Type 0 where
   pub value : Data
   pub json : IsJsonOf text value

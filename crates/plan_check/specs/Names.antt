@@ -1,4 +1,4 @@
--- The names of an answer, where they are there.
+-- The names in an answer, if present.
 use Rattle.std.specs.Prelude.{◌≡◌, ◌⊎◌, ℕ, List, [], None, codes, length, map, slice_index_or, string_bytes, take}
 use Rattle.serde_json.specs.Data.{Data}
 use Rattle.serde_json.specs.Find.{get}
@@ -25,13 +25,13 @@ arrangement_of P p = names_at (place_names P) (take (length P.departments.items)
 abbrev pub MayList : Data → List ℕ → List (List ℕ) → Type 0
 MayList d key names = (get key d ≡ None) ⊎ ListsTexts d key names
 
--- the names that are there are the plan's
+-- the names that are present are the plan's
 pub record HasNamesOf (P : NamedProblem) (p : List ℕ) (d : Data) : Type 0 where
   pub departments : MayList d (codes "departments") (department_names P)
   pub places : MayList d (codes "places") (place_names P)
   pub arrangement : MayList d (codes "arrangement") (arrangement_of P p)
 
--- there are no names: none of the three keys is there
+-- there are no names: all three keys are missing
 pub record HasNoNames (d : Data) : Type 0 where
   pub departments : get (codes "departments") d ≡ None
   pub places : get (codes "places") d ≡ None

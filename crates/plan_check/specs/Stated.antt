@@ -5,7 +5,7 @@ use Rattle.serde_json.specs.Find.{get}
 use Rattle.serde_json.specs.View.{items_of}
 use Rattle.plan_table.specs.Spelling.{Spells}
 
--- a whole number as a value of JSON
+-- a whole number as a JSON value
 abbrev pub whole : ℕ → Data
 whole n = number (unsigned n)
 
@@ -31,6 +31,6 @@ pub record StatesNumber (d : Data) (key : List ℕ) (z : ℤ) (scale : ℕ) : Ty
   pub stated : StatesText d key word
   pub spelled : Spells word z scale
 
--- how a search with this bound and this cost ended: before its end where the bound is smaller
+-- how a search with this bound and this cost ended: early if the bound is smaller
 abbrev pub status_of : ℤ → ℤ → List ℕ
 status_of g c = if int_lt g c then codes "bounded" else codes "optimal"

@@ -1,4 +1,4 @@
--- Flows filled up with those of added departments.
+-- Flows extended with those of dummy departments.
 use Rattle.std.specs.Prelude.{◌≡◌, ℕ, ◌/◌, ◌%◌, ◌<◌, List, length, ℤ, pos, slice_index_or}
 use Rattle.qap_cost.specs.Range.{InRange}
 use Rattle.plan_file.specs.Problem.{flow_of}

@@ -1,4 +1,4 @@
--- Departments that are fixed at places, by their names and by their numbers.
+-- Departments fixed at places, by name and by number.
 use Rattle.std.specs.Prelude.{◌≡◌, ℕ, ◌<◌, ⊤, List, [], ◌∷◌, length, string_bytes}
 use Rattle.qap_cost.specs.Placement.{Placement}
 use Rattle.plan_table.specs.Trips.{name_at}
@@ -8,7 +8,7 @@ use Rattle.plan_table.specs.declared.pin.Pin.{Pin}
 abbrev pub IsNameAt : List (List ℕ) → ℕ → List ℕ → Type 0
 IsNameAt names i name = (i < length names) × (name_at names i ≡ name)
 
--- facilities and locations, one after another, are the departments and places that are named
+-- facilities and locations, in sequence, are the named departments and places
 abbrev pub AreNamed : List (List ℕ) → List (List ℕ) → List Pin → List ℕ → List ℕ → Type 0
 AreNamed departments places [] [] [] = ⊤
 AreNamed departments places [] [] (k ∷ ks) = ⊥
@@ -18,7 +18,7 @@ AreNamed departments places (p ∷ ps) (f ∷ fs) [] = ⊥
 AreNamed departments places (p ∷ ps) (f ∷ fs) (k ∷ ks) =
     IsNameAt departments f (string_bytes p.department) × IsNameAt places k (string_bytes p.place) × AreNamed departments places ps fs ks
 
--- the departments that are named stand at their places, and nothing else is placed
+-- the named departments are at their places, and nothing else is placed
 pub record AreFixed (pins : List Pin) (departments places : List (List ℕ)) (x : Placement) : Type 0 where
   pub size : x.size ≡ length places
   pub named : AreNamed departments places pins x.facilities x.places

@@ -1,4 +1,4 @@
--- A plan: a text in TOML that names the files of its tables, and says what is fixed.
+-- A plan: a TOML text that names the files of its tables and what is fixed.
 use Rattle.std.specs.Prelude.{◌≡◌, ◌≢◌, ◌⊎◌, ⊤, ℕ, ◌≤◌, Bool, true, false, List, [], ◌∷◌, map, Option, None, Some, IsUtf8, pos, codes, string_bytes}
 use Rattle.toml.specs.Data.{Data, Items, no_items, item, Members, no_members, member, string, integer, boolean, array, table, get_member}
 use Rattle.toml.specs.Parse.{parse_document}
@@ -19,19 +19,19 @@ use Rattle.plan_file.specs.declared.source.Flows.TheVariants as flow
 use Rattle.plan_table.specs.declared.pin.Pin.{Pin}
 use Rattle.plan_file.specs.declared.source.Plan.{Plan}
 
--- the keys by which a plan gives the flows
+-- the keys with which a plan gives the flows
 abbrev pub IsKnownOfFlows : List ℕ → Type 0
 IsKnownOfFlows key = (key ≡ codes "flows") ⊎ ((key ≡ codes "trips") ⊎ (key ≡ codes "departments"))
 
--- the keys by which it gives the distances
+-- the keys with which it gives the distances
 abbrev pub IsKnownOfDistances : List ℕ → Type 0
 IsKnownOfDistances key = (key ≡ codes "distances") ⊎ ((key ≡ codes "places") ⊎ ((key ≡ codes "metric") ⊎ (key ≡ codes "decimals")))
 
--- the keys that say how the tables are read
+-- the keys that specify how the tables are read
 abbrev pub IsKnownOfRules : List ℕ → Type 0
 IsKnownOfRules key = (key ≡ codes "decimal_mark") ⊎ ((key ≡ codes "round") ⊎ ((key ≡ codes "symmetric") ⊎ (key ≡ codes "duplicates")))
 
--- the keys that a plan may have: of the flows, of the distances, of how they are read, and for what is fixed
+-- the keys that a plan may have: for the flows, the distances, how they are read, and what is fixed
 abbrev pub IsKnown : List ℕ → Type 0
 IsKnown key = IsKnownOfFlows key ⊎ (IsKnownOfDistances key ⊎ (IsKnownOfRules key ⊎ (key ≡ codes "fixed")))
 
@@ -63,7 +63,7 @@ pub record NamesFile (ms : Members) (key other file : List ℕ) : Type 0 where
   pub named : HasText ms key file
   pub alone : HasNone ms other
 
--- the flows stand in the file of a matrix, or of a list, whose departments may be given: a list of 1 to 256 different names
+-- the flows are in the file of a matrix, or of a list, whose departments may be given: a list of 1 to 256 distinct names
 abbrev pub SaysFlows : Members → Flows → Type 0
 SaysFlows ms (flow.Matrix file) = NamesFile ms (codes "flows") (codes "trips") (string_bytes file) × HasNone ms (codes "departments")
 SaysFlows ms (flow.Trips file) = NamesFile ms (codes "trips") (codes "flows") (string_bytes file) × HasNone ms (codes "departments")
@@ -71,40 +71,40 @@ SaysFlows ms (flow.TripsBetween file names) =
     NamesFile ms (codes "trips") (codes "flows") (string_bytes file)
     × (get_member (codes "departments") ms ≡ Some (array (strings_of (map string_bytes names.items)))) × AreNames (map string_bytes names.items)
 
--- how many places behind the point are kept: 2, where nothing is said of it
+-- how many decimals are kept: 2 by default
 abbrev pub SaysDecimals : Option Data → ℕ → Type 0
 SaysDecimals None n = n ≡ 2
 SaysDecimals (Some d) n = (d ≡ integer (pos n)) × (n ≤ 9)
 
--- by what distances are measured
+-- how distances are measured
 abbrev pub SaysMetric : Members → Metric → Type 0
 SaysMetric ms Rectilinear = HasText ms (codes "metric") (codes "rectilinear") × HasNone ms (codes "decimals")
 SaysMetric ms (Euclidean n) = HasText ms (codes "metric") (codes "euclidean") × SaysDecimals (get_member (codes "decimals") ms) n
 SaysMetric ms Squared = HasText ms (codes "metric") (codes "squared") × HasNone ms (codes "decimals")
 
--- the distances stand in the file of a matrix, or are measured between the places of a file
+-- the distances are in the file of a matrix, or are measured between the places of a file
 abbrev pub SaysDistances : Members → Distances → Type 0
 SaysDistances ms (far.Matrix file) =
     NamesFile ms (codes "distances") (codes "places") (string_bytes file) × HasNone ms (codes "metric") × HasNone ms (codes "decimals")
 SaysDistances ms (far.Places file metric) = NamesFile ms (codes "places") (codes "distances") (string_bytes file) × SaysMetric ms metric
 
--- what the decimal mark of the tables is, if anything is said of it
+-- the decimal mark of the tables, if given
 abbrev pub SaysMark : Members → Option DecimalMark → Type 0
 SaysMark ms None = HasNone ms (codes "decimal_mark")
 SaysMark ms (Some Point) = HasText ms (codes "decimal_mark") (codes ".")
 SaysMark ms (Some Comma) = HasText ms (codes "decimal_mark") (codes ",")
 
--- to how many places behind the point the numbers of the tables are rounded, if anything is said of it
+-- to how many decimals the numbers of the tables are rounded, if given
 abbrev pub SaysRound : Members → Option ℕ → Type 0
 SaysRound ms None = HasNone ms (codes "round")
 SaysRound ms (Some n) = (get_member (codes "round") ms ≡ Some (integer (pos n))) × (n ≤ 9)
 
--- whether each half of a table stands for the other: not where nothing is said of it
+-- whether the halves of a table complete each other: by default they do not
 abbrev pub SaysSymmetric : Members → Bool → Type 0
 SaysSymmetric ms true = get_member (codes "symmetric") ms ≡ Some (boolean true)
 SaysSymmetric ms false = HasNone ms (codes "symmetric") ⊎ (get_member (codes "symmetric") ms ≡ Some (boolean false))
 
--- whether the amounts of a list add up: not where nothing is said of it
+-- whether the amounts of a list add up: by default they do not
 abbrev pub SaysSums : Members → Bool → Type 0
 SaysSums ms true = HasText ms (codes "duplicates") (codes "sum")
 SaysSums ms false = HasNone ms (codes "duplicates")
@@ -123,7 +123,7 @@ pub record IsPin (key : List ℕ) (d : Data) (pin : Pin) : Type 0 where
   pub visible_department : HasNoControl (string_bytes pin.department)
   pub visible_place : HasNoControl (string_bytes pin.place)
 
--- each key with its text, one after another
+-- each key with its text, in sequence
 abbrev pub ArePins : Members → List Pin → Type 0
 ArePins no_members [] = ⊤
 ArePins no_members (p ∷ ps) = ⊥
@@ -149,7 +149,7 @@ pub record IsPlanText (text : List ℕ) (plan : Plan) : Type 0 where
 abbrev pub HasSome : Members → List ℕ → Type 0
 HasSome ms key = (d : Data) × (get_member key ms ≡ Some d)
 
--- it has what is no text there
+-- it has something there that is not a text
 abbrev pub HasNoText : Members → List ℕ → Type 0
 HasNoText ms key = (d : Data) × (get_member key ms ≡ Some d) × ((text : List ℕ) → d ≢ string text)
 
@@ -161,7 +161,7 @@ HasControl ms key = (text : List ℕ) × HasText ms key text × (HasNoControl te
 abbrev pub IsAmongFixed : Members → List ℕ → Type 0
 IsAmongFixed ms key = (pins : Members) × (get_member (codes "fixed") ms ≡ Some (table pins)) × HasSome pins key
 
--- what an error says of the table; the key that it names is shown as messages show it
+-- what an error implies about the table; the key that it names is escaped as in messages
 abbrev pub IsFaultOf : Members → PlanError → Type 0
 IsFaultOf ms (error.Syntax place message) = ⊥
 IsFaultOf ms (error.UnknownKey key) = (raw : List ℕ) × (string_bytes key ≡ shown_chars (chars raw)) × (IsKnown raw → ⊥) × (AreKnown ms → ⊥)
@@ -185,25 +185,25 @@ IsFaultOf ms (error.Departments fault) = HasSome ms (codes "departments")
 IsFaultOf ms (error.Fixed fault) = HasSome ms (codes "fixed")
 IsFaultOf ms error.OutOfMemory = ⊤
 
--- a text that is no TOML, or no memory
+-- the text is not TOML, or memory ran out
 abbrev pub IsSyntaxError : PlanError → Type 0
 IsSyntaxError (error.Syntax place message) = ⊤
 IsSyntaxError error.OutOfMemory = ⊤
 IsSyntaxError _ = ⊥
 
--- what is wrong with a list of names; or no memory
+-- what is wrong with a list of names; or memory ran out
 abbrev pub IsNamesFault : PlanError → Type 0
 IsNamesFault (error.Departments fault) = ⊤
 IsNamesFault error.OutOfMemory = ⊤
 IsNamesFault _ = ⊥
 
--- what is wrong with a table of what is fixed; or no memory
+-- what is wrong with a table of what is fixed; or memory ran out
 abbrev pub IsFixingFault : PlanError → Type 0
 IsFixingFault (error.Fixed fault) = ⊤
 IsFixingFault error.OutOfMemory = ⊤
 IsFixingFault _ = ⊥
 
--- why a text is no plan: it is no TOML; it has a key that none may have; or all keys are known, and something is wrong at one
+-- why a text is not a plan: it is not TOML; it has an unknown key; or all keys are known, and something is wrong at one
 abbrev pub IsPlanFault : List ℕ → PlanError → Type 0
 IsPlanFault text (error.Syntax place message) = (members : Members) → IsTable text members → ⊥
 IsPlanFault text error.OutOfMemory = ⊤

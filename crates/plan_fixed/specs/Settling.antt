@@ -1,8 +1,8 @@
--- A permutation with one facility brought to a location, by an exchange with the facility that stood there.
+-- A permutation with one facility moved to a location, by an exchange with the facility that was there.
 use Rattle.std.specs.Prelude.{◌≡◌, ◌≢◌, ℕ, List, length, slice_index}
 use Rattle.qap_cost.specs.Bijection.{IsPerm}
 
--- f stands at k, those that were neither f nor at k stand where they stood, and nothing has moved where f stood at k before
+-- f is at k; facilities other than f and the one that was at k are unchanged, and nothing has moved if f was at k before
 pub record IsSettled (old : List ℕ) (f k : ℕ) (new : List ℕ) : Type 0 where
   pub permutation : IsPerm new
   pub long : length new ≡ length old

@@ -1,4 +1,4 @@
--- A node with its facilities listed ascending.
+-- A node with its facilities listed in ascending order.
 use Rattle.std.specs.Prelude.{◌≡◌, ℕ, ◌<◌, List, length, slice_index}
 use Rattle.qap_cost.specs.Placement.{IsPlacement, Placement, StandsAt}
 
@@ -6,7 +6,7 @@ use Rattle.qap_cost.specs.Placement.{IsPlacement, Placement, StandsAt}
 abbrev pub Ascend : List ℕ → Type 0
 Ascend xs = (i j : ℕ) → i < j → j < length xs → slice_index xs i < slice_index xs j
 
--- of the facilities below f those that x places are placed by y, at the same places, ascending, and no others
+-- of the facilities below f, y places exactly those that x places, at the same locations, in ascending order
 pub record IsSortedTo (x : Placement) (f : ℕ) (y : Placement) : Type 0 where
   pub placement : IsPlacement y
   pub size : y.size ≡ x.size

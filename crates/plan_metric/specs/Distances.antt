@@ -7,11 +7,11 @@ use Rattle.plan_metric.specs.declared.distances.DistanceError.{DistanceError}
 use Rattle.plan_metric.specs.declared.distances.DistanceError.TheVariants.{TooFar, OutOfMemory}
 use Rattle.plan_metric.specs.declared.metric.Metric.{Metric}
 
--- the point at this place of a list, or the origin behind its end
+-- the point at this position of a list, or the origin past its end
 abbrev pub point_at : List Point → ℕ → Point
 point_at points i = slice_index_or points i (record { x = pos 0; y = pos 0 })
 
--- the number at a place of the matrix is how far apart the two points lie
+-- the number at a position of the matrix is the distance of the two points
 pub record IsDistanceAt (metric : Metric) (scale : ℕ) (p q : Point) (z : ℤ) : Type 0 where
   pub distance : ℕ
   pub is : z ≡ pos distance
@@ -23,13 +23,13 @@ pub record AreMeasured (metric : Metric) (scale : ℕ) (points : List Point) (n 
   pub many : length entries ≡ count
   pub each : (k : ℕ) → k < count → IsDistanceAt metric scale (point_at points (k / n)) (point_at points (k % n)) (slice_index_or entries k (pos 0))
 
--- for each two points, the same one twice included, how far apart they lie, by rows
+-- for each two points, including a point and itself, their distance, by rows
 pub record AreDistances (metric : Metric) (scale : ℕ) (points : List Point) (entries : List ℤ) : Type 0 where
   pub square : length entries ≡ length points * length points
   pub in_range : All (λ z. unsigned_abs z ≤ max_entry) entries
   pub each : (i j : ℕ) → i < length points → j < length points → IsDistanceAt metric scale (point_at points i) (point_at points j) (slice_index_or entries (i * length points + j) (pos 0))
 
--- two of the points lie more than 10^9 apart
+-- two of the points are more than 10^9 apart
 abbrev pub IsDistanceFault : Metric → ℕ → List Point → DistanceError → Type 0
 IsDistanceFault metric scale points (TooFar i j) =
     (i < length points) × (j < length points) × (d : ℕ) × IsDistance metric scale (point_at points i) (point_at points j) d × (max_entry < d)

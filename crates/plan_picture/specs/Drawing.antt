@@ -1,4 +1,4 @@
--- What is drawn of an arrangement.
+-- How an arrangement is drawn.
 use Rattle.std.specs.Prelude.{ℕ, suc, zero, ◌+◌, ◌-◌, ◌==◌, nat_lt, Bool, List, [], ◌∷◌, ◌++◌, map, Option, Some, None, codes, is_some, slice_index, slice_index_or, string_bytes, if◌then◌else◌}
 use Rattle.std.specs.Fmt.{decimal}
 use Rattle.std.specs.List.{list_any}
@@ -10,7 +10,7 @@ use Rattle.plan_picture.specs.Marks.{box_mark, line_mark, name_mark}
 use Rattle.plan_picture.specs.declared.layout.BoxSize.{BoxSize}
 use Rattle.plan_picture.specs.declared.layout.Centre.{Centre}
 
--- f 0, .., f (n - 1), one behind the other
+-- f 0, .., f (n - 1), concatenated
 abbrev pub joined_to : (ℕ → List ℕ) → ℕ → List ℕ
 joined_to f zero = []
 joined_to f (suc n) = joined_to f n ++ f n
@@ -30,37 +30,37 @@ opening_text width height =
 abbrev pub head_text : ℕ → ℕ → List ℕ → List ℕ
 head_text width height title = opening_text width height ++ escaped title ++ codes "</text>\n"
 
--- between two departments between which something goes a line from the place of the one to the place of the other
+-- for two departments with a flow between them, a line from the place of the one to the place of the other
 abbrev pub flow_mark : Problem → List ℕ → List Centre → ℕ → ℕ → List ℕ
 flow_mark I p centres i j =
     if nat_lt 0 (flow_between I i j)
     then line_mark (centre_of centres (slice_index p i)) (centre_of centres (slice_index p j)) (width_of (flow_between I i j) (largest_flow I))
     else []
 
--- those of each two departments
+-- the lines of all pairs of departments
 abbrev pub flow_marks : Problem → List ℕ → List Centre → List ℕ
 flow_marks I p centres =
     codes "<g fill=\"none\" stroke=\"#3b6ea5\" stroke-opacity=\"0.6\">\n" ++ joined_to (λ i. joined_to (flow_mark I p centres i) i) I.size ++ codes "</g>\n"
 
--- of departments that stand one by one at these places the one at place k
+-- the department at place k, where the departments are at these places in order
 abbrev pub department_at : List (List ℕ) → List ℕ → ℕ → Option (List ℕ)
 department_at [] locations k = None
 department_at (d ∷ ds) [] k = None
 department_at (d ∷ ds) (l ∷ ls) k = if l == k then Some d else department_at ds ls k
 
--- a place whose department is fixed has a thick edge, one that stays empty a dashed one
+-- a place whose department is fixed has a thick edge, an empty one a dashed edge
 abbrev pub style_of : Bool → Bool → List ℕ
 style_of is_fixed is_taken =
     if is_fixed then codes "fill=\"#fff3d6\" stroke=\"#7a5b00\" stroke-width=\"3\""
     else if is_taken then codes "fill=\"#eef3f9\" stroke=\"#333333\""
     else codes "fill=\"#ffffff\" stroke=\"#999999\" stroke-dasharray=\"5 4\""
 
--- the name of the department that stands around a point, where there is one
+-- the name of the department centred at a point, if there is one
 abbrev pub department_mark : Centre → Option (List ℕ) → List ℕ
 department_mark centre None = []
 department_mark centre (Some d) = name_mark centre.x (centre.y - 3) (codes "font-size=\"13\" font-weight=\"bold\"") d
 
--- the name of the place around a point
+-- the name of the place centred at a point
 abbrev pub place_name_mark : Centre → List ℕ → List ℕ
 place_name_mark centre name = name_mark centre.x (centre.y + 14) (codes "font-size=\"12\" fill=\"#666666\"") name
 

@@ -12,16 +12,16 @@ is_xml_char c = (c == 0x9) || (c == 0xA) || (c == 0xD) || is_in_range 0x20 0xD7F
 abbrev pub replacement : List ℕ
 replacement = encode_utf8 0xFFFD
 
--- one that no document may have is replaced; one that ends a line, or a tab, is a blank
+-- a character that no document may have is replaced; one that ends a line, or a tab, becomes a blank
 abbrev pub plain_char : ℕ → List ℕ
 plain_char c = if is_xml_char c then (if nat_lt c 0x20 then codes " " else encode_utf8 c) else replacement
 
--- one that has a meaning of its own is written as the entity that stands for it
+-- a character with a special meaning is written as its entity
 abbrev pub escaped_char : ℕ → List ℕ
 escaped_char c =
     if c == 38 then codes "&amp;" else if c == 60 then codes "&lt;" else if c == 62 then codes "&gt;" else if c == 34 then codes "&quot;" else plain_char c
 
--- the same for each of a list of characters, one behind the other
+-- likewise for each of a list of characters, concatenated
 abbrev pub escaped_chars : List ℕ → List ℕ
 escaped_chars [] = []
 escaped_chars (c ∷ cs) = escaped_char c ++ escaped_chars cs

@@ -5,15 +5,15 @@ use Rattle.std.specs.Str.{chars}
 use Rattle.unicode_width.specs.Width.{char_width, str_width}
 use Rattle.plan_picture.specs.Escaping.{escaped}
 
--- the most columns of a name that are shown
+-- the greatest number of columns shown of a name
 abbrev pub max_columns : ℕ
 max_columns = 24
 
--- how many columns a character takes in a font whose letters are equally wide (Unicode Standard Annex 11)
+-- how many columns a character takes in a monospaced font (Unicode Standard Annex 11)
 abbrev pub columns_of : ℕ → ℕ
 columns_of c = unwrap_or (char_width false c) 0
 
--- the bytes of the characters up to the first that would leave none of this many columns
+-- the bytes of the characters up to the first that does not fit into this many columns
 abbrev pub beginning : ℕ → List ℕ → List ℕ
 beginning room [] = []
 beginning room (c ∷ cs) = if nat_lt (columns_of c) room then encode_utf8 c ++ beginning (room - columns_of c) cs else []
@@ -22,7 +22,7 @@ beginning room (c ∷ cs) = if nat_lt (columns_of c) room then encode_utf8 c ++ 
 abbrev pub cut_name : List ℕ → List ℕ
 cut_name name = beginning max_columns (chars name) ++ encode_utf8 8230
 
--- a name that has no room is cut, and stands whole in a title
+-- a name that does not fit is truncated, and stands in full in a title
 abbrev pub shown_name : List ℕ → List ℕ
 shown_name name =
     if nat_lt max_columns (str_width false (chars name))

@@ -5,7 +5,7 @@ use Rattle.plan_picture.specs.Drawing.{flow_marks, head_text, joined_to, place_m
 use Rattle.plan_picture.specs.declared.layout.BoxSize.{BoxSize}
 use Rattle.plan_picture.specs.declared.layout.Centre.{Centre}
 
--- for some size of the picture and of its boxes, and some point for each place: a head, then for each two departments between which something goes the line
+-- for some size of the picture and of its boxes, and some point for each place: a head, then for each two departments with a flow the line
 -- between their places, then for each place its box with its names, in order, and the tail
 pub record IsPicture (P : NamedProblem) (p : List ℕ) (title : List ℕ) (text : List ℕ) : Type 0 where
   pub width : ℕ

@@ -1,10 +1,10 @@
--- Texts in CSV (RFC 4180), where a semicolon or a tab may stand in place of the comma, and a line may also end in a line feed alone.
+-- Texts in CSV (RFC 4180), where a semicolon or a tab may replace the comma, and a line may also end with a line feed alone.
 use Rattle.std.specs.Prelude.{◌≡◌, ◌==◌, ℕ, List, [], ◌∷◌, ◌++◌, if◌then◌else◌}
 use Rattle.plan_table.specs.Marks.{byte_of, mark_of}
 use Rattle.plan_table.specs.declared.csv_text.Mark.TheVariants.{Other}
 use Rattle.plan_table.specs.declared.separator.Separator.{Separator}
 
--- a field is written as it is, or in quotes
+-- a field is written plainly, or in quotes
 pub data Field : Type 0 where
   bare : List ℕ → Field
   quoted : List ℕ → Field
@@ -19,12 +19,12 @@ abbrev pub IsField : Separator → Field → Type 0
 IsField d (bare bs) = AreOthers d bs
 IsField d (quoted bs) = Unit {0}
 
--- each quote twice
+-- each quote doubled
 abbrev pub doubled : List ℕ → List ℕ
 doubled [] = []
 doubled (b ∷ bs) = if b == 34 then 34 ∷ 34 ∷ doubled bs else b ∷ doubled bs
 
--- a field's bytes as they are, or in quotes, with each quote twice
+-- a field's bytes plainly, or in quotes with each quote doubled
 abbrev pub field_text : Field → List ℕ
 field_text (bare bs) = bs
 field_text (quoted bs) = 34 ∷ doubled bs ++ 34 ∷ []
@@ -46,12 +46,12 @@ pub record Piece : Type 0 where
   pub field : Field
   pub ending : Ending
 
--- each field that has a quote, a separator or an end of a line in it is in quotes
+-- each field that contains a quote, a separator or an end of a line is in quotes
 abbrev pub ArePieces : Separator → List Piece → Type 0
 ArePieces d [] = Unit {0}
 ArePieces d (p ∷ ps) = IsField d p.field × ArePieces d ps
 
--- these, and a last field with nothing behind it
+-- these, and a last field with nothing after it
 abbrev pub csv_text : Separator → List Piece → Field → List ℕ
 csv_text d [] last = field_text last
 csv_text d (p ∷ ps) last = field_text p.field ++ (ending_text d p.ending ++ csv_text d ps last)

@@ -1,4 +1,4 @@
--- An arrangement that is listed: a department and its place on each line.
+-- A listed arrangement: a department and its place on each line.
 use Rattle.std.specs.Prelude.{◌≡◌, ℕ, List, [], ◌∷◌, map, take, codes, string_bytes}
 use Rattle.std.specs.Char.{to_ascii_lowercase}
 use Rattle.plan_table.specs.Table.{AreRecordsOf, word_at}
@@ -8,7 +8,7 @@ use Rattle.plan_table.specs.declared.pin.Pin.{Pin}
 abbrev pub layout_head : List (List ℕ)
 layout_head = codes "department" ∷ codes "place" ∷ []
 
--- below the first line of the text, which is in capital or small letters, each record begins with a department and its place
+-- below the first line of the text, which is in upper or lower case, each record begins with a department and its place
 pub record IsLayoutText (text : List ℕ) (pins : List Pin) : Type 0 where
   pub head : List (List ℕ)
   pub records : List (List (List ℕ))

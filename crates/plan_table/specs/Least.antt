@@ -1,4 +1,4 @@
--- Why a decimal number's places are the least that it can have.
+-- Why the number of a decimal number's places is minimal.
 use Rattle.std.specs.Prelude.{◌≡◌, ℕ, ◌^◌, ℤ, pos, ◌*ℤ◌}
 use Rattle.plan_table.specs.declared.decimal.Decimal.{Decimal}
 

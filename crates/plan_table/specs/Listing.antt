@@ -1,4 +1,4 @@
--- How the matrix of listed flows comes about.
+-- How the matrix of listed flows is built.
 use Rattle.std.specs.Prelude.{◌≡◌, ◌≢◌, ℕ, zero, suc, ◌+◌, ◌*◌, ◌<◌, ◌≤◌, ◌⊎◌, ◌==◌, Bool, false, if◌then◌else◌, List, [], ◌∷◌, ◌++◌, length, Option, None, Some, ℤ, pos, ◌+ℤ◌, slice_index_or, unsigned_abs}
 use Rattle.plan_table.specs.Decimal.{max_entry}
 use Rattle.plan_table.specs.Halves.{IsSymmetric, mirror_of, of_halves}
@@ -8,7 +8,7 @@ use Rattle.plan_table.specs.Trips.{name_at, pair_row, row_at}
 use Rattle.plan_table.specs.declared.numeral.Reading.{Reading}
 use Rattle.plan_table.specs.declared.trips.Trip.{Trip}
 
--- a record says so much of this trip
+-- a record gives this amount for this trip
 pub record IsTripOf (reading : Reading) (names : List (List ℕ)) (row : List (List ℕ)) (t : Trip) : Type 0 where
   pub from_inside : t.from < length names
   pub to_inside : t.to < length names
@@ -20,16 +20,16 @@ pub record IsTripOf (reading : Reading) (names : List (List ℕ)) (row : List (L
 abbrev pub trip_at : List Trip → ℕ → Trip
 trip_at trips k = slice_index_or trips k (record { from = 0; to = 0; amount = record { number = pos 0; places = 0 } })
 
--- each record says so much of the trip of its number
+-- each record gives this amount for the trip of its number
 pub record AreTripsOf (reading : Reading) (names : List (List ℕ)) (rows : List (List (List ℕ))) (trips : List Trip) : Type 0 where
   pub many : length trips ≡ length rows
   pub each : (k : ℕ) → k < length trips → IsTripOf reading names (row_at rows k) (trip_at trips k)
 
--- where a trip's amount stands in the matrix
+-- the position of a trip's amount in the matrix
 abbrev pub cell_of : ℕ → Trip → ℕ
 cell_of n t = t.from * n + t.to
 
--- a cell of the matrix, by its place
+-- a cell of the matrix, by its position
 abbrev pub cell_at : List (Option ℤ) → ℕ → Option ℤ
 cell_at cells c = slice_index_or cells c None
 
@@ -37,40 +37,40 @@ cell_at cells c = slice_index_or cells c None
 abbrev pub AreInside : ℕ → List Trip → Type 0
 AreInside n trips = (k : ℕ) → k < length trips → ((trip_at trips k).from < n) × ((trip_at trips k).to < n)
 
--- what a cell says
+-- the content of a cell
 abbrev pub filled : Option ℤ → ℤ
 filled None = pos 0
 filled (Some z) = z
 
--- an amount more
+-- one more amount
 abbrev pub added : Option ℤ → ℤ → ℤ
 added None z = z
 added (Some y) z = y +ℤ z
 
--- what the first so many trips say of a cell: the sum of the amounts of those that are of it, where there are any
+-- the amount of a cell according to the first trips: the sum of the amounts that concern it, if any
 abbrev pub sum_of : ℕ → List Trip → List ℤ → ℕ → ℕ → Option ℤ
 sum_of n trips amounts cell zero = None
 sum_of n trips amounts cell (suc k) =
     if cell_of n (trip_at trips k) == cell then Some (added (sum_of n trips amounts cell k) (slice_index_or amounts k (pos 0))) else sum_of n trips amounts cell k
 
--- no two of the first so many trips are of one cell
+-- no two of the first trips concern the same cell
 abbrev pub AreOnce : ℕ → List Trip → ℕ → Type 0
 AreOnce n trips count = (j k : ℕ) → j < k → k < count → cell_of n (trip_at trips j) ≢ cell_of n (trip_at trips k)
 
--- each cell of the matrix has what the first so many trips say of it; unless amounts add up, no two of them are of one cell
+-- each cell of the matrix has its amount according to the first trips; unless amounts add up, no two of them concern the same cell
 pub record ArePlaced (n : ℕ) (adds_up : Bool) (trips : List Trip) (amounts : List ℤ) (count : ℕ) (cells : List (Option ℤ)) : Type 0 where
   pub many : length cells ≡ n * n
   pub each : (c : ℕ) → c < n * n → cell_at cells c ≡ sum_of n trips amounts c count
   pub once : adds_up ≡ false → AreOnce n trips count
   pub small : (c : ℕ) → unsigned_abs (filled (cell_at cells c)) ≤ max_entry
 
--- the entries are what cells say; where each half stands for the other, a cell that says nothing says what that of the way back does, and
--- the entries of the two are the same
+-- the entries are the contents of the cells; if the halves complete each other, an empty cell has the content of the reverse direction, and
+-- the entries of the two are equal
 pub record AreEntriesOf (is_symmetric : Bool) (n : ℕ) (cells : List (Option ℤ)) (entries : List ℤ) : Type 0 where
   pub many : length entries ≡ n * n
   pub each : (c : ℕ) → c < n * n → slice_index_or entries c (pos 0) ≡ filled (of_halves is_symmetric (cell_at cells c) (cell_at cells (mirror_of n c)))
   pub halves : IsSymmetric is_symmetric n entries
 
--- names with one more, unless it is among them
+-- names with one more, unless it is already among them
 abbrev pub IsWith : List ℕ → List (List ℕ) → List (List ℕ) → Type 0
 IsWith name old new = (HasName old name × (new ≡ old)) ⊎ (IsNew old name × (new ≡ old ++ name ∷ []))

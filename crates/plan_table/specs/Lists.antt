@@ -14,9 +14,9 @@ use Rattle.plan_table.specs.declared.numeral.Reading.{Reading}
 use Rattle.plan_table.specs.declared.rules.Rules.{Rules}
 use Rattle.plan_table.specs.declared.trips.Trip.{Trip}
 
--- each record of a list tells how much goes from one department to another. The matrix has for each two the sum of these amounts, or
--- nothing where no record is of the two; where its halves stand for each other, it has the sum of the way back there. Unless amounts add
--- up, no two records are of the same two. All amounts are multiplied by the least power of ten that makes them whole
+-- each record of a list gives the flow from one department to another. The matrix has for each pair the sum of these amounts, or nothing
+-- if no record concerns it; if its halves complete each other, it then has the sum of the reverse direction. Unless amounts add
+-- up, no two records concern the same pair. All amounts are multiplied by the least power of ten that makes them whole
 pub record IsTripsMatrix (rules : Rules) (reading : Reading) (names : List (List ℕ)) (rows : List (List (List ℕ))) (scale : ℕ) (entries : List ℤ) : Type 0 where
   pub trips : List Trip
   pub amounts : List ℤ
@@ -29,7 +29,7 @@ pub record IsTripsMatrix (rules : Rules) (reading : Reading) (names : List (List
   pub once : rules.adds_up ≡ false → AreOnce (length names) trips (length trips)
   pub halves : IsSymmetric rules.is_symmetric (length names) entries
 
--- below the first line of the text, which is in capital or small letters, these are the first three fields of each record
+-- below the first line of the text, which is in upper or lower case, these are the first three fields of each record
 pub record IsList (text : List ℕ) (rows : List (List (List ℕ))) : Type 0 where
   pub head : List (List ℕ)
   pub records : List (List (List ℕ))

@@ -1,4 +1,4 @@
--- What a byte is to a table's text, by what stands between its fields.
+-- The role of a byte in a table's text, given its separator.
 use Rattle.std.specs.Prelude.{ℕ, ◌==◌, if◌then◌else◌}
 use Rattle.plan_table.specs.declared.csv_text.Mark.{Mark}
 use Rattle.plan_table.specs.declared.csv_text.Mark.TheVariants.{Quote, Divider, Feed, Return, Other}

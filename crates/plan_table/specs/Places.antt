@@ -20,21 +20,21 @@ places_head = codes "name" ∷ codes "x" ∷ codes "y" ∷ []
 abbrev pub point_at : List Point → ℕ → Point
 point_at points i = slice_index_or points i (record { x = pos 0; y = pos 0 })
 
--- the coordinates of points, one after another, x before y
+-- the coordinates of points, in sequence, x before y
 abbrev pub coordinates_of : List Point → List ℤ
 coordinates_of [] = []
 coordinates_of (p ∷ ps) = p.x ∷ p.y ∷ coordinates_of ps
 
--- no two of the points are the same
+-- no two points are equal
 pub record AreApart (points : List Point) : Type 0 where
   pub once : (j k : ℕ) → j < k → k < length points → point_at points j ≢ point_at points k
 
--- each coordinate lies from -10^9 to 10^9
+-- each coordinate is from -10^9 to 10^9
 abbrev pub IsNear : Point → Type 0
 IsNear p = (unsigned_abs p.x ≤ max_entry) × (unsigned_abs p.y ≤ max_entry)
 
--- the text has the first line, in capital or small letters, and then for each of these names, in their order, a line with the name and
--- the numbers x and y; the coordinates are these numbers, all times the same power of ten, which is the least that makes them whole
+-- the text has the first line, in upper or lower case, and then for each of these names, in order, a line with the name and the
+-- numbers x and y; the coordinates are these numbers, all times the same power of ten, the least that makes them whole
 pub record IsPlacesText (rules : Rules) (text : List ℕ) (names : List (List ℕ)) (scale : ℕ) (points : List Point) : Type 0 where
   pub head : List (List ℕ)
   pub rows : List (List (List ℕ))
@@ -50,7 +50,7 @@ pub record IsPlacesText (rules : Rules) (text : List ℕ) (names : List (List �
   pub scaled : AreScaled scale decimals (coordinates_of points)
   pub apart : AreApart points
 
--- 1 to 256 different names, and for each of them a point
+-- 1 to 256 distinct names, and for each of them a point
 pub record AreNamedPoints (names : List (List ℕ)) (points : List Point) : Type 0 where
   pub named : AreNames names
   pub many : length points ≡ length names

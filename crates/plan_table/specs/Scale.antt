@@ -23,7 +23,7 @@ pub record AreScaled (scale : ℕ) (decimals : List Decimal) (entries : List ℤ
   pub exact : entries ≡ map (scaled scale) decimals
   pub in_range : All (λ z. unsigned_abs z ≤ max_entry) entries
 
--- the number at a place lies outside -10^9 to 10^9 once it is scaled
+-- the number at a position is outside -10^9 to 10^9 once it is scaled
 abbrev pub IsScaleFault : ℕ → List Decimal → ScaleError → Type 0
 IsScaleFault scale decimals (TooLarge i) =
     (i < length decimals) × (d : Decimal) × (slice_get decimals i ≡ Some d) × (max_entry < unsigned_abs (scaled scale d))

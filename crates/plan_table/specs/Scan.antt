@@ -1,4 +1,4 @@
--- What is wrong first with a text that is not CSV, and where: the line and the number of the field at fault.
+-- The first fault of a text that is not CSV: the line and the number of the field at fault.
 use Rattle.std.specs.Prelude.{ℕ, ◌+◌, ◌-◌, ◌^◌, ◌==◌, min, List, [], ◌∷◌, Result, Ok, Err, if◌then◌else◌}
 use Rattle.plan_table.specs.Marks.{byte_of, mark_of}
 use Rattle.plan_table.specs.declared.csv_text.Mark.{Mark}
@@ -12,7 +12,7 @@ use Rattle.plan_table.specs.declared.error.CsvFault.{CsvFault}
 use Rattle.plan_table.specs.declared.error.Misspelling.{Misspelling}
 use Rattle.plan_table.specs.declared.error.Misspelling.TheVariants.{AfterQuote, QuoteInside, LoneReturn, OpenQuote}
 
--- where a text stands behind a byte more, or what is wrong with the byte
+-- the state of a text after one more byte, or the fault of the byte
 abbrev pub next_stand : Stand → Mark → Result Stand Misspelling
 next_stand Start Quote = Ok Quoted
 next_stand Start Divider = Ok Start
@@ -40,7 +40,7 @@ next_stand Returned Feed = Ok Start
 next_stand Returned Return = Err LoneReturn
 next_stand Returned Other = Err LoneReturn
 
--- what is wrong where a text ends there
+-- the fault if a text ends there
 abbrev pub end_stand : Stand → Result (Unit {0}) Misspelling
 end_stand Quoted = Err OpenQuote
 end_stand Returned = Err LoneReturn
@@ -48,11 +48,11 @@ end_stand Start = Ok tt
 end_stand Bare = Ok tt
 end_stand Closed = Ok tt
 
--- one more, as far as a number of 64 bits goes
+-- one more, saturating at 64 bits
 abbrev pub next_number : ℕ → ℕ
 next_number n = min (n + 1) (2 ^ 64 - 1)
 
--- a field that begins behind a separator is the next one, and another one the first
+-- a field that begins after a separator is the next one, otherwise the first
 abbrev pub first_place : Separator → Place → ℕ → ℕ → Place
 first_place d place byte line = record { line = line; field = if byte == byte_of d then next_number place.field else 1 }
 
@@ -64,11 +64,11 @@ place_after d place byte Quoted line = place
 place_after d place byte Closed line = place
 place_after d place byte Returned line = place
 
--- the number of the line behind a byte: the next one behind a line feed
+-- the number of the line after a byte: the next one after a line feed
 abbrev pub line_after : ℕ → ℕ → ℕ
 line_after line byte = if byte == 10 then next_number line else line
 
--- what has been reached with a byte more, where the text then stands so
+-- the state reached with one more byte
 abbrev pub moved : Separator → Reached → ℕ → Stand → Reached
 moved d reached byte stand = record {
   stand = stand;
@@ -81,28 +81,28 @@ abbrev pub at_place : {A B : Type 0} → Place → (A → B) → Result A Misspe
 at_place place f (Ok a) = Ok (f a)
 at_place place f (Err fault) = Err (record { place = place; fault = fault })
 
--- what has been reached with a byte more, or the fault of the field that it makes
+-- the state reached with one more byte, or the fault of the field that it causes
 abbrev pub reached_after : Separator → Reached → ℕ → Result Reached CsvFault
 reached_after d reached byte = at_place reached.place (moved d reached byte) (next_stand reached.stand (mark_of d byte))
 
--- the fault, if there is one, of a text that ends there
+-- the fault, if any, of a text that ends there
 abbrev pub check_end : Reached → Result (Unit {0}) CsvFault
 check_end reached = at_place reached.place (λ u. u) (end_stand reached.stand)
 
--- the next step on a value; an error stays as it is
+-- the next step on a value; an error is unchanged
 abbrev pub and_then : {A B E : Type 0} → Result A E → (A → Result B E) → Result B E
 and_then (Ok a) f = f a
 and_then (Err e) f = Err e
 
--- the rest of a text, from what has been reached
+-- the rest of a text, from a state
 abbrev pub scan : Separator → Reached → List ℕ → Result (Unit {0}) CsvFault
 scan d reached [] = check_end reached
 scan d reached (b ∷ bs) = and_then (reached_after d reached b) (λ next. scan d next bs)
 
--- at a text's front
+-- at the beginning of a text
 abbrev pub begun : Reached
 begun = record { stand = Start; line = 1; place = record { line = 1; field = 1 } }
 
--- what is wrong first with a text
+-- the first fault of a text
 abbrev pub first_fault : Separator → List ℕ → Result (Unit {0}) CsvFault
 first_fault d text = scan d begun text

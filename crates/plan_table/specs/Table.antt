@@ -20,19 +20,19 @@ use Rattle.plan_table.specs.declared.numeral.Reading.{Reading}
 use Rattle.plan_table.specs.declared.rules.Rules.{Rules}
 use Rattle.plan_table.specs.declared.separator.Separator.{Separator}
 
--- how the text of a table with this separator is read
+-- the text of a table with this separator is read in this form
 abbrev pub config_of : Separator → Config
 config_of d = record default_config { delimiter = byte_of d }
 
--- the text is CSV with the separator that its first line has most often; behind the byte order mark that it may begin with, these
--- are all its records, without blanks around fields and without empty fields at their ends, but for those that are empty then
+-- the text is CSV with its most frequent separator in the first line; after an optional byte order mark, these are all
+-- its records, without blanks around fields and without empty fields at their ends, omitting those that are then empty
 pub record AreRecordsOf (text : List ℕ) (records : List (List (List ℕ))) : Type 0 where
   pub written : IsCsv (separator_of (strip_bom text)) (strip_bom text)
   pub raw : List (List (List ℕ))
   pub read : AreRecords (config_of (separator_of (strip_bom text))) state.StartRecord (strip_bom text) raw
   pub tidy : records ≡ tidied raw
 
--- a field of a record by its number; empty where there is none
+-- a field of a record by its number; empty if there is none
 abbrev pub word_at : List (List ℕ) → ℕ → List ℕ
 word_at fields k = slice_index_or fields k []
 
@@ -40,14 +40,14 @@ word_at fields k = slice_index_or fields k []
 abbrev pub decimal_at : List Decimal → ℕ → Decimal
 decimal_at decimals c = slice_index_or decimals c (record { number = pos 0; places = 0 })
 
--- row i of a table begins with a name, and so many cells of it spell these numbers; nothing follows
+-- row i of a table begins with a name, and then this many cells spell these numbers; nothing follows
 pub record IsRow (reading : Reading) (i count : ℕ) (name : List ℕ) (fields : List (List ℕ)) (decimals : List Decimal) : Type 0 where
   pub named : field_at fields 0 ≡ Some name
   pub ends : length fields ≤ count + 1
   pub many : length decimals ≡ count
   pub spelled : (c : ℕ) → c < count → cell_in reading i c (word_at fields (c + 1)) ≡ Some (decimal_at decimals c)
 
--- from row i on the records are the rows of these names, in their order, each of so many cells; by rows they spell these numbers
+-- from row i on the records are the rows of these names, in order, each with this many cells; by rows they spell these numbers
 abbrev pub AreRows : Reading → ℕ → ℕ → List (List ℕ) → List (List (List ℕ)) → List Decimal → Type 0
 AreRows reading i count [] [] decimals = decimals ≡ []
 AreRows reading i count [] (r ∷ rs) decimals = ⊥
@@ -67,7 +67,7 @@ pub record AreRowsOf (reading : Reading) (count : ℕ) (names : List (List ℕ))
   pub read : AreRows reading 0 count names (in_order rows order) decimals
 
 -- these rows are those of the names, with as many cells each, in any order; the entries are the numbers of the cells by rows, all times
--- the same power of ten, which is the least that makes them whole. The corner of the table is no number by the same mark
+-- the same power of ten, the least that makes them whole. The corner of the table is not a number with the same mark
 pub record AreNumbersOf (rules : Rules) (corner : List ℕ) (rows : List (List (List ℕ))) (names : List (List ℕ)) (scale : ℕ) (entries : List ℤ) : Type 0 where
   pub mark : DecimalMark
   pub decimals : List Decimal
@@ -77,14 +77,14 @@ pub record AreNumbersOf (rules : Rules) (corner : List ℕ) (rows : List (List (
   pub least : IsLeastScale decimals scale
   pub scaled : AreScaled scale decimals entries
 
--- the rows are completed first where one half of them may stand for the other, and then both halves are the same
+-- the rows are completed first if their halves may complete each other, and then both halves are equal
 pub record IsNumbered (rules : Rules) (corner : List ℕ) (rows : List (List (List ℕ))) (names : List (List ℕ)) (scale : ℕ) (entries : List ℤ) : Type 0 where
   pub filled : List (List (List ℕ))
   pub completed : AreReadFrom rules.is_symmetric names rows filled
   pub numbers : AreNumbersOf rules corner filled names scale entries
   pub halves : IsSymmetric rules.is_symmetric (length names) entries
 
--- the records are a first field, which is no number, and the names, and then the rows of these names
+-- the records are a first field that is not a number, and the names, and then the rows of these names
 pub record IsMatrix (rules : Rules) (records : List (List (List ℕ))) (names : List (List ℕ)) (scale : ℕ) (entries : List ℤ) : Type 0 where
   pub corner : List ℕ
   pub rows : List (List (List ℕ))

@@ -1,14 +1,14 @@
--- Records without what spreadsheets put around them.
+-- Records without what spreadsheets add to them.
 use Rattle.std.specs.Prelude.{ℕ, List, [], ◌∷◌, ◌++◌, map}
 use Rattle.std.specs.Str.{trim}
 
--- a field before others, which is left out where it is empty and none follows
+-- a field before others, which is omitted if it is empty and none follows
 abbrev pub before_filled : List ℕ → List (List ℕ) → List (List ℕ)
 before_filled [] [] = []
 before_filled [] (f ∷ fs) = [] ∷ f ∷ fs
 before_filled (b ∷ bs) fs = (b ∷ bs) ∷ fs
 
--- fields without the empty ones at their end
+-- fields without trailing empty ones
 abbrev pub filled_front : List (List ℕ) → List (List ℕ)
 filled_front [] = []
 filled_front (f ∷ fs) = before_filled f (filled_front fs)

@@ -1,4 +1,4 @@
--- What a text with pair duals shows of an instance's costs.
+-- What a text with pair duals establishes about an instance's costs.
 use Rattle.std.specs.Prelude.{◌≡◌, ℕ, ◌<◌, ◌++◌, ◌∷◌, [], List, length, ℤ, pos, codes, ◌<ℤ◌, Option, IfSome}
 use Rattle.std.specs.Io.KnownBytes.{Consumes}
 use Rattle.qap_cost.specs.Bijection.{IsPerm}
@@ -14,20 +14,20 @@ use Rattle.qap_proof.specs.declared.acceptance.Verdict.{Verdict}
 use Rattle.qap_proof.specs.declared.acceptance.Verdict.TheVariants.{Optimal, Gap, Part}
 use Rattle.proof_tree.specs.Claim.{PairClaim, PairProves, IsPairProofText}
 
--- the verdict of what a proof states: where its root is empty its cost, if that is its bound, and else both; and else its bound
+-- the verdict of what a proof states: if its root is empty its cost, if that is its bound, else both; otherwise its bound
 abbrev pub IsPairVerdictOf : PairClaim → Verdict → Type 0
 IsPairVerdictOf C (Optimal c) = (length C.root.facilities ≡ 0) × (C.bound ≡ C.cost) × (C.cost ≡ c)
 IsPairVerdictOf C (Gap g c) = (length C.root.facilities ≡ 0) × (C.bound ≡ g) × (C.cost ≡ c) × (g <ℤ c)
 IsPairVerdictOf C (Part g) = (0 < length C.root.facilities) × (C.bound ≡ g)
 
--- the text is that of a proof which proves what the verdict says
+-- the text is that of a proof which establishes the verdict
 pub record ShowsPairVerdict (I : Problem) (text : List ℕ) (verdict : Verdict) : Type 0 where
   pub proof : PairClaim
   pub is_text : IsPairProofText text proof
   pub proved : PairProves I proof
   pub says : IsPairVerdictOf proof verdict
 
--- the text, which is all that the reader had where that is known, is such a text
+-- the text, which is all that the reader had if that is known, is such a text
 pub record ReadsVerdict (I : Problem) (old : Option (List ℕ)) (verdict : Verdict) : Type 0 where
   pub text : List ℕ
   pub whole : IfSome old (λ xs. xs ≡ text)

@@ -1,4 +1,4 @@
--- What trees are judged by.
+-- The parameters by which trees are checked.
 use Rattle.std.specs.Prelude.{◌≡◌, ℕ, ◌^◌, ◌*◌, ◌<◌, ◌≤◌, List, length, ℤ, pos, ◌+ℤ◌, ◌*ℤ◌, ◌<ℤ◌, ◌≤ℤ◌, unsigned_abs}
 use Rattle.qap_cost.specs.Instance.{Problem}
 use Rattle.qap_cost.specs.Matrix.{total}
@@ -15,7 +15,7 @@ use Rattle.proof_tree.specs.Valid.{Under}
 abbrev pub wide : Limits
 wide = record { size = 256; cost = 2 ^ 20 * 10 ^ 18; dual = 10 ^ 24; pair = 10 ^ 25; start = 10 ^ 28; reach = 10 ^ 29; sum = 10 ^ 30 }
 
--- the greatest multiple of the step that is below the bound, as far from 0 as it may be
+-- the greatest multiple of the step that is below the bound, within its range
 pub record IsGreatestBelow (step : ℕ) (bound below : ℤ) : Type 0 where
   pub times : ℤ
   pub multiple : below ≡ pos step *ℤ times
@@ -23,7 +23,7 @@ pub record IsGreatestBelow (step : ℕ) (bound below : ℤ) : Type 0 where
   pub next : bound ≤ℤ (below +ℤ pos step)
   pub small : unsigned_abs below ≤ 10 ^ 30
 
--- a split of y on its free one of this number, with the pair duals and the form at y, and the scaled value that is to be exceeded
+-- a split of y on its free one with this index, with the pair duals and the form at y, and the scaled value to be exceeded
 pub record IsParent (I : Problem) (below : ℤ) (y : Placement) (now : Under) (facilities locations : List ℕ) (side : Side) (own : ℕ) (threshold : ℤ) : Type 0 where
   pub placement : IsPlacement y
   pub size : I.size ≡ y.size
@@ -37,7 +37,7 @@ pub record IsParent (I : Problem) (below : ℤ) (y : Placement) (now : Under) (f
   pub scaled : threshold ≡ pos now.duals.scale *ℤ below
   pub small : unsigned_abs threshold ≤ 10 ^ 37
 
--- the least numbers of the rows, and then of the columns, and the value are together above a threshold
+-- the sum of the value, the row minima and then the column minima is above a threshold
 pub record ClosesByLeasts (R : Form) (threshold : ℤ) : Type 0 where
   pub u : List ℤ
   pub v : List ℤ

@@ -1,4 +1,4 @@
--- What the lines of a tree say.
+-- The content of the lines of a tree.
 use Rattle.std.specs.Prelude.{◌≡◌, ℕ, ◌++◌, ◌∷◌, [], List, length, codes}
 use Rattle.qap_lines.specs.LineText.{numbers_text}
 use Rattle.proof_tree.specs.Shape.{AreLimited}
@@ -7,7 +7,7 @@ use Rattle.proof_check.specs.declared.node_line.SplitLine.{SplitLine}
 use Rattle.proof_check.specs.declared.node_line.NodeLine.{NodeLine}
 use Rattle.proof_check.specs.declared.node_line.NodeLine.TheVariants.{Leaf, Split}
 
--- the line of a split, where m facilities are free
+-- the line of a split, with m facilities free
 pub record IsSplitLine (m : ℕ) (line : List ℕ) (s : SplitLine) : Type 0 where
   pub u : AreLimited m s.u.items
   pub marks : length s.marks.items ≡ m

@@ -1,4 +1,4 @@
--- Rows of pair duals that were read, and the lists that they give.
+-- Rows of pair duals that were read, and the lists that they yield.
 use Rattle.std.specs.Prelude.{◌≡◌, ℕ, ◌+◌, ◌-◌, ◌*◌, ◌/◌, ◌%◌, ◌<◌, ◌==◌, if◌then◌else◌, nat_lt, All, List, [], length, map, ℤ, pos, Option, slice_index_or}
 use Rattle.std.specs.Io.KnownBytes.{Consumes}
 use Rattle.std.specs.Global.{Vec}
@@ -27,7 +27,7 @@ pub record HasRows (width count : ℕ) (rows : List (List ℤ)) (old new : Optio
   pub each : All (AreLimited width) rows
   pub consumed : Consumes old new (rows_text rows)
 
--- the number for `other` in a row, where those for all but `own` stand from a place on; 0 for `own` itself
+-- the number for `other` in a row, which lists those for all but `own` from a position on; 0 for `own` itself
 abbrev pub number_of : List (List ℤ) → ℕ → ℕ → ℕ → ℕ → ℤ
 number_of rows own other row start =
     if other == own then pos 0 else slice_index_or (slice_index_or rows row []) (start + (if nat_lt other own then other else other - 1)) (pos 0)
@@ -37,7 +37,7 @@ pub record IsLayers (m : ℕ) (f : ℕ → ℕ → ℕ → ℤ) (xs : List ℤ) 
   pub count : length xs ≡ cube m
   pub each : (j i k : ℕ) → j < m → i < m → k < m → in_layers m xs j i k ≡ f j i k
 
--- of m layers that are m by m the first numbers, this many, by rows and layers: f(j,i,k) in layer j, row i, column k
+-- of m layers that are m by m, the first numbers, this many, by rows and layers: f(j,i,k) in layer j, row i, column k
 pub record IsFilled (m : ℕ) (f : ℕ → ℕ → ℕ → ℤ) (count : ℕ) (xs : List ℤ) : Type 0 where
   pub counted : length xs ≡ count
   pub each : (place : ℕ) → place < count → slice_index_or xs place (pos 0) ≡ f (place / m / m) (place / m % m) (place % m)

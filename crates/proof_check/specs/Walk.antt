@@ -1,4 +1,4 @@
--- What walking along the lines of a tree finds, where no tree is kept.
+-- What walking along the lines of a tree finds, without storing the tree.
 use Rattle.std.specs.Prelude.{◌≡◌, ℕ, ◌++◌, ◌∷◌, [], List, length, take, ℤ, Bool, true, false, Option, None, Some}
 use Rattle.std.specs.Io.KnownBytes.{Consumes}
 use Rattle.qap_cost.specs.Instance.{Problem}
@@ -11,12 +11,12 @@ use Rattle.proof_tree.specs.Text.{image_text, tree_text, children_text, marks}
 use Rattle.proof_tree.specs.Tree.{PairRows, Image, Tree, leaf, split, Children, child_count}
 use Rattle.proof_tree.specs.Valid.{Under, Valid, AllValid}
 
--- whether pair duals come from above
+-- whether pair duals are inherited
 abbrev pub is_there : Option Under → Bool
 is_there None = false
 is_there (Some above) = true
 
--- this line and what was read behind it are the text of a tree that is valid at y
+-- this line and what was read after it are the text of a tree that is valid at y
 pub record WalksTree (I : Problem) (step : ℕ) (bound : ℤ) (y : Placement) (above : Option Under) (line : List ℕ) (old new : Option (List ℕ)) : Type 0 where
   pub text : List ℕ
   pub consumed : Consumes old new text
@@ -25,12 +25,12 @@ pub record WalksTree (I : Problem) (step : ℕ) (bound : ℤ) (y : Placement) (a
   pub shape : HasShape y (is_there above) tree
   pub valid : Valid I step bound y above tree
 
--- the pair duals that the root of a tree has of its own
+-- the root of a tree has its own pair duals
 abbrev pub own_of : Tree → Option PairRows
 own_of (leaf d) = d.own
 own_of (split d _ _ _) = d.own
 
--- the same under what comes from above, without pair duals of its own
+-- likewise under inherited pair duals, without its own
 pub record WalksLined (I : Problem) (step : ℕ) (bound : ℤ) (y : Placement) (now : Under) (line : List ℕ) (old new : Option (List ℕ)) : Type 0 where
   pub walked : WalksTree I step bound y (Some now) line old new
   pub bare : own_of walked.tree ≡ None
@@ -63,13 +63,13 @@ pub record WalksChild (I : Problem) (step : ℕ) (bound : ℤ) (y : Placement) (
   pub shapes : AllHaveShape y side own c children
   pub valid : AllValid I step bound y now side own c children
 
--- the line is that of an image of an earlier child, which child number c is
+-- the line is that of a symmetric image of an earlier child, which child number c is
 pub record SaysImage (I : Problem) (y : Placement) (side : Side) (own c : ℕ) (line : List ℕ) : Type 0 where
   pub moved : Image
   pub is : line ++ 10 ∷ [] ≡ image_text moved
   pub shape : IsImageOf y.size c moved
   pub takes : IsImage I y side own c moved
 
--- the line that was current, and what was read behind it, are a text and the line that is current now
+-- the line that was current, and what was read after it, are a text and the line that is current now
 abbrev pub ReadsBehind : List ℕ → List ℕ → List ℕ → Option (List ℕ) → Option (List ℕ) → Type 0
 ReadsBehind before text line old new = (bytes : List ℕ) × Consumes old new bytes × (before ++ 10 ∷ bytes ≡ text ++ line ++ 10 ∷ [])

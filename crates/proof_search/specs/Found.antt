@@ -1,4 +1,4 @@
--- What a search for a proof yields.
+-- The result of a search for a proof.
 use Rattle.std.specs.Prelude.{◌≡◌, ◌⊎◌, ℕ, Bool, true, false, None, List, ℤ, ◌≤ℤ◌}
 use Rattle.qap_cost.specs.Instance.{Problem}
 use Rattle.qap_cost.specs.Objective.{IsLeast, cost_of}
@@ -19,8 +19,8 @@ pub record AreLinesOf (I : Problem) (y : Placement) (c : ℤ) (lines : List ℕ)
   pub valid : (bound : ℤ) → bound ≤ℤ c → Valid I (step_of I) bound y None tree
   pub is : lines ≡ tree_text tree
 
--- a proof over the root for the instance: no completion of the root costs less than its permutation, which costs at most what the
--- start does; where nothing is placed at the root, that is the least cost
+-- a proof over the root for the instance: no completion of the root costs less than its permutation, which costs no more than the
+-- start; if nothing is placed at the root, that is the least cost
 pub record IsProofFor (I : Problem) (root : Placement) (start : List ℕ) (h : Held) : Type 0 where
   pub over : h.root ≡ root
   pub shows : Shows I h
@@ -28,6 +28,6 @@ pub record IsProofFor (I : Problem) (root : Placement) (start : List ℕ) (h : H
   pub bound : NoneCompletesForLess I root h.cost
   pub least : root ≡ root_of I.size → IsLeast I h.cost
 
--- why there is none: the numbers are out of range for the scale, or the stop said so
+-- why there is none: the numbers are out of range for the scale, or a stop was requested
 abbrev pub IsUnproved : Problem → ℕ → (Bool → Type 0) → Type 0
 IsUnproved I scale says = (HasRange I scale → ⊥) ⊎ says true

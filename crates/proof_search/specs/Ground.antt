@@ -1,11 +1,11 @@
--- What searches for a proof rest on, whatever the node.
+-- What searches for a proof need regardless of the node.
 use Rattle.std.specs.Prelude.{◌≡◌, ℕ, ℤ, pos, List}
 use Rattle.qap_cost.specs.Instance.{Problem}
 use Rattle.dual_ascent.specs.AscentRange.{HasRange}
 use Rattle.pair_duals.specs.CostStep.{Divides, step_of}
 use Rattle.subtree_search.specs.Premises.{AreSymmetries}
 
--- symmetries of the instance, its cost step, a number that divides that, and a scale at which there are pair duals
+-- symmetries of the instance, its cost step, a number that divides it, and a scale at which there are pair duals
 pub record IsGround (I : Problem) (flows distances : List (List ℕ)) (step : ℤ) (part scale : ℕ) : Type 0 where
   pub symmetries : AreSymmetries I flows distances
   pub is_step : step ≡ pos (step_of I)

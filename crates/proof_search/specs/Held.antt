@@ -1,4 +1,4 @@
--- Proofs as they are held: what they state, and the text of their tree.
+-- Proofs in memory: what they state, and the text of their tree.
 use Rattle.std.specs.Prelude.{◌≡◌, ℕ, ◌++◌, List, ℤ, codes}
 use Rattle.qap_cost.specs.Instance.{Problem}
 use Rattle.qap_cost.specs.Placement.{Placement}
@@ -10,14 +10,14 @@ use Rattle.proof_tree.specs.Shape.{HasShape}
 use Rattle.proof_tree.specs.Text.{tree_text}
 use Rattle.proof_tree.specs.Tree.{Tree}
 
--- a root, a permutation that has the cost, and the text of a tree that shows that no completion of the root costs less
+-- a root, a permutation that has the cost, and the text of a tree that proves that no completion of the root costs less
 pub record Held : Type 0 where
   pub root : Placement
   pub cost : ℤ
   pub permutation : List ℕ
   pub lines : List ℕ
 
--- the claim, with this tree
+-- the claim with this tree
 abbrev pub claim_with : Held → Tree → PairClaim
 claim_with h tree = pair_claim h.root h.cost h.cost h.permutation tree
 
@@ -25,12 +25,12 @@ claim_with h tree = pair_claim h.root h.cost h.cost h.permutation tree
 abbrev pub text_of : Held → List ℕ
 text_of h = head_text (codes "qapproof") 2 h.cost h.permutation ++ root_text h.root.facilities h.root.places ++ h.lines ++ codes "end\n"
 
--- that is the text of a proof with this claim
+-- this is the text of a proof with this claim
 pub record IsHeld (h : Held) : Type 0 where
   pub tree : Tree
   pub is_text : IsPairProofText (text_of h) (claim_with h tree)
 
--- which shows the claim for the instance
+-- which establishes the claim for the instance
 pub record Shows (I : Problem) (h : Held) : Type 0 where
   pub tree : Tree
   pub is_text : IsPairProofText (text_of h) (claim_with h tree)

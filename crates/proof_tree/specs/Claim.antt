@@ -1,4 +1,4 @@
--- Proofs with pair duals: what is claimed of an instance, and what shows it.
+-- Proofs with pair duals: what is claimed about an instance, and what establishes it.
 use Rattle.std.specs.Prelude.{◌≡◌, ℕ, ◌++◌, ◌∷◌, [], None, List, length, ℤ, pos, codes, false}
 use Rattle.qap_cost.specs.Bijection.{IsPerm}
 use Rattle.qap_cost.specs.Instance.{Problem}
@@ -16,7 +16,7 @@ use Rattle.proof_tree.specs.Text.{tree_text}
 use Rattle.proof_tree.specs.Tree.{Tree}
 use Rattle.proof_tree.specs.Valid.{Valid}
 
--- a root, a permutation that is to have the cost, and a tree that is to show that no completion of the root costs less than the bound
+-- a root, a permutation that should have the cost, and a tree that should prove that no completion of the root costs less than the bound
 pub record PairClaim : Type 0 where
   pub root : Placement
   pub cost : ℤ
@@ -29,7 +29,7 @@ abbrev pub pair_claim : Placement → ℤ → ℤ → List ℕ → Tree → Pair
 pair_claim root cost bound permutation tree = record { root = root; cost = cost; bound = bound; permutation = permutation; tree = tree }
 
 -- a proof's shape: a cost from -10^24 to 10^24, a bound for it, a permutation, a root of its size, and a tree over the root, which has
--- pair duals of its own
+-- its own pair duals
 pub record IsPairProof (C : PairClaim) : Type 0 where
   pub cost : IsLimited C.cost
   pub bound : IsBoundFor C.cost C.bound

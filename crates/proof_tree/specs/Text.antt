@@ -1,4 +1,4 @@
--- The text of a tree: lines in preorder. Each tree has one text.
+-- The text of a tree: lines in preorder. Each tree has exactly one text.
 use Rattle.std.specs.Prelude.{ℕ, ◌+◌, ◌++◌, ◌∷◌, [], List, drop, ℤ, pos, codes, Option, Some, None}
 use Rattle.qap_io.specs.Number.{from_one}
 use Rattle.qap_lines.specs.LineText.{line_text, numbers_text}
@@ -6,7 +6,7 @@ use Rattle.qap_proof.specs.Text.{letter}
 use Rattle.qap_proof.specs.declared.side.Side.{Side}
 use Rattle.proof_tree.specs.Tree.{PairRows, Image, by_one, by_both, Tree, leaf, split, Children, no_children, closed, image, grown}
 
--- numbers with one blank between two of them, each row on a line
+-- numbers separated by one blank, each row on a line
 abbrev pub rows_text : List (List ℤ) → List ℕ
 rows_text [] = []
 rows_text (row ∷ rows) = drop 1 (numbers_text row) ++ 10 ∷ rows_text rows
@@ -16,7 +16,7 @@ abbrev pub own_text : Option PairRows → List ℕ
 own_text None = []
 own_text (Some P) = line_text (codes "p") (pos P.scale ∷ []) ++ rows_text P.rows
 
--- for each child a character: `.` where it has no text, and else `+`
+-- for each child a character: `.` if it has no text, else `+`
 abbrev pub marks : Children → List ℕ
 marks no_children = []
 marks (closed rest) = 46 ∷ marks rest

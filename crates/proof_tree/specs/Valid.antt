@@ -1,5 +1,5 @@
 -- What makes a tree prove a bound: the value of the reduced form at each leaf, and at each child without a text, reaches it, and the
--- splits leave no permutation out (Adams and Johnson 1994; Hahn and Grant 1998).
+-- splits omit no permutation (Adams and Johnson 1994; Hahn and Grant 1998).
 use Rattle.std.specs.Prelude.{◌≡◌, ◌⊎◌, ℕ, ◌+◌, ◌-◌, ◌*◌, ◌<◌, Option, Some, None, List, [], length, ℤ, pos, ◌+ℤ◌, ◌*ℤ◌, ◌<ℤ◌, slice_index_or}
 use Rattle.qap_cost.specs.Instance.{Problem}
 use Rattle.qap_cost.specs.Matrix.{total}
@@ -11,11 +11,11 @@ use Rattle.qap_proof.specs.declared.side.Side.{Side}
 use Rattle.proof_tree.specs.Image.{IsImage}
 use Rattle.proof_tree.specs.Tree.{PairRows, NodeDuals, Tree, leaf, split, Children, no_children, closed, image, grown, child_count, row_of, column_of, child_on}
 
--- number t of the row of facility number i at location number k, where m of each are free
+-- number t of the row of the i-th facility at the k-th location, with m of each free
 abbrev pub in_row : PairRows → ℕ → ℕ → ℕ → ℕ → ℤ
 in_row P m i k t = slice_index_or (slice_index_or P.rows (i * m + k) []) t (pos 0)
 
--- they are the pair duals of y that the rows list; those of a facility or a location for itself, which mean nothing, are 0
+-- they are the pair duals of y that the rows list; the meaningless ones, of a facility or a location for itself, are 0
 pub record AreListed (y : Placement) (P : PairRows) (D : Duals) : Type 0 where
   pub of : AreOf y D
   pub scale : D.scale ≡ P.scale
@@ -37,14 +37,13 @@ pub record Under : Type 0 where
 abbrev pub under : Duals → Form → Under
 under D R = record { duals = D; form = R }
 
--- a node begins with what comes from above, if anything does; or, where it has pair duals of its own, which fit, with the form by them
--- alone
+-- a node begins with what it inherits, if anything; or, if it has its own pair duals, which fit, with the form from these alone
 abbrev pub Begins : Problem → Placement → Option Under → Option PairRows → Duals → Form → Type 0
 Begins I y None None D R = ⊥
 Begins I y (Some above) None D R = (D ≡ above.duals) × (R ≡ above.form)
 Begins I y above (Some rows) D R = AreListed y rows D × Fit I D × IsStart I D y R
 
--- it does, and its line is drawn
+-- likewise, and its line is applied
 pub record IsLined (I : Problem) (y : Placement) (above : Option Under) (d : NodeDuals) (now : Under) : Type 0 where
   pub start : Form
   pub v : List ℤ
@@ -56,7 +55,7 @@ pub record IsLined (I : Problem) (y : Placement) (above : Option Under) (d : Nod
 abbrev pub ReachesBound : ℕ → ℤ → ℕ → ℤ → Type 0
 ReachesBound step g scale value = (k : ℤ) → (pos step *ℤ k) <ℤ g → (pos scale *ℤ (pos step *ℤ k)) <ℤ value
 
--- the form of the child that puts row h at column g reaches the bound with its least numbers of the rows, and then of the columns
+-- the form of the child that puts row h at column g reaches the bound by its row minima, and then its column minima
 pub record ClosesTrivially (I : Problem) (step : ℕ) (bound : ℤ) (now : Under) (h g : ℕ) : Type 0 where
   pub form : Form
   pub u : List ℤ
@@ -66,7 +65,7 @@ pub record ClosesTrivially (I : Problem) (step : ℕ) (bound : ℤ) (now : Under
   pub columns : AreLeast (count_of form) form.entries u v
   pub reaches : ReachesBound step bound now.duals.scale (form.value +ℤ (total u +ℤ total v))
 
--- the same, or its value alone reaches it
+-- likewise, or its value alone reaches it
 abbrev pub IsClosed : Problem → ℕ → ℤ → Under → ℕ → ℕ → Type 0
 IsClosed I step bound now h g =
     ReachesBound step bound now.duals.scale (now.form.value +ℤ at now.form h g) ⊎ ClosesTrivially I step bound now h g

@@ -1,11 +1,11 @@
--- Proofs of either version over a root that is known.
+-- Proofs in either version over a known root.
 use Rattle.std.specs.Prelude.{◌≡◌, ◌≢◌, ◌⊎◌, ℕ, List, ℤ}
 use Rattle.qap_cost.specs.Instance.{Problem}
 use Rattle.qap_cost.specs.Placement.{Placement}
 use Rattle.qap_proof.specs.Acceptance.{ProvesFor}
 use Rattle.proof_tree.specs.Claim.{IsPairProofText, PairClaim, PairProves}
 
--- the text is that of a proof with pair duals of this root, this cost and this bound, which it proves
+-- the text is that of a proof with pair duals with this root, cost and bound, which it proves
 pub record PairProvesFor (I : Problem) (text : List ℕ) (x : Placement) (c g : ℤ) : Type 0 where
   pub proof : PairClaim
   pub is_text : IsPairProofText text proof
@@ -14,11 +14,11 @@ pub record PairProvesFor (I : Problem) (text : List ℕ) (x : Placement) (c g : 
   pub cost : proof.cost ≡ c
   pub bound : proof.bound ≡ g
 
--- the same for either version
+-- likewise for either version
 abbrev pub EitherProvesFor : Problem → List ℕ → Placement → ℤ → ℤ → Type 0
 EitherProvesFor I text x c g = ProvesFor I text x c g ⊎ PairProvesFor I text x c g
 
--- the text is that of a proof of either version over another root, which proves its bound
+-- the text is that of a proof in either version over another root, which proves its bound
 pub record EitherProvesForAnother (I : Problem) (text : List ℕ) (x : Placement) : Type 0 where
   pub other : Placement
   pub cost : ℤ

@@ -1,4 +1,4 @@
--- What a text of version 2 over a root that isn't empty states before its tree.
+-- What a text of version 2 over a nonempty root states before its tree.
 use Rattle.std.specs.Prelude.{◌≡◌, ℕ, ◌<◌, ◌++◌, List, length, ℤ, codes}
 use Rattle.qap_cost.specs.Placement.{Placement}
 use Rattle.qap_lines.specs.LineText.{line_text}
@@ -7,7 +7,7 @@ use Rattle.qap_proof.specs.Text.{bound_text, by_turns, root_text}
 use Rattle.proof_tree.specs.Claim.{IsPairProofText, PairClaim}
 use Rattle.proof_tree.specs.Text.{tree_text}
 
--- what stands behind the permutation in the text of a proof
+-- what follows the permutation in the text of a proof
 abbrev pub behind_permutation : PairClaim → List ℕ
 behind_permutation C = root_text C.root.facilities C.root.places ++ (bound_text C.cost C.bound ++ (tree_text C.tree ++ codes "end\n"))
 
@@ -17,7 +17,7 @@ pub record BeginsWithRoot (text : List ℕ) (size : ℕ) (x : Placement) : Type 
   pub rest : List ℕ
   pub is : text ≡ line_text (codes "node") (by_turns x.facilities x.places) ++ rest
 
--- of each proof of this size, over a root that isn't empty, whose text this is, these are the root and the cost
+-- every proof of this size over a nonempty root with this text has this root and this cost
 abbrev pub IsPartStated : List ℕ → ℕ → Placement → ℤ → Type 0
 IsPartStated text size x c =
     (C : PairClaim) → IsPairProofText text C → length C.permutation ≡ size → 0 < length C.root.facilities → (C.root ≡ x) × (C.cost ≡ c)

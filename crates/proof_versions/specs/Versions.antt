@@ -1,4 +1,4 @@
--- What a text of a proof of either version shows of an instance's costs: of version 1, or of version 2, which has pair duals.
+-- What a text of a proof in either version establishes about an instance's costs: version 1, or version 2, which has pair duals.
 use Rattle.std.specs.Prelude.{◌≡◌, ◌⊎◌, ℕ, ◌++◌, ◌∷◌, [], List, pos, codes, ◌<ℤ◌}
 use Rattle.qap_cost.specs.Instance.{Problem}
 use Rattle.qap_cost.specs.Objective.{IsLeast, NoneCostsLess, Permutes, cost_of}
@@ -17,22 +17,22 @@ use Rattle.proof_check.specs.Acceptance.{ShowsPairVerdict}
 abbrev pub StatesVersionTwo : List ℕ → Type 0
 StatesVersionTwo text = (rest : List ℕ) × (text ≡ line_text (codes "qapproof") (pos 2 ∷ []) ++ rest)
 
--- the text is that of a proof of either version, over this root
+-- the text is that of a proof in either version, over this root
 abbrev pub EitherHasRoot : List ℕ → Placement → Type 0
 EitherHasRoot text x =
     ((C : Claim) × IsProofText text C × (C.root ≡ x)) ⊎ ((C : PairClaim) × IsPairProofText text C × (C.root ≡ x))
 
--- the text is that of a proof of either version which proves what the verdict says
+-- the text is that of a proof in either version which establishes the verdict
 abbrev pub EitherShows : Problem → List ℕ → Verdict → Type 0
 EitherShows I text v = ShowsVerdict I text v ⊎ ShowsPairVerdict I text v
 
--- what the verdict says is so: the least cost; a cost that some permutation has, and a bound below it that none is below; or a bound
--- that no permutation is below which completes the root that the text names
+-- the verdict is true: the least cost; a cost that some permutation has, and a lower bound on all; or a lower bound
+-- on the permutations that complete the root which the text names
 abbrev pub EitherIsSo : Problem → List ℕ → Verdict → Type 0
 EitherIsSo I text (Optimal c) = IsLeast I c
 EitherIsSo I text (Gap g c) = ((p : List ℕ) × Permutes I p × (cost_of I p ≡ c)) × NoneCostsLess I g × (g <ℤ c)
 EitherIsSo I text (Part g) = (x : Placement) × EitherHasRoot text x × NoneCompletesForLess I x g
 
--- the first fault of a text that doesn't state version 2, or of the proof of version 1 that it is; of a text that does, any
+-- the first fault of a text that does not state version 2, or of the proof of version 1 that it is; of a text that does, any
 abbrev pub EitherIsRefused : Problem → List ℕ → ProofError → Type 0
 EitherIsRefused I text e = StatesVersionTwo text ⊎ IsRefused I text e

@@ -1,4 +1,4 @@
--- What a text shows of an instance's least cost, and what keeps it from that.
+-- What a text establishes about an instance's least cost, and what prevents it.
 use Rattle.std.specs.Prelude.{◌≡◌, ℕ, ◌⊎◌, List, ◌<ℤ◌}
 use Rattle.qap_cost.specs.Instance.{Problem}
 use Rattle.qap_cost.specs.Objective.{IsLeast, NoneCostsLess, Permutes, cost_of}
@@ -11,19 +11,19 @@ use Rattle.qap_cert.specs.declared.error.CertError.{CertError}
 use Rattle.qap_cert.specs.declared.acceptance.Verdict.{Verdict}
 use Rattle.qap_cert.specs.declared.acceptance.Verdict.TheVariants.{Optimal, Gap}
 
--- the verdict of what a certificate states: its cost, where that is its bound, and else both
+-- the verdict of what a certificate states: its cost, if that is its bound, else both
 abbrev pub IsVerdictOf : Claim → Verdict → Type 0
 IsVerdictOf C (Optimal c) = (C.bound ≡ C.cost) × (C.cost ≡ c)
 IsVerdictOf C (Gap g c) = (C.bound ≡ g) × (C.cost ≡ c) × (g <ℤ c)
 
--- the text is that of a certificate which certifies what the verdict says
+-- the text is that of a certificate which certifies the verdict
 pub record ShowsVerdict (I : Problem) (text : List ℕ) (verdict : Verdict) : Type 0 where
   pub certificate : Claim
   pub is_text : IsCertificateText text certificate
   pub certified : Certifies I certificate
   pub says : IsVerdictOf certificate verdict
 
--- what the verdict says is so: the least cost; or a cost that some permutation has, and a bound below it that none is below
+-- the verdict is true: the least cost; or a cost that some permutation has, and a lower bound on all
 abbrev pub IsSo : Problem → Verdict → Type 0
 IsSo I (Optimal c) = IsLeast I c
 IsSo I (Gap g c) = ((p : List ℕ) × Permutes I p × (cost_of I p ≡ c)) × NoneCostsLess I g × (g <ℤ c)

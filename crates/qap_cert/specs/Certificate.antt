@@ -1,4 +1,4 @@
--- Certificates: a permutation of a cost, and a tree that is to show a bound on what permutations cost.
+-- Certificates: a permutation with a cost, and a tree that should prove a bound on all permutations' costs.
 use Rattle.std.specs.Prelude.{◌≡◌, ℕ, List, [], length, ℤ, int_lt, if◌then◌else◌}
 use Rattle.qap_cost.specs.Bijection.{IsPerm}
 use Rattle.qap_cost.specs.Instance.{Problem}
@@ -11,7 +11,7 @@ use Rattle.qap_cert.specs.Tree.{Node}
 use Rattle.qap_cert.specs.Valid.{Valid}
 use Rattle.qap_cert.specs.declared.version.Version.TheVariants.{Second}
 
--- a cost, a bound, a permutation that is to have the cost, and a tree that is to show that none costs less than the bound
+-- a cost, a bound, a permutation that should have the cost, and a tree that should prove that none costs less than the bound
 pub record Claim : Type 0 where
   pub cost : ℤ
   pub bound : ℤ
@@ -29,11 +29,11 @@ pub record IsCertificate (C : Claim) : Type 0 where
   pub permutation : IsPerm C.permutation
   pub tree : HasShape Second (length C.permutation) [] C.tree
 
--- the line of the tree's first node: it follows the bound's line, which is there where the bound is below the cost
+-- the line of the tree's first node: it follows the bound's line, which is present if the bound is below the cost
 abbrev pub tree_line : ℤ → ℤ → ℕ
 tree_line c g = if int_lt g c then 6 else 5
 
--- the permutation is of the instance's size and has the cost, and the tree shows that none costs less than the bound
+-- the permutation is of the instance's size and has the cost, and the tree proves that none costs less than the bound
 pub record Certifies (I : Problem) (C : Claim) : Type 0 where
   pub same_size : length C.permutation ≡ I.size
   pub cost : cost_of I C.permutation ≡ C.cost

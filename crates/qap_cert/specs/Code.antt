@@ -1,4 +1,4 @@
--- By what a certificate's contents are known from others: the nodes of a tree in preorder give it back.
+-- The encoding that identifies a certificate's contents: the nodes of a tree in preorder, which determine it.
 use Rattle.std.specs.Prelude.{◌≡◌, ℕ, zero, suc, ◌+◌, ◌⊎◌, List, [], ◌∷◌, ℤ, refl}
 use Rattle.std.proofs.Common.{inl, inr, ◌∙◌, ap, arith}
 use Rattle.std.specs.Coded.{Coded, code_by, coded_ℕ, coded_ℤ, coded_list, coded×, coded⊎}
@@ -21,18 +21,18 @@ abbrev mutual
   signs_of_all no_nodes rest = rest
   signs_of_all (node t ts) rest = signs t (signs_of_all ts rest)
 
--- nodes in a row, and others behind them
+-- nodes in a row, followed by others
 abbrev pub joined : Nodes → Nodes → Nodes
 joined no_nodes others = others
 joined (node t ts) others = node t (joined ts others)
 
--- the first nodes of a row, this many or all where there are fewer
+-- the first nodes of a row, this many or all if there are fewer
 abbrev pub first_nodes : ℕ → Nodes → Nodes
 first_nodes zero ts = no_nodes
 first_nodes (suc k) no_nodes = no_nodes
 first_nodes (suc k) (node t ts) = node t (first_nodes k ts)
 
--- the nodes behind these
+-- the nodes after these
 abbrev pub nodes_behind : ℕ → Nodes → Nodes
 nodes_behind zero ts = ts
 nodes_behind (suc k) no_nodes = no_nodes
@@ -44,7 +44,7 @@ read_signs [] = no_nodes
 read_signs (inl fk ∷ rest) = node (split (fk.0) (first_nodes (fk.1) (read_signs rest))) (nodes_behind (fk.1) (read_signs rest))
 read_signs (inr uv ∷ rest) = node (bound (uv.0) (uv.1)) (read_signs rest)
 
--- the first node of a row; of an empty one, a bound without duals
+-- the first node of a row; for an empty one, a bound without duals
 abbrev pub first_node : Nodes → Node
 first_node no_nodes = bound [] []
 first_node (node t ts) = t
@@ -77,7 +77,7 @@ mutual
   read_signs-signs_of_all no_nodes rest = refl
   read_signs-signs_of_all (node t ts) rest = read_signs-signs t (signs_of_all ts rest) ∙ ap (node t) (read_signs-signs_of_all ts rest)
 
--- a tree's code is the list of its signs, from which the tree is read back
+-- a tree's code is the list of its signs, which determines the tree
 abbrev pub node_code : Coded Node
 node_code =
     code_by (List Sign) (coded_list (coded⊎ (coded× coded_ℕ coded_ℕ) (coded× (coded_list coded_ℤ) (coded_list coded_ℤ)))) (λ t. signs t [])

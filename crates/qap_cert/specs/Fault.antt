@@ -1,4 +1,4 @@
--- What keeps a cost, a bound, a permutation and a tree from being a certificate, and a certificate from certifying its
+-- What prevents a cost, a bound, a permutation and a tree from being a certificate, and a certificate from certifying its
 -- bound: the first fault in order of lines, where the nodes of the tree have the lines from `tree_line` on in preorder.
 use Rattle.std.specs.Prelude.{◌≡◌, ◌≢◌, ℕ, ◌-◌, ◌<◌, ◌≤◌, ◌⊎◌, ◌++◌, ◌∷◌, [], List, length, ℤ, ◌+ℤ◌, ◌<ℤ◌, unsigned_abs}
 use Rattle.qap_cost.specs.Limits.{max_value}
@@ -18,12 +18,12 @@ use Rattle.qap_cert.specs.declared.error.CertError.{CertError}
 use Rattle.qap_cert.specs.declared.error.CertError.TheVariants.{SizeDiffers, CostDiffers, BadLine, SplitTooDeep, FacilityTaken, SplitWidth, DualCount, DualRange, NotFeasible, BoundTooLow}
 use Rattle.qap_cert.specs.declared.version.Version.TheVariants.{Second}
 
--- the first fault of two lists that are to be the duals of m rows and m columns
+-- the first fault of two lists that should be the duals of m rows and m columns
 abbrev pub IsDualFault : ℕ → ℕ → List ℤ → List ℤ → CertError → Type 0
 IsDualFault m line u v e =
     ((e ≡ DualCount line) × (AreCounted m u v → ⊥)) ⊎ ((e ≡ DualRange line) × AreCounted m u v × (AreInRange u v → ⊥))
 
--- where these of n facilities are placed, none is free, or this one is not
+-- with these of n facilities placed, none is free, or this one is not
 abbrev pub IsFacilityFault : ℕ → List ℕ → ℕ → ℕ → CertError → Type 0
 IsFacilityFault n placed line f e =
     ((e ≡ SplitTooDeep line) × (n ≤ length placed)) ⊎ ((e ≡ FacilityTaken line) × (length placed < n) × (IsFree n placed f → ⊥))
@@ -50,7 +50,7 @@ abbrev mutual
       IsShapeFault n placed line t e
       ⊎ (HasShape Second n placed t × IsShapeFaultAmong n placed (line_after line (node_count t)) rest e)
 
--- the first fault of what is to be a certificate
+-- the first fault of what should be a certificate
 abbrev pub IsClaimFault : Claim → CertError → Type 0
 IsClaimFault C e =
     ((e ≡ BadLine 3) × (max_value < unsigned_abs C.cost))
@@ -58,7 +58,7 @@ IsClaimFault C e =
     ⊎ (IsLimited C.cost × IsBoundFor C.cost C.bound
     × IsShapeFault (length C.permutation) [] (tree_line C.cost C.bound) C.tree e))
 
--- the duals don't fit; or they do, and with what the placed facilities cost their sum is less than g
+-- the duals do not fit; or they do, and their sum plus the cost of the placed facilities is less than g
 abbrev pub IsBoundFault : Problem → ℤ → Placement → ℕ → List ℤ → List ℤ → CertError → Type 0
 IsBoundFault I g x line u v e =
     ((e ≡ NotFeasible line) × (Fits I x u v → ⊥))
@@ -77,11 +77,11 @@ abbrev mutual
       ⊎ (Valid I g (placing x f k) t × IsTreeFaultAmong I g x f ks (line_after line (node_count t)) rest e)
   IsTreeFaultAmong I g x f _ line _ e = ⊥
 
--- the permutation isn't of the instance's size; or it is, and doesn't cost what is stated
+-- the permutation is not of the instance's size; or it is, and its cost is not the stated one
 abbrev pub IsPermMisfit : Problem → List ℕ → ℤ → CertError → Type 0
 IsPermMisfit I p c e = ((e ≡ SizeDiffers 2) × (length p ≢ I.size)) ⊎ ((e ≡ CostDiffers 3) × (length p ≡ I.size) × (cost_of I p ≢ c))
 
--- the first fault of a certificate that doesn't certify its bound
+-- the first fault of a certificate that does not certify its bound
 abbrev pub IsFault : Problem → Claim → CertError → Type 0
 IsFault I C e =
     ((e ≡ SizeDiffers 2) × (length C.permutation ≢ I.size))

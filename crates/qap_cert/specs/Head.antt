@@ -1,4 +1,4 @@
--- What stands before the tree in the text of a certificate, and what the tree behind it makes of the whole text.
+-- The lines before the tree in the text of a certificate, and how the tree completes the text.
 use Rattle.std.specs.Prelude.{◌≡◌, ℕ, ◌++◌, [], List, length, ℤ, codes}
 use Rattle.qap_cost.specs.Bijection.{IsPerm}
 use Rattle.qap_cost.specs.Range.{IsLimited}
@@ -13,7 +13,7 @@ use Rattle.qap_cert.specs.declared.error.CertError.{CertError}
 use Rattle.qap_cert.specs.declared.version.Version.{Version}
 
 -- the lines before the tree state a version, a cost, a permutation and a bound; the tree's first line has this number, and
--- with it begins the rest: a tree and the end there make the text that of a certificate, and a fault there is one of the text
+-- the rest begins with it: a tree and the end there make the text that of a certificate, and a fault there is one of the text
 pub record HasHead (text : List ℕ) (v : Version) (c g : ℤ) (p : List ℕ) (line : ℕ) (rest : List ℕ) : Type 0 where
   pub cost : IsLimited c
   pub permutation : IsPerm p

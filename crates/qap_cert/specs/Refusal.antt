@@ -1,10 +1,10 @@
--- The refusals that faults of certificates are reported as.
+-- The refusals with which faults of certificates are reported.
 use Rattle.std.specs.Prelude.{codes}
 use Rattle.qap_io.specs.Refusal.{RefusalText, memory_refusal, device_refusal, refused, refused_at}
 use Rattle.qap_cert.specs.declared.error.CertError.{CertError}
 use Rattle.qap_cert.specs.declared.error.CertError.TheVariants.{SizeDiffers, BadHeader, BadVersion, BadLine, Truncated, TrailingText, CostDiffers, PermBad, SplitTooDeep, FacilityTaken, DualCount, DualRange, NotFeasible, BoundTooLow, SplitWidth, OutOfMemory, Device}
 
--- the refusal for each fault of a certificate: a number, a name, and the line where there is one
+-- the refusal for each fault of a certificate: a number, a name, and a line if there is one
 abbrev pub certificate_refusal : CertError → RefusalText
 certificate_refusal (SizeDiffers line) = refused_at 8 (codes "SizeDiffers") line
 certificate_refusal BadHeader = refused 11 (codes "BadHeader")

@@ -7,7 +7,7 @@ use Rattle.qap_cert.specs.Tree.{Node, split, bound, Nodes, no_nodes, node}
 use Rattle.qap_cert.specs.Version.{MayName}
 use Rattle.qap_cert.specs.declared.version.Version.{Version}
 
--- how many nodes stand in a row
+-- how many nodes are in a row
 abbrev pub child_count : Nodes → ℕ
 child_count no_nodes = 0
 child_count (node t rest) = 1 + child_count rest
@@ -17,12 +17,12 @@ pub record AreCounted (m : ℕ) (u v : List ℤ) : Type 0 where
   pub rows : length u ≡ m
   pub columns : length v ≡ m
 
--- the duals lie within -10^24 to 10^24
+-- the duals are within -10^24 to 10^24
 pub record AreInRange (u v : List ℤ) : Type 0 where
   pub rows : AllLimited u
   pub columns : AllLimited v
 
--- a tree in which these of n facilities are placed: a split is on a free facility that its version may name, and has a
+-- a tree with these of n facilities placed: a split is on a free facility that its version may name, and has a
 -- child for each free location; a bound has a dual for each free facility and each free location
 abbrev mutual
   pub HasShape : Version → ℕ → List ℕ → Node → Type 0

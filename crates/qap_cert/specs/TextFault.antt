@@ -1,4 +1,4 @@
--- What keeps a text from being that of a certificate: the first fault in order of lines.
+-- What prevents a text from being that of a certificate: the first fault in order of lines.
 use Rattle.std.specs.Prelude.{◌≡◌, ◌≢◌, ℕ, suc, zero, ◌+◌, ◌-◌, ◌*◌, ◌<◌, ◌≤◌, ◌⊎◌, ◌++◌, ◌∷◌, [], List, length, ℤ, pos, codes, ◌<ℤ◌}
 use Rattle.qap_cost.specs.Limits.{max_size}
 use Rattle.qap_cost.specs.Bijection.{IsPerm}
@@ -21,7 +21,7 @@ use Rattle.qap_cert.specs.declared.error.CertError.TheVariants.{BadHeader, BadVe
 abbrev pub IsLineFault : ℕ → List ℕ → (List ℕ → CertError → Type 0) → CertError → Type 0
 IsLineFault number text P e = ((e ≡ Truncated number) × HasNoLine text) ⊎ ((line rest : List ℕ) × IsLine text line rest × P line e)
 
--- the first line: `qapcert` and a positive number, which is to be 1 or 2
+-- the first line: `qapcert` and a positive number, which must be 1 or 2
 abbrev pub IsHeaderFault : List ℕ → CertError → Type 0
 IsHeaderFault line BadHeader = (n : ℕ) → 0 < n → IsNamed (codes "qapcert") line (pos n ∷ []) → ⊥
 IsHeaderFault line BadVersion = (n : ℕ) × (2 < n) × IsNamed (codes "qapcert") line (pos n ∷ [])
@@ -35,18 +35,18 @@ IsSizeFault line e = (e ≡ BadLine 2) × ((n : ℕ) → 0 < n → n ≤ max_siz
 abbrev pub IsCostFault : List ℕ → CertError → Type 0
 IsCostFault line e = (e ≡ BadLine 3) × ((c : ℤ) → IsLimited c → IsNamed (codes "cost") line (c ∷ []) → ⊥)
 
--- the fourth line: `perm` and n numbers, which are to be each of 1 to n once
+-- the fourth line: `perm` and n numbers, which must list each of 1 to n once
 abbrev pub IsPermFault : ℕ → List ℕ → CertError → Type 0
 IsPermFault n line (BadLine at) = (at ≡ 4) × ((zs : List ℤ) → length zs ≡ n → IsNamed (codes "perm") line zs → ⊥)
 IsPermFault n line (PermBad at) = (at ≡ 4) × (zs : List ℤ) × (length zs ≡ n) × IsNamed (codes "perm") line zs × ((p : List ℕ) → IsPerm p → zs ≢ from_one p)
 IsPermFault n line _ = ⊥
 
--- the line is that of a split of this facility: `s`, in version 2 with the facility, which is one of n
+-- the line is that of a split on this facility: `s`, in version 2 with the facility, which is one of n
 pub record IsSplitLine (v : Version) (n : ℕ) (placed line : List ℕ) (f : ℕ) : Type 0 where
   pub named : IsNamed (codes "s") line (split_numbers v f)
   pub allowed : MayName v n placed f
 
--- the line of a node at which these of n facilities are placed: a split's, where there are free ones, and its facility is;
+-- the line of a node with these of n facilities placed: a split's, if some are free and its facility is among them;
 -- or `b` and a number from -10^24 to 10^24 for each free facility and each free location
 abbrev pub IsNodeFault : Version → ℕ → List ℕ → ℕ → List ℕ → CertError → Type 0
 IsNodeFault v n placed number line (BadLine at) =
@@ -60,15 +60,15 @@ IsNodeFault v n placed number line (DualRange at) =
     (at ≡ number) × (zs : List ℤ) × IsNamed (codes "b") line zs × (length zs ≡ 2 * (n - length placed)) × (AllLimited zs → ⊥)
 IsNodeFault v n placed number line _ = ⊥
 
--- behind some but not all of the children of a split, behind which these facilities are placed and whose first begins at
+-- after some but not all of the children of a split, below which these facilities are placed and whose first begins at
 -- the line of this number, there is a fault
 abbrev pub IsFaultAmong : Version → ℕ → List ℕ → ℕ → List ℕ → (ℕ → List ℕ → Type 0) → Type 0
 IsFaultAmong v n placed number text P =
     (before : Nodes) × (rest : List ℕ) × (text ≡ trees_text v before ++ rest) × AllHaveShape v n placed before
     × (child_count before + length placed ≤ n) × P (line_after number (nodes_count before)) rest
 
--- the first fault of what is to begin with the lines of a tree with m free facilities, besides these placed ones: the first
--- line has it, or that is a split and, behind some of its children, the next one has it
+-- the first fault of what should begin with the lines of a tree with m free facilities, besides these placed ones: the first
+-- line has it, or that is a split and, after some of its children, the next one has it
 abbrev pub IsTreeTextFault : Version → ℕ → ℕ → List ℕ → ℕ → List ℕ → CertError → Type 0
 IsTreeTextFault v n zero placed number text e = IsLineFault number text (IsNodeFault v n placed number) e
 IsTreeTextFault v n (suc m) placed number text e =
@@ -77,7 +77,7 @@ IsTreeTextFault v n (suc m) placed number text e =
     × IsFree n placed f
     × IsFaultAmong v n (placed ++ f ∷ []) (line_after number 1) rest (λ line rest. IsTreeTextFault v n m (placed ++ f ∷ []) line rest e))
 
--- the last line: `end`, with nothing behind it
+-- the last line: `end`, with nothing after it
 abbrev pub IsEndFault : ℕ → List ℕ → CertError → Type 0
 IsEndFault number text e =
     IsLineFault number text (λ line e. (e ≡ BadLine number) × (line ≢ codes "end")) e
@@ -104,7 +104,7 @@ pub record IsBelow (c g : ℤ) : Type 0 where
 abbrev pub HasNoBound : List ℕ → Type 0
 HasNoBound text = (line rest : List ℕ) (g : ℤ) → IsLine text line rest → IsNamed (codes "bound") line (g ∷ []) → ⊥
 
--- the first line is one of a bound, which isn't below the cost, or is out of range
+-- the first line is one of a bound, which is not below the cost, or is out of range
 abbrev pub IsBoundLineFault : ℤ → List ℕ → CertError → Type 0
 IsBoundLineFault c text e =
     (e ≡ BadLine 5) × (line rest : List ℕ) × (g : ℤ) × IsLine text line rest × IsNamed (codes "bound") line (g ∷ []) × (IsBelow c g → ⊥)

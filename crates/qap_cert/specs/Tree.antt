@@ -1,5 +1,5 @@
--- Search trees: how the permutations of an instance are split up, and what closes each part. Apart from where a tree lies
--- in memory.
+-- Search trees: how the permutations of an instance are split, and what closes each part, independent of where a tree
+-- is stored in memory.
 use Rattle.std.specs.Prelude.{ℕ, ◌+◌, List, [], ◌∷◌, map, ℤ}
 use Rattle.number_list.specs.NumberList.{numbers_held}
 use Rattle.qap_cert.specs.declared.tree.Tree.{Tree}
@@ -23,16 +23,16 @@ abbrev pub in_row : List Node → Nodes
 in_row [] = no_nodes
 in_row (t ∷ ts) = node t (in_row ts)
 
--- what a tree says, once each child has said it
+-- a tree's content, given that of its children
 abbrev pub node_step : Tree-F Node → Node
 node_step (Split facility children) = split facility (in_row children.items)
 node_step (Bound u v) = bound (numbers_held u) (numbers_held v)
 
--- what a tree says
+-- the content of a tree
 abbrev pub node_of : Tree → Node
 node_of = fold-Tree Node node_step
 
--- what trees in a row say
+-- the content of trees in a row
 abbrev pub nodes_of : List Tree → Nodes
 nodes_of ts = in_row (map node_of ts)
 

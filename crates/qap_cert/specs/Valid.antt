@@ -1,4 +1,4 @@
--- What makes a tree prove a bound: the splits leave no permutation out, and the duals of each leaf close its part, by the
+-- What makes a tree prove a bound: the splits omit no permutation, and the duals of each leaf close its part, by the
 -- bound of Gilmore (1962) and Lawler (1963).
 use Rattle.std.specs.Prelude.{ℕ, ◌-◌, ◌<◌, List, [], ◌∷◌, length, ℤ}
 use Rattle.qap_cost.specs.Instance.{Problem}

@@ -8,7 +8,7 @@ abbrev pub version_number : Version → ℕ
 version_number First = 1
 version_number Second = 2
 
--- the facility that a split may name, of n, behind the placed ones: in version 1 the one whose number is the depth, in
+-- the facility that a split may name, of n, after the placed ones: in version 1 the one whose number is the depth, in
 -- version 2 any
 abbrev pub MayName : Version → ℕ → List ℕ → ℕ → Type 0
 MayName First n placed f = f ≡ length placed
@@ -19,7 +19,7 @@ abbrev pub split_numbers : Version → ℕ → List ℤ
 split_numbers First f = []
 split_numbers Second f = pos (f + 1) ∷ []
 
--- the bound that a certificate of this cost may have: in version 1 the cost itself, in version 2 any
+-- the bound that a certificate with this cost may have: in version 1 the cost itself, in version 2 any
 abbrev pub MayBound : Version → ℤ → ℤ → Type 0
 MayBound First c g = g ≡ c
 MayBound Second c g = Unit {0}

@@ -1,4 +1,4 @@
--- What walking along the lines of a tree finds, where no tree is kept.
+-- What walking along the lines of a tree finds, without storing the tree.
 use Rattle.std.specs.Prelude.{◌≡◌, ℕ, ◌-◌, ◌<◌, ◌++◌, [], List, length, ℤ, codes, Option, Some, None}
 use Rattle.qap_cost.specs.Instance.{Problem}
 use Rattle.qap_cost.specs.Placement.{Placement}
@@ -14,7 +14,7 @@ use Rattle.qap_cert.specs.Valid.{Valid, AllValid}
 use Rattle.qap_cert.specs.declared.error.CertError.{CertError}
 use Rattle.qap_cert.specs.declared.version.Version.{Version}
 
--- the text begins with the lines of a tree that has a property; behind them is the rest, from the line next on
+-- the text begins with the lines of a tree that has a property; the rest follows, from the line next on
 pub record BeginsWithTree (v : Version) (n : ℕ) (placed : List ℕ) (line : ℕ) (text rest : List ℕ) (next : ℕ) (P : Node → Type 0) : Type 0 where
   pub tree : Node
   pub shape : HasShape v n placed tree
@@ -22,7 +22,7 @@ pub record BeginsWithTree (v : Version) (n : ℕ) (placed : List ℕ) (line : �
   pub next_is : next ≡ line_after line (node_count tree)
   pub holds : P tree
 
--- the same for this many trees one after another
+-- likewise for this many trees in sequence
 pub record BeginsWithTrees (v : Version) (n : ℕ) (placed : List ℕ) (count line : ℕ) (text rest : List ℕ) (next : ℕ) (P : Nodes → Type 0) : Type 0 where
   pub trees : Nodes
   pub shapes : AllHaveShape v n placed trees
@@ -38,7 +38,7 @@ pub record EndsBehindTree (v : Version) (n : ℕ) (text : List ℕ) (P : Node �
   pub is : text ≡ tree_text v tree ++ codes "end\n"
   pub holds : P tree
 
--- nothing is known of the node, or of the nodes
+-- nothing is known about the node, or the nodes
 abbrev pub Any : {X : Type 0} → X → Type 0
 Any x = Unit {0}
 
@@ -47,12 +47,12 @@ abbrev pub IsToldOf : Problem → ℤ → Placement → ℕ → Option CertError
 IsToldOf I g x line None t = Valid I g x t
 IsToldOf I g x line (Some e) t = IsTreeFault I g x line t e
 
--- the same for the children of a split on a facility, for these locations
+-- likewise for the children of a split on a facility, for these locations
 abbrev pub IsToldOfAll : Problem → ℤ → Placement → ℕ → List ℕ → ℕ → Option CertError → Nodes → Type 0
 IsToldOfAll I g x f ks line None ts = AllValid I g x f ks ts
 IsToldOfAll I g x f ks line (Some e) ts = IsTreeFaultAmong I g x f ks line ts e
 
--- the line is spelled by duals for the node, and whether they close it is reported, and what keeps them from it
+-- the line spells duals for the node; the report says whether they close it, and if not the fault
 pub record ClosesOrTells (I : Problem) (g : ℤ) (x : Placement) (line : ℕ) (bytes : List ℕ) (fault : Option CertError) : Type 0 where
   pub u : List ℤ
   pub v : List ℤ
@@ -60,7 +60,7 @@ pub record ClosesOrTells (I : Problem) (g : ℤ) (x : Placement) (line : ℕ) (b
   pub spelled : bytes ≡ codes "b" ++ numbers_text (u ++ v)
   pub told : IsToldOf I g x line fault (bound u v)
 
--- fewer than this many trees stand at the front, and behind them there is a fault
+-- fewer than this many trees are at the beginning, and a fault follows them
 abbrev pub IsFaultBefore : Version → ℕ → List ℕ → ℕ → ℕ → List ℕ → CertError → Type 0
 IsFaultBefore v n placed count line text e =
     (before : Nodes) × (rest : List ℕ) × (text ≡ trees_text v before ++ rest) × AllHaveShape v n placed before × (child_count before < count)

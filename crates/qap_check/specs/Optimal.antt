@@ -1,4 +1,4 @@
--- The answer to a certificate: what it shows of the least cost.
+-- The answer to a certificate: what it establishes about the least cost.
 use Rattle.std.specs.Prelude.{ℕ, List, ◌++◌, codes}
 use Rattle.std.specs.Fmt.{signed_decimal}
 use Rattle.qap_cost.specs.Instance.{Problem}
@@ -7,7 +7,7 @@ use Rattle.qap_cert.specs.declared.acceptance.Verdict.{Verdict}
 use Rattle.qap_cert.specs.declared.acceptance.Verdict.TheVariants.{Optimal, Gap}
 use Rattle.qap_text.specs.Gap.{gap_line}
 
--- the text shows what the verdict says, and it is so
+-- the text establishes the verdict, which is true
 abbrev pub Proves : Problem → List ℕ → Verdict → Type 0
 Proves I text v = ShowsVerdict I text v × IsSo I v
 

@@ -1,4 +1,4 @@
--- Why a run answers no verdict, and how that is reported.
+-- Why a run yields no verdict, and how that is reported.
 use Rattle.std.specs.Prelude.{◌≡◌, ℕ, ◌⊎◌, List, Option, Some, None, codes}
 use Rattle.qap_cost.specs.Instance.{Problem}
 use Rattle.qap_io.specs.Counting.{CountedDevice}
@@ -17,31 +17,31 @@ use Rattle.qap_check.specs.declared.refusal.RunError.{RunError}
 use Rattle.qap_check.specs.declared.refusal.RunError.TheVariants.{Text, Certificate, OutOfMemory, Device}
 use Rattle.qap_check.specs.Source.{Source, SecondWaits, KeepsCounts}
 
--- what a fault of a text is for the run: want of memory and a failed device are the run's own
+-- the run's error for a fault of a text: out of memory and a failed device are the run's own
 abbrev pub of_text : TextError → RunError
 of_text TextMemory = OutOfMemory
 of_text TextDevice = Device
 of_text e = Text e
 
--- the same for a fault of a certificate
+-- likewise for a fault of a certificate
 abbrev pub of_certificate : CertError → RunError
 of_certificate CertificateMemory = OutOfMemory
 of_certificate CertificateDevice = Device
 of_certificate e = Certificate e
 
--- the first input begins with no instance, and the second reader is as it was
+-- the first input does not begin with an instance, and the second reader is unchanged
 pub record NoInstance {R S : Type 0} (s : Source R S) (e : RunError) : Type 0 where
   pub fault : TextError
   pub is : e ≡ of_text fault
   pub of_input : HasNoInstance s.first fault
   pub waits : s.second_after ≡ s.second
 
--- there is a second reader, and its bytes can't be read within the limit
+-- there is a second reader, and its bytes cannot be read within the limit
 abbrev pub IsSecondFault : {S : Type 0} → (S → Option (List ℕ)) → Option (CountedDevice S) → Option (CountedDevice S) → TextError → Type 0
 IsSecondFault bytes (Some old) (Some new) e = IsReadFault bytes max_input old new e
 IsSecondFault bytes _ _ e = ⊥
 
--- an instance was read, and then the second reader's bytes can't be read within the limit
+-- an instance was read, and then the second reader's bytes cannot be read within the limit
 pub record SecondUnread {R S : Type 0} (s : Source R S) (e : RunError) : Type 0 where
   pub fault : TextError
   pub is : e ≡ of_text fault
@@ -56,15 +56,15 @@ pub record WantsMemory {R S : Type 0} (s : Source R S) (e : RunError) : Type 0 w
   pub kept : KeepsCounts s
   pub waits : SecondWaits s
 
--- why there is no instance with a text that goes with it
+-- why there is no instance with a second text
 abbrev pub HasNoTexts : {R S : Type 0} → Source R S → RunError → Type 0
 HasNoTexts s e = NoInstance s e ⊎ (SecondUnread s e ⊎ WantsMemory s e)
 
--- the text has this first fault as one of a solution
+-- the text has this first fault as a solution
 abbrev pub IsNoSolution : Problem → List ℕ → RunError → Type 0
 IsNoSolution I text e = (fault : TextError) × (e ≡ of_text fault) × IsSolutionFault text I.size fault
 
--- the text has this first fault as one of a certificate, of a least cost or of a gap
+-- the text has this first fault as a certificate, of a least cost or of a gap
 abbrev pub IsNoProof : Problem → List ℕ → RunError → Type 0
 IsNoProof I text e = (fault : CertError) × (e ≡ of_certificate fault) × IsRefused I text fault
 
@@ -75,7 +75,7 @@ refusal_of (Certificate e) = certificate_refusal e
 refusal_of OutOfMemory = memory_refusal
 refusal_of Device = device_refusal
 
--- the exit status of a refusal: 3 for want of memory, else 1
+-- the exit status of a refusal: 3 if out of memory, else 1
 abbrev pub status_of : RunError → ℕ
 status_of OutOfMemory = 3
 status_of _ = 1

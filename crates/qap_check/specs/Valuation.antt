@@ -1,4 +1,4 @@
--- What an instance and a solution yield: two costs, the value that was stated, and which of the costs it is.
+-- What an instance and a solution yield: two costs, the stated value, and which of the costs it matches.
 use Rattle.std.specs.Prelude.{◌≡◌, ◌≢◌, ℕ, List, ◌++◌, ℤ, codes}
 use Rattle.std.specs.Fmt.{signed_decimal}
 use Rattle.qap_cost.specs.Bijection.{IsInverse}
@@ -17,7 +17,7 @@ IsMatch cost inverse stated Direct = cost ≡ stated
 IsMatch cost inverse stated Inverse = (cost ≢ stated) × (inverse ≡ stated)
 IsMatch cost inverse stated Neither = (cost ≢ stated) × (inverse ≢ stated)
 
--- both costs of a permutation, and how a stated value meets them
+-- both costs of a permutation, and how a stated value matches them
 pub record Judges (I : Problem) (p : List ℕ) (stated : ℤ) (v : Valuation) : Type 0 where
   pub cost : v.cost ≡ cost_of I p
   pub backward : List ℕ
@@ -26,20 +26,20 @@ pub record Judges (I : Problem) (p : List ℕ) (stated : ℤ) (v : Valuation) : 
   pub stated_is : v.stated ≡ stated
   pub found : IsMatch v.cost v.inverse v.stated v.found
 
--- the text of a solution for an instance, judged
+-- the text of a solution for an instance, evaluated
 pub record AnswersSolution (I : Problem) (text : List ℕ) (v : Valuation) : Type 0 where
   pub value : ℤ
   pub permutation : List ℕ
   pub solution_text : IsSolutionText text I.size value permutation
   pub judged : Judges I permutation value v
 
--- the word for each way in which a stated value meets the costs
+-- the word for each way in which a stated value matches the costs
 abbrev pub match_name : Match → List ℕ
 match_name Direct = codes "direct"
 match_name Inverse = codes "inverse"
 match_name Neither = codes "none"
 
--- how a run ends that answers so: refused, where the stated value is neither cost
+-- the status of a run with this answer: refused, if the stated value matches neither cost
 abbrev pub match_status : Match → Status
 match_status Direct = Done
 match_status Inverse = Done

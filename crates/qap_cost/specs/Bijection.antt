@@ -1,8 +1,8 @@
--- Permutations as lists: the number at place i is where i is sent.
+-- Permutations as lists: the number at position i is the image of i.
 use Rattle.std.specs.Prelude.{◌≡◌, ℕ, ◌<◌, ◌≤◌, List, length, slice_index}
 use Rattle.qap_cost.specs.Limits.{max_size}
 
--- numbers below n, no two of them equal
+-- distinct numbers below n
 pub record AreDifferent (n : ℕ) (xs : List ℕ) : Type 0 where
   pub within : (i : ℕ) → i < length xs → slice_index xs i < n
   pub distinct : (i j : ℕ) → i < length xs → j < length xs → slice_index xs i ≡ slice_index xs j → i ≡ j
@@ -11,7 +11,7 @@ pub record AreDifferent (n : ℕ) (xs : List ℕ) : Type 0 where
 abbrev pub IsBijection : List ℕ → Type 0
 IsBijection p = AreDifferent (length p) p
 
--- q sends each number back to where p takes it from
+-- q is the inverse of p
 pub record IsInverse (p q : List ℕ) : Type 0 where
   pub same_length : length q ≡ length p
   pub there : (i : ℕ) → i < length p → slice_index q (slice_index p i) ≡ i

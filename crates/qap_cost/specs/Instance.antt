@@ -1,4 +1,4 @@
--- Instances of the quadratic assignment problem (Koopmans and Beckmann 1957), of the sizes and entries that are taken.
+-- Instances of the quadratic assignment problem (Koopmans and Beckmann 1957), within the limits on sizes and entries.
 use Rattle.std.specs.Prelude.{◌≡◌, ℕ, ◌+◌, ◌*◌, ◌<◌, ◌≤◌, List, length, ℤ, pos, slice_index_or}
 use Rattle.qap_cost.specs.Limits.{max_size}
 pub use Rattle.qap_cost.specs.Range.{InRange}

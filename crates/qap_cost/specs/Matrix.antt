@@ -20,20 +20,20 @@ pub record IsMatrix (M : Square) : Type 0 where
 abbrev pub entry_of : Square → ℕ → ℕ → ℤ
 entry_of M i k = entry M.size M.entries i k
 
--- each row takes a column of its own: row i takes column p(i)
+-- each row takes a distinct column: row i takes column p(i)
 pub record Assigns (M : Square) (p : List ℕ) : Type 0 where
   pub bijection : IsBijection p
   pub same_size : length p ≡ M.size
 
--- what row i costs at the column that p gives it
+-- the cost of row i at the column that p gives it
 abbrev pub assigned : Square → List ℕ → ℕ → ℤ
 assigned M p i = entry_of M i (slice_index p i)
 
--- what an assignment costs: the sum of what its rows cost
+-- the cost of an assignment: the sum of the costs of its rows
 abbrev pub assignment_cost : Square → List ℕ → ℤ
 assignment_cost M p = sum_to (assigned M p) M.size
 
--- one number for each row and one for each column; no entry is below the sum of its two
+-- a number for each row and one for each column; every entry is at least their sum
 pub record DualsFit (M : Square) (u v : List ℤ) : Type 0 where
   pub u_count : length u ≡ M.size
   pub v_count : length v ≡ M.size

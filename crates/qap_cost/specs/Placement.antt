@@ -1,4 +1,4 @@
--- Nodes of a search: some facilities stand at locations of their own, and the others are free.
+-- Nodes of a search: some facilities are placed at distinct locations, and the others are free.
 use Rattle.std.specs.Prelude.{◌≡◌, ◌≢◌, ℕ, ◌+◌, ◌<◌, ◌≤◌, ◌==◌, not, Bool, List, [], ◌∷◌, ◌++◌, length, filter, ℤ, ◌*ℤ◌, slice_index}
 use Rattle.std.specs.List.{list_any, range_with_len}
 use Rattle.qap_cost.specs.Limits.{max_size}
@@ -6,13 +6,13 @@ use Rattle.qap_cost.specs.Sum.{sum_to}
 use Rattle.qap_cost.specs.Bijection.{AreDifferent, IsBijection}
 use Rattle.qap_cost.specs.Instance.{Problem, entry}
 
--- of size facilities these stand at these places, listed in the order of placing
+-- of `size` facilities these are at these locations, listed in the order of placement
 pub record Placement : Type 0 where
   pub size : ℕ
   pub facilities : List ℕ
   pub places : List ℕ
 
--- different facilities at different locations
+-- distinct facilities at distinct locations
 pub record IsPlacement (x : Placement) : Type 0 where
   pub positive : 0 < x.size
   pub small : x.size ≤ max_size
@@ -24,7 +24,7 @@ pub record IsPlacement (x : Placement) : Type 0 where
 abbrev pub root_of : ℕ → Placement
 root_of n = record { size = n; facilities = []; places = [] }
 
--- facility f at location k too
+-- facility f placed at location k in addition
 abbrev pub placing : Placement → ℕ → ℕ → Placement
 placing x f k = record { size = x.size; facilities = x.facilities ++ f ∷ []; places = x.places ++ k ∷ [] }
 
@@ -64,7 +64,7 @@ pub record ListsFree (n : ℕ) (taken free : List ℕ) : Type 0 where
   pub all : (k : ℕ) → IsFree n taken k → (i : ℕ) × (i < length free) × (slice_index free i ≡ k)
   pub ascending : (i j : ℕ) → i < j → j < length free → slice_index free i < slice_index free j
 
--- a permutation that puts each placed facility at its place
+-- a permutation that puts each placed facility at its location
 pub record Completes (x : Placement) (p : List ℕ) : Type 0 where
   pub bijection : IsBijection p
   pub same_size : length p ≡ x.size
@@ -77,11 +77,11 @@ pub record StandsAt (x : Placement) (f k : ℕ) : Type 0 where
   pub facility : slice_index x.facilities turn ≡ f
   pub location : slice_index x.places turn ≡ k
 
--- what the facilities that were placed as numbers s and t cost together
+-- the cost of the s-th and t-th placed facilities together
 abbrev pub placed_pair_cost : Problem → Placement → ℕ → ℕ → ℤ
 placed_pair_cost I x s t =
     entry I.size I.a (slice_index x.facilities s) (slice_index x.facilities t) *ℤ entry I.size I.b (slice_index x.places s) (slice_index x.places t)
 
--- what the placed facilities cost among themselves
+-- the cost of the placed facilities among themselves
 abbrev pub fixed_cost_of : Problem → Placement → ℤ
 fixed_cost_of I x = sum_to (λ s. sum_to (placed_pair_cost I x s) (length x.facilities)) (length x.facilities)

@@ -1,4 +1,4 @@
--- How far from 0 numbers lie.
+-- Bounds on the absolute value of numbers.
 use Rattle.std.specs.Prelude.{ℕ, ◌<◌, ◌≤◌, List, length, ℤ, pos, slice_index_or, unsigned_abs}
 use Rattle.qap_cost.specs.Limits.{max_entry, max_value}
 
@@ -6,7 +6,7 @@ use Rattle.qap_cost.specs.Limits.{max_entry, max_value}
 pub record AllWithin (limit : ℕ) (xs : List ℤ) : Type 0 where
   pub each : (j : ℕ) → j < length xs → unsigned_abs (slice_index_or xs j (pos 0)) ≤ limit
 
--- from -10^9 to 10^9, as entries are
+-- from -10^9 to 10^9, like entries
 abbrev pub InRange : ℤ → Type 0
 InRange x = unsigned_abs x ≤ max_entry
 
@@ -14,7 +14,7 @@ InRange x = unsigned_abs x ≤ max_entry
 abbrev pub AllInRange : List ℤ → Type 0
 AllInRange xs = AllWithin max_entry xs
 
--- from -10^24 to 10^24, as stated costs and duals are
+-- from -10^24 to 10^24, like stated costs and duals
 abbrev pub IsLimited : ℤ → Type 0
 IsLimited x = unsigned_abs x ≤ max_value
 

@@ -1,4 +1,4 @@
--- A row of a matrix, and the products that it gives.
+-- A row of a matrix, and its products.
 use Rattle.std.specs.Prelude.{◌≡◌, ℕ, ◌<◌, List, length, ℤ, pos, ◌*ℤ◌, slice_index, slice_index_or}
 use Rattle.qap_cost.specs.Instance.{entry}
 pub use Rattle.qap_cost.specs.Range.{AllInRange}

@@ -3,7 +3,7 @@ use Rattle.std.specs.Prelude.{ℕ, ◌<◌, if◌then◌else◌, nat_eq, List, �
 use Rattle.qap_cost.specs.Instance.{Problem}
 use Rattle.qap_cost.specs.Objective.{cost_of}
 
--- facilities r and s at each other's locations, the others where they were
+-- facilities r and s with their locations exchanged, the others unchanged
 abbrev pub exchanging : List ℕ → ℕ → ℕ → List ℕ
 exchanging p r s = slice_set (slice_set p r (slice_index p s)) s (slice_index p r)
 

@@ -1,16 +1,16 @@
--- What the exchange of two facilities changes the cost by, read off rows of flows and distances (Burkard and Rendl 1984).
+-- The cost change when two facilities are exchanged, computed from rows of flows and distances (Burkard and Rendl 1984).
 use Rattle.std.specs.Prelude.{◌≡◌, ℕ, List, length, ℤ, pos, ◌+ℤ◌, ◌-ℤ◌, ◌*ℤ◌, slice_index_or}
 use Rattle.qap_cost.specs.Range.{AllWithin}
 use Rattle.qap_cost.specs.Row.{IsRow}
 use Rattle.qap_cost.specs.Sum.{sum_to}
 use Rattle.qap_improve.specs.declared.rows.Rows.{Rows}
 
--- n numbers, none further from 0 than the limit
+-- n numbers, none above the limit in absolute value
 pub record IsRowWithin (limit n : ℕ) (xs : List ℤ) : Type 0 where
   pub count : length xs ≡ n
   pub within : AllWithin limit xs
 
--- the same for each of the two rows of flows and the two rows of distances
+-- likewise for each of the two rows of flows and the two rows of distances
 pub record AreRowsWithin (limit n : ℕ) (x : Rows) : Type 0 where
   pub size : x.size ≡ n
   pub flow_first : IsRowWithin limit n x.flow_first.now
@@ -32,11 +32,11 @@ crossed x i j =
     (slice_index_or x.flow_first.now i (pos 0) -ℤ slice_index_or x.flow_second.now j (pos 0))
     *ℤ (slice_index_or x.distance_second.now j (pos 0) -ℤ slice_index_or x.distance_first.now i (pos 0))
 
--- what changes with facility k, there and back
+-- the change with facility k, in both directions
 abbrev pub crossed_with : Rows → Rows → ℕ → ℤ
 crossed_with there back k = crossed back k k +ℤ crossed there k k
 
--- what changes with all n facilities but the two, r and s, and among these
+-- the changes with all n facilities except r and s, and among these two
 abbrev pub change_by_rows : ℕ → Rows → Rows → ℕ → ℕ → ℤ
 change_by_rows n there back r s =
     ((sum_to (crossed_with there back) n -ℤ crossed_with there back r) -ℤ crossed_with there back s) +ℤ (crossed there r s +ℤ crossed there s r)

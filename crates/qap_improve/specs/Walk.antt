@@ -1,4 +1,4 @@
--- What is known on a walk from one permutation to the next (Taillard, Robust taboo search for the quadratic assignment
+-- The state of a walk from one permutation to the next (Taillard, Robust taboo search for the quadratic assignment
 -- problem, Parallel Computing 17, 1991).
 use Rattle.std.specs.Prelude.{◌≡◌, ℕ, ℤ, List, Bool}
 use Rattle.qap_cost.specs.Instance.{IsInstance, Problem}
@@ -8,8 +8,8 @@ use Rattle.qap_improve.specs.Moving.{KeepsOthers}
 use Rattle.qap_improve.specs.Table.{AreKept}
 use Rattle.qap_improve.specs.declared.tabu.Walk.{Walk}
 
--- it stands at a permutation, with what that costs and what each exchange would change that by; the best permutation that
--- it has come by is kept with its cost. A number of the differences stands for its value, where entries lie within the limit
+-- the current permutation, with its cost and the change of each exchange; the best permutation found so far is kept with
+-- its cost. A number of the differences represents its value, with entries within the limit
 pub record IsWalk {X : Type 0} (value : X → ℤ) (limit : ℕ) (I : Problem) (walk : Walk X) : Type 0 where
   pub instance : IsInstance I
   pub limited : HasEntriesWithin limit I
@@ -19,7 +19,7 @@ pub record IsWalk {X : Type 0} (value : X → ℤ) (limit : ℕ) (I : Problem) (
   pub best : Permutes I walk.best.items
   pub best_cost : walk.best_cost ≡ cost_of I walk.best.items
 
--- it has moved no facility that may not move, neither where it stands nor in what it keeps as the best
+-- it has moved no facility that may not move, neither in the current permutation nor in the best one
 pub record WalkKeeps {X : Type 0} (may_move : List Bool) (start : List ℕ) (walk : Walk X) : Type 0 where
   pub here : KeepsOthers may_move start walk.arrangement.locations.items
   pub best : KeepsOthers may_move start walk.best.items

@@ -1,4 +1,4 @@
--- The readers and writers for tests.
+-- Readers and writers for tests.
 use Rattle.std.specs.Prelude.{ℕ}
 
 -- a reader or a writer, and its number of calls up to the one that fails, or 0 once that has failed

@@ -2,13 +2,13 @@
 use Rattle.std.specs.Prelude.{ℕ, List, [], ◌++◌, Option, Some, None, codes}
 use Rattle.std.specs.Fmt.{decimal}
 
--- a refusal's number, its name, and the place, the line or the count that it carries
+-- a refusal's number, its name, and the place, line or count that it carries
 pub record RefusalText : Type 0 where
   pub number : ℕ
   pub name : List ℕ
   pub at : Option ℕ
 
--- a refusal that carries no number besides its own
+-- a refusal that carries no further number
 abbrev pub refused : ℕ → List ℕ → RefusalText
 refused number name = record { number = number; name = name; at = None }
 
@@ -25,10 +25,10 @@ at_text (Some k) = codes " at " ++ decimal k
 abbrev pub refusal_line : RefusalText → List ℕ
 refusal_line r = codes "refused " ++ decimal r.number ++ codes " " ++ r.name ++ at_text r.at ++ codes "\n"
 
--- want of memory, which every program and crate refuses by the same number and name
+-- out of memory, which every program and crate refuses with the same number and name
 abbrev pub memory_refusal : RefusalText
 memory_refusal = refused 50 (codes "OutOfMemory")
 
--- the same for a failed device
+-- likewise for a failed device
 abbrev pub device_refusal : RefusalText
 device_refusal = refused 51 (codes "Device")

@@ -1,4 +1,4 @@
--- Bounds that stand beside a cost.
+-- Bounds stated with a cost.
 use Rattle.std.specs.Prelude.{ℤ, ◌≤ℤ◌}
 use Rattle.qap_cost.specs.Range.{IsLimited}
 

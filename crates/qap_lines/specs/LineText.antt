@@ -1,9 +1,9 @@
--- The one text of a line of a name and numbers.
+-- The unique text of a line of a name and numbers.
 use Rattle.std.specs.Prelude.{ℕ, List, [], ◌∷◌, ◌++◌, length, ℤ, pos, codes}
 use Rattle.std.specs.Fmt.{signed_decimal}
 use Rattle.qap_io.specs.Number.{from_one}
 
--- numbers in decimal, each behind one space
+-- numbers in decimal, each after one space
 abbrev pub numbers_text : List ℤ → List ℕ
 numbers_text [] = []
 numbers_text (z ∷ zs) = 32 ∷ signed_decimal z ++ numbers_text zs

@@ -1,4 +1,4 @@
--- Numbers at the front of a text.
+-- Numbers at the beginning of a text.
 use Rattle.std.specs.Prelude.{◌≡◌, ℕ, ◌^◌, ◌≤◌, ◌++◌, List, length, take, min, ℤ, slice_index}
 use Rattle.qap_io.specs.Digits.{IsNoDigit}
 use Rattle.qap_lines.specs.Number.{IsDecimal, IsNumber, held}
@@ -25,10 +25,10 @@ pub record IsFrontNumber (text : List ℕ) (count : ℕ) (value : ℤ) : Type 0 
   pub spelled : IsNumber (take count text) number
   pub is : value ≡ held number
 
--- no number without a sign is at the front of the text
+-- the text does not begin with a number without a sign
 pub record HasNoFrontDecimal (text : List ℕ) : Type 0 where
   pub none : (word : List ℕ) (n : ℕ) → IsFront text word → IsDecimal word n → ⊥
 
--- no number is at the front of the text
+-- the text does not begin with a number
 pub record HasNoFrontNumber (text : List ℕ) : Type 0 where
   pub none : (word : List ℕ) (z : ℤ) → IsFront text word → IsNumber word z → ⊥

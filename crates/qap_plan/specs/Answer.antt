@@ -2,7 +2,7 @@
 use Rattle.std.specs.Prelude.{ℕ, ◌+◌, List, [], ◌∷◌, ◌++◌, ℤ, codes, int_lt, if◌then◌else◌}
 use Rattle.std.specs.Fmt.{decimal, signed_decimal}
 
--- facility i stands at location k, both counted from 1
+-- facility i is at location k, both counted from 1
 abbrev pub place_line : ℕ → ℕ → List ℕ
 place_line i k = codes "facility " ++ decimal i ++ codes " at location " ++ decimal k ++ codes "\n"
 
@@ -11,7 +11,7 @@ abbrev pub place_lines : ℕ → List ℕ → List ℕ
 place_lines i [] = []
 place_lines i (k ∷ p) = place_line (i + 1) (k + 1) ++ place_lines (i + 1) p
 
--- what is proved of the cost
+-- what is proved about the cost
 abbrev pub verdict_line : ℤ → ℤ → List ℕ
 verdict_line c g =
     if int_lt g c
@@ -22,14 +22,14 @@ verdict_line c g =
 abbrev pub answer_text : List ℕ → ℤ → ℤ → List ℕ
 answer_text p c g = place_lines 0 p ++ verdict_line c g
 
--- what is stated of the cost
+-- what is stated about the cost
 abbrev pub stated_line : ℤ → ℤ → List ℕ
 stated_line c g =
     if int_lt g c
     then codes "cost " ++ signed_decimal c ++ codes ", stated within " ++ signed_decimal g ++ codes " to " ++ signed_decimal c ++ codes "\n"
     else codes "cost " ++ signed_decimal c ++ codes ", stated as optimal\n"
 
--- the same text where nothing shows the bound
+-- the same text if the bound is only stated
 abbrev pub stated_text : List ℕ → ℤ → ℤ → List ℕ
 stated_text p c g = place_lines 0 p ++ stated_line c g
 

@@ -1,4 +1,4 @@
--- What a run yields.
+-- The result of a run.
 use Rattle.std.specs.Prelude.{◌≡◌, ℕ, ◌⊎◌, Bool, List, Option}
 use Rattle.qap_cost.specs.Instance.{Problem}
 use Rattle.qap_io.specs.Counting.{CountedDevice}
@@ -12,7 +12,7 @@ use Rattle.qap_plan.specs.declared.error.PlanError.{PlanError}
 use Rattle.qap_plan.specs.declared.error.PlanError.TheVariants.{Device}
 use Rattle.qap_plan.specs.declared.planning.Planned.{Planned}
 
--- the input has an instance to be searched, and a start where one is asked for, and this is what the search has found
+-- the input has an instance to be searched, and a start if one is requested, and this is what the search has found
 pub record ComesTo {R Q : Type 0} (i : Input R) (s : Starting Q) (passes : Bool) (x : Planned) : Type 0 where
   pub problem : Problem
   pub input : HasPlan i passes problem
@@ -20,27 +20,27 @@ pub record ComesTo {R Q : Type 0} (i : Input R) (s : Starting Q) (passes : Bool)
   pub begins : HasStart s problem start
   pub planned : IsPlanned problem start x.permutation x.cost x.bound
 
--- the text of the answer has gone out
+-- the text of the answer has been written
 pub record HasAnswered {R Q W : Type 0} (i : Input R) (s : Starting Q) (passes : Bool) (contents : W → Option (List ℕ)) (old new : CountedDevice W) (x : Planned) : Type 0 where
   pub comes : ComesTo i s passes x
   pub sent : Sends contents old new (answer_text x.permutation x.cost x.bound)
 
--- the writer failed, and a beginning of it has
+-- the writer failed after a prefix of it
 pub record HasBrokenOff {R Q W : Type 0} (i : Input R) (s : Starting Q) (passes : Bool) (contents : W → Option (List ℕ)) (old new : CountedDevice W) : Type 0 where
   pub answer : Planned
   pub comes : ComesTo i s passes answer
   pub broken : BreaksOff contents old new (answer_text answer.permutation answer.cost answer.bound)
 
--- there is an instance, and no start that is asked for
+-- there is an instance, but not the requested start
 pub record StopsAtStart {R Q : Type 0} (i : Input R) (s : Starting Q) (passes : Bool) (e : PlanError) : Type 0 where
   pub problem : Problem
   pub input : HasPlan i passes problem
   pub fault : HasNoStart s problem e
 
--- why nothing is searched: there is no instance, and the start wasn't looked at; or there is no start; or memory ran out
+-- why nothing is searched: there is no instance, and the start was not read; or there is no start; or memory ran out
 abbrev pub IsNotSearched : {R Q : Type 0} → Input R → Starting Q → Bool → PlanError → Type 0
 IsNotSearched i s passes e = (HasNoPlan i e × (s.after ≡ s.before)) ⊎ (StopsAtStart i s passes e ⊎ WantsMemory i e)
 
--- there is no answer, and nothing has gone out; or the writer failed
+-- there is no answer, and nothing has been written; or the writer failed
 abbrev pub HasNotAnswered : {R Q W : Type 0} → Input R → Starting Q → Bool → (W → Option (List ℕ)) → CountedDevice W → CountedDevice W → PlanError → Type 0
 HasNotAnswered i s passes contents old new e = (IsNotSearched i s passes e × (new ≡ old)) ⊎ ((e ≡ Device) × HasBrokenOff i s passes contents old new)

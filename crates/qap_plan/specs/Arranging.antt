@@ -1,4 +1,4 @@
--- What a run on a problem with names yields.
+-- The result of a run on a problem with names.
 use Rattle.std.specs.Prelude.{◌≡◌, ℕ, ◌⊎◌, List, Option}
 use Rattle.qap_io.specs.Counting.{CountedDevice}
 use Rattle.qap_io.specs.Writing.{BreaksOff, Sends}
@@ -10,21 +10,21 @@ use Rattle.qap_plan.specs.declared.error.PlanError.{PlanError}
 use Rattle.qap_plan.specs.declared.error.PlanError.TheVariants.{Device, OutOfMemory}
 use Rattle.qap_plan.specs.declared.planning.Planned.{Planned}
 
--- there is a start where one is asked for, and this is what the search of the arrangements that keep what is fixed has
+-- there is a start if one is requested, and this is what the search of the arrangements that respect what is fixed has
 -- found
 pub record IsArranged {Q : Type 0} (P : NamedProblem) (s : Starting Q) (x : Planned) : Type 0 where
   pub start : Option (List ℕ)
   pub begins : HasStart s P.instance start
   pub kept : IsKept P.instance P.fixed start x.permutation x.cost x.bound
 
--- the text of the answer, with the names, has gone out
+-- the text of the answer, with the names, has been written
 pub record HasArranged {Q W : Type 0} (P : NamedProblem) (s : Starting Q) (contents : W → Option (List ℕ)) (old new : CountedDevice W) (x : Planned) : Type 0 where
   pub arranged : IsArranged P s x
   pub text : List ℕ
   pub told : IsAnswerText P x.permutation x.cost x.bound text
   pub sent : Sends contents old new text
 
--- the writer failed, and a beginning of it has
+-- the writer failed after a prefix of it
 pub record HasBrokenOffNamed {Q W : Type 0} (P : NamedProblem) (s : Starting Q) (contents : W → Option (List ℕ)) (old new : CountedDevice W) : Type 0 where
   pub answer : Planned
   pub arranged : IsArranged P s answer
@@ -32,6 +32,6 @@ pub record HasBrokenOffNamed {Q W : Type 0} (P : NamedProblem) (s : Starting Q) 
   pub told : IsAnswerText P answer.permutation answer.cost answer.bound text
   pub broken : BreaksOff contents old new text
 
--- there is no answer, and nothing has gone out, since there is no start that is asked for, or no memory left; or the writer failed
+-- there is no answer, and nothing has been written, because the requested start is missing or memory ran out; or the writer failed
 abbrev pub HasNotArranged : {Q W : Type 0} → NamedProblem → Starting Q → (W → Option (List ℕ)) → CountedDevice W → CountedDevice W → PlanError → Type 0
 HasNotArranged P s contents old new e = ((HasNoStart s P.instance e ⊎ (e ≡ OutOfMemory)) × (new ≡ old)) ⊎ ((e ≡ Device) × HasBrokenOffNamed P s contents old new)

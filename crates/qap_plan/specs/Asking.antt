@@ -1,4 +1,4 @@
--- What a command line asks for.
+-- The request of a command line.
 use Rattle.std.specs.Prelude.{⊤}
 use Rattle.qap_plan.specs.Options.{AreLimited}
 use Rattle.qap_plan.specs.declared.command_line.Task.{Task}

@@ -1,4 +1,4 @@
--- What a search of the arrangements that keep what is fixed yields.
+-- The result of a search of the arrangements that respect what is fixed.
 use Rattle.std.specs.Prelude.{◌≡◌, ◌↔◌, ◌≤ℤ◌, ⊤, ℕ, ℤ, List, Option, Some, None}
 use Rattle.qap_cost.specs.Instance.{Problem}
 use Rattle.qap_cost.specs.Objective.{Permutes, cost_of}
@@ -6,13 +6,13 @@ use Rattle.qap_cost.specs.Placement.{Completes, Placement}
 use Rattle.qap_proof.specs.Claim.{Claim, IsProof, Proves}
 use Rattle.proof_search.specs.Held.{Held, Shows}
 
--- no dearer than the start, where there is one that keeps what is fixed
+-- costs no more than the start, if there is one that respects what is fixed
 abbrev pub IsNoDearerKept : Problem → Placement → Option (List ℕ) → ℤ → Type 0
 IsNoDearerKept I x None c = ⊤
 IsNoDearerKept I x (Some start) c = Completes x start → c ≤ℤ cost_of I start
 
--- a permutation that keeps what is fixed, with its cost, no dearer than the start; and a bound, at most that cost, that no permutation which keeps it
--- costs less than
+-- a permutation that respects what is fixed, with its cost, no higher than the start's; and a bound, at most that cost, on the cost of
+-- every permutation that respects it
 pub record IsKept (I : Problem) (x : Placement) (start : Option (List ℕ)) (p : List ℕ) (c g : ℤ) : Type 0 where
   pub completes : Completes x p
   pub costs : cost_of I p ≡ c
@@ -20,7 +20,7 @@ pub record IsKept (I : Problem) (x : Placement) (start : Option (List ℕ)) (p :
   pub none_less : (q : List ℕ) → Completes x q → g ≤ℤ cost_of I q
   pub at_most : g ≤ℤ c
 
--- what a search over what is fixed has found from a first permutation: its own may not keep what is fixed
+-- what a search over what is fixed has found from an initial permutation, which need not respect what is fixed
 pub record IsSearched (I : Problem) (x : Placement) (first p : List ℕ) (c g : ℤ) : Type 0 where
   pub permutes : Permutes I p
   pub costs : cost_of I p ≡ c
@@ -28,7 +28,7 @@ pub record IsSearched (I : Problem) (x : Placement) (first p : List ℕ) (c g : 
   pub none_less : (q : List ℕ) → Completes x q → g ≤ℤ cost_of I q
   pub at_most : g ≤ℤ c
 
--- a valid proof over a node that the same permutations complete as what is fixed, with this permutation, its cost and this bound
+-- a valid proof over a node with the same completions as what is fixed, with this permutation, its cost and this bound
 pub record ProvesKept (I : Problem) (x : Placement) (p : List ℕ) (c g : ℤ) (C : Claim) : Type 0 where
   pub shape : IsProof C
   pub proves : Proves I C
@@ -37,7 +37,7 @@ pub record ProvesKept (I : Problem) (x : Placement) (p : List ℕ) (c g : ℤ) (
   pub cost : C.cost ≡ c
   pub bound : C.bound ≡ g
 
--- a valid proof under pair duals over a node that the same permutations complete as what is fixed, with this permutation and its cost,
+-- a valid proof with pair duals over a node with the same completions as what is fixed, with this permutation and its cost,
 -- which is the bound
 pub record ShowsKept (I : Problem) (x : Placement) (p : List ℕ) (c g : ℤ) (h : Held) : Type 0 where
   pub shows : Shows I h

@@ -1,4 +1,4 @@
--- How an instance is to be searched.
+-- The options of a search.
 use Rattle.std.specs.Prelude.{◌≤◌}
 use Rattle.qap_plan.specs.declared.options.Options.{Options}
 

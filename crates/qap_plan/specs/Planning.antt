@@ -1,4 +1,4 @@
--- What a search of an instance yields.
+-- The result of a search of an instance.
 use Rattle.std.specs.Prelude.{◌≡◌, ◌≤ℤ◌, ℕ, ℤ, List, Option, Some, None}
 use Rattle.qap_cost.specs.Instance.{Problem}
 use Rattle.qap_cost.specs.Objective.{NoneCostsLess, Permutes, cost_of}
@@ -6,12 +6,12 @@ use Rattle.qap_cost.specs.Placement.{Placement, root_of}
 use Rattle.qap_proof.specs.Claim.{Claim, IsProof, Proves}
 use Rattle.proof_search.specs.Held.{Held, Shows}
 
--- no dearer than the start, where there is one
+-- costs no more than the start, if there is one
 abbrev pub IsNoDearer : Problem → Option (List ℕ) → ℤ → Type 0
 IsNoDearer I None c = Unit {0}
 IsNoDearer I (Some start) c = c ≤ℤ cost_of I start
 
--- a permutation of the instance with its cost, no dearer than the start, and a bound, at most that cost, that no permutation costs less than
+-- a permutation of the instance with its cost, no higher than the start's, and a bound, at most that cost, on the cost of every permutation
 pub record IsPlanned (I : Problem) (start : Option (List ℕ)) (p : List ℕ) (c g : ℤ) : Type 0 where
   pub permutes : Permutes I p
   pub costs : cost_of I p ≡ c
@@ -28,7 +28,7 @@ pub record ProvesPlanned (I : Problem) (p : List ℕ) (c g : ℤ) (C : Claim) : 
   pub cost : C.cost ≡ c
   pub bound : C.bound ≡ g
 
--- a valid proof under pair duals over this root, with this permutation and its cost, which is the bound
+-- a valid proof with pair duals over this root, with this permutation and its cost, which is the bound
 pub record ShowsPlanned (I : Problem) (root : Placement) (p : List ℕ) (c g : ℤ) (h : Held) : Type 0 where
   pub shows : Shows I h
   pub over : h.root ≡ root

@@ -1,4 +1,4 @@
--- An instance that stands alone in an input.
+-- An instance that is alone in an input.
 use Rattle.std.specs.Prelude.{◌≡◌, ◌≢◌, ℕ, ◌-◌, ◌⊎◌, Bool, false, List, [], length}
 use Rattle.qap_cost.specs.Instance.{Problem}
 use Rattle.qap_text.specs.Input.{HasInstance, HasNoInstance, Input}
@@ -8,25 +8,25 @@ use Rattle.qap_text.specs.declared.error.TextError.TheVariants.{OutOfMemory as T
 use Rattle.qap_plan.specs.declared.error.PlanError.{PlanError}
 use Rattle.qap_plan.specs.declared.error.PlanError.TheVariants.{Text, Rest, OutOfMemory, Device}
 
--- what a fault of a text is for the run: want of memory and a failed device are the run's own
+-- the run's error for a fault of a text: out of memory and a failed device are the run's own
 abbrev pub of_text : TextError → PlanError
 of_text TextMemory = OutOfMemory
 of_text TextDevice = Device
 of_text e = Text e
 
--- the input's bytes begin with the text of an instance, behind which no word follows, unless what follows is to be passed over
+-- the input's bytes begin with the text of an instance, followed by no word unless what follows is to be ignored
 pub record HasPlan {R : Type 0} (i : Input R) (passes : Bool) (I : Problem) : Type 0 where
   pub rest : List ℕ
   pub input : HasInstance i I rest
   pub alone : passes ≡ false → after_separators rest ≡ []
 
--- the input begins with no instance
+-- the input does not begin with an instance
 pub record NoInstance {R : Type 0} (i : Input R) (e : PlanError) : Type 0 where
   pub fault : TextError
   pub is : e ≡ of_text fault
   pub of_input : HasNoInstance i fault
 
--- an instance is followed by a word; this many bytes stand before it
+-- an instance is followed by a word; this many bytes precede it
 pub record HasRest {R : Type 0} (i : Input R) (e : PlanError) : Type 0 where
   pub problem : Problem
   pub rest : List ℕ

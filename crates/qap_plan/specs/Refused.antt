@@ -1,4 +1,4 @@
--- What a fault of a proof that was put together is for the run: want of memory and a failed device are the run's own.
+-- The run's error for a fault of an assembled proof: out of memory and a failed device are the run's own.
 use Rattle.qap_proof.specs.declared.error.ProofError.{ProofError}
 use Rattle.qap_proof.specs.declared.error.ProofError.TheVariants.{OutOfMemory as ProofMemory, Device as ProofDevice}
 use Rattle.qap_plan.specs.declared.error.PlanError.{PlanError}

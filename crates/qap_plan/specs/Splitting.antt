@@ -1,4 +1,4 @@
--- The proof of a search that was stopped early, and the parts that are missing beside it.
+-- The proof of a search that was stopped early, and the parts that it still needs.
 use Rattle.std.specs.Prelude.{◌≡◌, All}
 use Rattle.qap_cost.specs.Instance.{Problem}
 use Rattle.qap_cost.specs.Placement.{root_of}
@@ -6,7 +6,7 @@ use Rattle.qap_proof.specs.Claim.{IsProof, NoneCompletesForLess, Proves}
 use Rattle.qap_proof.specs.Missing.{AreMissing, IsMissingBounded}
 use Rattle.qap_plan.specs.declared.splitting.Skeleton.{Skeleton}
 
--- a valid proof over the whole instance with the parts that are missing beside it, which are enough
+-- a valid proof over the whole instance with the parts that it still needs, which suffice
 pub record IsSkeleton (I : Problem) (s : Skeleton) : Type 0 where
   pub shape : IsProof s.proof
   pub proves : Proves I s.proof

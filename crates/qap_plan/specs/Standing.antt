@@ -1,15 +1,15 @@
--- The proof of a part that stands already.
+-- The existing proof of a part.
 use Rattle.std.specs.Prelude.{◌⊎◌, ◌≤ℤ◌, ℕ, List, ℤ}
 use Rattle.qap_cost.specs.Instance.{Problem}
 use Rattle.qap_cost.specs.Placement.{Placement}
 use Rattle.qap_proof.specs.Acceptance.{ProvesFor}
 use Rattle.qap_proof.specs.declared.over_root.Stated.{Stated}
 
--- the bound g of a proof whose permutation costs c is short of one of both costs at most
+-- the bound g reaches the cost c of the proof's own permutation, or the given cost
 abbrev pub IsComplete : ℤ → ℤ → ℤ → Type 0
 IsComplete c g cost = (c ≤ℤ g) ⊎ (cost ≤ℤ g)
 
--- the text is that of a proof over the node, which proves its bound; and that is complete beside a permutation of this cost
+-- the text is that of a proof over the node, which proves its bound; and it is complete for a permutation of this cost
 pub record IsStanding (I : Problem) (x : Placement) (cost : ℤ) (text : List ℕ) (s : Stated) : Type 0 where
   pub proves : ProvesFor I text x s.cost s.bound
   pub complete : IsComplete s.cost s.bound cost

@@ -1,4 +1,4 @@
--- A start that stands at the front of an input of its own.
+-- A start at the beginning of its own input.
 use Rattle.std.specs.Prelude.{◌≡◌, ◌≢◌, ℕ, ◌⊎◌, List, ℤ, Option, Some, None}
 use Rattle.qap_cost.specs.Instance.{Problem}
 use Rattle.qap_cost.specs.Objective.{cost_of}
@@ -11,7 +11,7 @@ use Rattle.qap_text.specs.declared.error.TextError.TheVariants.{OutOfMemory as T
 use Rattle.qap_plan.specs.declared.error.PlanError.{PlanError}
 use Rattle.qap_plan.specs.declared.error.PlanError.TheVariants.{Start, StartCost, OutOfMemory}
 
--- what a fault of the start's text is for the run: want of memory is the run's own
+-- the run's error for a fault of the start's text: out of memory is the run's own
 abbrev pub of_start : TextError → PlanError
 of_start TextMemory = OutOfMemory
 of_start e = Start e
@@ -28,17 +28,17 @@ pub record HasSolutionFault {Q : Type 0} (i : Input Q) (n : ℕ) (fault : TextEr
   pub read : HasText i text
   pub of_solution : IsSolutionFault text n fault
 
--- the bytes can't be read within the limit, or are no solution's text
+-- the bytes cannot be read within the limit, or are not a solution's text
 abbrev pub HasNoSolution : {Q : Type 0} → Input Q → ℕ → TextError → Type 0
 HasNoSolution i n fault = IsReadFault i.bytes max_input i.before i.after fault ⊎ HasSolutionFault i n fault
 
--- the input begins with no solution of the instance's size
+-- the input does not begin with a solution of the instance's size
 pub record NoStart {Q : Type 0} (i : Input Q) (I : Problem) (e : PlanError) : Type 0 where
   pub fault : TextError
   pub is : e ≡ of_start fault
   pub of_input : HasNoSolution i I.size fault
 
--- a solution states another cost than it has
+-- a solution misstates its cost
 pub record HasOtherCost {Q : Type 0} (i : Input Q) (I : Problem) (e : PlanError) : Type 0 where
   pub value : ℤ
   pub permutation : List ℕ
@@ -46,7 +46,7 @@ pub record HasOtherCost {Q : Type 0} (i : Input Q) (I : Problem) (e : PlanError)
   pub differs : value ≢ cost_of I permutation
   pub is : e ≡ StartCost (cost_of I permutation)
 
--- the reader of a start, where one is asked for, as a call found it and as it left it; and what is known of the bytes that it has left
+-- the reader of a start, if one is requested, before and after the call; and what is known about the bytes left in it
 pub record Starting (Q : Type 0) : Type 0 where
   pub bytes : Q → Option (List ℕ)
   pub before : Option (CountedDevice Q)
@@ -56,21 +56,21 @@ pub record Starting (Q : Type 0) : Type 0 where
 abbrev pub starting_of : {Q : Type 0} → (Q → Option (List ℕ)) → Option (CountedDevice Q) → Option (CountedDevice Q) → Starting Q
 starting_of bytes before after = record { bytes = bytes; before = before; after = after }
 
--- by the reader before and after: none is asked for, or it begins with a solution that states its own cost
+-- given the reader before and after: none is requested, or it begins with a solution that states its own cost
 abbrev pub Begins : {Q : Type 0} → (Q → Option (List ℕ)) → Problem → Option (CountedDevice Q) → Option (CountedDevice Q) → Option (List ℕ) → Type 0
 Begins bytes I None None None = Unit {0}
 Begins bytes I (Some old) (Some new) (Some p) = HasSolution (input_of bytes old new) I.size (cost_of I p) p
 Begins bytes I _ _ _ = ⊥
 
--- what the search is to begin with
+-- the initial permutation of the search
 abbrev pub HasStart : {Q : Type 0} → Starting Q → Problem → Option (List ℕ) → Type 0
 HasStart s I start = Begins s.bytes I s.before s.after start
 
--- by the reader before and after: one is asked for, and begins with none
+-- given the reader before and after: one is requested, and the input does not begin with one
 abbrev pub BeginsNot : {Q : Type 0} → (Q → Option (List ℕ)) → Problem → Option (CountedDevice Q) → Option (CountedDevice Q) → PlanError → Type 0
 BeginsNot bytes I (Some old) (Some new) e = NoStart (input_of bytes old new) I e ⊎ HasOtherCost (input_of bytes old new) I e
 BeginsNot bytes I _ _ e = ⊥
 
--- why there is no start, though one is asked for
+-- why there is no start although one is requested
 abbrev pub HasNoStart : {Q : Type 0} → Starting Q → Problem → PlanError → Type 0
 HasNoStart s I e = BeginsNot s.bytes I s.before s.after e

@@ -1,4 +1,4 @@
--- What a text shows of an instance's costs, and what keeps it from that.
+-- What a text establishes about an instance's costs, and what prevents it.
 use Rattle.std.specs.Prelude.{◌≡◌, ℕ, ◌<◌, ◌⊎◌, List, length, ℤ, ◌<ℤ◌}
 use Rattle.qap_cost.specs.Instance.{Problem}
 use Rattle.qap_cost.specs.Objective.{IsLeast, NoneCostsLess, Permutes, cost_of}
@@ -12,13 +12,13 @@ use Rattle.qap_proof.specs.declared.error.ProofError.{ProofError}
 use Rattle.qap_proof.specs.declared.acceptance.Verdict.{Verdict}
 use Rattle.qap_proof.specs.declared.acceptance.Verdict.TheVariants.{Optimal, Gap, Part}
 
--- the verdict of what a proof states: where its root is empty its cost, if that is its bound, and else both; and else its bound
+-- the verdict of what a proof states: if its root is empty its cost, if that is its bound, else both; otherwise its bound
 abbrev pub IsVerdictOf : Claim → Verdict → Type 0
 IsVerdictOf C (Optimal c) = (length C.root.facilities ≡ 0) × (C.bound ≡ C.cost) × (C.cost ≡ c)
 IsVerdictOf C (Gap g c) = (length C.root.facilities ≡ 0) × (C.bound ≡ g) × (C.cost ≡ c) × (g <ℤ c)
 IsVerdictOf C (Part g) = (0 < length C.root.facilities) × (C.bound ≡ g)
 
--- the text is that of a proof of this root, this cost and this bound, which it proves
+-- the text is that of a proof with this root, cost and bound, which it proves
 pub record ProvesFor (I : Problem) (text : List ℕ) (x : Placement) (c g : ℤ) : Type 0 where
   pub proof : Claim
   pub is_text : IsProofText text proof
@@ -27,15 +27,15 @@ pub record ProvesFor (I : Problem) (text : List ℕ) (x : Placement) (c g : ℤ)
   pub cost : proof.cost ≡ c
   pub bound : proof.bound ≡ g
 
--- the text is that of a proof which proves what the verdict says
+-- the text is that of a proof which establishes the verdict
 pub record ShowsVerdict (I : Problem) (text : List ℕ) (verdict : Verdict) : Type 0 where
   pub proof : Claim
   pub is_text : IsProofText text proof
   pub proved : Proves I proof
   pub says : IsVerdictOf proof verdict
 
--- what the verdict says is so: the least cost; a cost that some permutation has, and a bound below it that none is below; or a
--- bound that no permutation is below which completes the node that the text names
+-- the verdict is true: the least cost; a cost that some permutation has, and a lower bound on all; or a
+-- lower bound on the permutations that complete the node which the text names
 abbrev pub IsSo : Problem → List ℕ → Verdict → Type 0
 IsSo I text (Optimal c) = IsLeast I c
 IsSo I text (Gap g c) = ((p : List ℕ) × Permutes I p × (cost_of I p ≡ c)) × NoneCostsLess I g × (g <ℤ c)

@@ -1,5 +1,5 @@
--- Proofs: a node, a permutation of a cost, and a tree that is to show a bound on what the permutations that complete the node
--- cost.
+-- Proofs: a node, a permutation with a cost, and a tree that should prove a bound on the permutations that complete the
+-- node.
 use Rattle.std.specs.Prelude.{◌≡◌, ℕ, ◌+◌, ◌<◌, List, [], ◌∷◌, length, ℤ, ◌≤ℤ◌, false, int_lt, if◌then◌else◌, slice_index}
 use Rattle.qap_cost.specs.Bijection.{IsPerm}
 use Rattle.qap_cost.specs.Instance.{Problem}
@@ -11,7 +11,7 @@ use Rattle.qap_proof.specs.Shape.{HasShape}
 use Rattle.qap_proof.specs.Tree.{Node, whole}
 use Rattle.qap_proof.specs.Valid.{Valid}
 
--- a node, a cost, a bound, a permutation that is to have the cost, and a tree that is to show that none which completes the
+-- a node, a cost, a bound, a permutation that should have the cost, and a tree that should prove that none which completes the
 -- node costs less than the bound
 pub record Claim : Type 0 where
   pub root : Placement
@@ -24,7 +24,7 @@ pub record Claim : Type 0 where
 abbrev pub claim_of : Placement → ℤ → ℤ → List ℕ → Node → Claim
 claim_of root cost bound permutation tree = record { root = root; cost = cost; bound = bound; permutation = permutation; tree = tree }
 
--- a node of size n whose facilities are listed ascending
+-- a node of size n whose facilities are listed in ascending order
 pub record IsRoot (n : ℕ) (x : Placement) : Type 0 where
   pub placement : IsPlacement x
   pub size : x.size ≡ n
@@ -38,20 +38,20 @@ pub record IsProof (C : Claim) : Type 0 where
   pub root : IsRoot (length C.permutation) C.root
   pub tree : HasShape C.root 0 false C.tree
 
--- how many lines a root has: none where it places no facility, else one
+-- how many lines a root has: none if it places no facility, else one
 abbrev pub lines_of_root : List ℕ → ℕ
 lines_of_root [] = 0
 lines_of_root (f ∷ facilities) = 1
 
--- how many lines a bound has: one where it is below the cost, else none
+-- how many lines a bound has: one if it is below the cost, else none
 abbrev pub lines_of_bound : ℤ → ℤ → ℕ
 lines_of_bound c g = if int_lt g c then 1 else 0
 
--- the line of the tree's first node, behind four lines, that of a root that isn't empty, and that of a bound below the cost
+-- the line of the tree's first node, after four lines, that of a nonempty root, and that of a bound below the cost
 abbrev pub tree_line : Placement → ℤ → ℤ → ℕ
 tree_line x c g = 5 + lines_of_root x.facilities + lines_of_bound c g
 
--- the permutation is of the instance's size and has the cost, and the tree shows that none which completes the root costs less
+-- the permutation is of the instance's size and has the cost, and the tree proves that none which completes the root costs less
 -- than the bound
 pub record Proves (I : Problem) (C : Claim) : Type 0 where
   pub same_size : length C.permutation ≡ I.size

@@ -1,4 +1,4 @@
--- How a proof's contents are distinguished from others: the nodes of a tree in preorder give it back.
+-- The encoding that identifies a proof's contents: the nodes of a tree in preorder, which determine it.
 use Rattle.std.specs.Prelude.{◌≡◌, ℕ, zero, suc, ◌+◌, ◌⊎◌, List, [], ◌∷◌, ℤ, Bool, true, false, Option, refl}
 use Rattle.std.proofs.Common.{inl, inr, ◌∙◌, ap, arith}
 use Rattle.std.specs.Coded.{Coded, code_by, coded_ℕ, coded_ℤ, coded_bool, coded_list, coded_option, coded×, coded⊎}
@@ -18,7 +18,7 @@ abbrev pub side_of : Bool → Side
 side_of true = Facility
 side_of false = Location
 
--- a side is the one that its truth value stands for
+-- a side is the one that its truth value represents
 pub side_of-is_facility : (side : Side) → side_of (is_facility side) ≡ side
 side_of-is_facility Facility = refl
 side_of-is_facility Location = refl
@@ -41,8 +41,8 @@ split_code =
     code_by (Side × (ℕ × Option Pair)) (coded× side_code (coded× coded_ℕ (coded_option pair_code))) (λ s. (s.side, (s.number, s.duals)))
     (λ p. made_split p.0 p.1.0 p.1.1) (λ _. refl)
 
--- what stands for a node in preorder: a closed node's duals; a split with the number of its children; a mirrored
--- child's earlier one with its permutation; or a truth value, for a child that is cut
+-- what represents a node in preorder: a closed node's duals; a split with the number of its children; a symmetric
+-- child's earlier one with its permutation; or a truth value, for a pruned child
 abbrev pub Sign : Type 0
 Sign = (Pair ⊎ (Split × ℕ)) ⊎ ((ℕ × List ℕ) ⊎ Bool)
 
@@ -63,24 +63,24 @@ abbrev mutual
   signs_of_all no_nodes rest = rest
   signs_of_all (node t ts) rest = signs t (signs_of_all ts rest)
 
--- the nodes of one row, and behind them those of the other
+-- the nodes of one row, followed by those of the other
 abbrev pub joined : Nodes → Nodes → Nodes
 joined no_nodes others = others
 joined (node t ts) others = node t (joined ts others)
 
--- the first k nodes of a row, or all of it where it has fewer
+-- the first k nodes of a row, or all of it if it has fewer
 abbrev pub first_nodes : ℕ → Nodes → Nodes
 first_nodes zero ts = no_nodes
 first_nodes (suc k) no_nodes = no_nodes
 first_nodes (suc k) (node t ts) = node t (first_nodes k ts)
 
--- the nodes of a row behind its first k
+-- the nodes of a row after its first k
 abbrev pub nodes_behind : ℕ → Nodes → Nodes
 nodes_behind zero ts = ts
 nodes_behind (suc k) no_nodes = no_nodes
 nodes_behind (suc k) (node t ts) = nodes_behind k ts
 
--- the trees in a row that signs in preorder stand for
+-- the trees in a row that signs in preorder represent
 abbrev pub read_signs : List Sign → Nodes
 read_signs [] = no_nodes
 read_signs (inl (inl d) ∷ rest) = node (closed d) (read_signs rest)
@@ -88,7 +88,7 @@ read_signs (inl (inr sk) ∷ rest) = node (split (sk.0) (first_nodes (sk.1) (rea
 read_signs (inr (inl jm) ∷ rest) = node (mirrored (jm.0) (jm.1)) (read_signs rest)
 read_signs (inr (inr b) ∷ rest) = node cut (read_signs rest)
 
--- the first node of a row; where there is none, one that is cut
+-- the first node of a row; if there is none, a pruned one
 abbrev pub first_node : Nodes → Node
 first_node no_nodes = cut
 first_node (node t ts) = t
@@ -100,7 +100,7 @@ first_nodes-joined (node t ts) others =
     let more : 1 + child_count ts ≡ suc (child_count ts) = omega arith in
     ap (λ (k : ℕ). first_nodes k (node t (joined ts others))) more ∙ ap (node t) (first_nodes-joined ts others)
 
--- the nodes behind those are the second row
+-- the nodes after those are the second row
 pub nodes_behind-joined : (ts others : Nodes) → nodes_behind (child_count ts) (joined ts others) ≡ others
 nodes_behind-joined no_nodes others = refl
 nodes_behind-joined (node t ts) others =

@@ -1,4 +1,4 @@
--- Proofs of parts beside the proof of a whole, and what they show together.
+-- Proofs of parts added to the proof of a whole, and what they establish together.
 use Rattle.std.specs.Prelude.{◌≡◌, ◌⊎◌, ℕ, ◌+◌, ◌<◌, ◌++◌, List, [], ◌∷◌, length, ℤ, ◌+ℤ◌, ◌<ℤ◌, ◌≤ℤ◌, neg_ℤ, pos, All, Contains, map, slice_index, slice_index_or, Some}
 use Rattle.std.specs.Int.{int_min}
 use Rattle.qap_cost.specs.Instance.{Problem}
@@ -16,11 +16,11 @@ use Rattle.qap_proof.specs.declared.acceptance.Verdict.{Verdict}
 use Rattle.qap_proof.specs.declared.acceptance.Verdict.TheVariants.{Optimal, Gap, Part}
 use Rattle.qap_proof.specs.declared.leaf.Leaf.{Leaf}
 
--- the leaf of this node, which shows this value
+-- the leaf of this node, with this value
 abbrev pub leaf : Placement → ℤ → Leaf
 leaf x z = record { node = x; value = z }
 
--- what the duals of a split yield for its child number c
+-- the value of child number c of a split under its duals
 pub record IsCutValue (I : Problem) (x : Placement) (s : Split) (c : ℕ) (z : ℤ) : Type 0 where
   pub duals : Pair
   pub has : s.duals ≡ Some duals
@@ -46,23 +46,23 @@ abbrev mutual
 abbrev pub AreAmong : Placement → Placement → Type 0
 AreAmong y x = (t : ℕ) → t < length y.facilities → StandsAt x (slice_index y.facilities t) (slice_index y.places t)
 
--- what a leaf shows beside a part that has this root and this bound: the bound, where the leaf shows less and all placements of the root
--- are among its own, so that what completes it completes the part
+-- the value of a leaf given a part with this root and this bound: the bound, if the leaf's value is smaller and all placements of the root
+-- are among its own, so that whatever completes it completes the part
 abbrev pub IsRaisedValue : Placement → ℤ → Leaf → ℤ → Type 0
 IsRaisedValue root bound l z =
     ((l.value <ℤ bound) × AreAmong root l.node × (z ≡ bound)) ⊎ ((l.value <ℤ bound → AreAmong root l.node → ⊥) × (z ≡ l.value))
 
--- the new leaf is that of the old one's node, with what it shows beside the part
+-- the new leaf is that of the old one's node, with its value given the part
 abbrev pub IsRaised : Placement → ℤ → Leaf → Leaf → Type 0
 IsRaised root bound old new = (new.node ≡ old.node) × IsRaisedValue root bound old new.value
 
--- the same for each leaf of a list, in order
+-- likewise for each leaf of a list, in order
 abbrev pub AreRaised : Placement → ℤ → List Leaf → List Leaf → Type 0
 AreRaised root bound old new =
     (length new ≡ length old)
     × ((i : ℕ) (d : Leaf) → i < length old → IsRaised root bound (slice_index_or old i d) (slice_index_or new i d))
 
--- an instance, the root of a tree, the least cost of the permutations that are known, and the tree's leaves
+-- an instance, the root of a tree, the least cost of the known permutations, and the tree's leaves
 pub record CoverValue : Type 0 where
   pub instance : Problem
   pub root : Placement
@@ -73,7 +73,7 @@ pub record CoverValue : Type 0 where
 abbrev pub cover_of : Problem → Placement → ℤ → List Leaf → CoverValue
 cover_of I x c ls = record { instance = I; root = x; cost = c; leaves = ls }
 
--- the proof of the whole, which the text is, alone
+-- the text is the proof of the whole, without parts
 pub record IsOpened (I : Problem) (text : List ℕ) (c : CoverValue) : Type 0 where
   pub proof : Claim
   pub is_text : IsProofText text proof
@@ -83,7 +83,7 @@ pub record IsOpened (I : Problem) (text : List ℕ) (c : CoverValue) : Type 0 wh
   pub cost : c.cost ≡ proof.cost
   pub leaves : AreLeaves I (whole proof.root) proof.tree c.leaves
 
--- the proof of a part, which the text is, has come beside
+-- the proof of a part, which is the text, has been added
 pub record HasPart (text : List ℕ) (old new : CoverValue) : Type 0 where
   pub proof : Claim
   pub is_text : IsProofText text proof
@@ -93,7 +93,7 @@ pub record HasPart (text : List ℕ) (old new : CoverValue) : Type 0 where
   pub cost : new.cost ≡ int_min old.cost proof.cost
   pub leaves : AreRaised proof.root proof.bound old.leaves new.leaves
 
--- the leaf shows at least g
+-- the leaf's value is at least g
 abbrev pub IsAtLeast : ℤ → Leaf → Type 0
 IsAtLeast g l = g ≤ℤ l.value
 
@@ -101,12 +101,12 @@ IsAtLeast g l = g ≤ℤ l.value
 abbrev pub IsBounded : Problem → ℤ → Leaf → Type 0
 IsBounded I g l = NoneCompletesForLess I l.node g
 
--- what the leaf shows is so: no permutation that completes its node costs less
+-- the leaf's value is valid: no permutation that completes its node costs less
 abbrev pub IsShown : Problem → Leaf → Type 0
 IsShown I l = IsBounded I l.value l
 
--- some permutation has the cost; of each leaf, what it shows is so; and what completes the root completes a leaf, or has an image of the
--- same cost that does, so that a bound for all leaves is one for the root
+-- some permutation has the cost; each leaf's value is valid; and whatever completes the root completes a leaf, or has a symmetric image
+-- with the same cost that does, so that a bound for all leaves is one for the root
 pub record IsCovering (c : CoverValue) : Type 0 where
   pub reached : (p : List ℕ) × Permutes c.instance p × (cost_of c.instance p ≡ c.cost)
   pub limited : IsLimited c.cost
@@ -116,18 +116,18 @@ pub record IsCovering (c : CoverValue) : Type 0 where
   pub placement : IsPlacement c.root
   pub same_size : c.root.size ≡ c.instance.size
 
--- one of the numbers, which none is below
+-- one of the numbers, and none is below it
 pub record IsLeastOf (xs : List ℤ) (g : ℤ) : Type 0 where
   pub one : Contains xs g
   pub least : All (λ x. g ≤ℤ x) xs
 
--- the bound is the least of the cost and of what the leaves show; the verdict says it as that of a proof does
+-- the bound is the minimum of the cost and of the leaves' values; the verdict is formed as for a proof
 pub record IsVerdictOn (c : CoverValue) (v : Verdict) : Type 0 where
   pub bound : ℤ
   pub least : IsLeastOf (c.cost ∷ map (λ l. l.value) c.leaves) bound
   pub says : (p : List ℕ) (t : Node) → IsVerdictOf (claim_of c.root c.cost bound p t) v
 
--- what the verdict says is so
+-- the verdict is true
 abbrev pub IsSoOf : Problem → Placement → Verdict → Type 0
 IsSoOf I x (Optimal c) = IsLeast I c
 IsSoOf I x (Gap g c) = ((p : List ℕ) × Permutes I p × (cost_of I p ≡ c)) × NoneCostsLess I g × (g <ℤ c)

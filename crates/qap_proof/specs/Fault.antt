@@ -1,4 +1,4 @@
--- What keeps a node, a cost, a bound, a permutation and a tree from being a proof, and a proof from proving its bound: the first
+-- What prevents a node, a cost, a bound, a permutation and a tree from being a proof, and a proof from proving its bound: the first
 -- fault in order of lines, where the nodes of the tree have the lines from `tree_line` on in preorder.
 use Rattle.std.specs.Prelude.{◌≡◌, ◌≢◌, ℕ, ◌+◌, ◌<◌, ◌≤◌, ◌⊎◌, List, length, ℤ, ◌+ℤ◌, ◌<ℤ◌, Option, Some, None, Bool, false}
 use Rattle.qap_cost.specs.Instance.{Problem}
@@ -18,23 +18,23 @@ use Rattle.qap_proof.specs.declared.side.Side.TheVariants.{Facility, Location}
 use Rattle.qap_proof.specs.declared.error.ProofError.{ProofError}
 use Rattle.qap_proof.specs.declared.error.ProofError.TheVariants.{SizeDiffers, CostDiffers, BadLine, RootBad, PermBad, SplitTooDeep, FacilityTaken, LocationTaken, SplitWidth, DualCount, DualRange, CutWithoutDuals, NoEarlierChild, NotFeasible, BoundTooLow, CutTooLow, NotAnImage}
 
--- two lists that are to be the duals of m rows and m columns are of other lengths; or they aren't, and some number is out of range
+-- two lists that should be the duals of m rows and m columns have other lengths; or the lengths are right, and some number is out of range
 abbrev pub IsPairFault : ℕ → ℕ → Pair → ProofError → Type 0
 IsPairFault m line d e =
     ((e ≡ DualCount line) × (((length d.u ≡ m) × (length d.v ≡ m)) → ⊥))
     ⊎ ((e ≡ DualRange line) × (length d.u ≡ m) × (length d.v ≡ m) × ((AllLimited d.u × AllLimited d.v) → ⊥))
 
--- the same for the duals of a split, which may have none: then there is no fault
+-- likewise for the duals of a split, which may have none: then there is no fault
 abbrev pub MayBePairFault : ℕ → ℕ → Option Pair → ProofError → Type 0
 MayBePairFault m line None e = ⊥
 MayBePairFault m line (Some d) e = IsPairFault m line d e
 
--- the fault of a facility or of a location that isn't free
+-- the fault of a facility or of a location that is not free
 abbrev pub taken : Side → ℕ → ProofError
 taken Facility line = FacilityTaken line
 taken Location line = LocationTaken line
 
--- nothing is free; or something is, and not this one
+-- nothing is free; or something is, but not this one
 abbrev pub IsNumberFault : Placement → ℕ → Side → ℕ → ProofError → Type 0
 IsNumberFault x line side i e =
     ((e ≡ SplitTooDeep line) × (x.size ≤ length x.facilities))
@@ -66,7 +66,7 @@ abbrev mutual
       IsShapeFault (child_of x s c) c (has_duals s.duals) line t e
       ⊎ (HasShape (child_of x s c) c (has_duals s.duals) t × IsShapeFaultAmong x s (c + 1) (line_after line (node_count t)) rest e)
 
--- the first fault of what is to be a proof
+-- the first fault of what should be a proof
 abbrev pub IsClaimFault : Claim → ProofError → Type 0
 IsClaimFault C e =
     ((e ≡ BadLine 3) × (IsLimited C.cost → ⊥))
@@ -75,7 +75,7 @@ IsClaimFault C e =
     ⊎ (IsLimited C.cost × IsRoot (length C.permutation) C.root × IsBoundFor C.cost C.bound
     × IsShapeFault C.root 0 false (tree_line C.root C.cost C.bound) C.tree e)))
 
--- the duals don't fit; or they do, and with what the placed facilities cost they yield less than g
+-- the duals do not fit; or they do, and their sum plus the cost of the placed facilities is less than g
 abbrev pub IsClosedFault : Problem → ℤ → Placement → ℕ → Pair → ProofError → Type 0
 IsClosedFault I g x line d e =
     ((e ≡ NotFeasible line) × (Fits I x d.u d.v → ⊥))
@@ -108,11 +108,11 @@ abbrev mutual
       IsTreeFault I g (child x s c) line t e
       ⊎ (Valid I g (child x s c) t × IsTreeFaultAmong I g x s (c + 1) (line_after line (node_count t)) rest e)
 
--- the permutation isn't of the instance's size; or it is, and doesn't cost what is stated
+-- the permutation is not of the instance's size; or it is, and its cost is not the stated one
 abbrev pub IsPermMisfit : Problem → List ℕ → ℤ → ProofError → Type 0
 IsPermMisfit I p c e = ((e ≡ SizeDiffers 2) × (length p ≢ I.size)) ⊎ ((e ≡ CostDiffers 3) × (length p ≡ I.size) × (cost_of I p ≢ c))
 
--- the first fault of a proof that doesn't prove its bound
+-- the first fault of a proof that does not prove its bound
 abbrev pub IsFault : Problem → Claim → ProofError → Type 0
 IsFault I C e =
     IsPermMisfit I C.permutation C.cost e

@@ -1,4 +1,4 @@
--- The parts that are missing beside a proof: the leaves of its tree that show less than its cost.
+-- The parts that a proof still needs: the leaves of its tree whose values are below its cost.
 use Rattle.std.specs.Prelude.{◌≡◌, ℕ, ◌<◌, ◌⊎◌, ◌++◌, List, [], ◌∷◌, length, ℤ, ◌<ℤ◌, ◌≤ℤ◌, All, Contains, map, slice_index_or}
 use Rattle.qap_cost.specs.Instance.{Problem}
 use Rattle.qap_cost.specs.Placement.{Placement}
@@ -8,13 +8,13 @@ use Rattle.qap_proof.specs.Tree.{whole}
 use Rattle.qap_proof.specs.declared.leaf.Leaf.{Leaf}
 use Rattle.qap_proof.specs.declared.missing.MissingPart.{MissingPart}
 
--- y places what x places, its facilities ascending
+-- y places what x places, with its facilities ascending
 pub record IsAscendingOf (x y : Placement) : Type 0 where
   pub root : IsRoot x.size y
   pub places : AreAmong y x
   pub all : AreAmong x y
 
--- the part is that of the leaf of its number, which shows its value, less than c
+-- the part is that of the leaf of its number, whose value is less than c
 pub record IsMissing (n : ℕ) (c : ℤ) (ls : List Leaf) (m : MissingPart) : Type 0 where
   pub within : m.leaf < length ls
   pub root : IsRoot n m.node
@@ -22,22 +22,22 @@ pub record IsMissing (n : ℕ) (c : ℤ) (ls : List Leaf) (m : MissingPart) : Ty
   pub value : (d : Leaf) → m.value ≡ (slice_index_or ls m.leaf d).value
   pub short : m.value <ℤ c
 
--- behind the parts that were listed stands that of the leaf of this number, where it shows less than c
+-- the parts listed before are followed by that of the leaf of this number, if its value is less than c
 abbrev pub IsListed : ℤ → ℕ → Leaf → List MissingPart → List MissingPart → Type 0
 IsListed c k l old new =
     ((l.value <ℤ c) × (m : MissingPart) × (m.leaf ≡ k) × IsAscendingOf l.node m.node × (m.value ≡ l.value) × (new ≡ old ++ m ∷ []))
     ⊎ ((c ≤ℤ l.value) × (new ≡ old))
 
--- each part is missing, and of each leaf that shows less than c there is one
+-- each part is needed, and each leaf with a value less than c has one
 pub record ListsMissing (n : ℕ) (c : ℤ) (ls : List Leaf) (ms : List MissingPart) : Type 0 where
   pub each : All (IsMissing n c ls) ms
   pub all : (k : ℕ) (d : Leaf) → k < length ls → (slice_index_or ls k d).value <ℤ c → Contains (map (λ (m : MissingPart). m.leaf) ms) k
 
--- those that show least come first
+-- in ascending order of their values
 abbrev pub IsHardestFirst : List MissingPart → Type 0
 IsHardestFirst ms = (i j : ℕ) (d : MissingPart) → i < j → j < length ms → (slice_index_or ms i d).value ≤ℤ (slice_index_or ms j d).value
 
--- these are all parts that are missing beside a proof, the hardest first
+-- these are all parts that a proof still needs, the hardest first
 pub record AreMissing (I : Problem) (C : Claim) (ms : List MissingPart) : Type 0 where
   pub leaves : List Leaf
   pub are : AreLeaves I (whole C.root) C.tree leaves

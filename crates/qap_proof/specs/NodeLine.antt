@@ -1,4 +1,4 @@
--- What the line of a node says, in memory.
+-- The content of a node's line, in memory.
 use Rattle.std.specs.Prelude.{◌≡◌, ℕ, ◌+◌, ◌<◌, ◌++◌, ◌∷◌, List, length, ℤ, pos, codes, Bool, true, Option, Some, None}
 use Rattle.number_list.specs.NumberList.{numbers_held}
 use Rattle.qap_cost.specs.Placement.{Placement}
@@ -17,15 +17,15 @@ use Rattle.qap_proof.specs.declared.node_line.NodeLine.{NodeLine}
 use Rattle.qap_proof.specs.declared.node_line.NodeLine.TheVariants.{Closed, Split as SplitsAt, Cut, Mirrored}
 use Rattle.qap_proof.specs.declared.error.ProofError.{ProofError}
 
--- the two lists of numbers that duals in memory are
+-- the two lists of numbers of duals in memory
 abbrev pub pair_of : Duals → Pair
 pair_of d = record { u = d.u.items; v = d.v.items }
 
--- the same for duals that are kept in narrow lists
+-- likewise for duals in narrow lists
 abbrev pub kept_pair_of : KeptDuals → Pair
 kept_pair_of d = record { u = numbers_held d.u; v = numbers_held d.v }
 
--- the same where there may be none
+-- likewise if there may be none
 abbrev pub may_pair_of : Option KeptDuals → Option Pair
 may_pair_of None = None
 may_pair_of (Some d) = Some (kept_pair_of d)
@@ -34,8 +34,8 @@ may_pair_of (Some d) = Some (kept_pair_of d)
 abbrev pub split_of : SplitLine → Split
 split_of s = record { side = s.side; number = s.number; duals = may_pair_of s.duals }
 
--- the line is spelled by what is said, which has the shape that it is to have at x, with this many earlier children and
--- duals above it or none
+-- the line spells this content, which has the required shape at x, with this many earlier children and
+-- with or without duals of its parent
 abbrev pub IsNodeLine : Placement → ℕ → Bool → List ℕ → NodeLine → Type 0
 IsNodeLine x earlier duals line (Closed d) = AreDuals (free_count x) d.u.items d.v.items × (line ≡ codes "b" ++ numbers_text (d.u.items ++ d.v.items))
 IsNodeLine x earlier duals line (SplitsAt s) = IsSplit x (split_of s) × (line ≡ letter s.side ++ numbers_text (split_numbers (split_of s)))
@@ -48,7 +48,7 @@ pub record HasLine (x : Placement) (earlier : ℕ) (duals : Bool) (text : List �
   pub is_node : IsNodeLine x earlier duals line said
   pub is : text ≡ line ++ 10 ∷ rest
 
--- the line is that of a mirrored child, and has a fault
+-- the line is that of a symmetric child, and has a fault
 pub record IsMirrorFault (n earlier number : ℕ) (line : List ℕ) (e : ProofError) : Type 0 where
   pub first : ℤ
   pub others : List ℤ

@@ -1,4 +1,4 @@
--- Proofs over a root that is known.
+-- Proofs over a known root.
 use Rattle.std.specs.Prelude.{◌≢◌, ℕ, List, ℤ}
 use Rattle.qap_cost.specs.Instance.{Problem}
 use Rattle.qap_cost.specs.Placement.{Placement}

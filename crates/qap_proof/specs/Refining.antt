@@ -1,4 +1,4 @@
--- A proof one of whose leaves was taken further.
+-- A proof refined at one of its leaves.
 use Rattle.std.specs.Prelude.{◌≡◌, ℤ}
 use Rattle.qap_cost.specs.Instance.{Problem}
 use Rattle.qap_proof.specs.Claim.{Claim, IsProof, Proves}

@@ -4,7 +4,7 @@ use Rattle.qap_io.specs.Refusal.{RefusalText, memory_refusal, device_refusal, re
 use Rattle.qap_proof.specs.declared.error.ProofError.{ProofError}
 use Rattle.qap_proof.specs.declared.error.ProofError.TheVariants.{SizeDiffers, BadHeader, BadVersion, BadLine, Truncated, TrailingText, CostDiffers, PermBad, SplitTooDeep, FacilityTaken, LocationTaken, DualCount, DualRange, CutWithoutDuals, NoEarlierChild, SplitWidth, RootBad, NotFeasible, BoundTooLow, CutTooLow, NotAnImage, OutOfMemory, Device}
 
--- each fault of a proof as its refusal: a number, a name, and the line where it has one
+-- each fault of a proof as its refusal: a number, a name, and a line if it has one
 abbrev pub proof_refusal : ProofError → RefusalText
 proof_refusal (SizeDiffers line) = refused_at 8 (codes "SizeDiffers") line
 proof_refusal BadHeader = refused 11 (codes "BadHeader")

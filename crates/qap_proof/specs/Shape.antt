@@ -1,5 +1,5 @@
 -- The shape of a tree: what a split may be on, how many children it has, how many duals there are, and which children may be
--- cut or mirrored.
+-- pruned or symmetric.
 use Rattle.std.specs.Prelude.{◌≡◌, ℕ, ◌+◌, ◌-◌, ◌<◌, List, length, Option, Some, None, Bool, true, false}
 use Rattle.qap_cost.specs.Bijection.{IsPerm}
 use Rattle.qap_cost.specs.Placement.{Placement}
@@ -10,7 +10,7 @@ use Rattle.qap_proof.specs.Tree.{Pair, Split, Node, closed, split, cut, mirrored
 abbrev pub free_count : Placement → ℕ
 free_count x = x.size - length x.facilities
 
--- if there are duals, they are such
+-- if there are duals, they are of this form
 abbrev pub MayBeDuals : ℕ → Option Pair → Type 0
 MayBeDuals m None = Unit {0}
 MayBeDuals m (Some d) = AreDuals m d.u d.v

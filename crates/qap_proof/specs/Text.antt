@@ -7,12 +7,12 @@ use Rattle.qap_proof.specs.Tree.{Pair, Split, Node, closed, split, cut, mirrored
 use Rattle.qap_proof.specs.declared.side.Side.{Side}
 use Rattle.qap_proof.specs.declared.side.Side.TheVariants.{Facility, Location}
 
--- how a split's line begins
+-- the beginning of a split's line
 abbrev pub letter : Side → List ℕ
 letter Facility = codes "s"
 letter Location = codes "t"
 
--- the numbers of a split's duals, first those of the rows, then those of the columns; none without duals
+-- the numbers of a split's duals, first those of the rows, then those of the columns; none if it has no duals
 abbrev pub numbers_of_duals : Option Pair → List ℤ
 numbers_of_duals None = []
 numbers_of_duals (Some d) = d.u ++ d.v
@@ -21,7 +21,7 @@ numbers_of_duals (Some d) = d.u ++ d.v
 abbrev pub split_numbers : Split → List ℤ
 split_numbers s = pos (s.number + 1) ∷ numbers_of_duals s.duals
 
--- a line for each node, in preorder: `b` and duals; `s` and a facility or `t` and a location, and duals if there are; `c`; or `m`,
+-- a line for each node, in preorder: `b` and duals; `s` and a facility or `t` and a location, and duals if there are any; `c`; or `m`,
 -- the number of an earlier child and a permutation, all counted from 1
 abbrev mutual
   pub tree_text : Node → List ℕ
@@ -39,7 +39,7 @@ abbrev pub by_turns : List ℕ → List ℕ → List ℤ
 by_turns (f ∷ facilities) (k ∷ places) = pos (f + 1) ∷ pos (k + 1) ∷ by_turns facilities places
 by_turns _ _ = []
 
--- the line of a root that isn't empty
+-- the line of a nonempty root
 abbrev pub root_text : List ℕ → List ℕ → List ℕ
 root_text [] places = []
 root_text (f ∷ facilities) places = line_text (codes "node") (by_turns (f ∷ facilities) places)

@@ -1,4 +1,4 @@
--- What keeps a text from being that of a proof: the first fault in order of lines.
+-- What prevents a text from being that of a proof: the first fault in order of lines.
 use Rattle.std.specs.Prelude.{◌≡◌, ◌≢◌, ℕ, suc, zero, ◌+◌, ◌*◌, ◌<◌, ◌≤◌, ◌⊎◌, ◌++◌, ◌∷◌, [], List, length, ℤ, pos, codes, ◌<ℤ◌, Bool, false}
 use Rattle.qap_cost.specs.Limits.{max_size}
 use Rattle.qap_cost.specs.Bijection.{IsPerm}
@@ -21,7 +21,7 @@ use Rattle.qap_proof.specs.declared.error.ProofError.TheVariants.{BadHeader, Bad
 abbrev pub IsLineFault : ℕ → List ℕ → (List ℕ → ProofError → Type 0) → ProofError → Type 0
 IsLineFault number text P e = ((e ≡ Truncated number) × HasNoLine text) ⊎ ((line rest : List ℕ) × IsLine text line rest × P line e)
 
--- the first line: `qapproof` and a positive number, which is to be 1
+-- the first line: `qapproof` and a positive number, which must be 1
 abbrev pub IsHeaderFault : List ℕ → ProofError → Type 0
 IsHeaderFault line e =
     ((e ≡ BadHeader) × ((n : ℕ) → 0 < n → IsNamed (codes "qapproof") line (pos n ∷ []) → ⊥))
@@ -35,13 +35,13 @@ IsSizeFault line e = (e ≡ BadLine 2) × ((n : ℕ) → 0 < n → n ≤ max_siz
 abbrev pub IsCostFault : List ℕ → ProofError → Type 0
 IsCostFault line e = (e ≡ BadLine 3) × ((c : ℤ) → IsLimited c → IsNamed (codes "cost") line (c ∷ []) → ⊥)
 
--- the fourth line: `perm` and n numbers, which are to be each of 1 to n once
+-- the fourth line: `perm` and n numbers, which must list each of 1 to n once
 abbrev pub IsPermFault : ℕ → List ℕ → ProofError → Type 0
 IsPermFault n line e =
     ((e ≡ BadLine 4) × ((zs : List ℤ) → length zs ≡ n → IsNamed (codes "perm") line zs → ⊥))
     ⊎ ((e ≡ PermBad 4) × (zs : List ℤ) × (length zs ≡ n) × IsNamed (codes "perm") line zs × ((p : List ℕ) → IsPerm p → zs ≢ from_one p))
 
--- what the line of a node says: `b` and numbers; `s` or `t`, a facility or a location, and numbers; `c` alone; or `m`, a number and
+-- the content of a node's line: `b` and numbers; `s` or `t`, a facility or a location, and numbers; `c` alone; or `m`, a number and
 -- as many more as the size
 pub data Saying : Type 0 where
   closes : List ℤ → Saying
@@ -49,19 +49,19 @@ pub data Saying : Type 0 where
   cuts : Saying
   mirrors : ℤ → List ℤ → Saying
 
--- the line of a node of an instance of size n is one that says this
+-- the line of a node of an instance of size n with this content
 abbrev pub Says : ℕ → List ℕ → Saying → Type 0
 Says n line (closes zs) = IsNamed (codes "b") line zs
 Says n line (splits side i zs) = (i < n) × IsNamed (letter side) line (pos (i + 1) ∷ zs)
 Says n line cuts = IsNamed (codes "c") line []
 Says n line (mirrors z zs) = (length zs ≡ n) × IsNamed (codes "m") line (z ∷ zs)
 
--- other than one number for each of m facilities and m locations; or that many, and some out of range
+-- not exactly one number for each of m facilities and m locations; or that many, and some out of range
 abbrev pub IsDualsFault : ℕ → ℕ → List ℤ → ProofError → Type 0
 IsDualsFault m number zs e =
     ((e ≡ DualCount number) × (length zs ≢ 2 * m)) ⊎ ((e ≡ DualRange number) × (length zs ≡ 2 * m) × (AllLimited zs → ⊥))
 
--- the first fault of what the line of a node at x says, with this many earlier children and duals above it or none
+-- the first fault of the content of a node's line at x, with this many earlier children and with or without duals of its parent
 abbrev pub IsSayingFault : Placement → ℕ → Bool → ℕ → Saying → ProofError → Type 0
 IsSayingFault x earlier duals number (closes zs) e = IsDualsFault (free_count x) number zs e
 IsSayingFault x earlier duals number (splits side i zs) e =
@@ -72,20 +72,20 @@ IsSayingFault x earlier duals number (mirrors z zs) e =
     ((e ≡ NoEarlierChild number) × ((j : ℕ) → j < earlier → z ≢ pos (j + 1)))
     ⊎ ((e ≡ PermBad number) × (j : ℕ) × (j < earlier) × (z ≡ pos (j + 1)) × ((p : List ℕ) → IsPerm p → zs ≢ from_one p))
 
--- the line says nothing that one of a node does, or what it says has a fault
+-- the line has no content that a node may have, or that has a fault
 abbrev pub IsNodeFault : Placement → ℕ → Bool → ℕ → List ℕ → ProofError → Type 0
 IsNodeFault x earlier duals number line e =
     ((e ≡ BadLine number) × ((w : Saying) → Says x.size line w → ⊥))
     ⊎ ((w : Saying) × Says x.size line w × IsSayingFault x earlier duals number w e)
 
--- behind some but not all of the children of a split of x, the first of which begins at the line of this number, there is a fault
+-- after some but not all of the children of a split of x, the first of which begins at the line of this number, there is a fault
 abbrev pub IsFaultAmong : Placement → Split → ℕ → List ℕ → (ℕ → ℕ → List ℕ → Type 0) → Type 0
 IsFaultAmong x s number text P =
     (before : Nodes) × (rest : List ℕ) × (text ≡ trees_text before ++ rest) × AllHaveShape x s 0 before
     × (child_count before < free_count x) × P (child_count before) (line_after number (nodes_count before)) rest
 
--- the first fault of what is to begin with the lines of a tree at x, with m facilities free: the first line has it, or that is a
--- split and, behind some of its children, the next one has it
+-- the first fault of what should begin with the lines of a tree at x, with m facilities free: the first line has it, or that is a
+-- split and, after some of its children, the next one has it
 abbrev pub IsTreeTextFault : ℕ → Placement → ℕ → Bool → ℕ → List ℕ → ProofError → Type 0
 IsTreeTextFault zero x earlier duals number text e = IsLineFault number text (IsNodeFault x earlier duals number) e
 IsTreeTextFault (suc m) x earlier duals number text e =
@@ -93,7 +93,7 @@ IsTreeTextFault (suc m) x earlier duals number text e =
     ⊎ ((s : Split) × (rest : List ℕ) × (text ≡ line_text (letter s.side) (split_numbers s) ++ rest) × IsSplit x s
     × IsFaultAmong x s (line_after number 1) rest (λ c line rest. IsTreeTextFault m (child_of x s c) c (has_duals s.duals) line rest e))
 
--- the last line: `end`, with nothing behind it
+-- the last line: `end`, with nothing after it
 abbrev pub IsEndFault : ℕ → List ℕ → ProofError → Type 0
 IsEndFault number text e =
     IsLineFault number text (λ line e. (e ≡ BadLine number) × (line ≢ codes "end")) e
@@ -120,7 +120,7 @@ pub record IsBelow (c g : ℤ) : Type 0 where
 abbrev pub HasNoBound : List ℕ → Type 0
 HasNoBound text = (line rest : List ℕ) (g : ℤ) → IsLine text line rest → IsNamed (codes "bound") line (g ∷ []) → ⊥
 
--- the first line is one of a bound, which isn't below the cost, or is out of range
+-- the first line is one of a bound, which is not below the cost, or is out of range
 abbrev pub IsBoundLineFault : ℤ → ℕ → List ℕ → ProofError → Type 0
 IsBoundLineFault c number text e =
     (e ≡ BadLine number) × (line rest : List ℕ) × (g : ℤ) × IsLine text line rest × IsNamed (codes "bound") line (g ∷ []) × (IsBelow c g → ⊥)
@@ -136,12 +136,12 @@ IsFaultFromBound x c number text e =
 abbrev pub HasNoRoot : List ℕ → Type 0
 HasNoRoot text = (line rest : List ℕ) (zs : List ℤ) → IsLine text line rest → IsNamed (codes "node") line zs → ⊥
 
--- a root that has a line: it isn't empty
+-- a root that has a line: it is nonempty
 pub record HasRootLine (n : ℕ) (x : Placement) : Type 0 where
   pub root : IsRoot n x
   pub some : 0 < length x.facilities
 
--- the first line is one of a root, and its numbers are those of none
+-- the first line is one of a root, but its numbers do not form one
 abbrev pub IsRootLineFault : ℕ → List ℕ → ProofError → Type 0
 IsRootLineFault n text e =
     (e ≡ RootBad 5) × (line rest : List ℕ) × (zs : List ℤ) × IsLine text line rest × IsNamed (codes "node") line zs

@@ -1,5 +1,5 @@
--- Proof trees: how the permutations that complete a node are split up, and what shows of each part that none costs less than
--- a bound. Apart from where a tree lies in memory.
+-- Proof trees: how the permutations that complete a node are split, and what proves that none in each part costs less than
+-- a bound, independent of where a tree is stored in memory.
 use Rattle.std.specs.Prelude.{ℕ, ◌+◌, List, ℤ, Option, slice_index}
 use Rattle.qap_cost.specs.Placement.{Placement, IsFreeFacility, IsFreeLocation, free_facilities, free_locations, placing}
 use Rattle.qap_proof.specs.declared.side.Side.{Side}
@@ -14,13 +14,13 @@ pub record Pair : Type 0 where
 abbrev pub pair : List ℤ → List ℤ → Pair
 pair u v = record { u = u; v = v }
 
--- of a split: the facility or the location that it is on, and the duals that it may have
+-- of a split: the facility or the location on which it is, and its optional duals
 pub record Split : Type 0 where
   pub side : Side
   pub number : ℕ
   pub duals : Option Pair
 
--- closed by duals; split, with a child for each free one of the other side; cut by the duals of the split above; or the image of
+-- closed by duals; split, with a child for each free one of the other side; pruned by the duals of the split above; or symmetric to
 -- the earlier child of this number under a permutation
 mutual
   -- one node with all below it
@@ -57,13 +57,13 @@ abbrev pub IsFreeOn : Side → Placement → ℕ → Type 0
 IsFreeOn Facility x i = IsFreeFacility x i
 IsFreeOn Location x k = IsFreeLocation x k
 
--- the facility that child number c, from 0, of a split puts at a location: the one that the split is on, or the c-th
--- free one, ascending, where the split is on a location
+-- the facility that child number c, from 0, of a split puts at a location: the one on which the split is, or the c-th
+-- free one, ascending, if the split is on a location
 abbrev pub facility_on : Side → Placement → ℕ → ℕ → ℕ
 facility_on Facility x i c = i
 facility_on Location x k c = slice_index (free_facilities x) c
 
--- the location that this child puts it at: the c-th free one, ascending, or the one that the split is on
+-- the location at which this child puts it: the c-th free one, ascending, or the one on which the split is
 abbrev pub location_on : Side → Placement → ℕ → ℕ → ℕ
 location_on Facility x i c = slice_index (free_locations x) c
 location_on Location x k c = k
@@ -72,12 +72,12 @@ location_on Location x k c = k
 abbrev pub child_of : Placement → Split → ℕ → Placement
 child_of x s c = placing x (facility_on s.side x s.number c) (location_on s.side x s.number c)
 
--- where a node of a tree stands: at the root, or as child number c of a split of a node
+-- the position of a node in a tree: the root, or child number c of a split of a node
 pub data Place : Type 0 where
   whole : Placement → Place
   child : Placement → Split → ℕ → Place
 
--- the node of the tree that stands at a place
+-- the node of the tree at a position
 abbrev pub node_at : Place → Placement
 node_at (whole x) = x
 node_at (child x s c) = child_of x s c

@@ -1,7 +1,7 @@
--- What makes a tree prove a bound: the splits leave no permutation out; the duals of a closed node reach the bound, by
--- Gilmore (1962) and Lawler (1963); of a child that is cut, the duals of its split reach it with what the entry of the
--- pair that the child puts together exceeds its own two duals by; and a child that is mirrored has the same costs as an
--- earlier one, since a permutation that keeps one of the two matrices takes that one's permutations to its own.
+-- What makes a tree prove a bound: the splits omit no permutation; the duals of a closed node reach the bound, by
+-- Gilmore (1962) and Lawler (1963); for a pruned child, the duals of its split plus the reduced cost of the pair that
+-- the child places reach it; and a symmetric child has the same costs as an
+-- earlier one, since a permutation that preserves one of the two matrices maps that one's permutations to its own.
 use Rattle.std.specs.Prelude.{◌≡◌, ℕ, ◌+◌, ◌<◌, List, length, ℤ, pos, ◌+ℤ◌, ◌-ℤ◌, ◌≤ℤ◌, Option, Some, None, slice_index, slice_index_or}
 use Rattle.qap_cost.specs.Instance.{Problem}
 use Rattle.qap_cost.specs.Matrix.{dual_value, entry_of}
@@ -17,8 +17,8 @@ abbrev pub MayFit : Problem → Placement → Option Pair → Type 0
 MayFit I x None = Unit {0}
 MayFit I x (Some d) = Fits I x d.u d.v
 
--- what the duals yield where facility i is put at location k, with what the placed facilities cost: row r is that of i,
--- column c that of k, and the entry there takes the place of its two duals
+-- the value of the duals if facility i is put at location k, with the cost of the placed facilities: row r is that of i,
+-- column c that of k, and the entry there replaces its two duals
 pub record Reaches (I : Problem) (x : Placement) (d : Pair) (i k : ℕ) (value : ℤ) : Type 0 where
   pub fits : Fits I x d.u d.v
   pub row : ℕ
@@ -29,7 +29,7 @@ pub record Reaches (I : Problem) (x : Placement) (d : Pair) (i k : ℕ) (value :
   pub column_of : slice_index (free_locations x) column ≡ k
   pub is : value ≡ fixed_cost_of I x +ℤ dual_value d.u d.v +ℤ entry_of fits.matrix row column -ℤ slice_index_or d.u row (pos 0) -ℤ slice_index_or d.v column (pos 0)
 
--- the split has duals, which yield at least g for its child number c
+-- the split has duals, whose value is at least g for its child number c
 pub record IsCut (I : Problem) (g : ℤ) (x : Placement) (s : Split) (c : ℕ) : Type 0 where
   pub duals : Pair
   pub has : s.duals ≡ Some duals
@@ -37,14 +37,14 @@ pub record IsCut (I : Problem) (g : ℤ) (x : Placement) (s : Split) (c : ℕ) :
   pub reaches : Reaches I x duals (facility_on s.side x s.number c) (location_on s.side x s.number c) value
   pub enough : g ≤ℤ value
 
--- a permutation of n numbers that keeps an n by n matrix, leaves those taken where they are, and takes one number to another
+-- a permutation of n numbers that preserves an n by n matrix, fixes those taken, and maps one number to another
 pub record Takes (n : ℕ) (matrix : List ℤ) (taken m : List ℕ) (from to : ℕ) : Type 0 where
   pub keeps : Keeps n matrix m
   pub stays : (t : ℕ) → t < length taken → slice_index m (slice_index taken t) ≡ slice_index taken t
   pub takes : slice_index m from ≡ to
 
--- where the split is on a facility, the permutation is of the locations and keeps the distances; where it is on a location, it is
--- of the facilities and keeps the flows; and it takes what child number j has to what child number c has
+-- if the split is on a facility, the permutation is of the locations and preserves the distances; if it is on a location, it is
+-- of the facilities and preserves the flows; and it maps what child number j has to what child number c has
 abbrev pub TakesOn : Side → Problem → Placement → ℕ → ℕ → List ℕ → Type 0
 TakesOn Facility I x j c m = Takes x.size I.b x.places m (slice_index (free_locations x) j) (slice_index (free_locations x) c)
 TakesOn Location I x j c m = Takes x.size I.a x.facilities m (slice_index (free_facilities x) j) (slice_index (free_facilities x) c)

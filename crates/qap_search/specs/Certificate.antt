@@ -1,4 +1,4 @@
--- The certificate that the tuples of a search make.
+-- The certificate that the tuples of a search form.
 pub mod Assembling
 pub mod ClosedTuples
 pub mod Finished

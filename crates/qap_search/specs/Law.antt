@@ -1,4 +1,4 @@
--- What holds of the tuples of a search at any moment.
+-- What holds for the tuples of a search at any moment.
 pub mod CutTree
 pub mod Replacement
 pub mod Search

@@ -1,4 +1,4 @@
--- What a run of the solver yields, whatever it was asked for.
+-- The result of a run of the solver, for any request.
 use Rattle.std.specs.Prelude.{◌≡◌, ℕ, ◌⊎◌, List, Option}
 use Rattle.qap_io.specs.Counting.{CountedDevice}
 use Rattle.qap_io.specs.Refusal.{refusal_line}
@@ -15,25 +15,25 @@ use Rattle.qap_solve.specs.declared.command_line.Request.TheVariants.{Solve, Scr
 use Rattle.qap_solve.specs.declared.refusal.RunError.{RunError}
 use Rattle.qap_solve.specs.declared.refusal.RunError.TheVariants.{Stopped}
 
--- all of the answer has gone out
+-- all of the answer has been written
 abbrev pub HasAnswered : {R W : Type 0} → Streams R W → Request → Type 0
 HasAnswered s (Solve options) =
     HasSolved (input_of s.bytes_left s.reader s.reader_after) options.nodes options.cert s.bytes_taken s.writer s.writer_after
 HasAnswered s Script = RunsWhole s
 
--- there is no answer, or a part of it alone, for this reason
+-- there is no answer, or only a part of it, for this reason
 abbrev pub HasNotAnswered : {R W : Type 0} → Streams R W → Request → RunError → Type 0
 HasNotAnswered s (Solve options) e =
     HasNotSolved (input_of s.bytes_left s.reader s.reader_after) options.nodes options.cert s.bytes_taken s.writer s.writer_after e
 HasNotAnswered s Script e = (fault : ScriptError) × BreaksDown s fault × (e ≡ of_script fault)
 
--- The line of a refusal has gone out, or the writer failed and a beginning of it has. Nothing is reported of a search
--- that was stopped, since what it has found stands on the output.
+-- The line of a refusal has been written, or the writer failed after a prefix of it. Nothing is reported for a search
+-- that was stopped, since its result is on the output.
 abbrev pub HasTold : {E : Type 0} → (E → Option (List ℕ)) → CountedDevice E → CountedDevice E → RunError → Type 0
 HasTold contents old new Stopped = new ≡ old
 HasTold contents old new e = Sends contents old new (refusal_line (refusal_of e)) ⊎ BreaksOff contents old new (refusal_line (refusal_of e))
 
--- The run ended with this exit status: 0 behind the whole answer, with nothing reported of a refusal, or that of why
+-- The run ended with this exit status: 0 after the whole answer, with no refusal reported, or that of the reason why
 -- there is none, which was reported.
 abbrev pub HasRun : {R W E : Type 0} → Streams R W → Request → (E → Option (List ℕ)) → CountedDevice E → CountedDevice E → ℕ → Type 0
 HasRun s request told errors errors_after exit =

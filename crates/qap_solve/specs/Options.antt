@@ -1,10 +1,10 @@
--- Within which limits an instance may be asked to be solved.
+-- The limits of what may be requested.
 use Rattle.std.specs.Prelude.{◌<◌, ◌≤◌, ◌^◌, ℕ, Option, IfSome}
 use Rattle.qap_solve.specs.declared.command_line.Request.{Request}
 use Rattle.qap_solve.specs.declared.command_line.Request.TheVariants.{Solve, Script}
 use Rattle.qap_solve.specs.declared.options.Options.{Options}
 
--- a limit of nodes, if there is one, is 2^62 at most
+-- a node limit, if there is one, is at most 2^62
 abbrev pub AreCountable : Option ℕ → Type 0
 AreCountable nodes = IfSome nodes (λ n. n ≤ 2 ^ 62)
 
@@ -16,7 +16,7 @@ pub record AreLimited (o : Options) : Type 0 where
   pub short : o.lease_ms ≤ 86400000
   pub countable : AreCountable o.nodes
 
--- what is asked for may be done
+-- the request is within its limits
 abbrev pub MayRun : Request → Type 0
 MayRun (Solve options) = AreLimited options
 MayRun Script = Unit {0}

@@ -1,4 +1,4 @@
--- Why a run is broken off, and how that is reported.
+-- Why a run is aborted, and how that is reported.
 use Rattle.std.specs.Prelude.{ℕ, codes}
 use Rattle.qap_io.specs.Refusal.{RefusalText, memory_refusal, device_refusal, refused, refused_at}
 use Rattle.qap_search.specs.declared.runs.answer.SolveError.{SolveError}
@@ -11,19 +11,19 @@ use Rattle.space_script.specs.declared.script_error.ScriptError.TheVariants.{Inp
 use Rattle.qap_solve.specs.declared.refusal.RunError.{RunError}
 use Rattle.qap_solve.specs.declared.refusal.RunError.TheVariants.{Text, Unfinished, Stopped, OutOfMemory, Device}
 
--- what a fault of a text is for the run: want of memory and a failed device are the run's own
+-- the run's error for a fault of a text: out of memory and a failed device are the run's own
 abbrev pub of_text : TextError → RunError
 of_text TextMemory = OutOfMemory
 of_text TextDevice = Device
 of_text e = Text e
 
--- the same for a fault of a script
+-- likewise for a fault of a script
 abbrev pub of_script : ScriptError → RunError
 of_script ScriptTooLong = Text InputTooLong
 of_script ScriptMemory = OutOfMemory
 of_script ScriptDevice = Device
 
--- the same for the error of a search
+-- likewise for the error of a search
 abbrev pub of_search : SolveError → RunError
 of_search (SearchUnfinished count) = Unfinished count
 of_search (SearchStopped answer) = Stopped
@@ -37,7 +37,7 @@ refusal_of Stopped = refused 43 (codes "Stopped")
 refusal_of OutOfMemory = memory_refusal
 refusal_of Device = device_refusal
 
--- the exit status of a refusal: 3 for want of memory, 4 where nodes are open, 5 where the search was stopped, else 1
+-- the exit status of a refusal: 3 if out of memory, 4 if nodes are open, 5 if the search was stopped, else 1
 abbrev pub status_of : RunError → ℕ
 status_of OutOfMemory = 3
 status_of (Unfinished count) = 4

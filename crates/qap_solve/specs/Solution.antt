@@ -15,14 +15,14 @@ use Rattle.qap_text.specs.Gap.{gap_line}
 use Rattle.qap_text.specs.WrittenSolution.{solution_text}
 use Rattle.shared_space.specs.Limit.{IsWithin}
 
--- the certificate shows the least cost of the instance, by no more nodes than the limit, where there is one
+-- the certificate establishes the least cost of the instance, with no more nodes than the limit, if there is one
 pub record ShowsLeast (I : Problem) (nodes : Option ℕ) (C : Claim) : Type 0 where
   pub certified : Certifies I C
   pub closed : C.bound ≡ C.cost
   pub within : IfSome nodes (λ n. node_count C.tree ≤ n)
 
--- the text is that of a permutation of the instance, with its cost, and none costs less: it is the best one of a cut tree without open
--- nodes, in which no more nodes are decided than the limit, where there is one
+-- the text is that of a permutation of the instance, with its cost, and none costs less: it is the incumbent of a cut tree without open
+-- nodes, in which no more nodes are decided than the limit, if there is one
 pub record IsLeastText (I : Problem) (nodes : Option ℕ) (text : List ℕ) : Type 0 where
   pub permutation : List ℕ
   pub permutes : Permutes I permutation
@@ -32,7 +32,7 @@ pub record IsLeastText (I : Problem) (nodes : Option ℕ) (text : List ℕ) : Ty
   pub left : LeavesBest (whole I) decided permutation (cost_of I permutation)
   pub within : IsWithin nodes decided
 
--- the text is that of a certificate that shows the least cost of the instance
+-- the text is that of a certificate that establishes the least cost of the instance
 pub record IsProofText (I : Problem) (nodes : Option ℕ) (text : List ℕ) : Type 0 where
   pub certificate : Claim
   pub is : text ≡ certificate_text Second certificate
@@ -40,7 +40,7 @@ pub record IsProofText (I : Problem) (nodes : Option ℕ) (text : List ℕ) : Ty
   pub least : IsLeast I certificate.cost
   pub by : ShowsLeast I nodes certificate
 
--- the one or the other, as was asked for
+-- one or the other, as requested
 abbrev pub IsOutput : Bool → Problem → Option ℕ → List ℕ → Type 0
 IsOutput true I nodes text = IsProofText I nodes text
 IsOutput false I nodes text = IsLeastText I nodes text
@@ -52,7 +52,7 @@ pub record ShowsGap (I : Problem) (nodes : ℕ) (C : Claim) : Type 0 where
   pub permutes : Permutes I C.permutation
   pub none_less : NoneCostsLess I C.bound
 
--- the text is the line of such a certificate's bound and cost, and behind it that of its permutation with its cost
+-- the text is the line of such a certificate's bound and cost, followed by that of its permutation with its cost
 pub record IsGapText (I : Problem) (nodes : ℕ) (text : List ℕ) : Type 0 where
   pub certificate : Claim
   pub shown : ShowsGap I nodes certificate
@@ -65,7 +65,7 @@ pub record IsGapProofText (I : Problem) (nodes : ℕ) (text : List ℕ) : Type 0
   pub is : text ≡ certificate_text Second certificate
   pub is_text : IsCertificateText text certificate
 
--- the one or the other, as was asked for
+-- one or the other, as requested
 abbrev pub IsStoppedOutput : Bool → Problem → ℕ → List ℕ → Type 0
 IsStoppedOutput true I nodes text = IsGapProofText I nodes text
 IsStoppedOutput false I nodes text = IsGapText I nodes text

@@ -12,14 +12,14 @@ use Rattle.qap_solve.specs.Solution.{IsOutput, IsStoppedOutput}
 use Rattle.qap_solve.specs.declared.refusal.RunError.{RunError}
 use Rattle.qap_solve.specs.declared.refusal.RunError.TheVariants.{Unfinished, Stopped, OutOfMemory, Device}
 
--- what the instance that was read is solved as, within the limit of nodes
+-- the solution of the instance that was read, within the node limit
 pub record Solves {R : Type 0} (s : Input R) (nodes : Option ℕ) (cert : Bool) (output : List ℕ) : Type 0 where
   pub instance : Problem
   pub rest : List ℕ
   pub input : HasInstance s instance rest
   pub holds : IsOutput cert instance nodes output
 
--- what is written for the instance that was read, where its search was stopped at this limit of nodes
+-- what is written for the instance that was read, if its search was stopped at this node limit
 pub record SolvesPartly {R : Type 0} (s : Input R) (nodes : Option ℕ) (cert : Bool) (output : List ℕ) : Type 0 where
   pub instance : Problem
   pub rest : List ℕ
@@ -28,13 +28,13 @@ pub record SolvesPartly {R : Type 0} (s : Input R) (nodes : Option ℕ) (cert : 
   pub is : nodes ≡ Some limit
   pub holds : IsStoppedOutput cert instance limit output
 
--- the input begins with no instance
+-- the input does not begin with an instance
 pub record NoInstance {R : Type 0} (s : Input R) (e : RunError) : Type 0 where
   pub fault : TextError
   pub is : e ≡ of_text fault
   pub of_input : HasNoInstance s fault
 
--- the search of an instance ended with this many open nodes, below the limit of nodes
+-- the search of an instance ended with this many open nodes, below the node limit
 pub record IsUnfinished {R : Type 0} (s : Input R) (nodes : Option ℕ) (e : RunError) : Type 0 where
   pub count : ℕ
   pub is : e ≡ Unfinished count
@@ -52,23 +52,23 @@ pub record WantsMemory {R : Type 0} (s : Input R) (e : RunError) : Type 0 where
 abbrev pub IsUnread : {R : Type 0} → Input R → RunError → Type 0
 IsUnread s e = NoInstance s e ⊎ WantsMemory s e
 
--- why none is solved
+-- why no instance is solved
 abbrev pub IsUnsolved : {R : Type 0} → Input R → Option ℕ → RunError → Type 0
 IsUnsolved s nodes e = IsUnread s e ⊎ IsUnfinished s nodes e
 
--- a beginning of the text has gone out, and this is why no more has
+-- a prefix of the text has been written, and this is why no more has been
 abbrev pub Stops : {W : Type 0} → (W → Option (List ℕ)) → CountedDevice W → CountedDevice W → List ℕ → RunError → Type 0
 Stops contents old new text e = StopsBy OutOfMemory Device contents old new text e
 
--- all of the answer has gone out
+-- all of the answer has been written
 abbrev pub HasSolved : {R W : Type 0} → Input R → Option ℕ → Bool → (W → Option (List ℕ)) → CountedDevice W → CountedDevice W → Type 0
 HasSolved s nodes cert contents old new = (text : List ℕ) × Solves s nodes cert text × Sends contents old new text
 
--- what a search that was stopped has found has gone out, or, for this reason, a beginning of it has
+-- the result of a search that was stopped has been written, or, for this reason, only a prefix of it
 abbrev pub EndsStopped : {W : Type 0} → (W → Option (List ℕ)) → CountedDevice W → CountedDevice W → List ℕ → RunError → Type 0
 EndsStopped contents old new text e = ((e ≡ Stopped) × Sends contents old new text) ⊎ Stops contents old new text e
 
--- nothing is solved, and nothing has gone out; or a beginning of the answer has; or the search was stopped at its limit of nodes
+-- nothing is solved, and nothing has been written; or a prefix of the answer has been; or the search was stopped at its node limit
 abbrev pub HasNotSolved : {R W : Type 0} → Input R → Option ℕ → Bool → (W → Option (List ℕ)) → CountedDevice W → CountedDevice W → RunError → Type 0
 HasNotSolved s nodes cert contents old new e =
     (IsUnsolved s nodes e × (new ≡ old))

@@ -1,4 +1,4 @@
--- The line that states a bound that no permutation costs less than, and the cost of one.
+-- The line that states a lower bound on all permutations, and the cost of one.
 use Rattle.std.specs.Prelude.{ℕ, List, ◌++◌, ℤ, codes}
 use Rattle.std.specs.Fmt.{signed_decimal}
 

@@ -10,7 +10,7 @@ use Rattle.qap_text.specs.declared.error.TextError.{TextError}
 abbrev pub max_input : ℕ
 max_input = 1_073_741_824
 
--- a reader, as a call found it and as it left it; and what is known of the bytes that it has left
+-- a reader, before and after a call; and what is known about the bytes left in it
 pub record Input (R : Type 0) : Type 0 where
   pub bytes : R → Option (List ℕ)
   pub before : CountedDevice R
@@ -36,6 +36,6 @@ pub record HasTextFault {R : Type 0} (i : Input R) (fault : TextError) : Type 0 
   pub read : HasText i text
   pub of_instance : IsInstanceFault text fault
 
--- the bytes can't be read within the limit, or are no instance's text
+-- the bytes cannot be read within the limit, or are not an instance's text
 abbrev pub HasNoInstance : {R : Type 0} → Input R → TextError → Type 0
 HasNoInstance i fault = IsReadFault i.bytes max_input i.before i.after fault ⊎ HasTextFault i fault

@@ -15,7 +15,7 @@ pub record IsInstanceText (text : List ℕ) (I : Problem) (rest : List ℕ) : Ty
   pub spelled : Spells text 0 (pos I.size ∷ I.a ++ I.b) stop
   pub follows : rest ≡ drop stop text
 
--- the first word is no size
+-- the first word is not a size
 abbrev pub IsSizeFault : List ℕ → TextError → Type 0
 IsSizeFault text Empty = HasNoWord text 0
 IsSizeFault text (NotANumber place) = IsNoNumberAt text 0 place
@@ -23,14 +23,14 @@ IsSizeFault text (SizeZero place) = (stop : ℕ) × (z : ℤ) × IsNumberAt text
 IsSizeFault text (SizeTooLarge place) = (stop : ℕ) × (z : ℤ) × IsNumberAt text 0 place stop z × (pos max_size <ℤ z)
 IsSizeFault text _ = ⊥
 
--- the next word from a place on is no entry
+-- the next word from a position on is not an entry
 abbrev pub IsEntryFault : List ℕ → ℕ → TextError → Type 0
 IsEntryFault text from CountDiffers = HasNoWord text from
 IsEntryFault text from (NotANumber place) = IsNoNumberAt text from place
 IsEntryFault text from (EntryRange place) = (stop : ℕ) × (z : ℤ) × IsNumberAt text from place stop z × (max_entry < unsigned_abs z)
 IsEntryFault text from _ = ⊥
 
--- from a place on there are right entries, fewer than are wanted, and then one that is at fault
+-- from a position on there are valid entries, fewer than required, and then an invalid one
 pub record HasEntryFault (text : List ℕ) (from wanted : ℕ) (e : TextError) : Type 0 where
   pub entries : List ℤ
   pub stop : ℕ
@@ -39,7 +39,7 @@ pub record HasEntryFault (text : List ℕ) (from wanted : ℕ) (e : TextError) :
   pub too_few : length entries < wanted
   pub fault : IsEntryFault text stop e
 
--- a right size, and then an entry that is at fault, all before it being right
+-- a valid size, and then an invalid entry, the first one
 pub record HasInstanceEntryFault (text : List ℕ) (e : TextError) : Type 0 where
   pub size : ℕ
   pub positive : 0 < size
@@ -49,6 +49,6 @@ pub record HasInstanceEntryFault (text : List ℕ) (e : TextError) : Type 0 wher
   pub spelled : IsNumberAt text 0 start stop (pos size)
   pub fault : HasEntryFault text stop (2 * (size * size)) e
 
--- the first fault of a text that is no instance's
+-- the first fault of a text that is not an instance's
 abbrev pub IsInstanceFault : List ℕ → TextError → Type 0
 IsInstanceFault text e = IsSizeFault text e ⊎ HasInstanceEntryFault text e

@@ -1,9 +1,9 @@
--- Words that are whole numbers: a sign that may be left out, and one or more decimal digits.
+-- Words that are whole numbers: an optional sign, and one or more decimal digits.
 use Rattle.std.specs.Prelude.{◌==◌, if◌then◌else◌, ℕ, List, [], ◌∷◌, ℤ, pos, neg_ℤ, Option, None}
 use Rattle.std.specs.Option.{option_map}
 use Rattle.qap_io.specs.Digits.{unsigned_number_of}
 
--- the number that a word spells, with `+`, with `-` or with no sign; None where it spells none
+-- the number that a word spells, with `+`, with `-` or with no sign; None if it spells none
 abbrev pub number_of : List ℕ → Option ℤ
 number_of [] = None
 number_of (b ∷ bs) =

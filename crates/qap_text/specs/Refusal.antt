@@ -4,7 +4,7 @@ use Rattle.qap_io.specs.Refusal.{RefusalText, memory_refusal, device_refusal, re
 use Rattle.qap_text.specs.declared.error.TextError.{TextError}
 use Rattle.qap_text.specs.declared.error.TextError.TheVariants.{Empty, NotANumber, SizeZero, SizeTooLarge, EntryRange, CountDiffers, SizeDiffers, NotPermutation, ValueRange, InputTooLong, OutOfMemory, Device}
 
--- each fault of a text as its refusal: a number, a name, and the place where it has one
+-- each fault of a text as its refusal: a number, a name, and a place if it has one
 abbrev pub text_refusal : TextError → RefusalText
 text_refusal Empty = refused 1 (codes "Empty")
 text_refusal (NotANumber place) = refused_at 2 (codes "NotANumber") place

@@ -1,4 +1,4 @@
--- Reading a reader's bytes to their end, within a limit, and what keeps a reader from that.
+-- Reading a reader's bytes to their end, within a limit, and what prevents that.
 use Rattle.std.specs.Prelude.{◌≡◌, ℕ, ◌<◌, ◌≤◌, List, length, Option}
 use Rattle.std.specs.Io.KnownBytes.{Consumes, IsAtEnd}
 use Rattle.qap_io.specs.Counting.{CountedDevice, FailedBetween}

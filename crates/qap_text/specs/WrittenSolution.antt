@@ -1,13 +1,13 @@
--- Texts of solutions as they are written: each solution has one.
+-- Texts of solutions as they are written: each solution has exactly one.
 use Rattle.std.specs.Prelude.{ℕ, ◌+◌, List, [], ◌∷◌, ◌++◌, length, ℤ, codes}
 use Rattle.std.specs.Fmt.{decimal, signed_decimal}
 
--- locations, counted from 1, each behind a space
+-- locations, counted from 1, each after a space
 abbrev pub behind_spaces : List ℕ → List ℕ
 behind_spaces [] = []
 behind_spaces (k ∷ p) = codes " " ++ decimal (k + 1) ++ behind_spaces p
 
--- locations, counted from 1, with a space between
+-- locations, counted from 1, separated by a space
 abbrev pub locations_text : List ℕ → List ℕ
 locations_text [] = []
 locations_text (k ∷ p) = decimal (k + 1) ++ behind_spaces p

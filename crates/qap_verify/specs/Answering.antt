@@ -1,4 +1,4 @@
--- What a run yields: the line of what the proof shows, or why it shows nothing.
+-- The result of a run: the line of what the proof establishes, or why it establishes nothing.
 use Rattle.std.specs.Prelude.{◌≡◌, ℕ, ◌⊎◌, List, ◌++◌, Option, codes}
 use Rattle.std.specs.Fmt.{signed_decimal}
 use Rattle.qap_cost.specs.Instance.{Problem}
@@ -14,7 +14,7 @@ use Rattle.qap_verify.specs.Texts.{ComeTo, Inputs}
 use Rattle.qap_verify.specs.declared.refusal.RunError.{RunError}
 use Rattle.qap_verify.specs.declared.refusal.RunError.TheVariants.{Device}
 
--- the text, of either version, shows what the verdict says, and it is so
+-- the text, in either version, establishes the verdict, which is true
 abbrev pub Proves : Problem → List ℕ → Verdict → Type 0
 Proves I text v = EitherShows I text v × EitherIsSo I text v
 
@@ -24,21 +24,21 @@ answer_line (Optimal c) = codes "optimal " ++ signed_decimal c ++ codes "\n"
 answer_line (Gap g c) = gap_line g c
 answer_line (Part g) = codes "part " ++ signed_decimal g ++ codes "\n"
 
--- the line of what the proof shows has gone out
+-- the line of what the proof establishes has been written
 abbrev pub HasAnswered : {R S W : Type 0} → Inputs R S → (W → Option (List ℕ)) → CountedDevice W → CountedDevice W → Type 0
 HasAnswered i contents old new = (v : Verdict) × ComeTo i Proves v × Sends contents old new (answer_line v)
 
--- there is nothing that it shows, and nothing has gone out; or the writer failed, and a beginning of the line has
+-- it establishes nothing, and nothing has been written; or the writer failed after a prefix of the line
 abbrev pub HasNotAnswered : {R S W : Type 0} → Inputs R S → (W → Option (List ℕ)) → CountedDevice W → CountedDevice W → RunError → Type 0
 HasNotAnswered i contents old new e =
     ((HasNoTexts i e ⊎ ComeTo i IsNoProof e) × (new ≡ old))
     ⊎ ((e ≡ Device) × (v : Verdict) × ComeTo i Proves v × BreaksOff contents old new (answer_line v))
 
--- the line of a refusal has gone out, or the writer failed and a beginning of it has
+-- the line of a refusal has been written, or the writer failed after a prefix of it
 abbrev pub HasTold : {E : Type 0} → (E → Option (List ℕ)) → CountedDevice E → CountedDevice E → RunError → Type 0
 HasTold contents old new e = Sends contents old new (refusal_line (refusal_of e)) ⊎ BreaksOff contents old new (refusal_line (refusal_of e))
 
--- the run ended with this exit status: 0 where it answered, with nothing reported of a refusal; or that of why it did
+-- the run ended with this exit status: 0 if it answered, with no refusal reported; or that of the reason why it did
 -- not, which was reported
 abbrev pub HasRun : {R S W E : Type 0} → Inputs R S → (W → Option (List ℕ)) → CountedDevice W → CountedDevice W
     → (E → Option (List ℕ)) → CountedDevice E → CountedDevice E → ℕ → Type 0

@@ -1,4 +1,4 @@
--- Proofs of parts that come beside the proof of a whole, and the line of what they show together.
+-- Proofs of parts added to the proof of a whole, and the line of what they establish together.
 use Rattle.std.specs.Prelude.{◌≡◌, ℕ, ◌⊎◌, List, Option}
 use Rattle.qap_cost.specs.Instance.{Problem}
 use Rattle.qap_io.specs.Counting.{CountedDevice}
@@ -15,13 +15,13 @@ use Rattle.qap_verify.specs.Refusal.{of_proof, of_text}
 use Rattle.qap_verify.specs.declared.refusal.RunError.{RunError}
 use Rattle.qap_verify.specs.declared.refusal.RunError.TheVariants.{OutOfMemory, Device}
 
--- the input is the text of the proof of a part, which has come beside the others
+-- the input is the text of the proof of a part, which has been added to the others
 pub record HasAdded {S : Type 0} (i : Input S) (old new : CoverValue) : Type 0 where
   pub text : List ℕ
   pub read : HasText i text
   pub part : HasPart text old new
 
--- the text that was read has this first fault as one of a proof that proves its bound
+-- the text that was read has this first fault as a proof that proves its bound
 pub record IsNoPart {S : Type 0} (i : Input S) (I : Problem) (e : RunError) : Type 0 where
   pub text : List ℕ
   pub read : HasText i text
@@ -29,20 +29,20 @@ pub record IsNoPart {S : Type 0} (i : Input S) (I : Problem) (e : RunError) : Ty
   pub is : e ≡ of_proof fault
   pub refused : IsRefused I text fault
 
--- the bytes can't be read within the limit, the text is at fault, or memory ran out
+-- the bytes cannot be read within the limit, the text is at fault, or memory ran out
 abbrev pub HasNotAdded : {S : Type 0} → Input S → Problem → RunError → Type 0
 HasNotAdded i I e =
     ((fault : TextError) × (e ≡ of_text fault) × IsReadFault i.bytes max_input i.before i.after fault) ⊎ (IsNoPart i I e ⊎ (e ≡ OutOfMemory))
 
--- the verdict is what the proofs show together, and it is so
+-- the verdict is what the proofs establish together, and it is true
 abbrev pub ShowTogether : CoverValue → Verdict → Type 0
 ShowTogether c v = IsVerdictOn c v × IsSoOf c.instance c.root v
 
--- the line of what they show has gone out
+-- the line of what they establish has been written
 abbrev pub HasShown : {W : Type 0} → CoverValue → (W → Option (List ℕ)) → CountedDevice W → CountedDevice W → Type 0
 HasShown c contents old new = (v : Verdict) × ShowTogether c v × Sends contents old new (answer_line v)
 
--- memory ran out, and nothing has gone out; or the writer failed, and a beginning of the line has
+-- memory ran out, and nothing has been written; or the writer failed after a prefix of the line
 abbrev pub HasNotShown : {W : Type 0} → CoverValue → (W → Option (List ℕ)) → CountedDevice W → CountedDevice W → RunError → Type 0
 HasNotShown c contents old new e =
     ((e ≡ OutOfMemory) × (new ≡ old)) ⊎ ((e ≡ Device) × (v : Verdict) × ShowTogether c v × BreaksOff contents old new (answer_line v))

@@ -1,4 +1,4 @@
--- Why a run answers no verdict, and how that is reported.
+-- Why a run yields no verdict, and how that is reported.
 use Rattle.std.specs.Prelude.{◌≡◌, ℕ, ◌⊎◌, List}
 use Rattle.qap_cost.specs.Instance.{Problem}
 use Rattle.qap_io.specs.Refusal.{RefusalText, memory_refusal, device_refusal}
@@ -16,26 +16,26 @@ use Rattle.qap_verify.specs.Texts.{Inputs, IsUnread, ProofWaits, KeepsCounts}
 use Rattle.qap_verify.specs.declared.refusal.RunError.{RunError}
 use Rattle.qap_verify.specs.declared.refusal.RunError.TheVariants.{Text, Proof, OutOfMemory, Device}
 
--- what a fault of a text is for the run: want of memory and a failed device are the run's own
+-- the run's error for a fault of a text: out of memory and a failed device are the run's own
 abbrev pub of_text : TextError → RunError
 of_text TextMemory = OutOfMemory
 of_text TextDevice = Device
 of_text e = Text e
 
--- the same for a fault of a proof
+-- likewise for a fault of a proof
 abbrev pub of_proof : ProofError → RunError
 of_proof ProofMemory = OutOfMemory
 of_proof ProofDevice = Device
 of_proof e = Proof e
 
--- the first input begins with no instance, and the proof was not read
+-- the first input does not begin with an instance, and the proof was not read
 pub record NoInstance {R S : Type 0} (i : Inputs R S) (e : RunError) : Type 0 where
   pub fault : TextError
   pub is : e ≡ of_text fault
   pub of_input : HasNoInstance i.first fault
   pub unread : IsUnread i
 
--- an instance was read, and then the bytes of the proof can't be read within the limit
+-- an instance was read, and then the bytes of the proof cannot be read within the limit
 pub record ProofUnread {R S : Type 0} (i : Inputs R S) (e : RunError) : Type 0 where
   pub fault : TextError
   pub is : e ≡ of_text fault
@@ -54,11 +54,11 @@ pub record WantsMemory {R S : Type 0} (i : Inputs R S) (e : RunError) : Type 0 w
 abbrev pub HasNoTexts : {R S : Type 0} → Inputs R S → RunError → Type 0
 HasNoTexts i e = NoInstance i e ⊎ (ProofUnread i e ⊎ WantsMemory i e)
 
--- the text is refused as one of a proof of either version that proves its bound
+-- the text is refused as a proof in either version that proves its bound
 abbrev pub IsNoProof : Problem → List ℕ → RunError → Type 0
 IsNoProof I text e = (fault : ProofError) × (e ≡ of_proof fault) × EitherIsRefused I text fault
 
--- the text has this first fault as one of a proof of version 1 that proves its bound, as that of a whole beside parts is to be
+-- the text has this first fault as a proof of version 1 that proves its bound, as required of a whole with parts
 abbrev pub IsNoWhole : Problem → List ℕ → RunError → Type 0
 IsNoWhole I text e = (fault : ProofError) × (e ≡ of_proof fault) × IsRefused I text fault
 
@@ -69,7 +69,7 @@ refusal_of (Proof e) = proof_refusal e
 refusal_of OutOfMemory = memory_refusal
 refusal_of Device = device_refusal
 
--- the exit status of a refusal: 3 for want of memory, else 1
+-- the exit status of a refusal: 3 if out of memory, else 1
 abbrev pub status_of : RunError → ℕ
 status_of OutOfMemory = 3
 status_of _ = 1

@@ -1,4 +1,4 @@
--- The two texts of a run: an instance's and a proof's, each from a reader of its own.
+-- The two texts of a run: an instance's and a proof's, each from its own reader.
 use Rattle.std.specs.Prelude.{◌≡◌, ℕ, ◌⊎◌, List, Option}
 use Rattle.qap_cost.specs.Instance.{Problem}
 use Rattle.qap_io.specs.Counting.{CountedDevice}
@@ -15,7 +15,7 @@ abbrev pub inputs_of : {R S : Type 0} → (R → Option (List ℕ)) → CountedD
 inputs_of bytes before after second_bytes second second_after =
     record { first = input_of bytes before after; second = input_of second_bytes second second_after }
 
--- the instance that the one begins with, and all of the other
+-- the instance with which the one begins, and all of the other
 pub record HasTexts {R S : Type 0} (i : Inputs R S) (I : Problem) (proof : List ℕ) : Type 0 where
   pub rest : List ℕ
   pub instance_read : HasInstance i.first I rest
@@ -28,7 +28,7 @@ pub record ComeTo {R S A : Type 0} (i : Inputs R S) (P : Problem → List ℕ �
   pub texts : HasTexts i problem text
   pub holds : P problem text answer
 
--- the reader of the proof is as it was
+-- the reader of the proof is unchanged
 abbrev pub IsUnread : {R S : Type 0} → Inputs R S → Type 0
 IsUnread i = i.second.after ≡ i.second.before
 

@@ -1,4 +1,4 @@
--- What a worker may ask of a room, and what a space of one thread answers.
+-- The requests of a worker to a room, and the answers of a single-threaded space.
 use Rattle.std.specs.Prelude.{◌≡◌, ℕ, Bool, List, Result, Ok, Err}
 use Rattle.tuple_match.specs.PatternValue.{PatternValue}
 use Rattle.tuple_space.specs.Step as space
@@ -9,8 +9,8 @@ use Rattle.shared_space.specs.Place.{Place, is_to_close}
 use Rattle.shared_space.specs.declared.error.CommitError.{CommitError}
 use Rattle.shared_space.specs.declared.error.CommitError.TheVariants.{Limit, Txn}
 
--- a transaction's begin; a call on a transaction; the moment's advance; to close the space where no entry matches;
--- whether it is closed
+-- the beginning of a transaction; a call on a transaction; advancing the moment; closing the space if no entry matches;
+-- asking whether it is closed
 pub data Event : Type 0 where
   begin : ℕ → Event
   call : TxnValue → Call → Event
@@ -18,7 +18,7 @@ pub data Event : Type 0 where
   close : List PatternValue → Event
   ask : Event
 
--- the answers; one to a call on a transaction has the transaction's value behind it, but where a limit forbids the commit
+-- the answers; one to a call on a transaction also has the transaction's value, unless a limit forbids the commit
 pub data Reply : Type 0 where
   begun : Result TxnValue TxnError → Reply
   answered : Answer → TxnValue → Reply
@@ -43,5 +43,5 @@ Did old (call t c) (answered answer t') new = Step old.world t c answer new.worl
 Did old (advance moment) (moved reply) new = AdvanceStep old.world moment reply new.world × (new ≡ record old { world = new.world })
 Did old (close template) (told answer) new = (answer ≡ is_to_close old template) × (new ≡ record old { closed = answer })
 Did old ask (told answer) new = (answer ≡ old.closed) × (new ≡ old)
--- no other reply is given; a space of one thread has no limit
+-- no other reply is given; a single-threaded space has no limit
 Did _ _ _ _ = ⊥

@@ -1,20 +1,20 @@
--- The law of a space: which permanent tuples it may hold, and which commits are allowed to change them.
+-- The law of a space: which permanent tuples it may hold, and which commits may change them.
 use Rattle.std.specs.Prelude.{ℕ, ◌+◌, Bool, List, ◌++◌, Contains}
 use Rattle.tuple_match.specs.FieldValue.{FieldValue}
 use Rattle.space_txn.specs.Content.{SameItems, added_of, gone_of, kept_of}
 use Rattle.space_txn.specs.Txn.{TxnValue}
 use Rattle.space_txn.specs.declared.mark.Mark.{Mark}
 
--- the permanent tuples of a space, each as often as it is there
+-- the permanent tuples of a space, as a multiset
 abbrev pub Content : Type 0
 Content = List (List FieldValue)
 
--- a law doesn't see the order of the tuples
+-- a law is independent of the order of the tuples
 abbrev pub IsUnordered : (Content → ℕ → Type 0) → Type 0
 IsUnordered lawful = (xs ys : Content) (commits : ℕ) → SameItems xs ys → lawful xs commits → lawful ys commits
 
--- A commit that is allowed keeps the law: from a lawful content, which holds what goes and what was read together, it makes one
--- without what goes and with what is added, under one commit more.
+-- An allowed commit preserves the law: from a lawful content, which contains what is removed and what was read, it yields one
+-- without what is removed and with what is added, under one more commit.
 abbrev pub IsKept : (Content → ℕ → Type 0) → (Content → Content → Content → Type 0) → Type 0
 IsKept lawful allowed =
     (gone kept added rest : Content) (commits : ℕ) → allowed gone kept added → lawful (gone ++ (kept ++ rest)) commits → lawful (added ++ (kept ++ rest)) (commits + 1)

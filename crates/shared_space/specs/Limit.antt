@@ -5,7 +5,7 @@ use Rattle.space_txn.specs.Txn.{TxnValue}
 use Rattle.shared_space.specs.Event.{Did, Event, Reply, call, answered, limited}
 use Rattle.shared_space.specs.Place.{Place}
 
--- this many commits are at most the limit, where there is one
+-- this many commits are at most the limit, if there is one
 abbrev pub IsWithin : Option ℕ → ℕ → Type 0
 IsWithin None commits = Unit {0}
 IsWithin (Some limit) commits = commits ≤ limit
@@ -15,13 +15,13 @@ abbrev pub is_reached : Option ℕ → ℕ → Bool
 is_reached None commits = false
 is_reached (Some limit) commits = commits == limit
 
--- its commits are at most the limit, and where they are the limit it is closed
+-- its commits are at most the limit, and if they equal the limit it is closed
 pub record IsLimited (limit : Option ℕ) (p : Place) : Type 0 where
   pub within : IsWithin limit p.world.commits
   pub closed : is_reached limit p.world.commits ≡ true → p.closed ≡ true
 
--- A commit under a limit: where the limit is reached it changes nothing. Else it is the machine's, and the space is closed
--- where the limit is reached then.
+-- A commit under a limit: if the limit is reached it changes nothing. Otherwise it is the machine's, and the space is closed
+-- if the limit is then reached.
 abbrev pub CommitWithin : Option ℕ → Place → TxnValue → Reply → Place → Type 0
 CommitWithin limit old t limited new = (is_reached limit old.world.commits ≡ true) × (new ≡ old)
 CommitWithin limit old t (answered answer t') new =

@@ -1,4 +1,4 @@
--- What is done with a space behind its lock, and runs of it: one act after another, each a step of the machine.
+-- Acts on a space behind its lock, and runs of it: one act after another, each a step of the machine.
 use Rattle.std.specs.Prelude.{◌≡◌, ℕ, Bool, true, false, List, [], ◌∷◌, All, Option}
 use Rattle.tuple_space.specs.Step as space
 use Rattle.space_txn.specs.Machine.{commit, done}
@@ -8,8 +8,8 @@ use Rattle.shared_space.specs.Law.{Content, MayCommit}
 use Rattle.shared_space.specs.Limit.{DidWithin}
 use Rattle.shared_space.specs.Place.{Place, one_left, with_place_space}
 
--- a worker's event with its reply; a call outside all transactions with its reply; one worker more has left; the space is closed,
--- whatever it holds
+-- a worker's event with its reply; a call outside all transactions with its reply; one more worker has left; the space is closed,
+-- regardless of its content
 pub data Act : Type 0 where
   asks : Event → Reply → Act
   outside : space.Event → space.Reply → Act
@@ -24,7 +24,7 @@ Acts limit old (outside event reply) new =
 Acts limit old leaves new = new ≡ one_left old
 Acts limit old shuts new = new ≡ record old { closed = true }
 
--- where the act is a commit, it is one that is allowed
+-- if the act is a commit, it is an allowed one
 abbrev pub IsAllowedAct : (Content → Content → Content → Type 0) → Act → Type 0
 IsAllowedAct allowed (asks (call t commit) reply) = MayCommit allowed t
 IsAllowedAct allowed _ = Unit {0}
@@ -34,7 +34,7 @@ abbrev pub is_accepted : Act → Bool
 is_accepted (asks (call t commit) (answered done t')) = true
 is_accepted _ = false
 
--- from old, the acts lead to new, one after another
+-- from old, the acts lead to new, in sequence
 abbrev pub LeadTo : Option ℕ → Place → List Act → Place → Type 0
 LeadTo limit old [] new = new ≡ old
 LeadTo limit old (act ∷ acts) new = (next : Place) × Acts limit old act next × LeadTo limit next acts new
@@ -45,12 +45,12 @@ pub record Run (allowed : Content → Content → Content → Type 0) (limit : O
   pub allowed_each : All (IsAllowedAct allowed) acts
   pub lead : LeadTo limit old acts new
 
--- places that are reached go on to be: each act that is allowed leads from one to another
+-- reachability is preserved: each allowed act leads from a reachable place to a reachable one
 abbrev pub GoesOn : (Content → Content → Content → Type 0) → Option ℕ → (Place → Type 0) → Type 0
 GoesOn allowed limit reached =
     (old new : Place) (act : Act) → IsAllowedAct allowed act → Acts limit old act new → reached old → reached new
 
--- one of the places that are reached has this world
+-- one of the reachable places has this world
 pub record IsReached (reached : Place → Type 0) (w : World) : Type 0 where
   pub place : Place
   pub is : place.world ≡ w

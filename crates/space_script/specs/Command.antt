@@ -77,7 +77,7 @@ Follows AbortVerb words (Abort transaction) = IsOneCount words transaction
 Follows AdvanceVerb words (Advance moment) = IsOneCount words moment
 Follows _ _ _ = ⊥
 
--- verbs behind which one number stands
+-- verbs that are followed by one number
 abbrev pub TakesOneNumber : Verb → Type 0
 TakesOneNumber BeginVerb = Unit {0}
 TakesOneNumber CommitVerb = Unit {0}
@@ -100,12 +100,12 @@ longest_line = 65536
 abbrev pub without_return : List ℕ → List ℕ
 without_return line = if slice_index line (length line - 1) == 13 then take (length line - 1) line else line
 
--- a line that asks for nothing: it has no words
+-- a line without a request: it has no words
 pub record IsBlankLine (line : List ℕ) : Type 0 where
   pub short : length line ≤ longest_line
   pub none : words_of (without_return line) ≡ []
 
--- a line that asks for this
+-- a line with this request
 pub record IsCommandLine (line : List ℕ) (command : Command) : Type 0 where
   pub short : length line ≤ longest_line
   pub spelled : IsCommand (words_of (without_return line)) command

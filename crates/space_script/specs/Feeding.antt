@@ -1,4 +1,4 @@
--- A piece of a script read: the lines that end in it are answered, and what is left behind them is kept.
+-- Reading a piece of a script: the lines that end in it are answered, and what is left after them is kept.
 use Rattle.std.specs.Prelude.{◌≡◌, ◌⊎◌, ◌<◌, ◌≤◌, ◌+◌, ℕ, false, true, List, ◌∷◌, ◌++◌, All, Option, length, take}
 use Rattle.std.specs.Io.KnownBytes.{Appends, IsAtEnd}
 use Rattle.qap_io.specs.Counting.{CountedDevice, FailedBetween}
@@ -12,21 +12,21 @@ use Rattle.space_script.specs.declared.script_error.ScriptError.TheVariants.{Inp
 abbrev pub HasNoLineFeed : List ℕ → Type 0
 HasNoLineFeed text = All (λ byte. is_line_feed byte ≡ false) text
 
--- text up to its first line feed, and behind it
+-- text up to its first line feed, and after it
 pub record IsCut (text before behind : List ℕ) : Type 0 where
   pub unended : HasNoLineFeed before
   pub is : text ≡ before ++ 10 ∷ behind
 
--- as much of a line as shows that it is too long
+-- as much of a line as is needed to see that it is too long
 abbrev pub front_of : List ℕ → List ℕ
 front_of line = take (longest_line + 1) line
 
--- the front of a line that hasn't ended
+-- the beginning of a line that has not ended
 pub record IsUnfinished (line kept : List ℕ) : Type 0 where
   pub unended : HasNoLineFeed line
   pub front : kept ≡ front_of line
 
--- Behind an unfinished line, a piece is answered so, and another unfinished line is kept.
+-- After an unfinished line, a piece is answered so, and another unfinished line is kept.
 pub record CarriesOn (line : List ℕ) (old : SessionValue) (piece replies : List ℕ) (new : SessionValue) (kept : List ℕ) : Type 0 where
   pub lines : List (List ℕ)
   pub last : List ℕ
@@ -34,14 +34,14 @@ pub record CarriesOn (line : List ℕ) (old : SessionValue) (piece replies : Lis
   pub split : (more : List ℕ) → lines_of (line ++ piece ++ more) ≡ lines ++ lines_of (last ++ more)
   pub run : Runs old lines replies new
 
--- Behind an unfinished line, lines that end in a piece, or in more, are answered so, and lines are left.
+-- After an unfinished line, lines that end in a piece, or in more, are answered so, and lines are left.
 pub record StopsAt (line : List ℕ) (old : SessionValue) (piece replies : List ℕ) : Type 0 where
   pub lines : List (List ℕ)
   pub session : SessionValue
   pub split : (more : List ℕ) → (left : List (List ℕ)) × (lines_of (line ++ piece ++ more) ≡ lines ++ left) × (0 < length left)
   pub run : Runs old lines replies session
 
--- Behind an unfinished line, lines that end in a piece are answered so, and then comes this answer to the next line that does.
+-- After an unfinished line, lines that end in a piece are answered so, and then comes this answer to the next line that does.
 pub record StopsInside (line : List ℕ) (old : SessionValue) (piece replies reply : List ℕ) : Type 0 where
   pub lines : List (List ℕ)
   pub session : SessionValue
@@ -51,7 +51,7 @@ pub record StopsInside (line : List ℕ) (old : SessionValue) (piece replies rep
   pub run : Runs old lines replies session
   pub answer : Answers session asked reply after
 
--- what is carried out, kept of an unfinished line, and written to
+-- the session, what is kept of an unfinished line, and the writer
 pub record Standing (W : Type 0) : Type 0 where
   pub session : SessionValue
   pub kept : List ℕ
@@ -61,7 +61,7 @@ pub record Standing (W : Type 0) : Type 0 where
 abbrev pub standing : {W : Type 0} → SessionValue → List ℕ → CountedDevice W → Standing W
 standing session kept writer = record { session = session; kept = kept; writer = writer }
 
--- a piece has been read, and its replies have gone out
+-- a piece has been read, and its replies have been written
 pub record Fed {W : Type 0} (contents : W → Option (List ℕ)) (old : Standing W) (piece : List ℕ) (new : Standing W) : Type 0 where
   pub replies : List ℕ
   pub gone_out : Appends (contents old.writer.inner) (contents new.writer.inner) replies
@@ -123,14 +123,14 @@ pub record FedUnread {R W : Type 0} (s : Streams R W) (session : SessionValue) (
   pub failed : FailedBetween s.reader s.reader_after
   pub fed : FedUpTo s session kept text
 
--- what was read couldn't be answered to its end
+-- what was read could not be answered completely
 pub record FedUnanswered {R W : Type 0} (s : Streams R W) (session : SessionValue) (kept : List ℕ) (e : ScriptError) : Type 0 where
   pub text : List ℕ
   pub come : HasCome s text
   pub read : KeepsReader s
   pub fails : FeedFails s.bytes_taken (standing session kept s.writer) text s.writer_after e
 
--- a flush failed; the replies to what was read have gone out
+-- a flush failed; the replies to what was read have been written
 pub record FedUnflushed {R W : Type 0} (s : Streams R W) (session : SessionValue) (kept : List ℕ) : Type 0 where
   pub text : List ℕ
   pub come : HasCome s text
@@ -148,7 +148,7 @@ FeedingFails s session kept InputTooLong = FedTooLong s session kept
 FeedingFails s session kept OutOfMemory = FedUnanswered s session kept OutOfMemory
 FeedingFails s session kept Device = FedUnread s session kept ⊎ (FedUnanswered s session kept Device ⊎ FedUnflushed s session kept)
 
--- why lines are left: the replies before them may still wait for a flush where memory ran out
+-- why lines are left: the replies before them may not have been flushed if memory ran out
 abbrev pub StopsShort : {R W : Type 0} → Streams R W → ScriptError → Type 0
 StopsShort s InputTooLong = RunsTooLong s
 StopsShort s OutOfMemory = WantsMemory s

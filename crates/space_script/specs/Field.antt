@@ -12,7 +12,7 @@ use Rattle.space_script.specs.Number.{IsInteger}
 abbrev pub is_comma : ℕ → Bool
 is_comma byte = byte == 44
 
--- numbers with single commas between them, or nothing
+-- numbers separated by single commas, or nothing
 abbrev pub AreNumbers : List ℕ → List ℤ → Type 0
 AreNumbers [] zs = zs ≡ []
 AreNumbers (b ∷ bs) zs = AllZip IsInteger (slice_split is_comma (b ∷ bs)) zs

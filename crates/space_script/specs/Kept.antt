@@ -5,16 +5,16 @@ use Rattle.space_txn.specs.Machine.{Answer, Call, Step}
 use Rattle.space_txn.specs.Txn.{TxnValue}
 use Rattle.space_txn.specs.World.{World}
 
--- transactions in order, and how many more fit with no allocation
+-- transactions in order, and how many more fit without allocation
 pub record KeptValue : Type 0 where
   pub items : List TxnValue
   pub room : ℕ
 
--- each value stands under its number
+-- each value is stored under its number
 abbrev pub AreNumbered : List (ℕ × TxnValue) → Type 0
 AreNumbered pairs = numbers.AreNumbered (λ t. t.number) pairs
 
--- a call under the transaction at a place, where its value afterwards stands then
+-- a call under the transaction at a position, where its new value is stored
 pub record StepsAt (old : World) (kept : List TxnValue) (place : ℕ) (call : Call) (answer : Answer) (new : World) (kept' : List TxnValue) : Type 0 where
   pub t : TxnValue
   pub after : TxnValue

@@ -4,7 +4,7 @@ use Rattle.std.specs.Char.{is_ascii_digit}
 use Rattle.std.specs.List.{list_all}
 use Rattle.std.specs.Str.Parse.{digits_value}
 
--- one or more decimal digits, and what they stand for
+-- one or more decimal digits, and their value
 pub record IsNumeral (word : List ℕ) (n : ℕ) : Type 0 where
   pub some : 0 < length word
   pub digits : list_all is_ascii_digit word ≡ true

@@ -1,4 +1,4 @@
--- A whole script: its lines, what each of them is answered, and what stands written when it ends.
+-- A whole script: its lines, the answer to each, and what has been written when it ends.
 use Rattle.std.specs.Prelude.{◌≡◌, ◌⊎◌, ◌<◌, ◌≤◌, ◌^◌, ◌==◌, ℕ, Bool, true, List, [], ◌∷◌, ◌++◌, Option, length, take}
 use Rattle.std.specs.Io.KnownBytes.{Appends, Consumes, IsAtEnd}
 use Rattle.std.specs.List.{slice_split}
@@ -17,11 +17,11 @@ use Rattle.space_script.specs.declared.script_error.ScriptError.TheVariants.{Inp
 abbrev pub is_line_feed : ℕ → Bool
 is_line_feed byte = byte == 10
 
--- the lines of a script: what stands before, between and behind its line feeds
+-- the lines of a script: what is before, between and after its line feeds
 abbrev pub lines_of : List ℕ → List (List ℕ)
 lines_of text = slice_split is_line_feed text
 
--- a command is carried out, and its reply told
+-- a command is executed, and its reply formatted
 pub record Obeys (old : SessionValue) (line reply : List ℕ) (new : SessionValue) : Type 0 where
   pub command : Command
   pub told : Reply
@@ -43,12 +43,12 @@ pub record AnswersFirst (P : SessionValue → List ℕ → Type 0) (old : Sessio
   pub others : P middle rest
   pub is : replies ≡ reply ++ rest
 
--- From old, lines may be answered these texts, one after another, and lead to new.
+-- From old, lines may be answered with these texts, in sequence, and lead to new.
 abbrev pub Runs : SessionValue → List (List ℕ) → List ℕ → SessionValue → Type 0
 Runs old [] replies new = (replies ≡ []) × (new ≡ old)
 Runs old (line ∷ lines) replies new = AnswersFirst (λ middle rest. Runs middle lines rest new) old line replies
 
--- From the start, the lines at the front of a text may be answered so and lead to this session; these lines are left.
+-- From the start, the first lines of a text may be answered so and lead to this session; these lines are left.
 pub record RunsUpTo (text replies : List ℕ) (session : SessionValue) (left : List (List ℕ)) : Type 0 where
   pub lines : List (List ℕ)
   pub split : lines_of text ≡ lines ++ left
@@ -58,8 +58,8 @@ pub record RunsUpTo (text replies : List ℕ) (session : SessionValue) (left : L
 abbrev pub longest_script : ℕ
 longest_script = 2 ^ 62
 
--- a reader and a writer, as a call found them and as it left them; what is known of the bytes that the reader has left, and of
--- those that the writer has taken
+-- a reader and a writer, before and after a call; what is known about the bytes left in the reader, and about
+-- those that the writer has accepted
 pub record Streams (R W : Type 0) : Type 0 where
   pub bytes_left : R → Option (List ℕ)
   pub bytes_taken : W → Option (List ℕ)
@@ -68,7 +68,7 @@ pub record Streams (R W : Type 0) : Type 0 where
   pub writer : CountedDevice W
   pub writer_after : CountedDevice W
 
--- the same, by what is known of either's bytes
+-- the same, given what is known about the bytes of either
 abbrev pub streams_of : {R W : Type 0} → (R → Option (List ℕ)) → (W → Option (List ℕ)) → CountedDevice R → CountedDevice R → CountedDevice W → CountedDevice W → Streams R W
 streams_of left taken reader reader_after writer writer_after =
     record { bytes_left = left; bytes_taken = taken; reader = reader; reader_after = reader_after; writer = writer; writer_after = writer_after }
@@ -77,7 +77,7 @@ streams_of left taken reader reader_after writer writer_after =
 abbrev pub HasCome : {R W : Type 0} → Streams R W → List ℕ → Type 0
 HasCome s text = Consumes (s.bytes_left s.reader.inner) (s.bytes_left s.reader_after.inner) text
 
--- this text has gone out
+-- this text has been written
 abbrev pub HasGoneOut : {R W : Type 0} → Streams R W → List ℕ → Type 0
 HasGoneOut s text = Appends (s.bytes_taken s.writer.inner) (s.bytes_taken s.writer_after.inner) text
 
@@ -93,7 +93,7 @@ KeepsWriter s = s.writer_after.failures ≡ s.writer.failures
 abbrev pub IsFlushed : {R W : Type 0} → Streams R W → Type 0
 IsFlushed s = s.writer_after.flushed ≡ true
 
--- all that the reader had left is a script; its replies have gone out and are flushed
+-- all that the reader had left is a script; its replies have been written and flushed
 pub record RunsWhole {R W : Type 0} (s : Streams R W) : Type 0 where
   pub text : List ℕ
   pub come : HasCome s text
@@ -105,7 +105,7 @@ pub record RunsWhole {R W : Type 0} (s : Streams R W) : Type 0 where
   pub run : Runs start (lines_of text) replies session
   pub sent : Sends s.bytes_taken s.writer s.writer_after replies
 
--- the lines of a text that have ended are answered, and no more; these replies have gone out and are flushed
+-- the lines of a text that have ended are answered, and no more; these replies have been written and flushed
 pub record AnswersEnded {R W : Type 0} (s : Streams R W) (text : List ℕ) : Type 0 where
   pub replies : List ℕ
   pub session : SessionValue
@@ -149,8 +149,8 @@ pub record WantsMemory {R W : Type 0} (s : Streams R W) : Type 0 where
   pub gone_out : HasGoneOut s replies
   pub written : KeepsWriter s
 
--- a write or the last flush failed at the reply to a line that has ended; the lines before it are answered, and a beginning of
--- that reply has gone out
+-- a write or the last flush failed at the reply to a line that has ended; the lines before it are answered, and a prefix of
+-- that reply has been written
 pub record FailsWriting {R W : Type 0} (s : Streams R W) : Type 0 where
   pub text : List ℕ
   pub come : HasCome s text
@@ -181,7 +181,7 @@ pub record FailsFlushing {R W : Type 0} (s : Streams R W) : Type 0 where
   pub run : RunsUpTo text replies session left
   pub gone_out : HasGoneOut s replies
 
--- why a script ends before its end: a flush may fail behind what was read, or where memory ran out
+-- why a script ends early: a flush may fail after what was read, or when memory ran out
 abbrev pub BreaksDown : {R W : Type 0} → Streams R W → ScriptError → Type 0
 BreaksDown s InputTooLong = RunsTooLong s
 BreaksDown s OutOfMemory = WantsMemory s × IsFlushed s

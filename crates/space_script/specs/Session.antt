@@ -1,4 +1,4 @@
--- What the commands of a script do: steps of the space with transactions.
+-- The effect of a script's commands: steps of the space with transactions.
 use Rattle.std.specs.Prelude.{◌≡◌, ◌≢◌, ◌≤◌, ℕ, ◌⊎◌, true, false, List, [], ◌∷◌, ◌++◌, All, filter, remove, slice_get, slice_set, Some, None, Ok, Err}
 use Rattle.tuple_match.specs.FieldValue.{FieldValue}
 use Rattle.tuple_space.specs.Step as space
@@ -14,12 +14,12 @@ use Rattle.space_script.specs.declared.command.Command.TheVariants.{Out, Inp, Rd
 use Rattle.space_script.specs.declared.reply.Reply.{Reply}
 use Rattle.space_script.specs.declared.reply.Reply.TheVariants.{Done, Begun, Got, Nothing, Refused}
 
--- a space, and the values of the transactions that a script keeps
+-- a space, and the values of the transactions of a script
 pub record SessionValue : Type 0 where
   pub world : World
   pub kept : List TxnValue
 
--- the session of a world in which these transactions are kept
+-- the session of a world with these transactions
 abbrev pub session_of : World → List TxnValue → SessionValue
 session_of world kept = record { world = world; kept = kept }
 
@@ -27,24 +27,24 @@ session_of world kept = record { world = world; kept = kept }
 abbrev pub start : SessionValue
 start = session_of opening []
 
--- what holds of every session: the transactions that are kept were begun in its world, and are live there
+-- what holds for every session: its transactions were begun in its world, and are live there
 abbrev pub IsGoing : World → TxnValue → Type 0
 IsGoing w t = (t.number ≤ w.begun) × (is_live_transaction w t.number ≡ true)
 
--- each transaction that a session keeps was begun in its world and is live there
+-- each transaction of a session was begun in its world and is live there
 abbrev pub IsSession : SessionValue → Type 0
 IsSession s = All (IsGoing s.world) s.kept
 
--- no transaction that goes on in a world has ended in another one
+-- no transaction that continues in a world has ended in another one
 abbrev pub KeepsGoing : World → World → Type 0
 KeepsGoing old new = (t : TxnValue) → IsGoing old t → IsGoing new t
 
--- a transaction of this number stands at this place among those kept
+-- a transaction of this number is at this position among those of the session
 pub record StandsAt (kept : List TxnValue) (number place : ℕ) (t : TxnValue) : Type 0 where
   pub there : slice_get kept place ≡ Some t
   pub named : t.number ≡ number
 
--- no transaction of this number is kept
+-- the session has no transaction of this number
 abbrev pub NoneKept : List TxnValue → ℕ → Type 0
 NoneKept kept number = All (λ (t : TxnValue). t.number ≢ number) kept
 
@@ -52,7 +52,7 @@ NoneKept kept number = All (λ (t : TxnValue). t.number ≢ number) kept
 abbrev pub live_of : World → List TxnValue → List TxnValue
 live_of w kept = filter (λ t. is_live_transaction w t.number) kept
 
--- how the space's reply to a call outside all transactions is told
+-- how the space's reply to a call outside all transactions is formatted
 abbrev pub Tells : space.Reply → Reply → Type 0
 Tells (space.given number) Done = Unit {0}
 Tells (space.got number tuple) (Got told) = told ≡ tuple
@@ -68,19 +68,19 @@ pub record Outside (old : World) (event : space.Event) (reply : Reply) (new : Wo
   pub rest : new ≡ with_space old new.space
   pub told : Tells answer reply
 
--- how the refusal of a call on a transaction is told
+-- how the refusal of a call on a transaction is formatted
 abbrev pub TellsRefusal : TxnError → ℕ → Type 0
 TellsRefusal Expired number = number ≡ 31
 TellsRefusal Foreign number = number ≡ 32
 TellsRefusal Exhausted number = number ≡ 33
 TellsRefusal OutOfMemory number = ⊥
 
--- the reply is a refusal with the number that stands for this error
+-- the reply is a refusal with the number of this error
 abbrev pub IsRefusedReply : TxnError → Reply → Type 0
 IsRefusedReply error (Refused number) = TellsRefusal error number
 IsRefusedReply error _ = ⊥
 
--- how the answer to a call on a transaction is told
+-- how the answer to a call on a transaction is formatted
 abbrev pub TellsAnswer : TxnValue → Answer → Reply → Type 0
 TellsAnswer t (found what) (Got tuple) = found_tuple t what ≡ Some tuple
 TellsAnswer t nothing Nothing = Unit {0}
@@ -88,7 +88,7 @@ TellsAnswer t done Done = Unit {0}
 TellsAnswer t (refused error) reply = IsRefusedReply error reply
 TellsAnswer _ _ _ = ⊥
 
--- a search or a renewal under the transaction at a place, where its value afterwards stands then
+-- a lookup or a renewal under the transaction at a position, where its new value is stored
 pub record Calls (call : Call) (old : SessionValue) (place : ℕ) (t : TxnValue) (reply : Reply) (new : SessionValue) : Type 0 where
   pub answer : Answer
   pub after : TxnValue
@@ -96,12 +96,12 @@ pub record Calls (call : Call) (old : SessionValue) (place : ℕ) (t : TxnValue)
   pub told : TellsAnswer after answer reply
   pub stands : new.kept ≡ slice_set old.kept place after
 
--- a commit or an abort of the transaction at a place: it is spent where that is done, and else kept
+-- a commit or an abort of the transaction at a position: it is spent if that is done, else kept
 abbrev pub left_by : Answer → TxnValue → List TxnValue
 left_by done t = []
 left_by _ t = t ∷ []
 
--- a commit or an abort of the transaction at a place: what is left of it stands last among those kept
+-- a commit or an abort of the transaction at a position: what is left of it is last among those of the session
 pub record Ends (call : Call) (old : SessionValue) (place : ℕ) (t : TxnValue) (reply : Reply) (new : SessionValue) : Type 0 where
   pub answer : Answer
   pub step : Step old.world t call answer new.world t
@@ -112,36 +112,36 @@ pub record Ends (call : Call) (old : SessionValue) (place : ℕ) (t : TxnValue) 
 abbrev pub with_write : TxnValue → List FieldValue → Lease → TxnValue
 with_write t tuple lease = record t { writes = t.writes ++ record { tuple = tuple; lease = lease; taken = false } ∷ [] }
 
--- a write under the transaction at a place, which is live
+-- a write under the transaction at a position, which is live
 pub record Writes (tuple : List FieldValue) (lease : Lease) (old : SessionValue) (place : ℕ) (t : TxnValue) (reply : Reply) (new : SessionValue) : Type 0 where
   pub live : is_live_transaction old.world t.number ≡ true
   pub told : reply ≡ Done
   pub world : new.world ≡ old.world
   pub stands : new.kept ≡ slice_set old.kept place (with_write t tuple lease)
 
--- what is done under a transaction of this number; where none is kept, that is refused 31
+-- a call under a transaction of this number; if there is none, it is refused with 31
 abbrev pub Under : SessionValue → ℕ → (SessionValue → ℕ → TxnValue → Reply → SessionValue → Type 0) → Reply → SessionValue → Type 0
 Under old number P reply new =
     (NoneKept old.kept number × (reply ≡ Refused 31) × (new ≡ old))
     ⊎ ((place : ℕ) × (t : TxnValue) × StandsAt old.kept number place t × P old place t reply new)
 
--- a transaction begun; it is kept where it is live
+-- a transaction begun; it is kept if it is live
 abbrev pub Begins : SessionValue → ℕ → Reply → SessionValue → Type 0
 Begins old asked (Begun number) new = (t : TxnValue) × BeginStep old.world asked (Ok t) new.world × (t.number ≡ number) × (new.kept ≡ live_of new.world (old.kept ++ t ∷ []))
 Begins old asked (Refused number) new = BeginStep old.world asked (Err Exhausted) new.world × (number ≡ 33) × (new.kept ≡ old.kept)
 Begins _ _ _ _ = ⊥
 
--- the moment moved on
+-- the moment advanced
 pub record Advances (old : World) (moment : ℕ) (reply : Reply) (new : World) : Type 0 where
   pub answer : space.Reply
   pub step : AdvanceStep old moment answer new
   pub told : Tells answer reply
 
--- a call outside all transactions leaves those that are kept as they are
+-- a call outside all transactions leaves those of the session unchanged
 abbrev pub OutsideAll : SessionValue → space.Event → Reply → SessionValue → Type 0
 OutsideAll old event reply new = Outside old.world event reply new.world × (new.kept ≡ old.kept)
 
--- From old, a command may be answered this reply and lead to new.
+-- From old, a command may be answered with this reply and lead to new.
 abbrev pub Performs : SessionValue → Command → Reply → SessionValue → Type 0
 Performs old (Out None lease tuple) reply new = OutsideAll old (space.out tuple lease) reply new
 Performs old (Out (Some number) lease tuple) reply new = Under old number (Writes tuple lease) reply new

@@ -1,5 +1,5 @@
--- What a call may answer, and what it leaves: the rules of the space with transactions.
--- Which of several tuples that can be had is got stays open.
+-- The possible answers to a call and its effects: the rules of the space with transactions.
+-- It is not specified which of several available tuples is found.
 use Rattle.std.specs.Prelude.{◌≡◌, ◌≢◌, ℕ, ◌+◌, ◌<◌, ◌≤◌, ◌==◌, ◌⊎◌, true, false, List, [], All, is_some, find, length, Option, Some, None, Result, Ok, Err, if◌then◌else◌}
 use Rattle.std.specs.List.{HoldsAt}
 use Rattle.tuple_match.specs.PatternValue.{PatternValue}
@@ -28,7 +28,7 @@ pub record IsAccepted (w : World) (t : TxnValue) : Type 0 where
   pub live : is_live_transaction w t.number ≡ true
   pub own : t.marks ≡ marks_of t.number w.space.entries
 
--- else it is refused: 31 where its number isn't live, and 32 where it is and its marks aren't the world's
+-- otherwise it is refused: 31 if its number is not live, and 32 if it is but its marks are not the world's
 abbrev pub IsRefused : World → TxnValue → TxnError → Type 0
 IsRefused w t Expired = is_live_transaction w t.number ≡ false
 IsRefused w t Foreign = (is_live_transaction w t.number ≡ true) × (t.marks ≢ marks_of t.number w.space.entries)
@@ -50,11 +50,11 @@ pub data Answer : Type 0 where
   done : Answer
   refused : TxnError → Answer
 
--- no write is left that a template asks for
+-- no write is left that matches a template
 abbrev pub NoOpenWrite : List PatternValue → List Write → Type 0
 NoOpenWrite template writes = All (λ x. is_open_write template x ≡ false) writes
 
--- such a write stands at a place
+-- such a write is at a position
 abbrev pub IsOpenWriteAt : List PatternValue → List Write → ℕ → Type 0
 IsOpenWriteAt template writes place = (place < length writes) × HoldsAt (λ x. is_open_write template x ≡ true) writes place
 
@@ -63,7 +63,7 @@ abbrev pub IsOwnFound : List PatternValue → List Write → Found → Type 0
 IsOwnFound template writes (Own place) = IsOpenWriteAt template writes place
 IsOwnFound template writes (Stored number) = ⊥
 
--- its place
+-- its position
 abbrev pub own_place : Found → ℕ
 own_place (Own place) = place
 own_place (Stored number) = 0
@@ -72,7 +72,7 @@ own_place (Stored number) = 0
 abbrev pub taken_space : SpaceValue → ℕ → ℕ → SpaceValue
 taken_space s holder entry = with_entries s (changed entry (held_by holder true) s.entries)
 
--- an entry that the transaction read before stays marked as it was
+-- an entry that the transaction read before keeps its mark
 abbrev pub read_space : SpaceValue → ℕ → List Mark → ℕ → SpaceValue
 read_space s holder marks entry =
     if is_some (find (λ m. m.entry == entry) marks) then s else with_entries s (changed entry (held_by holder false) s.entries)
@@ -81,7 +81,7 @@ read_space s holder marks entry =
 abbrev pub with_marks : TxnValue → SpaceValue → TxnValue
 with_marks t s = txn_of t.number (marks_of t.number s.entries) t.writes
 
--- the world after a commit: what was written is put out, what was taken is gone, the marks are dropped
+-- the world after a commit: what was written is added, what was taken is removed, the marks are dropped
 abbrev pub committed_space : SpaceValue → ℕ → List Write → SpaceValue
 committed_space s number writes =
     unmarked number (with_entries (put_each s writes) (without_taken number (put_each s writes).entries))
@@ -90,15 +90,15 @@ committed_space s number writes =
 abbrev pub commit_at : World → TxnValue → World
 commit_at w t = world_of (committed_space w.space t.number t.writes) (others t.number w.live) w.begun (w.commits + 1)
 
--- the commits and the numbers of entries suffice for a commit, or don't
+-- the commits and the numbers of entries suffice for a commit, or not
 abbrev pub HasNumbers : World → List Write → Type 0
 HasNumbers w writes = (w.commits < most) × (w.space.last + put_count writes ≤ most)
 
--- the commits or the numbers of entries don't suffice for a commit
+-- the commits or the numbers of entries do not suffice for a commit
 abbrev pub UsedUp : World → List Write → Type 0
 UsedUp w writes = (most ≤ w.commits) ⊎ (most < w.space.last + put_count writes)
 
--- some entry can be had on which the transaction has no mark yet: only a new mark needs memory
+-- some available entry has no mark of the transaction yet: only a new mark needs memory
 abbrev pub HasUnmarked : World → TxnValue → Claim → List PatternValue → Type 0
 HasUnmarked w t claim template = (e : Entry) × IsHad w.space claim template e × (is_some (find (λ m. m.entry == e.number) t.marks) ≡ false)
 
@@ -109,15 +109,15 @@ IsCommitRefusal w t OutOfMemory = IsAccepted w t × HasNumbers w t.writes × (0 
 IsCommitRefusal w t Expired = IsRefused w t Expired
 IsCommitRefusal w t Foreign = IsRefused w t Foreign
 
--- a search's refusal: memory runs out only where some entry that can be had has no mark yet
+-- a lookup's refusal: memory runs out only if some available entry has no mark yet
 abbrev pub IsFindRefusal : World → TxnValue → Claim → List PatternValue → TxnError → Type 0
 IsFindRefusal w t claim template OutOfMemory = IsAccepted w t × HasUnmarked w t claim template
 IsFindRefusal w t claim template Exhausted = ⊥
 IsFindRefusal w t claim template Expired = IsRefused w t Expired
 IsFindRefusal w t claim template Foreign = IsRefused w t Foreign
 
--- From old, with a transaction's value, the world may give this answer and go on to new, with that value. Where a commit or
--- an abort is done the value is spent.
+-- From old, with a transaction's value, the world may give this answer and lead to new, with that value. If a commit or
+-- an abort is done, the value is spent.
 abbrev pub Step : World → TxnValue → Call → Answer → World → TxnValue → Type 0
 Step old t (inp_in template) (found (Stored number)) new t' =
     IsAccepted old t × (e : Entry) × IsHad old.space (TakeBy t.number) template e × (number ≡ e.number)
@@ -153,24 +153,24 @@ BeginStep old asked (Err OutOfMemory) new = (old.begun < most) × (new ≡ old)
 BeginStep old asked (Err Expired) new = ⊥
 BeginStep old asked (Err Foreign) new = ⊥
 
--- the moment moved on, or why not
+-- the moment advanced, or why not
 abbrev pub AdvanceStep : World → ℕ → space.Reply → World → Type 0
 AdvanceStep old moment space.done new = (moment ≤ most) × (new ≡ advance_at old moment)
 AdvanceStep old moment (space.refused moments_used_up) new = (most < moment) × (new ≡ old)
 AdvanceStep _ _ _ _ = ⊥
 
--- the answer that a result is
+-- the answer of a result
 abbrev pub find_answer : Result (Option Found) TxnError → Answer
 find_answer (Ok (Some what)) = found what
 find_answer (Ok None) = nothing
 find_answer (Err error) = refused error
 
--- the answer that the result of a renewal is
+-- the answer of the result of a renewal
 abbrev pub renew_answer : Result (Unit {0}) TxnError → Answer
 renew_answer (Ok _) = done
 renew_answer (Err error) = refused error
 
--- the answer that the result of a commit or an abort is
+-- the answer of the result of a commit or an abort
 abbrev pub end_answer : {A : Type 0} → Result A (TxnError × TxnValue) → Answer
 end_answer (Ok _) = done
 end_answer (Err back) = refused back.0

@@ -10,18 +10,18 @@ use Rattle.tuple_space.specs.declared.held.Held.{Held}
 use Rattle.tuple_space.specs.declared.hold.Hold.{Hold}
 use Rattle.space_txn.specs.declared.mark.Mark.{Mark}
 
--- marks in order, and how many more fit with no allocation
+-- marks in order, and how many more fit without allocation
 pub record MarksValue : Type 0 where
   pub items : List Mark
   pub room : ℕ
 
--- places for marks: each in use holds one, four take no memory, and the marks are in rising order of the entries' numbers
+-- storage for marks: each place in use holds one, four take no memory, and the marks are in ascending order of the entries' numbers
 pub record AreMarks (places : SmallVec (Option Mark)) : Type 0 where
   pub ready : 4 ≤ places.capacity
   pub each : places.items ≡ map Some (items_in places.items)
   pub rising : AllPairs (λ m n. m.entry < n.entry) (items_in places.items)
 
--- how many more items fit into a small vector with no allocation
+-- how many more items fit into a small vector without allocation
 abbrev pub room_of : {A : Type 0} → SmallVec A → ℕ
 room_of places = places.capacity - small_vec_len places
 
@@ -29,7 +29,7 @@ room_of places = places.capacity - small_vec_len places
 abbrev pub mark_as : Entry → Bool → Bool → Mark
 mark_as e taken permanent = record { entry = e.number; tuple = e.tuple; taken = taken; permanent = permanent }
 
--- the mark that a hold of an entry is
+-- the mark for a hold of an entry
 abbrev pub mark_from : Entry → Hold → Mark
 mark_from e h = mark_as e h.taken h.permanent
 
@@ -37,7 +37,7 @@ mark_from e h = mark_as e h.taken h.permanent
 abbrev pub mark_of : ℕ → Entry → Option Mark
 mark_of number e = option_map (mark_from e) (find (λ h. h.by == number) e.holds)
 
--- the marks of a transaction, in rising order of the entries' numbers: what it took, and what it read and didn't take
+-- the marks of a transaction, in ascending order of the entries' numbers: what it took, and what it read and did not take
 abbrev pub marks_of : ℕ → List Entry → List Mark
 marks_of number entries = filter_map (mark_of number) entries
 
@@ -45,7 +45,7 @@ marks_of number entries = filter_map (mark_of number) entries
 abbrev pub mark_at : ℕ → List Entry → ℕ → Option Mark
 mark_at number entries entry = option_and_then (mark_of number) (find (λ e. e.number == entry) entries)
 
--- a transaction's mark on the entry of a row, where that is its own
+-- a transaction's mark on the entry of a row, if that is its own
 abbrev pub mark_in : ℕ → List Entry → Held → Option Mark
 mark_in number entries row = if row.by == number then mark_at number entries row.entry else None
 
@@ -57,7 +57,7 @@ new_mark e taken = mark_as e taken (is_permanent e.end)
 abbrev pub IsNewMark : List Entry → Mark → Type 0
 IsNewMark entries m = (e : Entry) × Contains entries e × (m ≡ new_mark e m.taken)
 
--- marks in rising order of number with one more, in the place of an older mark on the same entry
+-- marks in ascending order of number with one more, which replaces an older mark on the same entry
 abbrev pub with_mark : Mark → List Mark → List Mark
 with_mark m [] = m ∷ []
 with_mark m (x ∷ xs) =

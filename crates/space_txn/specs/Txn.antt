@@ -1,4 +1,4 @@
--- What a transaction's value tells.
+-- The content of a transaction's value.
 use Rattle.std.specs.Prelude.{ℕ, ◌==◌, ◌&&◌, not, Bool, List, Option, find, slice_get}
 use Rattle.std.specs.Option.{option_map}
 use Rattle.tuple_match.specs.FieldValue.{FieldValue}
@@ -24,6 +24,6 @@ abbrev pub found_tuple : TxnValue → Found → Option (List FieldValue)
 found_tuple t (Entry number) = option_map (λ m. m.tuple) (find (λ m. m.entry == number) t.marks)
 found_tuple t (Own place) = option_map (λ x. x.tuple) (slice_get t.writes place)
 
--- a write that a template asks for and that wasn't taken again
+-- a write that matches a template and was not taken again
 abbrev pub is_open_write : List PatternValue → Write → Bool
 is_open_write template x = not x.taken && does_match template x.tuple

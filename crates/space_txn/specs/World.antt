@@ -1,4 +1,4 @@
--- The world: the space, in which each entry tells who took it or read it, and the live transactions.
+-- The world: the space, in which each entry records who took or read it, and the live transactions.
 use Rattle.std.specs.Prelude.{ℕ, ◌+◌, ◌<◌, ◌≤◌, nat_lt, All, Bool, List, [], ◌∷◌, ◌++◌, if◌then◌else◌}
 use Rattle.std.specs.List.{AllPairs}
 use Rattle.tuple_space.specs.Lease.{granted_end}
@@ -7,7 +7,7 @@ use Rattle.tuple_space.specs.Space.{SpaceValue, most, advanced}
 use Rattle.space_txn.specs.Live.{AreHeldBy, abort_each, ended_at, going_at, is_live_in, others, renewed_rows, unmarked}
 use Rattle.space_txn.specs.declared.live.Live.{Live}
 
--- begun is the number of the transaction that was begun last, commits how many were accepted
+-- `begun` is the number of the transaction that was begun last, `commits` the number of accepted ones
 pub record World : Type 0 where
   pub space : SpaceValue
   pub live : List Live
@@ -18,7 +18,7 @@ pub record World : Type 0 where
 abbrev pub world_of : SpaceValue → List Live → ℕ → ℕ → World
 world_of s live begun commits = record { space = s; live = live; begun = begun; commits = commits }
 
--- What holds of every world: the numbers of the live transactions rise, from 1 to the one given last, and each hold
+-- What holds for every world: the numbers of the live transactions increase, from 1 to the one given last, and each hold
 -- of an entry is that of a transaction which is live at the space's moment.
 pub record IsWorld (w : World) : Type 0 where
   pub few_begun : w.begun ≤ most
@@ -45,7 +45,7 @@ abbrev pub begin_at : World → ℕ → World
 begin_at w asked =
     world_of w.space (w.live ++ record { number = w.begun + 1; end = granted_end w.space.moment asked } ∷ []) (w.begun + 1) w.commits
 
--- a transaction's lease renewed: its end is the later of its old end and that of a lease granted now
+-- a transaction's lease renewed: it ends at its old end or at that of a lease granted now, whichever is later
 abbrev pub renew_at : World → ℕ → ℕ → World
 renew_at w number asked = world_of w.space (renewed_rows number (granted_end w.space.moment asked) w.live) w.begun w.commits
 
@@ -53,7 +53,7 @@ renew_at w number asked = world_of w.space (renewed_rows number (granted_end w.s
 abbrev pub abort_at : World → ℕ → World
 abort_at w number = world_of (unmarked number w.space) (others number w.live) w.begun w.commits
 
--- the moment moved on: the transactions whose lease has ended end as by an abort, and then what is not there is dropped; an
+-- the moment advanced: the transactions whose lease has ended are aborted, and then entries that are gone are dropped; an
 -- earlier moment changes nothing
 abbrev pub advance_at : World → ℕ → World
 advance_at w moment =

@@ -1,4 +1,4 @@
--- What is added to a record. Which texts a record may have is a property of texts: a record in memory has one, and one that keeps
+-- What is added to a record. The possible texts of a record are a property of texts: a record in memory has one, and one that stores
 -- nothing may have any.
 use Rattle.std.specs.Prelude.{ℕ, ◌+◌, ◌++◌, ◌∷◌, [], List, pos}
 use Rattle.qap_lines.specs.LineText.{numbers_text}

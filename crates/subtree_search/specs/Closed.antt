@@ -12,7 +12,7 @@ use Rattle.proof_tree.specs.Valid.{ReachesBound}
 pub record IsClosed (I : Problem) (y : Placement) (c : ℤ) : Type 0 where
   pub least : (p : List ℕ) → Completes y p → c ≤ℤ cost_of I p
 
--- what the values of a node must exceed so that none of its completions costs less than c, where costs are multiples of the step
+-- what the values of a node must exceed so that none of its completions costs less than c, if costs are multiples of the step
 abbrev pub threshold_of : ℕ → ℕ → ℤ → ℤ
 threshold_of scale step c = pos scale *ℤ (c -ℤ pos step)
 
@@ -20,7 +20,7 @@ threshold_of scale step c = pos scale *ℤ (c -ℤ pos step)
 abbrev pub Reaches : Problem → ℕ → ℤ → ℤ → Type 0
 Reaches I scale c value = (bound : ℤ) → bound ≤ℤ c → ReachesBound (step_of I) bound scale value
 
--- so does the value of a form with its least numbers of the rows, and then of the columns
+-- likewise the value of a form with its row minima, and then its column minima
 pub record ReachesTrivially (I : Problem) (scale : ℕ) (c : ℤ) (R : Form) : Type 0 where
   pub u : List ℤ
   pub v : List ℤ
@@ -28,7 +28,7 @@ pub record ReachesTrivially (I : Problem) (scale : ℕ) (c : ℤ) (R : Form) : T
   pub columns : AreLeast (count_of R) R.entries u v
   pub reaches : Reaches I scale c (R.value +ℤ (total u +ℤ total v))
 
--- the least numbers of the rows, and then of the columns; with the value they are above the threshold where it closes
+-- the row minima, and then the column minima; their sum with the value is above the threshold if it closes
 pub record HasLeast (R : Form) (threshold : ℤ) (is_closed : Bool) : Type 0 where
   pub u : List ℤ
   pub v : List ℤ

@@ -12,12 +12,12 @@ abbrev pub side_of : Line → Side
 side_of (Row h) = Facility
 side_of (Column g) = Location
 
--- its number among the free ones
+-- its index among the free ones
 abbrev pub own_of : Line → ℕ
 own_of (Row h) = h
 own_of (Column g) = g
 
--- the row and the column of the entry of number k
+-- the row and the column of the k-th entry
 abbrev pub row_on : Line → ℕ → ℕ
 row_on line k = row_of (side_of line) (own_of line) k
 
@@ -29,6 +29,6 @@ column_on line k = column_of (side_of line) (own_of line) k
 abbrev pub IsLineOf : ℕ → Line → Type 0
 IsLineOf m line = own_of line < m
 
--- the node's child of number k on the line
+-- the node's k-th child on the line
 abbrev pub child_on : Placement → Line → ℕ → Placement
 child_on y line k = child_of_side (side_of line) y (own_of line) k

@@ -38,7 +38,7 @@ abbrev pub Becomes : Problem → ℕ → Placement → Placement → ℤ → Opt
 Becomes I scale y x c None = IsClosed I x c
 Becomes I scale y x c (Some child) = IsOpenAt I scale y x child
 
--- the child is added, where there is one
+-- the child is added, if there is one
 abbrev pub Adds : Option OpenChild → List OpenChild → List OpenChild → Type 0
 Adds None old new = new ≡ old
 Adds (Some child) old new = new ≡ old ++ child ∷ []

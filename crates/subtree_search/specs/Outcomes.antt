@@ -1,4 +1,4 @@
--- What the outcome of a search says.
+-- The meaning of a search's outcome.
 use Rattle.std.specs.Prelude.{◌≡◌, ℕ, ◌≤◌, List, Bool, true, ℤ, ◌≤ℤ◌}
 use Rattle.qap_cost.specs.Instance.{Problem}
 use Rattle.qap_cost.specs.Placement.{Placement}
@@ -11,8 +11,8 @@ use Rattle.subtree_search.specs.Best.{Best, IsIncumbent}
 use Rattle.subtree_search.specs.declared.outcome.Outcome.{Outcome}
 use Rattle.subtree_search.specs.declared.outcome.Outcome.TheVariants.{Closed, LimitReached, Stopped}
 
--- no completion of the node costs less than the incumbent does now; as many nodes were evaluated as the limit allows; or the stop
--- said so
+-- no completion of the node costs less than the incumbent does now; as many nodes were evaluated as the limit allows; or a stop
+-- was requested
 abbrev pub Holds : Problem → Placement → ℕ → (Bool → Type 0) → Best → ℕ → Outcome → Type 0
 Holds I y limit says best nodes Closed = IsClosed I y best.cost
 Holds I y limit says best nodes LimitReached = nodes ≡ limit
@@ -30,7 +30,7 @@ ClosesSplit I D y R u limit says best nodes old new Closed = HasSplit I D y R u 
 ClosesSplit I D y R u limit says best nodes old new LimitReached = nodes ≡ limit
 ClosesSplit I D y R u limit says best nodes old new Stopped = says true
 
--- child number k on a line is closed, and recorded
+-- the k-th child on a line is closed, and recorded
 abbrev pub ClosesKid : Problem → Duals → Placement → Form → Line → ℕ → ℕ → (Bool → Type 0) → Best → ℕ → (List ℕ → Type 0) → (List ℕ → Type 0) → (List ℕ → Type 0) → Outcome → Type 0
 ClosesKid I D y R line k limit says best nodes ends old new Closed = HasKid I D y R line k best.cost ends old new
 ClosesKid I D y R line k limit says best nodes ends old new LimitReached = nodes ≡ limit

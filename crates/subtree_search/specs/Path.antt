@@ -1,4 +1,4 @@
--- The way from a node to one below it.
+-- The path from a node to one below it.
 use Rattle.std.specs.Prelude.{◌-◌, length, take}
 use Rattle.qap_cost.specs.Placement.{Placement}
 

@@ -1,4 +1,4 @@
--- What a search rests on.
+-- The premises of a search.
 use Rattle.std.specs.Prelude.{◌≡◌, ℕ, ◌+◌, ◌^◌, List, length, All, pos}
 use Rattle.qap_cost.specs.Instance.{Problem}
 use Rattle.qap_cost.specs.Placement.{Placement, IsPlacement}
@@ -28,7 +28,7 @@ pub record IsNode (I : Problem) (D : Duals) (step : ℕ) (y : Placement) (R : Fo
   pub sound : AreSound I D step
   pub form : IsFormOf I D y R
 
--- permutations that keep the flows, and others that keep the distances
+-- permutations that preserve the flows, and others that preserve the distances
 pub record AreSymmetries (I : Problem) (flows distances : List (List ℕ)) : Type 0 where
   pub keep_flows : All (Keeps I.size I.a) flows
   pub keep_distances : All (Keeps I.size I.b) distances

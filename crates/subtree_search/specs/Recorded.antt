@@ -1,4 +1,4 @@
--- What a record has of a node that is closed: a proof's tree.
+-- What a record contains for a closed node: a proof's tree.
 use Rattle.std.specs.Prelude.{◌≡◌, ℕ, ◌-◌, ◌++◌, ◌∷◌, [], List, ℤ, ◌≤ℤ◌, true, false, None, Some, replicate}
 use Rattle.qap_cost.specs.Instance.{Problem}
 use Rattle.qap_cost.specs.Placement.{Placement}
@@ -30,7 +30,7 @@ abbrev pub IsPlain : Tree → Type 0
 IsPlain (leaf d) = d.own ≡ None
 IsPlain (split d side number below) = d.own ≡ None
 
--- the same of a node whose pair duals and form come from above
+-- likewise for a node that inherits its pair duals and form
 pub record HasTree (I : Problem) (D : Duals) (y : Placement) (R : Form) (c : ℤ) (old new : List ℕ → Type 0) : Type 0 where
   pub tree : Tree
   pub plain : IsPlain tree
@@ -38,7 +38,7 @@ pub record HasTree (I : Problem) (D : Duals) (y : Placement) (R : Form) (c : ℤ
   pub valid : (bound : ℤ) → bound ≤ℤ c → Valid I (step_of I) bound y (Some (under (clean D) R)) tree
   pub adds : Adds old new (tree_text tree)
 
--- a split of a node whose line is drawn is added, with the texts of its children
+-- a split of a node to which a line has been applied is added, with the texts of its children
 pub record HasSplit (I : Problem) (D : Duals) (y : Placement) (R : Form) (u : List ℤ) (c : ℤ) (old new : List ℕ → Type 0) : Type 0 where
   pub side : Side
   pub number : ℕ
@@ -50,7 +50,7 @@ pub record HasSplit (I : Problem) (D : Duals) (y : Placement) (R : Form) (u : Li
   pub valid : (bound : ℤ) → bound ≤ℤ c → AllValid I (step_of I) bound y (under (clean D) R) side own 0 children
   pub adds : Adds old new (split_text side number (marks children) u ++ children_text children)
 
--- child number k on the line is settled, for every bound up to c
+-- the k-th child on the line is settled, for every bound up to c
 pub record HasKid (I : Problem) (D : Duals) (y : Placement) (R : Form) (line : Line) (k : ℕ) (c : ℤ) (ends old new : List ℕ → Type 0) : Type 0 where
   pub kid : Kid
   pub shape : HasKidShape y (side_of line) (own_of line) k kid

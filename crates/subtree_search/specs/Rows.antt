@@ -5,7 +5,7 @@ use Rattle.pair_duals.specs.PairDuals.{Duals, alpha_of, beta_of}
 use Rattle.pair_duals.specs.Reduced.{past}
 use Rattle.proof_tree.specs.Tree.{PairRows}
 
--- number t of those of facility number i at location number k: for each other facility, and then for each other location
+-- the t-th of those of the i-th facility at the k-th location: for each other facility, and then for each other location
 abbrev pub dual_in_row : Duals → ℕ → ℕ → ℕ → ℤ
 dual_in_row D i k t =
     if nat_lt t (length D.facilities - 1) then alpha_of D i k (past i t) else beta_of D i k (past k (t - (length D.facilities - 1)))
@@ -14,7 +14,7 @@ dual_in_row D i k t =
 abbrev pub first_of_row : Duals → ℕ → ℕ → ℕ → List ℤ
 first_of_row D i k n = map (dual_in_row D i k) (range_with_len 0 n)
 
--- all of them, for row number s, where the locations of one facility come in succession
+-- all of them, for row number s, where all locations of one facility come before the next facility
 abbrev pub row_at : Duals → ℕ → List ℤ
 row_at D s = first_of_row D (s / length D.facilities) (s % length D.facilities) (2 * (length D.facilities - 1))
 

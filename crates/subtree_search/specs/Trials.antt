@@ -13,7 +13,7 @@ use Rattle.subtree_search.specs.declared.split.OpenChild.{OpenChild}
 pub record IsMarked (ends : List ℕ → Type 0) (c : ℕ) (old new : List ℕ → Type 0) : Type 0 where
   pub each : (t before after : List ℕ) → ends t → length before ≡ c → old (t ++ before ++ 46 ∷ after) → new (t ++ before ++ 43 ∷ after)
 
--- child number k on the line has a form, and is marked so
+-- the k-th child on the line has a form, and is marked so
 pub record IsBegun (I : Problem) (D : Duals) (R : Form) (line : Line) (k : ℕ) (ends old new : List ℕ → Type 0) : Type 0 where
   pub form : Form
   pub child : IsChild I D R (row_on line k) (column_on line k) form

@@ -10,24 +10,24 @@ use Rattle.std.proofs.lemmas.Bool.Decides.{Decides-int_eq, same_from_decides}
 use Rattle.std.proofs.lemmas.Slice.Eq.{bytes_eq-Decides, slice_eq-Decides}
 use Rattle.tuple_match.specs.FieldValue.{FieldValue, number, word, numbers}
 
--- what `==` answers at two fields: whether they are equal, by `Decides-field_eq`
+-- the answer of `==` for two fields: whether they are equal, by `Decides-field_eq`
 abbrev pub field_eq : FieldValue → FieldValue → Bool
 field_eq (number m) (number n) = int_eq m n
 field_eq (word s) (word t) = bytes_eq s t
 field_eq (numbers ms) (numbers ns) = pointwise int_eq ms ns
 field_eq _ _ = false
 
--- what `==` answers at two words, and no at all else
+-- the answer of `==` for two words, and false otherwise
 abbrev pub same_word : FieldValue → FieldValue → Bool
 same_word (word s) (word t) = bytes_eq s t
 same_word _ _ = false
 
--- what `==` answers at two lists, and no at all else
+-- the answer of `==` for two lists, and false otherwise
 abbrev pub same_list : FieldValue → FieldValue → Bool
 same_list (numbers ms) (numbers ns) = pointwise int_eq ms ns
 same_list _ _ = false
 
--- what `==` answers at two tuples: whether they are equal, by `Decides-tuple_eq`
+-- the answer of `==` for two tuples: whether they are equal, by `Decides-tuple_eq`
 abbrev pub tuple_eq : List FieldValue → List FieldValue → Bool
 tuple_eq = pointwise field_eq
 
@@ -43,11 +43,11 @@ field_eq-refl (number m) = (Decides-int_eq m m).1 refl
 field_eq-refl (word s) = (bytes_eq-Decides s s).1 refl
 field_eq-refl (numbers ms) = (slice_eq-Decides Decides-int_eq ms ms (pointwise int_eq ms ms) refl).1 refl
 
--- `==` at two fields is true if and only if they are equal
+-- `==` on two fields is true if and only if they are equal
 pub Decides-field_eq : (x y : FieldValue) → Decides (field_eq x y) (x ≡ y)
 Decides-field_eq x y = (same_from_field_eq x y, λ e. subst (λ (z : FieldValue). field_eq x z ≡ true) e (field_eq-refl x))
 
--- `==` at two tuples is true if and only if they are equal
+-- `==` on two tuples is true if and only if they are equal
 pub Decides-tuple_eq : (xs ys : List FieldValue) → Decides (tuple_eq xs ys) (xs ≡ ys)
 Decides-tuple_eq xs ys = slice_eq-Decides Decides-field_eq xs ys (tuple_eq xs ys) refl
 
@@ -59,18 +59,18 @@ equivalence_from_Decides E d = record {
   congr = λ x y z h. ap (λ w. E w z) ((d x y).0 h);
 }
 
--- `==` at fields is an equivalence
+-- `==` on fields is an equivalence
 pub field_eq_equiv : IsEquivalence field_eq
 field_eq_equiv = equivalence_from_Decides field_eq Decides-field_eq
 
--- it is a partial equivalence, as `PartialEq` asks
+-- it is a partial equivalence, as `PartialEq` requires
 pub field_eq_per : IsPartialEquivalence field_eq
 field_eq_per = partial_equiv_from_equiv field_eq_equiv
 
--- `==` at tuples is an equivalence
+-- `==` on tuples is an equivalence
 pub tuple_eq_equiv : IsEquivalence tuple_eq
 tuple_eq_equiv = equivalence_from_Decides tuple_eq Decides-tuple_eq
 
--- it is a partial equivalence, as `PartialEq` asks
+-- it is a partial equivalence, as `PartialEq` requires
 pub tuple_eq_per : IsPartialEquivalence tuple_eq
 tuple_eq_per = partial_equiv_from_equiv tuple_eq_equiv

@@ -13,19 +13,19 @@ IsField (number n) = Unit {0}
 IsField (word bytes) = IsWord bytes
 IsField (numbers ns) = length ns ≤ 1024
 
--- the number that a field is
+-- the number in a field
 abbrev pub number_of : FieldValue → Option ℤ
 number_of (number n) = Some n
 number_of (word bytes) = None
 number_of (numbers ns) = None
 
--- the bytes of the word that a field is
+-- the bytes of the word in a field
 abbrev pub word_of : FieldValue → Option (List ℕ)
 word_of (number n) = None
 word_of (word bytes) = Some bytes
 word_of (numbers ns) = None
 
--- the numbers of the list that a field is
+-- the numbers of the list in a field
 abbrev pub numbers_of : FieldValue → Option (List ℤ)
 numbers_of (number n) = None
 numbers_of (word bytes) = None

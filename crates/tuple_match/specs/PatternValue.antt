@@ -24,6 +24,6 @@ FieldMatches any_word (word bytes) = Unit {0}
 FieldMatches any_numbers (numbers ns) = Unit {0}
 FieldMatches _ _ = ⊥
 
--- a template and a tuple match: they are equally long, and do so part by part (Gelernter 1985)
+-- a template and a tuple match: they have equal lengths, and match part by part (Gelernter 1985)
 abbrev pub Matches : List PatternValue → List FieldValue → Type 0
 Matches template tuple = AllZip FieldMatches template tuple

@@ -5,7 +5,7 @@ use Rattle.tuple_match.specs.FieldValue.{FieldValue}
 use Rattle.tuple_match.specs.declared.row.Row.{Row}
 use Rattle.tuple_match.specs.declared.row.Row.TheVariants.{Own, Shared, Two, Three, Four, Seven}
 
--- what the fields of a tuple say, its own or shared ones
+-- the values of the fields of a tuple, its own or shared ones
 abbrev pub row_value : Row → List FieldValue
 row_value (Own fields) = fields_value fields.items
 row_value (Shared fields) = fields_value (arc_value fields).items

@@ -3,7 +3,7 @@ use Rattle.std.specs.Prelude.{ℕ, ◌*◌, ◌/◌, ◌%◌, ◌^◌, List, bit
 use Rattle.std.specs.Int.{from_le_bytes, w64}
 use Rattle.tuple_space.specs.declared.hasher.NumberHasher.{NumberHasher}
 
--- the upper half of a product spreads what four numbers in a row have in common; two bits above tell the four apart
+-- the upper half of a product spreads what four consecutive numbers share; two bits above distinguish the four
 abbrev pub hash : ℕ → ℕ
 hash number = bit_xor ((number / 4 * 0x9e37_79b9_7f4a_7c15) % 2 ^ 64 / 2 ^ 32) (number % 4 * 2 ^ 30)
 

@@ -1,4 +1,4 @@
--- Where the numbers of entries stand: by the word that a tuple begins with, and how many fields it has.
+-- The index of entries: their numbers by the word with which a tuple begins, and its number of fields.
 use Rattle.std.specs.Prelude.{◌≡◌, ◌≢◌, ◌≤◌, ℕ, zero, suc, ◌+◌, ◌==◌, ◌&&◌, ◌||◌, not, if◌then◌else◌, Bool, true, false, List, [], ◌∷◌, ◌++◌, All, AllPairs, MatchOption, Option, Some, None, filter, length, map}
 use Rattle.std.specs.Global.{Vec}
 use Rattle.std.specs.List.{list_any}
@@ -15,21 +15,21 @@ use Rattle.tuple_space.specs.declared.index.Slot.{Slot}
 use Rattle.tuple_space.specs.declared.index.Slot.TheVariants.{Length, Value}
 use Rattle.tuple_space.specs.declared.write.Write.{Write}
 
--- the word that a tuple begins with
+-- the word with which a tuple begins
 abbrev pub first_word : List FieldValue → Option (List ℕ)
 first_word (word bytes ∷ fields) = Some bytes
 first_word _ = None
 
--- the word that a template asks for first
+-- the first word of a template
 abbrev pub sought_word : List PatternValue → Option (List ℕ)
 sought_word (actual (word bytes) ∷ patterns) = Some bytes
 sought_word _ = None
 
--- a bucket of tuples that begin with a word and have so many fields
+-- a bucket of tuples that begin with a word and have this many fields
 abbrev pub is_of : List ℕ → ℕ → Bucket → Bool
 is_of bytes count bucket = (bucket.count == count) && bytes_eq (bucket.word.items) bytes
 
--- the numbers under a length, among lists of which each stands at its length
+-- the numbers under a length, among lists indexed by length
 abbrev pub list_at : ℕ → List (Vec ℕ) → List ℕ
 list_at length [] = []
 list_at zero (l ∷ ls) = l.items
@@ -40,26 +40,26 @@ abbrev pub numbers_at : Slot → Bucket → List ℕ
 numbers_at (Length l) b = list_at l b.by_length.items
 numbers_at (Value v) b = list_at v b.by_value.items
 
--- a class of tuples: the word that they begin with, how many fields they have, and a slot in which they stand
+-- a class of tuples: their first word, their number of fields, and their slot
 pub record Class : Type 0 where
   pub word : List ℕ
   pub count : ℕ
   pub slot : Slot
 
--- the class of this first word, this count of fields and this length of the second field, 0 where it is no list
+-- the class of this first word, this number of fields and this length of the second field, 0 if it is not a list
 abbrev pub class_of : List ℕ → ℕ → ℕ → Class
 class_of bytes count numbered = record { word = bytes; count = count; slot = Length numbered }
 
--- there is a first word, and it is the one sought
+-- there is a first word, and it is the requested one
 abbrev pub is_word : Option (List ℕ) → List ℕ → Bool
 is_word (Some bytes) sought = bytes_eq bytes sought
 is_word None sought = false
 
--- a tuple is one of a class; one that begins with no word is of none
+-- a tuple is in a class; one that does not begin with a word is in none
 abbrev pub has_class : Class → List FieldValue → Bool
 has_class class tuple = ((length tuple == class.count) && is_word (first_word tuple) class.word) && is_in class.slot tuple
 
--- the numbers that stand under a class
+-- the numbers of a class
 abbrev pub numbers_of : Class → List Bucket → List ℕ
 numbers_of class [] = []
 numbers_of class (b ∷ bs) = if is_of class.word class.count b then numbers_at class.slot b else numbers_of class bs
@@ -68,15 +68,15 @@ numbers_of class (b ∷ bs) = if is_of class.word class.count b then numbers_at 
 abbrev pub is_put : Class → ℕ → List Bucket → Bool
 is_put class number buckets = is_among number (numbers_of class buckets)
 
--- what a bucket is found by
+-- the key of a bucket
 abbrev pub key : Bucket → List ℕ × ℕ
 key bucket = (bucket.word.items, bucket.count)
 
--- no two buckets are of the same word and count
+-- no two buckets have the same word and count
 abbrev pub AreOnce : List Bucket → Type 0
 AreOnce buckets = AllPairs (λ k j. k ≢ j) (map key buckets)
 
--- the numbers under each class rise
+-- the numbers of each class increase
 abbrev pub AreOrdered : List Bucket → Type 0
 AreOrdered buckets = (class : Class) → AreRising (numbers_of class buckets)
 
@@ -84,21 +84,21 @@ AreOrdered buckets = (class : Class) → AreRising (numbers_of class buckets)
 abbrev pub is_numbered : Class → ℕ → List Entry → Bool
 is_numbered class number entries = list_any (λ e. (e.number == number) && has_class class e.tuple) entries
 
--- under each class stand, in rising order, the numbers of the entries whose tuples are of it, and no others
+-- each class contains, in ascending order, exactly the numbers of the entries whose tuples are in it
 pub record AreIndexed (buckets : List Bucket) (entries : List Entry) : Type 0 where
   pub once : AreOnce buckets
   pub rising : AreOrdered buckets
   pub exact : (class : Class) (number : ℕ) → is_put class number buckets ≡ is_numbered class number entries
 
--- the same numbers stand there
+-- the numbers are unchanged
 abbrev pub AreSame : List Bucket → List Bucket → Type 0
 AreSame old new = (class : Class) → numbers_of class new ≡ numbers_of class old
 
--- the number of a tuple was put behind those of its class
+-- the number of a tuple was appended to those of its class
 abbrev pub IsAdded : List FieldValue → ℕ → List Bucket → List Bucket → Type 0
 IsAdded tuple number old new = (class : Class) → numbers_of class new ≡ numbers_of class old ++ (if has_class class tuple then number ∷ [] else [])
 
--- the number of a tuple was taken out
+-- the number of a tuple was removed
 abbrev pub IsDropped : List FieldValue → ℕ → List Bucket → List Bucket → Type 0
 IsDropped tuple number old new = (class : Class) → numbers_of class new ≡ filter (λ n. not (has_class class tuple && (n == number))) (numbers_of class old)
 
@@ -106,26 +106,26 @@ IsDropped tuple number old new = (class : Class) → numbers_of class new ≡ fi
 abbrev pub last_after : ℕ → Write → ℕ
 last_after last write = if write.taken then last else last + 1
 
--- a write is to have this number, and its tuple is of this class
+-- a write will have this number, and its tuple is in this class
 abbrev pub is_next : Class → ℕ → ℕ → Write → Bool
 is_next class number last write = not write.taken && (has_class class write.tuple && (number == last + 1))
 
--- one of several is
+-- one of several will
 abbrev pub is_to_be : Class → ℕ → ℕ → List Write → Bool
 is_to_be class number last [] = false
 is_to_be class number last (x ∷ xs) = is_next class number last x || is_to_be class number (last_after last x) xs
 
--- the numbers under each class rise, up to one
+-- the numbers of each class increase, up to one
 pub record AreUpTo (last : ℕ) (buckets : List Bucket) : Type 0 where
   pub rising : AreOrdered buckets
   pub most : (class : Class) → All (λ n. n ≤ last) (numbers_of class buckets)
 
--- the entry of a number isn't wanted
+-- the entry of a number is not wanted
 abbrev pub IsUnwanted : Wanted → ℕ → List PatternValue → List Entry → ℕ → Type 0
 IsUnwanted wanted moment template entries number = All (λ e. e.number ≡ number → is_wanted wanted moment template e ≡ false) entries
 
--- where a bucket is that of a word and of the template's length, no entry is wanted whose number is in the slot that the template asks for, or in
--- any where it asks for none
+-- if a bucket has the word and the length of the template, no entry is wanted whose number is in the slot that the template requires, or in
+-- any if it requires none
 abbrev pub HasNoneWanted : List ℕ → Wanted → ℕ → List PatternValue → List Entry → Bucket → Type 0
 HasNoneWanted bytes wanted moment template entries bucket =
     is_of bytes (length template) bucket ≡ true →
@@ -133,14 +133,14 @@ HasNoneWanted bytes wanted moment template entries bucket =
     (All (λ (l : Vec ℕ). All (IsUnwanted wanted moment template entries) l.items) bucket.by_length.items)
     (λ s. All (IsUnwanted wanted moment template entries) (numbers_at s bucket))
 
--- a number was put into the slot of a length, and into that of a value, if there is one
+-- a number was added to the slot of a length, and to that of a value, if there is one
 abbrev pub IsPutIn : ℕ → Option ℕ → ℕ → Bucket → Bucket → Type 0
 IsPutIn long value number old new = (s : Slot) → numbers_at s new ≡ numbers_at s old ++ (if is_slot_of long value s then number ∷ [] else [])
 
--- a number was taken out of the slots of a tuple
+-- a number was removed from the slots of a tuple
 abbrev pub IsTakenFrom : List FieldValue → ℕ → Bucket → Bucket → Type 0
 IsTakenFrom tuple number old new = (s : Slot) → numbers_at s new ≡ filter (λ n. not (is_in s tuple && (n == number))) (numbers_at s old)
 
--- the numbers in each slot stayed
+-- the numbers in each slot are unchanged
 abbrev pub HasSame : Bucket → Bucket → Type 0
 HasSame old new = (s : Slot) → numbers_at s new ≡ numbers_at s old

@@ -1,4 +1,4 @@
--- How long a tuple stays, in the manner of JavaSpaces; the rules are this project's own.
+-- How long a tuple stays, in the style of JavaSpaces; the rules are this project's own.
 use Rattle.std.specs.Prelude.{ℕ, ◌+◌, min, max, nat_lt, Bool, true, false}
 use Rattle.tuple_space.specs.declared.lease.Lease.{Lease}
 use Rattle.tuple_space.specs.declared.lease.Lease.TheVariants.{Forever, Ms}
@@ -9,7 +9,7 @@ use Rattle.tuple_space.specs.declared.lease.LeaseEnd.TheVariants.{Never, At}
 abbrev pub longest_lease : ℕ
 longest_lease = 86400000
 
--- the end of a lease of so many milliseconds that is granted at a moment: for the time asked, or for a day where that is less
+-- the end of a lease granted at a moment for this many milliseconds: the time requested, or a day if that is less
 abbrev pub granted_end : ℕ → ℕ → ℕ
 granted_end moment asked = moment + min asked longest_lease
 
@@ -18,7 +18,7 @@ abbrev pub granted : ℕ → Lease → LeaseEnd
 granted moment Forever = Never
 granted moment (Ms asked) = At (granted_end moment asked)
 
--- a lease is live while the moment is smaller than its end
+-- a lease is live while the moment is before its end
 abbrev pub is_live : ℕ → LeaseEnd → Bool
 is_live moment Never = true
 is_live moment (At end) = nat_lt moment end

@@ -13,7 +13,7 @@ abbrev pub holds_one : {A : Type 0} → (A → Bool) → Option A → Bool
 holds_one test (Some x) = test x
 holds_one test None = false
 
--- each place in use holds an item, and so many take no memory
+-- each place in use holds an item, and this many take no memory
 pub record AreFilled {A : Type 0} (many : ℕ) (places : SmallVec (Option A)) : Type 0 where
   pub ready : many ≤ places.capacity
   pub each : places.items ≡ map Some (items_in places.items)

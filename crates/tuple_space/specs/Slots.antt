@@ -1,4 +1,4 @@
--- Where in a bucket the number of a tuple stands: by its second field.
+-- The slots of a bucket in which the number of a tuple is stored, by its second field.
 use Rattle.std.specs.Prelude.{ℕ, ◌+◌, ◌*◌, ◌%◌, ◌==◌, unsigned_abs, Bool, false, List, [], ◌∷◌, Option, Some, None, length}
 use Rattle.tuple_match.specs.FieldValue.{FieldValue, number, word, numbers}
 use Rattle.tuple_match.specs.PatternValue.{PatternValue, actual}
@@ -10,29 +10,29 @@ abbrev pub second_length : List FieldValue → ℕ
 second_length (first ∷ numbers ns ∷ fields) = length ns
 second_length _ = 0
 
--- what the bytes of a word leave over 256, as digits of a number in base 31
+-- the bytes of a word as digits in base 31, modulo 256
 abbrev pub word_value : List ℕ → ℕ
 word_value [] = 0
 word_value (b ∷ bs) = (b + 31 * word_value bs) % 256
 
--- under which of 256 values a field stands that is no list: equal fields stand under the same
+-- which of 256 values a field that is not a list has: equal fields have the same
 abbrev pub value_of : FieldValue → Option ℕ
 value_of (number n) = Some (unsigned_abs n % 256)
 value_of (word bytes) = Some (word_value bytes)
 value_of (numbers ns) = None
 
--- the same of a tuple's second field
+-- likewise for a tuple's second field
 abbrev pub second_value : List FieldValue → Option ℕ
 second_value (first ∷ second ∷ fields) = value_of second
 second_value _ = None
 
--- where a tuple with this second field stands, if there is one
+-- the slot of a tuple with this second field, if there is one
 abbrev pub slot_of : FieldValue → Slot
 slot_of (number n) = Value (unsigned_abs n % 256)
 slot_of (word bytes) = Value (word_value bytes)
 slot_of (numbers ns) = Length (length ns)
 
--- the slot of the second field that a template asks for, if it asks for one field
+-- the slot of the second field that a template requires, if it is an actual
 abbrev pub sought_slot : List PatternValue → Option Slot
 sought_slot (first ∷ actual second ∷ patterns) = Some (slot_of second)
 sought_slot _ = None
@@ -47,6 +47,6 @@ abbrev pub is_slot_of : ℕ → Option ℕ → Slot → Bool
 is_slot_of long value (Length l) = long == l
 is_slot_of long value (Value v) = is_value value v
 
--- a tuple stands in a slot: in that of its second field's length, 0 where it is no list, and then in that of its value too
+-- a tuple is in a slot: that of its second field's length, 0 if it is not a list, and then that of its value too
 abbrev pub is_in : Slot → List FieldValue → Bool
 is_in slot tuple = is_slot_of (second_length tuple) (second_value tuple) slot

@@ -1,4 +1,4 @@
--- The space: entries in rising order of number, the moment, and the number last given.
+-- The space: entries in ascending order of number, the moment, and the last number given.
 use Rattle.std.specs.Prelude.{Bool, ℕ, ◌+◌, ◌<◌, ◌≤◌, ◌^◌, nat_lt, not, ◌||◌, List, [], ◌∷◌, ◌++◌, All, filter, map, if◌then◌else◌}
 use Rattle.tuple_match.specs.FieldValue.{FieldValue}
 use Rattle.tuple_space.specs.Lease.{granted, is_permanent}
@@ -12,13 +12,13 @@ use Rattle.tuple_space.specs.declared.entry.Entry.{Entry}
 abbrev pub most : ℕ
 most = 2 ^ 62
 
--- a space: its entries, its moment, and the number given last
+-- a space: its entries, its moment, and the last number given
 pub record SpaceValue : Type 0 where
   pub entries : List Entry
   pub moment : ℕ
   pub last : ℕ
 
--- what holds of every space: the numbers rise, from 1 to the one last given, and each entry's holds are in order
+-- what holds for every space: the numbers increase, from 1 to the last one, and each entry's holds are in order
 pub record IsSpace (w : SpaceValue) : Type 0 where
   pub rising : IsRising w.entries
   pub entries : All IsEntry w.entries
@@ -26,15 +26,15 @@ pub record IsSpace (w : SpaceValue) : Type 0 where
   pub few : w.last ≤ most
   pub early : w.moment ≤ most
 
--- the space of these entries, at this moment, with this number given last
+-- the space of these entries, at this moment, with this last number
 abbrev pub space_of : List Entry → ℕ → ℕ → SpaceValue
 space_of entries moment last = record { entries = entries; moment = moment; last = last }
 
--- nothing was put out yet
+-- nothing has been written yet
 abbrev pub opening : SpaceValue
 opening = record { entries = []; moment = 0; last = 0 }
 
--- a tuple put out under the next number, with its lease granted at the moment, and held by nobody
+-- a tuple written under the next number, with its lease granted at the moment, and held by nobody
 abbrev pub put : SpaceValue → List FieldValue → Lease → SpaceValue
 put w tuple lease =
     record {
@@ -43,11 +43,11 @@ put w tuple lease =
       last = w.last + 1;
     }
 
--- other entries in the place of those that stood there
+-- the same space with other entries
 abbrev pub with_entries : SpaceValue → List Entry → SpaceValue
 with_entries w entries = record { entries = entries; moment = w.moment; last = w.last }
 
--- the moment moved on, and only what is there kept; an earlier moment changes nothing
+-- the moment advanced, and only existing entries kept; an earlier moment changes nothing
 abbrev pub advanced : ℕ → SpaceValue → SpaceValue
 advanced moment w =
     if nat_lt moment w.moment then w else record { entries = filter (is_there moment) w.entries; moment = moment; last = w.last }
@@ -56,7 +56,7 @@ advanced moment w =
 abbrev pub held_by : ℕ → Bool → Entry → Entry
 held_by holder taken e = record e { holds = holds_with (record { by = holder; taken = taken; permanent = is_permanent e.end }) e.holds }
 
--- whether an entry stays where a holder's hold of it ends: one whose lease has ended leaves with its last hold
+-- whether an entry stays when a holder's hold of it ends: one whose lease has ended is removed with its last hold
 abbrev pub stays_without : ℕ → ℕ → Entry → Bool
 stays_without holder moment e = not (is_held_by holder e) || is_there moment (unheld holder e)
 
@@ -64,6 +64,6 @@ stays_without holder moment e = not (is_held_by holder e) || is_there moment (un
 abbrev pub released : ℕ → ℕ → List Entry → List Entry
 released holder moment entries = map (unheld holder) (filter (stays_without holder moment) entries)
 
--- all entries but those that a holder took
+-- all entries except those that a holder took
 abbrev pub without_taken : ℕ → List Entry → List Entry
 without_taken holder entries = filter (λ e. not (is_taken_by holder e)) entries

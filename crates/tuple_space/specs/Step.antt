@@ -1,5 +1,5 @@
--- What a call of the space may answer, and what it leaves: the rules of the space for calls outside transactions.
--- Which of several tuples that can be had is got stays open.
+-- The possible answers to a call of the space and its effects: the rules of the space for calls outside transactions.
+-- It is not specified which of several available tuples is found.
 use Rattle.std.specs.Prelude.{◌≡◌, Bool, ℕ, ◌+◌, ◌<◌, ◌≤◌, true, false, List, All, Contains, count_by, Option, Some, None, Result, Ok, Err, ◌&&◌, ◌==◌}
 use Rattle.std.specs.List.{list_any}
 use Rattle.tuple_match.specs.FieldValue.{FieldValue}
@@ -34,20 +34,20 @@ pub data Reply : Type 0 where
   told : ℕ → Reply
   refused : SpaceError → Reply
 
--- an entry that can be had under a claim
+-- an entry that is available under a claim
 pub record IsHad (w : SpaceValue) (claim : Claim) (template : List PatternValue) (e : Entry) : Type 0 where
   pub stands : Contains w.entries e
   pub can : can_be_had claim w.moment template e ≡ true
 
--- nothing can be had under a claim
+-- no entry is available under a claim
 abbrev pub NothingHad : SpaceValue → Claim → List PatternValue → Type 0
 NothingHad w claim template = All (λ e. can_be_had claim w.moment template e ≡ false) w.entries
 
--- the entry of a number is there, with a live lease
+-- the entry of a number exists, with a live lease
 abbrev pub is_live_number : SpaceValue → ℕ → Bool
 is_live_number w number = list_any (λ e. (e.number == number) && is_live w.moment e.end) w.entries
 
--- From old, the space may give this reply to the call and go on to new.
+-- From old, the space may give this reply to the call and lead to new.
 abbrev pub Step : SpaceValue → Event → Reply → SpaceValue → Type 0
 Step old (out tuple lease) (given number) new =
     (old.last < most) × (number ≡ old.last + 1) × (new ≡ put old tuple lease)
@@ -70,23 +70,23 @@ Step old now (told moment) new = (moment ≡ old.moment) × (new ≡ old)
 -- no other reply is given
 Step _ _ _ _ = ⊥
 
--- the reply that a result is
+-- the reply of a result
 abbrev pub out_reply : Result ℕ (SpaceError × List FieldValue) → Reply
 out_reply (Ok number) = given number
 out_reply (Err back) = refused back.0
 
--- the same for `inp`: an entry taken, or nothing
+-- likewise for `inp`: an entry taken, or nothing
 abbrev pub inp_reply : Option (ℕ × List FieldValue) → Reply
 inp_reply (Some found) = got found.0 found.1
 inp_reply None = nothing
 
--- the same for `rdp`, which may also be refused
+-- likewise for `rdp`, which may also be refused
 abbrev pub rdp_reply : Result (Option (ℕ × List FieldValue)) SpaceError → Reply
 rdp_reply (Ok (Some found)) = got found.0 found.1
 rdp_reply (Ok None) = nothing
 rdp_reply (Err error) = refused error
 
--- the same for a call that gives nothing back
+-- likewise for a call that returns nothing
 abbrev pub done_reply : Result (Unit {0}) SpaceError → Reply
 done_reply (Ok _) = done
 done_reply (Err error) = refused error

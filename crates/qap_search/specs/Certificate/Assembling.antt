@@ -1,4 +1,4 @@
--- What comes of putting the tuples of a search together into a certificate.
+-- The outcomes of assembling the tuples of a search into a certificate.
 use Rattle.std.specs.Prelude.{◌≡◌, ℕ, ◌<◌, ◌⊎◌, List}
 use Rattle.qap_cert.specs.Certificate.{Claim}
 use Rattle.tuple_match.specs.FieldValue.{FieldValue}
@@ -7,16 +7,16 @@ use Rattle.qap_search.specs.Tuples.Piece.{open_count}
 use Rattle.qap_search.specs.declared.certificate.error.AssembleError.{AssembleError}
 use Rattle.qap_search.specs.declared.certificate.error.AssembleError.TheVariants.{Unfinished, NotATree, OutOfMemory}
 
--- the tuples are those of no certificate of size n
+-- the tuples form no certificate of size n
 abbrev pub IsNoCertificate : ℕ → List (List FieldValue) → Type 0
 IsNoCertificate n tuples = (C : Claim) → IsAssembled n tuples C → ⊥
 
--- why the tuples are not put together: nodes are open; none is, and they are those of no certificate; or there is no memory
+-- why the tuples are not assembled: nodes are open; none is, and they form no certificate; or memory ran out
 abbrev pub IsAssembleFault : ℕ → List (List FieldValue) → AssembleError → Type 0
 IsAssembleFault n tuples (Unfinished count) = (0 < count) × (open_count tuples ≡ count)
 IsAssembleFault n tuples NotATree = (open_count tuples ≡ 0) × IsNoCertificate n tuples
 IsAssembleFault n tuples OutOfMemory = open_count tuples ≡ 0
 
--- the same, once it is known that no node is open
+-- likewise, once it is known that no node is open
 abbrev pub IsTreeFault : ℕ → List (List FieldValue) → AssembleError → Type 0
 IsTreeFault n tuples e = (e ≡ OutOfMemory) ⊎ ((e ≡ NotATree) × IsNoCertificate n tuples)

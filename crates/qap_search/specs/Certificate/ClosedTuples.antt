@@ -27,11 +27,11 @@ pub record ClosesNode (I : Problem) (old new : List FieldValue) : Type 0 where
   pub is : old ≡ node_tuple node
   pub closed : IsClosedBy I node new
 
--- a tuple that isn't named as an open node's stays, and that of an open node is closed
+-- a tuple that is not named as an open node's is unchanged, and that of an open node is closed
 abbrev pub IsClosedTuple : Problem → List FieldValue → List FieldValue → Type 0
 IsClosedTuple I old new = (((xs : List ℤ) → old ≢ named_node xs) × (new ≡ old)) ⊎ ClosesNode I old new
 
--- the tuple is named as an open node's, and its list is that of no node of size n
+-- the tuple is named as an open node's, but its list is that of no node of size n
 pub record IsNoNode (n : ℕ) (tuple : List FieldValue) : Type 0 where
   pub list : List ℤ
   pub is : tuple ≡ named_node list
@@ -43,7 +43,7 @@ pub record AreClosed (I : Problem) (old new : List (List FieldValue)) : Type 0 w
   pub same : SameItems old sources
   pub closed : AllZip (IsClosedTuple I) sources new
 
--- one of the tuples is named as an open node's and is none of size n
+-- one of the tuples is named as an open node's, but is none of size n
 pub record HasNoNode (n : ℕ) (tuples : List (List FieldValue)) : Type 0 where
   pub tuple : List FieldValue
   pub rest : List (List FieldValue)

@@ -1,4 +1,4 @@
--- The certificate that is left where no node is open.
+-- The certificate of a search with no open node.
 use Rattle.std.specs.Prelude.{◌≡◌, ℕ, List, ◌∷◌, length}
 use Rattle.qap_cost.specs.Placement.{root_of}
 use Rattle.qap_cert.specs.Certificate.{Claim, IsCertificate}

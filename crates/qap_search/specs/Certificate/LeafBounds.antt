@@ -1,4 +1,4 @@
--- What the leaves of a tree show.
+-- The bounds of the leaves of a tree.
 use Rattle.std.specs.Prelude.{ℕ, ◌+◌, List, [], ◌∷◌, ◌++◌, ℤ, ◌+ℤ◌}
 use Rattle.qap_cost.specs.Instance.{Problem}
 use Rattle.qap_cost.specs.Matrix.{dual_value}
@@ -18,6 +18,6 @@ abbrev mutual
   shown_by_all I x s c no_nodes = []
   shown_by_all I x s c (node t rest) = shown I (child_of x s c) t ++ shown_by_all I x s (c + 1) rest
 
--- the least of the cost c and of what the leaves of the tree over x show
+-- the minimum of the cost c and of the bounds of the leaves of the tree over x
 abbrev pub IsBoundOf : Problem → Placement → ℤ → Node → ℤ → Type 0
 IsBoundOf I x c t g = IsLeastOf (c ∷ shown I x t) g

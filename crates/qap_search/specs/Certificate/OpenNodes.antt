@@ -1,4 +1,4 @@
--- A search that was stopped: each node that is open is closed by the duals of a least assignment of its reduced matrix.
+-- A search that was stopped: each open node is closed by the duals of a least assignment of its Gilmore-Lawler matrix.
 use Rattle.std.specs.Prelude.{◌≡◌, ℕ, ◌+◌, ◌-◌, List, length, ℤ}
 use Rattle.qap_cost.specs.Instance.{Problem}
 use Rattle.qap_cost.specs.Matrix.{Square, Assigns, DualsFit, IsMatrix, assignment_cost, dual_value}
@@ -8,7 +8,7 @@ use Rattle.gilmore_lawler.specs.Closing.{AreDuals}
 use Rattle.qap_proof.specs.Tree.{Pair, Split, Node, closed, split, cut, mirrored, Nodes, no_nodes, node, child_of, pair}
 use Rattle.qap_search.specs.Law.SearchTree.{SearchTree, open_node, split_node, closed_node, cut_node, mirrored_node, SearchTrees, no_trees, tree}
 
--- the duals fit the reduced matrix of x, and one of its assignments costs their sum: no assignment costs less
+-- the duals fit the Gilmore-Lawler matrix of x, and one of its assignments costs their sum, so that none costs less
 pub record AreLeastDuals (I : Problem) (x : Placement) (u v : List ℤ) : Type 0 where
   pub matrix : Square
   pub square : IsMatrix matrix

@@ -1,4 +1,4 @@
--- The certificate of a search that was stopped, and the bound that its tree shows.
+-- The certificate of a search that was stopped, and the bound of its tree.
 use Rattle.std.specs.Prelude.{◌≡◌, ℕ, ◌+◌, ◌-◌, ◌<◌, List, ◌∷◌, length, ℤ}
 use Rattle.qap_cost.specs.Bijection.{IsPerm}
 use Rattle.qap_cost.specs.Instance.{Problem}
@@ -18,7 +18,7 @@ use Rattle.qap_search.specs.Law.SearchTree.{SearchTree, IsTree, as_proof, plain,
 use Rattle.qap_search.specs.declared.certificate.error.AssembleError.{AssembleError}
 use Rattle.qap_search.specs.declared.certificate.error.AssembleError.TheVariants.{Unfinished, NotATree, OutOfMemory}
 
--- the certificate has this tree with each open node closed, and the bound that it shows
+-- the certificate has this tree with each open node closed, and the resulting bound
 pub record IsClosedTo (I : Problem) (s : SearchTree) (C : Claim) : Type 0 where
   pub certificate : IsCertificate C
   pub same_size : length C.permutation ≡ I.size
@@ -44,7 +44,7 @@ pub record IsUnfinished (n : ℕ) (tuples : List (List FieldValue)) (c : ℤ) (p
   pub tree : IsTree (plain HasDuals) (whole (root_of n)) s
   pub taken_apart : SameItems tuples (best_tuple c p ∷ pieces (root_of n) s)
 
--- with its open nodes closed, the search tree shows a bound below -10^24
+-- with its open nodes closed, the search tree has a bound below -10^24
 pub record ShowsTooLow (I : Problem) (c : ℤ) (s : SearchTree) : Type 0 where
   pub tree : Node
   pub closed : ClosedTo I (root_of I.size) s tree
@@ -52,18 +52,18 @@ pub record ShowsTooLow (I : Problem) (c : ℤ) (s : SearchTree) : Type 0 where
   pub least : IsBoundOf I (root_of I.size) c tree bound
   pub too_low : IsLimited bound → ⊥
 
--- the tuples are those of no search tree and permutation, or of one that shows too low a bound
+-- the tuples form no search tree and permutation, or one with too low a bound
 abbrev pub IsNotStopped : Problem → List (List FieldValue) → Type 0
 IsNotStopped I tuples = (c : ℤ) (p : List ℕ) (s : SearchTree) → IsUnfinished I.size tuples c p s → ShowsTooLow I c s
 
--- why the tuples are not put together
+-- why the tuples are not assembled
 abbrev pub IsStoppedFault : Problem → List (List FieldValue) → AssembleError → Type 0
 IsStoppedFault I tuples (Unfinished count) = ⊥
 IsStoppedFault I tuples NotATree = IsNotStopped I tuples
 IsStoppedFault I tuples OutOfMemory = Unit {0}
 
 -- the certificate is that of a search that was stopped when it had decided this many nodes, and had others open; the
--- leaves that were closed before show its cost at least, so that only the open ones may show less
+-- bounds of the leaves that were closed before are at least its cost, so that only the open ones may have less
 pub record CertifiesStopped (I : Problem) (nodes : ℕ) (C : Claim) : Type 0 where
   pub certified : Certifies I C
   pub tree : SearchTree

@@ -1,4 +1,4 @@
--- A tree at the front of decided nodes in order.
+-- A tree at the beginning of decided nodes in order.
 use Rattle.std.specs.Prelude.{◌≡◌, ◌⊎◌, ℕ, ◌+◌, ◌-◌, ◌*◌, ◌<◌, List, ◌++◌, length, reverse, ℤ, pos, true, slice_index, slice_index_or}
 use Rattle.qap_cost.specs.Placement.{Placement}
 use Rattle.qap_proof.specs.Shape.{has_duals}
@@ -16,7 +16,7 @@ use Rattle.qap_search.specs.declared.certificate.error.AssembleError.TheVariants
 abbrev pub ahead : List DecidedNode → List (List FieldValue)
 ahead nodes = decided_tuples (reverse nodes)
 
--- the tuples begin with those of this tree at this place, and go on with the rest; the tree is cut off where the flag is 1
+-- the tuples begin with those of this tree at this position, and continue with the rest; the tree is pruned if the flag is 1
 pub record BeginWith (p : Place) (flag : ℤ) (t : Node) (tuples rest : List (List FieldValue)) : Type 0 where
   pub tree : IsTree readable p (of_proof t)
   pub flagged : cut_number (of_proof t) ≡ flag
@@ -26,11 +26,11 @@ pub record BeginWith (p : Place) (flag : ℤ) (t : Node) (tuples rest : List (Li
 abbrev pub BeginWithNone : Place → ℤ → List (List FieldValue) → Type 0
 BeginWithNone p flag tuples = (t : Node) (rest : List (List FieldValue)) → BeginWith p flag t tuples rest → ⊥
 
--- why no tree is built: there is no memory, or the tuples begin with those of no tree there
+-- why no tree is built: memory ran out, or the tuples begin with those of no tree there
 abbrev pub IsBuildFault : Place → ℤ → List (List FieldValue) → AssembleError → Type 0
 IsBuildFault p flag tuples e = (e ≡ OutOfMemory) ⊎ ((e ≡ NotATree) × BeginWithNone p flag tuples)
 
--- a 0, or a 1 where the split says duals
+-- a 0, or a 1 if the split states duals
 abbrev pub IsFlag : Split → ℤ → Type 0
 IsFlag s flag = (flag ≡ pos 0) ⊎ ((flag ≡ pos 1) × (has_duals s.duals ≡ true))
 
@@ -39,7 +39,7 @@ pub record AreFlags (count : ℕ) (s : Split) (flags : List ℤ) : Type 0 where
   pub one_each : length flags ≡ count
   pub each : (c : ℕ) → c < length flags → IsFlag s (slice_index_or flags c (pos 0))
 
--- each facility and each location of the two rows, alternately, stands at the front of the list
+-- each facility and each location of the two rows, alternately, is at the beginning of the list
 abbrev pub BeginsByTurns : List ℕ → List ℕ → List ℤ → Type 0
 BeginsByTurns facilities places list =
     (t : ℕ) → t < length facilities →

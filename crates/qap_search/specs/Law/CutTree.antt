@@ -1,4 +1,4 @@
--- What the tuples of a search are at any moment: one tree, taken apart into its nodes, and the best permutation found.
+-- The tuples of a search at any moment: the nodes of one tree, and the incumbent.
 use Rattle.std.specs.Prelude.{◌≡◌, ◌≤ℤ◌, ℕ, List, ◌∷◌, ℤ}
 use Rattle.qap_cost.specs.Objective.{Permutes, cost_of}
 use Rattle.qap_cost.specs.Placement.{IsPlacement}
@@ -9,8 +9,8 @@ use Rattle.qap_search.specs.Tuples.Piece.{best_tuple, pieces}
 use Rattle.qap_search.specs.Law.Search.{Search}
 use Rattle.qap_search.specs.Law.SearchTree.{SearchTree, IsTree, decided_count, judge_of}
 
--- the tuples, in any order, are those of a search tree over the root, whose closed nodes hold nothing that costs less than the
--- best permutation found, and of that permutation, which costs no more than the one that is known; and each commit has decided
+-- the tuples, in any order, are those of a search tree over the root, whose closed nodes contain nothing that costs less than the
+-- incumbent, and of that permutation, which costs no more than the known one; and each commit has decided
 -- one node
 pub record IsCutTree (S : Search) (content : List (List FieldValue)) (commits : ℕ) : Type 0 where
   pub tree : SearchTree

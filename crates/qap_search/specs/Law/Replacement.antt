@@ -1,4 +1,4 @@
--- What one commit may put in the place of an open node.
+-- What one commit may replace an open node with.
 use Rattle.std.specs.Prelude.{◌≡◌, ◌⊎◌, ℕ, Bool, List, [], ◌∷◌, ℤ, ◌<ℤ◌}
 use Rattle.qap_cost.specs.Instance.{Problem}
 use Rattle.qap_cost.specs.Objective.{Permutes, cost_of}
@@ -9,7 +9,7 @@ use Rattle.tuple_match.specs.FieldValue.{FieldValue}
 use Rattle.qap_search.specs.Tuples.Piece.{node_tuple, best_tuple, pieces}
 use Rattle.qap_search.specs.Law.SearchTree.{SearchTree, split_node, closed_node, IsTree, AreUndecided, judge_of}
 
--- a permutation, and what it is to cost
+-- a permutation, and its claimed cost
 pub record Best : Type 0 where
   pub cost : ℤ
   pub permutation : List ℕ
@@ -23,28 +23,28 @@ abbrev pub IsAsGood : Problem → Best → Best → Type 0
 IsAsGood I old new =
     (new ≡ old) ⊎ (Permutes I new.permutation × (cost_of I new.permutation ≡ new.cost) × (new.cost <ℤ old.cost))
 
--- one node that is decided: duals close it, or it is split, and each of its children is open, cut or mirrored
+-- one decided node: duals close it, or it is split, and each of its children is open, pruned or symmetric
 abbrev pub IsOneNode : SearchTree → Type 0
 IsOneNode (split_node s children) = AreUndecided children
 IsOneNode (closed_node u v) = Unit {0}
 IsOneNode _ = ⊥
 
--- the best permutation was read, and stays
+-- the incumbent was read, and stays
 pub record ReadsBest (x : Placement) (old new : Best) (decided : SearchTree) (gone kept added : List (List FieldValue)) : Type 0 where
   pub same : new ≡ old
   pub takes : SameItems gone (node_tuple x ∷ [])
   pub reads : SameItems kept (tuple_of old ∷ [])
   pub adds : SameItems added (pieces x decided)
 
--- the best permutation was taken, and one that is as good is put in its place
+-- the incumbent was taken, and replaced by one that is as good or better
 pub record TakesBest (I : Problem) (x : Placement) (old new : Best) (decided : SearchTree) (gone kept added : List (List FieldValue)) : Type 0 where
   pub as_good : IsAsGood I old new
   pub takes : SameItems gone (node_tuple x ∷ tuple_of old ∷ [])
   pub reads : SameItems kept []
   pub adds : SameItems added (tuple_of new ∷ pieces x decided)
 
--- an open node gives way to one that is decided, by the best permutation that stands then; cutting says whether
--- children may be cut off
+-- an open node is replaced by a decided one, under the incumbent after the commit; `cutting` says whether
+-- children may be pruned
 pub record MayReplace (cutting : Bool) (I : Problem) (gone kept added : List (List FieldValue)) : Type 0 where
   pub at : Placement
   pub placement : IsPlacement at

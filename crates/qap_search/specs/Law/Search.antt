@@ -1,4 +1,4 @@
--- What is searched: the permutations of an instance that complete a node, by one that is known before.
+-- What is searched: the permutations of an instance that complete a node, starting from a known one.
 use Rattle.std.specs.Prelude.{◌≡◌, ◌≤ℤ◌, ℕ, ℤ, Bool, false, List}
 use Rattle.std.specs.List.{range_with_len}
 use Rattle.qap_cost.specs.Instance.{Problem}
@@ -6,14 +6,14 @@ use Rattle.qap_cost.specs.Objective.{Permutes, cost_of}
 use Rattle.qap_cost.specs.Placement.{Placement, Completes, IsPlacement, root_of}
 use Rattle.qap_search.specs.Law.Replacement.{Best}
 
--- cutting says whether the search may cut children off by their parent's duals
+-- `cutting` says whether the search may prune children by their parent's duals
 pub record Search : Type 0 where
   pub cutting : Bool
   pub instance : Problem
   pub root : Placement
   pub known : Best
 
--- the root is a node of the instance; what is known is a permutation with its cost, and need not complete the root
+-- the root is a node of the instance; the known one is a permutation with its cost, and need not complete the root
 pub record IsSearch (S : Search) : Type 0 where
   pub root : IsPlacement S.root
   pub same_size : S.root.size ≡ S.instance.size
@@ -24,15 +24,15 @@ pub record IsSearch (S : Search) : Type 0 where
 abbrev pub NoneBelow : Search → ℤ → Type 0
 NoneBelow S c = (p : List ℕ) → Completes S.root p → c ≤ℤ cost_of S.instance p
 
--- the search of I over the root x, by b as the permutation that is known; it may cut children off or may not
+-- the search of I over the root x, with b as the known permutation, with or without pruning
 abbrev pub search_of : Bool → Problem → Placement → Best → Search
 search_of cutting I x b = record { cutting = cutting; instance = I; root = x; known = b }
 
--- all permutations of the instance, by a search that cuts nothing off
+-- all permutations of the instance, without pruning
 abbrev pub from_root : Problem → Best → Search
 from_root I b = search_of false I (root_of I.size) b
 
--- each facility at the location of its own number
+-- facility i at location i
 abbrev pub identity_of : Problem → List ℕ
 identity_of I = range_with_len 0 I.size
 

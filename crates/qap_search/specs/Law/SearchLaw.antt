@@ -7,13 +7,12 @@ use Rattle.qap_search.specs.Law.CutTree.{IsCutTree}
 use Rattle.qap_search.specs.Law.Replacement.{Best, MayReplace}
 use Rattle.qap_search.specs.Law.Search.{Search, search_of}
 
--- lawful are the cut trees of the search and nothing else, and a commit is allowed where an open node gives way to a decided one
+-- exactly the cut trees of the search are lawful, and a commit is allowed if it replaces an open node with a decided one
 pub record IsLawOf (S : Search) (lawful : Content → ℕ → Type 0) (allowed : Content → Content → Content → Type 0) : Type 0 where
   pub is_cut_tree : (xs : Content) (commits : ℕ) → lawful xs commits → IsCutTree S xs commits
   pub is_lawful : (xs : Content) (commits : ℕ) → IsCutTree S xs commits → lawful xs commits
   pub may_replace : (gone kept added : Content) → MayReplace S.cutting S.instance gone kept added → allowed gone kept added
 
--- it is the law of a search of the instance, which may cut children off or may not, over some root and by some permutation that is
--- known
+-- it is the law of a search of the instance, with or without pruning, over some root and with some known permutation
 abbrev pub IsSearchLaw : Bool → Problem → (Content → ℕ → Type 0) → (Content → Content → Content → Type 0) → Type 0
 IsSearchLaw cutting I lawful allowed = (x : Placement) × (b : Best) × IsLawOf (search_of cutting I x b) lawful allowed

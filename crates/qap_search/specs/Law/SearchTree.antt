@@ -1,4 +1,4 @@
--- Search trees that may be unfinished: how the permutations that complete a node are split up, what shows of each part that none
+-- Search trees that may be unfinished: how the permutations that complete a node are split, what proves for each part that none
 -- costs less than some cost, and which parts are open.
 use Rattle.std.specs.Prelude.{◌≡◌, ◌⊎◌, ℕ, zero, suc, ◌+◌, ◌<◌, List, length, ℤ, Bool, true, false, Some, None}
 use Rattle.qap_cost.specs.Bijection.{IsPerm}
@@ -32,8 +32,8 @@ abbrev pub tree_count : SearchTrees → ℕ
 tree_count no_trees = 0
 tree_count (tree t rest) = 1 + tree_count rest
 
--- what the nodes of a tree are to show: duals that close a node; what a split may be; its child of some number where that is cut;
--- and where that is the image of an earlier one under a permutation
+-- what the nodes of a tree must establish: duals that close a node; what a split may be; that a child may be pruned;
+-- and that it is the symmetric image of an earlier one under a permutation
 pub record Judge : Type 1 where
   pub closes : Placement → List ℤ → List ℤ → Type 0
   pub splits : Placement → Split → Type 0
@@ -59,26 +59,26 @@ abbrev mutual
   AreTrees J x s c no_trees = Unit {0}
   AreTrees J x s c (tree t rest) = IsTree J (child x s c) t × AreTrees J x s (c + 1) rest
 
--- a split on a facility that says no duals
+-- a split on a facility that states no duals
 abbrev pub IsPlain : Split → Type 0
 IsPlain s = (s.side ≡ Facility) × (s.duals ≡ None)
 
--- a plain split, or one that says duals
+-- a plain split, or one that states duals
 abbrev pub IsReadableSplit : Split → Type 0
 IsReadableSplit s = IsPlain s ⊎ (has_duals s.duals ≡ true)
 
--- the split says duals, which fit the reduced matrix
+-- the split states duals, which fit the Gilmore-Lawler matrix
 pub record HasFit (I : Problem) (x : Placement) (s : Split) : Type 0 where
   pub pair : Pair
   pub has : s.duals ≡ Some pair
   pub duals : AreDuals (free_count x) pair.u pair.v
   pub fits : Fits I x pair.u pair.v
 
--- trees whose splits are plain, and in which no child is cut or mirrored; closed nodes are to show this
+-- trees whose splits are plain, and in which no child is pruned or symmetric; closed nodes must satisfy this
 abbrev pub plain : (Placement → List ℤ → List ℤ → Type 0) → Judge
 plain P = record { closes = P; splits = λ x s. IsPlain s; cuts = λ x s c. ⊥; mirrors = λ x s c j m. ⊥ }
 
--- trees that show of each part that no permutation there costs less than g, by what proofs may say
+-- trees that prove for each part that no permutation there costs less than g, with the means of proofs
 abbrev pub proving : Problem → ℤ → Judge
 proving I g = record {
   closes = ClosesPart I g;
@@ -87,7 +87,7 @@ proving I g = record {
   mirrors = λ x s c j m. (j < c) × TakesOn s.side I x j c m;
 }
 
--- trees that can be read back from their tuples, whatever their duals are: a child is cut only where its split says duals, and a mirrored
+-- trees that can be read back from their tuples, whatever their duals are: a child is pruned only if its split states duals, and a symmetric
 -- one is the image of an earlier one under a permutation
 abbrev pub readable : Judge
 readable = record {
@@ -97,7 +97,7 @@ readable = record {
   mirrors = λ x s c j m. (j < c) × IsPerm m;
 }
 
--- the trees of a search that cuts children off, or of one that doesn't, whose parts hold nothing that costs less than g
+-- the trees of a search with or without pruning whose parts contain nothing that costs less than g
 abbrev pub judge_of : Bool → Problem → ℤ → Judge
 judge_of true I g = proving I g
 judge_of false I g = plain (ClosesPart I g)
@@ -114,14 +114,14 @@ abbrev mutual
   decided_counts no_trees = 0
   decided_counts (tree t rest) = decided_count t + decided_counts rest
 
--- none of them is decided: each is open, cut or mirrored
+-- none of them is decided: each is open, pruned or symmetric
 abbrev pub AreUndecided : SearchTrees → Type 0
 AreUndecided no_trees = Unit {0}
 AreUndecided (tree (split_node s children) rest) = ⊥
 AreUndecided (tree (closed_node u v) rest) = ⊥
 AreUndecided (tree _ rest) = AreUndecided rest
 
--- a split on facility f that says no duals
+-- a split on facility f that states no duals
 abbrev pub on_facility : ℕ → Split
 on_facility f = record { side = Facility; number = f; duals = None }
 
@@ -153,7 +153,7 @@ abbrev mutual
 abbrev pub searched : cert.Node → SearchTree
 searched t = of_proof (as_proof t)
 
--- the same for each of several trees
+-- likewise for each of several trees
 abbrev pub searched_all : cert.Nodes → SearchTrees
 searched_all ts = of_proofs (as_proofs ts)
 

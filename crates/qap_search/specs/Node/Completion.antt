@@ -4,7 +4,7 @@ use Rattle.qap_cost.specs.Bijection.{IsBijection}
 use Rattle.qap_cost.specs.Placement.{ListsFree, Placement, free_facilities, free_locations}
 use Rattle.qap_search.specs.declared.node.branching.Free.{Free}
 
--- the free facility of number r takes the free location of number q(r)
+-- the r-th free facility takes the q(r)-th free location
 pub record IsMatching (x : Placement) (q : List ℕ) : Type 0 where
   pub bijection : IsBijection q
   pub count : length q ≡ length (free_facilities x)
@@ -16,13 +16,13 @@ pub record IsFreeOf (x : Placement) (free : Free) : Type 0 where
   pub facilities_listed : ListsFree x.size x.facilities free.facilities.now
   pub locations_listed : ListsFree x.size x.places free.locations.now
 
--- p puts the placed facilities at their places, and the free ones as q says
+-- p puts the placed facilities at their locations, and the free ones as q says
 pub record IsCompletion (x : Placement) (q p : List ℕ) : Type 0 where
   pub same_size : length p ≡ x.size
   pub placed : (t : ℕ) → t < length x.facilities → slice_index p (slice_index x.facilities t) ≡ slice_index x.places t
   pub free : (r : ℕ) → r < length (free_facilities x) → slice_index p (slice_index (free_facilities x) r) ≡ slice_index (free_locations x) (slice_index q r)
 
--- each value has been put at its place, and all else is as it was
+-- each value has been put at its position, and all else is unchanged
 pub record Puts (at values old new : List ℕ) : Type 0 where
   pub long : length new ≡ length old
   pub put : (t : ℕ) → t < length at → slice_index new (slice_index at t) ≡ slice_index values t

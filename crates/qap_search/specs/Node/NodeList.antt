@@ -1,4 +1,4 @@
--- A node that is read from its list, one facility with its location after another.
+-- A node that is read from its list, which has facilities and locations alternately.
 use Rattle.std.specs.Prelude.{◌≡◌, ℕ, List, ℤ, pos}
 use Rattle.qap_cost.specs.Placement.{Placement, IsPlacement, IsFreeFacility, IsFreeLocation, placing}
 use Rattle.qap_search.specs.Tuples.Piece.{node_list}
@@ -13,7 +13,7 @@ pub record IsReadFrom (n : ℕ) (list : List ℤ) (x : Placement) : Type 0 where
 abbrev pub IsListOf : Placement → List ℤ → Type 0
 IsListOf x list = IsReadFrom x.size list x
 
--- y has the facility and the location of these numbers too, which are free in x
+-- y additionally has the facility and the location of these numbers, which are free in x
 pub record IsNextOf (x : Placement) (facility location : ℤ) (y : Placement) : Type 0 where
   pub f : ℕ
   pub k : ℕ

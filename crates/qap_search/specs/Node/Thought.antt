@@ -1,4 +1,4 @@
--- What is worked out about a node: duals that fit its reduced matrix and whose sum an assignment reaches, the permutation that
+-- The evaluation of a node: duals that fit its Gilmore-Lawler matrix and whose sum an assignment reaches, the permutation that
 -- completes the node by that assignment, and what to split it on.
 use Rattle.std.specs.Prelude.{◌≡◌, ◌-◌, ◌<◌, ℕ, ℤ, pos, Bool, true, false, List, length, slice_index_or, ◌+ℤ◌, MatchOption, Option, Some, None, IfSome}
 use Rattle.std.specs.Global.{Vec}
@@ -26,33 +26,33 @@ pub record AreReached (I : Problem) (x : Placement) (d : Pair) (side : Side) (nu
       (c : ℕ) → c < length reached →
       Reaches I x d (facility_on side x number c) (location_on side x number c) (slice_index_or reached c (pos 0))
 
--- by which earlier child and which permutation child number c is an image; none behind the end of the list
+-- the earlier child and the permutation under which child number c is symmetric; none past the end of the list
 abbrev pub image_at : List (Option Image) → ℕ → Option Image
 image_at images c = slice_index_or images c None
 
--- child number c of a split of x on this side is the image of the earlier child that m names, by its permutation
+-- child number c of a split of x on this side is the symmetric image of the earlier child that m names, under its permutation
 abbrev pub IsImage : Problem → Placement → Side → ℕ → Image → Type 0
 IsImage I x side c m = (m.earlier < c) × TakesOn side I x m.earlier c m.by
 
--- so is each child for which the list has an image
+-- this holds for each child for which the list has a permutation
 abbrev pub AreImages : Problem → Placement → Side → List (Option Image) → Type 0
 AreImages I x side images = (c : ℕ) → IfSome (image_at images c) (IsImage I x side c)
 
--- what a node is to be split on; where children may be cut off, what its duals reach at each; and which children are
--- images of earlier ones
+-- what a node should be split on; with pruning, what its duals reach at each child; and which children are
+-- symmetric to earlier ones
 pub record BranchValue : Type 0 where
   pub side : Side
   pub number : ℕ
   pub reached : Option (List ℤ)
   pub images : List (Option Image)
 
--- x is to be split on a facility, of whose children nothing is said; or, where children may be cut off, on a facility
--- or a location, with what the duals reach at each child, and with images of earlier children for some
+-- x should be split on a facility, with nothing stated about its children; or, with pruning, on a facility
+-- or a location, with what the duals reach at each child, and with permutations for some symmetric ones
 abbrev pub IsBranchBy : Bool → Problem → Placement → Pair → BranchValue → Type 0
 IsBranchBy false I x d b = (b.side ≡ Facility) × (b.reached ≡ None)
 IsBranchBy true I x d b = (zs : List ℤ) × (b.reached ≡ Some zs) × AreReached I x d b.side b.number zs × AreImages I x b.side b.images
 
--- x is to be split so, on a facility or a location that is free
+-- x should be split so, on a facility or a location that is free
 abbrev pub IsBranch : Bool → Problem → Placement → Pair → BranchValue → Type 0
 IsBranch cutting I x d b = IsFreeOn b.side x b.number × IsBranchBy cutting I x d b
 
@@ -61,7 +61,7 @@ abbrev pub reached_in : Option (Vec ℤ) → Option (List ℤ)
 reached_in None = None
 reached_in (Some zs) = Some zs.items
 
--- what a branch of the code says
+-- the content of a branch of the code
 abbrev pub branch_value : Branch → BranchValue
 branch_value b = record { side = b.side; number = b.number; reached = reached_in b.reached; images = b.images.items }
 
@@ -70,7 +70,7 @@ abbrev pub branch_in : Option Branch → Option BranchValue
 branch_in None = None
 branch_in (Some b) = Some (branch_value b)
 
--- duals of a least assignment of the reduced matrix of x, the bound that they give, the permutation that completes x by
+-- duals of a least assignment of the Gilmore-Lawler matrix of x, the bound that they give, the permutation that completes x by
 -- that assignment, with its cost, and what to split x on unless all facilities are placed
 pub record IsThought (cutting : Bool) (I : Problem) (x : Placement) (t : Thought) : Type 0 where
   pub matrix : Square
@@ -87,11 +87,11 @@ pub record IsThought (cutting : Bool) (I : Problem) (x : Placement) (t : Thought
   pub costs : cost_of I t.candidate ≡ t.cost
   pub branch : MatchOption t.branch (length x.facilities ≡ x.size) (λ b. IsBranch cutting I x (pair t.u.items t.v.items) (branch_value b))
 
--- the permutation that a thought completed its node to, and its cost
+-- the permutation to which an evaluation completed its node, and its cost
 abbrev pub candidate_of : Thought → Best
 candidate_of t = record { cost = t.cost; permutation = t.candidate }
 
--- a node that was thought on: the bound on what its completions cost, the duals that show it, what to split it on where something is
+-- an evaluated node: the bound on its completions, the duals that prove it, what to split it on if something is
 -- free, and one of the completions with its cost
 pub record ThoughtValue : Type 0 where
   pub node : Placement
@@ -101,6 +101,6 @@ pub record ThoughtValue : Type 0 where
   pub branch : Option BranchValue
   pub candidate : Best
 
--- what a thought on x says
+-- the content of an evaluation of x
 abbrev pub thought_on : Placement → Thought → ThoughtValue
 thought_on x t = record { node = x; value = t.value; u = t.u.items; v = t.v.items; branch = branch_in t.branch; candidate = candidate_of t }

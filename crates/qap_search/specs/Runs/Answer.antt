@@ -1,4 +1,4 @@
--- What a search yields.
+-- The result of a search.
 use Rattle.std.specs.Prelude.{◌≡◌, ◌≤ℤ◌, ℕ, ◌<◌, List, length, ℤ, Option, Some, IfSome}
 use Rattle.std.specs.List.{sum_by}
 use Rattle.qap_cost.specs.Instance.{Problem}
@@ -17,25 +17,25 @@ use Rattle.qap_search.specs.declared.worker.report.Report.{Report}
 use Rattle.qap_search.specs.declared.runs.answer.SolveError.{SolveError}
 use Rattle.qap_search.specs.declared.runs.answer.SolveError.TheVariants.{Unfinished, Stopped, OutOfMemory}
 
--- the certificate certifies its cost as the least one of the instance, by a tree of this many nodes
+-- the certificate certifies its cost as the least one of the instance, with a tree of this many nodes
 pub record CertifiesLeast (I : Problem) (nodes : ℕ) (C : Claim) : Type 0 where
   pub certificate : IsCertificate C
   pub certified : Certifies I C
   pub closed : C.bound ≡ C.cost
   pub nodes_are : node_count C.tree ≡ nodes
 
--- the accepted commits that the reports tell of, together
+-- the sum of the accepted commits in the reports
 abbrev pub accepted_of : List Report → ℕ
 accepted_of reports = sum_by (λ r. r.accepted) reports
 
--- a certificate of the instance's least cost, and a report for each of this many workers, whose accepted commits are
--- together the nodes of the certificate's tree, and at most the limit
+-- a certificate of the instance's least cost, and a report for each of this many workers, whose accepted commits sum to
+-- the number of nodes of the certificate's tree, and at most the limit
 pub record IsAnswer (I : Problem) (workers : ℕ) (limit : Option ℕ) (a : Answer) : Type 0 where
   pub least : CertifiesLeast I (accepted_of a.reports.items) a.certificate
   pub one_each : length a.reports.items ≡ workers
   pub within : IsWithin limit (accepted_of a.reports.items)
 
--- after this many commits the search has left a cut tree without open nodes, with this best permutation of this cost
+-- after this many commits the search has left a cut tree without open nodes, with this incumbent of this cost
 pub record LeavesBest (S : Search) (commits : ℕ) (p : List ℕ) (c : ℤ) : Type 0 where
   pub content : List (List FieldValue)
   pub tree : IsCutTree S content commits
@@ -44,7 +44,7 @@ pub record LeavesBest (S : Search) (commits : ℕ) (p : List ℕ) (c : ℤ) : Ty
   pub costs : tree.cost ≡ c
 
 -- a permutation of the instance with its cost, and none that completes the root costs less; and a report for each of
--- this many workers, whose accepted commits are together those of the search that has left it, and at most the limit
+-- this many workers, whose accepted commits sum to those of the search that has left it, at most the limit
 pub record IsLeastFrom (S : Search) (workers : ℕ) (limit : Option ℕ) (a : Least) : Type 0 where
   pub permutes : Permutes S.instance a.permutation
   pub costs : cost_of S.instance a.permutation ≡ a.cost
@@ -54,7 +54,7 @@ pub record IsLeastFrom (S : Search) (workers : ℕ) (limit : Option ℕ) (a : Le
   pub within : IsWithin limit (accepted_of a.reports.items)
 
 -- a permutation of the instance with its cost, and none costs less; and a report for each of this many workers, whose
--- accepted commits are together those of the search that has left it, and at most the limit
+-- accepted commits sum to those of the search that has left it, at most the limit
 pub record IsLeastAnswer (I : Problem) (workers : ℕ) (limit : Option ℕ) (a : Least) : Type 0 where
   pub permutes : Permutes I a.permutation
   pub costs : cost_of I a.permutation ≡ a.cost
@@ -63,9 +63,9 @@ pub record IsLeastAnswer (I : Problem) (workers : ℕ) (limit : Option ℕ) (a :
   pub one_each : length a.reports.items ≡ workers
   pub within : IsWithin limit (accepted_of a.reports.items)
 
--- what is left where the limit of commits was reached while nodes were open: a certificate with these nodes closed,
--- whose permutation costs no more than the one that was known, and a report for each of this many workers, whose
--- accepted commits are together the limit
+-- what is left when the limit of commits was reached with nodes open: a certificate with these nodes closed,
+-- whose permutation costs no more than the known one, and a report for each of this many workers, whose
+-- accepted commits sum to the limit
 pub record IsStoppedAnswer (S : Search) (workers : ℕ) (limit : Option ℕ) (a : Answer) : Type 0 where
   pub reached : limit ≡ Some (accepted_of a.reports.items)
   pub one_each : length a.reports.items ≡ workers
@@ -92,6 +92,6 @@ IsSearchFault S workers limit (Unfinished count) = LeavesOpen S limit count
 IsSearchFault S workers limit (Stopped a) = IsStoppedAnswer S workers limit a
 IsSearchFault S workers limit OutOfMemory = Unit {0}
 
--- the same of a search of the whole instance
+-- likewise for a search of the whole instance
 abbrev pub IsSolveFault : Problem → ℕ → Option ℕ → SolveError → Type 0
 IsSolveFault I = IsSearchFault (whole I)

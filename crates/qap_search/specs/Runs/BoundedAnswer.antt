@@ -1,4 +1,4 @@
--- What a search over any node yields, where nodes may be left open.
+-- The result of a search over any node, which may leave nodes open.
 use Rattle.std.specs.Prelude.{◌≡◌, ◌≤ℤ◌, ℕ, List, length, ℤ, Option}
 use Rattle.qap_cost.specs.Objective.{Permutes, cost_of}
 use Rattle.shared_space.specs.Limit.{IsWithin}
@@ -10,8 +10,8 @@ use Rattle.qap_search.specs.Tuples.Piece.{open_count}
 use Rattle.qap_search.specs.Law.Search.{Search, NoneBelow}
 use Rattle.qap_search.specs.declared.runs.answer.Bounded.{Bounded}
 
--- after this many commits the search has left a cut tree with this many open nodes, and this best permutation of this
--- cost, which have this bound
+-- after this many commits the search has left a cut tree with this many open nodes, and this incumbent of this
+-- cost, with this bound
 pub record LeavesBound (S : Search) (commits left : ℕ) (p : List ℕ) (c g : ℤ) : Type 0 where
   pub content : List (List FieldValue)
   pub tree : IsCutTree S content commits
@@ -20,10 +20,10 @@ pub record LeavesBound (S : Search) (commits left : ℕ) (p : List ℕ) (c g : �
   pub costs : tree.cost ≡ c
   pub bound : IsOpenBound S.instance content c g
 
--- a permutation of the instance with its cost, which is at most that of the one that was known; a bound, at most that
--- cost, that no permutation which completes the root costs less than, and that is the cost where no node is left open;
--- and a report for each of this many workers, whose accepted commits are together those of the search that has left
--- these, and at most the limit
+-- a permutation of the instance with its cost, at most that of the known one; a bound, at most that
+-- cost, on every permutation that completes the root, equal to the cost if no node is left open;
+-- and a report for each of this many workers, whose accepted commits sum to those of the search that has left
+-- these, at most the limit
 pub record IsBoundedFrom (S : Search) (workers : ℕ) (limit : Option ℕ) (a : Bounded) : Type 0 where
   pub permutes : Permutes S.instance a.permutation
   pub costs : cost_of S.instance a.permutation ≡ a.cost

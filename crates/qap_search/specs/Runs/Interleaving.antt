@@ -17,35 +17,35 @@ use Rattle.qap_search.specs.declared.runs.run.Run.{Run}
 use Rattle.qap_search.specs.declared.runs.schedule.Step.{Step}
 use Rattle.qap_search.specs.declared.runs.schedule.Step.TheVariants as steps
 
--- where one worker stands, and what those had counted who were lost at its place
+-- the state of one worker, and the counts of those that were lost in its place
 pub record PostValue : Type 0 where
   pub hand : HandValue
   pub accepted : ℕ
   pub refused : ℕ
 
--- a run at one moment: the workers' places in their order, and the space
+-- a run at one moment: the workers' states in order, and the space
 pub record Moment : Type 0 where
   pub posts : List PostValue
   pub place : Place
 
--- the thought that a step calls for, where it calls for one
+-- the evaluation that a step requires, if any
 abbrev pub ThinksIf : Bool → HandValue → HandValue → Type 0
 ThinksIf true stepped new = Thinks stepped new
 ThinksIf false stepped new = new ≡ stepped
 
--- a worker's turn: one step that found memory, and the thought that it calls for
+-- a worker's turn: one step that found memory, and the evaluation that it requires
 pub record TakesTurn (old : HandValue) (before : Place) (new : HandValue) (after : Place) : Type 0 where
   pub stepped : HandValue
   pub told : Bool
   pub step : Turn Did old before (Ok told) stepped after
   pub thought : ThinksIf (is_due stepped.stage) stepped new
 
--- counts are kept as far as 64 bits count
+-- counts saturate at 64 bits
 abbrev pub together : ℕ → ℕ → ℕ
 together x y = min (x + y) (2 ^ 64 - 1)
 
--- a worker who has done nothing yet in the place of one that is lost with its transaction, which isn't ended; what that one
--- counted is kept
+-- a new worker in place of one that is lost with its transaction, which is not ended; the lost one's
+-- count is kept
 abbrev pub after_loss : Problem → ℕ → PostValue → PostValue
 after_loss I lease p = record {
   hand = new_hand false I lease;
@@ -53,43 +53,43 @@ after_loss I lease p = record {
   refused = together p.refused p.hand.refused;
 }
 
--- the turn of the worker who stands there; where nobody does, nothing changes
+-- the turn of this worker; if there is none, nothing changes
 abbrev pub TurnOf : Option PostValue → ℕ → Moment → Moment → Type 0
 TurnOf None w old new = new ≡ old
 TurnOf (Some post) w old new =
     (hand : HandValue) × TakesTurn post.hand old.place hand new.place × (new.posts ≡ set old.posts w (record post { hand = hand }))
 
--- the moment after the worker who stands there is lost
+-- the moment after this worker is lost
 abbrev pub without_worker : Problem → ℕ → Option PostValue → ℕ → Moment → Moment
 without_worker I lease None w old = old
 without_worker I lease (Some post) w old = record old { posts = set old.posts w (after_loss I lease post) }
 
--- what one step of a schedule does: a turn is one event of the space, the moment's moving on is one, and a loss is none
+-- the effect of one step of a schedule: a turn is one event of the space, advancing the moment is one, and a loss is none
 abbrev pub Moves : Problem → ℕ → Moment → Step → Moment → Type 0
 Moves I lease old (steps.Turn w) new = TurnOf (slice_get old.posts w) w old new
 Moves I lease old (steps.Advance moment) new =
     (reply : Reply) × Did old.place (advance moment) (moved reply) new.place × (new.posts ≡ old.posts)
 Moves I lease old (steps.Lose w) new = new ≡ without_worker I lease (slice_get old.posts w) w old
 
--- what a schedule does, step by step
+-- the effect of a schedule, step by step
 abbrev pub Runs : Problem → ℕ → Moment → List Step → Moment → Type 0
 Runs I lease old [] new = new ≡ old
 Runs I lease old (s ∷ rest) new = (next : Moment) × Moves I lease old s next × Runs I lease next rest new
 
--- a worker who has done nothing yet, with nothing counted
+-- a new worker, with nothing counted
 abbrev pub beginner : Problem → ℕ → PostValue
 beginner I lease = record { hand = new_hand false I lease; accepted = 0; refused = 0 }
 
--- the beginning: the space as a search finds it, and this many workers who have done nothing yet
+-- the beginning: the initial space of a search, and this many new workers
 abbrev pub start_of : Problem → ℕ → ℕ → Moment
 start_of I lease workers =
     record { posts = replicate workers (beginner I lease); place = place_of (opening_of (whole I)) workers 0 false }
 
--- what is reported of the workers at one place
+-- the report on the workers in one place
 abbrev pub report_of : PostValue → Report
 report_of p = record { accepted = p.accepted + p.hand.accepted; refused = together p.refused p.hand.refused; ended = Done }
 
--- The run is one of the schedule, by workers whose transactions may take 1000 ms, and its tuples are a cut tree of the instance.
+-- The run is one of the schedule, by workers with transactions leased for 1000 ms, and its tuples are a cut tree of the instance.
 pub record IsRun (I : Problem) (workers : ℕ) (schedule : List Step) (r : Run) : Type 0 where
   pub end : Moment
   pub runs : Runs I 1000 (start_of I 1000 workers) schedule end

@@ -1,4 +1,4 @@
--- The bound of a search that was stopped: what its open nodes, and the best permutation found, let a permutation cost at the least.
+-- The bound of a search that was stopped: what its open nodes and the incumbent imply about every permutation.
 use Rattle.std.specs.Prelude.{◌≡◌, ◌⊎◌, ℕ, List, ℤ, ◌+ℤ◌, ◌≤ℤ◌, All, Contains}
 use Rattle.qap_cost.specs.Instance.{Problem}
 use Rattle.qap_cost.specs.Matrix.{dual_value}
@@ -9,7 +9,7 @@ use Rattle.qap_search.specs.Certificate.OpenNodes.{AreLeastDuals}
 use Rattle.qap_search.specs.Tuples.Found.{IsOpenNode}
 use Rattle.qap_search.specs.Tuples.Piece.{node_tuple}
 
--- what the placed facilities of x cost among themselves, and a least assignment of its reduced matrix, which is the sum of its
+-- the cost of the placed facilities of x among themselves, plus a least assignment of its Gilmore-Lawler matrix, which is the sum of its
 -- duals: no permutation that completes x costs less (Gilmore 1962; Lawler 1963)
 pub record IsNodeValue (I : Problem) (x : Placement) (z : ℤ) : Type 0 where
   pub u : List ℤ
@@ -23,7 +23,7 @@ pub record IsNodeAbove (I : Problem) (g : ℤ) (x : Placement) : Type 0 where
   pub is_value : IsNodeValue I x value
   pub above : g ≤ℤ value
 
--- the same of the open node whose tuple this is
+-- likewise for the open node with this tuple
 abbrev pub IsTupleAbove : Problem → ℤ → List FieldValue → Type 0
 IsTupleAbove I g tuple = (x : Placement) → IsPlacement x → x.size ≡ I.size → tuple ≡ node_tuple x → IsNodeAbove I g x
 
@@ -35,7 +35,7 @@ pub record IsOpenValue (I : Problem) (tuples : List (List FieldValue)) (g : ℤ)
   pub stands : Contains tuples (node_tuple node)
   pub value : IsNodeValue I node g
 
--- g is the least of c and of the values of the open nodes among the tuples
+-- g is the minimum of c and of the values of the open nodes among the tuples
 pub record IsOpenBound (I : Problem) (tuples : List (List FieldValue)) (c g : ℤ) : Type 0 where
   pub one : (g ≡ c) ⊎ IsOpenValue I tuples g
   pub at_most : g ≤ℤ c

@@ -1,4 +1,4 @@
--- The space as a search finds it.
+-- The initial space of a search.
 use Rattle.std.specs.Prelude.{◌≡◌, List}
 use Rattle.tuple_space.specs.Space.{put}
 use Rattle.tuple_space.specs.declared.lease.Lease.TheVariants.{Forever}
@@ -10,11 +10,11 @@ use Rattle.qap_search.specs.Tuples.Piece.{node_tuple}
 use Rattle.qap_search.specs.Law.Replacement.{tuple_of}
 use Rattle.qap_search.specs.Law.Search.{Search}
 
--- a tuple put out to stay forever
+-- a tuple written permanently
 abbrev pub with_tuple : World → List FieldValue → World
 with_tuple w tuple = with_space w (put w.space tuple Forever)
 
--- the open root, and the known permutation as the best one
+-- the open root, and the known permutation as the incumbent
 abbrev pub opening_of : Search → World
 opening_of S = with_tuple (with_tuple opening (node_tuple S.root)) (tuple_of S.known)
 

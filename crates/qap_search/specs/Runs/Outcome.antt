@@ -1,4 +1,4 @@
--- How a search ends, by what it leaves.
+-- How a search ends, given what it leaves.
 use Rattle.std.specs.Prelude.{◌≡◌, ℕ, ◌<◌, length, Option}
 use Rattle.shared_space.specs.Limit.{IsWithin}
 use Rattle.space_txn.specs.Content.{content_of}
@@ -11,7 +11,7 @@ use Rattle.qap_search.specs.declared.runs.answer.SolveError.TheVariants.{Unfinis
 use Rattle.qap_search.specs.declared.runs.run_ending.Finished.{Finished}
 use Rattle.qap_search.specs.declared.runs.run.Run.{Run}
 
--- a cut tree of the search is left, and reports that tell its commits, at most the limit
+-- a cut tree of the search is left, and reports of its commits, at most the limit
 pub record IsEnded (S : Search) (limit : Option ℕ) (r : Run) : Type 0 where
   pub tree : IsCutTree S (content_of r.space) r.space.commits
   pub within : IsWithin limit r.space.commits

@@ -1,4 +1,4 @@
--- The proof that a search over any node yields, where nodes may be left open.
+-- The proof that a search over any node yields, which may leave nodes open.
 use Rattle.std.specs.Prelude.{◌≡◌, ◌≤ℤ◌, ℕ, List, length, Option}
 use Rattle.qap_proof.specs.Claim.{Claim, IsProof, Proves}
 use Rattle.shared_space.specs.Limit.{IsWithin}
@@ -11,8 +11,8 @@ use Rattle.qap_search.specs.Tuples.Piece.{open_count}
 use Rattle.qap_search.specs.Law.Search.{Search, NoneBelow}
 use Rattle.qap_search.specs.declared.runs.answer.Proved.{Proved}
 
--- the proof shows its bound for the search's root, by the best permutation and the tree of this cut tree, with each open node closed by
--- the duals of a least assignment; the bound is the least of the cost and of what the closed nodes show
+-- the proof establishes its bound for the search's root, with the incumbent and the tree of this cut tree, with each open node closed by
+-- the duals of a least assignment; the bound is the minimum of the cost and of the bounds of the closed nodes
 pub record IsProofOf (S : Search) (content : List (List FieldValue)) (commits : ℕ) (h : IsCutTree S content commits) (C : Claim) : Type 0 where
   pub shape : IsProof C
   pub proves : Proves S.instance C
@@ -29,9 +29,9 @@ pub record LeavesProof (S : Search) (commits left : ℕ) (C : Claim) : Type 0 wh
   pub counted : open_count content ≡ left
   pub proof : IsProofOf S content commits tree C
 
--- a proof of the instance over the root, whose permutation costs at most what was known, and whose bound is the cost
--- where no node is left open; and a report for each of this many workers, whose accepted commits are together those of
--- the search that has left it, and at most the limit
+-- a proof of the instance over the root, whose permutation costs no more than the known one, and whose bound is the cost
+-- if no node is left open; and a report for each of this many workers, whose accepted commits sum to those of
+-- the search that has left it, at most the limit
 pub record IsProvedFrom (S : Search) (workers : ℕ) (limit : Option ℕ) (a : Proved) : Type 0 where
   pub shape : IsProof a.proof
   pub proves : Proves S.instance a.proof

@@ -1,4 +1,4 @@
--- The run behind what a search yields: what its workers and its keeper did with the space, act by act.
+-- The run behind the result of a search: what its workers and its keeper did with the space, act by act.
 use Rattle.std.specs.Prelude.{◌≡◌, ℕ, ◌<◌, List, count_by, Option, IfSome}
 use Rattle.shared_space.specs.Limit.{is_reached}
 use Rattle.shared_space.specs.Place.{Place, place_of}
@@ -15,8 +15,8 @@ use Rattle.qap_search.specs.declared.runs.answer.SolveError.TheVariants.{Unfinis
 use Rattle.qap_search.specs.declared.runs.run.Run as ends
 use Rattle.qap_search.specs.declared.worker.report.Report.{Report}
 
--- from the space as the search finds it, which nobody has left, a run leads to this world: each act is a step of the machine, under
--- the limit of commits, and each commit puts in the place of an open node what may stand there
+-- from the initial space of the search, which nobody has left, a run leads to this world: each act is a step of the machine, under
+-- the limit of commits, and each commit replaces an open node with what is allowed
 pub record RanTo (S : Search) (workers : ℕ) (limit : Option ℕ) (w : World) : Type 0 where
   pub opening : World
   pub opens : IsOpening S opening
@@ -42,7 +42,7 @@ pub record Tells (r : ends.Run) (count : ℕ) (told : List Report) : Type 0 wher
   pub left_open : open_count (content_of r.space) ≡ count
   pub reports : told ≡ r.reports.items
 
--- what a reason for no answer says of the run
+-- what a reason for no answer implies about the run
 abbrev pub FaultTells : ends.Run → SolveError → Type 0
 FaultTells r (Unfinished count) = open_count (content_of r.space) ≡ count
 FaultTells r (Stopped a) = (count : ℕ) × Tells r count a.reports.items × (0 < count)

@@ -1,4 +1,4 @@
--- What entries, each in its place, tell of a search.
+-- What entries, each at its place, contain of a search.
 use Rattle.std.specs.Prelude.{◌&&◌, Bool, List, Option}
 use Rattle.tuple_match.specs.FieldValue.{FieldValue}
 use Rattle.tuple_space.specs.Lease.{is_permanent}

@@ -1,4 +1,4 @@
--- Nodes that are decided and the best permutation found, as tuples say them.
+-- Decided nodes and the incumbent, as tuples represent them.
 use Rattle.std.specs.Prelude.{◌≡◌, ◌≢◌, List, [], ◌∷◌, codes, ℕ, ℤ}
 use Rattle.number_list.specs.NumberList.{numbers_held}
 use Rattle.qap_proof.specs.declared.side.Side.{Side}
@@ -17,7 +17,7 @@ use Rattle.qap_search.specs.declared.tuples.parsing.Piece.TheVariants.{Best, Dec
 abbrev pub split_of : List ℤ → ℤ → List FieldValue
 split_of xs f = word (codes "split") ∷ numbers xs ∷ number f ∷ []
 
--- it is split on a facility or a location of this number, with these duals, which cut off the children told
+-- it is split on a facility or a location of this number, with these duals, which prune the children listed
 abbrev pub pruned_of : List ℤ → Side → ℤ → List ℤ → List ℤ → List ℤ → List FieldValue
 pruned_of xs side k u v cuts =
     word (codes "pruned") ∷ numbers xs ∷ word (side_word side) ∷ number k ∷ numbers u ∷ numbers v ∷ numbers cuts ∷ []
@@ -26,7 +26,7 @@ pruned_of xs side k u v cuts =
 abbrev pub closed_of : List ℤ → List ℤ → List ℤ → List FieldValue
 closed_of xs u v = word (codes "closed") ∷ numbers xs ∷ numbers u ∷ numbers v ∷ []
 
--- it is the image of the earlier child of this number under a permutation
+-- it is symmetric to the earlier child of this number under a permutation
 abbrev pub mirrored_of : List ℤ → ℤ → List ℤ → List FieldValue
 mirrored_of xs j ms = word (codes "mirrored") ∷ numbers xs ∷ number j ∷ numbers ms ∷ []
 
@@ -45,7 +45,7 @@ decision_tuple xs (Mirrored j ms) = mirrored_of xs j (numbers_held ms)
 abbrev pub decided_tuple : DecidedNode → List FieldValue
 decided_tuple d = decision_tuple (numbers_held d.node) d.decision
 
--- the best permutation found, and its cost, as a tuple
+-- the incumbent and its cost, as a tuple
 abbrev pub found_tuple : BestFound → List FieldValue
 found_tuple b = best_of b.cost (numbers_held b.locations)
 
@@ -54,13 +54,13 @@ abbrev pub piece_tuple : Piece → List FieldValue
 piece_tuple (Best b) = found_tuple b
 piece_tuple (Decided d) = decided_tuple d
 
--- a part is what the field says; of a word, that it is one
+-- a part is represented by the field; for a word, that it is this one
 abbrev pub IsPart : Part → FieldValue → Type 0
 IsPart (Number m) field = field ≡ number m
 IsPart (Numbers ms) field = field ≡ numbers (numbers_held ms)
 IsPart Word field = (bytes : List ℕ) × (field ≡ word bytes)
 
--- no decided node and no best permutation is said so
+-- the tuple represents no decided node and no incumbent
 pub record IsNoPiece (tuple : List FieldValue) : Type 0 where
   pub no_best : (c : ℤ) (ps : List ℤ) → tuple ≢ best_of c ps
   pub no_split : (xs : List ℤ) (f : ℤ) → tuple ≢ split_of xs f

@@ -1,4 +1,4 @@
--- What a tuple that a search holds says, by what it is asked for.
+-- The content of a tuple that a search holds, by what it is requested as.
 use Rattle.std.specs.Prelude.{◌≡◌, ℕ, Bool, List, [], ◌∷◌, codes}
 use Rattle.qap_cost.specs.Instance.{Problem}
 use Rattle.qap_cost.specs.Objective.{Permutes, cost_of}
@@ -9,11 +9,11 @@ use Rattle.tuple_match.specs.PatternValue.{PatternValue, actual, any_number, any
 use Rattle.qap_search.specs.Tuples.Piece.{node_tuple}
 use Rattle.qap_search.specs.Law.Replacement.{Best, tuple_of}
 
--- the tuple of the best permutation: the word, any number and any list
+-- the tuple of the incumbent: the word, any number and any list
 abbrev pub best_template : List PatternValue
 best_template = actual (word (codes "best")) ∷ any_number ∷ any_numbers ∷ []
 
--- the test for the tuple of a best permutation
+-- the test for the tuple of an incumbent
 abbrev pub is_best : List FieldValue → Bool
 is_best tuple = does_match best_template tuple
 

@@ -1,4 +1,4 @@
--- The tuples that a search tree is kept as: one for each of its nodes that isn't cut, and one for the best permutation found.
+-- The tuples as which a search tree is stored: one for each of its nodes that is not pruned, and one for the incumbent.
 use Rattle.std.specs.Prelude.{ℕ, ◌+◌, Bool, List, [], ◌∷◌, ◌++◌, map, codes, ℤ, pos, Option, Some, None}
 use Rattle.std.specs.List.{count_by}
 use Rattle.qap_cost.specs.Placement.{Placement}
@@ -11,11 +11,11 @@ use Rattle.tuple_match.specs.Matching.{does_match}
 use Rattle.tuple_match.specs.PatternValue.{PatternValue, actual, any_numbers}
 use Rattle.qap_search.specs.Law.SearchTree.{SearchTree, open_node, split_node, closed_node, cut_node, mirrored_node, SearchTrees, no_trees, tree}
 
--- a node as a list: the facilities that are placed and their locations alternately, in the order of placing
+-- a node as a list: the placed facilities and their locations alternately, in the order of placement
 abbrev pub node_list : Placement → List ℤ
 node_list x = by_turns x.facilities x.places
 
--- x is still to be worked on
+-- x remains to be decided
 abbrev pub node_tuple : Placement → List FieldValue
 node_tuple x = word (codes "node") ∷ numbers (node_list x) ∷ []
 
@@ -23,36 +23,36 @@ node_tuple x = word (codes "node") ∷ numbers (node_list x) ∷ []
 abbrev pub split_tuple : Placement → ℕ → List FieldValue
 split_tuple x f = word (codes "split") ∷ numbers (node_list x) ∷ number (pos f) ∷ []
 
--- the word for the side that a node is split on
+-- the word for the side on which a node is split
 abbrev pub side_word : Side → List ℕ
 side_word Facility = codes "facility"
 side_word Location = codes "location"
 
--- x is split so, with these duals; of each child a 1 says that they cut it off, and else stands a 0
+-- x is split so, with these duals; for each child a 1 means that they prune it, otherwise there is a 0
 abbrev pub pruned_tuple : Placement → Split → Pair → List ℤ → List FieldValue
 pruned_tuple x s d cuts =
     word (codes "pruned") ∷ numbers (node_list x) ∷ word (side_word s.side) ∷ number (pos s.number) ∷ numbers d.u ∷ numbers d.v ∷ numbers cuts ∷ []
 
--- x is the image of the earlier child of this number under a permutation
+-- x is symmetric to the earlier child of this number under a permutation
 abbrev pub mirrored_tuple : Placement → ℕ → List ℕ → List FieldValue
 mirrored_tuple x j m = word (codes "mirrored") ∷ numbers (node_list x) ∷ number (pos j) ∷ numbers (map pos m) ∷ []
 
--- 1 for a child that is cut off, 0 for any other
+-- 1 for a pruned child, 0 for any other
 abbrev pub cut_number : SearchTree → ℤ
 cut_number cut_node = pos 1
 cut_number _ = pos 0
 
--- the same for each child of a split
+-- likewise for each child of a split
 abbrev pub cut_numbers : SearchTrees → List ℤ
 cut_numbers no_trees = []
 cut_numbers (tree t rest) = cut_number t ∷ cut_numbers rest
 
--- the tuple of a split, by the duals that it says, and by which children they cut off
+-- the tuple of a split, from the duals that it states, and the children that they prune
 abbrev pub split_cutting : Placement → Split → Option Pair → List ℤ → List FieldValue
 split_cutting x s None cuts = split_tuple x s.number
 split_cutting x s (Some d) cuts = pruned_tuple x s d cuts
 
--- the same, by the split's children
+-- the same, from the split's children
 abbrev pub split_said : Placement → Split → Option Pair → SearchTrees → List FieldValue
 split_said x s d children = split_cutting x s d (cut_numbers children)
 
@@ -60,7 +60,7 @@ split_said x s d children = split_cutting x s d (cut_numbers children)
 abbrev pub closed_tuple : Placement → List ℤ → List ℤ → List FieldValue
 closed_tuple x u v = word (codes "closed") ∷ numbers (node_list x) ∷ numbers u ∷ numbers v ∷ []
 
--- the best permutation found, and its cost
+-- the incumbent, and its cost
 abbrev pub best_tuple : ℤ → List ℕ → List FieldValue
 best_tuple c p = word (codes "best") ∷ number c ∷ numbers (map pos p) ∷ []
 

@@ -1,4 +1,4 @@
--- What a worker's transaction holds once the best permutation was found, and what is written then.
+-- What a worker's transaction holds once the incumbent was found, and what is written then.
 use Rattle.std.specs.Prelude.{◌≡◌, ◌≢◌, ◌==◌, ℕ, Bool, true, List, [], ◌∷◌, ◌++◌, find, length, ℤ, ◌<ℤ◌, Option, Some, None, Result, Ok, Err, IsErr}
 use Rattle.std.specs.declared.alloc.AllocError.{AllocError}
 use Rattle.qap_cost.specs.Bijection.{IsPerm}
@@ -22,7 +22,7 @@ use Rattle.qap_search.specs.Worker.Turn.{HasMarksOf, IsStanding, IsWritten, Told
 use Rattle.qap_search.specs.declared.worker.stage.Stage.{Stage}
 use Rattle.qap_search.specs.declared.worker.stage.Stage.TheVariants.{Ready, GivingUp}
 
--- the transaction has marked this entry, whose tuple is that of a best permutation and there to stay
+-- the transaction has marked this entry, whose tuple is that of an incumbent and permanent
 pub record IsBestAt (number : ℕ) (t : TxnValue) (best : Best) : Type 0 where
   pub mark : Mark
   pub here : find (λ m. m.entry == number) t.marks ≡ Some mark
@@ -30,12 +30,12 @@ pub record IsBestAt (number : ℕ) (t : TxnValue) (best : Best) : Type 0 where
   pub is : mark.tuple ≡ tuple_of best
   pub permutation : IsPerm best.permutation
 
--- where it has marked this entry, its tuple has a lease that ends or isn't that of a best permutation
+-- if it has marked this entry, its tuple has a lease that ends or is not that of an incumbent
 abbrev pub HasNoBest : ℕ → TxnValue → Type 0
 HasNoBest number t =
     (mark : Mark) → find (λ m. m.entry == number) t.marks ≡ Some mark → mark.permanent ≡ true → (c : ℤ) (ps : List ℤ) → mark.tuple ≢ best_of c ps
 
--- it has marked this entry, whose tuple says this cost of a best permutation and is there to stay
+-- it has marked this entry, whose tuple states this cost of an incumbent and is permanent
 pub record HasBestCost (number : ℕ) (t : TxnValue) (cost : ℤ) : Type 0 where
   pub mark : Mark
   pub here : find (λ m. m.entry == number) t.marks ≡ Some mark
@@ -43,7 +43,7 @@ pub record HasBestCost (number : ℕ) (t : TxnValue) (cost : ℤ) : Type 0 where
   pub locations : List ℤ
   pub is : mark.tuple ≡ best_of cost locations
 
--- it took the tuple of the open node x, which was there to stay, and took or read this other entry
+-- it took the tuple of the open node x, which was permanent, and took or read this other entry
 pub record HasBestMark (I : Problem) (taking : Bool) (x : Placement) (number : ℕ) (t : TxnValue) : Type 0 where
   pub node : Mark
   pub best : Mark
@@ -57,7 +57,7 @@ pub record HasBestMark (I : Problem) (taking : Bool) (x : Placement) (number : �
   pub taken : best.taken ≡ taking
   pub best_is : best.permanent ≡ true → IsBestFound I best.tuple
 
--- what is known of it after the call that looks for the best permutation
+-- what is known about it after the call that looks for the incumbent
 abbrev pub IsFoundBest : Problem → Bool → Placement → Answer → TxnValue → Type 0
 IsFoundBest I taking x (found (Stored number)) t = HasBestMark I taking x number t
 IsFoundBest I taking x (found (Own place)) t = Unit {0}
@@ -65,7 +65,7 @@ IsFoundBest I taking x nothing t = Unit {0}
 IsFoundBest I taking x (refused error) t = HasNode x t
 IsFoundBest I taking x done t = Unit {0}
 
--- what the best permutation leads to has been written, and the one that stands then costs so much
+-- the consequences of the incumbent have been written, and the new incumbent has this cost
 pub record WritesAll (cutting taking : Bool) (I : Problem) (last : ThoughtValue) (best : Best) (t t' : TxnValue) (cost : ℤ) : Type 0 where
   pub standing : Best
   pub stands : IsStanding taking last.candidate best standing
@@ -75,7 +75,7 @@ pub record WritesAll (cutting taking : Bool) (I : Problem) (last : ThoughtValue)
   pub same : HasMarksOf t t'
   pub added : SameItems (added_of t'.writes) (added_of t.writes ++ tuples)
 
--- nothing can be written: no facility is free to split on, and the node isn't closed
+-- nothing can be written: no facility is free to split on, and the node is not closed
 pub record WritesNothing (taking : Bool) (last : ThoughtValue) (best : Best) (t t' : TxnValue) : Type 0 where
   pub standing : Best
   pub stands : IsStanding taking last.candidate best standing
@@ -83,13 +83,13 @@ pub record WritesNothing (taking : Bool) (last : ThoughtValue) (best : Best) (t 
   pub below : last.value <ℤ standing.cost
   pub same : t' ≡ t
 
--- what writing results in: all is written; nothing can be written; or memory is lacking, and only the writes may differ
+-- the outcomes of writing: all is written; nothing can be written; or memory ran out, and only the writes may differ
 abbrev pub Writes : Bool → Bool → Problem → ThoughtValue → Best → TxnValue → TxnValue → Result (Option ℤ) AllocError → Type 0
 Writes cutting taking I last best t t' (Ok (Some cost)) = WritesAll cutting taking I last best t t' cost
 Writes cutting taking I last best t t' (Ok None) = WritesNothing taking last best t t'
 Writes cutting taking I last best t t' (Err error) = HasMarksOf t t'
 
--- where a worker stands after that
+-- the state of a worker after that
 abbrev pub AfterWrites : Result (Option ℤ) AllocError → TxnValue → Told → Stage → Type 0
 AfterWrites (Ok (Some cost)) t told stage = (told ≡ Ok true) × (stage ≡ Ready t cost)
 AfterWrites (Ok None) t told stage = (told ≡ Ok true) × (stage ≡ GivingUp t)

@@ -1,4 +1,4 @@
--- A worker's thought on the node that it took.
+-- A worker's evaluation of the node that it took.
 use Rattle.std.specs.Prelude.{◌≡◌, ◌==◌, ℕ, Bool, true, false, find, Option, Some, None, IfSome, Result, Ok, Err}
 use Rattle.std.specs.declared.alloc.AllocError.{AllocError}
 use Rattle.qap_cost.specs.Instance.{Problem}
@@ -12,7 +12,7 @@ use Rattle.qap_search.specs.declared.worker.stage.LastThought.{LastThought}
 use Rattle.qap_search.specs.declared.worker.stage.Stage.{Stage}
 use Rattle.qap_search.specs.declared.worker.stage.Stage.TheVariants.{Taken, Considered, GivingUp}
 
--- the transaction has marked this entry, whose tuple is that of the open node x of size n and there to stay
+-- the transaction has marked this entry, whose tuple is that of the open node x of size n and permanent
 pub record IsNodeAt (n number : ℕ) (t : TxnValue) (x : Placement) : Type 0 where
   pub mark : Mark
   pub here : find (λ m. m.entry == number) t.marks ≡ Some mark
@@ -21,16 +21,16 @@ pub record IsNodeAt (n number : ℕ) (t : TxnValue) (x : Placement) : Type 0 whe
   pub placement : IsPlacement x
   pub size : x.size ≡ n
 
--- where it has marked this entry, its tuple has a lease that ends or isn't that of an open node of size n
+-- if it has marked this entry, its tuple has a lease that ends or is not that of an open node of size n
 abbrev pub HasNoNode : ℕ → ℕ → TxnValue → Type 0
 HasNoNode n number t = (mark : Mark) → find (λ m. m.entry == number) t.marks ≡ Some mark → mark.permanent ≡ true → IsOpenNode n mark.tuple → ⊥
 
--- the last thought is on x
+-- the last evaluation is of x
 abbrev pub IsOnNode : Option LastThought → Placement → Type 0
 IsOnNode None x = ⊥
 IsOnNode (Some l) x = l.node ≡ x
 
--- x has been thought on; where the last thought was on it, that is kept
+-- x has been evaluated; if the last evaluation was of x, it is kept
 pub record IsThoughtOn (cutting : Bool) (I : Problem) (x : Placement) (old new : Option LastThought) : Type 0 where
   pub last : LastThought
   pub is : new ≡ Some last
@@ -38,14 +38,14 @@ pub record IsThoughtOn (cutting : Bool) (I : Problem) (x : Placement) (old new :
   pub right : IfSome old (IsLastThought cutting I) → IsLastThought cutting I last
   pub kept : (before : LastThought) → old ≡ Some before → before.node ≡ x → before ≡ last
 
--- what came of a thought that was due: whether the node was thought on
+-- the outcome of an evaluation that was due: whether the node was evaluated
 abbrev pub Considers : Bool → Problem → Stage → Option LastThought → Result Bool AllocError → Option LastThought → Type 0
 Considers cutting I (Taken t number) old (Ok true) new = (x : Placement) × IsNodeAt I.size number t x × IsThoughtOn cutting I x old new
 Considers cutting I (Taken t number) old (Ok false) new = HasNoNode I.size number t × (new ≡ old)
 Considers cutting I stage old (Err error) new = new ≡ old
 Considers cutting I stage old told new = Unit {0}
 
--- where a worker stands after a thought that was due: by whether the node was thought on
+-- the state of a worker after an evaluation that was due: by whether the node was evaluated
 abbrev pub stage_after : Bool → TxnValue → Stage
 stage_after true t = Considered t
 stage_after false t = GivingUp t

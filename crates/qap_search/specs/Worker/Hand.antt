@@ -1,4 +1,4 @@
--- What callers know of a worker of the search: where it stands in its turn, what it thought on last, and what it counted.
+-- What callers know about a worker of the search: its stage, its last evaluation, and its counts.
 use Rattle.std.specs.Prelude.{ℕ, Bool, true, false, ℤ, int_lt, Option, Some, None}
 use Rattle.qap_cost.specs.Instance.{Problem}
 use Rattle.qap_search.specs.Node.Thought.{ThoughtValue, thought_on}
@@ -11,12 +11,12 @@ use Rattle.qap_search.specs.declared.worker.stage.Stage.{Stage}
 use Rattle.qap_search.specs.declared.worker.stage.Stage.TheVariants.{Idle, Begun, Taken, Considered, Ready, GivingUp}
 use Rattle.qap_search.specs.declared.worker.stage.Tally.{Tally}
 
--- whether a search that splits nodes by this rule may cut children off
+-- whether a search with this branching rule may prune children
 abbrev pub cuts : Branching → Bool
 cuts Cutting = true
 cuts _ = false
 
--- cutting says whether the worker may cut children off; best is the cost of the best permutation that it knows of
+-- `cutting` says whether the worker may prune children; `best` is the cost of the incumbent that it knows of
 pub record HandValue : Type 0 where
   pub cutting : Bool
   pub instance : Problem
@@ -27,30 +27,30 @@ pub record HandValue : Type 0 where
   pub accepted : ℕ
   pub refused : ℕ
 
--- the node that was thought on last, with what was worked out about it
+-- the node that was evaluated last, with its evaluation
 abbrev pub thought_of : LastThought → ThoughtValue
 thought_of l = thought_on l.node l.thought
 
--- the same, if any node was thought on
+-- likewise, if any node was evaluated
 abbrev pub last_of : Option LastThought → Option ThoughtValue
 last_of None = None
 last_of (Some l) = Some (thought_of l)
 
--- a worker, by the parts that the code keeps of it
+-- a worker, from the parts that the code stores
 abbrev pub hand_of : Bool → Problem → ℕ → Option ThoughtValue → Stage → Tally → HandValue
 hand_of cutting I lease last stage tally =
     record { cutting = cutting; instance = I; lease = lease; last = last; stage = stage; best = tally.best; accepted = tally.accepted; refused = tally.refused }
 
--- a worker who has done nothing yet
+-- a new worker
 abbrev pub new_hand : Bool → Problem → ℕ → HandValue
 new_hand cutting I lease = record { cutting = cutting; instance = I; lease = lease; last = None; stage = Idle; best = None; accepted = 0; refused = 0 }
 
--- a thought is due: an open node's entry was taken
+-- an evaluation is due: an open node's entry was taken
 abbrev pub is_due : Stage → Bool
 is_due (Taken t number) = true
 is_due _ = false
 
--- where a worker stands that gives up the node at hand: its transaction, if it has one, is to be aborted
+-- the state of a worker that gives up its current node: its transaction, if it has one, must be aborted
 abbrev pub given_up : Stage → Stage
 given_up Idle = Idle
 given_up (Begun t) = GivingUp t
@@ -59,13 +59,13 @@ given_up (Considered t) = GivingUp t
 given_up (Ready t cost) = GivingUp t
 given_up (GivingUp t) = GivingUp t
 
--- no cost of a best permutation is known, or the candidate of the last thought costs less than that
+-- no cost of an incumbent is known, or the candidate of the last evaluation costs less than that
 abbrev pub is_hopeful : Option ℤ → Option ThoughtValue → Bool
 is_hopeful None last = true
 is_hopeful (Some best) None = false
 is_hopeful (Some best) (Some last) = int_lt last.candidate.cost best
 
--- the kind of the coming step, where no thought is due
+-- the kind of the next step, if no evaluation is due
 abbrev pub kind_at : Stage → Bool → Kind
 kind_at Idle hopeful = kinds.Begin
 kind_at (Begun t) hopeful = kinds.TakeNode
@@ -75,6 +75,6 @@ kind_at (Considered t) false = kinds.ReadBest
 kind_at (Ready t cost) hopeful = kinds.Commit
 kind_at (GivingUp t) hopeful = kinds.Abort
 
--- the kind of a worker's coming step, where no thought is due
+-- the kind of a worker's next step, if no evaluation is due
 abbrev pub kind_of : HandValue → Kind
 kind_of h = kind_at h.stage (is_hopeful h.best h.last)

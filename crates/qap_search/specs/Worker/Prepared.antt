@@ -1,4 +1,4 @@
--- What a worker has worked out to write before it has read what the best permutation costs.
+-- A worker's writes, prepared before it has read the incumbent's cost.
 use Rattle.std.specs.Prelude.{Bool, List, ℤ, IfSome, Option}
 use Rattle.qap_cost.specs.Instance.{Problem}
 use Rattle.space_txn.specs.Content.{SameItems, added_of}
@@ -10,16 +10,16 @@ use Rattle.qap_search.specs.Node.Thought.{ThoughtValue}
 use Rattle.qap_search.specs.declared.worker.prepared.Prepared.{Prepared}
 use Rattle.qap_search.specs.declared.worker.stage.LastThought.{LastThought}
 
--- the writes are those of what the thought makes of its node where the best permutation costs c
+-- the writes are those of the decision on the evaluated node if the incumbent costs c
 pub record AreWritesFor (cutting : Bool) (I : Problem) (last : ThoughtValue) (writes : List Write) (c : ℤ) : Type 0 where
   pub tuples : List (List FieldValue)
   pub written : DecidesBy cutting I c last tuples
   pub added : SameItems (added_of writes) tuples
 
--- what has been worked out is that, for the cost that it is for, if any
+-- what has been prepared is that, for the cost for which it was prepared, if any
 abbrev pub IsPrepared : Bool → Problem → ThoughtValue → Prepared → Type 0
 IsPrepared cutting I last p = IfSome p.cost (AreWritesFor cutting I last p.writes)
 
--- a worker has worked that out of its last thought
+-- a worker has prepared that from its last evaluation
 abbrev pub HasPrepared : Bool → Problem → Option LastThought → Prepared → Type 0
 HasPrepared cutting I last p = IfSome last (λ l. IsPrepared cutting I (thought_of l) p)

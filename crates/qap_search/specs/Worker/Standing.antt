@@ -1,4 +1,4 @@
--- What a worker's transaction holds, by where it stands in its turn.
+-- What a worker's transaction holds at each stage of its turn.
 use Rattle.std.specs.Prelude.{◌≡◌, ℕ, Bool, true, [], ◌∷◌, Option, Some, None, IfSome}
 use Rattle.qap_cost.specs.Instance.{Problem, IsInstance}
 use Rattle.qap_cost.specs.Placement.{Placement, IsPlacement}
@@ -20,7 +20,7 @@ use Rattle.qap_search.specs.declared.worker.stage.Stage.{Stage}
 use Rattle.qap_search.specs.declared.worker.stage.Tools.{Tools}
 use Rattle.qap_search.specs.declared.worker.stage.Stage.TheVariants.{Idle, Begun, Taken, Considered, Ready, GivingUp}
 
--- it took this entry and no other, whose tuple is an open node's where it is there to stay
+-- it took exactly this entry, whose tuple is an open node's if it is permanent
 pub record HasTaken (I : Problem) (t : TxnValue) (number : ℕ) : Type 0 where
   pub mark : Mark
   pub marks : t.marks ≡ mark ∷ []
@@ -29,7 +29,7 @@ pub record HasTaken (I : Problem) (t : TxnValue) (number : ℕ) : Type 0 where
   pub taken : mark.taken ≡ true
   pub node : mark.permanent ≡ true → IsOpenNode I.size mark.tuple
 
--- what is known of it after the call that takes an open node's entry
+-- what is known about it after the call that takes an open node's entry
 abbrev pub IsFoundNode : Problem → Answer → TxnValue → Type 0
 IsFoundNode I (found (Stored number)) t = HasTaken I t number
 IsFoundNode I (found (Own place)) t = Unit {0}
@@ -37,7 +37,7 @@ IsFoundNode I nothing t = Unit {0}
 IsFoundNode I (refused error) t = (t.marks ≡ []) × (t.writes ≡ [])
 IsFoundNode I done t = Unit {0}
 
--- it took the tuple of the open node x, which was there to stay, and nothing else
+-- it took the tuple of the open node x, which was permanent, and nothing else
 pub record HasNode (x : Placement) (t : TxnValue) : Type 0 where
   pub mark : Mark
   pub marks : t.marks ≡ mark ∷ []
@@ -46,7 +46,7 @@ pub record HasNode (x : Placement) (t : TxnValue) : Type 0 where
   pub permanent : mark.permanent ≡ true
   pub is : mark.tuple ≡ node_tuple x
 
--- what holds of the transaction at each stage of a turn
+-- what holds for the transaction at each stage of a turn
 abbrev pub IsStage : Bool → Problem → Option ThoughtValue → Stage → Type 0
 IsStage cutting I last Idle = Unit {0}
 IsStage cutting I last (Begun t) = (t.marks ≡ []) × (t.writes ≡ [])
@@ -56,13 +56,13 @@ IsStage cutting I (Some last) (Considered t) = HasNode last.node t
 IsStage cutting I last (Ready t cost) = MayCommit (MayReplace cutting I) t
 IsStage cutting I last (GivingUp t) = Unit {0}
 
--- what was thought is right
+-- the evaluation is correct
 pub record IsLastThought (cutting : Bool) (I : Problem) (l : LastThought) : Type 0 where
   pub placement : IsPlacement l.node
   pub size : l.node.size ≡ I.size
   pub thought : IsThought cutting I l.node l.thought
 
--- what holds of every worker
+-- what holds for every worker
 pub record IsHand (I : Problem) (tools : Tools) (last : Option LastThought) (stage : Stage) : Type 0 where
   pub node : tools.node ≡ node_template
   pub best : tools.best ≡ best_template
@@ -74,12 +74,12 @@ pub record IsHand (I : Problem) (tools : Tools) (last : Option LastThought) (sta
 abbrev pub IsSearchHand : (Content → ℕ → Type 0) → (Content → Content → Content → Type 0) → Tools → Option LastThought → Stage → Type 0
 IsSearchHand lawful allowed tools last stage = (I : Problem) × IsHand I tools last stage × IsSearchLaw (cuts tools.branching) I lawful allowed
 
--- what holds of each node that a worker has at hand
+-- what holds for each node on which a worker is working
 pub record IsJob (I : Problem) (tools : Tools) (j : Job) : Type 0 where
   pub hand : IsHand I tools j.last j.stage
   pub prepared : HasPrepared (cuts tools.branching) I j.last j.prepared
 
--- a worker has no node there yet
+-- a worker has no node yet
 pub record IsIdle (j : Job) : Type 0 where
   pub stage : j.stage ≡ Idle
   pub last : j.last ≡ None

@@ -1,4 +1,4 @@
--- What a worker's thought leaves.
+-- The outcome of a worker's evaluation.
 use Rattle.std.specs.Prelude.{◌≡◌, ◌⊎◌, ◌==◌, ℕ, Bool, true, false, find, Some}
 use Rattle.qap_cost.specs.Instance.{Problem}
 use Rattle.space_txn.specs.Txn.{TxnValue}
@@ -9,13 +9,13 @@ use Rattle.qap_search.specs.Node.Thought.{IsThought, ThoughtValue, thought_on}
 use Rattle.qap_search.specs.declared.worker.stage.Stage.TheVariants.{Taken, Considered, GivingUp}
 use Rattle.qap_search.specs.declared.node.thought.Thought.{Thought}
 
--- the value is that of a thought on the node
+-- the value is that of an evaluation of the node
 pub record IsWorkedOut (cutting : Bool) (I : Problem) (v : ThoughtValue) : Type 0 where
   pub thought : Thought
   pub right : IsThought cutting I v.node thought
   pub told : v ≡ thought_on v.node thought
 
--- the node of the entry that was taken, which is there to stay, has been thought on; what was thought on it last is kept
+-- the node of the entry that was taken, which is permanent, has been evaluated; its last evaluation is kept
 pub record IsConsidered (old new : HandValue) (t : TxnValue) (mark : Mark) : Type 0 where
   pub permanent : mark.permanent ≡ true
   pub last : ThoughtValue
@@ -29,7 +29,7 @@ pub record IsLeased (old new : HandValue) (t : TxnValue) (mark : Mark) : Type 0 
   pub leased : mark.permanent ≡ false
   pub leaves : new ≡ record old { stage = GivingUp t }
 
--- a thought on the entry that was taken: its node is thought on, or its lease ends and it is given up
+-- an evaluation of the entry that was taken: its node is evaluated, or its lease ends and it is given up
 pub record Thinks (old new : HandValue) : Type 0 where
   pub t : TxnValue
   pub number : ℕ

@@ -1,4 +1,4 @@
--- A worker's step: one call on the room, and where the worker stands after each reply.
+-- A worker's step: one call on the room, and the worker's state after each reply.
 use Rattle.std.specs.Prelude.{◌≡◌, ◌⊎◌, ℕ, ◌+◌, ◌-◌, ◌^◌, min, ◌==◌, Bool, true, false, List, find, length, ℤ, ◌<ℤ◌, Some, Result, Ok, Err, IsErr}
 use Rattle.std.specs.declared.alloc.AllocError.{AllocError}
 use Rattle.space_txn.specs.Content.{SameItems, added_of}
@@ -22,19 +22,19 @@ use Rattle.qap_search.specs.Node.Thought.{ThoughtValue}
 use Rattle.qap_search.specs.declared.worker.stage.Stage.{Stage}
 use Rattle.qap_search.specs.declared.worker.stage.Stage.TheVariants.{Idle, Begun, Taken, Considered, Ready, GivingUp}
 
--- what a step reports: whether it met no refusal, or that there was no memory
+-- the report of a step: whether it met no refusal, or memory ran out
 abbrev pub Told : Type 0
 Told = Result Bool AllocError
 
--- what a commit yields; a transaction that is refused it comes back
+-- the result of a commit; a transaction that is refused it is returned
 abbrev pub Committed : Type 0
 Committed = Result (Unit {0}) (CommitError × TxnValue)
 
--- the worker stands elsewhere, and is else as it was
+-- the worker's stage changes, and nothing else
 abbrev pub moved : HandValue → Stage → HandValue
 moved h stage = record h { stage = stage }
 
--- Where its transaction has ended, a worker is idle; after another refusal it stands where it stood, and its next turn tries
+-- If its transaction has ended, a worker is idle; after another refusal its stage is unchanged, and its next turn retries
 -- the same step.
 abbrev pub AfterRefusal : HandValue → Stage → TxnError → Told → HandValue → Type 0
 AfterRefusal old stage Expired told new = (told ≡ Ok false) × (new ≡ moved old Idle)
@@ -55,13 +55,13 @@ AfterNode old nothing t told new = (told ≡ Ok true) × (new ≡ moved old (Giv
 AfterNode old (refused error) t told new = AfterRefusal old (Begun t) error told new
 AfterNode old done t told new = ⊥
 
--- of the candidate and the best permutation that was found, the one that stands after the commit: where the best was taken, the
--- candidate where it costs less, and else what was found
+-- of the candidate and the incumbent that was found, the incumbent after the commit: if it was taken, the
+-- candidate if it costs less, otherwise what was found
 abbrev pub IsStanding : Bool → Best → Best → Best → Type 0
 IsStanding true candidate best standing = IsBetterOf candidate best standing
 IsStanding false candidate best standing = standing ≡ best
 
--- what is written: what the thought makes of its node, and where the best was taken the one that stands then
+-- what is written: the decision on the evaluated node, and if the incumbent was taken the new one
 abbrev pub IsWritten : Bool → Bool → Problem → Best → ThoughtValue → List (List FieldValue) → Type 0
 IsWritten cutting true I standing last tuples = DecidesBeside cutting I standing.cost standing.permutation last tuples
 IsWritten cutting false I standing last tuples = DecidesBy cutting I standing.cost last tuples
@@ -71,7 +71,7 @@ pub record HasMarksOf (t t' : TxnValue) : Type 0 where
   pub number : t'.number ≡ t.number
   pub marks : t'.marks ≡ t.marks
 
--- The best permutation was found, and its cost is remembered; the writes that it leads to are ready.
+-- The incumbent was found, and its cost is remembered; the writes that follow from it are ready.
 pub record IsReady (cutting taking : Bool) (I : Problem) (last : ThoughtValue) (best : Best) (t : TxnValue) (stage : Stage) : Type 0 where
   pub standing : Best
   pub stands : IsStanding taking last.candidate best standing
@@ -82,7 +82,7 @@ pub record IsReady (cutting taking : Bool) (I : Problem) (last : ThoughtValue) (
   pub added : SameItems (added_of with_writes.writes) tuples
   pub is : stage ≡ Ready with_writes standing.cost
 
--- Nothing can be written: no facility is free to split on, and the node isn't closed.
+-- Nothing can be written: no facility is free to split on, and the node is not closed.
 pub record IsStuck (taking : Bool) (last : ThoughtValue) (best : Best) (t : TxnValue) (stage : Stage) : Type 0 where
   pub standing : Best
   pub stands : IsStanding taking last.candidate best standing
@@ -90,13 +90,13 @@ pub record IsStuck (taking : Bool) (last : ThoughtValue) (best : Best) (t : TxnV
   pub below : last.value <ℤ standing.cost
   pub is : stage ≡ GivingUp t
 
--- There is no memory for the writes.
+-- Memory ran out for the writes.
 pub record IsShort (t : TxnValue) (stage : Stage) : Type 0 where
   pub with_writes : TxnValue
   pub same : HasMarksOf t with_writes
   pub is : stage ≡ GivingUp with_writes
 
--- the tuple of the best permutation was found, and it is there to stay
+-- the tuple of the incumbent was found, and it is permanent
 pub record HasBest (taking : Bool) (old : HandValue) (number : ℕ) (t : TxnValue) (told : Told) (new : HandValue) : Type 0 where
   pub last : ThoughtValue
   pub thought : old.last ≡ Some last
@@ -114,7 +114,7 @@ pub record HasLeased (old : HandValue) (number : ℕ) (t : TxnValue) (told : Tol
   pub tells : told ≡ Ok true
   pub leaves : new ≡ moved old (GivingUp t)
 
--- after the call that looks for the best permutation: by it the writes are made, or the node is given up, or the call
+-- after the call that looks for the incumbent: the writes are made from it, or the node is given up, or the call
 -- was refused
 abbrev pub AfterBest : Bool → HandValue → Answer → TxnValue → Told → HandValue → Type 0
 AfterBest taking old (found (Stored number)) t told new = HasBest taking old number t told new ⊎ HasLeased old number t told new
@@ -123,17 +123,17 @@ AfterBest taking old nothing t told new = (told ≡ Ok true) × (new ≡ moved o
 AfterBest taking old (refused error) t told new = AfterRefusal old (Considered t) error told new
 AfterBest taking old done t told new = ⊥
 
--- one more, as far as 64 bits count
+-- one more, saturating at 64 bits
 abbrev pub one_more : ℕ → ℕ
 one_more n = min (n + 1) (2 ^ 64 - 1)
 
--- Where the limit of commits is reached, the transaction is given up; a commit that came too late is counted.
+-- If the limit of commits is reached, the transaction is given up; a commit that came too late is counted.
 abbrev pub AfterNoCommit : HandValue → TxnValue → ℤ → CommitError → Told → HandValue → Type 0
 AfterNoCommit old t cost Limit told new = (told ≡ Ok false) × (new ≡ moved old (GivingUp t))
 AfterNoCommit old t cost (Txn Expired) told new = (told ≡ Ok false) × (new ≡ record old { stage = Idle; refused = one_more old.refused })
 AfterNoCommit old t cost (Txn error) told new = AfterRefusal old (Ready t cost) error told new
 
--- after a commit: it was accepted and is counted, and what the best permutation costs is remembered; or it was not
+-- after a commit: it was accepted and is counted, and the incumbent's cost is remembered; or it was not
 -- accepted
 abbrev pub AfterCommit : HandValue → TxnValue → ℤ → Committed → Told → HandValue → Type 0
 AfterCommit old t cost (Ok _) told new =
@@ -146,12 +146,12 @@ AfterAbort old t done told new = (told ≡ Ok true) × (new ≡ moved old Idle)
 AfterAbort old t (refused error) told new = AfterRefusal old (GivingUp t) error told new
 AfterAbort old t _ told new = ⊥
 
--- the call by which the best permutation is looked for
+-- the call that looks for the incumbent
 abbrev pub best_call : Bool → Call
 best_call true = inp_in best_template
 best_call false = rdp_in best_template
 
--- A step of a worker that stands there: did says what a call on the room may do.
+-- A step of a worker in this state: `did` says what a call on the room may do.
 abbrev pub TurnAt : {R : Type 0} → (R → Event → Reply → R → Type 0) → HandValue → Stage → R → Told → HandValue → R → Type 0
 TurnAt did old Idle before told new after =
     (reply : Result TxnValue TxnError) × did before (begin old.lease) (begun reply) after × AfterBegin old reply told new
@@ -164,9 +164,9 @@ TurnAt did old (Ready t cost) before told new after =
     (committed : Committed) × did before (call t commit) (commit_reply t committed) after × AfterCommit old t cost committed told new
 TurnAt did old (GivingUp t) before told new after =
     (answer : Answer) × did before (call t abort) (answered answer t) after × AfterAbort old t answer told new
--- no step comes before the thought that is due
+-- no step comes before the evaluation that is due
 TurnAt did old (Taken t number) before told new after = ⊥
 
--- a step of a worker from the stage where it stands
+-- a step of a worker from its current stage
 abbrev pub Turn : {R : Type 0} → (R → Event → Reply → R → Type 0) → HandValue → R → Told → HandValue → R → Type 0
 Turn did old before told new after = TurnAt did old old.stage before told new after
