@@ -59,7 +59,7 @@ impl Assignment {
 
 /// An assignment of least cost, with duals that fit and whose sum is that cost.
 ///
-/// Takes time in m^3 for m rows. The only error is want of memory.
+/// Takes time O(m^3) for m rows. The only error is out of memory.
 pub fn solve(alloc: Global, matrix: &Matrix) -> Result<Assignment, AllocError>
     requires { AllWithin (10 ^ 21) matrix.now.entries }
     ensures assigns { IfOk result (λ a. Assigns matrix.now a.matching.items) }

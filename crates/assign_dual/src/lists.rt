@@ -37,7 +37,7 @@ impl TreeLists {
         })
     }
 
-    /// Makes them lists of this many columns, none of which has a row.
+    /// Resizes the lists for this many columns, none of which has a row.
     pub fn make_ready(&mut self, columns: usize) -> Result<(), AllocError>
         requires { columns ≤ 256 }
         ensures row_of { OnOk result (self.new.row_of.items ≡ replicate columns None) }

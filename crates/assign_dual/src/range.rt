@@ -8,7 +8,7 @@ use qap_cost::Matrix;
 /// The greatest absolute value of an entry: 10^21.
 pub const MAX_MATRIX_ENTRY: u128 = 1_000_000_000_000_000_000_000;
 
-/// Whether every entry lies from -10^21 to 10^21.
+/// Whether every entry is from -10^21 to 10^21.
 pub fn is_in_range(matrix: &Matrix) -> bool
     ensures { IsTrue result ↔ AllWithin (10 ^ 21) matrix.now.entries }
 {

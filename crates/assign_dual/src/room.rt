@@ -29,8 +29,8 @@ pub struct Room<'a, N> {
 }
 
 impl<'a, N: Number> Room<'a, N> {
-    /// Room for as many columns as `row_of` has, of one list of indices and one of zeros, each in the place of several, since
-    /// memory is dear for small matrices.
+    /// Lists for as many columns as `row_of` has: one list of indices and one of zeros, each in place of several, since
+    /// allocations are costly for small matrices.
     pub fn new(
         row_of: &'a mut [Option<usize>],
         indices: &'a mut [usize],

@@ -15,8 +15,8 @@ use std::marker::Model;
 /// The greatest absolute value of entries that are sought in 64 bits: 10^18, of which eight fit.
 const MAX_NARROW: u128 = 1_000_000_000_000_000_000;
 
-/// Lists in which least assignments are sought, kept from one to the next; its answers don't depend on what was asked before. It is
-/// seen as its room: for a matrix of at most this size it takes no memory.
+/// Lists for computing least assignments, kept from one to the next; answers do not depend on earlier calls. Contracts
+/// see its capacity: for a matrix of at most this size it allocates nothing.
 #[derive(Drop)]
 pub struct Solver {
     room: usize,

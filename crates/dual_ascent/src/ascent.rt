@@ -16,11 +16,11 @@ use pair_duals::{PairDuals, fits};
 use qap_cost::{Instance, Partial};
 use std::alloc::{AllocError, Global};
 
-/// Pair duals of a node, which fit: those that this many rounds find, one at least, from those of the node itself or
-/// of a node that it extends.
+/// Pair duals of a node, which fit: those found by this many rounds, at least one, starting from those of the node
+/// itself or of an ancestor.
 ///
-/// Whatever `start` is, what is returned fits; it isn't looked at where its scale is another, or where a free facility
-/// or location of the node isn't among its own. The only error is want of memory.
+/// The result fits regardless of `start`, which is ignored if its scale differs, or if a free facility or location of
+/// the node is not among its own. The only error is out of memory.
 pub fn ascend(
     alloc: Global,
     instance: &Instance,

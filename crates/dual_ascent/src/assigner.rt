@@ -8,10 +8,9 @@ use std::alloc::{AllocError, Global};
 
 /// Finds duals of square matrices, in lists that it keeps from call to call.
 ///
-/// The duals of an `m` by `m` matrix are numbers `u` of its rows and `v` of its columns, whose sums `u[r] + v[c]` are
-/// no more than the entries, and which add up to the cost of a least assignment. What is found is advice, of which no
-/// clause says anything but that lists keep their lengths: sums wrap, and code that relies on duals has to establish
-/// that they fit.
+/// The duals of an `m` by `m` matrix are numbers `u` of its rows and `v` of its columns whose sums `u[r] + v[c]` are at
+/// most the entries, and which add up to the cost of a least assignment. The result is unverified: clauses state only
+/// that lists keep their lengths. Sums wrap, and code that relies on the duals has to establish that they fit.
 #[derive(Drop)]
 pub struct Assigner {
     matching: Matching,
@@ -35,9 +34,9 @@ impl Assigner {
         complete(matrix, &mut self.matching, &mut self.search, u, v, i64::MAX)
     }
 
-    /// The same from duals that `u` and `v` are already, and from a matching of which what isn't tight is parted: of
-    /// time `m^2` for each row that has no column then. Ends as soon as the duals add up to more than `enough`, where
-    /// they are duals, though of no least assignment. Leaves the matching that it has found; no memory is taken.
+    /// Likewise from given duals `u` and `v`, and from a matching whose pairs that are not tight are dropped, in time
+    /// `m^2` for each row left without a column. Ends as soon as the duals, which need not be those of a least
+    /// assignment, add up to more than `enough`. Leaves the matching that it has found; allocates nothing.
     pub fn solve_from(
         &mut self,
         matrix: &[i64],

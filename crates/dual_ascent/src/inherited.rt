@@ -6,7 +6,8 @@ use crate::state::State;
 use pair_duals::PairDuals;
 use std::alloc::{AllocError, Global};
 
-/// Makes the duals of a state those of the node above; leaves them where its numbers aren't those of a node above.
+/// Replaces the duals of a state by those of an ancestor; leaves them unchanged if the numbers are not those of an
+/// ancestor.
 pub fn inherit(
     alloc: Global,
     start: &PairDuals<i64>,

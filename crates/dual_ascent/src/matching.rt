@@ -13,7 +13,7 @@ pub struct Matching {
 }
 
 impl Matching {
-    /// Of at most `n` rows and columns, none of which has a partner.
+    /// An empty matching of at most `n` rows and columns.
     pub fn with_size(alloc: Global, n: usize) -> Result<Matching, AllocError> {
         let row_of = vec![in alloc; None; n]?;
         let column_of = vec![in alloc; None; n]?;

@@ -5,10 +5,10 @@ use crate::places::{at, first, index_of, put, row_of};
 use crate::rows::nearest;
 use std::alloc::{AllocError, Global};
 
-/// What is known of each column while a path is sought.
+/// What is known about each column while a path is searched.
 #[derive(Drop)]
 pub struct Search {
-    /// How far the column is; the greatest number there is where it is closed.
+    /// The distance of the column; the greatest possible number if it is closed.
     pub distances: Vec<i64>,
     /// The row from which it is reached.
     pub origins: Vec<usize>,
@@ -18,10 +18,10 @@ pub struct Search {
     pub lengths: Vec<i64>,
 }
 
-/// A path, or its beginning.
+/// A path, or a prefix of it.
 #[derive(Drop)]
 pub struct Path {
-    /// The column that is nearest of those that aren't closed.
+    /// The nearest column that is not closed.
     pub end: usize,
     /// How far it is.
     pub length: i64,

@@ -83,7 +83,7 @@ pub fn copy_with_zero(from: &[i64], k: usize, to: &mut [i64]) {
     }
 }
 
-/// Writes the numbers to places that begin at `start` and lie `step` apart.
+/// Writes the numbers to positions that begin at `start` and are `step` apart.
 pub fn scatter(from: &[i64], start: usize, step: usize, to: &mut [i64]) {
     let mut place = start;
     for number in from {
@@ -94,7 +94,7 @@ pub fn scatter(from: &[i64], start: usize, step: usize, to: &mut [i64]) {
     }
 }
 
-/// Adds the numbers to those at places that begin at `start` and lie `step` apart.
+/// Adds the numbers to those at positions that begin at `start` and are `step` apart.
 pub fn add_scattered(from: &[i64], start: usize, step: usize, to: &mut [i64]) {
     let mut place = start;
     for number in from {
@@ -105,7 +105,7 @@ pub fn add_scattered(from: &[i64], start: usize, step: usize, to: &mut [i64]) {
     }
 }
 
-/// Reads the numbers at places that begin at `start` and lie `step` apart.
+/// Reads the numbers at positions that begin at `start` and are `step` apart.
 pub fn gather(from: &[i64], start: usize, step: usize, to: &mut [i64]) {
     let mut place = start;
     for number in to.iter_mut() {

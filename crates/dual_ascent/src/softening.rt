@@ -13,7 +13,7 @@ use qap_cost::{Instance, Partial};
 use std::alloc::{AllocError, Global};
 use std::num::nearest_i64_to_f64;
 
-/// Moves the duals of a state by soft sweeps, after a hard round that says what the temperatures are parts of.
+/// Moves the duals of a state by soft sweeps, after a hard round that determines the scale of the temperatures.
 pub fn soften(
     alloc: Global,
     instance: &Instance,

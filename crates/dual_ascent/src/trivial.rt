@@ -12,8 +12,8 @@ use std::alloc::{AllocError, Global};
 /// The least that a product of two entries can be, scaled: -2^45.
 const LEAST_PRODUCT: i64 = -35_184_372_088_832;
 
-/// Pair duals of a node that fit whatever the instance: a pair is charged, for both of its products, the least that
-/// they can be.
+/// Pair duals of a node that fit regardless of the instance: a pair is charged, for both of its products, their least
+/// possible value.
 pub fn trivial(alloc: Global, node: &Partial, scale: u32) -> Result<PairDuals<i64>, AllocError>
     requires size { node.now.size ≤ 64 }
     requires positive { 0 < scale }

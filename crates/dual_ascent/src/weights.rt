@@ -23,7 +23,7 @@ pub fn row_of_mut(numbers: &mut [f64], n: usize, r: usize) -> &mut [f64] {
     }
 }
 
-/// The number at a place; 0 where there is none.
+/// The number at a position; 0 if there is none.
 pub fn at(numbers: &[f64], place: usize) -> f64 {
     match numbers.get(place) {
         Some(number) => *number,
@@ -38,7 +38,7 @@ pub fn put(numbers: &mut [f64], place: usize, number: f64) {
     }
 }
 
-/// Reads the numbers at places that begin at `start` and lie `step` apart.
+/// Reads the numbers at positions that begin at `start` and are `step` apart.
 pub fn gather(from: &[f64], start: usize, step: usize, to: &mut [f64]) {
     let mut place = start;
     for number in to.iter_mut() {
@@ -47,7 +47,7 @@ pub fn gather(from: &[f64], start: usize, step: usize, to: &mut [f64]) {
     }
 }
 
-/// Writes the numbers to places that begin at `start` and lie `step` apart.
+/// Writes the numbers to positions that begin at `start` and are `step` apart.
 pub fn scatter(from: &[f64], start: usize, step: usize, to: &mut [f64]) {
     let mut place = start;
     for number in from {
@@ -86,7 +86,7 @@ pub fn add_times(to: &mut [f64], factor: f64, xs: &[f64]) {
     }
 }
 
-/// The sum of the products of two rows: of each half by itself, so that two sums run side by side.
+/// The dot product of two rows, computed for each half separately so that the two sums run in parallel.
 pub fn dot(xs: &[f64], ys: &[f64]) -> f64 {
     if xs.len() != ys.len() {
         return 0.0;

@@ -13,7 +13,7 @@ pub fn node_bound_law()
     ensures { (I : Problem) (x : Placement) (M : Square) (u v : List ℤ) (p : List ℕ) → IsPlacement x → I.size ≡ x.size → IsReduced I x M → DualsFit M u v → Completes x p → (fixed_cost_of I x +ℤ dual_value u v) ≤ℤ cost_of I p }
 {}
 
-/// A node has one reduced matrix, so that whether duals fit it can be asked of any.
+/// A node has exactly one Gilmore-Lawler matrix, so the fit of duals does not depend on the choice of it.
 pub fn one_reduced_matrix_law()
     ensures { (I : Problem) (x : Placement) (M N : Square) → IsMatrix M → IsMatrix N → IsReduced I x M → IsReduced I x N → M ≡ N }
 {}

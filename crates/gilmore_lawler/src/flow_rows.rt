@@ -79,8 +79,8 @@ impl<'a> FlowRows<'a> {
         Ok(matrix)
     }
 
-    /// Whether `(u, v)` fits the reduced matrix of a node that places these facilities: as `fits` says it of the
-    /// matrix, which isn't made here.
+    /// Whether `(u, v)` fits the Gilmore-Lawler matrix of a node that places these facilities, as `fits` decides it for
+    /// the matrix, which is not built here.
     pub fn fits(
         &self,
         workspace: &mut Workspace,

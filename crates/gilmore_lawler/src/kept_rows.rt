@@ -13,10 +13,10 @@ use std::alloc::{AllocError, Global};
 use std::marker::Model;
 use std::sync::Arc;
 
-/// A share of a ranked instance, with for each depth the rows of the last node there: those of the flows serve the next one too
-/// where it places the same facilities, those of the distances where it takes the same locations. Of the latter those of its children
-/// are made, and those of a node's ancestors first where they aren't kept, so that its siblings find them in whichever order nodes
-/// come. It is seen as the instance, and its answers don't depend on what was asked before.
+/// A shared ranked instance, with the rows of the last node at each depth: those of the flows also serve the next node
+/// if it places the same facilities, those of the distances if it takes the same locations. From the latter those of
+/// its children are derived; those of a node's missing ancestors are computed first, so that its siblings find them in
+/// any order of nodes. Contracts see it as the instance, and its answers do not depend on earlier calls.
 #[derive(Drop)]
 pub struct KeptRows {
     ranked: Arc<RankedInstance>,
@@ -70,8 +70,9 @@ impl KeptRows {
         Ok(matrix)
     }
 
-    /// Makes the matrix the reduced one of the node, as the function `reduced` gives it for the instance, in the memory that it has
-    /// where that is enough. At an error it may be any matrix; the call can be made again.
+    /// Turns the matrix into the Gilmore-Lawler matrix of the node, as the function `reduced` returns it for the
+    /// instance, in the matrix's own memory if that suffices. After an error it may be any matrix; the call can be
+    /// repeated.
     pub fn reduce_into(&mut self, node: &Partial, matrix: &mut Matrix) -> Result<(), AllocError>
         requires { self.old.size ≡ node.now.size }
         ensures reduced { OnOk result (IsReduced self.old node.now matrix.new) }

@@ -12,8 +12,8 @@ use qap_cost::{Instance, Matrix, Partial};
 use std::alloc::{AllocError, Global};
 use std::marker::Model;
 
-/// A ranked instance with for each depth the rows of the last node there, as `KeptRows` has them: what a checker asks that goes
-/// along the nodes of a tree. It is seen as the instance, and its answers don't depend on what was asked before.
+/// A ranked instance with the rows of the last node at each depth, as in `KeptRows`, for a checker that walks along the
+/// nodes of a tree. Contracts see it as the instance, and its answers do not depend on earlier calls.
 #[derive(Drop)]
 pub struct NodeRows<'a> {
     ranked: &'a RankedInstance,
@@ -69,7 +69,8 @@ impl<'a> NodeRows<'a> {
         Ok(matrix)
     }
 
-    /// Whether `(u, v)` fits the reduced matrix of the node: as `fits` says it of the matrix, which isn't made here.
+    /// Whether `(u, v)` fits the Gilmore-Lawler matrix of the node, as `fits` decides it for the matrix, which is not
+    /// built here.
     pub fn fits(&mut self, node: &Partial, u: &[i128], v: &[i128]) -> Result<bool, AllocError>
         requires size { self.old.size ≡ node.now.size }
         requires u_count { length u.now ≡ node.now.size - length node.now.facilities }

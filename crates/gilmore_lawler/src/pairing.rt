@@ -8,11 +8,11 @@ ghost use Rattle.gilmore_lawler.specs.LeastProduct.{IsLeastProduct};
 use qap_cost::product;
 use std::alloc::{AllocError, Global};
 
-/// The least sum over all pairings of the numbers of `xs` with those of `ys` of the products of the pairs; 0 where
-/// the lists are empty.
+/// The least sum, over all pairings of the numbers of `xs` with those of `ys`, of the products of the pairs; 0 if the
+/// lists are empty.
 ///
-/// One list is paired ascending with the other descending, which is least whatever the signs (Hardy, Littlewood and
-/// Polya 1934).
+/// Pairing one list in ascending with the other in descending order attains it regardless of the signs (Hardy,
+/// Littlewood and Polya 1934).
 pub fn least_product(alloc: Global, xs: &[i64], ys: &[i64]) -> Result<i128, AllocError>
     requires same_length { length xs.now ≡ length ys.now }
     requires small { length xs.now ≤ 256 }

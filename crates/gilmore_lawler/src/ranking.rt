@@ -102,10 +102,10 @@ pub fn ranking_of<'a>(
     &rankings[start..start + n]
 }
 
-/// Writes the values of a row in order, but those in column `own` and in columns that aren't free, from this place on,
-/// and returns the place behind them. What stands behind that is of no meaning.
+/// Writes the values of a row in order, except those in column `own` and in columns that are not free, from this
+/// position on, and returns the position after them. What follows has no meaning.
 ///
-/// Each value is written, and the place behind it kept where it belongs there, so that no branch waits for the test.
+/// Each value is written, but the position only advances if it belongs there, so that no branch waits for the test.
 pub fn pick_others(
     row: &[Ranked],
     is_free: &[bool],

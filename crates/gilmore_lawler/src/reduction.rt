@@ -88,8 +88,8 @@ impl RankedInstance {
         Ok(matrix)
     }
 
-    /// Makes the matrix the reduced one of the node, as the function `reduced` gives it for the instance, in the memory that it and
-    /// the workspace have where that is enough. At an error it may be any matrix.
+    /// Turns the matrix into the Gilmore-Lawler matrix of the node, as the function `reduced` returns it for the
+    /// instance, in its own memory and the workspace's if these suffice. After an error it may be any matrix.
     pub fn reduce_into(
         &self,
         workspace: &mut Workspace,

@@ -18,9 +18,9 @@ use qap_cost::Partial;
 use std::alloc::AllocError;
 use std::marker::Model;
 
-/// The children of a node that put one facility at its free locations, which are judged without being made: the rows of the
-/// flows, which all have in common, the rows of the distances at the node itself, of which a child's are made, and what the node's
-/// placed facilities cost.
+/// Caches what the children of a split share; it checks a child's duals and computes its fixed cost without building
+/// the child. It has the rows of the flows, which all children share, the rows of the distances at the node itself,
+/// from which a child's are derived, and the cost of the node's placed facilities.
 #[derive(Drop)]
 pub struct SplitRows<'a> {
     ranked: &'a RankedInstance,
@@ -76,7 +76,8 @@ impl<'a> SplitRows<'a> {
         self.node.place(self.facility, location)
     }
 
-    /// Whether `(u, v)` fits the reduced matrix of the child at this location, as `fits` says it of the matrix.
+    /// Whether `(u, v)` fits the Gilmore-Lawler matrix of the child at this location, as `fits` decides it for the
+    /// matrix.
     pub fn fits(
         &self,
         workspace: &mut Workspace,

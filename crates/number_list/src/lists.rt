@@ -24,7 +24,7 @@ pub enum NumberList {
 }
 
 impl NumberList {
-    /// These numbers in as few bits as they need, or `AllocError` where they don't lie in place and there is no memory for them.
+    /// These numbers in as few bits as they need, or `AllocError` if they do not fit in place and memory ran out.
     pub fn of(alloc: Global, numbers: &[i128]) -> Result<NumberList, AllocError>
         ensures { IfOk result (λ list. numbers_held list ≡ numbers.now) }
     {
@@ -34,7 +34,7 @@ impl NumberList {
         }
     }
 
-    /// The numbers in fewer bits, where they fit and there is memory for them; else as they are.
+    /// The numbers in fewer bits, if they fit and memory suffices; otherwise unchanged.
     pub fn narrowed(numbers: Vec<i128>) -> NumberList
         ensures { numbers_held result ≡ numbers.items }
     {
@@ -44,8 +44,7 @@ impl NumberList {
         }
     }
 
-    /// The numbers of both rows alternately, or `AllocError` where they don't lie in place and there is no memory for
-    /// them.
+    /// The numbers of both rows alternately, or `AllocError` if they do not fit in place and memory ran out.
     pub fn by_turns(alloc: Global, first: &[u16], second: &[u16]) -> Result<NumberList, AllocError>
         requires { length second.now ≡ length first.now }
         ensures { IfOk result (λ list. numbers_held list ≡ by_turns first.now second.now) }
@@ -56,8 +55,8 @@ impl NumberList {
         }
     }
 
-    /// Another list of these numbers and two more behind them, or `AllocError` where they don't lie in place and there is no memory for
-    /// them.
+    /// Another list of these numbers and two more at its end, or `AllocError` if they do not fit in place and memory
+    /// ran out.
     pub fn with_two(&self, alloc: Global, first: u16, second: u16) -> Result<NumberList, AllocError>
         ensures { IfOk result (λ list. numbers_held list ≡ numbers_held self.now ++ pos first ∷ pos second ∷ []) }
     {
@@ -79,7 +78,7 @@ impl NumberList {
         Ok(NumberList::narrowed(numbers))
     }
 
-    /// The numbers, as they lie.
+    /// The numbers, in their stored width.
     pub fn numbers(&self) -> Numbers<'_>
         ensures { numbers_in result ≡ numbers_held self.now }
     {
@@ -91,7 +90,8 @@ impl NumberList {
         }
     }
 
-    /// The numbers in 128 bits each. They are moved out where they lie so, and else copied, for which there may be no memory.
+    /// The numbers in 128 bits each. They are moved if they are stored so, and otherwise copied, which may fail for
+    /// lack of memory.
     pub fn into_vec(self, alloc: Global) -> Result<Vec<i128>, AllocError>
         ensures { IfOk result (λ numbers. numbers.items ≡ numbers_held self) }
     {

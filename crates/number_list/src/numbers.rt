@@ -9,7 +9,7 @@ use crate::widths::widened;
 use std::alloc::{AllocError, Global};
 use std::cmp::Ordering;
 
-/// The numbers of a list that is lent, in the width in which they lie there.
+/// The numbers of a borrowed list, in its stored width.
 #[derive(Clone, Copy, Debug)]
 pub enum Numbers<'a> {
     /// From 0 to 255.
@@ -48,7 +48,7 @@ impl Numbers<'_> {
         }
     }
 
-    /// The numbers in 128 bits each, or `AllocError` where there is no memory for them.
+    /// The numbers in 128 bits each, or `AllocError` if memory ran out.
     pub fn to_vec(&self, alloc: Global) -> Result<Vec<i128>, AllocError>
         ensures { IfOk result (λ numbers. numbers.items ≡ numbers_in self.now) }
     {
@@ -60,8 +60,8 @@ impl Numbers<'_> {
         }
     }
 
-    /// How the two lists stand to each other: the first numbers that differ decide, and a list stands before those that begin with it.
-    /// Lists of bytes are compared as they lie.
+    /// Compares the two lists: the first numbers that differ decide, and a list precedes its extensions. Lists of bytes
+    /// are compared in their stored form.
     pub fn compare(&self, other: &Numbers<'_>) -> Ordering
         ensures { result ≡ slice_cmp int_cmp (numbers_in self.now) (numbers_in other.now) }
     {
@@ -71,7 +71,7 @@ impl Numbers<'_> {
         }
     }
 
-    /// Whether both are equal lists. Those of one width are compared as they lie.
+    /// Whether the lists are equal. Those of one width are compared in their stored form.
     pub fn is_same(&self, other: &Numbers<'_>) -> bool
         ensures { result ≡ pointwise int_eq (numbers_in self.now) (numbers_in other.now) }
     {

@@ -9,9 +9,9 @@ use std::path::Path;
 /// How many names are tried beside a file.
 const TRIES: u32 = 10_000;
 
-/// Finds out whether a file can be written, before the work that its text comes from. An error is the system's own: it can't.
+/// Checks that a file can be written, before the work that produces its text. An error is the system's own.
 ///
-/// A link's target is what will be replaced. A file that is there must be writable, and keeps its permissions.
+/// The target of a link will be replaced. An existing file must be writable, and keeps its permissions.
 pub fn open_output<R: Files + AllocGlobal>(rt: &R, name: &str) -> io::Result<Output<R::File>> {
     match fs::metadata(rt, name) {
         Ok(found) => open_over(rt, name, &found),

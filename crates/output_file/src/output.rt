@@ -10,14 +10,14 @@ use std::io::{self, Write};
 use std::marker::Model;
 use std::os::unix::fs::MetadataExt;
 
-/// Which file of the system a name stands for, whatever the name.
+/// The identity of a file, regardless of its name.
 #[derive(Clone, Copy, Debug, PartialEq, Eq)]
 pub struct FileId {
     pub device: u64,
     pub inode: u64,
 }
 
-/// The regular file of a name, links followed; `None` where there is none.
+/// The regular file with a name, following links; `None` if there is none.
 pub fn file_id<R: Files>(rt: &R, name: &str) -> Option<FileId> {
     match fs::metadata(rt, name) {
         Ok(found) if found.is_file() => Some(FileId {
@@ -28,11 +28,11 @@ pub fn file_id<R: Files>(rt: &R, name: &str) -> Option<FileId> {
     }
 }
 
-/// A file that is to be written, found to be writable before a program's work, and written once its text is known.
+/// A file to be written, checked to be writable before a program's work, and written once its text is known.
 ///
-/// What is no regular file, as a device, is written directly. Anything else is written beside its place, in a file of a fresh name
-/// with the same permissions, synced, and then renamed, so that a reader finds the old file or the new one, and never a part of it.
-/// Nothing stands beside the place before that.
+/// What is not a regular file, such as a device, is written directly. Anything else is written beside its target, to a
+/// file with a new name and the same permissions, synced, and then renamed, so that a reader finds the old file or the
+/// new one, and never a part of either. Before that nothing exists beside the target.
 #[derive(Drop)]
 pub struct Output<F: Write + OpenFile + Drop> {
     pub(crate) target: String,
@@ -54,7 +54,7 @@ impl<F: Write + OpenFile + Drop> Model for Output<F> {
 }
 
 impl<F: Write + OpenFile + Drop> Output<F> {
-    /// Whether two outputs are the same regular file, whatever their names. Devices may be written twice.
+    /// Whether two outputs are the same regular file, regardless of their names. Devices may be written twice.
     pub fn is_same(&self, other: &Output<F>) -> bool
         ensures { IsTrue result ↔ IsSamePlace self.now other.now }
     {

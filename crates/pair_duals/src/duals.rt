@@ -36,9 +36,9 @@ impl<N: Number> Model for PairDuals<N> {
 }
 
 impl<N: Number> PairDuals<N> {
-    /// Pair duals of a node of an instance of this size with these free facilities and locations; `None` where it is too
-    /// large for the width, where there aren't as many numbers as they ask for, or where a number or the scale lies outside
-    /// its limits. No memory is taken.
+    /// Pair duals of a node of an instance of this size with these free facilities and locations; `None` if it is too
+    /// large for the width, if the count of numbers is wrong, or if a number or the scale is outside its limits.
+    /// Allocates nothing.
     pub fn new(
         size: usize,
         facilities: Vec<u16>,

@@ -33,8 +33,8 @@ pub fn closing_law()
         → (R.value +ℤ (sum_to (λ r. slice_index_or u r (pos 0)) (count_of R) +ℤ sum_to (λ c. slice_index_or v c (pos 0)) (count_of R))) ≤ℤ (pos D.scale *ℤ cost_of I p) }
 {}
 
-/// Where they fit and no entry of a node's form is less than nothing, none of a child's is either, and the child's value is not
-/// below the node's.
+/// If they fit and no entry of a node's form is negative, no entry of a child's is, and the child's value is not below
+/// the node's.
 pub fn child_law()
     ensures entries { (I : Problem) (D : Duals) (y : Placement) (old new : Form) (h g : ℕ) → IsPlacement y → h < count_of old → g < length old.columns → Fit I D → AreNumbers D y old.rows old.columns → IsNonNegative old → IsChild I D old h g new → IsNonNegative new }
     ensures value { (I : Problem) (D : Duals) (old new : Form) (h g : ℕ) → h < count_of old → g < count_of old → IsNonNegative old → IsChild I D old h g new → old.value ≤ℤ new.value }

@@ -4,7 +4,7 @@ ghost use Rattle.std.specs.Prelude.{◌≡◌, ◌+◌, ◌*◌, ◌^◌, ◌≤
 ghost use Rattle.std.proofs.Common.{lit<, lit≤};
 ghost use Rattle.pair_duals.specs.Limits.{Limits, AreEnough};
 
-/// A whole number of some width, with limits that keep sums within it.
+/// An integer of some width, with limits under which no sum overflows.
 pub trait Number: Copy {
     ghost value: { Self → ℤ };
 

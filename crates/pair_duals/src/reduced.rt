@@ -58,7 +58,7 @@ impl<N: Number> Reduced<N> {
         }
     }
 
-    /// The value: where the pair duals fit and no entry is below 0, no completion costs less, scaled.
+    /// The value: if the pair duals fit and no entry is negative, no completion costs less, scaled.
     pub fn value(&self) -> i128
         ensures value { result ≡ self.now.value }
         ensures reach { IsInReach N.limits self.now }
@@ -106,8 +106,8 @@ impl<N: Number> Reduced<N> {
         self.entries[r * self.rows.len() + c]
     }
 
-    /// Makes it the form of the node that the pair duals belong to, in the memory that it has where that is enough. Refused
-    /// memory, it is the form with no rows.
+    /// Makes this the form of the node to which the pair duals belong, in its own memory if that suffices. If memory
+    /// runs out, it is the form with no rows.
     pub fn start(
         &mut self,
         instance: &Instance,
@@ -146,10 +146,10 @@ impl<N: Number> Reduced<N> {
         Ok(())
     }
 
-    /// Takes `u[r]` from each row, the least that is left of each column from it, and adds all these numbers to the value;
-    /// then no entry is below 0. Writes the numbers of the columns to `v`.
+    /// Subtracts `u[r]` from each row, then each column's minimum from it, and adds all these numbers to the value;
+    /// then no entry is negative. Writes the numbers of the columns to `v`.
     ///
-    /// A node has one line, which keeps the entries within their range at any depth.
+    /// A line is applied once per node, which keeps the entries within their range at any depth.
     pub fn line(&mut self, u: &[N], v: &mut [N])
         requires first { self.old.is_lined ≡ false }
         requires rows { length u.now ≡ count_of self.old }
@@ -165,8 +165,8 @@ impl<N: Number> Reduced<N> {
         self.is_lined = true;
     }
 
-    /// Makes `child` the form of the child that puts row `h` at column `g`, in the memory that `child` has where that is enough.
-    /// Refused memory, `child` is the form with no rows.
+    /// Makes `child` the form of the child that puts row `h` at column `g`, in the memory of `child` if that suffices.
+    /// If memory runs out, `child` is the form with no rows.
     pub fn child(
         &self,
         instance: &Instance,

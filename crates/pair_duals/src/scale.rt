@@ -10,8 +10,8 @@ use qap_cost::Instance;
 
 /// Whether no scaled product of an entry of A and one of B is above the limit of the width.
 ///
-/// That is so for every instance in 128 bits, and in 64 bits where the size is at most 64 and the greatest product is at most
-/// 2^52 divided by the scale.
+/// This holds for every instance in 128 bits, and in 64 bits if the size is at most 64 and the greatest product is at
+/// most 2^52 divided by the scale.
 pub fn is_in_scale<N: Number>(instance: &Instance, scale: u32) -> bool
     ensures { IsTrue result ↔ IsInScale N.limits instance.now scale }
 {

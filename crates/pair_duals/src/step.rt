@@ -8,12 +8,12 @@ ghost use Rattle.pair_duals.specs.Reduced.{but};
 
 use qap_cost::Instance;
 
-/// The cost step of an instance: a number that divides the cost of each of its permutations, so that costs lie at least
-/// that far apart.
+/// The cost step of an instance: a number that divides the cost of each of its permutations, so that distinct costs
+/// differ by at least that much.
 ///
-/// The greatest common divisor of the entries of A off its diagonal, times that of B; where A is symmetric, that of the
-/// entries of A times that of the sums `b[k][l] + b[l][k]`, if it is greater, and where B is symmetric the same with A
-/// and B exchanged; each joined with what divides the products of diagonal entries; and 1 where all of these are 0.
+/// The greatest common divisor of the off-diagonal entries of A, times that of B; if A is symmetric, that of the
+/// entries of A times that of the sums `b[k][l] + b[l][k]`, if greater, and if B is symmetric likewise with A and B
+/// exchanged; each combined with the divisor of the products of diagonal entries; and 1 if all of these are 0.
 pub fn cost_step(instance: &Instance) -> i128
     ensures { result ≡ pos (step_of instance.now) }
 {
@@ -35,7 +35,7 @@ pub enum Numbers {
     A,
     /// The entries of B.
     B,
-    /// The sums of two entries of A that lie across its diagonal from one another.
+    /// The sums of two entries of A that are opposite across its diagonal.
     SumsOfA,
     /// Those of B.
     SumsOfB,

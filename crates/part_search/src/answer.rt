@@ -23,7 +23,7 @@ pub struct Answer {
     pub bound: i128,
     /// How many nodes were taken and tried, and committed.
     pub nodes: u64,
-    /// How many nodes are open: 0 where the search was finished, and the bound is the cost then.
+    /// The number of open nodes: 0 if the search was finished, and then the bound is the cost.
     pub open_nodes: u64,
 }
 
@@ -35,8 +35,8 @@ pub(crate) struct Survey {
     open_nodes: u64,
 }
 
-/// What the space of a search proves, at its end or where it was stopped: the nodes count that are being worked on. The only error is
-/// want of memory.
+/// What the space of a search proves, at its end or when it was stopped, including the nodes that workers hold. The
+/// only error is out of memory.
 pub fn answer_of(alloc: Global, instance: &Instance, space: TxnSpace) -> Result<Answer, AllocError>
     ensures { IfOk result (λ a. (S : Part) → S.instance ≡ instance.now → IsSearched S (content_of space) → IsAnswer S a) }
 {

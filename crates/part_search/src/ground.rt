@@ -44,7 +44,7 @@ impl Model for Ground {
 }
 
 impl Ground {
-    /// What searches below a root rest on, whose pair duals have this scale, and are found by this many rounds at the root. `None` where
+    /// What searches below a root need, with pair duals of this scale, found by this many rounds at the root. `None` if
     /// the instance is out of range for that scale.
     pub fn new(
         alloc: Global,

@@ -15,12 +15,12 @@ pub fn opening_law()
         IsSearched S (node_tuple (record { node = S.root; value = value }) ∷ best_tuple S.start ∷ []) }
 {}
 
-/// Whether tuples satisfy the law doesn't depend on their order.
+/// The law on tuples does not depend on their order.
 pub fn order_law()
     ensures { (S : Part) (content other : Content) → SameItems content other → IsSearched S content → IsSearched S other }
 {}
 
-/// A commit that replaces an open node keeps the law.
+/// A commit that replaces an open node preserves the law.
 pub fn replacement_law()
     ensures { (S : Part) (gone kept added rest : Content) → MayReplace S.instance gone kept added →
         IsSearched S (gone ++ (kept ++ rest)) → IsSearched S (added ++ (kept ++ rest)) }

@@ -33,11 +33,11 @@ pub enum Step {
     Turn(u16),
     /// The moment moves on to this one.
     Advance(u64),
-    /// The worker is lost with its transaction, which isn't ended, and a fresh one stands in its place.
+    /// The worker is lost with its transaction, which is not ended, and a new one takes its place.
     Lose(u16),
 }
 
-/// What is searched, and who is asked to stop while children are tried.
+/// What is searched, and the stop that is consulted while children are tried.
 #[derive(Drop)]
 pub struct Task<'a, S> {
     /// The instance, and what goes with it.
@@ -50,8 +50,8 @@ pub struct Task<'a, S> {
     pub stop: &'a S,
 }
 
-/// The space that a search leaves which goes by a schedule: this many workers, whose transactions may take 1000 ms, make their turns in the
-/// order that it gives, at the moments that it gives. The only error is want of memory.
+/// The space that a search under a schedule leaves: this many workers, with transactions leased for 1000 ms, take their
+/// turns in the given order, at the given moments. The only error is out of memory.
 pub fn play<S: Stop>(
     alloc: Global,
     task: &Task<'_, S>,

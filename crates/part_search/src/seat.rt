@@ -76,7 +76,7 @@ enum Ended {
 pub(crate) struct Seat<L: Law> {
     worker: Worker,
     share: Share<L>,
-    /// How it ended, where it has.
+    /// How it ended, if it has.
     ended: Option<Ended>,
     /// Whether it found no open node when it went on last.
     lacks: bool,

@@ -11,13 +11,13 @@ pub(crate) enum Stage {
     Idle,
     /// It has begun one.
     Begun(Txn),
-    /// It took the entry of an open node, which is to be tried.
+    /// It took the entry of an open node, which must be tried next.
     Taken(Txn, EntryId),
     /// The node was split and its children were tried; those that are left open are written.
     Tried(Txn),
-    /// The best permutation was taken, and one that is no worse is written too.
+    /// The incumbent was taken, and one that is no worse is also written.
     Ready(Txn),
-    /// The transaction is to be ended without a commit.
+    /// The transaction must be ended without a commit.
     GivingUp(Txn),
 }
 

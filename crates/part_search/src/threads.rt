@@ -32,8 +32,8 @@ use tuple_match::Template;
 /// How many milliseconds the keeper pauses before it looks again.
 const PAUSE_MS: u64 = 1;
 
-/// Who searches: this many workers, whose transactions ask for this many milliseconds, and who leave the children of a node open that are
-/// not tried after this many milliseconds.
+/// The workers of a search: how many, the leases of their transactions in milliseconds, and the time in milliseconds
+/// after which they leave a node's untried children open.
 #[derive(Clone, Copy, Debug)]
 pub struct Crew {
     pub workers: u16,
@@ -41,12 +41,12 @@ pub struct Crew {
     pub turn_ms: u64,
 }
 
-/// The best permutation that a search by threads finds, and a bound that no completion of the root costs less than: the cost itself,
-/// unless the search was stopped or workers found no memory while nodes were open.
+/// The best permutation that a search by threads finds, and a lower bound on all completions of the root: the cost
+/// itself, unless the search was stopped or workers ran out of memory with nodes open.
 ///
-/// The calling thread keeps the space: it moves the moment on by the clock, and closes the space when no node is open, when every worker
-/// has left, and when the task's watch says so, which that thread alone asks, and shows how many nodes were taken and tried. The only
-/// error is want of memory.
+/// The calling thread keeps the space: it advances the moment by the clock, and closes the space when no node is open,
+/// when every worker has left, and when the task's watch requests it. Only that thread consults the watch, and reports
+/// to it how many nodes were taken and tried. The only error is out of memory.
 pub fn solve<R, S>(
     rt: &R,
     alloc: Global,

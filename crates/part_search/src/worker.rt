@@ -83,8 +83,8 @@ impl Worker {
         })
     }
 
-    /// Where it took an open node, splits it and tries its children, outside the space; its next step commits what is left. At an error
-    /// there was no memory, and the node is given up.
+    /// If it took an open node, splits it and tries its children, outside the space; its next step commits what is
+    /// left. At an error memory ran out, and the node is given up.
     pub fn try_node<S: Stop>(&mut self, stop: &S) -> Result<(), AllocError>
         ensures { self.new ≡ self.old }
     {

@@ -34,8 +34,8 @@ pub fn answer_text(
     Ok(text)
 }
 
-/// The line that states what is proved of the cost, in the plan's own units: that it is optimal, or between which
-/// bounds the least cost lies.
+/// The line that states what is proved about the cost, in the plan's own units: that it is optimal, or the bounds of
+/// the least cost.
 pub fn verdict_text(
     alloc: Global,
     problem: &NamedProblem,

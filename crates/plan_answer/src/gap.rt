@@ -10,7 +10,7 @@ use plan_table::decimal_text;
 use qap_cost::MAX_VALUE;
 use std::alloc::{AllocError, Global};
 
-/// How far the cost may lie above the least in percent, rounded up to tenths; nothing where the bound isn't above zero.
+/// How far the cost may be above the least in percent, rounded up to tenths; nothing if the bound is not positive.
 pub fn apart_text(alloc: Global, cost: i128, bound: i128) -> Result<Vec<u8>, AllocError>
     ensures { IfOk result (λ text. IsApartText cost bound text.items) }
 {
@@ -20,7 +20,7 @@ pub fn apart_text(alloc: Global, cost: i128, bound: i128) -> Result<Vec<u8>, All
     }
 }
 
-/// The same as a number alone, in percent; `None` where the bound isn't above zero.
+/// Likewise as a number alone, in percent; `None` if the bound is not positive.
 pub fn gap_text(alloc: Global, cost: i128, bound: i128) -> Result<Option<Vec<u8>>, AllocError>
     ensures { IfOk result (λ found. MatchOption found (is_told cost bound ≡ false) (λ text. (is_told cost bound ≡ true) × Spells text.items (pos (tenths_above cost bound)) 1)) }
 {

@@ -26,7 +26,7 @@ pub fn push_departments(
     Ok(())
 }
 
-/// Puts a line for each place that isn't taken at the end of the text.
+/// Appends a line for each place that is not taken.
 pub fn push_empty_places(
     alloc: Global,
     text: &mut Vec<u8>,
@@ -78,7 +78,7 @@ fn empty_line(alloc: Global, place: &str) -> Result<String, AllocError>
     format!(in alloc; "{place} stays empty\n")
 }
 
-/// The line that says how many decimals the tables' numbers were rounded to, where they were.
+/// The line with the number of decimals to which the tables' numbers were rounded, if they were.
 pub fn rounded_text(alloc: Global, rounded: Option<usize>) -> Result<Vec<u8>, AllocError>
     ensures { IfOk result (λ text. text.items ≡ rounded_text rounded) }
 {
@@ -94,7 +94,7 @@ fn rounded_line(alloc: Global, places: usize) -> Result<String, AllocError>
     format!(in alloc; "numbers rounded, decimals kept: {places}\n")
 }
 
-/// Among which arrangements something is proved: where something is fixed, among those that keep it.
+/// The arrangements that the proof covers: if something is fixed, those that respect it.
 pub fn kept_text(is_fixed: bool) -> &'static [u8]
     ensures { result.now ≡ kept_text is_fixed }
 {
@@ -105,8 +105,7 @@ pub fn kept_text(is_fixed: bool) -> &'static [u8]
     }
 }
 
-/// Puts what is proved of the cost at the end of the text: that it is optimal, or where that isn't shown, between which bounds the least
-/// cost lies.
+/// Appends what is proved about the cost: that it is optimal, or otherwise the bounds of the least cost.
 pub fn push_verdict(
     text: &mut Vec<u8>,
     is_open: bool,

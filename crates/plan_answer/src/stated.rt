@@ -11,7 +11,7 @@ use plan_file::NamedProblem;
 use qap_cost::Perm;
 use std::alloc::{AllocError, Global};
 
-/// The text of an answer as `answer_text` gives it, where nothing shows the bound: it is reported as stated.
+/// The text of an answer as in `answer_text`, but whose bound is reported as stated, since nothing proves it.
 pub fn stated_text(
     alloc: Global,
     problem: &NamedProblem,

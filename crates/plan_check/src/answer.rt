@@ -20,16 +20,16 @@ use std::alloc::Global;
 /// An answer that was read.
 #[derive(Drop)]
 pub struct Answer {
-    /// It keeps what is fixed.
+    /// It respects what is fixed.
     pub permutation: Perm,
     /// What the permutation costs.
     pub cost: i128,
-    /// What is stated that no arrangement costs less than; the file alone doesn't show that.
+    /// The stated bound on all arrangements; the file alone does not prove it.
     pub bound: i128,
 }
 
-/// The answer to a plan whose JSON a text is: its permutation is one of the plan's that keeps what is fixed, and it states the cost of that one. Names
-/// that are there are the plan's. Else why it is none.
+/// The answer to a plan with this JSON: its permutation is valid for the plan and respects what is fixed, and its cost
+/// is stated correctly. Names, if present, are the plan's. Otherwise the reason why it is not an answer.
 pub fn answer_to_plan(
     alloc: Global,
     problem: &NamedProblem,

@@ -3,7 +3,7 @@
 use std::alloc::AllocError;
 use thiserror::Error;
 
-/// Why a text is no answer to a plan or to an instance. The items of a list are counted from 1.
+/// Why a text is not an answer to a plan or to an instance. The items of a list are counted from 1.
 #[derive(Debug, Drop, Error)]
 pub enum AnswerError {
     /// It is no JSON.
@@ -21,7 +21,7 @@ pub enum AnswerError {
         found: usize,
         wanted: usize,
     },
-    /// An item of the list is no location.
+    /// An item of the list is not a location.
     #[error("the key \"permutation[{number}]\" must be a whole number from 1 to {size}: name an answer to this plan")]
     NoLocation {
         number: usize,
@@ -33,7 +33,7 @@ pub enum AnswerError {
         number: usize,
         location: u64,
     },
-    /// A department doesn't stand where it is fixed.
+    /// A department is not where it is fixed.
     #[error("the key \"permutation[{number}]\" must be {location}, where the plan fixes that department: solve the plan again")]
     Moved {
         number: usize,
@@ -67,12 +67,12 @@ pub enum AnswerError {
     OtherCost {
         cost: String,
     },
-    /// The bound is no number, or above the cost.
+    /// The bound is not a number, or above the cost.
     #[error("the key \"bound\" must be a number that is no larger than the cost, \"{cost}\": solve the plan again")]
     OtherBound {
         cost: String,
     },
-    /// The status isn't the one that cost and bound have.
+    /// The status does not match the cost and the bound.
     #[error("the key \"status\" must be \"{status}\" according to the cost and the bound: solve the plan again")]
     OtherStatus {
         status: &'static str,

@@ -4,10 +4,10 @@ use qap_proof::ProofError;
 use std::alloc::AllocError;
 use thiserror::Error;
 
-/// Why a proof shows nothing of an answer.
+/// Why a proof establishes nothing about an answer.
 #[derive(Debug, Drop, Error)]
 pub enum ProofFault {
-    /// It is no proof for the instance.
+    /// It is not a proof for the instance.
     #[error("the proof is refused: {0}: name the one that `qapplan solve --proof` wrote with this answer")]
     Refused(ProofError),
     /// It is one over other arrangements.

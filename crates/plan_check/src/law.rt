@@ -8,7 +8,7 @@ ghost use Rattle.plan_check.specs.declared.error.AnswerError.{AnswerError};
 ghost use Rattle.plan_file.specs.declared.tables.NamedProblem.{NamedProblem};
 ghost use Rattle.qap_cost.specs.Instance.{Problem};
 
-/// A text that is refused for another reason than want of memory is no answer.
+/// A text that is refused for any reason other than out of memory is not an answer.
 pub fn refusal_law()
     ensures plan { (P : NamedProblem) (text : List ℕ) (e : AnswerError) → IsRefusedByPlan P text e → e ≢ OutOfMemory
         → (p : List ℕ) (c g : ℤ) → ¬ IsAnswerToPlan P text p c g }

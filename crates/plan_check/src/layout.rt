@@ -9,8 +9,8 @@ use plan_fixed::completed;
 use qap_cost::Perm;
 use std::alloc::Global;
 
-/// The arrangement that a text lists: a department and its place on each line. Added departments stand where this leaves room, as in `any`
-/// if they can.
+/// The arrangement that a text lists: a department and its place on each line. Dummy departments take the remaining
+/// places, as in `any` if possible.
 pub fn layout_of(
     alloc: Global,
     problem: &NamedProblem,

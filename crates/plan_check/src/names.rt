@@ -15,7 +15,7 @@ use qap_cost::Perm;
 use serde_json::Value;
 use std::alloc::{AllocError, Global};
 
-/// Judges the names of an answer: they are to be the plan's.
+/// Checks that the names of an answer are the plan's.
 pub fn check_names(problem: &NamedProblem, value: &Value) -> Result<(), AnswerError>
     ensures { MatchResult result
         (λ _. MayList (view value.now) (codes "departments") (department_names problem.now) × MayList (view value.now) (codes "places") (place_names problem.now))
@@ -44,7 +44,7 @@ pub fn check_arrangement(
     check_list(value, "arrangement", &places)
 }
 
-/// Judges that there are no names.
+/// Checks that there are no names.
 pub fn check_unnamed(value: &Value) -> Result<(), AnswerError>
     ensures { MatchResult result
         (λ _. HasNoNames (view value.now))

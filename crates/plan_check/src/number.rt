@@ -38,7 +38,7 @@ pub fn stated_cost(
     Ok(())
 }
 
-/// The bound that is stated, where it is no larger than the cost and fits the status.
+/// The stated bound, if it is no larger than the cost and consistent with the status.
 pub fn stated_bound(
     alloc: Global,
     value: &Value,
@@ -61,7 +61,7 @@ pub fn stated_bound(
     Ok(bound)
 }
 
-/// A cost with this many places behind the point, as it is reported.
+/// A cost with this many decimals, as it is reported.
 pub fn cost_text(alloc: Global, cost: i128, scale: usize) -> Result<String, AllocError>
     requires { scale < 2 ^ 32 }
 {

@@ -15,9 +15,9 @@ use qap_cost::{Instance, Partial, Perm, cost};
 use qap_proof::{ProofError, Stated};
 use std::alloc::Global;
 
-/// What no arrangement that keeps what is fixed costs less than, where a text is that of a proof of either version
-/// which proves it for the instance, over exactly these arrangements, and with the cost of this permutation. Else why
-/// it isn't. The cost of another proof is reported with this many places behind the point.
+/// The lower bound on all arrangements that respect what is fixed, if a text is that of a proof in either version which
+/// proves it for the instance, over exactly these arrangements, and with the cost of this permutation. Otherwise the
+/// reason why not. The cost of another proof is reported with this many decimals.
 pub fn proved_bound(
     alloc: Global,
     instance: &Instance,

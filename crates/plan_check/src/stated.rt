@@ -29,7 +29,7 @@ pub fn json_of(alloc: Global, text: &[u8]) -> Result<Value, AnswerError>
     }
 }
 
-/// The locations of an answer, counted from 1, where there are this many facilities.
+/// The locations of an answer, counted from 1, if there are this many facilities.
 pub fn locations_of(alloc: Global, value: &Value, size: usize) -> Result<Vec<u64>, AnswerError>
     ensures { MatchResult result
         (λ v. ListsNumbers (view value.now) (codes "permutation") v.items)

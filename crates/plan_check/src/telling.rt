@@ -14,8 +14,8 @@ use plan_file::NamedProblem;
 use qap_cost::{Perm, cost};
 use std::alloc::Global;
 
-/// The line that reports what an arrangement which keeps what is fixed costs, in the plan's own units, and where there
-/// is the text of a proof, what that shows.
+/// The line that reports the cost of an arrangement that respects what is fixed, in the plan's own units, and if the
+/// text of a proof is given, what that establishes.
 pub fn checked_line(
     alloc: Global,
     problem: &NamedProblem,

@@ -5,10 +5,10 @@ use plan_table::TableError;
 use std::alloc::AllocError;
 use thiserror::Error;
 
-/// Why a text is no plan.
+/// Why a text is not a plan.
 #[derive(Debug, Drop, Error)]
 pub enum PlanError {
-    /// It is no TOML.
+    /// It is not TOML.
     #[error("{place}: {message}: write a key, `=` and a file in quotes on each line, as in `flows = \"trips.csv\"`")]
     Syntax {
         place: TextPlace,
@@ -37,18 +37,18 @@ pub enum PlanError {
         key: &'static str,
         other: &'static str,
     },
-    /// A key is missing, and stands in the table of what is fixed.
+    /// A key is missing, and is in the table of what is fixed.
     #[error("the key \"{key}\" is under `[fixed]`: move `[fixed]` and the lines that belong to it to the end of the plan")]
     AmongFixed {
         key: &'static str,
     },
-    /// Two keys are there, of which each stands for the other.
+    /// Two alternative keys are both present.
     #[error("the keys \"{key}\" and \"{other}\" are both present: keep one of them")]
     BothKeys {
         key: &'static str,
         other: &'static str,
     },
-    /// A key is missing that another one wants.
+    /// A key is missing that another one requires.
     #[error("the key \"{key}\" is missing: \"{other}\" needs it; write `{key} = \"rectilinear\"`, or \"euclidean\" or \"squared\"")]
     MissingKey {
         key: &'static str,
@@ -70,18 +70,18 @@ pub enum PlanError {
     OtherMark {
         found: String,
     },
-    /// What is to be the number of places that numbers are rounded to is none.
+    /// The number of decimals for rounding is invalid.
     #[error("the key \"round\" must be a whole number from 0 to 9, without quotes, as in `round = 3`")]
     NoRound,
-    /// What is to be true or false is neither.
+    /// A value that must be true or false is neither.
     #[error("the key \"symmetric\" must be true or false, without quotes, as in `symmetric = true`")]
     NoSymmetric,
-    /// No treatment of pairs that stand twice has that name.
+    /// There is no treatment of repeated pairs with that name.
     #[error("the key \"duplicates\" says \"{found}\": write \"sum\", or remove it")]
     OtherDuplicates {
         found: String,
     },
-    /// What is to be the number of decimals is none.
+    /// The number of decimals is invalid.
     #[error("the key \"decimals\" must be a whole number from 0 to 9, without quotes, as in `decimals = 2`")]
     NoDecimals,
     /// Distances by that metric are exact.
@@ -89,10 +89,10 @@ pub enum PlanError {
     ExactMetric {
         metric: &'static str,
     },
-    /// The departments are no list of names.
+    /// The departments are not a list of names.
     #[error("{0}")]
     Departments(NamesFault),
-    /// What is fixed is no table of departments and places.
+    /// What is fixed is not a table of departments and places.
     #[error("{0}")]
     Fixed(PinsFault),
     /// There is no memory left.
@@ -100,16 +100,16 @@ pub enum PlanError {
     OutOfMemory,
 }
 
-/// Why the departments are no list of names. Numbers are counted from 1.
+/// Why the departments are not a list of names. Numbers are counted from 1.
 #[derive(Debug, Drop, Error)]
 pub enum NamesFault {
-    /// They are no list.
+    /// They are not a list.
     #[error("the key \"departments\" has the type {found}: write a list of names, as in `departments = [\"Saw\", \"Lathe\"]`")]
     NoList { found: &'static str },
     /// The list is empty, or too long.
     #[error("the key \"departments\" has {count} names: write 1 to 256")]
     OtherCount { count: usize },
-    /// One of them is no text.
+    /// One of them is not text.
     #[error("the key \"departments[{number}]\" has the type {found}: write a name in quotes")]
     NoName { number: usize, found: &'static str },
     /// A name is empty.
@@ -118,15 +118,15 @@ pub enum NamesFault {
     /// A name has a control character.
     #[error("the key \"departments[{number}]\" has the control character U+{code:04X}: write names without line breaks, tabs and other control characters")]
     ControlInName { number: usize, code: u32 },
-    /// A name stands twice.
+    /// A name is repeated.
     #[error("the key \"departments[{number}]\": the name \"{name}\" occurs twice: give each department a name of its own")]
     NameTwice { number: usize, name: String },
 }
 
-/// Why what is fixed is no table of departments and places.
+/// Why what is fixed is not a table of departments and places.
 #[derive(Debug, Drop, Error)]
 pub enum PinsFault {
-    /// It is no table.
+    /// It is not a table.
     #[error("the key \"fixed\" has the type {found}: write `[fixed]` on a line of its own, and below it a line such as `Saw = \"A\"` for each department that stays at its place")]
     NoTable {
         found: &'static str,
@@ -143,7 +143,7 @@ pub enum PinsFault {
         department: String,
         code: u32,
     },
-    /// A place is no text.
+    /// A place is not text.
     #[error("the key \"fixed.{department}\" has the type {found}: write the name of a place in quotes")]
     NoPlace {
         department: String,
@@ -184,7 +184,7 @@ impl From<AllocError> for ProblemError {
     }
 }
 
-/// Why departments can't be fixed at places.
+/// Why departments cannot be fixed at places.
 #[derive(Debug, Drop, Error)]
 pub enum FixingError {
     /// No department has the name.
@@ -218,28 +218,28 @@ impl From<AllocError> for FixingError {
 /// Why the texts of two tables make no problem with names.
 #[derive(Debug, Drop, Error)]
 pub enum TablesError {
-    /// The first text is no table of flows.
+    /// The first text is not a table of flows.
     #[error("{0}")]
     Flows(TableError),
-    /// The second text is no table of distances, or of places.
+    /// The second text is not a table of distances, or of places.
     #[error("{0}")]
     Distances(TableError),
-    /// The numbers of the table of flows have too many places behind the point.
+    /// The numbers in the table of flows have too many decimals.
     #[error("a number has more than 100 digits after the point: round the numbers, or choose a smaller unit")]
     FlowsTooFine,
-    /// The numbers of the table of distances have too many places behind the point.
+    /// The numbers in the table of distances have too many decimals.
     #[error("a number has more than 100 digits after the point: round the numbers, or choose a smaller unit")]
     DistancesTooFine,
-    /// The coordinates have too many places behind the point.
+    /// The coordinates have too many decimals.
     #[error("a coordinate has more than 9 digits after the point: round the coordinates, or choose a smaller unit")]
     CoordinatesTooFine,
-    /// Two places lie too far apart.
+    /// Two places are too far apart.
     #[error("the places \"{from}\" and \"{to}\" lie too far apart: with the digits after its point dropped, a distance is at most 10^9; round the coordinates, keep fewer decimals or choose a larger unit")]
     TooFar { from: String, to: String },
     /// Both are tables, and make no problem.
     #[error("{0}")]
     Problem(ProblemError),
-    /// What is fixed doesn't fit the tables.
+    /// What is fixed does not match the tables.
     #[error("{0}")]
     Fixing(FixingError),
     /// There is no memory left.

@@ -10,8 +10,8 @@ use plan_table::{Pin, find_name};
 use qap_cost::Partial;
 use std::alloc::Global;
 
-/// The node of an instance at which the departments that are named stand at their places, and the others are free. There are 1 to 256 places,
-/// and no more departments.
+/// The node of an instance that places the named departments at their places and leaves the others free. There are 1 to
+/// 256 places, and no more departments.
 pub fn fixed_node(
     alloc: Global,
     pins: &[Pin],

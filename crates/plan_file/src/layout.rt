@@ -14,7 +14,7 @@ use thiserror::Error;
 /// Why a text lists no arrangement of the departments.
 #[derive(Debug, Drop, Error)]
 pub enum LayoutError {
-    /// The text is no such list.
+    /// The text is not such a list.
     #[error("{0}")]
     Table(TableError),
     /// No department has the name.
@@ -23,7 +23,7 @@ pub enum LayoutError {
     /// No place has the name.
     #[error("\"{department}\": no place has the name \"{place}\": write the names of the plan")]
     UnknownPlace { department: String, place: String },
-    /// The department stands twice, or another one at its place.
+    /// The department is repeated, or another one is at its place.
     #[error("\"{department}\" at \"{place}\": the department or the place occurs twice: give each department one line, and a place of its own")]
     Twice { department: String, place: String },
     /// A department has no line.
@@ -44,8 +44,8 @@ impl From<AllocError> for LayoutError {
     }
 }
 
-/// The node of an instance at which each department stands where a text says. There are 1 to 256 places, and no more departments; each
-/// department has a line.
+/// The node of an instance that places each department where a text puts it. There are 1 to 256 places, and no more
+/// departments; each department has a line.
 pub fn layout_node(
     alloc: Global,
     text: &[u8],

@@ -28,7 +28,7 @@ pub fn number_in(value: &Value) -> Option<i64>
     value.as_integer()
 }
 
-/// What a value says that is true or false.
+/// The truth value in a value.
 pub fn bool_in(value: &Value) -> Option<bool>
     ensures { MatchOption result ((said : Bool) → view value.now ≢ boolean said) (λ said. view value.now ≡ boolean said) }
 {

@@ -10,7 +10,7 @@ pub struct TextPlace {
 }
 
 impl TextPlace {
-    /// The place behind the first bytes of a text.
+    /// The position after the first bytes of a text.
     pub fn behind(before: &[u8]) -> TextPlace {
         let mut place = TextPlace { line: 1, column: 1 };
         for byte in before {

@@ -3,18 +3,18 @@
 use plan_metric::Metric;
 use plan_table::{Pin, Rules};
 
-/// What a plan says: where its flows and distances stand, how they are read, and what is fixed.
+/// The content of a plan: the files of its flows and distances, how they are read, and what is fixed.
 #[derive(Debug, Drop)]
 pub struct Plan {
     pub flows: Flows,
     pub distances: Distances,
     /// How the tables are read.
     pub rules: Rules,
-    /// Departments that stand at places given beforehand.
+    /// Departments fixed at given places.
     pub fixed: Vec<Pin>,
 }
 
-/// Where the flows between departments stand.
+/// The source of the flows between departments.
 #[derive(Debug, Drop)]
 pub enum Flows {
     /// In the file of a matrix with names.
@@ -36,7 +36,7 @@ impl Flows {
     }
 }
 
-/// Where the distances between places stand.
+/// The source of the distances between places.
 #[derive(Debug, Drop)]
 pub enum Distances {
     /// In the file of a matrix with names.

@@ -19,11 +19,11 @@ use plan_table::{
 use qap_cost::{Instance, Partial};
 use std::alloc::{AllocError, Global};
 
-/// The most places behind the point that a table's numbers may have.
+/// The greatest number of decimals of a table's numbers.
 pub const MAX_PLACES: usize = 100;
 
-/// An instance with names. Facility `i` is the department of number `i`, where there is one, and else an added one without flow; location
-/// `k` is the place of number `k`. A cost `c` stands for `c / 10^(flow_scale + distance_scale)`.
+/// An instance with names. Facility `i` is the department of number `i`, or otherwise a dummy without flow; location
+/// `k` is the place of number `k`. A cost `c` represents `c / 10^(flow_scale + distance_scale)`.
 #[derive(Drop)]
 pub struct NamedProblem {
     pub departments: Vec<String>,
@@ -33,11 +33,11 @@ pub struct NamedProblem {
     /// A distance `d` stands for `d / 10^distance_scale`.
     pub distance_scale: usize,
     pub instance: Instance,
-    /// The places' coordinates, where the distances were measured; else none.
+    /// The places' coordinates, if the distances were measured; otherwise none.
     pub points: Vec<Point>,
     /// The departments that are fixed, at their places.
     pub fixed: Partial,
-    /// To how many places behind the point the tables' numbers were rounded, where they were.
+    /// To how many decimals the tables' numbers were rounded, if they were.
     pub rounded: Option<usize>,
 }
 

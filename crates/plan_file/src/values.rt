@@ -15,7 +15,7 @@ use plan_table::{Pin, first_control, shown};
 use std::alloc::Global;
 use toml::{Table, Value};
 
-/// The text at a key, where there is anything. It has no control character.
+/// The text at a key, if present. It has no control character.
 pub fn text_of(alloc: Global, table: &Table, key: &'static str) -> Result<Option<String>, PlanError>
     ensures text { IfOk result (λ found. MatchOption found (HasNone (table_view table.now) key.now) (λ s. HasText (table_view table.now) key.now (string_bytes s))) }
     ensures visible { IfOk result (λ found. IfSome found (λ s. HasNoControl (string_bytes s))) }
@@ -39,7 +39,7 @@ pub fn text_of(alloc: Global, table: &Table, key: &'static str) -> Result<Option
     }
 }
 
-/// What is wrong where neither of two keys is there: one of them may stand in the table of what is fixed.
+/// The fault if neither of two keys is present: one of them may be in the table of what is fixed.
 pub fn neither_of(table: &Table, key: &'static str, other: &'static str) -> PlanError
     requires key { HasNone (table_view table.now) key.now }
     requires other { HasNone (table_view table.now) other.now }
@@ -67,7 +67,7 @@ fn is_among_fixed(table: &Table, key: &str) -> bool
     }
 }
 
-/// Where the flows stand.
+/// The source of the flows.
 pub fn flows_of(alloc: Global, table: &Table) -> Result<Flows, PlanError>
     ensures flows { IfOk result (SaysFlows (table_view table.now)) }
     ensures refused { IfErr result (IsFaultOf (table_view table.now)) }

@@ -20,7 +20,7 @@ fn told(rt: &HostRuntime, text: &[u8]) -> Result<String, Fail> {
     })
 }
 
-/// A text, and what it says.
+/// A text and its content.
 type Told = (&'static [u8], &'static str);
 
 const PLANS: [Told; 29] = [

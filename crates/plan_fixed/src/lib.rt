@@ -29,8 +29,8 @@ pub fn completes(node: &Partial, permutation: &Perm) -> bool
     true
 }
 
-/// A permutation that puts each facility that a node places at its place; the same one, where it does so already. Each facility that is in the way
-/// takes the location of the one for which it makes room.
+/// A permutation that puts each facility that a node places at its location, unchanged if it already does. Each
+/// facility in the way takes the location of the one for which it makes room.
 pub fn completed(node: &Partial, permutation: &Perm) -> Result<Perm, AllocError>
     requires { length permutation.now ≡ node.now.size }
     ensures completes { IfOk result (Completes node.now) }

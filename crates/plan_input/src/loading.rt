@@ -21,13 +21,13 @@ const SUFFIX: &str = ".toml";
 /// Why a plan has no problem, and which file is at fault.
 #[derive(Debug, Drop, Error)]
 pub enum LoadError {
-    /// A file isn't there, is a folder, or can't be read.
+    /// A file does not exist, is a folder, or cannot be read.
     #[error("{file}: the file can't be read: name one that is there; tables are looked up from the plan's folder")]
     Unread { file: String },
     /// A file is too long.
     #[error("{file}: the file is longer than 1 GiB")]
     TooLong { file: String },
-    /// The text is no plan.
+    /// The text is not a plan.
     #[error("{file}: {error}")]
     Plan { file: String, error: PlanError },
     /// The tables make no problem.

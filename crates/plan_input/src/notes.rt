@@ -6,8 +6,8 @@ use plan_table::{Encoding, decimal_text};
 use qap_cost::Instance;
 use std::alloc::{AllocError, Global};
 
-/// The lines to show beside an answer: what was understood, the encodings that aren't UTF-8, and a warning for distances that lead one way
-/// and for departments with no flow.
+/// The lines to show beside an answer: how the tables were read, the encodings other than UTF-8, and warnings about
+/// distances in one direction only and about departments without flow.
 pub fn notes_of(alloc: Global, loaded: &Loaded) -> Result<Vec<String>, AllocError> {
     let mut notes = Vec::new(alloc);
     notes.push(summary(alloc, &loaded.problem)?)?;

@@ -15,7 +15,7 @@ use thiserror::Error;
 /// Why points have no distances.
 #[derive(Clone, Copy, Debug, PartialEq, Eq, Error)]
 pub enum DistanceError {
-    /// The points of these numbers lie more than 10^9 apart, once all distances are whole.
+    /// The points with these numbers are more than 10^9 apart, once all distances are whole.
     #[error("points {0} and {1} lie more than 10^9 apart")]
     TooFar(usize, usize),
     /// There is no memory left.
@@ -31,7 +31,7 @@ impl From<AllocError> for DistanceError {
     }
 }
 
-/// How far apart each two of the points lie, by rows; a coordinate `c` stands for `c / 10^scale`.
+/// The distance of each two of the points, by rows; a coordinate `c` represents `c / 10^scale`.
 pub fn distance_matrix(
     alloc: Global,
     metric: Metric,

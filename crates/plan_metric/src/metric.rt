@@ -7,21 +7,22 @@ ghost use Rattle.plan_metric.specs.Metric.{IsDistance, IsFine, IsNearestRoot, ap
 
 use plan_table::Point;
 
-/// The most places behind the point that coordinates may have, and Euclidean distances.
+/// The greatest number of decimals of coordinates, and of Euclidean distances.
 pub const MAX_PLACES: usize = 9;
 
 /// By what the distance of two points is measured.
 #[derive(Clone, Copy, Debug, PartialEq, Eq)]
 pub enum Metric {
-    /// Along the axes: how far the points lie apart in x, and that in y besides.
+    /// Along the axes: the distance in x plus that in y.
     Rectilinear,
-    /// In a straight line, rounded to the nearest number with this many places behind the point, from 0 to 9.
+    /// In a straight line, rounded to this many decimals, from 0 to 9.
     Euclidean(u32),
     /// The square of the straight line's length.
     Squared,
 }
 
-/// A distance `d` by this metric stands for `d` over ten to this power, where a coordinate `c` stands for `c / 10^scale`.
+/// A distance `d` under this metric represents `d` over ten to this power, where a coordinate `c` represents `c /
+/// 10^scale`.
 pub fn distance_scale(metric: Metric, scale: usize) -> usize
     requires { scale ≤ max_places }
     ensures { result ≡ scale_by metric scale }
@@ -33,7 +34,7 @@ pub fn distance_scale(metric: Metric, scale: usize) -> usize
     }
 }
 
-/// How far apart two points lie, whose coordinates stand for `c / 10^scale`.
+/// The distance of two points whose coordinates represent `c / 10^scale`.
 pub fn distance(metric: Metric, scale: usize, p: &Point, q: &Point) -> u128
     requires fine { IsFine metric }
     requires scale { scale ≤ max_places }

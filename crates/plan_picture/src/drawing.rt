@@ -21,8 +21,9 @@ const LETTER: u32 = 8;
 /// How high a box is, in pixels.
 const HEIGHT: u32 = 46;
 
-/// A picture of an arrangement as SVG: a box for each place, at its coordinates or in rows, with the names of the department that stands there and of
-/// the place; a line between each two departments between which something goes, as wide as that is; and a title above.
+/// A picture of an arrangement as SVG: a box for each place, at its coordinates or in rows, with the names of its
+/// department and of the place; a line between each two departments with a flow, whose width is proportional to it; and
+/// a title above.
 pub fn picture(
     alloc: Global,
     problem: &NamedProblem,

@@ -6,8 +6,8 @@ ghost use Rattle.plan_picture.specs.Escaping.{escaped, escaped_char, is_xml_char
 
 use std::alloc::{AllocError, Global};
 
-/// The text with each character that has a meaning of its own in XML written as its entity, each that no document may have as U+FFFD, and each
-/// tab or end of a line as a blank.
+/// The text with each character that has a meaning in XML written as its entity, each that no document may have as
+/// U+FFFD, and each tab or end of a line as a blank.
 pub fn escaped(alloc: Global, text: &str) -> Result<Vec<u8>, AllocError>
     ensures { IfOk result (λ v. v.items ≡ escaped text.now) }
 {

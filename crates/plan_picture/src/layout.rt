@@ -34,7 +34,7 @@ pub struct BoxSize {
     pub height: u32,
 }
 
-/// A picture's size, and where its boxes stand.
+/// A picture's size, and the positions of its boxes.
 #[derive(Debug, Drop)]
 pub struct Layout {
     pub width: u32,
@@ -42,8 +42,8 @@ pub struct Layout {
     pub centres: Vec<Centre>,
 }
 
-/// Where this many boxes stand: at their points, x to the right and y upwards, magnified so that no two boxes overlap,
-/// or in rows where there isn't a point for each, or these lie too close together.
+/// The positions of this many boxes: at their points, x to the right and y upwards, magnified so that no two boxes
+/// overlap, or in rows if not every box has a point, or these are too close together.
 pub fn layout_of(
     alloc: Global,
     count: usize,

@@ -8,10 +8,10 @@ use crate::escape::escaped;
 use std::alloc::{AllocError, Global};
 use unicode_width::{UnicodeWidthChar, UnicodeWidthStr};
 
-/// The most columns of a name that are drawn; a longer one is cut.
+/// The greatest number of columns of a name that are drawn; a longer one is truncated.
 pub const MAX_COLUMNS: usize = 24;
 
-/// Puts a name at the end of the text as it is shown: one that has no room is cut, and stands whole in a title.
+/// Appends a name as it is shown: one that does not fit is truncated, and is given in full in a title.
 pub fn push_shown(alloc: Global, text: &mut Vec<u8>, name: &str) -> Result<(), AllocError>
     ensures { OnOk result (text.new.items ≡ text.old.items ++ shown_name name.now) }
 {

@@ -14,14 +14,14 @@ use crate::separator::Separator;
 #[derive(Clone, Copy)]
 pub enum Mark {
     Quote,
-    /// What stands between fields.
+    /// A separator of fields.
     Divider,
     Feed,
     Return,
     Other,
 }
 
-/// Where in a field a text stands.
+/// The state of a text within a field.
 #[derive(Clone, Copy)]
 pub enum Stand {
     /// At the beginning of a field.
@@ -46,7 +46,7 @@ pub struct Reached {
     pub place: Place,
 }
 
-/// Checks that a text is CSV; else says what is wrong first.
+/// Checks that a text is CSV; otherwise reports its first fault.
 pub fn check_csv(separator: Separator, text: &[u8]) -> Result<(), CsvFault>
     ensures first { result ≡ first_fault separator text.now }
     ensures exactly { MatchResult result (λ _. IsCsv separator text.now) (λ _. IsCsv separator text.now → ⊥) }

@@ -10,10 +10,10 @@ ghost use Rattle.plan_table.specs.Decimal.{are_digits as digits_of, decimal_of, 
 
 use thiserror::Error;
 
-/// The largest entry of an instance: each entry lies between its negative and it.
+/// The largest entry of an instance: each entry is between its negative and it.
 pub const MAX_ENTRY: u64 = 1_000_000_000;
 
-/// The largest number that is told from larger ones: no cost of an instance comes near it.
+/// The largest number that is distinguished from larger ones: no cost of an instance comes near it.
 pub const MAX_NUMBER: u128 = 1_000_000_000_000_000_000_000_000_000_000_000_000;
 
 /// Stands for each number that is larger.
@@ -33,19 +33,19 @@ pub struct Unsigned {
     pub places: usize,
 }
 
-/// Why a word is no entry, whatever the scale is.
+/// Why a word is not an entry, regardless of the scale.
 #[derive(Clone, Copy, Debug, PartialEq, Eq, Error)]
 pub enum NumberFault {
     /// It spells no decimal number.
     #[error("not a decimal number")]
     NotANumber,
-    /// Its digits alone stand for more than 10^9.
+    /// Its digits represent more than 10^9.
     #[error("a number above 10^9")]
     TooLarge,
 }
 
-/// The decimal number that a word spells: an optional sign, one or more digits, and optionally a point with one or more
-/// digits behind it. Zeros at the end behind a point count for nothing.
+/// The decimal number that a word spells: an optional sign, one or more digits, and optionally a point followed by one
+/// or more digits. Trailing zeros after a point are ignored.
 pub fn parse_decimal(word: &[u8]) -> Result<Decimal, NumberFault>
     ensures { MatchResult result
         (λ d. (decimal_of word.now ≡ Some d) × (unsigned_abs d.number ≤ max_entry))
@@ -158,7 +158,7 @@ pub fn without_zeros(digits: &[u8]) -> &[u8]
     kept
 }
 
-/// The number that digits and places stand for, held to one above 10^36.
+/// The number that digits and decimals represent, clamped to one above 10^36.
 pub fn held(whole: &[u8], fraction: &[u8]) -> Unsigned
     ensures { result ≡ held_unsigned (unsigned whole.now fraction.now) }
 {
@@ -170,7 +170,7 @@ pub fn held(whole: &[u8], fraction: &[u8]) -> Unsigned
     }
 }
 
-/// What digits stand for that follow digits which stand for `before`, held to one above 10^36.
+/// The value of digits that follow digits with the value `before`, clamped to one above 10^36.
 pub fn followed_by(before: u128, digits: &[u8]) -> u128
     requires { before ≤ max_number + 1 }
     ensures held { result ≤ max_number + 1 }

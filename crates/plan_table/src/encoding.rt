@@ -4,11 +4,11 @@ ghost use Rattle.std.specs.Prelude.{◌≡◌, IfOk, IsUtf8};
 
 use std::alloc::{AllocError, Global};
 
-/// How the bytes of a text stand for its characters.
+/// How the bytes of a text encode its characters.
 #[derive(Clone, Copy, Debug, PartialEq, Eq)]
 pub enum Encoding {
     Utf8,
-    /// In pairs of bytes, as a byte order mark says.
+    /// In pairs of bytes, as a byte order mark specifies.
     Utf16,
     /// One byte for each character, as older programs write texts of Western Europe.
     Windows1252,
@@ -28,8 +28,8 @@ const UPPER: [u16; 32] = [
     0x02DC, 0x2122, 0x0161, 0x203A, 0x0153, 0xFFFD, 0x017E, 0x0178,
 ];
 
-/// A text in UTF-8: as it is, where it is UTF-8; by pairs of bytes, where it begins with the byte order mark of UTF-16; and else by
-/// Windows-1252.
+/// A text in UTF-8: unchanged if it is UTF-8; from pairs of bytes if it begins with the byte order mark of UTF-16;
+/// otherwise from Windows-1252.
 pub fn decode(alloc: Global, bytes: Vec<u8>) -> Result<Decoded, AllocError>
     ensures same { IfOk result (λ decoded. IsUtf8 bytes.items → decoded.text.items ≡ bytes.items) }
 {

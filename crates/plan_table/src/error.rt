@@ -4,7 +4,7 @@ use std::alloc::AllocError;
 use std::fmt;
 use thiserror::Error;
 
-/// Where a field stands: the line in which its record begins, and its number in the record, both counted from 1.
+/// The position of a field: the line in which its record begins, and its number in the record, both counted from 1.
 #[derive(Clone, Copy, Debug, PartialEq, Eq)]
 pub struct Place {
     pub line: u64,
@@ -17,13 +17,13 @@ impl fmt::Display for Place {
     }
 }
 
-/// Why a field isn't spelled as CSV is.
+/// Why a field is not spelled as CSV.
 #[derive(Clone, Copy, Debug, PartialEq, Eq, Error)]
 pub enum Misspelling {
     /// Something follows the quote that ends a field.
     #[error("text follows the closing quote: write a quote that belongs to the field twice, or remove the quotes")]
     AfterQuote,
-    /// A field has a quote, and doesn't begin with one.
+    /// A field has a quote, but does not begin with one.
     #[error("a field without quotes has a quote inside: put the whole field in quotes, and write each quote inside twice")]
     QuoteInside,
     /// A carriage return ends a field, and no line feed follows.
@@ -34,7 +34,8 @@ pub enum Misspelling {
     OpenQuote,
 }
 
-/// What is wrong with a text that isn't CSV, and where: the line in which the field begins, and its number in the record.
+/// The fault of a text that is not CSV, and where it is: the line in which the field begins, and its number in the
+/// record.
 #[derive(Clone, Copy, Debug, PartialEq, Eq, Error)]
 #[error("{place}: {fault}")]
 pub struct CsvFault {
@@ -59,13 +60,13 @@ pub enum TableError {
         line: u64,
         count: usize,
     },
-    /// There is no record, where the first one says what the columns are.
+    /// There is no first record, which names the columns.
     #[error("the table is empty: begin with the line `{head}`, and write a line for each {item} below it")]
     NoHead {
         head: &'static str,
         item: &'static str,
     },
-    /// The first record doesn't say what the columns are.
+    /// The first record does not name the columns.
     #[error("line {line}: expected the line `{head}`: begin with it, and write a line for each {item} below it")]
     OtherHead {
         line: u64,
@@ -83,7 +84,7 @@ pub enum TableError {
     /// There is no pair, and so no department.
     #[error("the list has no pair: write a line for each below the first, or name the departments in the plan")]
     NoPair,
-    /// There are more than 256 departments; another one stands here.
+    /// There are more than 256 departments; this is the position of another one.
     #[error("{place}: the name \"{name}\" is that of a 257th department: at most 256 are read, so split the list")]
     TooManyDepartments {
         place: Place,
@@ -94,7 +95,7 @@ pub enum TableError {
     MissingField {
         place: Place,
     },
-    /// A name is none of the departments'.
+    /// A name is not one of the departments'.
     #[error("{place}: no department has the name \"{name}\": correct it, or add it to the departments of the plan")]
     UnknownName {
         place: Place,
@@ -152,7 +153,7 @@ pub enum TableError {
         line: u64,
         word: String,
     },
-    /// Two places stand at one point.
+    /// Two places are at the same point.
     #[error("the places \"{first}\" and \"{second}\" are at the same point: give each its own")]
     SamePoint {
         first: String,
@@ -170,13 +171,13 @@ pub enum TableError {
         place: Place,
         word: String,
     },
-    /// A cell is no decimal number.
+    /// A cell is not a decimal number.
     #[error("{place}: \"{word}\" is not a number: write digits and at most one decimal mark, such as `12`, `-0.25` or `1e3`, with no unit")]
     NotANumber {
         place: Place,
         word: String,
     },
-    /// A number doesn't fit once all are made whole.
+    /// A number is out of range once all are made whole.
     #[error("{place}: \"{word}\" is too large: times the power of ten that makes all numbers whole it lies outside -10^9 to 10^9; round the numbers or choose a larger unit")]
     TooLarge {
         place: Place,
@@ -189,7 +190,7 @@ pub enum TableError {
         from: String,
         to: String,
     },
-    /// The two halves of a table differ, where each stands for the other.
+    /// The two halves of a table differ although each completes the other.
     #[error("the cells from \"{from}\" to \"{to}\" and back hold different numbers: with `symmetric = true` leave one of them empty, or write the same number in both")]
     NotMirrored {
         from: String,
@@ -203,10 +204,10 @@ pub enum TableError {
     /// The file is a workbook, or another archive.
     #[error("the file is a workbook, not a text: save its sheet as CSV")]
     Workbook,
-    /// The text is no CSV.
+    /// The text is not CSV.
     #[error("{0}")]
     NotCsv(#[from] CsvFault),
-    /// A record is no UTF-8.
+    /// A record is not UTF-8.
     #[error("line {line} is not UTF-8: save the table as \"CSV UTF-8\"")]
     NotText {
         line: u64,

@@ -22,7 +22,7 @@ fn begins_exponent(byte: u8) -> bool
     byte == b'e' || byte == b'E'
 }
 
-/// What stands before a place of a word, or the whole word.
+/// The part of a word before a position, or the whole word.
 pub fn front_to(word: &[u8], at: Option<usize>) -> &[u8]
     requires { IfSome at (λ i. i < length word.now) }
     ensures { result.now ≡ front_of word.now at }
@@ -33,7 +33,7 @@ pub fn front_to(word: &[u8], at: Option<usize>) -> &[u8]
     }
 }
 
-/// Whether an exponent, where there is one, is one to three digits behind an optional sign.
+/// Whether an exponent, if present, is one to three digits after an optional sign.
 pub fn is_exponent(word: &[u8], at: Option<usize>) -> bool
     requires { IfSome at (λ i. i < length word.now) }
     ensures { result ≡ exponent_is word.now at }
@@ -54,7 +54,7 @@ fn is_power(digits: &[u8]) -> bool
     !digits.is_empty() && digits.len() <= 3 && all_digits(digits)
 }
 
-/// Puts the digits of a whole part and of a fraction behind a text, with the point where the exponent moves it.
+/// Appends the digits of a whole part and of a fraction to a text, with the point shifted by the exponent.
 pub fn push_unsigned(
     alloc: Global,
     text: &mut Vec<u8>,

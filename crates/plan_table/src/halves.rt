@@ -14,7 +14,7 @@ use crate::rows::{row_of, word_in};
 use csv::StringRecord;
 use std::alloc::{AllocError, Global};
 
-/// The rows of a square table with these names, in which each cell that says nothing has the word of the other half.
+/// The rows of a square table with these names, in which each empty cell takes the word of the reverse direction.
 pub fn completed(
     alloc: Global,
     rows: &[StringRecord],
@@ -119,7 +119,7 @@ fn entry_at(entries: &[i64], n: usize, i: usize, j: usize) -> i64
     entries[i * n + j]
 }
 
-/// The cells of a matrix, in which each that says nothing says what that of the way back does.
+/// The cells of a matrix, in which each empty one takes the content of the reverse direction.
 pub fn mirrored(
     alloc: Global,
     n: usize,

@@ -12,7 +12,8 @@ use crate::rows::word_in;
 use csv::StringRecord;
 use std::alloc::{AllocError, Global};
 
-/// Checks that the first three fields of a record are these words, in capital or small letters; below it stands a line for each item.
+/// Checks that the first three fields of a record are these words, in upper or lower case; a line for each item follows
+/// it.
 pub fn check_head(
     alloc: Global,
     text: &[u8],

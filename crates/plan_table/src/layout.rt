@@ -15,8 +15,8 @@ use crate::rows::word_in;
 use csv::StringRecord;
 use std::alloc::{AllocError, Global};
 
-/// Reads an arrangement from a text in CSV: the first record begins with `department,place`, in capital or small letters, and each further one
-/// with a department and its place. Further columns don't count.
+/// Reads an arrangement from a text in CSV: the first record begins with `department,place`, in upper or lower case,
+/// and each further one with a department and its place. Further columns are ignored.
 pub fn read_layout(alloc: Global, text: &[u8]) -> Result<Vec<Pin>, TableError>
     ensures { IfOk result (λ pins. IsLayoutText text.now pins.items) }
 {

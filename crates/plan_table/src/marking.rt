@@ -12,8 +12,8 @@ use crate::rows::{place_of, word_in};
 use csv::StringRecord;
 use std::alloc::{AllocError, Global};
 
-/// The decimal mark of a table's numbers, which stand in the fields from `first` to before `end`: the one that is given, or else the one by
-/// which all of them can be read. Where both can read them and would read them differently, that is an error.
+/// The decimal mark of a table's numbers, which are in the fields from `first` to before `end`: the given one, or
+/// otherwise the one with which all of them can be read. It is an error if both can read them with different results.
 pub fn mark_of_table(
     alloc: Global,
     text: &[u8],

@@ -16,7 +16,7 @@ use std::alloc::Global;
 /// The most names that a table may have.
 pub const MAX_NAMES: usize = 256;
 
-/// The names that stand behind the first field of a record.
+/// The names after the first field of a record.
 pub fn read_names(
     alloc: Global,
     text: &[u8],
@@ -92,7 +92,7 @@ fn new_name(
     Ok(own)
 }
 
-/// Checks that a name, which stands in this field of a row, is not empty and has no control character.
+/// Checks that a name, in this field of a row, is not empty and has no control character.
 pub fn check_name_text(
     text: &[u8],
     row: &StringRecord,

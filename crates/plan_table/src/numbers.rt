@@ -23,7 +23,7 @@ pub fn numbers_of(alloc: Global, names: &[String]) -> Result<NameNumbers, AllocE
     Ok(numbers)
 }
 
-/// The number of a name, where it has one.
+/// The number of a name, if it has one.
 pub fn number_of(numbers: &NameNumbers, name: &str) -> Option<usize>
     ensures { result ≡ get_by_text numbers.now name.now }
 {

@@ -12,7 +12,7 @@ use crate::exponent::{exponent_at, front_to, is_exponent, push_unsigned};
 use crate::rounding::parse_rounded;
 use std::alloc::{AllocError, Global};
 
-/// What stands before the fraction of a number.
+/// The mark before the fraction of a number.
 #[derive(Clone, Copy, Debug, PartialEq, Eq)]
 pub enum DecimalMark {
     Point,
@@ -45,9 +45,9 @@ impl DecimalMark {
 #[derive(Clone, Copy, Debug, PartialEq, Eq)]
 pub struct Reading {
     pub mark: DecimalMark,
-    /// To how many places behind the point numbers are rounded, where they are.
+    /// To how many decimals numbers are rounded, if they are.
     pub round: Option<usize>,
-    /// Whether row `i` and column `i` are of the same thing, so that the cell there may say nothing.
+    /// Whether row `i` and column `i` have the same name, so that the cell there may be empty.
     pub is_square: bool,
 }
 
@@ -103,7 +103,7 @@ pub fn read_number(
     }
 }
 
-/// Whether a word is a number, or says nothing.
+/// Whether a word is a number, or empty.
 #[tactic(auto, unfolding(crate::specs::Marking::IsWritten))]
 pub fn is_written(alloc: Global, mark: DecimalMark, word: &str) -> Result<bool, AllocError>
     ensures { IfOk result (λ written. IsTrue written ↔ IsWritten mark word.now) }
@@ -169,7 +169,7 @@ fn is_no_mark(byte: u8) -> bool
     !(byte == b'.' || byte == b',')
 }
 
-/// A word's sign, where it has one, and what follows it.
+/// A word's sign, if it has one, and what follows it.
 pub fn split_sign(word: &[u8]) -> (&[u8], &[u8])
     ensures sign { result.0.now ≡ sign_of word.now }
     ensures rest { result.1.now ≡ without_sign word.now }
@@ -265,7 +265,7 @@ fn is_in_place(group: u8, byte: u8, left: usize) -> bool
     }
 }
 
-/// Puts the digits of a whole part behind a text, or a zero where there is none.
+/// Appends the digits of a whole part to a text, or a zero if there is none.
 pub fn push_whole(text: &mut Vec<u8>, whole: &[u8]) -> Result<(), AllocError>
     ensures { OnOk result (text.new.items ≡ text.old.items ++ plain_whole whole.now) }
 {
@@ -276,7 +276,7 @@ pub fn push_whole(text: &mut Vec<u8>, whole: &[u8]) -> Result<(), AllocError>
     push_digits(text, whole)
 }
 
-/// Puts the digits among these bytes behind a text.
+/// Appends the digits among these bytes to a text.
 pub fn push_digits(text: &mut Vec<u8>, whole: &[u8]) -> Result<(), AllocError>
     ensures { OnOk result (text.new.items ≡ text.old.items ++ filter digit_of whole.now) }
 {
@@ -288,7 +288,7 @@ pub fn push_digits(text: &mut Vec<u8>, whole: &[u8]) -> Result<(), AllocError>
     Ok(())
 }
 
-/// Puts a point and the digits of a fraction behind a text, where there are any.
+/// Appends a point and the digits of a fraction to a text, if there are any.
 pub fn push_fraction(text: &mut Vec<u8>, fraction: &[u8]) -> Result<(), AllocError>
     ensures { OnOk result (text.new.items ≡ text.old.items ++ plain_fraction fraction.now) }
 {
@@ -299,7 +299,7 @@ pub fn push_fraction(text: &mut Vec<u8>, fraction: &[u8]) -> Result<(), AllocErr
     text.extend_from_slice(fraction)
 }
 
-/// Whether a cell says nothing: it is empty, a dash or a cross.
+/// Whether a cell is empty, a dash or a cross.
 pub fn is_nothing(word: &[u8]) -> bool
     ensures { result ≡ is_nothing word.now }
 {

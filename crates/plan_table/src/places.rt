@@ -17,7 +17,7 @@ use crate::rules::Rules;
 use crate::scale::{ScaleError, least_scale, scaled_entries};
 use std::alloc::{AllocError, Global};
 
-/// A point of the plane. In a table of places with a scale, a coordinate `c` stands for `c / 10^scale`.
+/// A point of the plane. In a table of places with a scale, a coordinate `c` represents `c / 10^scale`.
 #[derive(Clone, Copy, Debug, PartialEq, Eq)]
 pub struct Point {
     pub x: i64,
@@ -32,11 +32,11 @@ pub struct PlaceTable {
     pub points: Vec<Point>,
 }
 
-/// Reads places with coordinates from a text in CSV, and each number exactly, or rounded where the rules say so.
+/// Reads places with coordinates from a text in CSV, and each number exactly, or rounded if the rules require it.
 ///
-/// The first record is `name,x,y`, in capital or small letters; each further one has a name and two numbers. There are 1 to 256 names, none
-/// empty, and no two that differ only in capital letters and blanks. All numbers are multiplied by the least power of ten that makes them
-/// whole, and lie from -10^9 to 10^9 then. No two places stand at one point.
+/// The first record is `name,x,y`, in upper or lower case; each further one has a name and two numbers. There are 1 to
+/// 256 names, none empty, and no two that differ only in case and blanks. All numbers are multiplied by the least power
+/// of ten that makes them whole, and are then from -10^9 to 10^9. No two places are at the same point.
 pub fn read_places(alloc: Global, text: &[u8], rules: Rules) -> Result<PlaceTable, TableError>
     ensures text { IfOk result (λ t. IsPlacesText rules text.now (map string_bytes t.names.items) t.scale t.points.items) }
     ensures points { IfOk result (λ t. AreNamedPoints (map string_bytes t.names.items) t.points.items) }

@@ -11,8 +11,8 @@ use crate::separator::separator_of;
 use csv::{Error, ErrorKind, Position, ReaderBuilder, StringRecord};
 use std::alloc::{AllocError, Global};
 
-/// All records of a text, behind the byte order mark that it may begin with, without what spreadsheets put around them: blanks around
-/// fields, empty fields at the end of a record, and records of such fields alone.
+/// All records of a text, after an optional byte order mark, without what spreadsheets add to them: blanks around
+/// fields, empty fields at the end of a record, and records of such fields only.
 pub fn read_records(alloc: Global, text: &[u8]) -> Result<Vec<StringRecord>, TableError>
     ensures { IfOk result (λ v. AreRecordsOf text.now (map fields_of v.items)) }
 {

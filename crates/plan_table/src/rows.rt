@@ -17,7 +17,7 @@ use crate::records::line_of;
 use csv::StringRecord;
 use std::alloc::{AllocError, Global};
 
-/// The numbers of the rows of these names, by rows, so many in each. The rows stand in any order.
+/// The numbers of the rows with these names, by rows, this many in each. The rows may be in any order.
 pub fn read_rows(
     alloc: Global,
     text: &[u8],
@@ -131,7 +131,7 @@ pub fn has_field(record: &StringRecord, field: usize, word: &str) -> bool
     }
 }
 
-/// Checks that a record ends behind its name and so many cells.
+/// Checks that a record ends after its name and this many cells.
 pub fn check_end(
     alloc: Global,
     text: &[u8],
@@ -175,7 +175,7 @@ pub fn read_cell(
     }
 }
 
-/// A field of a record, or the empty word where the record has ended.
+/// A field of a record, or the empty word if the record has ended.
 pub fn word_in(row: &StringRecord, field: usize) -> &str
     ensures { result.now ≡ word_at (fields_of row.now) field }
 {
@@ -208,7 +208,7 @@ fn cell_fault(
     }
 }
 
-/// The error of a number that doesn't fit, where it is the `i`th of the rows' numbers.
+/// The error for a number out of range that is the `i`th of the rows' numbers.
 pub fn too_large(
     alloc: Global,
     text: &[u8],
@@ -227,7 +227,7 @@ pub fn too_large(
     }
 }
 
-/// The error of a number that doesn't fit, where it stands in this field of a record.
+/// The error for a number out of range in this field of a record.
 pub fn too_large_in(alloc: Global, text: &[u8], record: &StringRecord, field: usize) -> TableError
     requires { field < 2 ^ 64 - 1 }
 {

@@ -5,11 +5,11 @@ use crate::numeral::DecimalMark;
 /// How the tables of a plan are read.
 #[derive(Clone, Copy, Debug, PartialEq, Eq)]
 pub struct Rules {
-    /// What stands before the fractions of numbers, where that is given.
+    /// The mark before the fractions of numbers, if it is given.
     pub decimal_mark: Option<DecimalMark>,
-    /// To how many places behind the point numbers are rounded, half away from zero, where they are.
+    /// To how many decimals numbers are rounded, half away from zero, if they are.
     pub round: Option<usize>,
-    /// Whether each half of a matrix stands for the other where that says nothing.
+    /// Whether each half of a matrix completes the other.
     pub is_symmetric: bool,
     /// Whether amounts that a list has for the same two departments are added.
     pub adds_up: bool,

@@ -21,7 +21,7 @@ pub fn least_scale(decimals: &[Decimal]) -> usize
 /// Why numbers have no entries.
 #[derive(Clone, Copy)]
 pub enum ScaleError {
-    /// The number at this place lies outside -10^9 to 10^9 once it is scaled.
+    /// The number at this position is outside -10^9 to 10^9 once it is scaled.
     TooLarge(usize),
     /// There is no memory left.
     OutOfMemory,

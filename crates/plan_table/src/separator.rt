@@ -4,7 +4,7 @@ ghost use Rattle.std.specs.Prelude.{◌≡◌, false};
 ghost use Rattle.plan_table.specs.Marks.{byte_of};
 ghost use Rattle.plan_table.specs.Separators.{count_outside, separator_by, separator_of};
 
-/// What stands between the fields of a table's text.
+/// The separator of the fields in a table's text.
 #[derive(Clone, Copy, Debug, PartialEq, Eq)]
 pub enum Separator {
     Comma,

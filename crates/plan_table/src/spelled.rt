@@ -6,8 +6,8 @@ ghost use Rattle.plan_table.specs.Spelling.{IsWorth, IsWorthNone, SpellsJust, Sp
 
 use crate::decimal::{MAX_NUMBER, parse_unsigned};
 
-/// The number that a word spells over `10^places`. None where it spells no number, or one that isn't whole over that power of ten, or lies outside
-/// -10^36 to 10^36.
+/// The number that a word spells over `10^places`. None if it spells no number, or one that is not whole over that
+/// power of ten, or is outside -10^36 to 10^36.
 pub fn spelled_number(word: &[u8], places: usize) -> Option<i128>
     ensures { MatchOption result (SpellsNone word.now places) (SpellsJust word.now places) }
 {

@@ -8,8 +8,8 @@ ghost use Rattle.plan_table.specs.Spelling.{Spells, pointed_text, sign_text};
 use crate::decimal::without_zeros;
 use std::alloc::{AllocError, Global};
 
-/// `number / 10^places` as a decimal number, exactly: a sign where it is below zero, digits, and where it isn't whole a point and
-/// the digits behind it, the last of them no zero.
+/// `number / 10^places` as a decimal number, exactly: a sign if it is negative, digits, and if it is not whole a point
+/// and its decimals, the last of them not zero.
 pub fn decimal_text(alloc: Global, number: i128, places: usize) -> Result<Vec<u8>, AllocError>
     requires { places < 2 ^ 32 }
     ensures { IfOk result (λ text. Spells text.items number places) }

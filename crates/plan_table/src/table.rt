@@ -23,8 +23,8 @@ use crate::totals::check_no_total;
 use csv::StringRecord;
 use std::alloc::Global;
 
-/// A matrix whose rows and columns have the same names: `names.len()` by `names.len()` entries by rows. An entry `e` stands for
-/// `e / 10^scale`.
+/// A matrix whose rows and columns have the same names: `names.len()` by `names.len()` entries by rows. An entry `e`
+/// represents `e / 10^scale`.
 #[derive(Debug, Drop)]
 pub struct NamedMatrix {
     pub names: Vec<String>,
@@ -32,18 +32,18 @@ pub struct NamedMatrix {
     pub entries: Vec<i64>,
 }
 
-/// Reads a matrix with names from a text in CSV, and each number exactly, or rounded where the rules say so.
+/// Reads a matrix with names from a text in CSV, and each number exactly, or rounded if the rules require it.
 ///
-/// The first record has a first field, which is no number, and then 1 to 256 names; each further record has a name and as many numbers, in
-/// the columns' order. The rows stand in any order. A row and a column called a total that are the sums of the others are refused. No name is
-/// empty, and no two differ only in capital letters and blanks. The separator is that of the first line. Blanks around fields, and empty
-/// fields at a record's end, count for nothing.
+/// The first record has a first field that is not a number, and then 1 to 256 names; each further record has a name and
+/// as many numbers, in the columns' order. The rows may be in any order. A row and a column named as a total that are
+/// the sums of the others are refused. No name is empty, and no two differ only in case and blanks. The separator is
+/// that of the first line. Blanks around fields, and empty fields at a record's end, are ignored.
 ///
-/// A number has an optional sign, digits, optionally a decimal mark with digits, and optionally an exponent; see `DecimalMark`. Without a
-/// given mark, it is the one by which all numbers can be read. A cell between a thing and itself may be empty, a dash or a cross, for 0; where
-/// the halves of the matrix stand for each other, each such cell is that of the way back, and where both say something, they say the same. All
-/// numbers are multiplied by the least power of ten that makes them whole, and lie from -10^9 to 10^9 then. A byte order mark at the front is
-/// passed over.
+/// A number has an optional sign, digits, optionally a decimal mark with digits, and optionally an exponent; see
+/// `DecimalMark`. If no mark is given, it is the one with which all numbers can be read. A cell on the diagonal may be
+/// empty, a dash or a cross, for 0; if the halves of the matrix complete each other, each such cell takes the value of
+/// the reverse direction, and if both directions have numbers, they must be equal. All numbers are multiplied by the
+/// least power of ten that makes them whole, and are then from -10^9 to 10^9. A leading byte order mark is skipped.
 pub fn read_matrix(alloc: Global, text: &[u8], rules: Rules) -> Result<NamedMatrix, TableError>
     ensures text { IfOk result (λ m. IsMatrixText rules text.now (map string_bytes m.names.items) m.scale m.entries.items) }
     ensures square { IfOk result (λ m. IsNamedSquare (map string_bytes m.names.items) m.entries.items) }

@@ -20,8 +20,8 @@ const WORDS: [&str; 12] = [
     "totaal",
 ];
 
-/// Checks that no row and column of a square matrix are called a total and are the sums of the others. This keeps out what is hardly ever
-/// meant; nothing else rests on it.
+/// Checks that no row and column of a square matrix are named as a total and are the sums of the others. This rejects
+/// what is hardly ever intended; nothing else depends on it.
 pub fn check_no_total(alloc: Global, names: &[String], entries: &[i64]) -> Result<(), TableError> {
     for (i, name) in names.iter().enumerate() {
         let key = folded_name(alloc, name.as_str())?;

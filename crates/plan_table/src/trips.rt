@@ -40,12 +40,14 @@ pub struct Trip {
     pub amount: Decimal,
 }
 
-/// Reads flows that are listed pair by pair from a text in CSV, and each number exactly, or rounded where the rules say so; the departments are those of the list, in the order in
-/// which they first appear.
+/// Reads flows listed pair by pair from a text in CSV, and each number exactly, or rounded if the rules require it; the
+/// departments are those of the list, in order of first appearance.
 ///
-/// The first record begins with `from,to,amount`, in capital or small letters; each further one has the names of two departments and a number.
-/// Further columns don't count. No pair stands twice, unless the rules add such amounts up; one that isn't listed has no flow, or that of the
-/// way back where the rules say so. No two names differ only in capital letters and blanks. All numbers are multiplied by the least power of ten that makes them whole, and lie from -10^9 to 10^9 then.
+/// The first record begins with `from,to,amount`, in upper or lower case; each further one has the names of two
+/// departments and a number. Further columns are ignored. No pair is repeated, unless the rules add such amounts up;
+/// one that is not listed has no flow, or that of the reverse direction if the rules say so. No two names differ only
+/// in case and blanks. All numbers are multiplied by the least power of ten that makes them whole, and are then from
+/// -10^9 to 10^9.
 pub fn read_trips(alloc: Global, text: &[u8], rules: Rules) -> Result<NamedMatrix, TableError>
     ensures text { IfOk result (λ m. let names = map string_bytes m.names.items in
         (t : IsTripsText rules text.now names m.scale m.entries.items) × AppearInOrder (words_of t.rows) names) }

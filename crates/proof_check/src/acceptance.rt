@@ -18,8 +18,9 @@ use qap_proof::{ProofError, Verdict};
 use std::alloc::Global;
 use std::io::BufRead;
 
-/// What a text shows of an instance's costs, where it is that of a proof with pair duals which proves its bound for it: all that the
-/// reader has. Of the tree no more is held than the forms of the nodes above the line that is read, and the pair duals in force there.
+/// What a text establishes about an instance's costs, if it is that of a proof with pair duals which proves its bound
+/// for it: all that the reader has. Of the tree it stores only the forms of the nodes above the current line, and the
+/// pair duals in force there.
 ///
 /// `step` is the instance's cost step. Otherwise the first fault that was found is reported, by its line.
 pub fn accept<R: BufRead>(

@@ -39,7 +39,7 @@ impl Model for Ground {
 }
 
 impl Ground {
-    /// What searches rest on whose pair duals have this scale; `None` where the instance is out of range for that scale.
+    /// What searches with pair duals of this scale need; `None` if the instance is out of range for that scale.
     pub fn new(alloc: Global, instance: &Instance, scale: u32) -> Result<Option<Ground>, AllocError>
         ensures { IfOk result (λ found. MatchOption found (HasRange instance.now scale → ⊥) (λ (I : Problem). I ≡ instance.now)) }
     {
@@ -70,8 +70,8 @@ impl Ground {
         &self.instance
     }
 
-    /// Searches the subtree below a node, first under pair duals of it that soft sweeps and then this many rounds find, and improves the
-    /// incumbent: the text of a tree over the node, or `None` where the stop said so.
+    /// Searches the subtree below a node, first under pair duals of it that soft sweeps and then this many rounds find,
+    /// and improves the incumbent: the text of a tree over the node, or `None` if a stop was requested.
     pub fn solve<S: Stop>(
         &self,
         alloc: Global,

@@ -12,16 +12,16 @@ use std::alloc::AllocError;
 use std::marker::Model;
 use subtree_search::{Incumbent, TextRecord};
 
-/// A proof with pair duals: a root whose facilities ascend, a permutation with its cost, and the text of a tree that shows that no
-/// permutation which completes the root costs less.
+/// A proof with pair duals: a root whose facilities ascend, a permutation with its cost, and the text of a tree that
+/// proves that no permutation which completes the root costs less.
 ///
-/// Where the root is not empty, the permutation need not complete it: it may cost less than all that do.
+/// If the root is not empty, the permutation need not complete it: it may cost less than all that do.
 #[derive(Drop)]
 pub struct PairProof {
     root: Partial,
     permutation: Perm,
     cost: i128,
-    /// One behind the other, these are the tree's text.
+    /// Concatenated, these are the tree's text.
     pieces: Vec<TextRecord>,
 }
 

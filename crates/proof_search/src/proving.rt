@@ -14,18 +14,19 @@ use subtree_search::{Incumbent, Stop, SubtreeSearch};
 /// What a search for a proof yields.
 #[derive(Drop)]
 pub struct Found {
-    /// The proof, where it was found.
+    /// The proof, if one was found.
     pub proof: Option<PairProof>,
     /// How many nodes were evaluated: children that were neither pruned by their parent nor symmetric to an earlier one.
     pub nodes: u64,
 }
 
-/// Searches the completions of a root, whose facilities ascend, and proves that none of them costs less than the best permutation known
-/// at the end, which is the start where none that costs less was found. The root has pair duals of this scale, which soft sweeps and then
-/// this many rounds find, and so has each node below it whose trial under those of a node above ends at its limit.
+/// Searches the completions of a root, whose facilities ascend, and proves that none of them costs less than the
+/// incumbent at the end, which is the start if nothing cheaper was found. The root has pair duals of this scale, which
+/// soft sweeps and then this many rounds find, and so has each node below it whose trial under those of an ancestor
+/// ends at its limit.
 ///
-/// There is no proof where the instance is out of range for the scale (`dual_ascent::has_range`), and where the stop said so. The error
-/// is want of memory.
+/// There is no proof if the instance is out of range for the scale (`dual_ascent::has_range`), or if a stop was
+/// requested. The only error is out of memory.
 pub fn prove<S: Stop>(
     alloc: Global,
     instance: &Instance,

@@ -103,8 +103,8 @@ fn write_lines<W: Write>(
 
 /// Writes the text of a proof, and flushes the writer.
 ///
-/// Where the call refuses, a beginning of the text has gone out: for want of memory (`OutOfMemory`) no call of the writer
-/// has failed, and otherwise one has (`Device`).
+/// At a refusal, a prefix of the text has been written: if memory ran out (`OutOfMemory`), no call of the writer has
+/// failed, and otherwise one has (`Device`).
 pub fn write<W: Write>(
     alloc: Global,
     writer: &mut Counted<W>,

@@ -40,8 +40,8 @@ pub fn reaching_law()
         → (ReachesBound step bound scale value ↔ ((pos scale *ℤ (pos step *ℤ k)) <ℤ value)) }
 {}
 
-/// No completion of the root of a valid proof costs less than its bound; and where the root is empty and the bound is the cost,
-/// that is the least cost, which the permutation has.
+/// No completion of the root of a valid proof costs less than its bound; and if the root is empty and the bound is the
+/// cost, that is the least cost, which the permutation has.
 pub fn proof_law()
     ensures bound { (I : Problem) (C : PairClaim) → IsPairProof C → DividesCosts I (step_of I) → PairProves I C → NoneCompletesForLess I C.root C.bound }
     ensures least { (I : Problem) (C : PairClaim) → IsPairProof C → DividesCosts I (step_of I) → PairProves I C → C.root ≡ root_of I.size → C.bound ≡ C.cost → IsLeast I C.cost }

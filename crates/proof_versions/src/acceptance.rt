@@ -11,10 +11,11 @@ use qap_cost::Instance;
 use qap_proof::{ProofError, Verdict};
 use std::alloc::Global;
 
-/// What a text shows of an instance's costs, where it is that of a proof of either version which proves its bound for it.
+/// What a text establishes about an instance's costs, if it is that of a proof in either version which proves its bound
+/// for it.
 ///
-/// A text that doesn't begin with the line of version 2 is judged as `qap_proof::accept` does, which says what is reported
-/// otherwise. Of one that does, the first fault that `proof_check::accept` found is reported.
+/// A text that does not begin with the line of version 2 is checked, and faults are reported, as in
+/// `qap_proof::accept`. For one that does, the first fault that `proof_check::accept` found is reported.
 pub fn accept(alloc: Global, instance: &Instance, text: &[u8]) -> Result<Verdict, ProofError>
     ensures verdict { MatchResult result
         (EitherShows instance.now text.now)

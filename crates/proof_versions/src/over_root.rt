@@ -22,9 +22,9 @@ struct PairStated {
     bound: i128,
 }
 
-/// What a text shows of the permutations that complete this root, where it is that of a proof of either version over the root which
-/// proves its bound for the instance; `None` where it is one over another root. It is judged as `accept` does, which says what is
-/// reported otherwise.
+/// What a text establishes about the permutations that complete this root, if it is that of a proof in either version
+/// over the root which proves its bound for the instance; `None` if it is one over another root. It is checked, and
+/// faults are reported, as in `accept`.
 pub fn accept_over(
     alloc: Global,
     instance: &Instance,

@@ -21,7 +21,7 @@ use gilmore_lawler::RankedInstance;
 use qap_cost::{Instance, Partial};
 use std::alloc::Global;
 
-/// What a text shows of an instance's least cost.
+/// What a text establishes about an instance's least cost.
 #[derive(Clone, Copy, Debug, PartialEq, Eq)]
 pub enum Verdict {
     /// This is the least cost.
@@ -30,9 +30,10 @@ pub enum Verdict {
     Gap(i128, i128),
 }
 
-/// What a text shows of an instance's least cost, where it is that of a certificate for it.
+/// What a text establishes about an instance's least cost, if it is that of a certificate for it.
 ///
-/// Else the first fault is reported: every fault that `read` reports comes before every fault that `check` reports.
+/// Otherwise the first fault is reported: every fault that `read` reports comes before every fault that `check`
+/// reports.
 pub fn accept(alloc: Global, instance: &Instance, text: &[u8]) -> Result<Verdict, CertError>
     ensures verdict { MatchResult result
         (ShowsVerdict instance.now text.now)

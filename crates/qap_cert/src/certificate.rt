@@ -14,9 +14,9 @@ use crate::tree::Tree;
 use qap_cost::{MAX_VALUE, Perm};
 use std::marker::Model;
 
-/// A cost from -10^24 to 10^24, a bound from -10^24 to the cost, a permutation that is to have the cost, and a tree of the
-/// permutation's size that is to show that no permutation costs less than the bound. Whether it does, for an instance, is
-/// for `check` to say.
+/// A cost from -10^24 to 10^24, a bound from -10^24 to the cost, a permutation that should have the cost, and a tree of
+/// the permutation's size that should prove that no permutation costs less than the bound. `check` decides whether it
+/// does for an instance.
 #[derive(Drop)]
 pub struct Certificate {
     pub(crate) cost: i128,
@@ -40,15 +40,14 @@ impl Model for Certificate {
 }
 
 impl Certificate {
-    /// The certificate of this cost, this bound, this permutation and this tree, where they have the shape of one.
+    /// The certificate with this cost, bound, permutation and tree, if they have the required shape.
     ///
-    /// No memory is taken. Where the call refuses, it reports the first fault in order of the lines that the
-    /// certificate's text would have, and the permutation and the tree come back: `BadLine(3)` for a cost outside
-    /// -10^24 to 10^24, `BadLine(5)` for a bound that is above the cost or outside that range, `SplitTooDeep` for a
-    /// split where no facility is free, `FacilityTaken` for a split on a facility that is placed or isn't below the
-    /// size, `SplitWidth` for one with another number of children than there are free locations, `DualCount` for a
-    /// bound with another number of duals than there are free facilities or free locations, and `DualRange` for a dual
-    /// outside -10^24 to 10^24.
+    /// Allocates nothing. A refusal reports the first fault in order of the lines that the certificate's text would
+    /// have, and returns the permutation and the tree: `BadLine(3)` for a cost outside -10^24 to 10^24, `BadLine(5)`
+    /// for a bound that is above the cost or outside that range, `SplitTooDeep` for a split where no facility is free,
+    /// `FacilityTaken` for a split on a facility that is placed or not below the size, `SplitWidth` for one with
+    /// another number of children than free locations, `DualCount` for a bound with another number of duals than free
+    /// facilities or free locations, and `DualRange` for a dual outside -10^24 to 10^24.
     pub fn new(
         cost: i128,
         bound: i128,
@@ -78,7 +77,7 @@ impl Certificate {
         self.cost
     }
 
-    /// The bound that no permutation is to be below: from -10^24 to the cost.
+    /// The claimed lower bound: from -10^24 to the cost.
     pub fn bound(&self) -> i128
         ensures value { result ≡ self.now.bound }
         ensures certificate { IsCertificate self.now }

@@ -37,14 +37,13 @@ pub(crate) struct Parent<'a> {
     pub(crate) locations: &'a [u16],
 }
 
-/// Whether the certificate shows, by what it says alone, that no permutation of the instance costs less than its bound. Where
-/// the bound is the cost, that is the least cost.
+/// Whether the certificate alone proves that no permutation of the instance costs less than its bound. If the bound is
+/// the cost, that is the least cost.
 ///
-/// The permutation is to be of the instance's size (`SizeDiffers(2)` if not) and to have the cost (`CostDiffers(3)`).
-/// Then the bounds of the tree, in preorder, are each to have duals that fit the reduced matrix of their part
-/// (`NotFeasible`) and that reach, with the cost of the placed facilities, the certificate's bound at least
-/// (`BoundTooLow`). The first that fails is reported by the line that it has in the certificate's text. `OutOfMemory`
-/// says nothing of the certificate.
+/// The permutation must be of the instance's size (`SizeDiffers(2)` if not) and have the cost (`CostDiffers(3)`). Then
+/// each bound of the tree, in preorder, must have duals that fit the Gilmore-Lawler matrix of its part (`NotFeasible`)
+/// and whose sum plus the cost of the placed facilities is at least the certificate's bound (`BoundTooLow`). The first
+/// that fails is reported by its line in the certificate's text. `OutOfMemory` implies nothing about the certificate.
 pub fn check(alloc: Global, instance: &Instance, certificate: &Certificate) -> Result<(), CertError>
     ensures verdict { MatchResult result
         (λ done. Certifies instance.now certificate.now)

@@ -11,13 +11,13 @@ pub enum CertError {
     /// The certificate is of another size than the instance.
     #[error("line {0}: the size is not the instance's")]
     SizeDiffers(u64),
-    /// The first line isn't that of a certificate.
+    /// The first line is not that of a certificate.
     #[error("the first line is not that of a certificate")]
     BadHeader,
-    /// The first line names a version that isn't known.
+    /// The first line names an unknown version.
     #[error("the certificate's version is not known")]
     BadVersion,
-    /// A line isn't spelled as one at its place is.
+    /// A line is malformed.
     #[error("line {0} is not spelled as it should be")]
     BadLine(u64),
     /// The text ends before this line does.
@@ -29,28 +29,28 @@ pub enum CertError {
     /// The permutation has another cost than is stated.
     #[error("line {0}: the permutation has another cost")]
     CostDiffers(u64),
-    /// The locations aren't each of 1 to the size once.
+    /// The locations do not list each of 1 to the size once.
     #[error("line {0}: the locations are no permutation")]
     PermBad(u64),
-    /// A split stands where no facility is free.
+    /// A split occurs where no facility is free.
     #[error("line {0} splits where no facility is free")]
     SplitTooDeep(u64),
-    /// A split names a facility that is placed already, or is none of the size.
+    /// A split names a facility that is already placed, or not below the size.
     #[error("line {0} splits on a facility that is not free")]
     FacilityTaken(u64),
-    /// A bound hasn't one dual for each free facility and each free location.
+    /// A bound does not have one dual for each free facility and each free location.
     #[error("line {0} has another number of duals")]
     DualCount(u64),
-    /// A dual lies outside -10^24 to 10^24.
+    /// A dual is outside -10^24 to 10^24.
     #[error("line {0} has a dual outside -10^24 to 10^24")]
     DualRange(u64),
-    /// The duals don't fit the reduced matrix.
+    /// The duals do not fit the Gilmore-Lawler matrix.
     #[error("line {0}: the duals don't fit the reduced matrix")]
     NotFeasible(u64),
     /// The duals fit, but bound their part by less than the certificate's bound.
     #[error("line {0}: the duals bound their part by too little")]
     BoundTooLow(u64),
-    /// A split hasn't one child for each free location.
+    /// A split does not have one child for each free location.
     #[error("line {0} splits into another number of children")]
     SplitWidth(u64),
     /// There is no memory left.
@@ -65,7 +65,7 @@ impl CertError {
     ghost use Rattle.std.specs.Prelude.{◌≡◌};
     ghost use Rattle.qap_cert.specs.Refusal.{certificate_refusal};
 
-    /// The refusal that the fault is reported as: its number, its name, and its line where it has one.
+    /// The refusal with which the fault is reported: its number, its name, and its line if it has one.
     pub fn refusal(self) -> Refusal
         ensures { result ≡ certificate_refusal self }
     {

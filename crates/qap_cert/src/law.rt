@@ -10,15 +10,15 @@ ghost use Rattle.qap_cert.specs.Text.{IsCertificateText};
 ghost use Rattle.qap_cert.specs.TextFault.{IsTextFault};
 ghost use Rattle.qap_cert.specs.declared.error.CertError.{CertError};
 
-/// No permutation of the instance costs less than the bound that is certified; and where that is the cost, it is the least
-/// cost, which the permutation has.
+/// No permutation of the instance costs less than the certified bound; and if that is the cost, it is the least cost,
+/// which the permutation has.
 pub fn certified_law()
     ensures bound { (I : Problem) (C : Claim) → IsInstance I → Certifies I C → NoneCostsLess I C.bound }
     ensures least { (I : Problem) (C : Claim) → IsInstance I → IsCertificate C → Certifies I C → C.bound ≡ C.cost → IsLeast I C.cost }
 {}
 
-/// What has a first fault of shape is no certificate, and a certificate that has a fault for an instance doesn't certify its
-/// bound; and there is only one first fault.
+/// What has a first fault of shape is not a certificate, and a certificate that has a fault for an instance does not
+/// certify its bound; and the first fault is unique.
 pub fn fault_law()
     ensures certificate { (C : Claim) (e : CertError) → IsClaimFault C e → IsCertificate C → ⊥ }
     ensures certified { (I : Problem) (C : Claim) (e : CertError) → IsFault I C e → Certifies I C → ⊥ }

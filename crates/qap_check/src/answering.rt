@@ -13,8 +13,8 @@ use qap_io::{Counted, Status};
 use std::alloc::Global;
 use std::io::{Read, Write};
 
-/// Answers a question on the output, and returns the exit status. Where there is no answer, the line of the refusal
-/// goes to the other writer; that it could not be written changes no status.
+/// Answers a request on the output, and returns the exit status. If there is no answer, the line of the refusal goes to
+/// the other writer; failing to write it does not change the status.
 ///
 /// Without a second reader both texts come from the first one.
 pub fn answered<R: Read, S: Read, W: Write, E: Write>(

@@ -4,23 +4,23 @@ use clap::{Arg, Command};
 use qap_command::CommandError;
 use std::alloc::{AllocError, Global};
 
-/// The line that shows how the program is used.
+/// The usage line.
 pub const USAGE: &str = "usage: qapcheck value|optimal [INSTANCE OTHER]";
 
-/// What is asked for, and of which texts.
+/// The request, and the files of its texts.
 #[derive(Clone, Copy, Debug, PartialEq, Eq)]
 pub struct Request<'a> {
     pub question: Question,
-    /// The files of the two texts, or `None` where both stand on standard input.
+    /// The files of the two texts, or `None` if both are on standard input.
     pub files: Option<Files<'a>>,
 }
 
-/// What is to be checked.
+/// What to check.
 #[derive(Clone, Copy, Debug, PartialEq, Eq)]
 pub enum Question {
     /// The cost that a solution states.
     Value,
-    /// The least cost that a certificate shows.
+    /// The least cost that a certificate establishes.
     Optimal,
 }
 

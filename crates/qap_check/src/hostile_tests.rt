@@ -231,7 +231,7 @@ fn one_input_fails(rt: HostRuntime) -> Result<(), Fail> {
     Ok(())
 }
 
-/// What became of a writer: how many of its calls failed, whether it was flushed, and what went out.
+/// The final state of a writer: how many of its calls failed, whether it was flushed, and what was written.
 type Ended = (u64, bool, Vec<u8>);
 
 fn end_of(output: Counted<OneByte<FailAt<Vec<u8>>>>) -> Ended {

@@ -17,13 +17,13 @@ use qap_text::gap_line;
 use std::alloc::{AllocError, Global};
 use std::io::{Read, Write};
 
-/// Reads an instance and a certificate for it, and writes one line with what the certificate shows: the least cost, or
-/// a bound and the cost above it.
+/// Reads an instance and a certificate for it, and writes one line with what the certificate establishes: the least
+/// cost, or a bound and the cost above it.
 ///
-/// Without a second reader both texts come from the first one, one after the other, and white space and commas between
-/// them are passed over; else the certificate is all that the second reader has. The instance is judged before the second
-/// reader is read. Where the input is refused, nothing is written; where the writer fails, a beginning of the right line
-/// has gone out.
+/// Without a second reader both texts come from the first one, in sequence, and white space and commas between them are
+/// skipped; otherwise the certificate is all that the second reader has. The instance is checked before the second
+/// reader is read. If the input is refused, nothing is written; if the writer fails, a prefix of the right line has
+/// been written.
 pub fn optimal_stream<R: Read, S: Read, W: Write>(
     alloc: Global,
     reader: &mut Counted<R>,

@@ -12,10 +12,10 @@ use qap_text::{MAX_INPUT, read_all, read_instance, skip_separators};
 use std::alloc::Global;
 use std::io::Read;
 
-/// Reads an instance, and the text that goes with it.
+/// Reads an instance, and its second text.
 ///
-/// Without a second reader both come from the first one, one after the other; else the other text is all that the second
-/// reader has. The instance is judged before the second reader is read.
+/// Without a second reader both come from the first one, in sequence; otherwise the second text is all that the second
+/// reader has. The instance is checked before the second reader is read.
 pub fn read_texts<R: Read, S: Read>(
     alloc: Global,
     reader: &mut Counted<R>,

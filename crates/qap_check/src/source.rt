@@ -54,7 +54,7 @@ impl OtherText {
         OtherText { bytes, start }
     }
 
-    /// A text of its own.
+    /// A separate text.
     pub fn whole(bytes: Vec<u8>) -> OtherText
         ensures { result ≡ bytes.items }
     {

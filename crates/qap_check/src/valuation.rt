@@ -74,7 +74,7 @@ impl Valuation {
 impl Match {
     ghost use Rattle.qap_check.specs.Valuation.{match_name, match_status};
 
-    /// How a run ends that answers so: refused, where the stated value is neither cost.
+    /// The status of a run with this answer: refused, if the stated value matches neither cost.
     pub fn status(self) -> Status
         ensures { result ≡ match_status self }
     {

@@ -19,9 +19,9 @@ use std::io::{Read, Write};
 /// Reads an instance and a solution of it, and writes what they yield as four lines: the permutation's cost, that of
 /// its inverse, the value that the solution states, and which of the two costs that is.
 ///
-/// Without a second reader both texts come from the first one, one after the other; else the solution's is all that the
-/// second reader has. The instance is judged before the second reader is read. Where the input is refused, nothing is
-/// written; where the writer fails, a beginning of the right lines has gone out.
+/// Without a second reader both texts come from the first one, in sequence; otherwise the solution's is all that the
+/// second reader has. The instance is checked before the second reader is read. If the input is refused, nothing is
+/// written; if the writer fails, a prefix of the right lines has been written.
 pub fn value_stream<R: Read, S: Read, W: Write>(
     alloc: Global,
     reader: &mut Counted<R>,

@@ -5,10 +5,10 @@ use std::alloc::AllocError;
 use std::io;
 use thiserror::Error;
 
-/// Why a command line asks for nothing. Whatever is wrong with it, a request for help too, is answered by the usage line.
+/// Why a command line is rejected. The usage line answers every fault, and a request for help.
 #[derive(Clone, Copy, Debug, PartialEq, Eq, Error)]
 pub enum CommandError {
-    /// It isn't as the usage line says.
+    /// It does not match the usage line.
     #[error("the command line is not as the usage line says")]
     Usage,
     /// There is no memory left.

@@ -11,7 +11,7 @@ pub fn words(rt: &(impl Env + AllocGlobal)) -> Result<Vec<String>, CommandError>
     Ok(env::args(rt)?.collect(rt.alloc())?)
 }
 
-/// Tells on standard error how the program is used, and the exit status of a command line that asks for nothing.
+/// Prints the usage line on standard error, and returns the exit status of a rejected command line.
 pub fn tell_usage(rt: &HostRuntime, usage: &str) -> ExitCode {
     let _ = rt.eprintln(usage);
     ExitCode::from(Status::Usage.code())

@@ -11,13 +11,13 @@ pub enum CostError {
     /// The size is above 256.
     #[error("the size is above 256")]
     SizeTooLarge,
-    /// An entry lies outside -10^9 to 10^9.
+    /// An entry is outside -10^9 to 10^9.
     #[error("an entry lies outside -10^9 to 10^9")]
     EntryRange,
-    /// A matrix hasn't as many entries as its size squared.
+    /// The number of a matrix's entries is not its size squared.
     #[error("a matrix has another number of entries")]
     CountDiffers,
-    /// The numbers aren't each of 0 to their count less one, once, or they are none or more than 256.
+    /// The numbers do not list each of 0 to their count less one, once, or there are none or more than 256.
     #[error("the numbers are no permutation")]
     NotPermutation,
 }

@@ -43,8 +43,8 @@ impl Model for Instance {
 impl Instance {
     /// The instance of size `n` whose matrices have the entries `a` and `b`, listed by rows.
     ///
-    /// The size is judged first (1 to 256), then the two counts (`n * n` each), then the entries
-    /// (-10^9 to 10^9). No memory is taken; where the call refuses, the lists are dropped.
+    /// The size is checked first (1 to 256), then the two counts (`n * n` each), then the entries (-10^9 to 10^9).
+    /// Allocates nothing; a refusal drops the lists.
     pub fn new(n: usize, a: Vec<i64>, b: Vec<i64>) -> Result<Instance, CostError>
         ensures { MatchResult result
             (λ I. (I ≡ record { size = n; a = a.items; b = b.items }) × IsInstance I)

@@ -24,8 +24,8 @@ impl Model for Matrix {
 }
 
 impl Matrix {
-    /// The matrix of size `m` with these entries, listed by rows; `None` where `m` is above 256 or the entries
-    /// aren't `m * m`. No memory is taken.
+    /// The matrix of size `m` with these entries, listed by rows; `None` if `m` is above 256 or there are not `m * m`
+    /// entries. Allocates nothing.
     pub fn new(m: usize, entries: Vec<i128>) -> Option<Matrix>
         ensures { MatchOption result
             (IsMatrix (record { size = m; entries = entries.items }) → ⊥)

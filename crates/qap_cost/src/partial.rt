@@ -78,7 +78,7 @@ impl Partial {
         &self.places
     }
 
-    /// The location of facility `i`; `None` where it isn't placed.
+    /// The location of facility `i`; `None` if it is not placed.
     pub fn at(&self, i: usize) -> Option<u16>
         ensures { MatchOption result ((k : ℕ) → StandsAt self.now i k → ⊥) (StandsAt self.now i) }
     {
@@ -98,7 +98,7 @@ impl Partial {
         self.facilities.contains(&f)
     }
 
-    /// Whether `k` is a location at which no facility stands.
+    /// Whether `k` is a location without a facility.
     pub fn is_free(&self, k: u16) -> bool
         ensures { IsTrue result ↔ IsFreeLocation self.now k }
     {
@@ -123,7 +123,7 @@ impl Partial {
         free_numbers(*self.places.allocator(), self.size, &self.places)
     }
 
-    /// Makes the list that of the free facilities, ascending, in the memory that it has where that is enough.
+    /// Replaces the list by that of the free facilities, ascending, in its own memory if that suffices.
     pub fn list_free_facilities(&self, list: &mut Vec<u16>) -> Result<(), AllocError>
         ensures value { OnOk result (list.new.items ≡ free_facilities self.now) }
         ensures free { OnOk result (ListsFree self.now.size self.now.facilities list.new.items) }
@@ -132,7 +132,7 @@ impl Partial {
         list_free(self.size, &self.facilities, list)
     }
 
-    /// Makes the list that of the free locations, ascending, in the memory that it has where that is enough.
+    /// Replaces the list by that of the free locations, ascending, in its own memory if that suffices.
     pub fn list_free_locations(&self, list: &mut Vec<u16>) -> Result<(), AllocError>
         ensures value { OnOk result (list.new.items ≡ free_locations self.now) }
         ensures free { OnOk result (ListsFree self.now.size self.now.places list.new.items) }
@@ -194,8 +194,8 @@ impl Partial {
         self.places.reserve(free)
     }
 
-    /// What the placed facilities cost among themselves: the sum over all placed `i` and `j`, equal ones included, of
-    /// `a(i, j) * b(k, l)`, where `i` stands at `k` and `j` at `l`.
+    /// The cost of the placed facilities among themselves: the sum over all placed `i` and `j`, including `i = j`, of
+    /// `a(i, j) * b(k, l)`, where `i` is at `k` and `j` at `l`.
     pub fn fixed_cost(&self, instance: &Instance) -> i128
         requires { instance.now.size ≡ self.now.size }
         ensures value { result ≡ fixed_cost_of instance.now self.now }

@@ -9,7 +9,7 @@ use crate::instance::MAX_SIZE;
 use std::alloc::AllocError;
 use std::marker::Model;
 
-/// A permutation of 1 to 256 numbers: facility `i` stands at the location `at(i)`, both counted from 0.
+/// A permutation of 1 to 256 numbers: facility `i` is at the location `at(i)`, both counted from 0.
 #[derive(Drop)]
 pub struct Perm {
     locations: Vec<u16>,
@@ -24,9 +24,9 @@ impl Model for Perm {
 }
 
 impl Perm {
-    /// The permutation that these locations are, where each of 0 to their count less one is there once.
+    /// The permutation with these locations, if they list each of 0 to their count less one, once.
     ///
-    /// No memory is taken; where the call refuses, the locations come back.
+    /// Allocates nothing; a refusal returns the locations.
     pub fn new(locations: Vec<u16>) -> Result<Perm, (CostError, Vec<u16>)>
         ensures { MatchResult result
             (λ p. (p ≡ locations.items) × IsPerm locations.items)

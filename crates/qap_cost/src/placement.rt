@@ -16,8 +16,8 @@ pub fn free_law()
     ensures { (n : ℕ) (taken : List ℕ) → AreDifferent n taken → ListsFree n taken (free_below n taken) }
 {}
 
-/// Where a free facility is placed at each free location in turn, each completion of the node completes just one of the
-/// nodes got, and these have no other completions.
+/// If a free facility is placed at each free location in turn, each completion of the node completes exactly one of the
+/// resulting nodes, and these have no other completions.
 pub fn children_law()
     ensures node { (x : Placement) (f k : ℕ) → IsPlacement x → IsFreeFacility x f → IsFreeLocation x k → IsPlacement (placing x f k) }
     ensures child { (x : Placement) (f : ℕ) (p : List ℕ) → IsPlacement x → IsFreeFacility x f → Completes x p

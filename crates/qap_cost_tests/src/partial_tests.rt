@@ -134,9 +134,9 @@ fn cost_of(instance: &Instance, permutation: &Perm) -> Option<i128> {
     Some(cost(instance, permutation))
 }
 
-/// The pairs that are placed, and what they cost.
+/// The pairs that are placed, and their cost.
 ///
-/// 4 * 2 = 8 where facility 1 alone stands at location 0; 7 * 6 + 3 * 5 + 1 * 2 + 4 * 2 = 67 where 0 stands at 1 too.
+/// 4 * 2 = 8 if only facility 1 is at location 0; 7 * 6 + 3 * 5 + 1 * 2 + 4 * 2 = 67 if 0 is also at 1.
 static FIXED: [(&[(u16, u16)], i128); 6] = [
     (&[], 0),
     (&[(0, 0)], 14),

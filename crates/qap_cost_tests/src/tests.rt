@@ -178,7 +178,7 @@ fn returned(alloc: Global, numbers: &[u16]) -> Result<Option<(CostError, Vec<u16
 
 const OUTSIDE: i64 = 1_000_000_001;
 
-/// A size, A, B, and why they are no instance.
+/// A size, A, B, and why they do not form an instance.
 static NO_INSTANCES: [(usize, &[i64], &[i64], CostError); 7] = [
     (0, &[], &[], CostError::SizeZero),
     (257, &[OUTSIDE], &[], CostError::SizeTooLarge),

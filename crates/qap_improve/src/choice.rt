@@ -24,7 +24,7 @@ struct Best<N> {
     second: usize,
     /// What it changes the cost by.
     difference: N,
-    /// Whether it goes before those that don't aspire.
+    /// Whether it has priority over those that do not aspire.
     aspires: bool,
 }
 

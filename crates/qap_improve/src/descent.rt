@@ -18,12 +18,11 @@ pub struct Improved {
     pub cost: i128,
 }
 
-/// A permutation that costs no more than `start`, and none that differs from it by an exchange of two facilities'
-/// locations costs less than it.
+/// A permutation that costs no more than `start`, and that no exchange of two facilities' locations improves.
 ///
-/// It goes over all pairs of facilities in order, exchanges each that gains at once, and ends with a round in which none
-/// does. A round takes time in n^3 for n facilities; how many there are isn't known beforehand. It keeps four tables of n^2
-/// numbers of 32 bits. The only error is want of memory.
+/// It goes over all pairs of facilities in order, makes each exchange that improves the cost at once, and ends with a
+/// round in which none does. A round takes time O(n^3) for n facilities; the number of rounds is not bounded in
+/// advance. It stores four tables of n^2 numbers of 32 bits. The only error is out of memory.
 pub fn exchange(alloc: Global, instance: &Instance, start: &Perm) -> Result<Improved, AllocError>
     requires { length start.now ≡ instance.now.size }
     ensures permutation { IfOk result (λ x. Permutes instance.now x.permutation) }

@@ -18,9 +18,9 @@ pub(crate) enum Content {
     Flows,
     /// The flow from `j` to `i`.
     FlowsBack,
-    /// The distance from where `i` stands to where `j` does.
+    /// The distance from the location of `i` to that of `j`.
     Distances,
-    /// The distance from where `j` stands to where `i` does.
+    /// The distance from the location of `j` to that of `i`.
     DistancesBack,
 }
 

@@ -10,13 +10,13 @@ use std::alloc::{AllocError, Global};
 /// iterations, as a multiple of the square of the number of facilities that may move.
 const PATIENCE: u64 = 5;
 
-/// What the memory says of an exchange.
+/// The verdict of the memory on an exchange.
 #[derive(Clone, Copy)]
 pub enum Verdict {
-    /// It would put both facilities where they left a short while ago.
+    /// It would put both facilities where they were a short while ago.
     Tabu,
     Free,
-    /// It would put both where they haven't been for very long.
+    /// It would put both where they have not been for very long.
     Due,
 }
 
@@ -55,7 +55,7 @@ impl Memory {
         })
     }
 
-    /// What it says of an exchange that puts facility `r` at location `to` and facility `s` at location `back`.
+    /// The verdict on an exchange that puts facility `r` at location `to` and facility `s` at location `back`.
     pub fn verdict(&self, r: usize, to: usize, s: usize, back: usize) -> Verdict
         requires first { r < self.now.size }
         requires second { s < self.now.size }
@@ -73,7 +73,7 @@ impl Memory {
         }
     }
 
-    /// Whether facility `r` hasn't been at location `to` for so long that an exchange that puts it there may be due.
+    /// Whether facility `r` has not been at location `to` for so long that an exchange which puts it there may be due.
     pub fn may_be_due(&self, r: usize, to: usize) -> bool
         requires facility { r < self.now.size }
         requires location { to < self.now.size }

@@ -9,10 +9,10 @@ ghost use Rattle.qap_improve.specs.Exchange.{exchanging};
 
 use qap_cost::{Instance, Perm};
 
-/// What the permutation's cost changes by when the facilities `r` and `s` exchange their locations: the new cost less
+/// The change of the permutation's cost when the facilities `r` and `s` exchange their locations: the new cost minus
 /// the old one.
 ///
-/// Takes time in n for n facilities. The matrices needn't be symmetric, and their diagonals needn't be 0.
+/// Takes time O(n) for n facilities. The matrices need not be symmetric, and their diagonals need not be 0.
 pub fn difference(instance: &Instance, permutation: &Perm, r: usize, s: usize) -> i128
     requires same_size { length permutation.now ≡ instance.now.size }
     requires first { r < instance.now.size }

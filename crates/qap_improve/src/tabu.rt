@@ -54,14 +54,14 @@ struct Walk<N> {
     best_cost: i128,
 }
 
-/// The best permutation that a robust tabu search finds from `start`, and what it costs: no more than `start` (Taillard,
-/// Robust taboo search for the quadratic assignment problem, Parallel Computing 17, 1991).
+/// The best permutation that a robust tabu search finds from `start`, and its cost, which is at most that of `start`
+/// (Taillard, Robust taboo search for the quadratic assignment problem, Parallel Computing 17, 1991).
 ///
-/// Each iteration exchanges the locations of the two facilities for which that costs least, be it more than before. Left
-/// out are exchanges that would put both facilities where they left a short while ago, unless they lead below the best
-/// known cost; ones that would put both where they haven't been for very long go before others. An iteration takes time
-/// in n^2 for n facilities, and what comes before the first one in n^3. Equal plans give equal answers, unless `hook` ends
-/// the search. The only error is want of memory.
+/// Each iteration makes the exchange of two facilities' locations that costs least, even if it increases the cost.
+/// Exchanges that would put both facilities where they were a short while ago are tabu, unless they lead below the best
+/// known cost; those that would put both where they have not been for very long have priority. An iteration takes time
+/// O(n^2) for n facilities, and the initialization O(n^3). Equal plans give equal answers, unless `hook` ends the
+/// search. The only error is out of memory.
 pub fn tabu_search<H: Hook>(
     alloc: Global,
     instance: &Instance,
@@ -78,8 +78,8 @@ pub fn tabu_search<H: Hook>(
     tabu_search_among(alloc, instance, start, &all, plan, hook)
 }
 
-/// The same, where the facilities for which `may_move` is false keep the locations that `start` gives them: it exchanges two that may move
-/// alone. What it remembers it keeps for as long as a search among as many facilities as may move.
+/// Likewise, but the facilities for which `may_move` is false keep the locations that `start` gives them: it exchanges
+/// only pairs that may move. The tenures of its memory are those of a search among as many facilities as may move.
 pub fn tabu_search_among<H: Hook>(
     alloc: Global,
     instance: &Instance,

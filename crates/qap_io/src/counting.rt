@@ -10,9 +10,9 @@ use std::marker::Model;
 
 /// A reader or a writer, the number of its calls that failed, and whether all is flushed.
 ///
-/// A read, a write or a flush that answers an error has failed, whatever the error's kind, and so
-/// has a write that takes no bytes of a text that is not empty. At `u64::MAX` the count stays.
-/// All is flushed where no write came after the last flush that succeeded.
+/// A read, a write or a flush that returns an error has failed, regardless of the error's kind, and so has a write that
+/// accepts no bytes of a nonempty text. The count saturates at `u64::MAX`. All is flushed if no write came after the
+/// last successful flush.
 #[derive(Debug, Drop)]
 pub struct Counted<T> {
     inner: T,
@@ -32,7 +32,7 @@ impl<T> Model for Counted<T> {
 }
 
 impl<T> Counted<T> {
-    /// The device, none of whose calls has been counted yet.
+    /// The device, with no calls counted yet.
     pub fn new(inner: T) -> Counted<T>
         ensures inner { result.inner ≡ inner }
         ensures failures { result.failures ≡ 0 }

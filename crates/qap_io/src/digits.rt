@@ -13,7 +13,7 @@ struct FewDigits {
     magnitude: u64,
 }
 
-/// Digits at the front of a text: how many they are, and what they stand for, held to a bound.
+/// Digits at the beginning of a text: how many there are, and their value, clamped to a bound.
 #[derive(Clone, Copy, Debug, PartialEq, Eq)]
 pub struct Digits {
     pub count: usize,
@@ -35,8 +35,8 @@ fn few_digits(text: &[u8]) -> FewDigits
     FewDigits { count, magnitude }
 }
 
-/// All digits at the front of a text, in any number. Where they stand for more than the bound, the bound is given in
-/// its place.
+/// All digits at the beginning of a text, in any number. If their value is above the bound, the bound is returned
+/// instead.
 pub fn front_digits(text: &[u8], bound: u128) -> Digits
     ensures { IsRun text.now bound result.count result.magnitude }
 {
@@ -51,7 +51,7 @@ pub fn front_digits(text: &[u8], bound: u128) -> Digits
     Digits { count, magnitude }
 }
 
-/// What one or more digits stand for, in any number, held to a bound; `None` where the text is anything else.
+/// The value of one or more digits, in any number, clamped to a bound; `None` if the text is anything else.
 pub fn all_digits(text: &[u8], bound: u128) -> Option<u128>
     ensures { result ≡ option_map (λ n. min n bound) (unsigned_number_of text.now) }
 {

@@ -1,8 +1,8 @@
 // Numbers by their sign and size, and numbers counted from 1.
 ghost use Rattle.std.specs.Prelude.{◌≡◌, ◌≢◌, ◌≤◌, ◌<◌, ◌^◌, ◌+◌, ℕ, pos, neg_ℤ, MatchOption};
 
-/// A number beyond this one is read as this one: it lies outside every range that the text of an instance, a solution or a
-/// certificate may use.
+/// A number beyond this one is read as this one: it is outside every range that the text of an instance, a solution or
+/// a certificate may use.
 pub const MAX_READ: u128 = 10_000_000_000_000_000_000_000_000;
 
 /// The number with a minus sign before it.
@@ -17,7 +17,7 @@ pub fn negated(magnitude: u128) -> i128
     }
 }
 
-/// One of `count` numbers that are counted from 1, counted from 0; `None` where it is none of them.
+/// A number counted from 1, of `count` many, as counted from 0; `None` if it is out of range.
 pub fn from_one(number: i128, count: usize) -> Option<u16>
     requires { count ≤ 65536 }
     ensures { MatchOption result

@@ -6,8 +6,8 @@ ghost use Rattle.qap_io.specs.Counting.{CountsCall, FailedBetween};
 use crate::{Counted, Device};
 use std::io::Read;
 
-/// Reads once, into the front of the buffer, and answers how many bytes came: 0 only at the end of
-/// the bytes, or with no room. A read that fails is not tried again.
+/// Reads once, to the beginning of the buffer, and returns how many bytes came: 0 only at the end of the input, or with
+/// an empty buffer. A read that fails is not repeated.
 pub fn read_some<R: Read>(reader: &mut Counted<R>, buffer: &mut [u8]) -> Result<usize, Device>
     ensures bound { IfOk result (λ n. n ≤ length buffer.new) }
     ensures bytes { IfOk result (λ n. Consumes (R.remaining reader.old.inner) (R.remaining reader.new.inner) (take n buffer.new)) }

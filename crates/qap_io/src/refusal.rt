@@ -65,8 +65,8 @@ impl Refusal {
         Refusal::new(51, "Device")
     }
 
-    /// Writes the line of the refusal: `refused`, its number and its name, and `at` with what it carries; and flushes the
-    /// writer. Where that fails, a beginning of the line has gone out.
+    /// Writes the line of the refusal: `refused`, its number and its name, and `at` with what it carries; and flushes
+    /// the writer. If that fails, a prefix of the line has been written.
     pub fn send<W: Write>(&self, writer: &mut Counted<W>) -> Result<(), Device>
         ensures { MatchResult result
             (λ _. Sends W.contents writer.old writer.new (refusal_line self.now))

@@ -7,7 +7,7 @@ pub enum Status {
     Done,
     /// It has refused an input, or a device has failed.
     Refused,
-    /// The command line asks for nothing that there is.
+    /// The command line is invalid.
     Usage,
     /// There is no memory left.
     OutOfMemory,

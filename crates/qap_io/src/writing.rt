@@ -8,8 +8,8 @@ ghost use Rattle.qap_io.specs.Writing.{AppendsBeginning, Sends, BreaksOff};
 use crate::{Counted, Device};
 use std::io::Write;
 
-/// Writes the whole text. It stops at the first write that fails, and tries no write again:
-/// a beginning of the text has gone out then.
+/// Writes the whole text. It stops at the first write that fails, and repeats no write: a prefix of the text has then
+/// been written.
 pub fn put<W: Write>(writer: &mut Counted<W>, text: &[u8]) -> Result<(), Device>
     ensures whole { OnOk result (Appends (W.contents writer.old.inner) (W.contents writer.new.inner) text.now) }
     ensures beginning { OnErr result (AppendsBeginning (W.contents writer.old.inner) (W.contents writer.new.inner) text.now) }
@@ -53,7 +53,7 @@ pub fn finish<W: Write>(writer: &mut Counted<W>) -> Result<(), Device>
     writer.flush().map_err(|_| Device)
 }
 
-/// Writes the whole text, and flushes the writer. Where that fails, a beginning of the text has gone out.
+/// Writes the whole text, and flushes the writer. If that fails, a prefix of the text has been written.
 pub fn send<W: Write>(writer: &mut Counted<W>, text: &[u8]) -> Result<(), Device>
     ensures { MatchResult result
         (λ _. Sends W.contents writer.old writer.new text.now)

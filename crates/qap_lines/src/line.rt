@@ -12,7 +12,7 @@ pub struct Line<'a> {
     pub rest: &'a [u8],
 }
 
-/// The first line of a text; `None` where no line feed ends one.
+/// The first line of a text; `None` if there is no line feed.
 pub fn first_line(text: &[u8]) -> Option<Line<'_>>
     ensures { MatchOption result (HasNoLine text.now) (λ l. IsLine text.now l.bytes.now l.rest.now) }
 {

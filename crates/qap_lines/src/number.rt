@@ -100,7 +100,7 @@ fn only_number(text: &[u8]) -> Option<i128>
     }
 }
 
-/// The number of a line of a name and one number, held to -10^25 to 10^25; `None` where the line is none such.
+/// The number of a line of a name and one number, clamped to -10^25 to 10^25; `None` if the line has another form.
 pub fn one_number(name: &[u8], line: &[u8]) -> Option<i128>
     ensures { MatchOption result
         ((z : ℤ) → IsNamed name.now line.now (z ∷ []) → ⊥)
@@ -119,10 +119,10 @@ pub struct LineNumbers {
     pub limited: bool,
 }
 
-/// The numbers of a line of a name and numbers; `None` where the line is none such. The first `wanted` of them, each held to
-/// -10^25 to 10^25, are put into `first`, in place of what it was.
+/// The numbers of a line of a name and numbers; `None` if the line has another form. The first `wanted` of them, each
+/// clamped to -10^25 to 10^25, replace the content of `first`.
 ///
-/// Room for `wanted` numbers is taken at once, and no more. The one error is want of memory.
+/// Memory for `wanted` numbers is allocated at once, and no more. The only error is out of memory.
 pub fn read_numbers(
     name: &[u8],
     line: &[u8],

@@ -8,8 +8,8 @@ use qap_cost::Perm;
 use qap_io::from_one;
 use std::alloc::{AllocError, Global};
 
-/// The permutation whose numbers, counted from 1, these are; `None` where they aren't each of 1 to their count once. The one
-/// error is want of memory.
+/// The permutation with these numbers, counted from 1; `None` if they do not list each of 1 to their count once. The
+/// only error is out of memory.
 pub fn permutation_from_one(alloc: Global, values: &[i128]) -> Result<Option<Perm>, AllocError>
     requires small { length values.now ≤ 256 }
     ensures { IfOk result (λ found. MatchOption found

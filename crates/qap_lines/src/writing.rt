@@ -15,10 +15,10 @@ use std::alloc::AllocError;
 use std::io::Write;
 use thiserror::Error;
 
-/// Why a text hasn't been written.
+/// Why a text has not been written.
 #[derive(Clone, Copy, Debug, PartialEq, Eq, Error)]
 pub enum WriteError {
-    /// There is no memory left for a line.
+    /// Memory ran out for a line.
     #[error("out of memory")]
     OutOfMemory,
     /// The writer failed.
@@ -56,7 +56,7 @@ pub fn begin_line(line: &mut Vec<u8>, name: &[u8]) -> Result<(), AllocError>
     line.extend_from_slice(name)
 }
 
-/// Puts a number at the end of a line, behind a space.
+/// Appends a number to a line, after a space.
 pub fn push_number(line: &mut Vec<u8>, number: i128) -> Result<(), AllocError>
     ensures { OnOk result (line.new.items ≡ line.old.items ++ 32 ∷ signed_decimal number) }
 {

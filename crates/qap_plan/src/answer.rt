@@ -6,8 +6,8 @@ ghost use Rattle.qap_plan.specs.Answer.{answer_text, cost_line, place_line, plac
 use qap_cost::Perm;
 use std::alloc::{AllocError, Global};
 
-/// A line for each facility, with its location, and one for the cost: that it is optimal, or between which bounds the least cost
-/// lies.
+/// A line for each facility, with its location, and one for the cost: that it is optimal, or the bounds of the least
+/// cost.
 pub fn answer_text(
     alloc: Global,
     permutation: &Perm,
@@ -23,7 +23,7 @@ pub fn answer_text(
     Ok(text)
 }
 
-/// The same where nothing shows the bound: it is reported as stated.
+/// Likewise, but the bound is reported as stated, since nothing proves it.
 pub fn stated_text(
     alloc: Global,
     permutation: &Perm,

@@ -20,9 +20,9 @@ use std::sync::Wait;
 use std::thread::Threads;
 use std::time;
 
-/// Reads an instance, and a start where there is a reader of one, searches it, and writes the best permutation found,
-/// with what is proved of its cost; what the search has found is answered too. Where there is no answer, nothing is
-/// written; where the writer fails, a beginning of the text has gone out.
+/// Reads an instance, and a start if there is a reader of one, searches it, and writes the best permutation found, with
+/// what is proved about its cost; also returns what the search has found. If there is no answer, nothing is written; if
+/// the writer fails, a prefix of the text has been written.
 pub fn plan_stream<T, R, Q, W, K>(
     system: &T,
     alloc: Global,

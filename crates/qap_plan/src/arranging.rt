@@ -21,10 +21,10 @@ use std::sync::Wait;
 use std::thread::Threads;
 use std::time;
 
-/// Searches the arrangements of a problem with names that keep what is fixed, from a start where there is a reader of
-/// one, and writes where each department stands and what is proved of the cost, in the plan's own units; what the
-/// search has found is answered too. Where there is no answer, nothing is written; where the writer fails, a beginning
-/// of the text has gone out.
+/// Searches the arrangements of a problem with names that respect what is fixed, from a start if there is a reader of
+/// one, and writes the place of each department and what is proved about the cost, in the plan's own units; also
+/// returns what the search has found. If there is no answer, nothing is written; if the writer fails, a prefix of the
+/// text has been written.
 pub fn plan_named<T, Q, W, K>(
     system: &T,
     alloc: Global,

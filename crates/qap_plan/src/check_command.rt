@@ -5,7 +5,7 @@ use crate::show_command::with_answer;
 use clap::{Arg, ArgMatches, Command};
 use std::alloc::{AllocError, Global};
 
-/// To judge an answer that was written as JSON, with its proof where there is one.
+/// The request to check an answer in JSON, with its proof if one is named.
 #[derive(Clone, Copy, Debug, PartialEq, Eq)]
 pub struct CheckRequest<'a> {
     /// The file of the plan or of the instance.
@@ -18,7 +18,7 @@ pub struct CheckRequest<'a> {
     pub passes: bool,
 }
 
-/// The subcommand that judges an answer.
+/// The subcommand `check`.
 pub fn check_command<'a>(alloc: Global) -> Result<Command<'a>, AllocError> {
     let command = Command::new(alloc, "check").about(
         "Says what an answer costs, and what a proof shows of it",

@@ -8,7 +8,7 @@ use plan_check::{ProofFault, answer_to_instance, answer_to_plan, checked_line};
 use plan_input::is_plan;
 use std::process::ExitCode;
 
-/// Says what the answer of a file costs, and where a proof is named, what that shows of it.
+/// Prints the cost of the answer in a file, and if a proof is named, what it establishes.
 pub fn run_check(rt: &HostRuntime, request: &CheckRequest<'_>) -> ExitCode {
     let proof = match proof_of(rt, request) {
         Ok(proof) => proof,

@@ -10,7 +10,7 @@ use plan_check::{ProofFault, proved_bound};
 use qap_cost::{Instance, Partial, Perm, cost};
 use std::alloc::Global;
 
-/// The line that reports what a permutation costs, and where there is the text of a proof, what that shows.
+/// The line that reports the cost of a permutation, and if the text of a proof is given, what that establishes.
 pub fn checked_numbers(
     alloc: Global,
     instance: &Instance,

@@ -22,7 +22,7 @@ use std::alloc::{AllocError, Global};
 pub struct Request<'a> {
     /// The file of the instance.
     pub file: &'a str,
-    /// The file of the solution that the search is to begin with.
+    /// The file of the start.
     pub start: Option<&'a str>,
     pub options: Options,
     /// The file that the answer is written to too.
@@ -35,20 +35,20 @@ pub struct Request<'a> {
     pub proof: Option<&'a str>,
     /// The file that a picture of the answer to a plan is written to.
     pub svg: Option<&'a str>,
-    /// Whether nothing is to be written to standard output.
+    /// Whether to write nothing to standard output.
     pub quiet: bool,
-    /// Whether it is to be said on standard error how far the search has come, where that is no terminal.
+    /// Whether to report progress on standard error even if that is not a terminal.
     pub progress: bool,
     /// The file whose being there stops the search.
     pub stop_file: Option<&'a str>,
 }
 
-/// What is to be done.
+/// The request of a command line.
 #[derive(Clone, Copy, Debug, PartialEq, Eq)]
 pub enum Task<'a> {
     /// To solve an instance.
     Solve(Request<'a>),
-    /// To cut the search of an instance into parts.
+    /// Split the search of an instance into parts.
     Split(SplitRequest<'a>),
     /// To solve a part.
     Part(PartRequest<'a>),
@@ -56,14 +56,14 @@ pub enum Task<'a> {
     Convert(ConvertRequest<'a>),
     /// To show an answer again.
     Show(ShowRequest<'a>),
-    /// To judge an answer.
+    /// Check an answer.
     Check(CheckRequest<'a>),
     /// To compare today's arrangement with the best one.
     Compare(CompareRequest<'a>),
 }
 
-/// What the words of a command line ask for, the program's name being the first. That help or the version is asked for is an error
-/// that prints it.
+/// The request in the words of a command line, the program's name being the first. Requests for help or the version are
+/// errors whose text is to be printed.
 pub fn parse<'a>(alloc: Global, words: &'a [String]) -> Result<Task<'a>, Error>
     ensures { IfOk result IsLimitedTask }
 {

@@ -18,7 +18,7 @@ pub struct CompareRequest<'a> {
     pub options: Options,
     /// The file that the best arrangement is written to, as a table.
     pub csv: Option<&'a str>,
-    /// Whether it is to be said on standard error how far the search has come, where that is no terminal.
+    /// Whether to report progress on standard error even if that is not a terminal.
     pub progress: bool,
     /// The file whose being there stops the search.
     pub stop_file: Option<&'a str>,

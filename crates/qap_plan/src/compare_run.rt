@@ -31,7 +31,7 @@ use std::sync::Wait;
 use std::thread::Threads;
 use std::time::Clock;
 
-/// Compares today's arrangement of a plan with the best one. `system` is what threads, waiting and the time are asked of.
+/// Compares today's arrangement of a plan with the best one. `system` provides threads, waiting and the time.
 pub fn run_compare<T>(system: &T, rt: &HostRuntime, request: &CompareRequest<'_>) -> ExitCode
 where
     T: Threads + Wait + Clock + Sync,

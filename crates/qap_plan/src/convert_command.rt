@@ -8,7 +8,7 @@ use std::alloc::{AllocError, Global};
 pub struct ConvertRequest<'a> {
     /// The file of the plan.
     pub plan: &'a str,
-    /// The file that the instance is written to; beside it stands what its numbers are called.
+    /// The file of the instance; the names that its numbers represent are written beside it.
     pub out: &'a str,
 }
 

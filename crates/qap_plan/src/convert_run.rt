@@ -11,7 +11,7 @@ use qap_io::Status;
 use std::fs;
 use std::process::ExitCode;
 
-/// Writes the instance of a plan's tables, and beside it the names and the scales, and says how large it is.
+/// Writes the instance of a plan's tables, and beside it the names and the scales, and prints its size.
 pub fn run_convert(rt: &HostRuntime, request: &ConvertRequest<'_>) -> ExitCode {
     if !is_plan(request.plan) {
         return refuse_instance(rt, request.plan);

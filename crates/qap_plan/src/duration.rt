@@ -5,8 +5,9 @@ ghost use Rattle.std.specs.Prelude.{◌<◌};
 /// The most digits behind the point.
 const MAX_DECIMALS: u32 = 3;
 
-/// How many milliseconds a text states: a decimal number of seconds, or of minutes or hours if `m` or `h` follows it (`90`, `1.5`, `90s`, `2m`,
-/// `1h`), with at most three digits behind the point. A time beyond 64 bits is refused, as is any other text.
+/// The milliseconds that a text states: a decimal number of seconds, or of minutes or hours if `m` or `h` follows it
+/// (`90`, `1.5`, `90s`, `2m`, `1h`), with at most three decimals. A time beyond 64 bits is refused, like any other
+/// text.
 pub fn milliseconds_of(text: &str) -> Option<u64> {
     let (number, unit_ms) = unit_of(text.as_bytes());
     let (digits, decimals) = decimal_of(number)?;

@@ -8,7 +8,7 @@ use std::time::{self, Instant};
 #[derive(Drop)]
 pub struct Elapsed<'a, T: time::Clock> {
     system: &'a T,
-    /// When it began, where that could be read.
+    /// When it began, if that could be read.
     start: Option<Instant>,
     /// After how many milliseconds the search is to stop.
     limit_ms: Option<u64>,
@@ -24,7 +24,7 @@ impl<'a, T: time::Clock> Elapsed<'a, T> {
         }
     }
 
-    /// How many milliseconds it has taken; 0 where the time can't be read.
+    /// The elapsed milliseconds; 0 if the time cannot be read.
     pub fn milliseconds(&self) -> u64 {
         let Some(start) = self.start else {
             return 0;

@@ -12,13 +12,13 @@ use thiserror::Error;
 /// Why there is no answer. Places count bytes from 0.
 #[derive(Clone, Copy, Debug, PartialEq, Eq, Error)]
 pub enum PlanError {
-    /// The file is too long, or has no instance at its front.
+    /// The file is too long, or does not begin with an instance.
     #[error("{0}")]
     Text(TextError),
     /// A word follows the instance, at this place.
     #[error("something follows the instance, at {0}; remove it, or pass over it with --ignore-rest")]
     Rest(usize),
-    /// The file of the start is too long, or has no solution of the instance's size at its front.
+    /// The file of the start is too long, or does not begin with a solution of the instance's size.
     #[error("{0}")]
     Start(TextError),
     /// The start states another cost than it has, which is this.
@@ -33,7 +33,7 @@ pub enum PlanError {
     /// There is no memory left.
     #[error("out of memory")]
     OutOfMemory,
-    /// A file couldn't be opened, read or written.
+    /// A file could not be opened, read or written.
     #[error("a file couldn't be opened, read or written")]
     Device,
 }

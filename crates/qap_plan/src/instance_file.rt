@@ -37,9 +37,9 @@ pub fn inputs_of(rt: &HostRuntime, file: &str, loaded: &Loaded) -> Inputs {
     ]
 }
 
-/// The instance of a plan's tables, or of a file in the QAPLIB format, behind which a word is an error unless it is to
-/// be passed over, and the files that were read. Why there is none is reported on standard error, and the exit status
-/// comes back.
+/// The instance of a plan's tables, or of a file in the QAPLIB format, after which a word is an error unless it is to
+/// be ignored, and the files that were read. If there is none, the reason is printed on standard error, and the exit
+/// status is returned.
 pub fn instance_of(
     rt: &HostRuntime,
     file: &str,

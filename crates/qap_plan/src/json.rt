@@ -33,10 +33,11 @@ pub fn json_text(alloc: Global, answer: &Planned, milliseconds: u64) -> Result<S
     value.to_string(alloc)
 }
 
-/// The same of a problem with names: `cost` and `bound` are in the plan's own units, `departments` and `places` are the names, in the tables' order, and
-/// `arrangement` has the place of each department, by its name. `gap` is how far the cost may lie above the least, in percent, or null where that is
-/// unknown; `pairs` are the costliest; `fixed`, where something is fixed, has the place of each department that is, and `round`, where the tables'
-/// numbers were rounded, how many decimals they kept.
+/// Likewise for a problem with names: `cost` and `bound` are in the plan's own units, `departments` and `places` are
+/// the names, in the tables' order, and `arrangement` lists the place of each department. `gap` is how far the cost may
+/// be above the least, in percent, or null if that is unknown; `pairs` are the costliest; `fixed`, if something is
+/// fixed, has the place of each fixed department, and `round`, if the tables' numbers were rounded, the number of
+/// decimals.
 pub fn named_json_text(
     alloc: Global,
     problem: &NamedProblem,

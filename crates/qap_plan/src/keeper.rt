@@ -2,7 +2,7 @@
 
 use qap_search::{Clock, Observer, Stop};
 
-/// Keeps a run: reports its time, may stop it, watches how far it has come, and reports what memory it takes.
+/// Controls a run: measures its time, may stop it, observes its progress, and measures its memory.
 pub trait Keeper: Clock + Stop + Observer {
     /// How many bytes of memory the program has now, where that can be found out.
     fn resident_bytes(&self) -> Option<u64>;

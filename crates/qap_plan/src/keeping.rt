@@ -20,8 +20,8 @@ use std::sync::Wait;
 use std::thread::Threads;
 use std::time;
 
-/// Searches the permutations that complete a node, from the start or any of them, until no node is open, or the limit of nodes is reached, or the stop is
-/// wanted, and where memory ends.
+/// Searches the permutations that complete a node, from the start or any of them, until no node is open, the node limit
+/// is reached, a stop is requested, or memory runs out.
 pub fn search_keeping<T, K>(
     system: &T,
     alloc: Global,

@@ -16,8 +16,8 @@ use qap_search::identity;
 use std::alloc::{AllocError, Global};
 use std::process::ExitCode;
 
-/// The text of a solution that a search of a plan begins with, where a file is named: a list of departments and places, and the JSON of an
-/// answer, are made into one.
+/// The text of a solution as the start of a plan's search, if a file is named: a list of departments and places, and
+/// the JSON of an answer, are converted to one.
 pub fn start_text(
     rt: &HostRuntime,
     problem: &NamedProblem,
@@ -47,7 +47,7 @@ pub fn start_text(
     }
 }
 
-/// The arrangement that a text lists; `file` is where it stands.
+/// The arrangement that a text lists; `file` is the name of its file.
 pub fn layout_in(
     rt: &HostRuntime,
     problem: &NamedProblem,

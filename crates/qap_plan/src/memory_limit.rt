@@ -4,7 +4,7 @@ use crate::keeper::Keeper;
 use qap_search::{Clock, Observer, Progress, Stop};
 use std::cell::Cell;
 
-/// Stops a search once the program has more memory than it may. All else is asked of another keeper.
+/// Stops a search once the program uses more memory than it may. Everything else is delegated to another keeper.
 #[derive(Drop)]
 pub struct WithinMemory<'a, K: Keeper> {
     keeper: &'a K,

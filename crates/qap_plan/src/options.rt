@@ -23,10 +23,10 @@ const NUMBER_BYTES: u64 = 8;
 /// The same where the proof is put together behind the search.
 const PROOF_BYTES: u64 = 64;
 
-/// How an instance is to be searched.
+/// The options of a search.
 #[derive(Clone, Copy, Debug, PartialEq, Eq)]
 pub struct Options {
-    /// How many workers search, each in a thread of its own: from 1 to 64.
+    /// The number of workers, each in its own thread: from 1 to 64.
     pub workers: u16,
     /// After how many decided nodes the search stops.
     pub nodes: Option<u64>,
@@ -45,7 +45,7 @@ pub struct Options {
 }
 
 impl Options {
-    /// Who works on the search of an instance of this size, and how far.
+    /// The workers and limits of the search of an instance of this size.
     pub fn crew(&self, size: usize) -> Crew
         ensures { result.workers ≡ self.now.workers }
     {

@@ -34,8 +34,9 @@ pub struct Outputs<'a> {
 }
 
 impl<'a> Outputs<'a> {
-    /// Finds out whether these files can be written. None of them may be an input of the run, and no two the same file, devices aside. Why one
-    /// can't be written is printed on standard error, and the exit status comes back.
+    /// Checks that these files can be written. None of them may be an input of the run, and no two the same file,
+    /// except devices. If one cannot be written, the reason is printed on standard error, and the exit status is
+    /// returned.
     pub fn open(
         rt: &HostRuntime,
         names: &[Option<&'a str>],
@@ -92,8 +93,8 @@ impl<'a> Outputs<'a> {
         None
     }
 
-    /// Writes a text to the file of this name, where one was asked for; where there is no text, the file stays as it was. Why that failed is
-    /// printed on standard error.
+    /// Writes a text to the file of this name, if one was requested; if there is no text, the file is unchanged. The
+    /// reason of a failure is printed on standard error.
     pub fn put(
         &mut self,
         rt: &HostRuntime,
@@ -131,7 +132,7 @@ impl<'a> Outputs<'a> {
     }
 }
 
-/// Prints a text on standard output. A closed pipe is no fault: its reader wanted no more.
+/// Prints a text on standard output. A closed pipe is not an error: its reader needed no more.
 pub fn print_text(rt: &HostRuntime, text: &[u8]) -> Status {
     match write_all(&mut rt.stdout(), text) {
         Ok(()) => Status::Done,

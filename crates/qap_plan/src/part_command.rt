@@ -15,12 +15,12 @@ pub struct PartRequest<'a> {
     pub file: &'a str,
     /// The node: facilities and locations alternately.
     pub node: &'a str,
-    /// The file of the solution that is to be begun with.
+    /// The file of the start.
     pub start: &'a str,
     pub options: Options,
     /// The file that the proof is written to.
     pub proof: &'a str,
-    /// Whether it is to be said on standard error how far the search has come, where that is no terminal.
+    /// Whether to report progress on standard error even if that is not a terminal.
     pub progress: bool,
     /// The file whose being there stops the search.
     pub stop_file: Option<&'a str>,

@@ -27,7 +27,7 @@ use std::sync::Wait;
 use std::thread::Threads;
 use std::time::Clock;
 
-/// Solves a part, and writes its proof; one that is there and right is left. `system` is what threads, waiting and the time are asked of.
+/// Solves a part, and writes its proof; an existing valid one is kept. `system` provides threads, waiting and the time.
 pub fn run_part<T>(system: &T, rt: &HostRuntime, request: &PartRequest<'_>) -> ExitCode
 where
     T: Threads + Wait + Clock + Sync,

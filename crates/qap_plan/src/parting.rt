@@ -27,8 +27,8 @@ pub struct Parted {
     pub nodes: u64,
 }
 
-/// Searches below the node, from a permutation of the instance, until no node is open, or a limit is reached, or the stop is wanted,
-/// and where memory ends.
+/// Searches below the node, from a permutation of the instance, until no node is open, a limit is reached, a stop is
+/// requested, or memory runs out.
 pub fn search_part<T, K>(
     system: &T,
     alloc: Global,

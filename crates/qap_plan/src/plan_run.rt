@@ -30,7 +30,7 @@ use std::sync::Wait;
 use std::thread::Threads;
 use std::time::Clock;
 
-/// Solves the problem of a plan. `system` is what threads, waiting and the time are asked of.
+/// Solves the problem of a plan. `system` provides threads, waiting and the time.
 pub fn solve_plan<T>(system: &T, rt: &HostRuntime, request: &Request<'_>) -> ExitCode
 where
     T: Threads + Wait + Clock + Sync,

@@ -36,9 +36,9 @@ pub struct Planned {
     pub nodes: u64,
     /// How many nodes were left open.
     pub open_nodes: u64,
-    /// The proof of the bound, where it was asked for, by a search that keeps its nodes.
+    /// The proof of the bound, if it was requested, from a whole-tree search.
     pub proof: Option<Proof>,
-    /// The proof of the bound, where it was asked for, under pair duals.
+    /// The proof of the bound, if it was requested, with pair duals.
     pub pair_proof: Option<PairProof>,
 }
 
@@ -51,7 +51,8 @@ impl Planned {
     }
 }
 
-/// Searches, from the start or any permutation, until no node is open, or a limit is reached, or the stop is wanted, and where memory ends. Who may stop it is shown how far it has come.
+/// Searches, from the start or any permutation, until no node is open, a limit is reached, a stop is requested, or
+/// memory runs out. The keeper, which may stop it, observes its progress.
 pub fn search<T, K>(
     system: &T,
     alloc: Global,

@@ -16,7 +16,7 @@ const PAUSE_MS: u64 = 10_000;
 /// After how many milliseconds it is looked again whether the search is to stop.
 const LOOK_MS: u64 = 100;
 
-/// How a run says how far it has come.
+/// How a run reports its progress.
 #[derive(Clone, Copy, Debug, PartialEq, Eq)]
 pub enum Telling {
     /// Not at all.
@@ -27,7 +27,7 @@ pub enum Telling {
     Lines,
 }
 
-/// How a run on this system says how far it has come: on a terminal always, and elsewhere where that is asked for.
+/// How a run on this system reports its progress: always on a terminal, and elsewhere if requested.
 pub fn telling_of(rt: &HostRuntime, asked: bool) -> Telling {
     if rt.stderr().is_terminal() {
         Telling::OneLine
@@ -38,7 +38,8 @@ pub fn telling_of(rt: &HostRuntime, asked: bool) -> Telling {
     }
 }
 
-/// Keeps the time of a search, watches it, reports what memory it takes, and may stop it where its time is over or a file asks for that.
+/// Measures the time and memory of a search, reports its progress, and may stop it when its time is over or a file
+/// requests it.
 #[derive(Drop)]
 pub struct Teller<'a, R: Eprint + AllocGlobal + Files, T: time::Clock> {
     rt: &'a R,

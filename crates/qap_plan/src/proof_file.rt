@@ -11,7 +11,7 @@ use qap_io::Counted;
 use qap_proof::{Proof, write};
 use std::alloc::Global;
 
-/// The text of an answer's proof; none where it has no proof.
+/// The text of an answer's proof; none if it has no proof.
 pub fn proof_text(alloc: Global, answer: &Planned) -> Result<Vec<u8>, PlanError> {
     match (&answer.proof, &answer.pair_proof) {
         (Some(proof), _) => text_of_proof(alloc, proof),

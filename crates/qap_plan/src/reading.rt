@@ -11,7 +11,7 @@ use qap_text::{MAX_INPUT, read_all, read_instance, skip_separators};
 use std::alloc::Global;
 use std::io::Read;
 
-/// The instance that the input begins with. A word behind it is an error, unless what follows is to be passed over.
+/// The instance with which the input begins. A word after it is an error, unless what follows is to be ignored.
 pub fn read_problem<R: Read>(
     alloc: Global,
     reader: &mut Counted<R>,

@@ -14,7 +14,7 @@ const PAGE_BYTES: u64 = 4096;
 /// More than that text has.
 const LIMIT: usize = 4096;
 
-/// How many bytes of memory the program has now, where the system reports it.
+/// How many bytes of memory the program uses now, if the system reports it.
 pub fn resident_bytes<R: Files + AllocGlobal>(rt: &R) -> Option<u64> {
     let file = fs::open(rt, FILE).ok()?;
     let text = read_all(rt.alloc(), &mut Counted::new(file), LIMIT).ok()?;

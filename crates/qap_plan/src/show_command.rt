@@ -19,7 +19,7 @@ pub struct ShowRequest<'a> {
     pub passes: bool,
 }
 
-/// The subcommand that shows an answer again.
+/// The subcommand `show`.
 pub fn show_command<'a>(alloc: Global) -> Result<Command<'a>, AllocError> {
     let command = Command::new(alloc, "show").about(
         "Shows an answer again, from the JSON that `solve` wrote",

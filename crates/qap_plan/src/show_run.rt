@@ -18,7 +18,7 @@ use plan_file::NamedProblem;
 use plan_input::is_plan;
 use std::process::ExitCode;
 
-/// Shows the answer whose JSON a file has; what it says of a bound is reported as stated.
+/// Shows the answer with the JSON in a file; its bound is reported as stated.
 pub fn run_show(rt: &HostRuntime, request: &ShowRequest<'_>) -> ExitCode {
     if is_plan(request.file) {
         show_plan(rt, request)

@@ -11,21 +11,21 @@ use std::alloc::{AllocError, Global};
 /// The most parts that may be asked for.
 const MAX_PARTS: u64 = 1 << 20;
 
-/// To cut the search of an instance into parts.
+/// The request to split the search of an instance into parts.
 #[derive(Clone, Copy, Debug, PartialEq, Eq)]
 pub struct SplitRequest<'a> {
     /// The file of the instance.
     pub file: &'a str,
-    /// The file of the solution that is to be begun with.
+    /// The file of the start.
     pub start: Option<&'a str>,
     pub options: Options,
-    /// How many parts are wanted at least.
+    /// The least number of parts.
     pub parts: u64,
     /// The folder that the files are written to.
     pub folder: &'a str,
 }
 
-/// The subcommand that cuts a search into parts.
+/// The subcommand `split`.
 pub fn split_command<'a>(alloc: Global) -> Result<Command<'a>, AllocError> {
     let command = Command::new(alloc, "split")
         .about("Splits the search of an instance into parts, which part solves")

@@ -24,8 +24,8 @@ use std::sync::Wait;
 use std::thread::Threads;
 use std::time::Clock;
 
-/// Cuts the search of an instance into parts, and writes the proof so far, the best permutation and the parts' nodes into a folder.
-/// `system` is what threads, waiting and the time are asked of.
+/// Splits the search of an instance into parts, and writes the proof so far, the best permutation and the parts' nodes
+/// into a folder. `system` provides threads, waiting and the time.
 pub fn run_split<T>(system: &T, rt: &HostRuntime, request: &SplitRequest<'_>) -> ExitCode
 where
     T: Threads + Wait + Clock + Sync,

@@ -28,8 +28,8 @@ pub struct Skeleton {
     pub nodes: u64,
 }
 
-/// Splits the hardest part again and again, from the start or any permutation, until there are as many parts as are
-/// wanted, none is left, the limit of nodes is reached or the stop is wanted.
+/// Repeatedly splits the hardest part, from the start or any permutation, until there are as many parts as requested,
+/// none is left, the node limit is reached or a stop is requested.
 pub fn split_up<T, K>(
     system: &T,
     alloc: Global,

@@ -7,8 +7,8 @@ use qap_cost::{Instance, Partial};
 use qap_proof::{ProofError, Stated, accept_over};
 use std::alloc::{AllocError, Global};
 
-/// What the text of an earlier run shows of the part, where it is the text of a proof over the node which proves its bound for the
-/// instance, and that bound reaches the proof's own cost or this one.
+/// What the text of an earlier run establishes about the part, if it is the text of a proof over the node which proves
+/// its bound for the instance, and that bound reaches the proof's own cost or this one.
 pub fn standing_proof(
     alloc: Global,
     instance: &Instance,

@@ -13,8 +13,8 @@ use qap_text::{MAX_INPUT, TextError, read_all, read_solution};
 use std::alloc::Global;
 use std::io::Read;
 
-/// The permutation that the text of a solution has, where there is a reader of one; its size is to be the instance's, and the cost that
-/// it states its own.
+/// The permutation in the text of a solution, if there is a reader of one; its size must be the instance's, and the
+/// cost that it states correct.
 pub fn read_start<Q: Read>(
     alloc: Global,
     reader: &mut Option<Counted<Q>>,

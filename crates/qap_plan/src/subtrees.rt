@@ -188,7 +188,7 @@ struct Watcher<'a, 'k, K: Keeper> {
     within: &'a WithinMemory<'k, K>,
     /// What the permutation costs that the search begins with.
     cost: i128,
-    /// How many rounds of the thread that keeps the space have passed.
+    /// The number of rounds of the thread that keeps the space so far.
     looks: Cell<u32>,
 }
 

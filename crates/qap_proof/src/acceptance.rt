@@ -21,7 +21,7 @@ use gilmore_lawler::{NodeRows, RankedInstance};
 use qap_cost::{Instance, Partial, Perm, cost};
 use std::alloc::Global;
 
-/// What a text shows of an instance's costs.
+/// What a text establishes about an instance's costs.
 #[derive(Clone, Copy, Debug, PartialEq, Eq)]
 pub enum Verdict {
     /// This is the least cost.
@@ -32,10 +32,10 @@ pub enum Verdict {
     Part(i128),
 }
 
-/// What a text shows of an instance's costs, where it is that of a proof which proves its bound for it. Of the tree no
-/// more is held than the nodes above the line that is read, with what the duals of their splits yield.
+/// What a text establishes about an instance's costs, if it is that of a proof which proves its bound for it. Of the
+/// tree it stores only the nodes above the current line, with the values of the duals of their splits.
 ///
-/// Else the first fault is reported: every fault of how the text is spelled comes before every fault of what it says.
+/// Otherwise the first fault is reported: every syntactic fault comes before every semantic one.
 pub fn accept(alloc: Global, instance: &Instance, text: &[u8]) -> Result<Verdict, ProofError>
     ensures verdict { MatchResult result
         (ShowsVerdict instance.now text.now)

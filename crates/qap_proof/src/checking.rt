@@ -28,17 +28,17 @@ use gilmore_lawler::{NodeRows, RankedInstance};
 use qap_cost::{Instance, Partial, Perm};
 use std::alloc::Global;
 
-/// Whether the proof shows, by what it says alone, that no permutation of the instance which completes its root costs less than its
-/// bound. Where the root is empty and the bound is the cost, that is the least cost.
+/// Whether the proof alone establishes that no permutation of the instance which completes its root costs less than its
+/// bound. If the root is empty and the bound is the cost, that is the least cost.
 ///
-/// The permutation is to be of the instance's size (`SizeDiffers(2)` if not) and to have the cost (`CostDiffers(3)`).
-/// Then the nodes of the tree, in preorder, are each to show what they say: the duals of a closed node and of a split
-/// are to fit the reduced matrix of their part (`NotFeasible`), and those of a closed node to reach, with the cost of
-/// the placed facilities, at least the proof's bound (`BoundTooLow`); so are those of the split above a child that is
-/// cut, with the entry of the pair that it puts together in the place of its two duals (`CutTooLow`); and the
-/// permutation of a child that is mirrored is to keep the distances, or the flows where its split is on a location, to
-/// leave what is placed, and to take the earlier child to this one (`NotAnImage`). The first that fails is reported by
-/// the line that it has in the proof's text. `OutOfMemory` says nothing of the proof.
+/// The permutation must be of the instance's size (`SizeDiffers(2)` if not) and have the cost (`CostDiffers(3)`). Then
+/// each node of the tree, in preorder, must be valid: the duals of a closed node and of a split must fit the
+/// Gilmore-Lawler matrix of their part (`NotFeasible`), and those of a closed node, plus the cost of the placed
+/// facilities, must be at least the proof's bound (`BoundTooLow`); likewise those of the split above a pruned child,
+/// where the entry of the pair that the child places replaces its two duals (`CutTooLow`); and the permutation of a
+/// symmetric child must preserve the distances, or the flows if its split is on a location, fix what is placed, and map
+/// the earlier child to this one (`NotAnImage`). The first that fails is reported by its line in the proof's text.
+/// `OutOfMemory` implies nothing about the proof.
 pub fn check(alloc: Global, instance: &Instance, proof: &Proof) -> Result<(), ProofError>
     ensures verdict { MatchResult result
         (λ done. Proves instance.now proof.now)

@@ -20,11 +20,11 @@ use qap_cost::{Instance, Partial};
 use std::alloc::{AllocError, Global};
 use std::marker::Model;
 
-/// The proof of a whole, whose bound may be small, and proofs of parts that were added to it. Each leaf of the first's tree shows the
-/// greatest of its own value and of the bounds of all parts whose placements are among the leaf's: what completes the leaf completes
-/// such a part. Together they show the least over the leaves.
+/// The proof of a whole, whose bound may be small, and proofs of parts that were added to it. The value of each leaf of
+/// the first's tree is the maximum of its own bound and of the bounds of all parts whose placements are among the
+/// leaf's: whatever completes the leaf completes such a part. Together they establish the minimum over the leaves.
 ///
-/// One text is in memory at a time, and of the trees the leaves of the first alone.
+/// One text is in memory at a time, and of the trees only the leaves of the first.
 #[derive(Drop)]
 pub struct Cover {
     ranked: RankedInstance,
@@ -44,8 +44,8 @@ impl Model for Cover {
 }
 
 impl Cover {
-    /// The proof of the whole alone, whose text this is. Where it isn't one that proves its bound for the instance, the
-    /// first fault is reported.
+    /// The proof of the whole without parts, from its text. If it is not one that proves its bound for the instance,
+    /// the first fault is reported.
     pub fn new(alloc: Global, instance: &Instance, text: &[u8]) -> Result<Cover, ProofError>
         ensures { MatchResult result
             (IsOpened instance.now text.now)
@@ -70,8 +70,8 @@ impl Cover {
         })
     }
 
-    /// Adds the proof of a part, whose text this is. Where it isn't one that proves its bound for the instance, the
-    /// first fault is reported, and nothing is added.
+    /// Adds the proof of a part, from its text. If it is not one that proves its bound for the instance, the first
+    /// fault is reported, and nothing is added.
     pub fn add(&mut self, alloc: Global, text: &[u8]) -> Result<(), ProofError>
         ensures { MatchResult result
             (λ done. HasPart text.now self.old self.new)
@@ -83,8 +83,8 @@ impl Cover {
         Ok(())
     }
 
-    /// What all of them show: the least cost; or a bound, and the least cost of their permutations; or where the root of the whole isn't
-    /// empty, a bound on what the permutations cost that complete it.
+    /// What all of them establish: the least cost; or a bound, and the least cost of their permutations; or if the root
+    /// of the whole is not empty, a lower bound on the permutations that complete it.
     pub fn verdict(&self) -> Verdict
         ensures verdict { IsVerdictOn self.now result }
         ensures bounded { IsLimitedVerdict result }
@@ -104,7 +104,7 @@ impl Cover {
         least
     }
 
-    /// The leaves of the whole, in preorder, each with what it shows by now.
+    /// The leaves of the whole, in preorder, each with its current value.
     pub fn leaves(&self) -> &[Leaf]
         ensures { result.now ≡ self.now.leaves }
     {

@@ -11,13 +11,13 @@ pub enum ProofError {
     /// The proof is of another size than the instance.
     #[error("line {0}: the size is not the instance's")]
     SizeDiffers(u64),
-    /// The first line isn't that of a proof.
+    /// The first line is not that of a proof.
     #[error("the first line is not that of a proof")]
     BadHeader,
-    /// The first line names a version that isn't known.
+    /// The first line names an unknown version.
     #[error("the proof's version is not known")]
     BadVersion,
-    /// A line isn't spelled as one at its place is.
+    /// A line is malformed.
     #[error("line {0} is not spelled as it should be")]
     BadLine(u64),
     /// The text ends before this line does.
@@ -29,46 +29,46 @@ pub enum ProofError {
     /// The permutation has another cost than is stated.
     #[error("line {0}: the permutation has another cost")]
     CostDiffers(u64),
-    /// The numbers aren't each of 1 to the size once.
+    /// The numbers do not list each of 1 to the size once.
     #[error("line {0}: the numbers are no permutation")]
     PermBad(u64),
-    /// A split stands where nothing is free.
+    /// A split occurs where nothing is free.
     #[error("line {0} splits where nothing is free")]
     SplitTooDeep(u64),
-    /// A split names a facility that is placed already, or is none of the size.
+    /// A split names a facility that is already placed, or not below the size.
     #[error("line {0} splits on a facility that is not free")]
     FacilityTaken(u64),
-    /// A split names a location that is taken already, or is none of the size.
+    /// A split names a location that is already taken, or not below the size.
     #[error("line {0} splits on a location that is not free")]
     LocationTaken(u64),
-    /// There isn't one dual for each free facility and each free location.
+    /// There is not one dual for each free facility and each free location.
     #[error("line {0} has another number of duals")]
     DualCount(u64),
-    /// A dual lies outside -10^24 to 10^24.
+    /// A dual is outside -10^24 to 10^24.
     #[error("line {0} has a dual outside -10^24 to 10^24")]
     DualRange(u64),
-    /// A child is cut that no split with duals has.
+    /// A pruned child of a split without duals.
     #[error("line {0} cuts a child where there are no duals")]
     CutWithoutDuals(u64),
-    /// A child is the image of none of the earlier ones of its split.
+    /// A child is symmetric to no earlier one of its split.
     #[error("line {0} is the image of no earlier child")]
     NoEarlierChild(u64),
-    /// A split hasn't one child for each free one of the other side.
+    /// A split does not have one child for each free one of the other side.
     #[error("line {0} splits into another number of children")]
     SplitWidth(u64),
-    /// The root isn't a node of different facilities, these ascending, at different locations.
+    /// The root is not a node with distinct facilities, ascending, at distinct locations.
     #[error("line {0} is no root")]
     RootBad(u64),
-    /// The duals don't fit the reduced matrix.
+    /// The duals do not fit the Gilmore-Lawler matrix.
     #[error("line {0}: the duals don't fit the reduced matrix")]
     NotFeasible(u64),
     /// The duals fit, but bound their part by less than the proof's bound.
     #[error("line {0}: the duals bound their part by too little")]
     BoundTooLow(u64),
-    /// The duals of a split bound a child that is cut by less than the proof's bound.
+    /// The duals of a split bound a pruned child by less than the proof's bound.
     #[error("line {0}: the duals bound the child by too little")]
     CutTooLow(u64),
-    /// A permutation doesn't keep the matrix, moves what is placed, or doesn't take the earlier child to this one.
+    /// A permutation does not preserve the matrix, moves what is placed, or does not map the earlier child to this one.
     #[error("line {0}: the permutation takes no earlier child to this one")]
     NotAnImage(u64),
     /// There is no memory left.
@@ -83,7 +83,7 @@ impl ProofError {
     ghost use Rattle.std.specs.Prelude.{◌≡◌};
     ghost use Rattle.qap_proof.specs.Refusal.{proof_refusal};
 
-    /// The refusal that reports the fault: its number, its name, and its line where it has one.
+    /// The refusal that reports the fault: its number, its name, and its line if it has one.
     pub fn refusal(self) -> Refusal
         ensures { result ≡ proof_refusal self }
     {

@@ -13,20 +13,20 @@ ghost use Rattle.qap_proof.specs.Tree.{Node, whole};
 ghost use Rattle.qap_proof.specs.Valid.{Valid};
 ghost use Rattle.qap_proof.specs.declared.error.ProofError.{ProofError};
 
-/// No permutation that completes the root of a valid tree costs less than the bound that the tree shows.
+/// No permutation that completes the root of a valid tree costs less than the tree's bound.
 pub fn tree_law()
     ensures { (I : Problem) (x : Placement) (g : ℤ) (t : Node) → IsPlacement x → x.size ≡ I.size → Valid I g (whole x) t → NoneCompletesForLess I x g }
 {}
 
-/// No permutation that completes the root of a valid proof costs less than its bound; and where the root is empty and the bound
-/// is the cost, that is the least cost, which the permutation has.
+/// No permutation that completes the root of a valid proof costs less than its bound; and if the root is empty and the
+/// bound is the cost, that is the least cost, which the permutation has.
 pub fn proof_law()
     ensures bound { (I : Problem) (C : Claim) → IsInstance I → IsProof C → Proves I C → NoneCompletesForLess I C.root C.bound }
     ensures least { (I : Problem) (C : Claim) → IsInstance I → IsProof C → Proves I C → C.root ≡ root_of I.size → C.bound ≡ C.cost → IsLeast I C.cost }
 {}
 
-/// What has a first fault of shape is no proof, and a proof that has a fault for an instance doesn't prove its bound; and there is
-/// only one first fault.
+/// What has a first fault of shape is not a proof, and a proof that has a fault for an instance does not prove its
+/// bound; and the first fault is unique.
 pub fn fault_law()
     ensures proof { (C : Claim) (e : ProofError) → IsClaimFault C e → IsProof C → ⊥ }
     ensures proved { (I : Problem) (C : Claim) (e : ProofError) → IsProof C → IsFault I C e → Proves I C → ⊥ }

@@ -22,7 +22,8 @@ use gilmore_lawler::{NodeRows, dual_sum};
 use qap_cost::Partial;
 use std::alloc::AllocError;
 
-/// A leaf of a tree: a node that is closed, or a child that is cut. No permutation that completes the node costs less than the value.
+/// A leaf of a tree: a closed node, or a pruned child. No permutation that completes the node costs less than the
+/// value.
 #[derive(Drop)]
 pub struct Leaf {
     pub node: Partial,

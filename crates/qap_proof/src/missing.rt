@@ -14,19 +14,20 @@ use gilmore_lawler::RankedInstance;
 use qap_cost::{Instance, Partial};
 use std::alloc::{AllocError, Global};
 
-/// A leaf of a proof's tree that shows less than the proof's cost: what is left to search.
+/// A leaf of a proof's tree whose value is below the proof's cost: what is left to search.
 #[derive(Drop)]
 pub struct MissingPart {
     /// The leaf's number, counted from 0 in preorder.
     pub leaf: usize,
     /// The leaf's node, its facilities ascending.
     pub node: Partial,
-    /// What the leaf shows, in the units of the costs.
+    /// The leaf's value, in the units of the costs.
     pub value: i128,
 }
 
-/// The leaves that show less than the cost of a proof that proves its bound for the instance, those that show least first: where no
-/// permutation that completes one of their nodes costs less than that cost, none does that completes the proof's root.
+/// The leaves whose values are below the cost of a proof that proves its bound for the instance, the lowest first: if
+/// no permutation that completes one of their nodes costs less than that cost, none does that completes the proof's
+/// root.
 pub fn missing_parts(
     alloc: Global,
     instance: &Instance,

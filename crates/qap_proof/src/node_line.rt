@@ -29,7 +29,7 @@ pub struct SplitLine {
     pub duals: Option<KeptDuals>,
 }
 
-/// What the line of a node says.
+/// The content of a node's line.
 #[derive(Drop)]
 pub enum NodeLine {
     Closed(Duals),
@@ -38,15 +38,15 @@ pub enum NodeLine {
     Mirrored(u16, Perm),
 }
 
-/// What the first line of a text says, and the text behind it.
+/// The content of the first line of a text, and the text after it.
 #[derive(Drop)]
 pub struct LineRead<'a> {
     pub line: NodeLine,
     pub rest: &'a [u8],
 }
 
-/// The first line of a text, which has this number and is to be that of a node, with this many earlier children of its
-/// split and duals of that, or none.
+/// The first line of a text, which has this number and must be that of a node, with this many earlier children of its
+/// split and with or without duals of that split.
 pub fn read_node_line<'a>(
     alloc: Global,
     text: &'a [u8],

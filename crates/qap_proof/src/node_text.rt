@@ -30,7 +30,7 @@ fn behind_first(alloc: Global, bytes: &[u8]) -> Result<Vec<u8>, AllocError>
     }
 }
 
-/// The node of this size that a text gives; `None` where it gives none whose facilities ascend.
+/// The node of this size that a text spells; `None` if it spells none whose facilities ascend.
 pub fn read_node_text(
     alloc: Global,
     text: &[u8],

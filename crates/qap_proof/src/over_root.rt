@@ -19,9 +19,9 @@ pub struct Stated {
     pub bound: i128,
 }
 
-/// What a text shows of the permutations that complete this root, where it is that of a proof over the root which
-/// proves its bound for the instance; `None` where it is one over another root. It is judged as `accept` does, which
-/// says what is reported otherwise.
+/// What a text establishes about the permutations that complete this root, if it is that of a proof over the root which
+/// proves its bound for the instance; `None` if it is one over another root. It is checked, and faults are reported, as
+/// in `accept`.
 pub fn accept_over(
     alloc: Global,
     instance: &Instance,

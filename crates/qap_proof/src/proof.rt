@@ -14,9 +14,9 @@ use crate::tree::Tree;
 use qap_cost::{MAX_VALUE, Partial, Perm};
 use std::marker::Model;
 
-/// A node whose facilities are placed ascending, a cost from -10^24 to 10^24, a bound from -10^24 to the cost, a permutation of
-/// the node's size that is to have the cost, and a tree over the node that is to show that no permutation which completes it
-/// costs less than the bound. Whether it does, for an instance, is for `check` to say.
+/// A node whose facilities are placed in ascending order, a cost from -10^24 to 10^24, a bound from -10^24 to the cost,
+/// a permutation of the node's size that should have the cost, and a tree over the node that should prove that no
+/// permutation which completes it costs less than the bound. `check` decides whether it does for an instance.
 #[derive(Drop)]
 pub struct Proof {
     pub(crate) root: Partial,
@@ -41,18 +41,17 @@ impl Model for Proof {
 }
 
 impl Proof {
-    /// The proof of this cost, this bound, this root, this permutation and this tree, where they have the shape of one.
+    /// The proof with this cost, bound, root, permutation and tree, if they have the required shape.
     ///
-    /// Where the call refuses, the root, the permutation and the tree come back. `OutOfMemory` says nothing of them;
-    /// else it reports the first fault in order of the lines that the proof's text would have: `BadLine(3)` for a cost
-    /// outside -10^24 to 10^24; `RootBad(5)` for a root of another size than the permutation, or whose facilities don't
+    /// A refusal returns the root, the permutation and the tree. `OutOfMemory` implies nothing about them; otherwise it
+    /// reports the first fault in order of the lines that the proof's text would have: `BadLine(3)` for a cost outside
+    /// -10^24 to 10^24; `RootBad(5)` for a root of another size than the permutation, or whose facilities do not
     /// ascend; `BadLine`, at the line of the bound, for a bound that is above the cost or outside that range;
     /// `SplitTooDeep` for a split where nothing is free, `FacilityTaken` or `LocationTaken` for one on a facility or a
-    /// location that isn't free, `SplitWidth` for one with another number of children than there are free ones of the
-    /// other side; `DualCount` for another number of duals than there are free facilities or free locations,
-    /// `DualRange` for a dual outside -10^24 to 10^24; `CutWithoutDuals` for a child that is cut where its split has no
-    /// duals; and of one that is mirrored `NoEarlierChild` where it is the image of no earlier one, `PermBad` where the
-    /// permutation is of another size.
+    /// location that is not free, `SplitWidth` for one with another number of children than free ones of the other
+    /// side; `DualCount` for another number of duals than free facilities or free locations, `DualRange` for a dual
+    /// outside -10^24 to 10^24; `CutWithoutDuals` for a pruned child whose split has no duals; and for a symmetric
+    /// child `NoEarlierChild` if it refers to no earlier one, `PermBad` if the permutation is of another size.
     pub fn new(
         cost: i128,
         bound: i128,
@@ -92,7 +91,7 @@ impl Proof {
         self.cost
     }
 
-    /// The bound that no permutation which completes the root is to be below: from -10^24 to the cost.
+    /// The claimed lower bound on the permutations that complete the root: from -10^24 to the cost.
     pub fn bound(&self) -> i128
         ensures value { result ≡ self.now.bound }
         ensures proof { IsProof self.now }

@@ -17,9 +17,9 @@ use gilmore_lawler::dual_sum;
 use qap_cost::{Instance, Matrix, Partial};
 use std::alloc::{AllocError, Global};
 
-/// What duals of a split on this facility or this location yield for each child, where they fit the reduced matrix of
-/// the node: with what the placed facilities cost, and the entry of the pair that the child puts together in the place
-/// of its two duals.
+/// The bound of each child under the duals of a split on this facility or this location, if these fit the
+/// Gilmore-Lawler matrix of the node: the cost of the placed facilities, plus the duals, where the entry of the pair
+/// that the child places replaces its two duals.
 pub fn child_values(
     alloc: Global,
     instance: &Instance,

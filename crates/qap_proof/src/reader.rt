@@ -29,11 +29,11 @@ pub(crate) struct Head<'a> {
     pub(crate) rest: &'a [u8],
 }
 
-/// The proof that a text is.
+/// The proof in a text.
 ///
-/// A text has one line each for the version, the size, the cost and the permutation, a line for a root that isn't
-/// empty, one for a bound that is below the cost, a line for each node of the tree in preorder, and a last line. Each
-/// proof has one text. The first fault in order of lines is reported.
+/// A text has one line each for the version, the size, the cost and the permutation, a line for a nonempty root, one
+/// for a bound that is below the cost, a line for each node of the tree in preorder, and a last line. Each proof has
+/// exactly one text. The first fault in order of lines is reported.
 pub fn read(alloc: Global, text: &[u8]) -> Result<Proof, ProofError>
     ensures { MatchResult result
         (IsProofText text.now)

@@ -10,11 +10,11 @@ use crate::tree::Tree;
 use qap_cost::Instance;
 use std::alloc::Global;
 
-/// The proof with the tree of a part in the place of the leaf of this number, counted from 0 in preorder, with the part's
+/// The proof with the tree of a part in place of the leaf of this number, counted from 0 in preorder, with the part's
 /// permutation, and with this bound.
 ///
-/// The part is to be one over that leaf's node, and the bound at most what each leaf shows then. Whether they are is
-/// judged as any proof is, so that what comes out proves its bound for the instance; else the first fault is reported.
+/// The part must be over that leaf's node, and the bound at most the resulting value of each leaf. This is checked as
+/// for any proof, so that the result proves its bound for the instance; otherwise the first fault is reported.
 pub fn refined(
     alloc: Global,
     instance: &Instance,

@@ -16,7 +16,7 @@ pub struct Duals {
 }
 
 impl Duals {
-    /// The same duals, as a tree keeps them.
+    /// The same duals in the stored form of a tree.
     pub fn kept(self) -> KeptDuals
         ensures { kept_pair_of result ≡ pair_of self }
     {
@@ -27,7 +27,7 @@ impl Duals {
     }
 }
 
-/// The same in as few bits as they need, as a tree keeps them.
+/// Duals in as few bits as they need, the stored form of a tree.
 #[derive(Drop)]
 pub struct KeptDuals {
     pub u: NumberList,
@@ -45,8 +45,8 @@ impl KeptDuals {
     }
 }
 
-/// A part of the permutations of an instance, and what shows that none of it costs less than a bound. Facilities, locations
-/// and children are counted from 0.
+/// A part of the permutations of an instance, and what proves that none of it costs less than a bound. Facilities,
+/// locations and children are counted from 0.
 #[derive(Drop)]
 pub enum Tree {
     /// The part is closed by duals of its reduced matrix.
@@ -58,10 +58,10 @@ pub enum Tree {
         split: SplitLine,
         children: Vec<Tree>,
     },
-    /// A child that the duals of its split cut off.
+    /// A child that the duals of its split prune.
     Cut,
-    /// A child that is the image of an earlier one of its split: the permutation is of the locations where the split is on a
-    /// facility, and of the facilities where it is on a location.
+    /// A child that is symmetric to an earlier one of its split: the permutation is of the locations if the split is on
+    /// a facility, and of the facilities if it is on a location.
     Mirrored {
         earlier: u16,
         image: Perm,

@@ -27,26 +27,26 @@ ghost use Rattle.qap_search.specs.Law.Search.{Search, IsSearch, NoneBelow, from_
 ghost use Rattle.qap_search.specs.Law.SearchTree.{IsTree, plain, decided_count};
 ghost use Rattle.qap_search.specs.Certificate.Stopped.{IsNotStopped, IsStopped};
 
-/// The open root and the permutation that is known are a cut tree, before any commit.
+/// The open root and the known permutation are a cut tree, before any commit.
 pub fn opening_law()
     ensures { (S : Search) → IsSearch S → IsCutTree S (node_tuple S.root ∷ tuple_of S.known ∷ []) 0 }
 {}
 
-/// Whether tuples are a cut tree doesn't depend on their order.
+/// Being a cut tree does not depend on the order of tuples.
 pub fn order_law()
     ensures { (S : Search) (content other : List (List FieldValue)) (commits : ℕ) →
         SameItems content other → IsCutTree S content commits → IsCutTree S other commits }
 {}
 
-/// A cut tree in which an open node gives way to a decided one is a cut tree, of one commit more.
+/// A cut tree in which an open node is replaced by a decided one is a cut tree, of one more commit.
 pub fn replacement_law()
     ensures { (S : Search) (gone kept added rest content : List (List FieldValue)) (commits : ℕ) →
         MayReplace S.cutting S.instance gone kept added → SameItems content (gone ++ (kept ++ rest)) → IsCutTree S content commits →
         IsCutTree S (added ++ (kept ++ rest)) (commits + 1) }
 {}
 
-/// What a cut tree holds and an open node's template asks for is a node of the instance's size; and what the best permutation's
-/// template asks for is a permutation of the instance, with its cost.
+/// In a cut tree, whatever matches an open node's template is a node of the instance's size; and whatever matches the
+/// incumbent's template is a permutation of the instance, with its cost.
 pub fn found_law()
     ensures node { (S : Search) (content : List (List FieldValue)) (commits : ℕ) (tuple : List FieldValue) →
         IsCutTree S content commits → Contains content tuple → is_open tuple ≡ true → IsOpenNode S.instance.size tuple }
@@ -67,8 +67,8 @@ pub fn replacing_law()
         MayReplace cutting I gone kept added }
 {}
 
-/// A cut tree of all permutations without open nodes is that of a certificate; and a certificate whose tuples are such a tree
-/// certifies its cost, with a node for each commit.
+/// A cut tree of all permutations without open nodes is that of a certificate; and a certificate whose tuples are such
+/// a tree certifies its cost, with a node for each commit.
 pub fn certificate_law()
     ensures there { (I : Problem) (known : Best) (content : List (List FieldValue)) (commits : ℕ) → IsInstance I →
         IsCutTree (from_root I known) content commits → open_count content ≡ 0 → (C : Claim) × IsAssembled I.size content C }
@@ -78,9 +78,9 @@ pub fn certificate_law()
         IsCutTree (from_root I known) content commits → IsAssembled I.size content C → node_count C.tree ≡ commits }
 {}
 
-/// Where a search of all permutations has been driven to its end, as one worker drives it on a space of its own, the
-/// text of the certificate that `assemble` makes of its tuples, which is what `write` puts out, shows that its cost is
-/// the least one, and shows nothing else; and it has no fault. So `accept` says of it that its cost is optimal.
+/// If a search of all permutations has been completed, as by one worker on its own space, the text of the certificate
+/// that `assemble` builds from its tuples, which `write` writes, has no fault, and establishes that its cost is the
+/// least one, and nothing else. So `accept` reports that its cost is optimal.
 pub fn accepted_law()
     ensures shown { (I : Problem) (known : Best) (content : List (List FieldValue)) (commits : ℕ) (C : Claim) →
         IsCutTree (from_root I known) content commits → IsAssembled I.size content C → ShowsVerdict I (certificate_text Second C) (Optimal C.cost) }
@@ -90,10 +90,10 @@ pub fn accepted_law()
         IsCutTree (from_root I known) content commits → IsAssembled I.size content C → IsRefused I (certificate_text Second C) e → ⊥ }
 {}
 
-/// A certificate that a cut tree of all permutations gives where its open nodes are closed certifies its bound, and costs no more
-/// than the permutation that was known; the cut tree has a decided node for each commit, and the certificate's tree one for each of
-/// these and for each open node. The leaves that were closed before close their parts for the certificate's cost. No cut tree is
-/// refused.
+/// A certificate from a cut tree of all permutations with its open nodes closed certifies its bound, and costs no more
+/// than the known permutation; the cut tree has a decided node for each commit, and the certificate's tree one for each
+/// of these and for each open node. The leaves that were closed before close their parts for the certificate's cost. No
+/// cut tree is refused.
 pub fn stopped_law()
     ensures certifies { (I : Problem) (known : Best) (content : List (List FieldValue)) (commits : ℕ) (C : Claim) →
         IsCutTree (from_root I known) content commits → IsStopped I content C → Certifies I C }
@@ -109,8 +109,8 @@ pub fn stopped_law()
         IsCutTree (from_root I known) content commits → IsNotStopped I content → ⊥ }
 {}
 
-/// No permutation that completes the root of a search costs less than the least of its best permutation's cost and of what its open
-/// nodes' least assignments show; and that is the cost where no node is open.
+/// No permutation that completes the root of a search costs less than the minimum of its incumbent's cost and of the
+/// bounds that its open nodes' least assignments give; and that is the cost if no node is open.
 pub fn open_bound_law()
     ensures bounds { (S : Search) (content : List (List FieldValue)) (commits : ℕ) (g : ℤ) →
         (h : IsCutTree S content commits) → IsOpenBound S.instance content h.cost g → NoneBelow S g }

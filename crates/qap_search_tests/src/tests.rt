@@ -239,7 +239,7 @@ fn stopped_searches_show_a_bound(rt: HostRuntime) -> Result<(), Fail> {
     Ok(())
 }
 
-/// Tuples of no search that could have been stopped, and of one that shows less than -10^24.
+/// Tuples of no search that could have been stopped, and of one with a bound below -10^24.
 static NO_SEARCH: [Row; 6] = [
     &[],
     &[&[NODE, List(&[])]],

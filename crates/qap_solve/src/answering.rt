@@ -18,9 +18,8 @@ use std::sync::Wait;
 use std::thread::Threads;
 use std::time;
 
-/// Answers a request on the output, and returns the exit status. Where there is no answer, the line of the refusal goes
-/// to the other writer; that it could not be written changes no status. `system` is what threads, waiting and the time
-/// are asked of.
+/// Answers a request on the output, and returns the exit status. If there is no answer, the line of the refusal goes to
+/// the other writer; failing to write it does not change the status. `system` provides threads, waiting and the time.
 pub fn answered<T, R, W, E, C, G>(
     system: &T,
     alloc: Global,
@@ -73,8 +72,8 @@ where
     }
 }
 
-/// Reports a refusal, and returns its exit status. Nothing is reported of a search that was stopped: what it has found
-/// stands on the output.
+/// Reports a refusal, and returns its exit status. Nothing is reported for a search that was stopped: its result is on
+/// the output.
 pub fn refused<E: Write>(error: RunError, errors: &mut Counted<E>) -> u8
     ensures status { result ≡ status_of error }
     ensures told { HasTold E.contents errors.old errors.new error }

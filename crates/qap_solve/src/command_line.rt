@@ -8,11 +8,11 @@ use clap::{Arg, ArgAction, ArgMatches, Command, value_parser};
 use qap_command::CommandError;
 use std::alloc::{AllocError, Global};
 
-/// The line that shows how the program is used.
+/// The usage line.
 pub const USAGE: &str =
     "usage: qapsolve solve [--workers K] [--lease MS] [--nodes N] [--cert] | qapsolve script";
 
-/// What is asked for.
+/// The request of a command line.
 #[derive(Clone, Copy, Debug, PartialEq, Eq)]
 pub enum Request {
     /// To solve an instance.

@@ -7,7 +7,7 @@ use std::time::{self, Instant};
 #[derive(Drop)]
 pub struct Elapsed<'a, T: time::Clock> {
     system: &'a T,
-    /// When it began, where that could be read.
+    /// When it began, if that could be read.
     start: Option<Instant>,
 }
 

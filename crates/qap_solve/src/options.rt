@@ -12,10 +12,10 @@ pub const MAX_LEASE_MS: u64 = 86_400_000;
 /// The most nodes that a limit may allow.
 pub const MAX_NODES: u64 = 1 << 62;
 
-/// How an instance is to be solved.
+/// The options of a run.
 #[derive(Clone, Copy, Debug, PartialEq, Eq)]
 pub struct Options {
-    /// How many workers search, each in a thread of its own: from 1 to 64.
+    /// The number of workers, each in its own thread: from 1 to 64.
     pub workers: u16,
     /// For how many milliseconds a worker's transaction is leased: from 1 to 86,400,000.
     pub lease_ms: u64,
@@ -26,7 +26,7 @@ pub struct Options {
 }
 
 impl Options {
-    /// The options of these values; `None` where the workers, the lease or the nodes lie outside their limits.
+    /// The options with these values; `None` if the workers, the lease or the nodes are outside their limits.
     pub fn new(workers: u16, lease_ms: u64, nodes: Option<u64>, cert: bool) -> Option<Options>
         ensures { MatchOption result
             (AreLimited (record { workers = workers; lease_ms = lease_ms; nodes = nodes; cert = cert }) → ⊥)

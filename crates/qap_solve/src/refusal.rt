@@ -12,16 +12,16 @@ use space_script::ScriptError;
 use std::io::Write;
 use thiserror::Error;
 
-/// Why a run is broken off.
+/// Why a run is aborted.
 #[derive(Clone, Copy, Debug, PartialEq, Eq, Error)]
 pub enum RunError {
-    /// The input is too long, or is no instance's text.
+    /// The input is too long, or not an instance's text.
     #[error("{0}")]
     Text(TextError),
     /// The search ended with this many open nodes.
     #[error("{0} nodes are open")]
     Unfinished(u64),
-    /// The search was stopped at its limit of nodes, and an answer for what it had found has gone out.
+    /// The search was stopped at its node limit, and its result has been written.
     #[error("the limit of nodes is reached")]
     Stopped,
     /// There is no memory left.
@@ -74,7 +74,7 @@ impl From<SolveError> for RunError {
     }
 }
 
-/// The exit status of a refusal: 3 for want of memory, 4 where nodes are open, 5 where the search was stopped, else 1.
+/// The exit status of a refusal: 3 if memory ran out, 4 if nodes are open, 5 if the search was stopped, else 1.
 pub fn status(error: &RunError) -> u8
     ensures { result ≡ status_of error.now }
 {
@@ -88,7 +88,7 @@ pub fn status(error: &RunError) -> u8
 }
 
 /// Writes the line that reports a refusal: `refused`, its number and name, and `at` with its place or the number of
-/// open nodes where it carries one; and flushes the writer. Where that fails, a beginning of the line has gone out.
+/// open nodes if it carries one; and flushes the writer. If that fails, a prefix of the line has been written.
 pub fn fault_line<W: Write>(error: &RunError, writer: &mut Counted<W>) -> Result<(), Device>
     ensures { MatchResult result
         (λ _. Sends W.contents writer.old writer.new (refusal_line (refusal_of error.now)))

@@ -42,13 +42,13 @@ enum Outcome {
     Stopped(Certificate),
 }
 
-/// Reads an instance, and writes a permutation of least cost with that cost, or, where that is asked for, a certificate of the
-/// cost in its place.
+/// Reads an instance, and writes a permutation of least cost with that cost, or, if requested, a certificate of the
+/// cost instead.
 ///
-/// Where the search is stopped at the limit of nodes, a line of a bound that no cost is below and of the cost of the best
-/// permutation found goes out before that permutation, or the certificate of the bound alone; and the answer is `Stopped`. All
-/// of the input is read; what follows the instance means nothing. Where there is no answer, nothing is written. Where memory
-/// runs out in writing, or the writer fails, a beginning of the right text has gone out.
+/// If the search is stopped at the node limit, a line with a lower bound on all costs and the cost of the best
+/// permutation found precedes that permutation, or the certificate of the bound is written alone; and the answer is
+/// `Stopped`. All of the input is read; what follows the instance is ignored. If there is no answer, nothing is
+/// written. If memory runs out during writing, or the writer fails, a prefix of the right text has been written.
 pub fn solve_stream<T, R, W, C, G>(
     rt: &T,
     alloc: Global,

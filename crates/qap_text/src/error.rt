@@ -7,10 +7,10 @@ use thiserror::Error;
 /// Why a text is refused. A place is the number of bytes before the word at fault.
 #[derive(Clone, Copy, Debug, PartialEq, Eq, Error)]
 pub enum TextError {
-    /// There is no word in the text.
+    /// The text has no word.
     #[error("the text has no word")]
     Empty,
-    /// A word is no whole number.
+    /// A word is not a whole number.
     #[error("the word at {0} is no whole number")]
     NotANumber(usize),
     /// The size of an instance is 0 or less.
@@ -19,7 +19,7 @@ pub enum TextError {
     /// The size of an instance is above 256.
     #[error("the size at {0} is above 256")]
     SizeTooLarge(usize),
-    /// An entry lies outside -10^9 to 10^9.
+    /// An entry is outside -10^9 to 10^9.
     #[error("the entry at {0} lies outside -10^9 to 10^9")]
     EntryRange(usize),
     /// The text ends before all its numbers are there.
@@ -28,10 +28,10 @@ pub enum TextError {
     /// A solution's size is not that of the instance.
     #[error("the size at {0} is not the instance's")]
     SizeDiffers(usize),
-    /// A location lies outside 1 to the size, or stands twice.
+    /// A location is outside 1 to the size, or repeated.
     #[error("the location at {0} is none of the size's, or stands twice")]
     NotPermutation(usize),
-    /// A solution's value lies outside -10^24 to 10^24.
+    /// A solution's value is outside -10^24 to 10^24.
     #[error("the value at {0} lies outside -10^24 to 10^24")]
     ValueRange(usize),
     /// The input is longer than was allowed.
@@ -49,7 +49,7 @@ impl TextError {
     ghost use Rattle.std.specs.Prelude.{◌≡◌};
     ghost use Rattle.qap_text.specs.Refusal.{text_refusal};
 
-    /// The refusal that reports the fault: its number, its name, and its place where it has one.
+    /// The refusal that reports the fault: its number, its name, and its place if it has one.
     pub fn refusal(self) -> Refusal
         ensures { result ≡ text_refusal self }
     {

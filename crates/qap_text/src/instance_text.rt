@@ -11,10 +11,10 @@ use crate::numeral::next_number;
 use qap_cost::{Instance, MAX_ENTRY, MAX_SIZE};
 use std::alloc::Global;
 
-/// Reads an instance at the front of a text: its size `n`, the `n * n` entries of A by rows, and those of B.
+/// Reads an instance at the beginning of a text: its size `n`, the `n * n` entries of A by rows, and those of B.
 ///
-/// White space and commas separate the numbers. What follows the last number is handed back as it is. The words are
-/// judged in order, and the first fault is reported.
+/// White space and commas separate the numbers. What follows the last number is returned unchanged. The words are
+/// checked in order, and the first fault is reported.
 pub fn read_instance(alloc: Global, text: &[u8]) -> Result<(Instance, &[u8]), TextError>
     ensures { MatchResult result
         (λ r. IsInstanceText text.now r.0 r.1.now)

@@ -7,7 +7,7 @@ ghost use Rattle.qap_text.specs.Number.{number_of};
 
 use qap_io::{MAX_READ, all_digits, negated};
 
-/// The number that a word spells, held to -10^25 to 10^25; `None` where the word is no number.
+/// The number that a word spells, clamped to -10^25 to 10^25; `None` if the word is not a number.
 ///
 /// The number of digits is not limited.
 pub fn parse(word: &[u8]) -> Option<i128>

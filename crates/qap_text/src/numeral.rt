@@ -10,7 +10,7 @@ use crate::number::parse;
 use crate::word::next_word;
 use qap_io::MAX_READ;
 
-/// A number in a text: the place of its word, the place behind it, and its value held to -10^25 to 10^25.
+/// A number in a text: the position of its word, the position after it, and its value clamped to -10^25 to 10^25.
 #[derive(Clone, Copy)]
 pub struct Numeral {
     pub start: usize,
@@ -18,7 +18,7 @@ pub struct Numeral {
     pub value: i128,
 }
 
-/// The number that the next word from a place on spells; `None` where there is no word.
+/// The number that the next word from a position on spells; `None` if there is no word.
 pub fn next_number(text: &[u8], from: usize) -> Result<Option<Numeral>, TextError>
     requires { from ≤ length text.now }
     ensures { MatchResult result

@@ -19,10 +19,10 @@ use qap_cost::{MAX_VALUE, Perm};
 use qap_io::from_one;
 use std::alloc::Global;
 
-/// Reads a solution of size `n` at the front of a text: `n`, the objective value (-10^24 to 10^24), and the locations of
-/// the facilities, counted from 1.
+/// Reads a solution of size `n` at the beginning of a text: `n`, the objective value (-10^24 to 10^24), and the
+/// locations of the facilities, counted from 1.
 ///
-/// White space and commas separate the numbers. What follows the last one means nothing. The words are judged in order,
+/// White space and commas separate the numbers. What follows the last one is ignored. The words are checked in order,
 /// and the first fault is reported.
 pub fn read_solution(alloc: Global, n: usize, text: &[u8]) -> Result<(i128, Perm), TextError>
     requires positive { 0 < n }

@@ -15,7 +15,7 @@ use std::io::Write;
 /// Writes the text of a solution, and flushes the writer: a line of its size and its objective value, and a line of the
 /// locations of the facilities, counted from 1.
 ///
-/// Where memory runs out nothing has gone out, and where the writer fails a beginning of the text.
+/// If memory runs out, nothing has been written; if the writer fails, a prefix of the text.
 pub fn write_solution<W: Write>(
     alloc: Global,
     writer: &mut Counted<W>,

@@ -14,7 +14,7 @@ pub const MAX_INPUT: usize = 1_073_741_824;
 /// How many bytes are asked for at once.
 const PIECE: usize = 32_768;
 
-/// Reads all the bytes that a reader has left, where they are at most `limit`. It stops at the first read that fails.
+/// Reads all the bytes that a reader has left, if they are at most `limit`. It stops at the first read that fails.
 pub fn read_all<R: Read>(
     alloc: Global,
     reader: &mut Counted<R>,

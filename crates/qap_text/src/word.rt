@@ -3,14 +3,14 @@
 ghost use Rattle.std.specs.Prelude.{◌≡◌, ◌≤◌, length, MatchOption};
 ghost use Rattle.qap_text.specs.Word.{is_separator as separator_of, after_separators, IsWordAt, HasNoWord, IsFirstThatIs};
 
-/// Where a word stands in a text: from the place of its first byte up to the place behind its last.
+/// The position of a word in a text: from its first byte up to the position after its last.
 #[derive(Clone, Copy)]
 pub struct Word {
     pub start: usize,
     pub stop: usize,
 }
 
-/// The first word from a place on, where there is one.
+/// The first word from a position on, if there is one.
 pub fn next_word(text: &[u8], from: usize) -> Option<Word>
     requires { from ≤ length text.now }
     ensures { MatchOption result (HasNoWord text.now from) (λ w. IsWordAt text.now from w.start w.stop) }
@@ -23,7 +23,7 @@ pub fn next_word(text: &[u8], from: usize) -> Option<Word>
     Some(Word { start, stop })
 }
 
-/// The text behind the white space and the commas at its front. No byte is copied.
+/// The text after its leading white space and commas. No byte is copied.
 pub fn skip_separators(text: &[u8]) -> &[u8]
     ensures { result.now ≡ after_separators text.now }
 {

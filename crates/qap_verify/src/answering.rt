@@ -11,8 +11,8 @@ use qap_io::{Counted, Status};
 use std::alloc::Global;
 use std::io::{Read, Write};
 
-/// Verifies a proof, writes what it shows on the output, and returns the exit status. Where it shows nothing, the line
-/// of the refusal goes to the other writer; that it could not be written changes no status.
+/// Verifies a proof, writes what it establishes on the output, and returns the exit status. If it establishes nothing,
+/// the line of the refusal goes to the other writer; failing to write it does not change the status.
 pub fn answered<R: Read, S: Read, W: Write, E: Write>(
     alloc: Global,
     instance: &mut Counted<R>,

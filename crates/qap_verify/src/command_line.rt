@@ -17,8 +17,8 @@ pub struct Files<'a> {
     pub parts: Vec<&'a str>,
 }
 
-/// The files that a command line names, the program's name being the first of its words. That help or the version is asked for is an
-/// error that prints it.
+/// The files that a command line names, the program's name being the first of its words. Requests for help or the
+/// version are errors whose text is to be printed.
 pub fn parse<'a>(alloc: Global, words: &'a [String]) -> Result<Files<'a>, Error> {
     let instance = Arg::new(alloc, "INSTANCE").required(true).help(
         "an instance in the QAPLIB format, or a plan, which ends in .toml",

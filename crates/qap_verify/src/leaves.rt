@@ -3,8 +3,8 @@
 use qap_proof::{Cover, Leaf};
 use std::alloc::{AllocError, Global};
 
-/// A line for each leaf that shows less than the least cost: what it shows, and its node, facility and location
-/// alternately, counted from 1. Parts that cover these leaves are what is missing.
+/// A line for each leaf whose value is below the least cost: its value, and its node, facilities and locations
+/// alternately, counted from 1. Parts that cover these leaves are missing.
 pub fn short_leaves(alloc: Global, cover: &Cover) -> Result<String, AllocError> {
     let mut lines = String::new(alloc);
     for leaf in cover.leaves() {

@@ -74,7 +74,7 @@ impl From<Device> for RunError {
     }
 }
 
-/// The exit status of a refusal: 3 for want of memory, else 1.
+/// The exit status of a refusal: 3 if memory ran out, else 1.
 pub fn status(error: &RunError) -> u8
     ensures { result ≡ status_of error.now }
 {
@@ -85,8 +85,8 @@ pub fn status(error: &RunError) -> u8
     status.code()
 }
 
-/// Writes the line that reports a refusal: `refused`, its number and name, and `at` with its place or its line where it
-/// carries one; and flushes the writer. Where that fails, a beginning of the line has gone out.
+/// Writes the line that reports a refusal: `refused`, its number and name, and `at` with its place or its line if it
+/// carries one; and flushes the writer. If that fails, a prefix of the line has been written.
 pub fn fault_line<W: Write>(error: &RunError, writer: &mut Counted<W>) -> Result<(), Device>
     ensures { MatchResult result
         (λ _. Sends W.contents writer.old writer.new (refusal_line (refusal_of error.now)))

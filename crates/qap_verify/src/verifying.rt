@@ -25,12 +25,12 @@ struct Texts {
     proof: Vec<u8>,
 }
 
-/// Reads an instance and a proof of either version, and writes one line with what the proof shows: the least cost, a bound and the cost above it, or a
-/// bound on what the permutations cost that complete the proof's root.
+/// Reads an instance and a proof in either version, and writes one line with what the proof establishes: the least
+/// cost, a bound and the cost above it, or a lower bound on the permutations that complete the proof's root.
 ///
-/// The first reader begins with the instance, and what follows it is passed over; the proof is all that the second one has. The
-/// instance is judged before the proof is read. Where either is refused, nothing is written; where the writer fails, a beginning of
-/// the right line has gone out.
+/// The first reader begins with the instance, and what follows it is ignored; the proof is all that the second one has.
+/// The instance is checked before the proof is read. If either is refused, nothing is written; if the writer fails, a
+/// prefix of the right line has been written.
 pub fn verify_stream<R: Read, S: Read, W: Write>(
     alloc: Global,
     instance: &mut Counted<R>,
@@ -77,7 +77,7 @@ pub fn part_stream<S: Read>(
     Ok(())
 }
 
-/// Writes one line with what all proofs show. Where the writer fails, a beginning of the line has gone out.
+/// Writes one line with what all proofs establish. If the writer fails, a prefix of the line has been written.
 pub fn verdict_stream<W: Write>(
     alloc: Global,
     cover: &Cover,

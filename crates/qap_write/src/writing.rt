@@ -10,8 +10,8 @@ use itoa::Buffer;
 use qap_cost::Instance;
 use std::alloc::{AllocError, Global};
 
-/// The text of an instance, as the library QAPLIB (Burkard, Karisch and Rendl 1997) writes it: its size, the rows of A and the rows of B, each on
-/// a line of its own. Reading it gives the instance.
+/// The text of an instance, as the library QAPLIB (Burkard, Karisch and Rendl 1997) writes it: its size, the rows of A
+/// and the rows of B, each on its own line. Reading it yields the instance.
 pub fn instance_text(alloc: Global, instance: &Instance) -> Result<Vec<u8>, AllocError>
     ensures { IfOk result (λ text. IsInstanceText text.items instance.now (10 ∷ [])) }
 {

@@ -10,8 +10,8 @@ use std::sync::ledger::Ledger;
 
 /// The name of one space and its ledger, with the law of what the space may hold.
 ///
-/// A function over `L: Law` makes a space and uses it, and is called at `Brand`, where its caller picks the law. With no pick
-/// the law always holds, sets no limit and says nothing of what was done.
+/// A function over `L: Law` creates a space and uses it, and is called at `Brand`, where its caller picks the law.
+/// Without a choice the law always holds, sets no limit and implies nothing about what was done.
 pub trait Law: Ledger {
     /// Which permanent tuples are lawful, held ones included, after this many accepted commits.
     ghost lawful: { Content → ℕ → Type 0 };
@@ -19,16 +19,16 @@ pub trait Law: Ledger {
     /// Which commits are allowed: of what goes, of what is read and stays, and of what is added.
     ghost allowed: { Content → Content → Content → Type 0 };
 
-    /// How many commits are allowed in all, where there is a limit.
+    /// How many commits are allowed in all, if there is a limit.
     ghost limit: { Option ℕ };
 
-    /// At which places what was done with the space may have left it: those that a run from its opening leads to, say.
+    /// The places that acts on the space may have reached: for example those to which a run from its opening leads.
     ghost reached: { Place → Type 0 };
 
-    /// The law doesn't see the order of the tuples.
+    /// The law is independent of the order of the tuples.
     ghost unordered: { IsUnordered lawful };
 
-    /// A commit that is allowed keeps the law.
+    /// An allowed commit preserves the law.
     ghost keeps: { IsKept lawful allowed };
 
     /// From a place that is reached, each act leads to another one that is.

@@ -11,8 +11,8 @@ ghost use Rattle.space_txn.specs.declared.mark.Mark.{Mark};
 ghost use Rattle.shared_space.specs.Place.{Place};
 ghost use Rattle.shared_space.specs.Run.{Act, LeadTo, is_accepted};
 
-/// Where a transaction took one permanent entry and found another one, what it took is gone, and what it read stays, whatever
-/// has been renewed since.
+/// If a transaction took one permanent entry and found another one, what it took is removed, and what it read stays,
+/// whatever has been renewed since.
 pub fn two_marks_law()
     ensures taken { (m b : Mark) (renewed : Mark → Bool) →
         m.taken ≡ true → m.permanent ≡ true → b.taken ≡ true → b.permanent ≡ true → IsUntaken b.entry (m ∷ []) →

@@ -23,8 +23,9 @@ use std::sync::ledger::Blank;
 use tuple_match::{Template, Tuple};
 use tuple_space::{EntryId, Lease, SpaceError};
 
-/// A space of one thread with the limit that its law sets: its commits are at most the limit, and where they are the limit it
-/// is closed. It stands at a place that its law says is reached: each call is one act, which leads there from the place before.
+/// A single-threaded space with the limit of its law: its commits are at most the limit, and if they equal the limit it
+/// is closed. It is at a place that its law says is reached: each call is one act, which leads there from the previous
+/// place.
 #[derive(Drop)]
 pub struct Limited<L: Law> {
     alone: Alone<L>,
@@ -80,7 +81,7 @@ impl<L: Law> Limited<L> {
         self.alone.is_closed()
     }
 
-    /// Closes the space, whatever it holds. Takes no memory.
+    /// Closes the space, regardless of its content. Allocates nothing.
     pub fn shut(&mut self)
         ensures { self.new ≡ record self.old { closed = true } }
     {
@@ -123,8 +124,8 @@ impl<L: Law> Limited<L> {
     }
 
     /// How many entries the space has whose tuples begin with this word, have this many fields, and have a list of this
-    /// many numbers as their second; with 0 numbers, those are counted too whose second field is no list. It includes
-    /// held ones, takes no memory, and takes as long whatever the space has.
+    /// many numbers as their second; with 0 numbers, those whose second field is not a list are counted too. It
+    /// includes held ones, allocates nothing, and takes constant time.
     pub fn count_of_class(&self, word: &str, fields: usize, numbers: usize) -> usize
         ensures { result ≡ count_by (λ e. has_class (class_of word.now fields numbers) e.tuple) self.now.world.space.entries }
     {

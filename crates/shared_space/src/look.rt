@@ -3,7 +3,7 @@
 use crate::law::Law;
 use crate::limited::Limited;
 
-/// One that looks at a space, which a look doesn't change.
+/// Observes a space without changing it.
 pub trait Look<L: Law> {
     /// Looks at the space.
     fn look(&mut self, space: &Limited<L>);

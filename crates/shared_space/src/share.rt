@@ -7,8 +7,8 @@ use crate::law::Law;
 use std::marker::Model;
 use std::sync::ledger::{Book, Share as Part};
 
-/// One part of a space's ledger, with the number of commits that its worker was told are accepted. Its type ties it to the
-/// space that it was made with.
+/// One part of a space's ledger, with the number of accepted commits that were reported to its worker. Its type ties it
+/// to the space with which it was created.
 #[derive(Drop)]
 pub struct Share<L: Law> {
     pub(crate) part: Part<L>,
@@ -26,7 +26,7 @@ impl<L: Law> Model for Share<L> {
 }
 
 impl<L: Law> Share<L> {
-    /// How many commits its worker was told are accepted.
+    /// How many accepted commits were reported to its worker.
     pub fn commits(&self) -> u64
         ensures { result ≡ self.now }
     {

@@ -28,15 +28,15 @@ use std::sync::{Condvar, Mutex, Wait};
 use tuple_match::{Template, Tuple};
 use tuple_space::{EntryId, Lease, SpaceError};
 
-/// What lies on lines of memory of its own. Processors fetch lines by two, so it has two lines before it and two behind.
+/// A value on its own cache lines. Processors fetch lines in pairs, so it has two lines before it and two after.
 type Apart<T> = CachePadded<CachePadded<T>>;
 
-/// A space under a lock. Whenever the lock is free, its content is lawful, all shares that were made with it count its commits
-/// together, these are at most the limit of its law, where it sets one, and it stands at a place that its law says is reached.
+/// A space under a lock. Whenever the lock is free, its content is lawful, all shares created with it count its commits
+/// together, these are at most the limit of its law, if it sets one, and it is at a place that its law says is reached.
 ///
-/// Each call takes the lock, makes one call on the space and lets the lock go. A call may wait for the lock; what it says holds
-/// if it returns. The space lies on lines of memory of its own: those who ask for the lock take the line of its word from each other,
-/// and leave what the lock's owner works on near his processor.
+/// Each call takes the lock, makes one call on the space and releases the lock. A call may wait for the lock; its
+/// clauses hold if it returns. The space is on its own cache lines: threads that wait for the lock take the line of its
+/// word from each other, and leave what the lock's owner works on near its processor.
 #[derive(Drop)]
 pub struct Shared<L: Law> {
     limited: Mutex<Apart<Limited<L>>>,
@@ -113,8 +113,8 @@ impl<L: Law> Shared<L> {
         Ok((shared, handed))
     }
 
-    /// Puts a tuple out, outside all transactions; a permanent one only where the law always holds. Refusals: 33, 50; the tuple
-    /// comes back.
+    /// Writes a tuple, outside all transactions; a permanent one only if the law always holds. Refusals: 33, 50; the
+    /// tuple is returned.
     pub fn out<R: Wait>(
         &self,
         rt: &R,
@@ -150,8 +150,8 @@ impl<L: Law> Shared<L> {
         locked(rt, &self.limited).rdp(template)
     }
 
-    /// Waits until a tuple can be had, and takes it, outside all transactions. Refusal: 34 where the space is closed and none
-    /// can be had. Takes no memory.
+    /// Waits until a matching tuple is available, and takes it, outside all transactions. Refusal: 34 if the space is
+    /// closed and none is available. Allocates nothing.
     pub fn in_<R: Wait>(&self, rt: &R, template: &Template) -> Result<(EntryId, Tuple), SharedError>
         requires { IsFree L.lawful L.allowed }
         ensures matches { IfOk result (λ found. Matches template.now found.1) }
@@ -170,8 +170,8 @@ impl<L: Law> Shared<L> {
         unreachable!()
     }
 
-    /// Waits until a tuple can be had, and copies it, outside all transactions. Refusals: 34 where the space is closed and none
-    /// can be had, 50.
+    /// Waits until a matching tuple is available, and copies it, outside all transactions. Refusals: 34 if the space is
+    /// closed and none is available, 50.
     pub fn rd<R: Wait>(&self, rt: &R, template: &Template) -> Result<(EntryId, Tuple), SharedError>
         ensures { IfOk result (λ found. Matches template.now found.1) }
     {
@@ -196,8 +196,8 @@ impl<L: Law> Shared<L> {
         locked(rt, &self.limited).begin(asked)
     }
 
-    /// The same in spare memory, where there is some, so that none is taken for what the transaction is to hold. Refused, that
-    /// memory stays where it is.
+    /// Likewise in spare memory, if there is some, so that none is allocated for what the transaction will hold. If
+    /// refused, that memory is unchanged.
     pub fn begin_in<R: Wait>(
         &self,
         rt: &R,
@@ -210,7 +210,7 @@ impl<L: Law> Shared<L> {
         locked(rt, &self.limited).begin_in(asked, spare)
     }
 
-    /// Takes for a transaction a tuple that the template asks for, or answers `None` where none can be had now. Refusals: 31,
+    /// Takes for a transaction a tuple matching the template, or returns `None` if none is available now. Refusals: 31,
     /// 32, 50.
     pub fn inp_in<R: Wait>(
         &self,
@@ -225,7 +225,7 @@ impl<L: Law> Shared<L> {
         locked(rt, &self.limited).inp_in(txn, template)
     }
 
-    /// Reads for a transaction a tuple that the template asks for, or answers `None` where none can be had now. Refusals: 31,
+    /// Reads for a transaction a tuple matching the template, or returns `None` if none is available now. Refusals: 31,
     /// 32, 50.
     pub fn rdp_in<R: Wait>(
         &self,
@@ -241,8 +241,8 @@ impl<L: Law> Shared<L> {
     }
 
     /// Commits a transaction, and counts that in the share. What the transaction took, read and wrote must be allowed.
-    /// Refusals: 37 where the limit is reached, which is judged first; 31, 32, 33, 50. The transaction comes back and the share
-    /// counts nothing.
+    /// Refusals: 37 if the limit is reached, which is checked first; 31, 32, 33, 50. The transaction is then returned
+    /// and the share unchanged.
     pub fn commit<R: Wait>(
         &self,
         rt: &R,
@@ -278,7 +278,8 @@ impl<L: Law> Shared<L> {
         ended
     }
 
-    /// Moves the moment on; an earlier moment changes nothing. Refusal: 33 where the moment lies past 2^62. Takes no memory.
+    /// Advances the moment; an earlier moment changes nothing. Refusal: 33 if the moment is past 2^62. Allocates
+    /// nothing.
     pub fn advance<R: Wait>(&self, rt: &R, moment: u64) -> Result<(), SpaceError>
         ensures { MatchResult result (λ _. moment ≤ most) (λ error. (most < moment) × (error ≡ SpaceError.Exhausted)) }
     {
@@ -287,16 +288,15 @@ impl<L: Law> Shared<L> {
         moved
     }
 
-    /// Closes the space where no entry is there whose tuple the template asks for, or every worker has left, and
-    /// reports whether it is closed. A closed space stays closed. Takes no memory.
+    /// Closes the space if no existing entry's tuple matches the template, or every worker has left, and returns
+    /// whether it is closed. A closed space stays closed. Allocates nothing.
     pub fn close<R: Wait>(&self, rt: &R, template: &Template) -> bool {
         let closed = locked(rt, &self.limited).close(template);
         self.changed.notify_all();
         closed
     }
 
-    /// Closes the space, whatever it holds and regardless of who works on it. A closed space stays closed. Takes no
-    /// memory.
+    /// Closes the space, regardless of its content and of its workers. A closed space stays closed. Allocates nothing.
     pub fn shut<R: Wait>(&self, rt: &R) {
         locked(rt, &self.limited).shut();
         self.changed.notify_all();
@@ -310,8 +310,8 @@ impl<L: Law> Shared<L> {
         locked(rt, &self.limited).is_closed()
     }
 
-    /// Lets steps be made in a row under one taking of the lock, and then wakes those who wait. Each is one call on the space, as
-    /// if it had been made by itself: only that other threads' calls come before or after all of them.
+    /// Makes steps in a row under one acquisition of the lock, and then wakes those who wait. Each is one call on the
+    /// space, as if it had been made separately, except that other threads' calls come before or after all of them.
     pub fn together<R: Wait, S: Steps<L>>(&self, rt: &R, steps: &mut S) {
         let mut limited = locked(rt, &self.limited);
         steps.make(&mut ***limited);

@@ -12,8 +12,8 @@ use std::sync::Wait;
 use tuple_match::Template;
 use tuple_space::SpaceError;
 
-/// A shared space beside the runtime value with which its lock is waited for. What a call did isn't told, since other threads
-/// come between.
+/// A shared space with the runtime value used for waiting on its lock. The effect of a call is not stated, since other
+/// threads' calls come between.
 #[derive(Drop)]
 pub struct Via<'a, R: Wait, L: Law> {
     rt: &'a R,

@@ -10,7 +10,7 @@ use std::alloc::{AllocError, Global};
 use tuple_match::{Template, Tuple};
 use tuple_space::Lease;
 
-/// What a line of a script asks for.
+/// The command in a line of a script.
 #[derive(Debug, Drop)]
 pub enum Command {
     /// Put out a tuple, under a transaction or under none.
@@ -19,21 +19,21 @@ pub enum Command {
         lease: Lease,
         tuple: Tuple,
     },
-    /// Take a tuple that the template asks for.
+    /// Take a tuple matching the template.
     Inp {
         under: Option<u64>,
         template: Template,
     },
-    /// Read a tuple that the template asks for.
+    /// Read a tuple matching the template.
     Rdp {
         under: Option<u64>,
         template: Template,
     },
-    /// Begin a transaction that lives for so many milliseconds.
+    /// Begin a transaction that lives for this many milliseconds.
     Begin {
         milliseconds: u64,
     },
-    /// Let a transaction live for so many milliseconds from now on.
+    /// Let a transaction live for this many milliseconds from now on.
     Renew {
         transaction: u64,
         milliseconds: u64,

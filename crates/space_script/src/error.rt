@@ -5,10 +5,10 @@ ghost use Rattle.std.specs.Prelude.{◌≡◌};
 use std::alloc::AllocError;
 use thiserror::Error;
 
-/// Why a line of a script asks for nothing.
+/// Why a line of a script is not a command.
 #[derive(Clone, Copy, Debug, PartialEq, Eq, Error)]
 pub enum LineError {
-    /// Refusal 36: it is no command, breaks a limit of tuples, or is longer than 65,536 bytes.
+    /// Refusal 36: it is not a command, exceeds a limit of tuples, or is longer than 65,536 bytes.
     #[error("the line is no command, or a tuple or the line is beyond its limits")]
     BadCommand,
     /// Refusal 50: there is no memory left.

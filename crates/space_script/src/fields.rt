@@ -14,7 +14,7 @@ use crate::numbers::read_integer;
 use std::alloc::{AllocError, Global};
 use tuple_match::{Field, Pattern, Template, Tuple};
 
-/// The tuple whose fields these words spell; `None` where they spell none.
+/// The tuple whose fields these words spell; `None` if there is none.
 pub fn read_tuple(alloc: Global, words: &[&[u8]]) -> Result<Option<Tuple>, AllocError>
     ensures { IfOk result (λ found. MatchOption found
         ((fields : List FieldValue) → AreTupleWords (map (λ word. word.now) words.now) fields → ⊥)
@@ -29,7 +29,7 @@ pub fn read_tuple(alloc: Global, words: &[&[u8]]) -> Result<Option<Tuple>, Alloc
     }
 }
 
-/// The template whose patterns these words spell; `None` where they spell none.
+/// The template whose patterns these words spell; `None` if there is none.
 pub fn read_template(alloc: Global, words: &[&[u8]]) -> Result<Option<Template>, AllocError>
     ensures { IfOk result (λ found. MatchOption found
         ((patterns : List PatternValue) → AreTemplateWords (map (λ word. word.now) words.now) patterns → ⊥)

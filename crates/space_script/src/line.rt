@@ -13,7 +13,7 @@ use std::alloc::{AllocError, Global};
 /// The most bytes of a line, not counting the line feed that ends it.
 pub const LONGEST_LINE: usize = 65_536;
 
-/// What a line of a script asks for, without the line feed that ends it; `None` where it has no words.
+/// The command in a line of a script, without the line feed that ends it; `None` if it has no words.
 ///
 /// A carriage return at the line's end is dropped, but counts among its bytes.
 pub fn read_line(alloc: Global, line: &[u8]) -> Result<Option<Command>, LineError>

@@ -8,7 +8,7 @@ ghost use Rattle.space_script.specs.Number.{IsInteger};
 use crate::numbers::read_integer;
 use std::alloc::{AllocError, Global};
 
-/// The numbers of a list that a word spells in brackets; `None` where it spells none.
+/// The numbers of a list that a word spells in brackets; `None` if there is none.
 pub fn read_list(alloc: Global, word: &[u8]) -> Result<Option<Vec<i128>>, AllocError>
     ensures { IfOk result (λ found. MatchOption found ((zs : List ℤ) → IsListWord word.now zs → ⊥) (λ v. IsListWord word.now v.items)) }
 {

@@ -6,7 +6,7 @@ ghost use Rattle.std.specs.List.{list_all};
 ghost use Rattle.std.specs.Str.{IsAscii};
 ghost use Rattle.space_script.specs.Number.{IsCount, IsInteger};
 
-/// The number below 2^64 whose decimal digits these are; `None` where they are none such.
+/// The number below 2^64 with these decimal digits; `None` if they spell none.
 pub fn read_count(word: &[u8]) -> Option<u64>
     ensures { MatchOption result ((n : ℕ) → IsCount word.now n → ⊥) (IsCount word.now) }
 {
@@ -16,7 +16,7 @@ pub fn read_count(word: &[u8]) -> Option<u64>
     as_text(word).parse().ok()
 }
 
-/// The number of 128 bits that a word spells, with a minus sign or without one; `None` where it spells none.
+/// The 128-bit number that a word spells, with an optional minus sign; `None` if there is none.
 pub fn read_integer(word: &[u8]) -> Option<i128>
     ensures { MatchOption result ((z : ℤ) → IsInteger word.now z → ⊥) (IsInteger word.now) }
 {

@@ -18,12 +18,12 @@ const LONGEST_SCRIPT: u64 = 1 << 62;
 /// How many bytes are asked for at once.
 const PIECE: usize = 32_768;
 
-/// Carries out the lines of a script on a space of its own, and writes a reply for each that has words.
+/// Executes the lines of a script on a new space, and writes a reply for each that has words.
 ///
-/// A line is carried out once the line feed that ends it has been read, the last one at the end of the input, and replies are
-/// flushed before more is read. Where the script is broken off, the replies of the lines before stand written, and they are
-/// flushed before want of memory is told; where a write fails, a beginning of the next reply stands behind them. A line is
-/// kept only as far as it takes to show that it is too long.
+/// A line is executed once the line feed that ends it has been read, the last one at the end of the input, and replies
+/// are flushed before more is read. If the script is aborted, the replies to the lines before have been written, and
+/// they are flushed before out of memory is reported; if a write fails, a prefix of the next reply may follow them. A
+/// line is stored only up to the length that shows that it is too long.
 pub fn run_script<R: Read, W: Write>(
     alloc: Global,
     reader: &mut Counted<R>,

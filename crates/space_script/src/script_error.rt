@@ -8,7 +8,7 @@ use qap_io::{Device, Refusal};
 use std::alloc::AllocError;
 use thiserror::Error;
 
-/// Why a script is broken off.
+/// Why a script is aborted.
 #[derive(Clone, Copy, Debug, PartialEq, Eq, Error)]
 pub enum ScriptError {
     /// More than 2^62 bytes came.
@@ -23,7 +23,7 @@ pub enum ScriptError {
 }
 
 impl ScriptError {
-    /// The refusal that the fault is told as: its number and its name.
+    /// The refusal with which the fault is reported: its number and its name.
     pub fn refusal(self) -> Refusal
         ensures { result ≡ script_refusal self }
     {

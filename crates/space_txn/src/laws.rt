@@ -35,7 +35,7 @@ pub fn content_law()
         AdvanceStep old moment (done_reply result) new → KeepsContent old new }
 {}
 
-/// A transaction that isn't live changes nothing.
+/// A transaction that is not live changes nothing.
 pub fn expired_law()
     ensures { (old : World) (t : TxnValue) (call : Call) (answer : Answer) (new : World) (t' : TxnValue) →
         is_live_transaction old t.number ≡ false → Step old t call answer new t' → new ≡ old }
@@ -50,7 +50,7 @@ pub fn moment_law()
     ensures earlier { (old : World) (moment : ℕ) → moment < old.space.moment → advance_at old moment ≡ old }
 {}
 
-/// What somebody took can't be read, and what somebody else took or read can't be taken.
+/// What somebody took cannot be read, and what somebody else took or read cannot be taken.
 pub fn holding_law()
     ensures taken { (moment : ℕ) (e : Entry) → is_taken e ≡ true → can_be_read moment e ≡ false }
     ensures held { (moment holder : ℕ) (e : Entry) (other : Hold) →
@@ -98,8 +98,8 @@ pub fn renewal_law()
     ensures forever { (moment : ℕ) (e : Entry) → is_permanent (with_end (granted moment Forever) e).end ≡ true }
 {}
 
-/// A call under a transaction finds nothing only where nothing can be had, in the space or among its own writes, and it finds
-/// a write of its own only where nothing of the space can be had.
+/// A call under a transaction finds nothing only if nothing is available, in the space or among its own writes, and it
+/// finds a write of its own only if nothing in the space is available.
 pub fn finding_law()
     ensures nothing_taken { (old : World) (t : TxnValue) (template : List PatternValue) (new : World) (t' : TxnValue) →
         Step old t (inp_in template) nothing new t' →
@@ -121,8 +121,8 @@ pub fn leaving_law()
         Contains e.holds other → other.by ≢ holder → stays_without holder moment e ≡ true }
 {}
 
-/// What a transaction wrote is put out by its commit, and nothing else: the entries with new numbers are those of the writes that
-/// weren't taken again, in order, each with the write's tuple and lease, granted at the moment of the commit.
+/// A commit adds exactly what the transaction wrote: the entries with new numbers are those of the writes that were not
+/// taken again, in order, each with the write's tuple and lease, granted at the moment of the commit.
 pub fn granting_law()
     ensures { (old : World) (t : TxnValue) → IsSpace old.space →
         filter (λ e. nat_lt old.space.last e.number) (commit_at old t).space.entries

@@ -22,7 +22,7 @@ pub struct Spent {
 }
 
 impl Spent {
-    /// The memory for another transaction. What lies in it is dropped.
+    /// The memory for another transaction. Its content is dropped.
     pub fn emptied(self) -> Spare {
         let Spent { mut lists } = self;
         lists.marks.clear();

@@ -5,7 +5,7 @@ ghost use Rattle.space_txn.specs.Live.{abort_each, ended_at, renewed_row, unmark
 
 use tuple_space::Space;
 
-/// A transaction that was begun and hasn't ended.
+/// A transaction that was begun and has not ended.
 #[derive(Clone, Copy, Debug, PartialEq, Eq)]
 pub struct Live {
     /// Its number.

@@ -46,8 +46,8 @@ impl Txn {
         self.number
     }
 
-    /// The mark at a place among those of the transaction: what it took, and what it read and didn't take, in rising order of
-    /// the entries' numbers. `None` past the last.
+    /// The mark at a position among those of the transaction: what it took, and what it read and did not take, in
+    /// ascending order of the entries' numbers. `None` past the last.
     pub fn mark(&self, place: usize) -> Option<&Mark>
         ensures { option_copied result ≡ slice_get self.now.marks place }
     {
@@ -94,8 +94,8 @@ impl Txn {
         }
     }
 
-    /// Writes a tuple under the transaction: it is put out by the commit, under a lease that is granted then. This is no
-    /// step on the space. Refused memory, the tuple comes back; the first four writes take none.
+    /// Writes a tuple under the transaction: the commit adds it, under a lease that is granted then. This is not a step
+    /// on the space. If memory runs out, the tuple is returned; the first four writes allocate nothing.
     pub fn out_in(&mut self, tuple: Tuple, lease: Lease) -> Result<(), (TxnError, Tuple)>
         ensures ok { OnOk result (self.new ≡ record self.old { writes = self.old.writes ++ record { tuple = tuple; lease = lease; taken = false } ∷ [] }) }
         ensures err { OnErr result (self.new ≡ self.old) }
@@ -109,8 +109,8 @@ impl Txn {
         }
     }
 
-    /// Takes these writes in the place of what it wrote, which is handed back for them. This is no step on the space, and takes no
-    /// memory.
+    /// Exchanges the writes of the transaction for these, and returns the old ones. This is not a step on the space,
+    /// and allocates nothing.
     pub fn exchange_writes(&mut self, writes: &mut Writes)
         ensures txn { self.new ≡ record self.old { writes = writes.old } }
         ensures back { writes.new ≡ self.old.writes }

@@ -56,7 +56,7 @@ impl TxnSpace {
         }
     }
 
-    /// The moment, in milliseconds. What holds of every space is told here too.
+    /// The moment, in milliseconds. Its clauses also state what holds for every space.
     pub fn now(&self) -> u64
         ensures moment { result ≡ self.now.space.moment }
         ensures space { IsSpace self.now.space }
@@ -105,31 +105,31 @@ impl TxnSpace {
         self.space.renew(id, lease)
     }
 
-    /// How many entries are there whose tuples the template asks for, held ones included. Takes no memory.
+    /// How many existing entries have tuples matching the template, including held ones. Allocates nothing.
     pub fn count(&self, template: &Template) -> u64
         ensures { space.Step self.now.space (space.count template.now) (space.told result) self.now.space }
     {
         self.space.count(template)
     }
 
-    /// How many entries the space has whose tuples begin with this word, have so many fields, and have a list of so many numbers as
-    /// their second; with 0 numbers, those are counted too whose second field is no list. It includes held ones, takes no memory,
-    /// and takes as long whatever the space has.
+    /// How many entries the space has whose tuples begin with this word, have this many fields, and have a list of this
+    /// many numbers as their second; with 0 numbers, those whose second field is not a list are counted too. It
+    /// includes held ones, allocates nothing, and takes constant time.
     pub fn count_of_class(&self, word: &str, fields: usize, numbers: usize) -> usize
         ensures { result ≡ count_by (λ e. has_class (class_of word.now fields numbers) e.tuple) self.now.space.entries }
     {
         self.space.count_of_class(word, fields, numbers)
     }
 
-    /// Whether no entry is there whose tuple the template asks for, held ones included. Takes no memory.
+    /// Whether no existing entry's tuple matches the template, including held ones. Allocates nothing.
     pub fn lacks(&self, template: &Template) -> bool
         ensures { result ≡ (count_by (is_counted self.now.space.moment template.now) self.now.space.entries == 0) }
     {
         self.space.lacks(template)
     }
 
-    /// Moves the moment on, which ends first the transactions whose lease has ended and drops then what is not there; an
-    /// earlier moment changes nothing. Refusal: 33 where the moment lies past 2^62. Takes no memory.
+    /// Advances the moment, which first aborts the transactions whose lease has ended and then drops entries that are
+    /// gone; an earlier moment changes nothing. Refusal: 33 if the moment is past 2^62. Allocates nothing.
     pub fn advance(&mut self, moment: u64) -> Result<(), SpaceError>
         ensures { AdvanceStep self.old moment (space.done_reply result) self.new }
     {
@@ -144,16 +144,16 @@ impl TxnSpace {
         self.space.advance(moment)
     }
 
-    /// Begins a transaction with a lease of so many milliseconds, and a day at most. Refusals: 33 where the numbers are
-    /// used up, 50.
+    /// Begins a transaction with a lease of this many milliseconds, at most a day. Refusals: 33 if the numbers are used
+    /// up, 50.
     pub fn begin(&mut self, asked: u64) -> Result<Txn, TxnError>
         ensures { BeginStep self.old asked result self.new }
     {
         self.begin_in(asked, &mut None)
     }
 
-    /// The same in spare memory, where there is some, so that none is taken for what the transaction is to hold. Refused, that
-    /// memory stays where it is.
+    /// Likewise in spare memory, if there is some, so that none is allocated for what the transaction will hold. If
+    /// refused, that memory is unchanged.
     pub fn begin_in(&mut self, asked: u64, spare: &mut Option<Spare>) -> Result<Txn, TxnError>
         ensures { BeginStep self.old asked result self.new }
     {
@@ -189,9 +189,9 @@ impl TxnSpace {
         Ok(())
     }
 
-    /// Takes for a transaction a tuple that the template asks for: one of the space, or, where none of these can be had, one
-    /// that the transaction wrote. `None` where there is none of these either. Refusals: 31, 32, 50. To take what it has read
-    /// takes no memory.
+    /// Takes for a transaction a tuple matching the template: one in the space, or if none is available there, one that
+    /// the transaction wrote. `None` if there is none of these either. Refusals: 31, 32, 50. Taking what it has read
+    /// allocates nothing.
     pub fn inp_in(&mut self, txn: &mut Txn, template: &Template) -> Result<Option<Found>, TxnError>
         ensures step { Step self.old txn.old (inp_in template.now) (find_answer result) self.new txn.new }
         ensures found { IfOk result (λ found. IfSome found (Shows template.now txn.new)) }
@@ -219,8 +219,8 @@ impl TxnSpace {
         Ok(Some(Found::Entry(id)))
     }
 
-    /// Reads for a transaction a tuple that the template asks for: one of the space, or, where none of these can be had, one
-    /// that the transaction wrote. `None` where there is none of these either. Refusals: 31, 32, 50.
+    /// Reads for a transaction a tuple matching the template: one in the space, or if none is available there, one that
+    /// the transaction wrote. `None` if there is none of these either. Refusals: 31, 32, 50.
     pub fn rdp_in(&mut self, txn: &mut Txn, template: &Template) -> Result<Option<Found>, TxnError>
         ensures step { Step self.old txn.old (rdp_in template.now) (find_answer result) self.new txn.new }
         ensures found { IfOk result (λ found. IfSome found (Shows template.now txn.new)) }
@@ -283,8 +283,8 @@ impl TxnSpace {
         Ok(Spent { lists })
     }
 
-    /// Ends a transaction and makes it count: what it wrote is put out, what it took is gone, its marks are dropped.
-    /// Refusals: 31, 32, 33 where the commits or the numbers of entries are used up, 50; the transaction comes back.
+    /// Ends a transaction with effect: what it wrote is added, what it took is removed, its marks are dropped.
+    /// Refusals: 31, 32, 33 if the commits or the numbers of entries are used up, 50; the transaction is returned.
     pub fn commit(&mut self, txn: Txn) -> Result<(), (TxnError, Txn)>
         ensures step { Step self.old txn commit (end_answer result) self.new txn }
         ensures handed_back { IfErr result (λ back. back.1 ≡ txn) }
@@ -326,8 +326,8 @@ impl TxnSpace {
         self.space.entries()
     }
 
-    /// Takes the permanent tuples out, in the order in which they were put out, held ones included. Refused memory, the
-    /// space comes back whole.
+    /// Extracts the permanent tuples in the order in which they were written, including held ones. If memory runs out,
+    /// the space is returned unchanged.
     pub fn into_tuples(self) -> Result<Vec<Tuple>, (AllocError, TxnSpace)>
         ensures ok { IfOk result (λ tuples. tuples.items ≡ content_of self) }
         ensures handed_back { IfErr result (λ back. back.1 ≡ self) }

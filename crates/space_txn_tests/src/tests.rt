@@ -9,14 +9,14 @@ use tuple_space::{Lease, SpaceError, Writes};
 /// A call as a row of a table writes it: the number of a transaction, or 0 for none, and what is answered.
 #[derive(Clone, Copy, Debug)]
 enum Act {
-    /// Puts out `job n`, forever or for so many milliseconds.
+    /// Writes `job n`, permanently or for this many milliseconds.
     OutForever(usize, i128),
     Out(usize, u64, i128),
     /// Takes or reads `job ?i`, and the number that is got.
     Inp(usize, Option<i128>),
     Rdp(usize, Option<i128>),
     Begin(u64),
-    /// Ends a transaction; a refusal that is told.
+    /// Ends a transaction; a refusal is reported.
     Commit(usize, Option<TxnError>),
     Abort(usize, Option<TxnError>),
     Advance(u64),

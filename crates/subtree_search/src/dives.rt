@@ -36,7 +36,7 @@ struct Draw {
     k: usize,
     /// How many children are left on it.
     count: f64,
-    /// How many children it stands for: the inverse of its chance.
+    /// How many children it represents: the inverse of its probability.
     weight: f64,
 }
 
@@ -185,7 +185,7 @@ impl Ground<'_> {
 }
 
 impl Ground<'_> {
-    /// The nodes below a line that so many dives estimate.
+    /// The estimate of the nodes below a line by this many dives.
     pub fn estimate(
         &self,
         level: &Level,

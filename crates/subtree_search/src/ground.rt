@@ -31,9 +31,9 @@ pub(crate) struct Ground<'a> {
     pub instance: &'a Instance,
     pub duals: &'a PairDuals<i64>,
     pub step: u64,
-    /// Permutations that keep the flows.
+    /// Permutations that preserve the flows.
     pub flows: &'a [Perm],
-    /// Permutations that keep the distances.
+    /// Permutations that preserve the distances.
     pub distances: &'a [Perm],
 }
 
@@ -199,7 +199,7 @@ impl Ground<'_> {
         Ok(true)
     }
 
-    /// Whether the node that the path leads to is closed, by either test. Where it isn't, its line is drawn.
+    /// Whether the node at the end of the path is closed, by either test. If it is not, its line is applied.
     pub fn closes(
         &self,
         level: &mut Level,

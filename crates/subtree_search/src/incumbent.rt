@@ -49,7 +49,7 @@ impl Incumbent {
         &self.permutation
     }
 
-    /// Takes a permutation that costs less in the place of its own.
+    /// Replaces its permutation by one that costs less.
     pub fn offer(&mut self, instance: &Instance, candidate: Perm)
         requires incumbent { IsIncumbent instance.now self.old }
         requires permutes { length candidate ≡ instance.now.size }

@@ -115,8 +115,8 @@ impl Level {
         Ok(closes)
     }
 
-    /// Draws a line by the duals of a least assignment, which are sought from those of the last trivial test, and no further than
-    /// it takes to exceed the threshold.
+    /// Applies a line with the duals of a least assignment, which are computed from those of the last trivial test, and
+    /// only as far as needed to exceed the threshold.
     pub fn draw_line(&mut self, threshold: i128) -> Result<(), AllocError>
         requires { self.old.form.is_lined ≡ false }
         ensures count { OnOk result (length self.new.u.items ≡ count_of self.old.form) }

@@ -51,7 +51,7 @@ impl Path {
         }
     }
 
-    /// Goes to a node, in the memory that it has where that is enough.
+    /// Moves to a node, in its own memory if that suffices.
     pub fn start(&mut self, node: &Partial) -> Result<(), AllocError>
         ensures { OnOk result (self.new ≡ node.now) }
     {
@@ -94,7 +94,7 @@ impl Path {
         let _ = self.places.pop();
     }
 
-    /// The permutation that completes the node, where all facilities are placed.
+    /// The permutation that completes the node, if all facilities are placed.
     pub fn completion(&self) -> Result<Perm, AllocError>
         requires { length self.now.facilities ≡ self.now.size }
         ensures { IfOk result (Completes self.now) }

@@ -26,8 +26,8 @@ use qap_cost::Partial;
 use std::alloc::{AllocError, Global};
 
 impl SubtreeSearch {
-    /// Adds a proof's tree over a node to the record. Where the trial of a child ends at its limit, the child gets pair duals of its own,
-    /// and is split in turn. `false` where the stop said so.
+    /// Adds a proof's tree over a node to the record. If the trial of a child ends at its limit, the child gets its own
+    /// pair duals, and is split in turn. `false` if a stop was requested.
     pub fn prove<S: Stop, W: Record>(
         &mut self,
         subtree: &Subtree<'_>,

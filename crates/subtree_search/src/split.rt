@@ -31,11 +31,11 @@ pub struct OpenChild {
 }
 
 impl SubtreeSearch {
-    /// Splits a node on a row or column, tries each child that is neither pruned nor symmetric to an earlier one, and returns those
-    /// whose trials end at their limit, or by the stop; none where the node is closed.
+    /// Splits a node on a row or column, tries each child that is neither pruned nor symmetric to an earlier one, and
+    /// returns those whose trials end at their limit, or by the stop; none if the node is closed.
     ///
-    /// The trial of a child with `m` free facilities evaluates `m^4 / 8` nodes at most, but 200 at least and 100,000 at most. Once the
-    /// stop says so, children are left open untried.
+    /// The trial of a child with `m` free facilities evaluates at most `m^4 / 8` nodes, but at least 200 and at most
+    /// 100,000. Once a stop is requested, children are left open untried.
     pub fn split<S: Stop>(
         &mut self,
         subtree: &Subtree<'_>,

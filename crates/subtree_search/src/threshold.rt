@@ -3,8 +3,8 @@
 ghost use Rattle.std.specs.Prelude.{◌≡◌, ◌*◌, ◌^◌, ◌<◌, ◌≤◌, unsigned_abs};
 ghost use Rattle.subtree_search.specs.Closed.{threshold_of};
 
-/// The threshold above which the value of a node must lie so that none of its completions costs less than `cost`: a completion that
-/// costs less costs at most a step less, since every cost is a multiple of the step.
+/// The threshold that the value of a node must exceed so that none of its completions costs less than `cost`: a
+/// completion that costs less costs at least one step less, since every cost is a multiple of the step.
 pub fn threshold(scale: u32, step: u64, cost: i128) -> i128
     requires scale { scale ≤ 2 ^ 20 }
     requires cost { unsigned_abs cost ≤ 65536 * 10 ^ 18 }

@@ -40,7 +40,8 @@ pub enum Field {
 }
 
 impl Field {
-    /// The word as a field: in place where it has at most 30 bytes, and else in memory of its own, for which there may be none.
+    /// The word as a field: in place if it has at most 30 bytes, and otherwise in separate memory, whose allocation may
+    /// fail.
     pub fn word(alloc: Global, text: &str) -> Result<Field, AllocError>
         ensures { IfOk result (λ field. field_value field ≡ word text.now) }
     {
@@ -50,8 +51,8 @@ impl Field {
         }
     }
 
-    /// The numbers as a field, in as few bits as they need: in place where they are few and small, and else in memory of their own, for
-    /// which there may be none.
+    /// The numbers as a field, in as few bits as they need: in place if they are few and small, and otherwise in
+    /// separate memory, whose allocation may fail.
     pub fn list(alloc: Global, list: &[i128]) -> Result<Field, AllocError>
         ensures { IfOk result (λ field. field_value field ≡ numbers list.now) }
     {
@@ -74,7 +75,7 @@ impl Field {
         }
     }
 
-    /// The number that this field is, or `None` where it is none.
+    /// The number in this field, or `None` if it has none.
     pub fn as_int(&self) -> Option<i128>
         ensures { result ≡ number_of (field_value self.now) }
     {
@@ -84,7 +85,7 @@ impl Field {
         }
     }
 
-    /// The text of the word that this field is, or `None` where it is none.
+    /// The text of the word in this field, or `None` if it has none.
     pub fn as_word(&self) -> Option<&str>
         ensures { option_copied result ≡ word_of (field_value self.now) }
     {
@@ -95,7 +96,7 @@ impl Field {
         }
     }
 
-    /// The bytes of the word that this field is, or `None` where it is none.
+    /// The bytes of the word in this field, or `None` if it has none.
     pub fn as_word_bytes(&self) -> Option<&[u8]>
         ensures { option_copied result ≡ word_of (field_value self.now) }
     {
@@ -106,7 +107,7 @@ impl Field {
         }
     }
 
-    /// The numbers of the list that this field is, or `None` where it is none.
+    /// The numbers of the list in this field, or `None` if it has none.
     pub fn as_list(&self) -> Option<Numbers<'_>>
         ensures { option_map numbers_in result ≡ numbers_of (field_value self.now) }
     {
@@ -119,8 +120,8 @@ impl Field {
         }
     }
 
-    /// The numbers of the list that this field is, or `None` where it is none. They are moved out where they lie in 128 bits, and
-    /// else copied, for which there may be no memory.
+    /// The numbers of the list in this field, or `None` if it has none. They are moved if they are stored in 128 bits,
+    /// and otherwise copied, which may fail for lack of memory.
     pub fn into_list(self, alloc: Global) -> Result<Option<Vec<i128>>, AllocError>
         ensures { IfOk result (λ found. option_map (λ (list : Vec ℤ). list.items) found ≡ numbers_of (field_value self)) }
     {
@@ -133,7 +134,7 @@ impl Field {
         }
     }
 
-    /// The list as a field, as it lies. Takes no memory.
+    /// The list as a field, in its stored form. Allocates nothing.
     pub fn of_list(list: NumberList) -> Field
         ensures { field_value result ≡ numbers (numbers_held list) }
     {
@@ -145,7 +146,7 @@ impl Field {
         }
     }
 
-    /// The list that this field is, as it lies, or `None` where it is none. Takes no memory.
+    /// The list in this field, in its stored form, or `None` if it has none. Allocates nothing.
     pub fn into_numbers(self) -> Option<NumberList>
         ensures { option_map numbers_held result ≡ numbers_of (field_value self) }
     {
@@ -158,8 +159,8 @@ impl Field {
         }
     }
 
-    /// The field with a short word in place or the numbers of a list in fewer bits, where they fit and there is memory for them; else
-    /// as it is.
+    /// The field with a short word in place or the numbers of a list in fewer bits, if they fit and memory suffices;
+    /// otherwise unchanged.
     pub fn narrowed(self) -> Field
         ensures { field_value result ≡ field_value self }
     {

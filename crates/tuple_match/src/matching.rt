@@ -11,9 +11,8 @@ use crate::fields::Field;
 use crate::templates::{Pattern, Template};
 use crate::tuples::Tuple;
 
-/// Whether the tuple is one that the template asks for: they are equally long, and part by part an
-/// actual equals the field, in type and value, and a formal has the field's type (Gelernter 1985).
-/// Takes no memory.
+/// Whether the tuple matches the template: their lengths are equal, and part by part an actual equals the field, in
+/// type and value, and a formal has the field's type (Gelernter 1985). Allocates nothing.
 pub fn matches(template: &Template, tuple: &Tuple) -> bool
     ensures meaning { IsTrue result ↔ Matches template.now tuple.now }
     ensures test { result ≡ does_match template.now tuple.now }
@@ -21,7 +20,7 @@ pub fn matches(template: &Template, tuple: &Tuple) -> bool
     rows_match(template.patterns(), tuple.fields())
 }
 
-/// The test `does_match` by which contracts count and keep tuples answers yes if and only if template and tuple match.
+/// The test `does_match`, with which contracts count and keep tuples, is true if and only if template and tuple match.
 pub fn does_match_law()
     ensures { (template : List PatternValue) (tuple : List FieldValue) →
         IsTrue (does_match template tuple) ↔ Matches template tuple }

@@ -2,7 +2,7 @@
 
 use thiserror::Error;
 
-/// Why a row of fields is no tuple, or a row of patterns no template.
+/// Why a row of fields does not form a tuple, or a row of patterns a template.
 #[derive(Clone, Copy, Debug, PartialEq, Eq, Error)]
 pub enum MatchError {
     /// Refusal 30: there are not 1 to 8 of them, or a word or a list in one of them is outside its limits.

@@ -36,7 +36,7 @@ impl Pattern {
         }
     }
 
-    /// Whether this pattern asks for the field: an actual equals it, a formal has its type.
+    /// Whether this pattern matches the field: an actual equals it, a formal has its type.
     pub fn matches_field(&self, field: &Field) -> bool
         ensures { IsTrue result ↔ FieldMatches (pattern_value self.now) (field_value field.now) }
     {
@@ -71,8 +71,8 @@ impl Model for Template {
 }
 
 impl Template {
-    /// The template of these patterns, or `BadTuple` and the patterns, where there are not 1 to 8
-    /// of them or one is outside its limits. Takes no memory.
+    /// The template with these patterns, or `BadTuple` and the patterns, if there are not 1 to 8 of them or one is
+    /// outside its limits. Allocates nothing.
     pub fn new(patterns: Vec<Pattern>) -> Result<Template, (MatchError, Vec<Pattern>)>
         ensures accepted { IsOk result ↔ IsTemplate (patterns_value patterns.items) }
         ensures value { IfOk result (λ template. template ≡ patterns_value patterns.items) }

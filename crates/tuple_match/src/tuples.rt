@@ -45,8 +45,8 @@ impl Model for Tuple {
 }
 
 impl Tuple {
-    /// The tuple of these fields, or `BadTuple` and the fields, where there are not 1 to 8 of them
-    /// or one is outside its limits. Takes no memory.
+    /// The tuple with these fields, or `BadTuple` and the fields, if there are not 1 to 8 of them or one is outside its
+    /// limits. Allocates nothing.
     pub fn new(fields: Vec<Field>) -> Result<Tuple, (MatchError, Vec<Field>)>
         ensures accepted { IsOk result ↔ IsTuple (fields_value fields.items) }
         ensures value { IfOk result (λ tuple. tuple ≡ fields_value fields.items) }
@@ -61,7 +61,7 @@ impl Tuple {
         }
     }
 
-    /// The tuple of these two fields in one block, which its copies share with it. `AllocError` where there is no memory for it.
+    /// The tuple of these two fields in one block, which its copies share with it. `AllocError` if memory ran out.
     pub fn of_two(alloc: Global, fields: [Field; 2]) -> Result<Tuple, AllocError>
         requires { IsTuple (fields_value fields) }
         ensures { IfOk result (λ tuple. tuple ≡ fields_value fields) }
@@ -72,7 +72,7 @@ impl Tuple {
         })
     }
 
-    /// The same of three fields.
+    /// Likewise for three fields.
     pub fn of_three(alloc: Global, fields: [Field; 3]) -> Result<Tuple, AllocError>
         requires { IsTuple (fields_value fields) }
         ensures { IfOk result (λ tuple. tuple ≡ fields_value fields) }
@@ -83,7 +83,7 @@ impl Tuple {
         })
     }
 
-    /// The same of four fields.
+    /// Likewise for four fields.
     pub fn of_four(alloc: Global, fields: [Field; 4]) -> Result<Tuple, AllocError>
         requires { IsTuple (fields_value fields) }
         ensures { IfOk result (λ tuple. tuple ≡ fields_value fields) }
@@ -94,7 +94,7 @@ impl Tuple {
         })
     }
 
-    /// The same of seven fields.
+    /// Likewise for seven fields.
     pub fn of_seven(alloc: Global, fields: [Field; 7]) -> Result<Tuple, AllocError>
         requires { IsTuple (fields_value fields) }
         ensures { IfOk result (λ tuple. tuple ≡ fields_value fields) }
@@ -124,8 +124,8 @@ impl Tuple {
         self.row.as_slice()
     }
 
-    /// Takes the fields out, first to last. `AllocError` only where there is no memory for a list of them: where they lie in one block,
-    /// or copies share them.
+    /// Extracts the fields, first to last. `AllocError` only if memory ran out for a list of them: if they are in one
+    /// block, or copies share them.
     pub fn into_fields(self) -> Result<Vec<Field>, AllocError>
         ensures { IfOk result (λ fields. (fields_value fields.items ≡ self) × IsTuple self) }
     {
@@ -133,7 +133,7 @@ impl Tuple {
         row.into_fields()
     }
 
-    /// Another tuple of equal fields, or `AllocError` where there is no memory for it.
+    /// Another tuple of equal fields, or `AllocError` if memory ran out.
     pub fn copy(&self) -> Result<Tuple, AllocError>
         ensures value { IfOk result (λ tuple. tuple ≡ self.now) }
     {

@@ -3,7 +3,7 @@ use std::cmp::Ordering;
 use std::test::Fail;
 use tuple_match::{Field, Tuple};
 
-/// Words, and whether they are short enough to lie in place.
+/// Words, and whether they are short enough to be stored in place.
 static WORDS: [(&str, bool); 4] = [
     ("", true),
     ("job", true),
@@ -42,7 +42,7 @@ fn tells_short_words_apart(rt: HostRuntime) -> Result<(), Fail> {
     Ok(())
 }
 
-/// Lists, and how they stand to each other.
+/// Lists, and how they compare.
 static ORDERS: [(&[i128], &[i128], Ordering); 6] = [
     (&[], &[], Ordering::Equal),
     (&[1, 2], &[1, 2, 0], Ordering::Less),

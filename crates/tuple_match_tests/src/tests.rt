@@ -244,7 +244,7 @@ fn numbers_at(numbers: &Numbers<'_>, place: usize) -> Option<i128> {
     }
 }
 
-/// Lists at the edges of each width, and at those of the lengths that lie in place.
+/// Lists at the limits of each width, and at those of the lengths that are stored in place.
 static LISTS: [&[i128]; 12] = [
     &[],
     &[0, 255],

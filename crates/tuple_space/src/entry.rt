@@ -7,7 +7,7 @@ use crate::lease::LeaseEnd;
 use std::marker::Model;
 use tuple_match::Tuple;
 
-/// The number under which a tuple was put out.
+/// The number under which a tuple was written.
 #[derive(Clone, Copy, Debug, PartialEq, Eq)]
 pub struct EntryId {
     number: u64,
@@ -38,7 +38,7 @@ impl EntryId {
     }
 }
 
-/// What a search asks of an entry beside its tuple.
+/// What a lookup requires of an entry besides its tuple.
 #[derive(Clone, Copy, Debug, PartialEq, Eq)]
 pub enum Claim {
     /// That its lease is live and nobody took it.
@@ -54,7 +54,7 @@ pub enum Claim {
 pub struct Entry {
     /// Its number.
     pub number: u64,
-    /// What was put out.
+    /// The tuple that was written.
     pub tuple: Tuple,
     /// When its lease ends.
     pub end: LeaseEnd,

@@ -9,7 +9,7 @@ use thiserror::Error;
 /// Why a call of the space is refused.
 #[derive(Clone, Copy, Debug, PartialEq, Eq, Error)]
 pub enum SpaceError {
-    /// Refusal 33: the numbers of entries are used up, or a moment lies past 2^62.
+    /// Refusal 33: the numbers of entries are used up, or a moment is past 2^62.
     #[error("the numbers are used up")]
     Exhausted,
     /// Refusal 35: no live entry has the number.

@@ -103,8 +103,8 @@ impl Holds {
         &self.rows
     }
 
-    /// Puts a hold in the place of its holder's older one, or behind all others. It takes no memory in the place of an older one,
-    /// nor where nobody holds the entry.
+    /// Adds a hold in place of its holder's older one, or after all others. It allocates nothing if it replaces an
+    /// older one, or if nobody holds the entry.
     pub fn put(&mut self, hold: Hold) -> Result<(), AllocError>
         ensures ok { OnOk result (self.new ≡ holds_with hold self.old) }
         ensures err { OnErr result (self.new ≡ self.old) }

@@ -18,9 +18,9 @@ const VALUES: usize = 256;
 /// Where numbers stand in a bucket.
 #[derive(Clone, Copy, Debug, PartialEq, Eq)]
 pub(crate) enum Slot {
-    /// Under the length of the second field, 0 where it is no list.
+    /// Under the length of the second field, 0 if it is not a list.
     Length(usize),
-    /// Under the value of the second field, which is no list.
+    /// Under the value of the second field, which is not a list.
     Value(usize),
 }
 

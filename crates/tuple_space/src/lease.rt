@@ -12,7 +12,7 @@ const LONGEST_LEASE: u64 = 86_400_000;
 pub enum Lease {
     /// Until it is taken.
     Forever,
-    /// For so many milliseconds, and 86,400,000 at most.
+    /// For this many milliseconds, at most 86,400,000.
     Ms(u64),
 }
 
@@ -21,12 +21,12 @@ pub enum Lease {
 pub enum LeaseEnd {
     /// Never: the tuple is permanent.
     Never,
-    /// At this moment, at which the lease isn't live any more.
+    /// At this moment, at which the lease is no longer live.
     At(u64),
 }
 
 impl Lease {
-    /// The end of this lease where it is granted at the moment.
+    /// The end of this lease if it is granted at the moment.
     pub fn granted(self, moment: u64) -> LeaseEnd
         requires { moment ≤ most }
         ensures { result ≡ granted moment self }
@@ -38,8 +38,8 @@ impl Lease {
     }
 }
 
-/// The end of a lease of so many milliseconds that is granted at the moment: for a day at most. A tuple's lease and a
-/// transaction's end so.
+/// The end of a lease of this many milliseconds that is granted at the moment: for at most a day. This applies to
+/// tuples and to transactions.
 pub fn granted_end(moment: u64, asked: u64) -> u64
     requires { moment ≤ most }
     ensures { result ≡ granted_end moment asked }

@@ -39,7 +39,7 @@ pub const MOST: u64 = 1 << 62;
 #[derive(Debug, Drop)]
 pub struct Space {
     entries: Entries,
-    /// Who holds which entries; those of one holder in rising order of their numbers.
+    /// Which entries each holder holds, in ascending order of their numbers.
     held: Vec<Held>,
     /// The numbers of the entries whose tuples begin with a word, by that word and how many fields they have.
     buckets: Vec<Bucket>,
@@ -85,8 +85,8 @@ impl Space {
         self.moment
     }
 
-    /// Puts a tuple out, with a lease granted at the moment, and tells its number. Refusals: 33 where the numbers are
-    /// used up, 50; the tuple comes back.
+    /// Writes a tuple, with a lease granted at the moment, and returns its number. Refusals: 33 if the numbers are used
+    /// up, 50; the tuple is returned.
     pub fn out(&mut self, tuple: Tuple, lease: Lease) -> Result<EntryId, (SpaceError, Tuple)>
         ensures step { Step self.old (out tuple lease) (out_reply result) self.new }
         ensures handed_back { IfErr result (λ back. back.1 ≡ tuple) }
@@ -117,7 +117,7 @@ impl Space {
         Ok(EntryId::new(number))
     }
 
-    /// Takes a tuple that the template asks for, or answers `None` where none can be had now. Takes no memory.
+    /// Takes a tuple matching the template, or returns `None` if none is available now. Allocates nothing.
     pub fn inp(&mut self, template: &Template) -> Option<(EntryId, Tuple)>
         ensures step { Step self.old (inp template.now) (inp_reply result) self.new }
     {
@@ -126,7 +126,7 @@ impl Space {
         Some((EntryId::new(number), entry.tuple))
     }
 
-    /// Copies a tuple that the template asks for, or answers `None` where none can be had now. Refusal: 50.
+    /// Copies a tuple matching the template, or returns `None` if none is available now. Refusal: 50.
     pub fn rdp(&self, template: &Template) -> Result<Option<(EntryId, Tuple)>, SpaceError>
         ensures step { Step self.now (rdp template.now) (rdp_reply result) self.now }
     {
@@ -136,8 +136,8 @@ impl Space {
         }
     }
 
-    /// Moves the end of a live entry's lease to that of a lease granted now, where that is later. Refusal: 35 where no
-    /// live entry has the number. Takes no memory.
+    /// Moves the end of a live entry's lease to that of a lease granted now, if that is later. Refusal: 35 if no live
+    /// entry has the number. Allocates nothing.
     pub fn renew(&mut self, id: EntryId, lease: Lease) -> Result<(), SpaceError>
         ensures step { Step self.old (renew id lease) (done_reply result) self.new }
     {
@@ -148,8 +148,8 @@ impl Space {
         Err(SpaceError::NotThere)
     }
 
-    /// Moves the moment on, and drops the entries whose lease has ended and that nobody holds; an earlier moment changes
-    /// nothing. Refusal: 33 where the moment lies past 2^62. Takes no memory.
+    /// Advances the moment, and drops the entries whose lease has ended and that nobody holds; an earlier moment
+    /// changes nothing. Refusal: 33 if the moment is past 2^62. Allocates nothing.
     pub fn advance(&mut self, moment: u64) -> Result<(), SpaceError>
         ensures step { Step self.old (advance moment) (done_reply result) self.new }
     {
@@ -164,31 +164,31 @@ impl Space {
         Ok(())
     }
 
-    /// How many entries are there whose tuples the template asks for, held ones included. Takes no memory.
+    /// How many existing entries have tuples matching the template, including held ones. Allocates nothing.
     pub fn count(&self, template: &Template) -> u64
         ensures step { Step self.now (count template.now) (told result) self.now }
     {
         count_of(&self.entries, self.moment, template)
     }
 
-    /// How many entries the space has whose tuples begin with this word, have so many fields, and have a list of so many numbers as
-    /// their second; with 0 numbers, those are counted too whose second field is no list. It includes held ones, takes no memory,
-    /// and takes as long whatever the space has.
+    /// How many entries the space has whose tuples begin with this word, have this many fields, and have a list of this
+    /// many numbers as their second; with 0 numbers, those whose second field is not a list are counted too. It
+    /// includes held ones, allocates nothing, and takes constant time.
     pub fn count_of_class(&self, word: &str, fields: usize, numbers: usize) -> usize
         ensures { result ≡ count_by (λ e. has_class (class_of word.now fields numbers) e.tuple) self.now.entries }
     {
         class_size(&self.buckets, word.as_bytes(), fields, numbers)
     }
 
-    /// Whether no entry is there whose tuple the template asks for, held ones included. Takes no memory.
+    /// Whether no existing entry's tuple matches the template, including held ones. Allocates nothing.
     pub fn lacks(&self, template: &Template) -> bool
         ensures { result ≡ (count_by (is_counted self.now.moment template.now) self.now.entries == 0) }
     {
         is_lacking(&self.entries, &self.buckets, self.moment, template)
     }
 
-    /// An entry that can be had under a claim. Where the template asks for a word first, it is one with the longest list as its
-    /// second field, and the newest of these; else the newest.
+    /// An entry that is available under a claim. If the template begins with a word, it is one with the longest list as
+    /// its second field, and the newest of these; otherwise the newest.
     pub fn search(&self, claim: Claim, template: &Template) -> Option<&Entry>
         ensures found { IfSome result (λ e. IsHad self.now claim template.now e.now) }
         ensures none { IfNone result (NothingHad self.now claim template.now) }
@@ -209,14 +209,15 @@ impl Space {
         self.entry_numbered(id.number())
     }
 
-    /// The entries, in rising order of number, in their places: that of one that left may be empty.
+    /// The entries, in ascending order of number, in their places: that of one that left may be empty.
     pub fn entries(&self) -> &[Option<Entry>]
         ensures { items_in result.now ≡ self.now.entries }
     {
         self.entries.as_slice()
     }
 
-    /// Who holds which entries: beside each holder the numbers of all that it holds, in rising order, and no others.
+    /// Which entries each holder holds: with each holder the numbers of all that it holds, in ascending order, and no
+    /// others.
     pub fn held(&self) -> &[Held]
         ensures held { HasHeld result.now self.now.entries }
         ensures rising { IsRising self.now.entries }
@@ -224,14 +225,14 @@ impl Space {
         &self.held
     }
 
-    /// The entry of a number, as `held` tells it.
+    /// The entry of a number in `held`.
     pub fn entry_numbered(&self, number: u64) -> Option<&Entry>
         ensures { option_copied result ≡ find (λ e. e.number == number) self.now.entries }
     {
         self.entries.get(number)
     }
 
-    /// How far the number is above the place of its entry, for walks by `entry_shifted`; 0 where it has none.
+    /// How far the number is above the place of its entry, for walks by `entry_shifted`; 0 if it has none.
     pub fn shift_of(&self, number: u64) -> u64 {
         self.entries.shift_of(number)
     }
@@ -254,8 +255,8 @@ impl Space {
         }
     }
 
-    /// Holds an entry for a holder, named by a number: as taken or as read, in the place of its older hold if it has one. Takes
-    /// no memory where it has one.
+    /// Holds an entry for a holder, named by a number: as taken or as read, in place of its older hold if it has one.
+    /// Allocates nothing if it has one.
     pub fn pin(&mut self, id: EntryId, holder: u64, taken: bool) -> Result<(), AllocError>
         requires { list_any (λ e. e.number == id) self.old.entries ≡ true }
         ensures ok { OnOk result (self.new ≡ with_entries self.old (changed id (held_by holder taken) self.old.entries)) }
@@ -300,7 +301,8 @@ impl Space {
         drop_rows_gone(&mut self.held, &self.entries, holder, shared);
     }
 
-    /// Takes out the entry of a number, whoever holds it, or answers `None` where there is none. Takes no memory.
+    /// Removes the entry of a number, regardless of who holds it, or returns `None` if there is none. Allocates
+    /// nothing.
     pub fn remove(&mut self, id: EntryId) -> Option<Tuple>
         ensures value { result ≡ option_map (λ e. e.tuple) (find (λ e. e.number == id) self.old.entries) }
         ensures rest { self.new ≡ with_entries self.old (without id self.old.entries) }
@@ -313,8 +315,8 @@ impl Space {
         Some(entry.tuple)
     }
 
-    /// Puts out tuples in order, but for those that were taken again: all of them, or none. Refusals: 33 where too few
-    /// numbers are left, 50; the writes come back. Takes no memory where nothing is put out.
+    /// Writes tuples in order, except those that were taken again: either all of them or none. Refusals: 33 if too few
+    /// numbers are left, 50; the writes are returned. Allocates nothing if nothing is written.
     pub fn put_all(&mut self, writes: Writes) -> Result<(), (SpaceError, Writes)>
         ensures ok { OnOk result ((self.old.last + put_count writes ≤ most) × (self.new ≡ put_each self.old writes)) }
         ensures err { OnErr result (self.new ≡ self.old) }
@@ -328,7 +330,7 @@ impl Space {
         }
     }
 
-    /// The same from where the writes lie: there are none left then, and their memory stays there. Refused, all stay.
+    /// Likewise from the list of writes: it is then empty, and keeps its memory. If refused, all stay.
     pub fn put_from(&mut self, writes: &mut Writes) -> Result<(), SpaceError>
         ensures ok { OnOk result ((self.old.last + put_count writes.old ≤ most) × (self.new ≡ put_each self.old writes.old)) }
         ensures emptied { OnOk result (writes.new ≡ []) }

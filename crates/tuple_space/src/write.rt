@@ -10,12 +10,12 @@ use std::alloc::{AllocError, Global};
 use std::marker::Model;
 use tuple_match::Tuple;
 
-/// A tuple that is to be put out with a lease, unless it is taken before.
+/// A tuple to be written with a lease, unless it is taken before.
 #[derive(Debug, Drop)]
 pub struct Write {
-    /// What is to be put out.
+    /// The tuple to be written.
     pub tuple: Tuple,
-    /// The lease that is then asked for.
+    /// The lease to be requested.
     pub lease: Lease,
     /// Whether it was taken again.
     pub taken: bool,

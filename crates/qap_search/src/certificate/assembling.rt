@@ -27,11 +27,11 @@ use qap_proof::Tree;
 use std::alloc::{AllocError, Global};
 use tuple_match::Tuple;
 
-/// The certificate of size `n` whose tuples these are, in any order: one of the best permutation and one for each node of its
-/// tree. Its bound is its cost.
+/// The certificate of size `n` with these tuples, in any order: one of the incumbent and one for each node of its tree.
+/// Its bound is its cost.
 ///
-/// The lists of duals are moved out of the tuples, not copied. `Unfinished` says how many tuples are of open nodes, and
-/// comes first; `NotATree` comes where none is and the tuples are those of no certificate of this size.
+/// The lists of duals are moved out of the tuples, not copied. `Unfinished` has the number of tuples of open nodes, and
+/// comes first; `NotATree` is returned if none is open and the tuples form no certificate of this size.
 pub fn assemble(alloc: Global, n: usize, tuples: Vec<Tuple>) -> Result<Certificate, AssembleError>
     requires positive { 0 < n }
     requires small { n ≤ 256 }

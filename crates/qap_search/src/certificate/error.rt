@@ -3,13 +3,13 @@
 use std::alloc::AllocError;
 use thiserror::Error;
 
-/// Why the tuples of a search aren't put together into a certificate.
+/// Why the tuples of a search are not assembled into a certificate.
 #[derive(Clone, Copy, Debug, PartialEq, Eq, Error)]
 pub enum AssembleError {
     /// Refusal 41: this many nodes are open.
     #[error("{0} nodes are open")]
     Unfinished(u64),
-    /// Refusal 42: the tuples aren't those of one tree and one permutation of the size.
+    /// Refusal 42: the tuples are not those of one tree and one permutation of the size.
     #[error("the tuples are not those of a certificate")]
     NotATree,
     /// Refusal 50: there is no memory left.

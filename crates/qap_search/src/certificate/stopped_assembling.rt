@@ -15,12 +15,12 @@ use qap_cost::{Instance, Partial};
 use std::alloc::Global;
 use tuple_match::Tuple;
 
-/// The certificate of a search that was stopped: each node that is open is closed by the duals of a least assignment of its
-/// reduced matrix. Its bound is the least of the cost and of what the leaves of its tree show, each the cost of its placed
-/// facilities among themselves and the sum of its duals.
+/// The certificate of a search that was stopped: each open node is closed by the duals of a least assignment of its
+/// Gilmore-Lawler matrix. Its bound is the minimum of the cost and of the bounds of its tree's leaves, each the cost of
+/// its placed facilities among themselves plus the sum of its duals.
 ///
-/// The tuples may stand in any order. `NotATree` comes where they are not those of a tree of the instance's size, whose nodes
-/// may be open, and of one permutation, or where the bound is below -10^24. `Unfinished` never comes.
+/// The tuples may be in any order. `NotATree` is returned if they are not those of a tree of the instance's size, whose
+/// nodes may be open, and of one permutation, or if the bound is below -10^24. `Unfinished` is never returned.
 pub fn assemble_stopped(
     alloc: Global,
     instance: &Instance,

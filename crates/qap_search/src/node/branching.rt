@@ -57,10 +57,10 @@ pub enum Branching {
     /// On the free facility whose reduced entries have the greatest sum, each counted at most as far as the best known cost is
     /// above the node's bound; the child whose reduced entry is least is taken first.
     GreatestSum,
-    /// On the free facility or the free location whose reduced entries have the greatest such sum, where a child that
-    /// is the image of an earlier one counts as much as can be. A child at which the node's duals reach the best cost
-    /// is cut off; of the others, those that are images of earlier ones are marked as such, and the one at which the
-    /// duals reach least is taken first.
+    /// On the free facility or the free location whose reduced costs have the greatest such sum, where a symmetric
+    /// child counts as much as possible. A child at which the node's duals reach the best cost is pruned; of the
+    /// others, those that are symmetric to earlier ones are marked as such, and the one at which the duals reach least
+    /// is taken first.
     Cutting,
 }
 
@@ -71,12 +71,12 @@ pub struct Branch {
     pub side: Side,
     /// The number of the facility or the location, from 0.
     pub number: u16,
-    /// What the node's duals reach at each child, where they may cut children off.
+    /// The bound of each child under the node's duals, if they may prune children.
     pub reached: Option<Vec<i128>>,
-    /// Of which earlier child each child is the image, where it is one; behind the end none is.
+    /// The earlier child to which each child is symmetric, if any; past the end there is none.
     pub images: Vec<Option<Image>>,
-    /// The reduced entry of each child, where children are taken by these, the least first; none where they are taken
-    /// by their locations or by what the duals reach.
+    /// The reduced cost of each child, if children are taken in ascending order of these; none if they are taken by
+    /// their locations or by their bounds.
     pub entries: Vec<i128>,
 }
 

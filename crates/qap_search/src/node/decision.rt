@@ -17,10 +17,10 @@ use qap_cost::{Partial, Perm};
 use std::alloc::{AllocError, Global};
 use tuple_match::Tuple;
 
-/// The tuples that take the place of the open node: where the thought's value is at least the best cost, that of the node
-/// closed by its duals; else those of its split, all of whose children are open
-/// but those that the thought's duals cut off under the best cost, and of the others those that are images of earlier ones. `None`
-/// where nothing is free to split on.
+/// The tuples that replace the open node: if the evaluation's value is at least the best cost, that of the node closed
+/// by its duals; otherwise those of its split, all of whose children are open except those that the evaluation's duals
+/// prune at the best cost, and of the others those that are symmetric to earlier ones. `None` if nothing is free to
+/// split on.
 pub fn decide(
     alloc: Global,
     node: &Partial,
@@ -70,7 +70,7 @@ fn branch_tuples(
     }
 }
 
-/// The same, beside the tuple of the best permutation that then stands, of this cost.
+/// Likewise, together with the tuple of the new incumbent, of this cost.
 pub fn decide_beside(
     alloc: Global,
     node: &Partial,
@@ -90,8 +90,8 @@ pub fn decide_beside(
     Ok(Some(tuples))
 }
 
-/// The same where the best permutation of this cost was taken: beside the thought's candidate, where that costs less, and else
-/// beside the one that was taken. `None` where nothing is free to split on and the node isn't closed.
+/// Likewise if the incumbent of this cost was taken: together with the evaluation's candidate, if that costs less,
+/// otherwise with the one that was taken. `None` if nothing is free to split on and the node is not closed.
 pub fn decide_anew(
     alloc: Global,
     node: &Partial,

@@ -11,8 +11,8 @@ use number_list::Numbers;
 use qap_cost::Partial;
 use std::alloc::{AllocError, Global};
 
-/// The node of size `n` whose list this is: facility and location alternately, in the order of placing. `None` where
-/// the list is that of no node of this size.
+/// The node of size `n` with this list: facilities and locations alternately, in the order of placement. `None` if the
+/// list is that of no node of this size.
 pub fn read_node(alloc: Global, n: usize, list: &[i128]) -> Result<Option<Partial>, AllocError>
     requires positive { 0 < n }
     requires small { n ≤ 256 }

@@ -9,7 +9,7 @@ use crate::node::scratch::Scratch;
 use qap_cost::{Instance, Matrix, Partial, Perm};
 use std::alloc::{AllocError, Global};
 
-/// What is worked out about a node: a bound on what its completions cost, and one of them.
+/// The evaluation of a node: a bound on its completions, and one of them.
 #[derive(Drop)]
 pub struct Thought {
     /// A dual for each free facility, ascending.
@@ -31,7 +31,7 @@ impl Thought {
     ghost use Rattle.qap_search.specs.Worker.Hand.{cuts};
     ghost use Rattle.qap_search.specs.Node.Thought.{IsThought};
 
-    /// What is worked out about the node from its reduced matrix; it is to be split by the greatest matched entry.
+    /// The evaluation of the node from its Gilmore-Lawler matrix; it will be split by the greatest matched entry.
     pub fn new(
         alloc: Global,
         instance: &Instance,
@@ -53,7 +53,7 @@ impl Thought {
         )
     }
 
-    /// The same, where the node is to be split by this rule, with no images among its children, and this best cost is known.
+    /// Likewise, if the node will be split by this rule, without symmetric children, and this best cost is known.
     pub fn by(
         alloc: Global,
         branching: Branching,

@@ -31,8 +31,8 @@ use tuple_match::Template;
 /// The certificate of an instance's least cost, from one worker whose transactions begin with leases of this many
 /// milliseconds.
 ///
-/// `Unfinished` comes where the worker found no memory and nodes are open, with their number. With a lease of 0 ms no commit is
-/// ever accepted, and the call doesn't return.
+/// `Unfinished` is returned if the worker ran out of memory with nodes open, with their number. With a lease of 0 ms no
+/// commit is ever accepted, and the call does not return.
 pub fn solve_alone<R: Wait>(
     rt: &R,
     alloc: Global,

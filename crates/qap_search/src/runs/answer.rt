@@ -64,7 +64,7 @@ pub struct Bounded {
     /// The best permutation found; where none that completes the root is found that is cheaper, the one that the search began with.
     pub permutation: Perm,
     pub cost: i128,
-    /// No permutation that completes the root costs less. At most the cost, and the cost where no node is open.
+    /// No permutation that completes the root costs less. At most the cost, and equal to it if no node is open.
     pub bound: i128,
     /// How many nodes are left open.
     pub open_nodes: u64,
@@ -75,8 +75,8 @@ pub struct Bounded {
 /// A proof of what a search's root lets a permutation cost, and what each worker reports of the search.
 #[derive(Drop)]
 pub struct Proved {
-    /// Its permutation is the best one found; where none that completes the root is found that is cheaper, the one that the search began
-    /// with. Its bound is the cost where no node is left open.
+    /// Its permutation is the best one found; if none that completes the root is found that is cheaper, the one with
+    /// which the search began. Its bound is the cost if no node is left open.
     pub proof: Proof,
     /// How many nodes the search left open; the proof closes them.
     pub open_nodes: u64,

@@ -19,7 +19,7 @@ pub struct Progress {
     pub children_done: usize,
 }
 
-/// Is shown how far a search has come.
+/// Observes the progress of a search.
 pub trait Observer {
     /// Whether it wants to see that. Who doesn't costs a search nothing.
     fn is_watching(&self) -> bool;

@@ -17,8 +17,7 @@ use std::alloc::{AllocError, Global};
 use tuple_match::Tuple;
 use tuple_space::{Lease, SpaceError};
 
-/// A space that holds the open root of all permutations, and the permutation that sends each facility to the location of its own
-/// number as the best one; both forever.
+/// A space that holds the open root of all permutations, and the identity as the incumbent; both permanently.
 pub fn opening_space(alloc: Global, instance: &Instance) -> Result<TxnSpace, AllocError>
     ensures { IfOk result (IsOpening (whole instance.now)) }
 {
@@ -46,7 +45,7 @@ pub fn opening_from(
     Ok(space)
 }
 
-/// The permutation of the instance that sends each facility to the location of its own number.
+/// The permutation of the instance that puts facility i at location i.
 pub fn identity(alloc: Global, instance: &Instance) -> Result<Perm, AllocError>
     ensures value { IfOk result (λ p. p ≡ range_with_len 0 instance.now.size) }
     ensures permutes { IfOk result (Permutes instance.now) }

@@ -1,7 +1,7 @@
 //! What controls the workers of a search: a clock and a gate.
 
-/// What the workers of a search go by: a clock, by which the moment moves on, and a gate, which is asked before each of their steps and
-/// told after it.
+/// What controls the workers of a search: a clock, by which the moment advances, and a gate, which is consulted before
+/// each of their steps and informed after it.
 #[derive(Clone, Copy)]
 pub struct Pace<'a, C, G> {
     /// Gives the moment.

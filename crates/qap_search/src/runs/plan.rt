@@ -3,7 +3,7 @@
 use crate::node::branching::Branching;
 use qap_cost::{Partial, Perm};
 
-/// Who works on a search, and how far.
+/// The workers of a search, and its limit.
 #[derive(Clone, Copy, Debug)]
 pub struct Crew {
     /// How many workers there are, each a thread: 1 to 64.
@@ -17,7 +17,7 @@ pub struct Crew {
 /// How a search goes.
 #[derive(Clone, Copy)]
 pub struct Plan<'a> {
-    /// Who works on it, and how far.
+    /// Its workers and limit.
     pub crew: Crew,
     /// The node whose completions are searched; the empty one, for all permutations of the instance.
     pub root: &'a Partial,

@@ -3,11 +3,11 @@
 use crate::worker::report::Report;
 use space_txn::TxnSpace;
 
-/// What a search leaves where it ends.
+/// What a search leaves at its end.
 #[derive(Drop)]
 pub struct Run {
     /// The space at its end.
     pub space: TxnSpace,
-    /// What is reported of each worker, those who were lost at its place included.
+    /// The report of each worker, including those lost in its place.
     pub reports: Vec<Report>,
 }

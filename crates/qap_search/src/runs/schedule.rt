@@ -29,16 +29,16 @@ const LEASE_MS: u64 = 1000;
 /// One step of a schedule. A number that names no worker, and a moment past the greatest one, change nothing.
 #[derive(Clone, Copy, Debug, PartialEq, Eq)]
 pub enum Step {
-    /// The worker makes its next step, and the thought that it calls for.
+    /// The worker makes its next step, and the evaluation that it requires.
     Turn(u16),
     /// The moment moves on to this one.
     Advance(u64),
-    /// The worker is lost with its transaction, which isn't ended, and a fresh one stands in its place.
+    /// The worker is lost with its transaction, which is not ended, and a new one takes its place.
     Lose(u16),
 }
 
-/// Runs a search by a schedule: this many workers, whose transactions may take 1000 ms, make their turns in the order
-/// that it gives, at the moments that it gives. The only error is want of memory.
+/// Runs a search under a schedule: this many workers, with transactions leased for 1000 ms, take their turns in the
+/// given order, at the given moments. The only error is out of memory.
 pub fn play(
     alloc: Global,
     instance: &Instance,

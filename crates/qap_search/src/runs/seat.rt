@@ -39,7 +39,7 @@ pub(crate) struct Seat<L: Law> {
     worker: u16,
     hand: Hand,
     share: Share<L>,
-    /// How it ended, where it has.
+    /// How it ended, if it has.
     ended: Option<Ended>,
     /// What it lacked when it went on last.
     lack: Option<Lack>,

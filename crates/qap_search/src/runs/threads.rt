@@ -74,11 +74,11 @@ const LOOK_MS: u64 = 100;
 /// The certificate of an instance's least cost, from this many workers, each a thread, whose transactions begin with
 /// leases of this many milliseconds.
 ///
-/// The calling thread keeps the space: it moves the moment on by the clock, and closes the space when no node is left or every
-/// worker has left. The gate is asked before each step of a worker and told after it. `Unfinished` comes where nodes are left,
-/// with their number: where workers were ended by the gate or found no memory. With a lease of 0 ms no commit is ever accepted.
-/// With a limit no more commits are accepted than that: where it is reached while nodes are left, `Stopped` comes with a
-/// certificate in which these nodes are closed.
+/// The calling thread keeps the space: it advances the moment by the clock, and closes the space when no node is left
+/// or every worker has left. The gate is consulted before each step of a worker and informed after it. `Unfinished` is
+/// returned if nodes are left, with their number: if workers were ended by the gate or ran out of memory. With a lease
+/// of 0 ms no commit is ever accepted. With a limit, no more commits are accepted than that: if it is reached while
+/// nodes are left, `Stopped` is returned with a certificate in which these nodes are closed.
 pub fn solve<R, C, G>(
     rt: &R,
     alloc: Global,
@@ -106,8 +106,8 @@ where
     solve_from(rt, alloc, instance, &plan, pace)
 }
 
-/// A permutation of an instance's least cost, by the same search: for callers that want no certificate, which isn't put
-/// together then. What `solve` says of the workers, the gate, the lease, the limit and the errors holds here too.
+/// A permutation of an instance's least cost, by the same search, for callers that need no certificate, which is then
+/// not assembled. The workers, the gate, the lease, the limit and the errors are as for `solve`.
 pub fn solve_least<R, C, G>(
     rt: &R,
     alloc: Global,
@@ -148,9 +148,9 @@ where
     )
 }
 
-/// The certificate of an instance's least cost, as `solve` answers it, by a search that goes as the plan says, over all
-/// permutations: the plan's root is the empty node. That its start is a permutation of the instance is a condition, and so is that its
-/// branching cuts no children off, since a certificate says nothing of such.
+/// The certificate of an instance's least cost, as `solve` returns it, by a search according to the plan over all
+/// permutations: the plan's root is the empty node. The start must be a permutation of the instance, and the branching
+/// must not prune children, since a certificate cannot express it.
 pub fn solve_from<R, C, G>(
     rt: &R,
     alloc: Global,
@@ -189,16 +189,17 @@ where
     )
 }
 
-/// The best permutation that a search below the plan's root yields, and a bound that no permutation which completes the
-/// root costs less than: for callers that search below any node, and for those that may stop a search before its end.
+/// The best permutation that a search below the plan's root yields, and a lower bound on all permutations that complete
+/// the root: for callers that search below any node, or that may stop a search early.
 ///
-/// What `solve` says of the workers, the gate, the lease and the limit holds here too. Where the stop is wanted the space is closed
-/// though nodes are open; no worker begins on another node then, and none waits for a lease to end. For whatever reason nodes are
-/// left, by the stop or the gate, at the limit or for want of memory, the least assignments of their reduced matrices bound the answer;
-/// where none is left, the bound is the cost. A worker that ends for want of memory aborts its transactions, so that others can take
-/// its nodes at once. As many threads as there are workers work these out, or up to twice as many. The observer is
-/// shown meanwhile how far the search has come. No certificate is put together, and what the end wants of memory is taken before the
-/// search: where threads find none of their own, the calling one works in that. The only error is want of memory.
+/// The workers, the gate, the lease and the limit are as for `solve`. If a stop is requested, the space is closed
+/// although nodes are open; no worker then begins another node, and none waits for a lease to end. If nodes are left
+/// for any reason (the stop, the gate, the limit or out of memory), the least assignments of their Gilmore-Lawler
+/// matrices bound the answer; if none is left, the bound is the cost. A worker that runs out of memory aborts its
+/// transactions, so that others can take its nodes at once. These bounds are computed by as many threads as there are
+/// workers, or up to twice as many. The observer follows the progress of the search. No certificate is assembled, and
+/// the memory for the end is allocated before the search: if threads find none, the calling thread works in it. The
+/// only error is out of memory.
 pub fn solve_least_from<R, C, G, S, O>(
     rt: &R,
     alloc: Global,
@@ -235,13 +236,13 @@ where
 }
 
 /// The proof that a search below the plan's root yields: that no permutation which completes the root costs less than
-/// the proof's bound. Searches of either kind make proofs, those that cut children off and those that don't. That the
-/// facilities of the root ascend is a condition, since a proof states its root so.
+/// the proof's bound. Searches with and without pruning yield proofs. The facilities of the root must ascend, as a
+/// proof states them.
 ///
-/// What `solve_least_from` says of the workers, the gate, the lease, the limit, the stop and the observer holds here too. Each node that
-/// is left open, for whatever reason, is closed by the duals of a least assignment of its reduced matrix, by as many threads as there are
-/// workers, or up to twice as many. The bound is the least of the cost and of what the closed nodes show: the cost where no node is left
-/// open. The only error is want of memory.
+/// The workers, the gate, the lease, the limit, the stop and the observer are as for `solve_least_from`. Each node that
+/// is left open, for any reason, is closed by the duals of a least assignment of its Gilmore-Lawler matrix, by as many
+/// threads as there are workers, or up to twice as many. The bound is the minimum of the cost and of the bounds of the
+/// closed nodes: the cost if no node is left open. The only error is out of memory.
 pub fn prove_from<R, C, G, S, O>(
     rt: &R,
     alloc: Global,
@@ -378,7 +379,7 @@ struct Keeper<'a, C, G, S, O> {
     pace: &'a Pace<'a, C, G>,
     stop: &'a S,
     observer: &'a O,
-    /// Whether a worker that ends for want of memory aborts its transactions.
+    /// Whether a worker that runs out of memory aborts its transactions.
     aborts: bool,
 }
 

@@ -16,7 +16,7 @@ use tuple_match::{Field, Tuple};
 /// What was decided at a node.
 #[derive(Drop)]
 pub(crate) enum Decision {
-    /// It is split on the facility of this number, and says no duals.
+    /// It is split on the facility of this number, and states no duals.
     Split(i128),
     /// It is split with duals.
     Pruned(PrunedSplit),

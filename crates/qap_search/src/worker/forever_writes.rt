@@ -11,8 +11,8 @@ use std::alloc::{AllocError, Global};
 use tuple_match::Tuple;
 use tuple_space::{Lease, Writes};
 
-/// Writes the tuples under the transaction, in order, each to stay forever. The only error is want of memory; some of them may have been
-/// written then.
+/// Writes the tuples under the transaction, in order, each permanently. The only error is out of memory; some of them
+/// may then have been written.
 pub fn put_forever(txn: &mut Txn, tuples: Vec<Tuple>) -> Result<(), TxnError>
     ensures number { txn.new.number ≡ txn.old.number }
     ensures marks { txn.new.marks ≡ txn.old.marks }

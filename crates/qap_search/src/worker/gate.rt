@@ -19,7 +19,7 @@ pub enum Kind {
     Abort,
 }
 
-/// Is asked before each step of a worker, and told after it; both outside the space's lock.
+/// Is consulted before each step of a worker, and informed after it; both outside the space's lock.
 pub trait Gate {
     /// Whether the worker may go on; `false` ends it, and its transaction is dropped.
     fn pass(&self, worker: u16, kind: Kind) -> bool;

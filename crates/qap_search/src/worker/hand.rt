@@ -161,7 +161,7 @@ impl Hand {
         }
     }
 
-    /// Whether a thought is due: it comes before the next step.
+    /// Whether an evaluation is due: it comes before the next step.
     pub fn thinks(&self) -> bool
         ensures { result ≡ is_due self.now.stage }
     {
@@ -224,8 +224,8 @@ impl Hand {
         outcome.told
     }
 
-    /// Thinks on the node that was taken, outside the space's lock; where that is the node of the last thought, the thought is
-    /// kept. At an error nothing changed, and the thought is still due.
+    /// Evaluates the node that was taken, outside the space's lock; if that is the node of the last evaluation, this is
+    /// kept. At an error nothing changed, and the evaluation is still due.
     pub fn think<G: Gate>(&mut self, gate: &G) -> Result<(), AllocError>
         requires { is_due self.old.stage ≡ true }
         ensures thought { OnOk result (Thinks self.old self.new) }
@@ -252,9 +252,9 @@ impl Hand {
         Ok(())
     }
 
-    /// Makes ready, outside the space's lock, for the steps that come next. Where the next one reads the best permutation and finds the
-    /// cost that the worker remembers, it writes then as it is what is worked out here; where there is no memory, and where the cost is
-    /// another one, the step works it out. The next transaction gets its memory, and what the last ones held is dropped.
+    /// Prepares the next steps outside the space's lock. If the next one reads the incumbent and finds the cost that
+    /// the worker remembers, it writes what is prepared here; if memory runs out, or if the cost is another one, the
+    /// step computes the writes. The next transaction gets its memory, and what the last ones held is dropped.
     pub fn prepare(&mut self)
         ensures { self.new ≡ self.old }
     {

@@ -5,7 +5,7 @@
 pub enum Ended {
     /// The search was over.
     Done,
-    /// Its gate didn't let it pass.
+    /// Its gate did not let it pass.
     ByGate,
     /// There was no memory for it.
     Memory,

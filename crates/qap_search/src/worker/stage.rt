@@ -20,13 +20,13 @@ pub(crate) enum Stage {
     Idle,
     /// It has begun one.
     Begun(Txn),
-    /// It took the entry of an open node, and a thought on it is due.
+    /// It took the entry of an open node, whose evaluation is due.
     Taken(Txn, EntryId),
-    /// The node has been thought on.
+    /// The node has been evaluated.
     Considered(Txn),
-    /// What is to be written stands in the transaction; the best permutation that stands after its commit costs so much.
+    /// The writes are in the transaction; the incumbent after its commit has this cost.
     Ready(Txn, i128),
-    /// The transaction is to be ended without a commit.
+    /// The transaction must be ended without a commit.
     GivingUp(Txn),
 }
 
