@@ -28,7 +28,7 @@ pub(crate) fn dot_product(xs: &[i32], ys: &[i32], are_small: bool) -> i128
     }
 }
 
-/// The same of small numbers.
+/// Likewise for small numbers.
 fn small_sum(xs: &[i32], ys: &[i32]) -> i64
     requires same_length { length xs.now ≡ length ys.now }
     requires few { length xs.now ≤ 512 }
@@ -44,7 +44,7 @@ fn small_sum(xs: &[i32], ys: &[i32]) -> i64
     sum
 }
 
-/// The same of any entries.
+/// Likewise for any entries.
 fn sum_by_eights(xs: &[i32], ys: &[i32]) -> i128
     requires same_length { length xs.now ≡ length ys.now }
     requires small { length xs.now ≤ 512 }
@@ -63,7 +63,7 @@ fn sum_by_eights(xs: &[i32], ys: &[i32]) -> i128
     total + i128::from(few_products(&xs[start..], &ys[start..]))
 }
 
-/// The same of at most eight products, in 64 bits.
+/// Likewise for at most eight products, in 64 bits.
 fn few_products(xs: &[i32], ys: &[i32]) -> i64
     requires same_length { length xs.now ≡ length ys.now }
     requires few { length xs.now ≤ 8 }

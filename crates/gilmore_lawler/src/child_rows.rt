@@ -61,7 +61,7 @@ impl LocationRows {
     }
 }
 
-/// Makes `numbers` these and one more behind them.
+/// Makes `numbers` these and one more after them.
 pub(crate) fn list_with(those: &[u16], last: u16, numbers: &mut Vec<u16>) -> Result<(), AllocError>
     ensures { OnOk result (numbers.new.items ≡ those.now ++ last ∷ []) }
 {
@@ -83,7 +83,7 @@ fn list_without(those: &[u16], s: usize, numbers: &mut Vec<u16>) -> Result<(), A
     Ok(())
 }
 
-/// Which of the free locations is taken at these places, where they are those that are taken and one more behind them.
+/// Which of the free locations is taken at these places, where they are those that are taken and one more after them.
 pub(crate) fn place_behind(taken: &[u16], free: &[u16], places: &[u16]) -> Option<usize>
     ensures { MatchOption result ⊤ (λ s. (s < length free.now) × (places.now ≡ taken.now ++ slice_index free.now s ∷ [])) }
 {
@@ -99,7 +99,7 @@ pub(crate) fn place_behind(taken: &[u16], free: &[u16], places: &[u16]) -> Optio
     }
 }
 
-/// Where the location stands among these, which have it.
+/// Where the location is among these, which have it.
 pub(crate) fn place_among(free: &[u16], location: u16) -> usize
     requires { (s : ℕ) × (s < length free.now) × (slice_index free.now s ≡ location) }
     ensures inside { result < length free.now }
@@ -111,7 +111,7 @@ pub(crate) fn place_among(free: &[u16], location: u16) -> usize
     }
 }
 
-/// Where the number stands among these.
+/// Where the number is among these.
 fn place_of(numbers: &[u16], number: u16) -> Option<usize>
     ensures { MatchOption result ((s : ℕ) → s < length numbers.now → slice_index numbers.now s ≢ number) (λ s. (s < length numbers.now) × (slice_index numbers.now s ≡ number)) }
 {
@@ -144,7 +144,7 @@ pub(crate) fn child_rows(
     Ok(())
 }
 
-/// Writes these rows from the front on, and returns the place behind them.
+/// Writes these rows from the front on, and returns the position after them.
 fn fill_child_rows(
     instance: &Instance,
     places: &[u16],
@@ -194,11 +194,11 @@ fn behind_gap(s: usize, r: usize) -> usize
     r + usize::from(r >= s)
 }
 
-/// Writes a free location's row where one more is taken, from that where this one is free, and returns the place behind
-/// it.
+/// Writes a free location's row where one more is taken, from that where this one is free, and returns the position
+/// after it.
 ///
-/// The first `linear` numbers stay, the pair with the location that is taken comes behind them, and of those in order its
-/// distance is left out.
+/// The first `linear` numbers stay, the pair with the location that is taken comes after them, and of those in order
+/// its distance is left out.
 fn write_child_row(
     instance: &Instance,
     own: u16,
@@ -226,7 +226,7 @@ fn write_child_row(
     write_without(&row[linear..], gone, numbers, second)
 }
 
-/// Writes these numbers from this place on, and returns the place behind them.
+/// Writes these numbers from this place on, and returns the position after them.
 fn write_all(xs: &[i32], numbers: &mut [i32], start: usize) -> usize
     requires room { start + length xs.now ≤ length numbers.old }
     ensures end { result ≡ start + length xs.now }

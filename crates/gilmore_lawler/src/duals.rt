@@ -9,7 +9,7 @@ use qap_cost::Matrix;
 
 /// Whether `(u, v)` fits the matrix: no entry in row `i` and column `k` is below `u[i] + v[k]`.
 ///
-/// No memory is taken.
+/// Allocates nothing.
 pub fn fits(matrix: &Matrix, u: &[i128], v: &[i128]) -> bool
     requires u_count { length u.now ≡ matrix.now.size }
     requires v_count { length v.now ≡ matrix.now.size }

@@ -42,7 +42,7 @@ pub fn factor_rows(
     Ok(())
 }
 
-/// Writes these rows from the front on, and returns the place behind them. There is room for one more row of the
+/// Writes these rows from the front on, and returns the position after them. There is room for one more row of the
 /// matrix.
 fn fill_rows(
     instance: &Instance,
@@ -73,8 +73,8 @@ fn fill_rows(
     end
 }
 
-/// Writes the entry of `i` with itself, and the pairs with each placed one, from this place on, and returns the place
-/// behind them.
+/// Writes the entry of `i` with itself, and the pairs with each placed one, from this place on, and returns the
+/// position after them.
 pub(crate) fn write_linear(
     instance: &Instance,
     side: Side,
@@ -96,7 +96,7 @@ pub(crate) fn write_linear(
     write_pairs(instance, side, own, placed, numbers, first)
 }
 
-/// Writes the entries of `i` with each of these and theirs with it from this place on, and returns the place behind
+/// Writes the entries of `i` with each of these and theirs with it from this place on, and returns the position after
 /// them.
 fn write_pairs(
     instance: &Instance,
@@ -120,7 +120,8 @@ fn write_pairs(
     place
 }
 
-/// Writes the entry of `i` with another one, and of that one with it, at this place, and returns the place behind them.
+/// Writes the entry of `i` with another one, and of that one with it, at this place, and returns the position after
+/// them.
 pub(crate) fn write_pair(
     instance: &Instance,
     side: Side,
@@ -142,7 +143,7 @@ pub(crate) fn write_pair(
     write_one(back, numbers, middle)
 }
 
-/// Writes one number at this place, and returns the place behind it.
+/// Writes one number at this place, and returns the position after it.
 fn write_one(number: i32, numbers: &mut [i32], start: usize) -> usize
     requires room { start < length numbers.old }
     ensures end { result ≡ start + 1 }

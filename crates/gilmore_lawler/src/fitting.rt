@@ -40,7 +40,7 @@ pub(crate) fn products_fit(
     true
 }
 
-/// The same of one row.
+/// Likewise for one row.
 fn row_products_fit(
     row: &[i32],
     others: &[i32],

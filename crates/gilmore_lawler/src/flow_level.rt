@@ -18,7 +18,7 @@ pub(crate) struct FlowLevel {
 }
 
 impl FlowLevel {
-    /// No rows yet. No memory is taken.
+    /// No rows yet. Allocates nothing.
     pub(crate) fn new(alloc: Global) -> FlowLevel
         ensures { (I : Problem) → KeepsFlows I result }
     {

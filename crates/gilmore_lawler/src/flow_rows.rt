@@ -14,9 +14,9 @@ use qap_cost::{Instance, Matrix, Partial};
 use std::alloc::AllocError;
 use std::marker::Model;
 
-/// The rows of the flows between facilities where certain ones are placed: what the reduced matrices of all nodes that place
-/// these have in common, wherever they place them; and the rows of the distances but for the last location, which siblings have in
-/// common too.
+/// The rows of the flows between facilities where certain ones are placed: what the Gilmore-Lawler matrices of all
+/// nodes that place these have in common, wherever they place them; and the rows of the distances but for the last
+/// location, which siblings have in common too.
 #[derive(Drop)]
 pub struct FlowRows<'a> {
     ranked: &'a RankedInstance,
@@ -63,7 +63,8 @@ impl<'a> FlowRows<'a> {
         self.ranked.instance()
     }
 
-    /// The reduced matrix of a node that places these facilities, as the function `reduced` gives it for the instance.
+    /// The Gilmore-Lawler matrix of a node that places these facilities, as the function `reduced` returns it for the
+    /// instance.
     pub fn reduced(&self, workspace: &mut Workspace, node: &Partial) -> Result<Matrix, AllocError>
         requires size { self.now.instance.size ≡ node.now.size }
         requires facilities { self.now.facilities ≡ node.now.facilities }

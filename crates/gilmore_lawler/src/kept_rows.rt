@@ -38,7 +38,7 @@ impl Model for KeptRows {
 }
 
 impl KeptRows {
-    /// No rows yet of this instance. No memory is taken.
+    /// No rows yet of this instance. Allocates nothing.
     pub fn new(alloc: Global, ranked: Arc<RankedInstance>) -> KeptRows
         ensures { result ≡ arc_value ranked }
     {
@@ -57,7 +57,8 @@ impl KeptRows {
         self.ranked.instance()
     }
 
-    /// The reduced matrix of the node, as the function `reduced` gives it for the instance. It can be asked again after an error.
+    /// The Gilmore-Lawler matrix of the node, as the function `reduced` returns it for the instance. It can be called
+    /// again after an error.
     pub fn reduced(&mut self, node: &Partial) -> Result<Matrix, AllocError>
         requires { self.old.size ≡ node.now.size }
         ensures reduced { IfOk result (IsReduced self.old node.now) }

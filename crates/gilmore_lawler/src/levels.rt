@@ -21,7 +21,7 @@ pub(crate) struct Level {
 }
 
 impl Level {
-    /// No rows yet. No memory is taken.
+    /// No rows yet. Allocates nothing.
     fn new(alloc: Global) -> Level
         ensures { (I : Problem) → KeepsRows I result }
     {
@@ -59,7 +59,7 @@ pub(crate) struct DistanceLevel {
 }
 
 impl DistanceLevel {
-    /// No rows yet. No memory is taken.
+    /// No rows yet. Allocates nothing.
     fn new(alloc: Global) -> DistanceLevel
         ensures { (I : Problem) → KeepsDistances I result }
     {
@@ -155,7 +155,7 @@ fn make_level(
 
 /// Makes the rows of the distances at each level above the node with these locations those of its ancestor there, from
 /// the lowest ancestor on whose rows are kept. Siblings that come later find those of their parent, regardless of who
-/// thought on that.
+/// evaluated it.
 fn make_ancestors(
     ranked: &RankedInstance,
     places: &[u16],

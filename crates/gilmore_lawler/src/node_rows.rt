@@ -34,7 +34,7 @@ impl<'a> Model for NodeRows<'a> {
 }
 
 impl<'a> NodeRows<'a> {
-    /// No rows yet of this instance. No memory is taken.
+    /// No rows yet of this instance. Allocates nothing.
     pub fn new(alloc: Global, ranked: &'a RankedInstance) -> NodeRows<'a>
         ensures { result ≡ ranked.now }
     {
@@ -53,7 +53,8 @@ impl<'a> NodeRows<'a> {
         self.ranked.instance()
     }
 
-    /// The reduced matrix of the node, as the function `reduced` gives it for the instance. It can be asked again after an error.
+    /// The Gilmore-Lawler matrix of the node, as the function `reduced` returns it for the instance. It can be called
+    /// again after an error.
     pub fn reduced(&mut self, node: &Partial) -> Result<Matrix, AllocError>
         requires { self.old.size ≡ node.now.size }
         ensures reduced { IfOk result (IsReduced self.old node.now) }

@@ -17,7 +17,7 @@ pub struct Ranked {
     pub column: u16,
 }
 
-/// The rows of that matrix one after another, each in order of its entries: flows ascend, distances descend.
+/// The rows of that matrix in sequence, each in order of its entries: flows ascend, distances descend.
 pub fn ranked_rows(
     alloc: Global,
     instance: &Instance,
@@ -127,7 +127,7 @@ pub fn pick_others(
     place
 }
 
-/// Whether an entry stands in a free column other than this one.
+/// Whether an entry is in a free column other than this one.
 fn is_other(entry: &Ranked, is_free: &[bool], own: u16) -> bool
     requires { entry.now.column < length is_free.now }
     ensures { result ≡ is_other is_free.now own entry.now }

@@ -24,7 +24,8 @@ use std::alloc::{AllocError, Global};
 use std::marker::Model;
 use std::mem::replace;
 
-/// The reduced matrix of the node: a row for each free facility and a column for each free location, both ascending.
+/// The Gilmore-Lawler matrix of the node: a row for each free facility and a column for each free location, both
+/// ascending.
 ///
 /// An entry is the least that its facility can cost at its location with itself, with the placed facilities, and with
 /// the other free facilities, however these are put on the other free locations (Gilmore 1962; Lawler 1963).
@@ -37,7 +38,7 @@ pub fn reduced(alloc: Global, instance: &Instance, node: &Partial) -> Result<Mat
     RankedInstance::new(alloc, instance)?.reduced(&mut Workspace::new(alloc), node)
 }
 
-/// An instance with the rows of its matrices in order, which all its reduced matrices are made from.
+/// An instance with the rows of its matrices in order, which all its Gilmore-Lawler matrices are made from.
 #[derive(Drop)]
 pub struct RankedInstance {
     instance: Instance,
@@ -76,7 +77,7 @@ impl RankedInstance {
         &self.instance
     }
 
-    /// The reduced matrix of the node, as the function `reduced` gives it for the instance.
+    /// The Gilmore-Lawler matrix of the node, as the function `reduced` returns it for the instance.
     pub fn reduced(&self, workspace: &mut Workspace, node: &Partial) -> Result<Matrix, AllocError>
         requires { self.now.size ≡ node.now.size }
         ensures reduced { IfOk result (IsReduced self.now node.now) }
@@ -223,7 +224,7 @@ impl RankedInstance {
         Ok(())
     }
 
-    /// Whether `(u, v)` fits the reduced matrix of the node, from its rows of both sides; the matrix isn't made.
+    /// Whether `(u, v)` fits the Gilmore-Lawler matrix of the node, from its rows of both sides; the matrix isn't made.
     pub(crate) fn fit_by(
         &self,
         a_rows: &[i32],
@@ -245,7 +246,8 @@ impl RankedInstance {
     }
 }
 
-/// Memory for reduced matrices, kept from one to the next. It can be used again after any answer, for any instance.
+/// Memory for Gilmore-Lawler matrices, kept from one to the next. It can be used again after any answer, for any
+/// instance.
 #[derive(Drop)]
 pub struct Workspace {
     free: Vec<u16>,
@@ -275,7 +277,7 @@ impl Workspace {
     }
 }
 
-/// The reduced matrix of the node, from its rows of both sides, in this memory.
+/// The Gilmore-Lawler matrix of the node, from its rows of both sides, in this memory.
 fn reduced_from(
     memory: Vec<i128>,
     instance: &Instance,
@@ -299,7 +301,7 @@ fn reduced_from(
     Ok(Matrix::new(n - depth, entries).unwrap())
 }
 
-/// Whether `(u, v)` fits the reduced matrix of the node, from its rows of both sides.
+/// Whether `(u, v)` fits the Gilmore-Lawler matrix of the node, from its rows of both sides.
 fn fit_from(
     instance: &Instance,
     a_rows: &[i32],

@@ -51,7 +51,7 @@ fn node(alloc: Global, n: usize, pairs: &[(u16, u16)]) -> Result<Option<Partial>
     Ok(node)
 }
 
-/// The entries of the instance's reduced matrix, where the node is of its size.
+/// The entries of the instance's Gilmore-Lawler matrix, where the node is of its size.
 fn entries_plain(
     alloc: Global,
     instance: &Instance,
@@ -78,7 +78,7 @@ fn entries_ranked(
     Ok(Some(entries_of(alloc, &matrix)?))
 }
 
-/// The entries of the reduced matrix at this node, from a workspace that has given the root's before.
+/// The entries of the Gilmore-Lawler matrix at this node, from a workspace that has given the root's before.
 fn entries_after_root(
     alloc: Global,
     instance: &Instance,
@@ -95,7 +95,7 @@ fn entries_after_root(
     }
 }
 
-/// The entries of the reduced matrix at this node, where a used workspace gives the same as none.
+/// The entries of the Gilmore-Lawler matrix at this node, where a used workspace gives the same as none.
 fn reduced_at(
     alloc: Global,
     instance: &Instance,
@@ -248,7 +248,7 @@ fn entries_in(
     Ok(entries)
 }
 
-/// The entry of facility `i` at location `k` of the reduced matrix, by its definition.
+/// The entry of facility `i` at location `k` of the Gilmore-Lawler matrix, by its definition.
 fn slow_entry(
     alloc: Global,
     (n, a, b): (usize, &[i64], &[i64]),
@@ -272,7 +272,7 @@ fn slow_entry(
     Ok(least_by_trying(alloc, &xs, &ys)?.map(|least| cost.wrapping_add(least)))
 }
 
-/// The reduced matrix of a node by its definition.
+/// The Gilmore-Lawler matrix of a node by its definition.
 fn slow_entries(
     alloc: Global,
     (n, a, b): (usize, &[i64], &[i64]),
@@ -307,7 +307,7 @@ fn mixed(alloc: Global, n: usize, seed: i64) -> Result<Vec<i64>, AllocError> {
     Ok(numbers)
 }
 
-/// Whether the reduced matrix of a mixed instance is the one that its definition gives.
+/// Whether the Gilmore-Lawler matrix of a mixed instance is the one that its definition gives.
 fn agrees(alloc: Global, n: usize, pairs: &[(u16, u16)]) -> Result<bool, AllocError> {
     let a = mixed(alloc, n, 5)?;
     let b = mixed(alloc, n, 70)?;
@@ -341,8 +341,8 @@ fn entries_by_their_definition(rt: HostRuntime) -> Result<(), Fail> {
     Ok(())
 }
 
-/// The entries of the reduced matrix at this node, from rows that are kept from node to node, where a matrix that is kept too gives the
-/// same as none.
+/// The entries of the Gilmore-Lawler matrix at this node, from rows that are kept from node to node, where a matrix
+/// that is kept too gives the same as none.
 fn entries_kept(
     alloc: Global,
     kept: &mut KeptRows,
@@ -408,7 +408,7 @@ fn chequered<T: Copy>(alloc: Global, (same, other): (T, T)) -> Result<Vec<T>, Al
     Ok(numbers)
 }
 
-/// Whether each entry of the reduced matrix at the root of the instance of these two matrices is this.
+/// Whether each entry of the Gilmore-Lawler matrix at the root of the instance of these two matrices is this.
 fn is_at_the_root(
     alloc: Global,
     a: (i64, i64),

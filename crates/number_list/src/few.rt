@@ -67,7 +67,7 @@ impl FewBytes {
         }
     }
 
-    /// These numbers and two more behind them, or `None` where there are too many or one of the two is above 255.
+    /// These numbers and two more after them, or `None` where there are too many or one of the two is above 255.
     pub(crate) fn with_two(&self, first: u16, second: u16) -> Option<FewBytes>
         ensures { IfSome result (λ few. few ≡ self.now ++ first ∷ second ∷ []) }
     {

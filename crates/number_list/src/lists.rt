@@ -133,7 +133,7 @@ fn narrow_by_turns(alloc: Global, first: &[u16], second: &[u16]) -> Result<Vec<i
     Ok(numbers)
 }
 
-/// The numbers and two more behind them.
+/// The numbers and two more after them.
 fn narrow_with_two(
     alloc: Global,
     numbers: &[i32],

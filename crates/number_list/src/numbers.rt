@@ -97,7 +97,7 @@ fn compare_bytes(numbers: &[u8], other: &[u8]) -> Ordering
     numbers.cmp(other)
 }
 
-/// How the two lists stand to each other, number by number.
+/// How the two lists compare, number by number.
 fn compare_each(numbers: &Numbers<'_>, other: &Numbers<'_>) -> Ordering
     ensures { result ≡ slice_cmp int_cmp (numbers_in numbers.now) (numbers_in other.now) }
 {

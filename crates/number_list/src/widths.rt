@@ -53,7 +53,7 @@ impl Width for i32 {
     }
 }
 
-/// Puts the numbers at the front of the room, in its width; answers whether each fits.
+/// Puts the numbers at the beginning of the room, in its width; answers whether each fits.
 pub(crate) fn fill<W: Width>(room: &mut [W], numbers: &[i128]) -> bool
     requires { length numbers.now ≤ length room.old }
     ensures filled { IsTrue result → map W.value (take (length numbers.now) room.new) ≡ numbers.now }

@@ -36,11 +36,11 @@ pub fn file_id<R: Files>(rt: &R, name: &str) -> Option<FileId> {
 #[derive(Drop)]
 pub struct Output<F: Write + OpenFile + Drop> {
     pub(crate) target: String,
-    /// What is no regular file, opened.
+    /// What is not a regular file, opened.
     pub(crate) device: Option<F>,
     /// The permissions of the file that is replaced, if there is one.
     pub(crate) permissions: Option<Permissions>,
-    /// What stood in the place when the output was opened.
+    /// What was in the place when the output was opened.
     pub(crate) earlier: Option<FileId>,
 }
 
@@ -104,7 +104,7 @@ fn replace_whole<R: Files + AllocGlobal>(
     placed
 }
 
-/// Whether the same file stood in both places.
+/// Whether the same file was in both places.
 fn were_same(left: Option<FileId>, right: Option<FileId>) -> bool
     ensures { IsTrue result ↔ IsSameFile left right }
 {

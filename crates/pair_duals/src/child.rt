@@ -37,7 +37,7 @@ pub struct Shared<N: Number> {
 }
 
 impl<N: Number> Shared<N> {
-    /// Of no columns. No memory is taken.
+    /// Of no columns. Allocates nothing.
     pub fn empty(alloc: Global) -> Shared<N> {
         Shared {
             there: Vec::new(alloc),

@@ -16,7 +16,7 @@ pub fn write<N: Number>(entries: &mut [N], m: usize, r: usize, c: usize, entry: 
     entries[at] = entry;
 }
 
-/// Where row `r`, column `c` stands.
+/// The position of row `r`, column `c`.
 fn place(m: usize, r: usize, c: usize) -> usize
     requires small { m ≤ 256 }
     requires row { r < m }

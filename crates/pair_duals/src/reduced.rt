@@ -43,7 +43,7 @@ impl<N: Number> Model for Reduced<N> {
 }
 
 impl<N: Number> Reduced<N> {
-    /// The form with no rows, which has room for none. No memory is taken.
+    /// The form with no rows, which has room for none. Allocates nothing.
     pub fn empty(alloc: Global) -> Reduced<N>
         ensures { result ≡ empty_form }
     {

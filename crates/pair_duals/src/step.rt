@@ -175,7 +175,7 @@ fn is_symmetric(instance: &Instance, numbers: Numbers) -> bool
     true
 }
 
-/// The same for row `i`.
+/// Likewise for row `i`.
 fn is_symmetric_row(instance: &Instance, numbers: Numbers, i: usize) -> bool
     requires { i < instance.now.size }
     ensures { result ≡ is_row_mirrored (number_at instance.now numbers) instance.now.size i }

@@ -312,7 +312,7 @@ fn line_by_zeros<N: Number>(
     Ok(())
 }
 
-/// A row of the form, by turns the first and the last, and the column of the location that the permutation gives it.
+/// A row of the form, alternately the first and the last, and the column of the location that the permutation gives it.
 fn next_of<N: Number>(form: &Reduced<N>, permutation: &Perm) -> Option<(usize, usize)> {
     let last = form.free().checked_sub(1)?;
     let row = if last % 2 == 0 { last } else { 0 };

@@ -82,8 +82,8 @@ impl Ground {
         &self.instance
     }
 
-    /// Splits an open node under pair duals of its own and tries its children; those that are left open stand for it at the cost of
-    /// the incumbent.
+    /// Splits an open node under pair duals of its own and tries its children; those that remain open cover it at the
+    /// cost of the incumbent.
     pub(crate) fn split<S: Stop>(
         &self,
         alloc: Global,

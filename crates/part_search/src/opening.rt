@@ -47,7 +47,7 @@ pub(crate) fn opening_space(
     Ok(space)
 }
 
-/// Puts a tuple out to stay forever.
+/// Puts a tuple out permanently.
 fn put_forever(space: &mut TxnSpace, tuple: Tuple) -> Result<(), AllocError>
     requires { space.old.space.last < most }
     ensures { OnOk result (space.new ≡ with_space space.old (put space.old.space tuple Forever)) }

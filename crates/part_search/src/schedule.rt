@@ -71,7 +71,7 @@ pub fn play<S: Stop>(
     follow::<Brand, S>(alloc, task, space, blank, workers, steps)
 }
 
-/// The same, on a space that stands at the opening, under a law that is the search's.
+/// The same, on a space that is at the opening, under a law that is the search's.
 fn follow<L: Law, S: Stop>(
     alloc: Global,
     task: &Task<'_, S>,
@@ -100,7 +100,7 @@ fn follow<L: Law, S: Stop>(
     Ok(room.into_space())
 }
 
-/// Where one worker stands, with the share of all who stood there. It is seen as the instance.
+/// Where one worker is, with the share of all who was there. It is seen as the instance.
 #[derive(Drop)]
 struct Post<L: Law> {
     worker: Worker,
@@ -135,7 +135,7 @@ impl<L: Law> Post<L> {
         turn_of(&mut self.worker, &mut self.share, room, stop)
     }
 
-    /// Puts a worker in the place of the one who stands there, who is lost with its transaction.
+    /// Puts a worker in the place of the one who is there, who is lost with its transaction.
     fn put(&mut self, worker: Worker)
         requires { worker ≡ self.old }
         ensures { self.new ≡ self.old }

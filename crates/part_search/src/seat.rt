@@ -162,8 +162,8 @@ impl<L: Law> Steps<L> for Seat<L> {
     }
 }
 
-/// Commits what was tried or gives it up, and then, unless the space is closed, takes an open node; tells whether there was none. The
-/// error says how the worker ends.
+/// Commits what was tried or gives it up, and then, unless the space is closed, takes an open node; returns whether
+/// there was none. The error says how the worker ends.
 fn go_on<L: Law, M: Room<L>>(
     room: &mut M,
     worker: &mut Worker,

@@ -4,7 +4,7 @@ use space_txn::Txn;
 use std::alloc::AllocError;
 use tuple_space::EntryId;
 
-/// Where a worker stands in its turn.
+/// The stage of a worker's turn.
 #[derive(Drop)]
 pub(crate) enum Stage {
     /// It has no transaction.

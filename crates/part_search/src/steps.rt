@@ -196,7 +196,7 @@ fn keep_better(incumbent: &mut Incumbent, found: Incumbent)
     }
 }
 
-/// Commits the transaction. Where that is refused for another reason than want of memory, the node is given up.
+/// Commits the transaction. Where that is refused for another reason than out of memory, the node is given up.
 pub(crate) fn commit<L: Law, M: Room<L>>(
     room: &mut M,
     share: &mut Share<L>,
@@ -242,7 +242,7 @@ fn went_on(stage: Stage) -> Outcome
     }
 }
 
-/// A step that met this refusal: without memory the worker stands where it stood, and else it begins again.
+/// A step that met this refusal: without memory the worker is where it was, and else it begins again.
 fn refused(error: TxnError, stage: Stage) -> Outcome
     ensures { (I : Problem) (c : ℤ) → IsStage I c stage → IsStage I c result.stage }
 {

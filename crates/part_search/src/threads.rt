@@ -89,7 +89,7 @@ where
     search::<Brand, R, S>(rt, alloc, task, space, blank, crew)
 }
 
-/// The same, on a space that stands at the opening, under a law that is the search's.
+/// The same, on a space that is at the opening, under a law that is the search's.
 fn search<L, R, S>(
     rt: &R,
     alloc: Global,
@@ -188,7 +188,7 @@ fn work<R: Wait + time::Clock, L: Law>(place: &Workplace<'_, R, L>, seat: &Mutex
     place.shared.leave(place.rt);
 }
 
-/// Moves the moment on by the clock until the space is closed, by itself or since the watch says so.
+/// Advances the moment by the clock until the space is closed, by itself or since the watch says so.
 fn keep<R: Wait + time::Clock, L: Law, S: Watch>(place: &Workplace<'_, R, L>, watch: &S) {
     let since = Instant::now(place.rt).ok();
     for _ in place.rt.forever() {

@@ -56,7 +56,7 @@ fn open_at(alloc: Global, n: usize, txn: &Txn, id: EntryId) -> Result<Option<Ope
     }
 }
 
-/// Writes the tuples of the open nodes under the transaction, each to stay forever.
+/// Writes the tuples of the open nodes under the transaction, each permanently.
 fn write_all(alloc: Global, txn: &mut Txn, opens: &[Open]) -> Result<(), AllocError>
     ensures marks { txn.new.marks ≡ txn.old.marks }
     ensures added { OnOk result (added_of txn.new.writes ≡ added_of txn.old.writes ++ map node_tuple (map open_of opens.now)) }
@@ -68,7 +68,7 @@ fn write_all(alloc: Global, txn: &mut Txn, opens: &[Open]) -> Result<(), AllocEr
     Ok(())
 }
 
-/// Writes a tuple under the transaction, to stay forever.
+/// Writes a tuple under the transaction, permanently.
 pub(crate) fn write_one(txn: &mut Txn, tuple: Tuple) -> Result<(), AllocError>
     ensures marks { txn.new.marks ≡ txn.old.marks }
     ensures added { OnOk result (added_of txn.new.writes ≡ added_of txn.old.writes ++ tuple ∷ []) }

@@ -144,7 +144,7 @@ impl Worker {
     }
 }
 
-/// Where a worker stands after it has tried the node that it took, and whether there was memory.
+/// The stage of a worker after it has tried the node that it took, and whether there was memory.
 fn tried<S: Stop>(
     alloc: Global,
     ground: &Ground,
@@ -169,7 +169,7 @@ fn tried<S: Stop>(
     }
 }
 
-/// Makes the next step of a worker that stands there. A node that was taken and not tried is given up.
+/// Makes the next step of a worker that is there. A node that was taken and not tried is given up.
 fn turn<L: Law, M: Room<L>>(
     alloc: Global,
     ground: &Ground,
@@ -195,7 +195,7 @@ fn turn<L: Law, M: Room<L>>(
     }
 }
 
-/// Where a worker stands that gives up its node.
+/// The stage of a worker that gives up its node.
 fn given_up(stage: Stage) -> Stage
     ensures { (I : Problem) (c : ℤ) → IsStage I c result }
 {

@@ -77,7 +77,7 @@ pub(crate) fn dearest_text(
     Ok(text)
 }
 
-/// The lines that say where each department stands, and which places stay empty.
+/// The lines that say where each department is, and which places stay empty.
 pub(crate) fn places_text(
     alloc: Global,
     problem: &NamedProblem,

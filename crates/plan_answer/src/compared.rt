@@ -66,7 +66,7 @@ fn costs_text(
     Ok(text)
 }
 
-/// Puts both costs behind a text, and how much less the second is.
+/// Appends both costs to the text, and how much less the second is.
 fn push_costs(text: &mut Vec<u8>, today: &[u8], best: &[u8], less: &[u8]) -> Result<(), AllocError>
     ensures { OnOk result (text.new.items ≡ text.old.items ++ costs_of today.now best.now less.now) }
 {
@@ -77,7 +77,7 @@ fn push_costs(text: &mut Vec<u8>, today: &[u8], best: &[u8], less: &[u8]) -> Res
     Ok(())
 }
 
-/// Puts what is proved of the best behind a text.
+/// Appends what is proved of the best to the text.
 fn push_proved(
     text: &mut Vec<u8>,
     is_open: bool,
@@ -157,7 +157,7 @@ fn tenths_of(less: u128, whole: u128) -> u128
     less * 1000 / whole
 }
 
-/// How many departments stand at different places.
+/// How many departments are at different places.
 fn moved_count(departments: &[String], today: &[u16], best: &[u16]) -> usize
     requires today { length departments.now ≤ length today.now }
     requires best { length departments.now ≤ length best.now }
@@ -185,7 +185,7 @@ fn count_line(alloc: Global, moved: usize, all: usize) -> Result<String, AllocEr
     format!(in alloc; "; {moved} of {all} move\n")
 }
 
-/// Puts a line for each department that moves behind a text.
+/// Appends a line for each department that moves to the text.
 fn push_moves(
     text: &mut Vec<u8>,
     departments: &[String],
@@ -207,7 +207,7 @@ fn push_moves(
     Ok(())
 }
 
-/// Puts the line of a department that moves between these places behind a text; nothing where they are the same.
+/// Appends the line of a department that moves between these places to the text; nothing where they are the same.
 fn push_move_between(
     text: &mut Vec<u8>,
     department: &str,
@@ -225,7 +225,7 @@ fn push_move_between(
     push_move(text, department, places[from].as_str(), places[to].as_str())
 }
 
-/// Puts the line of a department that moves behind a text.
+/// Appends the line of a department that moves to the text.
 fn push_move(text: &mut Vec<u8>, department: &str, from: &str, to: &str) -> Result<(), AllocError>
     ensures { OnOk result (text.new.items ≡ text.old.items ++ move_line department.now from.now to.now) }
 {

@@ -30,7 +30,7 @@ pub fn layout_text(
     Ok(text)
 }
 
-/// Puts a line for each department with its place behind a text.
+/// Appends a line for each department with its place to the text.
 fn push_lines(
     text: &mut Vec<u8>,
     departments: &[String],
@@ -48,7 +48,7 @@ fn push_lines(
     Ok(())
 }
 
-/// Puts the line of a department and its place behind a text.
+/// Appends the line of a department and its place to the text.
 fn push_line(text: &mut Vec<u8>, department: &str, place: &str) -> Result<(), AllocError>
     ensures { OnOk result (text.new.items ≡ text.old.items ++ csv_line department.now place.now) }
 {
@@ -59,7 +59,7 @@ fn push_line(text: &mut Vec<u8>, department: &str, place: &str) -> Result<(), Al
     Ok(())
 }
 
-/// Puts a name behind a text, in quotes where it needs them.
+/// Appends a name to the text, in quotes where it needs them.
 fn push_field(text: &mut Vec<u8>, name: &[u8]) -> Result<(), AllocError>
     ensures { OnOk result (text.new.items ≡ text.old.items ++ csv_field name.now) }
 {
@@ -87,7 +87,7 @@ fn is_special(byte: u8) -> bool
     byte == b'"' || byte == b',' || byte == b';'
 }
 
-/// Puts bytes behind a text, each quote twice.
+/// Appends bytes to the text, each quote twice.
 fn push_doubled(text: &mut Vec<u8>, name: &[u8]) -> Result<(), AllocError>
     ensures { OnOk result (text.new.items ≡ text.old.items ++ doubled name.now) }
 {

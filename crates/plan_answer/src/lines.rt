@@ -6,7 +6,7 @@ ghost use Rattle.plan_answer.specs.Lines.{empty_line, empty_lines, kept_text, op
 
 use std::alloc::{AllocError, Global};
 
-/// Puts a line for each department and its place at the end of the text.
+/// Appends a line for each department and its place to the text.
 pub fn push_departments(
     alloc: Global,
     text: &mut Vec<u8>,
@@ -41,7 +41,7 @@ pub fn push_empty_places(
     Ok(())
 }
 
-/// Puts the line of a place at the end of the text, unless it is taken.
+/// Appends the line of a place to the text, unless it is taken.
 fn push_if_empty(
     alloc: Global,
     text: &mut Vec<u8>,
@@ -128,7 +128,7 @@ pub fn push_verdict(
     }
 }
 
-/// Puts the part of the verdict behind the cost at the end of the text, where the cost isn't shown to be least.
+/// Appends the part of the verdict after the cost to the text, where the cost isn't shown to be least.
 fn push_open(
     text: &mut Vec<u8>,
     cost: &[u8],

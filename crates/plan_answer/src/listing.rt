@@ -25,7 +25,7 @@ pub fn pairs_text(
     Ok(text)
 }
 
-/// What stands above the lines, where there are any.
+/// What is above the lines, where there are any.
 fn heading(pairs: &[Pair]) -> &'static [u8]
     ensures { result.now ≡ heading pairs.now }
 {
@@ -51,7 +51,7 @@ fn pair_lines(alloc: Global, problem: &NamedProblem, pairs: &[Pair]) -> Result<V
     Ok(text)
 }
 
-/// Puts the line of a pair at the end of the text.
+/// Appends the line of a pair to the text.
 fn push_pair(text: &mut Vec<u8>, from: &str, to: &str, cost: &[u8]) -> Result<(), AllocError>
     ensures { OnOk result (text.new.items ≡ text.old.items ++ pair_line from.now to.now cost.now) }
 {

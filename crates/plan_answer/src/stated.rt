@@ -58,7 +58,7 @@ fn stated_line(
     Ok(text)
 }
 
-/// Puts what is stated of the cost at the end of the text: that it is optimal, or between which bounds the least cost lies.
+/// Appends what is stated of the cost to the text: that it is optimal, or between which bounds the least cost lies.
 fn push_stated(
     text: &mut Vec<u8>,
     is_open: bool,
@@ -80,7 +80,7 @@ fn push_stated(
     }
 }
 
-/// Puts the part behind the cost at the end of the text, where it isn't stated to be least.
+/// Appends the part after the cost to the text, where it isn't stated to be least.
 fn push_range(text: &mut Vec<u8>, cost: &[u8], bound: &[u8], kept: &[u8]) -> Result<(), AllocError>
     ensures { OnOk result (text.new.items ≡ text.old.items ++ stated_range cost.now bound.now kept.now) }
 {
@@ -91,7 +91,7 @@ fn push_range(text: &mut Vec<u8>, cost: &[u8], bound: &[u8], kept: &[u8]) -> Res
     Ok(())
 }
 
-/// Puts two bounds at the end of the text.
+/// Appends two bounds to the text.
 fn push_between(text: &mut Vec<u8>, cost: &[u8], bound: &[u8]) -> Result<(), AllocError>
     ensures { OnOk result (text.new.items ≡ text.old.items ++ between cost.now bound.now) }
 {

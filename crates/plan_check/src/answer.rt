@@ -108,7 +108,7 @@ fn kept_permutation(alloc: Global, fixed: &Partial, value: &Value) -> Result<Per
     })
 }
 
-/// The first facility that doesn't stand where it is fixed, and where that is.
+/// The first facility that is not where it is fixed, and where it should be.
 fn moved(fixed: &Partial, permutation: &Perm) -> Option<(usize, u16)>
     requires { length permutation.now ≡ fixed.now.size }
     ensures { MatchOption result

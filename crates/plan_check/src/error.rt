@@ -6,7 +6,7 @@ use thiserror::Error;
 /// Why a text is not an answer to a plan or to an instance. The items of a list are counted from 1.
 #[derive(Debug, Drop, Error)]
 pub enum AnswerError {
-    /// It is no JSON.
+    /// It is not JSON.
     #[error("line {line}, column {column}: the text is not JSON: name a file that `qapplan solve --json` wrote")]
     NoJson {
         line: usize,
@@ -27,7 +27,7 @@ pub enum AnswerError {
         number: usize,
         size: usize,
     },
-    /// A location stands twice.
+    /// A location is repeated.
     #[error("the key \"permutation[{number}]\": the location {location} occurs twice: give each facility a location of its own")]
     LocationTwice {
         number: usize,
@@ -77,7 +77,7 @@ pub enum AnswerError {
     OtherStatus {
         status: &'static str,
     },
-    /// There is no memory left.
+    /// Memory ran out.
     #[error("out of memory")]
     OutOfMemory,
 }

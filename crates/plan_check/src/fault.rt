@@ -16,7 +16,7 @@ pub enum ProofFault {
     /// Its own arrangement has another cost.
     #[error("the proof is of an arrangement that costs {cost}: name the one that `qapplan solve --proof` wrote with this answer")]
     OtherCost { cost: String },
-    /// There is no memory left.
+    /// Memory ran out.
     #[error("out of memory")]
     OutOfMemory,
 }

@@ -27,7 +27,7 @@ pub fn check_names(problem: &NamedProblem, value: &Value) -> Result<(), AnswerEr
     Ok(())
 }
 
-/// Judges the places of the departments, by their names.
+/// Checks the places of the departments, by their names.
 pub fn check_arrangement(
     alloc: Global,
     problem: &NamedProblem,
@@ -56,7 +56,7 @@ pub fn check_unnamed(value: &Value) -> Result<(), AnswerError>
     Ok(())
 }
 
-/// Judges that a key isn't there.
+/// Checks that a key isn't there.
 fn check_missing(value: &Value, key: &'static str) -> Result<(), AnswerError>
     ensures { MatchResult result (λ _. get key.now (view value.now) ≡ None) (IsNamed (view value.now) key.now) }
 {
@@ -85,7 +85,7 @@ fn places_of(
     Ok(places)
 }
 
-/// Judges the names of a key, where it is there.
+/// Checks the names of a key, where it is there.
 fn check_list(value: &Value, key: &'static str, names: &[String]) -> Result<(), AnswerError>
     ensures { MatchResult result
         (λ _. MayList (view value.now) key.now (map string_bytes names.now))
@@ -112,7 +112,7 @@ fn check_list(value: &Value, key: &'static str, names: &[String]) -> Result<(), 
     })
 }
 
-/// The first place at which another value stands than this name.
+/// The first position whose value is not this name.
 fn other_name(items: &[Value], names: &[String]) -> Option<usize>
     requires { length items.now ≡ length names.now }
     ensures { MatchOption result

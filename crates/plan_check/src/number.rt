@@ -13,7 +13,7 @@ use plan_table::{decimal_text, spelled_number};
 use serde_json::Value;
 use std::alloc::{AllocError, Global};
 
-/// Judges that this is the cost that is stated.
+/// Checks that this is the cost that is stated.
 pub fn stated_cost(
     alloc: Global,
     value: &Value,
@@ -76,7 +76,7 @@ fn status_of(bound: i128, cost: i128) -> &'static str
     if bound < cost { "bounded" } else { "optimal" }
 }
 
-/// Judges that this is the status that is stated.
+/// Checks that this is the status that is stated.
 fn check_status(value: &Value, status: &'static str) -> Result<(), AnswerError>
     ensures { MatchResult result
         (λ _. StatesText (view value.now) (codes "status") status.now)

@@ -69,7 +69,7 @@ fn locations_of(alloc: Global, numbers: &[u64], size: usize) -> Result<Vec<u16>,
     Ok(locations)
 }
 
-/// The first place at which a number stands that stands before already.
+/// The first position whose number already occurs before it.
 fn repeated(numbers: &[u64]) -> Option<usize>
     ensures { MatchOption result
         (AreApart numbers.now (length numbers.now))
@@ -83,7 +83,7 @@ fn repeated(numbers: &[u64]) -> Option<usize>
     None
 }
 
-/// The first place before this one at which the same number stands.
+/// The first earlier position with the same number.
 fn same_before(numbers: &[u64], j: usize) -> Option<usize>
     requires { j < length numbers.now }
     ensures { MatchOption result

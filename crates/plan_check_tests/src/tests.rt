@@ -18,7 +18,7 @@ const DISTANCES: &[u8] = b",A,B,C\nA,0,1.5,4\nB,2,0,3\nC,4,3,0\n";
 
 const FREE: &[u8] = b"flows = 'f'\ndistances = 'd'\n";
 
-/// The saw stays at the dearest place: the least is 2.5 * 3.
+/// The saw stays at the costliest place: the least is 2.5 * 3.
 const FIXED: &[u8] = b"flows = 'f'\ndistances = 'd'\n[fixed]\nSaw = 'C'\n";
 
 /// The least facility costs of the first department at the places are 25 * 15, 25 * 20 and 25 * 30, in tenths, and of the others nothing.

@@ -95,7 +95,7 @@ pub enum PlanError {
     /// What is fixed is not a table of departments and places.
     #[error("{0}")]
     Fixed(PinsFault),
-    /// There is no memory left.
+    /// Memory ran out.
     #[error("out of memory")]
     OutOfMemory,
 }
@@ -168,7 +168,7 @@ pub enum ProblemError {
     /// There are more departments than places.
     #[error("there are {departments} departments and {places} places: add places to their table, or take departments out of theirs")]
     TooManyDepartments { departments: usize, places: usize },
-    /// There is no memory left.
+    /// Memory ran out.
     #[error("out of memory")]
     OutOfMemory,
 }
@@ -199,7 +199,7 @@ pub enum FixingError {
     /// Another department is fixed at the place.
     #[error("the key \"fixed.{department}\": another department is fixed at \"{place}\": give each a place of its own")]
     PlaceTwice { department: String, place: String },
-    /// There is no memory left.
+    /// Memory ran out.
     #[error("out of memory")]
     OutOfMemory,
 }
@@ -242,7 +242,7 @@ pub enum TablesError {
     /// What is fixed does not match the tables.
     #[error("{0}")]
     Fixing(FixingError),
-    /// There is no memory left.
+    /// Memory ran out.
     #[error("out of memory")]
     OutOfMemory,
 }

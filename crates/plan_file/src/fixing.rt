@@ -67,7 +67,7 @@ fn place_pin(
     Ok(())
 }
 
-/// What is wrong with a name that no department has: it may be that of a key which stands behind `[fixed]`.
+/// What is wrong with a name that no department has: it may be that of a key which is after `[fixed]`.
 fn unknown_department(name: String) -> FixingError {
     if is_known(name.as_str()) {
         FixingError::KeyAmongFixed { key: name }

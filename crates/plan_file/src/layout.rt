@@ -29,7 +29,7 @@ pub enum LayoutError {
     /// A department has no line.
     #[error("the department \"{department}\" is missing: write a line with its place")]
     Missing { department: String },
-    /// There is no memory left.
+    /// Memory ran out.
     #[error("out of memory")]
     OutOfMemory,
 }

@@ -13,7 +13,7 @@ use plan_metric::Metric;
 use std::alloc::Global;
 use toml::Table;
 
-/// How many places behind the point Euclidean distances keep where a plan doesn't say.
+/// How many decimals Euclidean distances keep where a plan doesn't say.
 const DECIMALS: u32 = 2;
 
 /// Where the distances come from.
@@ -97,7 +97,7 @@ fn check_exact(table: &Table, metric: &'static str) -> Result<(), PlanError>
     }
 }
 
-/// How many places behind the point are kept.
+/// How many decimals are kept.
 fn decimals_of(table: &Table) -> Result<u32, PlanError>
     ensures decimals { IfOk result (SaysDecimals (get_member (codes "decimals") (table_view table.now))) }
     ensures refused { IfErr result (IsFaultOf (table_view table.now)) }

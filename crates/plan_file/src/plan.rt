@@ -44,7 +44,7 @@ pub fn read_plan(alloc: Global, text: &[u8]) -> Result<Plan, PlanError>
     })
 }
 
-/// What is wrong with a text that is no TOML.
+/// What is wrong with a text that is not TOML.
 fn syntax_error(alloc: Global, text: &[u8], error: &Error) -> PlanError
     ensures memory { IsMemory error.now → result ≡ WantOfMemory }
     ensures syntax { IsSyntaxError result }

@@ -45,7 +45,7 @@ fn mark_of(alloc: Global, table: &Table) -> Result<Option<DecimalMark>, PlanErro
     Err(PlanError::OtherMark { found: word })
 }
 
-/// To how many places behind the point numbers are rounded, where they are.
+/// To how many decimals numbers are rounded, where they are.
 fn round_of(table: &Table) -> Result<Option<usize>, PlanError>
     ensures round { IfOk result (SaysRound (table_view table.now)) }
     ensures refused { IfErr result (IsFaultOf (table_view table.now)) }
@@ -62,7 +62,7 @@ fn round_of(table: &Table) -> Result<Option<usize>, PlanError>
     Ok(Some(places as usize))
 }
 
-/// Whether each half of a table stands for the other.
+/// Whether each half of a table completes the other.
 fn is_symmetric(table: &Table) -> Result<bool, PlanError>
     ensures symmetric { IfOk result (SaysSymmetric (table_view table.now)) }
     ensures refused { IfErr result (IsFaultOf (table_view table.now)) }

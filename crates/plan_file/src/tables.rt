@@ -28,9 +28,9 @@ pub const MAX_PLACES: usize = 100;
 pub struct NamedProblem {
     pub departments: Vec<String>,
     pub places: Vec<String>,
-    /// A flow `f` stands for `f / 10^flow_scale`.
+    /// A flow `f` represents `f / 10^flow_scale`.
     pub flow_scale: usize,
-    /// A distance `d` stands for `d / 10^distance_scale`.
+    /// A distance `d` represents `d / 10^distance_scale`.
     pub distance_scale: usize,
     pub instance: Instance,
     /// The places' coordinates, if the distances were measured; otherwise none.
@@ -106,7 +106,7 @@ fn read_flows(
     }
 }
 
-/// The flows that were read, where their numbers have few places behind the point.
+/// The flows that were read, where their numbers have few decimals.
 fn fine_flows(read: Result<NamedMatrix, TableError>) -> Result<NamedMatrix, TablesError>
     ensures same { IfOk result (λ m. read ≡ Ok m) }
     ensures fine { IfOk result (λ m. m.scale ≤ max_places) }

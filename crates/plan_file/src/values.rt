@@ -54,7 +54,7 @@ pub fn neither_of(table: &Table, key: &'static str, other: &'static str) -> Plan
     PlanError::NeitherKey { key, other }
 }
 
-/// Whether a key stands in the table of what is fixed.
+/// Whether a key is in the table of what is fixed.
 fn is_among_fixed(table: &Table, key: &str) -> bool
     ensures { IsTrue result ↔ IsAmongFixed (table_view table.now) key.now }
 {

@@ -319,8 +319,9 @@ fn finds_the_dearest_pairs(rt: HostRuntime) -> Result<(), Fail> {
     Ok(())
 }
 
-/// Boxes of 44 by 46 pixels: each name has at most 3 letters. The places lie 30 and 40 apart, so that 16 pixels stand for 1; an eighth of the way across is
-/// left above and below, and of the way down on either side. What no XML document may have in the title is replaced.
+/// Boxes of 44 by 46 pixels: each name has at most 3 letters. The places lie 30 and 40 apart, so that 16 pixels
+/// represent 1; an eighth of the way across is left above and below, and of the way down on either side. What no XML
+/// document may have in the title is replaced.
 const PICTURE: &str =
     "<svg xmlns=\"http://www.w3.org/2000/svg\" width=\"740\" height=\"902\" viewBox=\"0 0 740 902\" font-family=\"monospace\">
 <rect width=\"740\" height=\"902\" fill=\"white\"/>

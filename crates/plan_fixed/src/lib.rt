@@ -117,7 +117,7 @@ fn place_if(sorted: &mut Partial, node: &Partial, f: usize) -> Result<(), AllocE
     }
 }
 
-/// The locations with a facility brought to one of them, by an exchange with the facility that stood there.
+/// The locations with a facility brought to one of them, by an exchange with the facility that was there.
 fn settled(mut locations: Vec<u16>, facility: usize, location: u16) -> Vec<u16>
     requires permutation { IsPerm locations.items }
     requires facility { facility < length locations.items }
@@ -134,7 +134,7 @@ fn settled(mut locations: Vec<u16>, facility: usize, location: u16) -> Vec<u16>
     locations
 }
 
-/// The first place at which a number stands.
+/// The first position of a number.
 fn find(numbers: &[u16], number: u16) -> Option<usize>
     ensures { MatchOption result
         ((i : ℕ) → i < length numbers.now → slice_index numbers.now i ≢ number)

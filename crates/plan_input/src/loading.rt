@@ -33,7 +33,7 @@ pub enum LoadError {
     /// The tables make no problem.
     #[error("{file}: {error}")]
     Tables { file: String, error: TablesError },
-    /// There is no memory left.
+    /// Memory ran out.
     #[error("out of memory")]
     OutOfMemory,
 }
@@ -86,7 +86,7 @@ pub struct Loaded {
     pub distances_encoding: Encoding,
 }
 
-/// Whether a file's name is that of a plan: it ends in `.toml`, in capital or small letters.
+/// Whether a file's name is that of a plan: it ends in `.toml`, in upper or lower case.
 pub fn is_plan(file: &str) -> bool {
     match file.len().checked_sub(SUFFIX.len()) {
         Some(front) => file.as_bytes()[front..].eq_ignore_ascii_case(SUFFIX.as_bytes()),
@@ -149,7 +149,7 @@ fn fault_of(error: &TablesError) -> Fault {
     }
 }
 
-/// The file of a name that stands in a plan: what is no absolute path is sought from the plan's folder.
+/// The file of a name that is in a plan: what is no absolute path is sought from the plan's folder.
 fn beside(alloc: Global, plan: &str, name: &str) -> Result<String, AllocError> {
     match Path::new(plan).parent() {
         Some(folder) => Ok(folder.join(alloc, name)?.into_string()),

@@ -108,7 +108,7 @@ fn distance(instance: &Instance, k: usize, l: usize) -> i64 {
     if k < n && l < n { instance.b(k, l) } else { 0 }
 }
 
-/// Puts a warning behind the notes where departments have no flow.
+/// Puts a warning after the notes where departments have no flow.
 fn push_lone(
     alloc: Global,
     notes: &mut Vec<String>,

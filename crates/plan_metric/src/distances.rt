@@ -18,7 +18,7 @@ pub enum DistanceError {
     /// The points with these numbers are more than 10^9 apart, once all distances are whole.
     #[error("points {0} and {1} lie more than 10^9 apart")]
     TooFar(usize, usize),
-    /// There is no memory left.
+    /// Memory ran out.
     #[error("out of memory")]
     OutOfMemory,
 }

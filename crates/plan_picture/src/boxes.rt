@@ -13,7 +13,7 @@ use plan_file::NamedProblem;
 use qap_cost::Perm;
 use std::alloc::{AllocError, Global};
 
-/// Puts a box for each place at the end of the text.
+/// Appends a box for each place to the text.
 pub fn push_boxes(
     alloc: Global,
     text: &mut Vec<u8>,
@@ -33,7 +33,7 @@ pub fn push_boxes(
     Ok(())
 }
 
-/// Puts the box of a place at the end of the text, with the names of its department and its own.
+/// Appends the box of a place to the text, with the names of its department and its own.
 fn push_place(
     alloc: Global,
     text: &mut Vec<u8>,
@@ -67,7 +67,7 @@ fn name_of(places: &[String], k: usize) -> &str
     places[k].as_str()
 }
 
-/// The department that stands at a place, where one does.
+/// The department that is at a place, where one does.
 fn department_at<'a>(departments: &'a [String], locations: &[u16], k: usize) -> Option<&'a str>
     requires { length departments.now ≤ length locations.now }
     ensures { option_map (λ name. name.now) result ≡ department_at (map string_bytes departments.now) locations.now k }
@@ -117,7 +117,7 @@ fn box_line(
     )
 }
 
-/// Puts the name of the department that stands around a centre at the end of the text, where there is one.
+/// Appends the name of the department that is around a centre to the text, where there is one.
 fn push_department(
     alloc: Global,
     text: &mut Vec<u8>,
@@ -139,7 +139,7 @@ fn push_department(
     }
 }
 
-/// Puts the name of the place around a centre at the end of the text.
+/// Appends the name of the place around a centre to the text.
 fn push_place_name(
     alloc: Global,
     text: &mut Vec<u8>,
@@ -159,7 +159,7 @@ fn push_place_name(
     )
 }
 
-/// Puts a name whose middle stands at a point at the end of the text, whole where the pointer rests on it.
+/// Appends a name whose middle is at a point to the text, whole where the pointer rests on it.
 fn push_name(
     alloc: Global,
     text: &mut Vec<u8>,
@@ -177,7 +177,7 @@ fn push_name(
     Ok(())
 }
 
-/// What stands before a name.
+/// What is before a name.
 fn name_head(alloc: Global, x: u32, y: u64, style: &str) -> Result<String, AllocError>
     ensures { IfOk result (λ head. string_bytes head ≡ name_head x y style.now) }
 {

@@ -18,7 +18,7 @@ pub fn escaped(alloc: Global, text: &str) -> Result<Vec<u8>, AllocError>
     Ok(all)
 }
 
-/// Puts a character at the end of the text, escaped.
+/// Appends a character to the text, escaped.
 fn push_letter(text: &mut Vec<u8>, letter: char) -> Result<(), AllocError>
     ensures { OnOk result (text.new.items ≡ text.old.items ++ escaped_char letter) }
 {
@@ -31,7 +31,7 @@ fn push_letter(text: &mut Vec<u8>, letter: char) -> Result<(), AllocError>
     }
 }
 
-/// Puts a character without a meaning of its own at the end of the text.
+/// Appends a character without a meaning of its own to the text.
 fn push_plain(text: &mut Vec<u8>, letter: char) -> Result<(), AllocError>
     ensures { OnOk result (text.new.items ≡ text.old.items ++ plain_char letter) }
 {

@@ -5,7 +5,7 @@ ghost use Rattle.std.specs.Prelude.{◌≡◌, ◌<◌, IfOk, length};
 use plan_table::Point;
 use std::alloc::{AllocError, Global};
 
-/// How far boxes stand from each other and from the picture's edge at least, in pixels.
+/// How far boxes are from each other and from the picture's edge at least, in pixels.
 const GAP: u32 = 28;
 
 /// How high the line above the boxes is.
@@ -91,7 +91,8 @@ fn frame_of(points: &[Point]) -> Option<Frame> {
     Some(frame)
 }
 
-/// By how much coordinates are magnified, times `UNIT`; `None` where the picture would become too large, or two places stand at one point.
+/// By how much coordinates are magnified, times `UNIT`; `None` where the picture would become too large, or two places
+/// are at one point.
 fn magnification(points: &[Point], frame: Frame, size: BoxSize) -> Option<u128> {
     let across = u128::from(frame.left.abs_diff(frame.right));
     let down = u128::from(frame.lower.abs_diff(frame.upper));
@@ -105,7 +106,7 @@ fn magnification(points: &[Point], frame: Frame, size: BoxSize) -> Option<u128> 
     if fits { Some(factor) } else { None }
 }
 
-/// The least factor at which the boxes of two points stand apart, across or down; `None` where the points are one.
+/// The least factor at which the boxes of two points are apart, across or down; `None` where the points are one.
 fn factor_between(p: &Point, q: &Point, size: BoxSize) -> Option<u128> {
     let across = factor_for(
         u128::from(size.width.saturating_add(GAP)),
@@ -178,7 +179,7 @@ fn steps(count: usize, length: u32) -> u32 {
     (count as u64).saturating_mul(step).min(u64::from(u32::MAX)) as u32
 }
 
-/// How many boxes stand in a row: the least number whose square is no less than the count, and at least 1.
+/// How many boxes are in a row: the least number whose square is no less than the count, and at least 1.
 fn columns_for(count: usize) -> usize
     ensures { 0 < result }
 {

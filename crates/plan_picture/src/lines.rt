@@ -27,7 +27,7 @@ struct Arrangement<'a> {
     most: u64,
 }
 
-/// Puts a line between each two departments between which something goes at the end of the text.
+/// Appends a line between each two departments between which something goes to the text.
 pub fn push_lines(
     alloc: Global,
     text: &mut Vec<u8>,
@@ -53,7 +53,7 @@ pub fn push_lines(
     Ok(())
 }
 
-/// Puts the lines between a department and those before it at the end of the text.
+/// Appends the lines between a department and those before it to the text.
 fn push_lines_of(
     alloc: Global,
     text: &mut Vec<u8>,
@@ -72,7 +72,7 @@ fn push_lines_of(
     Ok(())
 }
 
-/// Puts the line between two departments at the end of the text, where something goes between them.
+/// Appends the line between two departments to the text, where something goes between them.
 fn push_flow(
     alloc: Global,
     text: &mut Vec<u8>,
@@ -154,7 +154,7 @@ fn line(alloc: Global, from: &Centre, to: &Centre, tenths: u64) -> Result<String
     )
 }
 
-/// A coordinate halfway from `a` to `b`, moved by a quarter of what lies between `c` and `d` of the other one.
+/// A coordinate halfway from `a` to `b`, moved by a quarter of what is between `c` and `d` of the other one.
 fn bent(a: u32, b: u32, c: u32, d: u32) -> u64
     ensures { result ≡ bent a b c d }
 {

@@ -7,7 +7,7 @@ ghost use Rattle.plan_table.specs.Alike.{AreUnlike, folded};
 use crate::error::TableError;
 use std::alloc::{AllocError, Global};
 
-/// Checks that no two names differ only in capital letters and blanks.
+/// Checks that no two names differ only in case and blanks.
 pub fn check_unlike(alloc: Global, names: &[String]) -> Result<(), TableError>
     ensures { OnOk result (AreUnlike (map string_bytes names.now)) }
 {

@@ -30,9 +30,9 @@ pub enum Stand {
     Bare,
     /// In a field in quotes.
     Quoted,
-    /// Behind a quote in such a field, which ends it unless another one follows.
+    /// After a quote in such a field, which ends it unless another one follows.
     Closed,
-    /// Behind a carriage return that ends a field.
+    /// After a carriage return that ends a field.
     Returned,
 }
 
@@ -108,7 +108,7 @@ fn moved(separator: Separator, reached: Reached, byte: u8, stand: Stand) -> Reac
     }
 }
 
-/// Where the field begins that is reached with a byte: where it stands at a field's start, that is a new one.
+/// Where the field begins that is reached with a byte: where it is at a field's start, that is a new one.
 fn place_after(separator: Separator, place: Place, byte: u8, stand: Stand, line: u64) -> Place
     ensures { result ≡ place_after separator place byte stand line }
 {
@@ -139,7 +139,7 @@ fn mark_of(separator: Separator, byte: u8) -> Mark
     }
 }
 
-/// Where the text stands behind a byte more, or what is wrong with that byte.
+/// Where the text is after a byte more, or what is wrong with that byte.
 fn next_stand(stand: Stand, mark: Mark) -> Result<Stand, Misspelling>
     ensures { result ≡ next_stand stand mark }
 {
@@ -159,7 +159,7 @@ fn next_stand(stand: Stand, mark: Mark) -> Result<Stand, Misspelling>
     }
 }
 
-/// Checks that a text may end where it stands.
+/// Checks that a text may end where it is.
 fn check_end(reached: Reached) -> Result<(), CsvFault>
     ensures { result ≡ check_end reached }
 {

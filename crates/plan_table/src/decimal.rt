@@ -83,7 +83,7 @@ fn signed(negative: bool, word: &[u8]) -> Result<Decimal, NumberFault>
     })
 }
 
-/// The number that a word without a sign spells, held to one above 10^36.
+/// The number that a word without a sign spells, clamped to one above 10^36.
 pub fn parse_unsigned(word: &[u8]) -> Option<Unsigned>
     ensures { result ≡ option_map held_unsigned (unsigned_of word.now) }
 {
@@ -112,7 +112,7 @@ pub fn whole(digits: &[u8]) -> Option<Unsigned>
     }
 }
 
-/// The number that the digits before a point and those behind it spell.
+/// The number that the digits before a point and those after it spell.
 fn pointed(whole: &[u8], fraction: &[u8]) -> Option<Unsigned>
     ensures { result ≡ option_map held_unsigned (pointed_of whole.now fraction.now) }
 {

@@ -37,7 +37,7 @@ pub fn appearing_names(
     Ok(names)
 }
 
-/// Puts the name in a field of a row behind the others, unless it is one of them.
+/// Appends the name in a field of a row to the others, unless it is one of them.
 fn add_name(
     alloc: Global,
     text: &[u8],

@@ -52,7 +52,7 @@ pub fn decode(alloc: Global, bytes: Vec<u8>) -> Result<Decoded, AllocError>
     })
 }
 
-/// A text of pairs of bytes behind its byte order mark, the higher byte first or last.
+/// A text of pairs of bytes after its byte order mark, the higher byte first or last.
 fn from_utf16(alloc: Global, bytes: &[u8], is_big: bool) -> Result<String, AllocError> {
     let mut text = String::new(alloc);
     let mut high: Option<u32> = None;
@@ -85,12 +85,12 @@ fn from_utf16(alloc: Global, bytes: &[u8], is_big: bool) -> Result<String, Alloc
     Ok(text)
 }
 
-/// The number of the character beyond U+FFFF that two surrogates stand for.
+/// The number of the character beyond U+FFFF that two surrogates represent.
 fn beyond(high: u32, low: u32) -> u32 {
     0x10000_u32.wrapping_add((high & 0x3FF) << 10 | low & 0x3FF)
 }
 
-/// Puts a character behind a text; U+FFFD where there is none of that number.
+/// Appends a character to the text; U+FFFD where there is none of that number.
 fn push_code(text: &mut String, code: u32) -> Result<(), AllocError> {
     text.push(char::from_u32(code).unwrap_or('\u{FFFD}'))
 }

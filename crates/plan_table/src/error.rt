@@ -101,7 +101,7 @@ pub enum TableError {
         place: Place,
         name: String,
     },
-    /// A pair stands twice.
+    /// A pair is repeated.
     #[error("{place}: the pair from \"{from}\" to \"{to}\" occurs twice: write one line with the sum of both, or say `duplicates = \"sum\"` in the plan")]
     PairTwice {
         place: Place,
@@ -119,7 +119,7 @@ pub enum TableError {
         place: Place,
         code: u32,
     },
-    /// A name stands twice.
+    /// A name is repeated.
     #[error("{place}: the name \"{name}\" occurs twice: give each a name of its own")]
     NameTwice {
         place: Place,
@@ -141,7 +141,7 @@ pub enum TableError {
     MissingCell {
         place: Place,
     },
-    /// Names differ only in capital letters and blanks.
+    /// Names differ only in case and blanks.
     #[error("the names \"{first}\" and \"{second}\" differ only in capital letters or blanks: spell them alike, or give one another name")]
     NamesAlike {
         first: String,
@@ -212,7 +212,7 @@ pub enum TableError {
     NotText {
         line: u64,
     },
-    /// There is no memory left.
+    /// Memory ran out.
     #[error("out of memory")]
     OutOfMemory,
 }

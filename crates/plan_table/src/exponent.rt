@@ -97,7 +97,7 @@ fn push_shifted(
     }
 }
 
-/// What one to three digits stand for.
+/// What one to three digits represent.
 fn power_of(digits: &[u8]) -> usize
     requires { power_is digits.now ≡ true }
     ensures value { result ≡ magnitude_of digits.now }
@@ -106,7 +106,7 @@ fn power_of(digits: &[u8]) -> usize
     followed_by(0, digits) as usize
 }
 
-/// Puts the digits of a number times 10^power behind a text.
+/// Appends the digits of a number times 10^power to the text.
 fn push_raised(
     alloc: Global,
     text: &mut Vec<u8>,
@@ -123,7 +123,7 @@ fn push_raised(
     push_pointed(text, &digits, fraction.len())
 }
 
-/// Puts the digits of a number over 10^power behind a text.
+/// Appends the digits of a number over 10^power to the text.
 fn push_lowered(
     alloc: Global,
     text: &mut Vec<u8>,
@@ -140,7 +140,7 @@ fn push_lowered(
     push_pointed(text, &digits, fraction.len() + power)
 }
 
-/// Puts digits behind a text, with a zero before them, and a point before the last so many of them.
+/// Appends digits to the text, with a zero before them, and a point before the last of them, this many.
 fn push_pointed(text: &mut Vec<u8>, digits: &[u8], places: usize) -> Result<(), AllocError>
     ensures { OnOk result (text.new.items ≡ text.old.items ++ pointed_digits digits.now places) }
 {

@@ -54,7 +54,7 @@ fn has_words(
     Ok(one && two && three)
 }
 
-/// Whether a field is a word, in capital or small letters.
+/// Whether a field is a word, in upper or lower case.
 pub fn is_word(alloc: Global, field: &str, word: &str) -> Result<bool, AllocError>
     ensures { IfOk result (λ same. IsTrue same → map to_ascii_lowercase field.now ≡ word.now) }
 {

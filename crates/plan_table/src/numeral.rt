@@ -30,7 +30,7 @@ impl DecimalMark {
         }
     }
 
-    /// The other one's byte, which may stand between groups of digits.
+    /// The other one's byte, which may be between groups of digits.
     fn group(self) -> u8
         ensures { result ≡ group_byte self }
     {
@@ -51,11 +51,13 @@ pub struct Reading {
     pub is_square: bool,
 }
 
-/// The plain text of the number that a word spells: without marks between groups and without an exponent, with a point before the fraction.
+/// The plain text of the number that a word spells: without marks between groups and without an exponent, with a point
+/// before the fraction.
 ///
-/// A number has an optional sign, digits and optionally the mark with digits behind it; digits may lack on one side of the mark. The digits
-/// before the mark may stand in groups of three from the right, with the other mark, a blank or an apostrophe between them, unless the first
-/// of them is 0. At the end there may be an exponent: `e` or `E`, an optional sign, and one to three digits.
+/// A number has an optional sign, digits and optionally the mark with digits after it; digits may lack on one side of
+/// the mark. The digits before the mark may be in groups of three from the right, with the other mark, a blank or an
+/// apostrophe between them, unless the first of them is 0. At the end there may be an exponent: `e` or `E`, an optional
+/// sign, and one to three digits.
 fn plain_number(
     alloc: Global,
     mark: DecimalMark,
@@ -119,7 +121,7 @@ fn number_bytes(alloc: Global, word: &str) -> Result<Vec<u8>, AllocError>
     word.chars().map(|c| byte_for(c)).collect(alloc)
 }
 
-/// A character as a byte: each blank is an ordinary one, and 255 stands for each that no number has.
+/// A character as a byte: each blank is an ordinary one, and 255 represents each that no number has.
 fn byte_for(c: char) -> u8
     ensures { result ≡ byte_for c }
 {
@@ -186,7 +188,7 @@ fn is_sign(byte: u8) -> bool
     byte == b'+' || byte == b'-'
 }
 
-/// What stands before the first mark of a text, and what behind it.
+/// What is before the first mark of a text, and what after it.
 fn split_fraction(mark: DecimalMark, text: &[u8]) -> (&[u8], &[u8])
     ensures whole { result.0.now ≡ whole_of mark text.now }
     ensures fraction { result.1.now ≡ fraction_of mark text.now }

@@ -73,7 +73,7 @@ pub fn read_places(alloc: Global, text: &[u8], rules: Rules) -> Result<PlaceTabl
     })
 }
 
-/// Checks that no two places stand at one point.
+/// Checks that no two places are at one point.
 fn check_apart(names: &[String], points: &[Point]) -> Result<(), TableError>
     requires { length names.now ≡ length points.now }
     ensures { OnOk result (AreApart points.now) }
@@ -102,7 +102,7 @@ fn same_before(points: &[Point], k: usize) -> Option<usize>
     None
 }
 
-/// The points whose coordinates these are, one after another, x before y.
+/// The points whose coordinates these are, in sequence, x before y.
 fn points_of(alloc: Global, coordinates: &[i64], count: usize) -> Result<Vec<Point>, AllocError>
     requires many { length coordinates.now ≡ count * 2 }
     requires few { count ≤ 256 }

@@ -37,7 +37,7 @@ pub fn read_records(alloc: Global, text: &[u8]) -> Result<Vec<StringRecord>, Tab
     Ok(records)
 }
 
-/// Puts a tidied record behind others, unless nothing is left of it.
+/// Appends a tidied record to others, unless nothing is left of it.
 fn push_tidied(records: &mut Vec<StringRecord>, mut row: StringRecord) -> Result<(), AllocError>
     ensures { OnOk result (map fields_of records.new.items ≡ map fields_of records.old.items ++ unless_empty (tidied_record (fields_of row))) }
 {
@@ -87,7 +87,8 @@ pub fn line_of(text: &[u8], record: &StringRecord) -> u64 {
     line_at(text, record.position())
 }
 
-/// The line of the first byte at or behind a place that ends no line. What ends the line before, and empty lines, may stand at the place.
+/// The line of the first byte at or after a place that ends no line. What ends the line before, and empty lines, may be
+/// at the place.
 fn line_at(text: &[u8], position: Option<Position>) -> u64 {
     let before = position.map_or(0, |position| position.byte());
     let mut line: u64 = 1;

@@ -44,7 +44,7 @@ fn rounded_signed(places: usize, negative: bool, word: &[u8]) -> Result<Decimal,
     })
 }
 
-/// The number that a text without a sign spells, rounded and held to one above 10^36.
+/// The number that a text without a sign spells, rounded and clamped to one above 10^36.
 fn rounded_unsigned(word: &[u8], places: usize) -> Option<Unsigned>
     ensures { result ≡ option_map held_unsigned (option_map (rounded places) (unsigned_of word.now)) }
 {
@@ -54,7 +54,7 @@ fn rounded_unsigned(word: &[u8], places: usize) -> Option<Unsigned>
     }
 }
 
-/// The number that the digits before a point and those behind it spell, rounded.
+/// The number that the digits before a point and those after it spell, rounded.
 fn rounded_pointed(whole: &[u8], fraction: &[u8], places: usize) -> Option<Unsigned>
     ensures { result ≡ option_map held_unsigned (option_map (rounded places) (pointed_of whole.now fraction.now)) }
 {
@@ -65,7 +65,7 @@ fn rounded_pointed(whole: &[u8], fraction: &[u8], places: usize) -> Option<Unsig
     }
 }
 
-/// The number of digits before a point and behind it, rounded.
+/// The number of digits before a point and after it, rounded.
 fn rounded_digits(whole: &[u8], fraction: &[u8], places: usize) -> Unsigned
     requires { list_all digit_of fraction.now ≡ true }
     ensures { result ≡ held_unsigned (rounded places (unsigned whole.now fraction.now)) }

@@ -55,7 +55,8 @@ pub fn row_of(rows: &[StringRecord], name: &str) -> Option<usize>
     None
 }
 
-/// What is wrong with rows, where they aren't those of the names: a row has no column, a row stands twice, or a column has no row.
+/// What is wrong with rows, where they aren't those of the names: a row has no column, a row is repeated, or a column
+/// has no row.
 fn fault_of_rows(
     alloc: Global,
     text: &[u8],
@@ -99,7 +100,7 @@ fn find_fault(
     Ok(TableError::Empty)
 }
 
-/// Reads a row of a table, the row of number `i`: its numbers are put behind those that were read before.
+/// Reads a row of a table, the row of number `i`: its numbers are put after those that were read before.
 fn read_row(
     alloc: Global,
     text: &[u8],
@@ -185,7 +186,7 @@ pub fn word_in(row: &StringRecord, field: usize) -> &str
     }
 }
 
-/// What is wrong with a cell, which stands in this field of a record.
+/// What is wrong with a cell, which is in this field of a record.
 fn cell_fault(
     alloc: Global,
     text: &[u8],

@@ -23,7 +23,7 @@ pub fn least_scale(decimals: &[Decimal]) -> usize
 pub enum ScaleError {
     /// The number at this position is outside -10^9 to 10^9 once it is scaled.
     TooLarge(usize),
-    /// There is no memory left.
+    /// Memory ran out.
     OutOfMemory,
 }
 
@@ -48,7 +48,7 @@ pub fn scaled_entries(
     Ok(entries)
 }
 
-/// A number times a power of ten, where that lies from -10^9 to 10^9.
+/// A number times a power of ten, where that is from -10^9 to 10^9.
 fn scaled(decimal: &Decimal, scale: usize) -> Option<i64>
     requires { decimal.now.places ≤ scale }
     ensures { MatchOption result
@@ -58,7 +58,7 @@ fn scaled(decimal: &Decimal, scale: usize) -> Option<i64>
     shifted(decimal.number, scale - decimal.places)
 }
 
-/// A number times a power of ten, where that lies from -10^9 to 10^9.
+/// A number times a power of ten, where that is from -10^9 to 10^9.
 fn shifted(number: i64, power: usize) -> Option<i64>
     ensures { MatchOption result
         (max_entry < unsigned_abs (shifted_by number power))

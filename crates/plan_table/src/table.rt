@@ -125,7 +125,7 @@ fn numbers_of_rows(
     }
 }
 
-/// Checks that the first field of the first record is no number, as it would be in a table without names.
+/// Checks that the first field of the first record is not a number, as it would be in a table without names.
 fn check_corner(
     alloc: Global,
     text: &[u8],

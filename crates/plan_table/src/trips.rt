@@ -211,7 +211,7 @@ fn read_trip(
     })
 }
 
-/// Checks that a row has three fields at its front.
+/// Checks that a row has three fields at its beginning.
 fn check_start(text: &[u8], row: &StringRecord) -> Result<(), TableError>
     ensures { OnOk result (3 ≤ length (fields_of row.now)) }
 {
@@ -223,7 +223,7 @@ fn check_start(text: &[u8], row: &StringRecord) -> Result<(), TableError>
     })
 }
 
-/// The number of the department whose name stands in a field of a row.
+/// The number of the department whose name is in a field of a row.
 fn department_in(
     alloc: Global,
     text: &[u8],
@@ -257,7 +257,8 @@ fn decimals_of(alloc: Global, trips: &[Trip]) -> Result<Vec<Decimal>, AllocError
     trips.iter().map(|trip| trip.amount).collect(alloc)
 }
 
-/// The matrix of trips, in which each cell has the sum of the amounts that are of it; no pair stands twice, unless amounts add up.
+/// The matrix of trips, in which each cell has the sum of the amounts that are of it; no pair is repeated, unless
+/// amounts add up.
 fn place_trips(
     alloc: Global,
     text: &[u8],
@@ -289,7 +290,7 @@ fn place_trips(
     Ok(cells)
 }
 
-/// An amount more, where the sum lies from -10^9 to 10^9.
+/// An amount more, where the sum is from -10^9 to 10^9.
 fn added(before: Option<i64>, amount: i64) -> Option<i64>
     requires before { unsigned_abs (filled_with before) ≤ max_entry }
     requires amount { unsigned_abs amount ≤ max_entry }
@@ -306,14 +307,14 @@ fn added(before: Option<i64>, amount: i64) -> Option<i64>
     }
 }
 
-/// So many cells that say nothing.
+/// This many cells that say nothing.
 fn empty_cells(alloc: Global, count: usize) -> Result<Vec<Option<i64>>, AllocError>
     ensures { IfOk result (λ v. v.items ≡ replicate count None) }
 {
     vec![in alloc; None; count]
 }
 
-/// Where a trip's amount stands in the matrix.
+/// Where a trip's amount is in the matrix.
 fn cell_of(trip: &Trip, departments: usize) -> usize
     requires few { departments ≤ max_names }
     requires from { trip.now.from < departments }
@@ -324,7 +325,7 @@ fn cell_of(trip: &Trip, departments: usize) -> usize
     trip.from * departments + trip.to
 }
 
-/// The error of a row whose pair stood in an earlier one.
+/// The error of a row whose pair was in an earlier one.
 fn pair_twice(alloc: Global, text: &[u8], row: &StringRecord) -> TableError {
     let from = String::from_str(alloc, row.get(0).unwrap_or(""));
     let to = String::from_str(alloc, row.get(1).unwrap_or(""));
@@ -352,7 +353,8 @@ fn sum_too_large(alloc: Global, text: &[u8], row: &StringRecord) -> TableError {
     }
 }
 
-/// The entries of cells; one that is empty says 0, or what that of the way back says where each half stands for the other.
+/// The entries of cells; one that is empty says 0, or what that of the way back says where each half completes the
+/// other.
 fn entries_of(
     alloc: Global,
     is_symmetric: bool,

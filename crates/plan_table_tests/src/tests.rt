@@ -7,7 +7,7 @@ use plan_table::{
 use std::process::Abort;
 use std::test::Fail;
 
-/// The names with a blank behind each, the scale, and the entries.
+/// The names with a blank after each, the scale, and the entries.
 fn assert_read(
     rt: &impl Abort,
     matrix: &NamedMatrix,

@@ -30,7 +30,7 @@ pub(crate) struct Head {
     pub(crate) root: Partial,
 }
 
-/// Reads them, and the line behind them.
+/// Reads them, and the line after them.
 pub(crate) fn read_head<R: BufRead>(
     alloc: Global,
     reader: &mut R,
@@ -140,7 +140,7 @@ fn judge_permutation(alloc: Global, line: &[u8], n: usize, number: u64) -> Resul
     }
 }
 
-/// The root, which the current line states, or which is empty; then the current line is the one behind it.
+/// The root, which the current line states, or which is empty; then the current line is the one after it.
 fn read_root<R: BufRead>(
     alloc: Global,
     reader: &mut R,
@@ -183,7 +183,7 @@ fn judge_root(
     }
 }
 
-/// The bound, which the current line states, or which is the cost; then the current line is the one behind it.
+/// The bound, which the current line states, or which is the cost; then the current line is the one after it.
 fn read_bound<R: BufRead>(
     reader: &mut R,
     cursor: &mut Cursor,

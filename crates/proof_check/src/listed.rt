@@ -76,7 +76,7 @@ fn betas(alloc: Global, rows: &[Vec<i128>], m: usize) -> Result<Vec<i128>, Alloc
     Ok(list)
 }
 
-/// The number for `other` in a row, where those for all but `own` stand from `start` on; 0 for `own` itself.
+/// The number for `other` in a row, where those for all but `own` are from `start` on; 0 for `own` itself.
 fn number_at(
     rows: &[Vec<i128>],
     m: usize,

@@ -104,7 +104,7 @@ fn read_split(
     })
 }
 
-/// What stands before and behind the second blank of a line.
+/// What is before and after the second blank of a line.
 #[derive(Clone, Copy)]
 struct Heading<'a> {
     front: &'a [u8],

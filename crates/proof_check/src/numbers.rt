@@ -8,7 +8,7 @@ use qap_lines::read_numbers;
 use qap_proof::ProofError;
 use std::alloc::Global;
 
-/// The `m` numbers behind a name, each from -10^24 to 10^24.
+/// The `m` numbers after a name, each from -10^24 to 10^24.
 pub(crate) fn limited_numbers(
     alloc: Global,
     name: &[u8],

@@ -26,7 +26,8 @@ use qap_proof::{ProofError, Side};
 use std::alloc::{AllocError, Global};
 use std::io::BufRead;
 
-/// What a tree is judged by: the instance, its cost step, the bound, and the greatest multiple of the step that is below it.
+/// The parameters of a tree's check: the instance, its cost step, the bound, and the greatest multiple of the step that
+/// is below it.
 #[derive(Clone, Copy)]
 pub(crate) struct Judge<'a> {
     pub(crate) alloc: Global,
@@ -47,7 +48,7 @@ pub(crate) struct Parent<'a> {
     pub(crate) line: u64,
 }
 
-/// Judges the tree of a root, whose first line is current.
+/// Checks the tree of a root, whose first line is current.
 pub(crate) fn walk_root<R: BufRead>(
     reader: &mut R,
     judge: &Judge<'_>,
@@ -66,7 +67,7 @@ pub(crate) fn walk_root<R: BufRead>(
     }
 }
 
-/// Judges a tree below a node, whose first line is current.
+/// Checks a tree below a node, whose first line is current.
 #[cycle(walking)]
 fn walk_below<R: BufRead>(
     reader: &mut R,
@@ -92,7 +93,7 @@ fn walk_below<R: BufRead>(
     }
 }
 
-/// Judges a tree that begins with pair duals of its own.
+/// Checks a tree that begins with pair duals of its own.
 #[cycle(walking)]
 fn walk_own<R: BufRead>(
     reader: &mut R,
@@ -120,7 +121,7 @@ fn walk_own<R: BufRead>(
     walk_lined(reader, judge, node, &duals, &mut form, cursor)
 }
 
-/// Judges a tree by the pair duals in force at its root, and the form there.
+/// Checks a tree by the pair duals in force at its root, and the form there.
 #[cycle(walking)]
 fn walk_lined<R: BufRead>(
     reader: &mut R,
@@ -157,7 +158,7 @@ fn walk_lined<R: BufRead>(
     }
 }
 
-/// Judges the children of a split, whose line is current and has been drawn.
+/// Checks the children of a split, whose line is current and has been drawn.
 #[cycle(walking)]
 fn walk_split<'a, R: BufRead>(
     reader: &mut R,
@@ -202,7 +203,7 @@ fn walk_split<'a, R: BufRead>(
     walk_children(reader, judge, &parent, &split.marks, cursor)
 }
 
-/// Judges the children of a split, which have these marks.
+/// Checks the children of a split, which have these marks.
 #[cycle(walking)]
 fn walk_children<R: BufRead>(
     reader: &mut R,
@@ -231,7 +232,7 @@ fn walk_children<R: BufRead>(
     Ok(())
 }
 
-/// Judges a child, which has this mark.
+/// Checks a child, which has this mark.
 #[cycle(walking)]
 fn walk_marked<R: BufRead>(
     reader: &mut R,
@@ -257,7 +258,7 @@ fn walk_marked<R: BufRead>(
     }
 }
 
-/// Judges a child that has a text.
+/// Checks a child that has a text.
 #[cycle(walking)]
 fn walk_child<R: BufRead>(
     reader: &mut R,
@@ -381,7 +382,7 @@ fn taken(side: Side, number: u64) -> ProofError {
     }
 }
 
-/// The row and the column of the pair that a child puts together.
+/// The row and the column of the pair that a child places.
 fn cell(split: &SplitOf<'_>, child: usize) -> (usize, usize)
     ensures row { result.0 ≡ row_of split.now.side split.now.own child }
     ensures column { result.1 ≡ column_of split.now.side split.now.own child }

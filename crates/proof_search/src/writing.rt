@@ -78,7 +78,7 @@ fn write_front<W: Write>(
     write_root(alloc, writer, &mut line, proof.root())
 }
 
-/// Writes the pieces of a text, one behind the other.
+/// Writes the pieces of a text, one after the other.
 fn write_pieces<W: Write>(writer: &mut Counted<W>, pieces: &[TextRecord]) -> Result<(), WriteError>
     ensures { Writes W.contents writer.old writer.new (concat pieces.now) result }
 {

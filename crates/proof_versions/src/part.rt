@@ -17,7 +17,7 @@ pub(crate) struct PartStated {
     pub(crate) cost: i128,
 }
 
-/// What stands behind the fourth line, and the cost that the third one states.
+/// What is after the fourth line, and the cost that the third one states.
 #[derive(Clone, Copy)]
 struct Behind<'a> {
     cost: i128,

@@ -52,7 +52,7 @@ pub fn accept(alloc: Global, instance: &Instance, text: &[u8]) -> Result<Verdict
     }
 }
 
-/// Judges the tree and the last line by the grammar alone.
+/// Checks only the syntax of the tree and the last line.
 fn skim_to_end(alloc: Global, head: &Head<'_>) -> Result<(), CertError>
     requires { head.now.grammar.size ≤ 256 }
     ensures { MatchResult result
@@ -63,7 +63,7 @@ fn skim_to_end(alloc: Global, head: &Head<'_>) -> Result<(), CertError>
     read_end(behind.rest, behind.next)
 }
 
-/// Judges the tree and the last line, and reports the first bound that fails, if one does.
+/// Checks the tree and the last line, and reports the first bound that fails, if one does.
 fn judge_to_end(
     alloc: Global,
     instance: &Instance,

@@ -102,7 +102,7 @@ impl Certificate {
     }
 
     /// The same certificate with this bound. One that is above the cost or outside -10^24 to 10^24 is refused, and the
-    /// certificate comes back.
+    /// certificate is returned.
     pub fn with_bound(self, bound: i128) -> Result<Certificate, Certificate>
         ensures { MatchResult result
             (λ c. (c ≡ claim_of self.cost bound self.permutation self.tree) × IsCertificate c)

@@ -20,8 +20,8 @@ use gilmore_lawler::{FlowRows, RankedInstance, SplitRows, Workspace, dual_sum};
 use qap_cost::{Instance, Partial, Perm, cost};
 use std::alloc::{AllocError, Global};
 
-/// What a tree is judged by: the instance, and the bound that it is to show, in the units of the costs; and where the memory for
-/// that comes from.
+/// The parameters of a tree's check: the instance, and the bound that it should prove, in the units of the costs; and
+/// where the memory for that comes from.
 #[derive(Clone, Copy)]
 struct Judge<'a> {
     alloc: Global,
@@ -29,7 +29,8 @@ struct Judge<'a> {
     bound: i128,
 }
 
-/// A split whose children are judged: the node that it is of, its facility, and the locations that it has children for.
+/// A split whose children are checked: the node that it is of, its facility, and the locations that it has children
+/// for.
 #[derive(Clone, Copy)]
 pub(crate) struct Parent<'a> {
     pub(crate) node: &'a Partial,
@@ -97,7 +98,7 @@ pub(crate) fn judge_perm(instance: &Instance, perm: &Perm, stated: i128) -> Resu
     Ok(())
 }
 
-/// The line behind those of a tree that begins at this line, where it shows that no completion of the node costs less than
+/// The line after those of a tree that begins at this line, if it proves that no completion of the node costs less than
 /// the bound; and if not, the first bound that fails.
 #[cycle(check)]
 fn check_tree(
@@ -135,7 +136,7 @@ fn check_tree(
     }
 }
 
-/// The same for the children of a split, the first of which begins at this line.
+/// Likewise for the children of a split, the first of which begins at this line.
 #[cycle(check)]
 fn check_children(
     workspace: &mut Workspace,
@@ -180,7 +181,8 @@ fn child_rows<'a>(
     FlowRows::new(ranked, &child)
 }
 
-/// Whether the duals fit the reduced matrix of the node and come, with the cost of the placed facilities, to the bound.
+/// Whether the duals fit the Gilmore-Lawler matrix of the node and reach the bound, with the cost of the placed
+/// facilities.
 pub(crate) fn check_bound(
     workspace: &mut Workspace,
     rows: &FlowRows<'_>,
@@ -208,7 +210,7 @@ pub(crate) fn check_bound(
     Ok(())
 }
 
-/// The same for the child of a split at this location, whose node isn't made.
+/// Likewise for the child of a split at this location, whose node isn't made.
 pub(crate) fn check_child_bound(
     workspace: &mut Workspace,
     rows: &SplitRows<'_>,

@@ -53,7 +53,7 @@ pub enum CertError {
     /// A split does not have one child for each free location.
     #[error("line {0} splits into another number of children")]
     SplitWidth(u64),
-    /// There is no memory left.
+    /// Memory ran out.
     #[error("out of memory")]
     OutOfMemory,
     /// The writer failed.

@@ -10,5 +10,5 @@ pub(crate) const COST_LINE: u64 = 3;
 pub(crate) const PERM_LINE: u64 = 4;
 /// The line of the bound where it is below the cost, and else that of the tree's first node.
 pub(crate) const BOUND_LINE: u64 = 5;
-/// The line of the tree's first node behind that of a bound.
+/// The line of the tree's first node after that of a bound.
 pub(crate) const TREE_LINE_BEHIND_BOUND: u64 = 6;

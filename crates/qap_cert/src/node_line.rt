@@ -23,7 +23,7 @@ pub(crate) struct Grammar {
     pub(crate) size: usize,
 }
 
-/// The first line of a node, with the facility where it is that of a split, and the text behind it.
+/// The first line of a node, with the facility where it is that of a split, and the text after it.
 #[derive(Clone, Copy)]
 pub(crate) struct NodeLine<'a> {
     pub(crate) facility: Option<u16>,
@@ -31,8 +31,8 @@ pub(crate) struct NodeLine<'a> {
     pub(crate) rest: &'a [u8],
 }
 
-/// The first line of a text, which has this number and is to be that of a node where these facilities are placed. A split is
-/// judged, a bound isn't yet.
+/// The first line of a text, which has this number and must be that of a node where these facilities are placed. A
+/// split is checked, a bound isn't yet.
 pub(crate) fn node_line<'a>(
     text: &'a [u8],
     grammar: Grammar,
@@ -89,8 +89,8 @@ fn split_facility(line: &[u8], grammar: Grammar, placed: &Placed) -> Option<u16>
     }
 }
 
-/// Judges the line of a bound: `b` and a number for each free facility and each free location. The first `wanted` of the
-/// numbers are put into `first`, in place of what it was; where none is wanted, no memory is taken.
+/// Checks the line of a bound: `b` and a number for each free facility and each free location. The first `wanted` of
+/// the numbers are put into `first`, in place of what it was; where none is wanted, no memory is taken.
 pub(crate) fn bound_numbers(
     line: &[u8],
     grammar: Grammar,

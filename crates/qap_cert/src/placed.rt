@@ -49,7 +49,8 @@ impl Placed {
         self.facilities[..self.count].contains(&facility)
     }
 
-    /// These, and one more behind them. It isn't inlined: a walk that calls itself would keep what is copied here at each of its levels.
+    /// These, and one more after them. It isn't inlined: a walk that calls itself would keep what is copied here at
+    /// each of its levels.
     #[inline(never)]
     pub(crate) fn with(&self, facility: u16) -> Placed
         requires { length self.now < 256 }

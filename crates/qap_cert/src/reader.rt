@@ -25,7 +25,7 @@ use crate::version::Version;
 use qap_cost::Perm;
 use std::alloc::Global;
 
-/// What stands before the tree of a certificate, the number of the tree's first line, and the text from there on.
+/// What is before the tree of a certificate, the number of the tree's first line, and the text from there on.
 #[derive(Drop)]
 pub(crate) struct Head<'a> {
     pub(crate) grammar: Grammar,
@@ -64,7 +64,7 @@ pub fn read(alloc: Global, text: &[u8]) -> Result<Certificate, CertError>
     })
 }
 
-/// Reads what stands before the tree.
+/// Reads what is before the tree.
 pub(crate) fn read_head(alloc: Global, text: &[u8]) -> Result<Head<'_>, CertError>
     ensures { MatchResult result
         (λ h. HasHead text.now h.grammar.version h.cost h.bound h.perm h.line h.rest.now × (h.grammar.size ≡ length h.perm))

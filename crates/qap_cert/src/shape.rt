@@ -16,7 +16,7 @@ use crate::tree::Tree;
 use number_list::Numbers;
 use qap_lines::are_limited;
 
-/// The line behind those of a tree that begins at this line, in which these of `size` facilities are placed; or what is
+/// The line after those of a tree that begins at this line, in which these of `size` facilities are placed; or what is
 /// wrong with its shape.
 #[cycle(shape)]
 pub(crate) fn judge_tree(
@@ -44,7 +44,7 @@ pub(crate) fn judge_tree(
     }
 }
 
-/// The same for trees one after another.
+/// Likewise for trees in sequence.
 #[cycle(shape)]
 fn judge_trees(trees: &[Tree], size: usize, placed: &Placed, line: u64) -> Result<u64, CertError>
     requires small { size ≤ 256 }

@@ -9,15 +9,15 @@ use crate::node_line::{Grammar, bound_numbers, node_line};
 use crate::placed::Placed;
 use std::alloc::Global;
 
-/// The text behind some lines, and the number of its first line.
+/// The text after some lines, and the number of its first line.
 #[derive(Clone, Copy)]
 pub(crate) struct Behind<'a> {
     pub(crate) rest: &'a [u8],
     pub(crate) next: u64,
 }
 
-/// What is behind the lines of a tree at the front of a text, whose first line has this number, where these facilities are
-/// placed. Takes no memory.
+/// What is after the lines of a tree at the beginning of a text, whose first line has this number, where these
+/// facilities are placed. Allocates nothing.
 #[cycle(skimming)]
 pub(crate) fn skim_tree<'a>(
     alloc: Global,
@@ -45,7 +45,7 @@ pub(crate) fn skim_tree<'a>(
     skim_trees(alloc, first.rest, grammar, &inner, next, count)
 }
 
-/// The same for this many children of a split, behind which these facilities are placed.
+/// Likewise for this many children of a split, after which these facilities are placed.
 #[cycle(skimming)]
 pub(crate) fn skim_trees<'a>(
     alloc: Global,

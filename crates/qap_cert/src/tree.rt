@@ -7,6 +7,6 @@ use number_list::NumberList;
 pub enum Tree {
     /// The facility is put at each free location in turn, in ascending order.
     Split { facility: u16, children: Vec<Tree> },
-    /// The part is closed by duals of its reduced matrix.
+    /// The part is closed by duals of its Gilmore-Lawler matrix.
     Bound { u: NumberList, v: NumberList },
 }

@@ -16,7 +16,7 @@ use crate::tree::Tree;
 use number_list::NumberList;
 use std::alloc::Global;
 
-/// A tree, the text behind its lines, and the number of the line there.
+/// A tree, the text after its lines, and the number of the line there.
 #[derive(Drop)]
 pub(crate) struct TreeRead<'a> {
     pub tree: Tree,
@@ -24,7 +24,7 @@ pub(crate) struct TreeRead<'a> {
     pub next: u64,
 }
 
-/// The children of a split, the text behind their lines, and the number of the line there.
+/// The children of a split, the text after their lines, and the number of the line there.
 #[derive(Drop)]
 struct ChildrenRead<'a> {
     trees: Vec<Tree>,
@@ -39,7 +39,7 @@ pub(crate) struct Duals {
     pub(crate) v: Vec<i128>,
 }
 
-/// Reads a tree at the front of a text, whose first line has this number, where these facilities are placed.
+/// Reads a tree at the beginning of a text, whose first line has this number, where these facilities are placed.
 #[cycle(reading)]
 pub(crate) fn read_tree<'a>(
     alloc: Global,
@@ -81,7 +81,7 @@ pub(crate) fn read_tree<'a>(
     })
 }
 
-/// Reads the children of a split, behind which these facilities are placed.
+/// Reads the children of a split, after which these facilities are placed.
 #[cycle(reading)]
 fn read_children<'a>(
     alloc: Global,

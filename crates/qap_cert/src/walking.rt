@@ -16,7 +16,7 @@ use gilmore_lawler::{FlowRows, RankedInstance, SplitRows, Workspace};
 use qap_cost::Partial;
 use std::alloc::Global;
 
-/// What a tree is judged by: the grammar of its lines, the instance, and the bound that it is to show.
+/// The parameters of a tree's check: the grammar of its lines, the instance, and the bound that it should prove.
 #[derive(Clone, Copy)]
 pub(crate) struct Task<'a> {
     pub(crate) grammar: Grammar,
@@ -24,7 +24,7 @@ pub(crate) struct Task<'a> {
     pub(crate) bound: i128,
 }
 
-/// The text behind lines that were judged, the number of its first line, and the first bound among them that fails.
+/// The text after lines that were checked, the number of its first line, and the first bound among them that fails.
 #[derive(Clone, Copy)]
 pub(crate) struct Judged<'a> {
     pub(crate) rest: &'a [u8],
@@ -51,8 +51,8 @@ impl Buffers {
     }
 }
 
-/// Judges the tree at the front of a text, whose first line has this number, for a node at which these facilities are placed.
-/// Behind the first bound that fails, lines are judged by the grammar alone.
+/// Checks the tree at the beginning of a text, whose first line has this number, for a node at which these facilities
+/// are placed. After the first bound that fails, lines are checked only for syntax.
 #[cycle(walking)]
 pub(crate) fn judge_tree<'a>(
     buffers: &mut Buffers,
@@ -89,7 +89,7 @@ pub(crate) fn judge_tree<'a>(
     judge_children(buffers, task, &parent, first.rest, &inner, next)
 }
 
-/// The same for the children of a split, behind which these facilities are placed.
+/// Likewise for the children of a split, after which these facilities are placed.
 #[cycle(walking)]
 fn judge_children<'a>(
     buffers: &mut Buffers,
@@ -140,7 +140,7 @@ fn judge_children<'a>(
     })
 }
 
-/// The same for the child at this location. The node of one whose line is that of a bound isn't made.
+/// Likewise for the child at this location. The node of a child whose line is that of a bound isn't made.
 #[cycle(walking)]
 fn judge_child<'a>(
     buffers: &mut Buffers,
@@ -174,8 +174,8 @@ fn judge_child<'a>(
     judge_tree(buffers, task, &part, text, placed, line)
 }
 
-/// Judges the line of a bound, and reports what keeps its duals from closing the node, if something does. It isn't inlined, so that the
-/// walk keeps nothing of it at its levels.
+/// Checks the line of a bound, and reports the fault that keeps its duals from closing the node, if any. It isn't
+/// inlined, so that the walk keeps nothing of it at its levels.
 #[inline(never)]
 fn judge_bound(
     buffers: &mut Buffers,
@@ -204,7 +204,7 @@ fn judge_bound(
     bound_fault(&mut buffers.workspace, task, rows, node, u, v, line)
 }
 
-/// The same for the bound of the child at this location.
+/// Likewise for the bound of the child at this location.
 #[inline(never)]
 fn judge_child_bound(
     buffers: &mut Buffers,
@@ -257,7 +257,7 @@ fn bound_fault(
     }
 }
 
-/// The same for the bound of the child at this location.
+/// Likewise for the bound of the child at this location.
 fn child_bound_fault(
     workspace: &mut Workspace,
     task: &Task<'_>,

@@ -90,7 +90,7 @@ fn write_tree<W: Write>(
     }
 }
 
-/// Writes the lines of trees, one after another.
+/// Writes the lines of trees, in sequence.
 #[cycle(writing)]
 fn write_trees<W: Write>(
     writer: &mut Counted<W>,

@@ -27,7 +27,7 @@ fn assert_fault(rt: &impl Abort, alloc: Global, instance: &Instance, text: &[u8]
     assert_eq!(rt; judged(alloc, instance, text), Err(want), "{length} bytes");
 }
 
-/// Asserts that each proper beginning of the text is told to end in the line where it does.
+/// Asserts that each proper beginning of the text is reported to end in the line where it does.
 fn assert_beginnings(rt: &impl Abort, alloc: Global, instance: &Instance, text: &[u8]) {
     let mut line = 1;
     for (stop, byte) in text.iter().enumerate() {
@@ -166,7 +166,7 @@ fn written(alloc: Global, certificate: &Certificate, call: u64) -> Outcome
     }
 }
 
-/// Asserts what goes out of the certificate with this text, where each call in turn fails.
+/// Asserts what is written of the certificate with this text, where each call in turn fails.
 fn assert_writes(rt: &impl Abort, alloc: Global, certificate: &Certificate, text: &[u8]) {
     for call in 1..=text.len() + 2 {
         let written = written(alloc, certificate, call as u64);

@@ -183,7 +183,7 @@ fn splits(rt: HostRuntime) -> Result<(), Fail> {
     Ok(())
 }
 
-/// Asserts the fault that is told of a split whose first child is a bound and whose second one is this.
+/// Asserts the fault that is reported of a split whose first child is a bound and whose second one is this.
 fn assert_second(
     rt: &impl Abort,
     alloc: Global,
@@ -197,7 +197,7 @@ fn assert_second(
     Ok(())
 }
 
-/// Asserts that of a cost out of range, and not of the tree, a fault is told.
+/// Asserts that of a cost out of range, and not of the tree, a fault is reported.
 fn assert_far_costs(rt: &impl Abort, alloc: Global, two: &Instance) -> Result<(), Fail> {
     let full = single(alloc, 1, bound(alloc, &[], &[])?)?;
     let tree = pair(alloc, 0, full, bound(alloc, &[11], &[0, 0])?)?;
@@ -245,7 +245,7 @@ fn parts(rt: HostRuntime) -> Result<(), Fail> {
     Ok(())
 }
 
-/// Asserts how a fault is told: its message, its number, its name and its line.
+/// Asserts how a fault is reported: its message, its number, its name and its line.
 fn assert_refusal(
     rt: &impl Abort,
     alloc: Global,

@@ -60,7 +60,7 @@ pub(crate) fn reading_fault(alloc: Global, text: &[u8]) -> Option<CertError> {
     read(alloc, text).err()
 }
 
-/// What `write` answers, how many calls of the writer failed, and what went out.
+/// What `write` answers, how many calls of the writer failed, and what was written.
 fn written(alloc: Global, certificate: &Certificate) -> (Result<(), CertError>, u64, Vec<u8>) {
     let mut writer = Counted::new(Vec::new(alloc));
     let answer = write(alloc, &mut writer, certificate);

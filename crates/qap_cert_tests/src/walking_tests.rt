@@ -41,7 +41,7 @@ fn with_byte(alloc: Global, text: &[u8], place: usize, byte: u8) -> Result<Vec<u
     Ok(changed)
 }
 
-/// Asserts that both ways come to the same for a text.
+/// Asserts that both ways give the same result for a text.
 fn assert_both(rt: &impl Abort, alloc: Global, instance: &Instance, text: &[u8]) {
     assert_eq!(rt;
         judged(alloc, instance, text),
@@ -146,7 +146,7 @@ fn deep_head(alloc: Global, version: &str, cost: &str) -> Result<Vec<u8>, AllocE
     Ok(text)
 }
 
-/// Puts the line of the split at this depth behind a text.
+/// Appends the line of the split at this depth to the text.
 fn push_split(
     alloc: Global,
     text: &mut Vec<u8>,
@@ -161,7 +161,8 @@ fn push_split(
     text.extend_from_slice(line.as_bytes())
 }
 
-/// Puts the lines of the bounds behind a text: for each split but the last the children that are no split, the deepest first.
+/// Appends the lines of the bounds to the text: for each split but the last the children that are not a split, the
+/// deepest first.
 fn push_bounds(text: &mut Vec<u8>) -> Result<(), AllocError> {
     for depth in 1..40usize {
         for _ in 0..depth {

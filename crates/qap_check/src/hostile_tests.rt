@@ -106,7 +106,7 @@ fn failing<T>(device: T, call: usize) -> Counted<OneByte<FailAt<T>>> {
     Counted::new(OneByte::new(FailAt::new(device, call.max(1) as u64)))
 }
 
-/// What a question yields: the answer, how many calls of each reader and of the writer failed, and what went out.
+/// What a question yields: the answer, how many calls of each reader and of the writer failed, and what was written.
 #[derive(Drop)]
 struct Reply {
     answer: Result<Status, RunError>,
@@ -114,7 +114,7 @@ struct Reply {
     written: Vec<u8>,
 }
 
-/// Asks a question, and keeps what goes out in memory.
+/// Asks a question, and keeps what is written in memory.
 fn reply_of<R: Read, S: Read>(
     alloc: Global,
     question: Question,
@@ -134,7 +134,7 @@ fn reply_of<R: Read, S: Read>(
     }
 }
 
-/// Asserts that these calls failed, so that nothing went out, or that none failed and all of the answer went out.
+/// Asserts that these calls failed, so that nothing was written, or that none failed and all of the answer was written.
 fn assert_reply(rt: &impl Abort, told: &Reply, failed: [u64; 3], answer: &[u8]) {
     let (want, written) = if failed == [0, 0, 0] {
         (Ok(Status::Done), answer)
@@ -209,7 +209,7 @@ fn one_fails(alloc: Global, question: Question, text: &[u8], call: usize) -> Rep
     reply_of(alloc, question, &mut reader, &mut none)
 }
 
-/// Asserts the same of the one reader of both texts.
+/// Asserts likewise for the one reader of both texts.
 fn assert_one_fails(rt: &impl Abort, alloc: Global, worked: &Worked) -> Result<(), AllocError> {
     let mut text = Vec::from_slice(alloc, worked.first)?;
     text.extend_from_slice(worked.second)?;
@@ -243,8 +243,8 @@ fn end_of(output: Counted<OneByte<FailAt<Vec<u8>>>>) -> Ended {
     )
 }
 
-/// Asserts that a writer's call of this number failed, so that it holds what went out before, or that none failed and it holds all of
-/// the text, and was flushed.
+/// Asserts that a writer's call of this number failed, so that it holds what was written before, or that none failed
+/// and it holds all of the text, and was flushed.
 fn assert_ended(rt: &impl Abort, (failed, flushed, written): &Ended, call: usize, text: &[u8]) {
     let fails = call <= text.len() + 1;
     let length = text.len().min(call.saturating_sub(1));
@@ -275,7 +275,7 @@ fn output_fails_at(
     (answer, end_of(output))
 }
 
-/// Asserts what goes out where each call of the writer in turn fails.
+/// Asserts what is written where each call of the writer in turn fails.
 fn assert_output_fails(rt: &impl Abort, alloc: Global, worked: &Worked) {
     let calls = worked.answer.len() + 1;
     for call in 1..=calls + 1 {

@@ -31,7 +31,7 @@ pub fn read_texts<R: Read, S: Read>(
     Ok(Texts { instance, other })
 }
 
-/// What follows an instance, from its first byte or from the first one that is no separator.
+/// What follows an instance, from its first byte or from the first one that is not a separator.
 fn behind_instance(rest: &[u8], separators: Separators) -> &[u8]
     ensures { result.now ≡ between separators rest.now }
 {

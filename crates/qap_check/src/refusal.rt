@@ -22,7 +22,7 @@ pub enum RunError {
     /// The certificate is at fault.
     #[error("{0}")]
     Certificate(CertError),
-    /// There is no memory left.
+    /// Memory ran out.
     #[error("out of memory")]
     OutOfMemory,
     /// A reader or the writer failed.

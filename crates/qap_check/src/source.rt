@@ -10,7 +10,7 @@ use std::marker::Model;
 pub enum Separators {
     /// They belong to the text.
     Kept,
-    /// They are passed over.
+    /// They are ignored.
     PassedOver,
 }
 

@@ -425,7 +425,7 @@ fn refused_certificates(rt: HostRuntime) {
     }
 }
 
-/// The words of a command line, behind the program's name.
+/// The words of a command line, after the program's name.
 fn command(alloc: Global, words: &[&str]) -> Result<Vec<String>, AllocError> {
     let mut line = Vec::new(alloc);
     line.push(String::from_str(alloc, "qapcheck")?)?;
@@ -435,7 +435,7 @@ fn command(alloc: Global, words: &[&str]) -> Result<Vec<String>, AllocError> {
     Ok(line)
 }
 
-/// Asserts what the words of a command line ask for, behind the program's name.
+/// Asserts what the words of a command line ask for, after the program's name.
 fn assert_parsed(
     rt: &impl Abort,
     alloc: Global,

@@ -29,7 +29,7 @@ pub struct Valuation {
 impl Valuation {
     ghost use Rattle.qap_check.specs.Valuation.{Judges, lines_of};
 
-    /// Judges a stated value against both costs of a permutation of the instance's size.
+    /// Checks a stated value against both costs of a permutation of the instance's size.
     pub fn new(
         instance: &Instance,
         permutation: &Perm,

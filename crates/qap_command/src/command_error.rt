@@ -11,7 +11,7 @@ pub enum CommandError {
     /// It does not match the usage line.
     #[error("the command line is not as the usage line says")]
     Usage,
-    /// There is no memory left.
+    /// Memory ran out.
     #[error("out of memory")]
     OutOfMemory,
 }

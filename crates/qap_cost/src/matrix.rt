@@ -37,7 +37,7 @@ impl Matrix {
         Some(Matrix { size: m, entries })
     }
 
-    /// The matrix of size 0. No memory is taken.
+    /// The matrix of size 0. Allocates nothing.
     pub fn empty(alloc: Global) -> Matrix
         ensures { result ≡ record { size = 0; entries = [] } }
     {

@@ -30,7 +30,7 @@ impl Model for Partial {
 }
 
 impl Partial {
-    /// The node of size `n` that places no facility. No memory is taken.
+    /// The node of size `n` that places no facility. Allocates nothing.
     pub fn root(alloc: Global, n: usize) -> Result<Partial, AllocError>
         requires positive { 0 < n }
         requires small { n ≤ 256 }
@@ -157,7 +157,7 @@ impl Partial {
         })
     }
 
-    /// Puts the free facility `f` at the free location `k` too. Refused memory, the node is as it was.
+    /// Puts the free facility `f` at the free location `k` too. If memory runs out, the node is as it was.
     pub fn put(&mut self, f: u16, k: u16) -> Result<(), AllocError>
         requires facility { IsFreeFacility self.old f }
         requires location { IsFreeLocation self.old k }
@@ -239,7 +239,7 @@ fn free_numbers(alloc: Global, n: usize, taken: &[u16]) -> Result<Vec<u16>, Allo
     Ok(free)
 }
 
-/// These numbers, and one more behind them.
+/// These numbers, and one more after them.
 fn with_last(alloc: Global, numbers: &[u16], last: u16) -> Result<Vec<u16>, AllocError>
     ensures { IfOk result (λ v. v.items ≡ numbers.now ++ last ∷ []) }
 {

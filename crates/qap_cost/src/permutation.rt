@@ -110,7 +110,7 @@ fn is_permutation(locations: &[u16]) -> bool
     true
 }
 
-/// Writes to each location's place the facility that stands there.
+/// Writes to each location's place the facility that is there.
 fn inverted(locations: &[u16], mut facilities: Vec<u16>) -> Vec<u16>
     requires permutation { IsPerm locations.now }
     requires same_length { vec_len facilities ≡ length locations.now }

@@ -166,12 +166,12 @@ fn greatest_entries(rt: HostRuntime) -> Result<(), Fail> {
     Ok(())
 }
 
-/// Why the numbers are no instance; `None` where they are one.
+/// Why the numbers are not an instance; `None` where they are one.
 fn refusal(alloc: Global, n: usize, a: &[i64], b: &[i64]) -> Result<Option<CostError>, AllocError> {
     Ok(instance(alloc, n, a, b)?.err())
 }
 
-/// Why the numbers are no permutation, and the numbers that come back; `None` where they are one.
+/// Why the numbers are not a permutation, and the numbers that are returned; `None` where they are one.
 fn returned(alloc: Global, numbers: &[u16]) -> Result<Option<(CostError, Vec<u16>)>, AllocError> {
     Ok(Perm::new(Vec::from_slice(alloc, numbers)?).err())
 }

@@ -109,7 +109,7 @@ fn wide_product(x: i64, y: i64) -> i128
     i128::from(x) * i128::from(y)
 }
 
-/// The same of small entries: one instruction multiplies two pairs of numbers of 32 bits side by side.
+/// Likewise for small entries: one instruction multiplies two pairs of numbers of 32 bits side by side.
 fn small_product(x: i64, y: i64) -> i64
     requires left { unsigned_abs x ≤ 2 * 10 ^ 8 }
     requires right { unsigned_abs y ≤ 2 * 10 ^ 8 }

@@ -73,7 +73,7 @@ fn improve(instance: &Instance, arrangement: &mut Arrangement) -> bool
     gained
 }
 
-/// The same for the pairs of facility `r` and a greater one.
+/// Likewise for the pairs of facility `r` and a greater one.
 fn improve_with(instance: &Instance, arrangement: &mut Arrangement, r: usize) -> bool
     requires arrangement { IsArrangement instance.now arrangement.old }
     requires first { r < instance.now.size }

@@ -89,7 +89,7 @@ fn entry_of(instance: &Instance, locations: &[u16], kind: Content, i: usize, j: 
     }
 }
 
-/// The distance from where facility `i` stands to where `j` does.
+/// The distance from where facility `i` is to where `j` does.
 fn distance_at(instance: &Instance, locations: &[u16], i: usize, j: usize) -> i64
     requires permutation { Permutes instance.now locations.now }
     requires row { i < instance.now.size }
@@ -119,7 +119,7 @@ pub(crate) fn exchange_in(n: usize, table: &mut Vec<i32>, r: usize, s: usize)
     exchange_in_slice(n, table, r, s);
 }
 
-/// The same of a slice.
+/// Likewise for a slice.
 fn exchange_in_slice(n: usize, table: &mut [i32], r: usize, s: usize)
     requires count { length table.old ≡ n * n }
     requires first { r < n }

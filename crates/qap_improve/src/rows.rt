@@ -55,7 +55,7 @@ fn sum_of(there: &Rows, back: &Rows, are_small: bool) -> i128
     }
 }
 
-/// The same of small entries, in 64 bits.
+/// Likewise for small entries, in 64 bits.
 fn small_sum(there: &Rows, back: &Rows) -> i64
     requires few { there.now.size ≤ 256 }
     requires there { AreRowsWithin (5 * 10 ^ 7) there.now.size there.now }
@@ -71,7 +71,7 @@ fn small_sum(there: &Rows, back: &Rows) -> i64
     total
 }
 
-/// The same of any entries.
+/// Likewise for any entries.
 fn wide_sum(there: &Rows, back: &Rows) -> i128
     requires few { there.now.size ≤ 256 }
     requires there { AreRowsWithin (10 ^ 9) there.now.size there.now }

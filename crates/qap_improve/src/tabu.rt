@@ -44,7 +44,7 @@ impl Hook for Always {
     }
 }
 
-/// Where a search stands, and the best that it has come by.
+/// Where a search is, and the best that it has come by.
 #[derive(Drop)]
 struct Walk<N> {
     arrangement: Arrangement,
@@ -158,7 +158,7 @@ fn search<N: Number, H: Hook>(
     Ok(best_of(walk))
 }
 
-/// The walk that stands at its start.
+/// The walk that is at its start.
 fn begun<N: Number>(alloc: Global, instance: &Instance, start: &Perm) -> Result<Walk<N>, AllocError>
     requires instance { IsInstance instance.now }
     requires limited { HasEntriesWithin N.limit instance.now }
@@ -250,7 +250,7 @@ fn make_exchange<N: Number>(instance: &Instance, walk: &mut Walk<N>, r: usize, s
     update(instance, &walk.arrangement, &mut walk.differences, r, s);
 }
 
-/// Keeps where the walk stands if nothing as cheap is known.
+/// Keeps where the walk is if nothing as cheap is known.
 fn keep_if_best<N: Number>(walk: &mut Walk<N>)
     requires { length walk.old.best.items ≡ length walk.old.arrangement.locations.items }
     ensures walk { (I : Problem) → IsWalk N.value N.limit I walk.old → IsWalk N.value N.limit I walk.new }

@@ -6,7 +6,7 @@ ghost use Rattle.qap_io.specs.Digits.{magnitude_of, unsigned_number_of, BeginsWi
 /// The most digits whose number is made in 64 bits.
 const FEW: usize = 18;
 
-/// Digits at the front of a text: how many they are, and what they stand for.
+/// Digits at the beginning of a text: how many they are, and what they represent.
 #[derive(Clone, Copy)]
 struct FewDigits {
     count: usize,
@@ -20,7 +20,7 @@ pub struct Digits {
     pub magnitude: u128,
 }
 
-/// Up to 18 digits at the front of a text.
+/// Up to 18 digits at the beginning of a text.
 fn few_digits(text: &[u8]) -> FewDigits
     ensures digits { BeginsWithDigits text.now result.count }
     ensures value { result.magnitude ≡ magnitude_of (take result.count text.now) }

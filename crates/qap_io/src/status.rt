@@ -9,7 +9,7 @@ pub enum Status {
     Refused,
     /// The command line is invalid.
     Usage,
-    /// There is no memory left.
+    /// Memory ran out.
     OutOfMemory,
     /// It has stopped before its end.
     Unfinished,

@@ -28,8 +28,8 @@ pub fn put<W: Write>(writer: &mut Counted<W>, text: &[u8]) -> Result<(), Device>
     Ok(())
 }
 
-/// Writes texts, one after another. It stops at the first write that fails: a beginning of what the texts are together has
-/// gone out then.
+/// Writes texts, in sequence. It stops at the first write that fails: a prefix of what the texts are together has been
+/// written then.
 pub(crate) fn put_all<W: Write>(writer: &mut Counted<W>, texts: &[&[u8]]) -> Result<(), Device>
     ensures whole { OnOk result (Appends (W.contents writer.old.inner) (W.contents writer.new.inner) (concat (map (λ t. t.now) texts.now))) }
     ensures kept { OnOk result (writer.new.failures ≡ writer.old.failures) }

@@ -11,14 +11,14 @@ use qap_cost::MAX_VALUE;
 use qap_io::{Digits, MAX_READ, front_digits, negated};
 use std::alloc::AllocError;
 
-/// A number at the front of a text: how many bytes spell it, and its value, held to -10^25 to 10^25.
+/// A number at the beginning of a text: how many bytes spell it, and its value, clamped to -10^25 to 10^25.
 #[derive(Clone, Copy)]
 struct Numeral {
     count: usize,
     value: i128,
 }
 
-/// The number without a sign at the front of a text.
+/// The number without a sign at the beginning of a text.
 fn front_decimal(text: &[u8]) -> Option<Digits>
     ensures { MatchOption result (HasNoFrontDecimal text.now) (λ d. IsFrontDecimal text.now d.count d.magnitude) }
 {
@@ -37,7 +37,7 @@ fn signed(magnitude: u128) -> i128
     magnitude as i128
 }
 
-/// The number with a minus sign, behind which these are the bytes.
+/// The number with a minus sign, after which these are the bytes.
 fn front_negative(text: &[u8]) -> Option<Numeral>
     ensures { MatchOption result (HasNoFrontNumber (45 ∷ text.now)) (λ m. IsFrontNumber (45 ∷ text.now) m.count m.value) }
 {
@@ -51,7 +51,7 @@ fn front_negative(text: &[u8]) -> Option<Numeral>
     }
 }
 
-/// The number without a sign at the front of a text that doesn't begin with a minus sign.
+/// The number without a sign at the beginning of a text that doesn't begin with a minus sign.
 fn front_positive(text: &[u8]) -> Option<Numeral>
     requires { slice_index text.now 0 ≢ 45 }
     ensures { MatchOption result (HasNoFrontNumber text.now) (λ m. IsFrontNumber text.now m.count m.value) }
@@ -65,9 +65,9 @@ fn front_positive(text: &[u8]) -> Option<Numeral>
     }
 }
 
-/// The number at the front of a text.
+/// The number at the beginning of a text.
 ///
-/// It stands in the loop over a line's numbers without a call: each would go through memory with its 128 bits.
+/// It is in the loop over a line's numbers without a call: each would go through memory with its 128 bits.
 #[inline(always)]
 fn front_number(text: &[u8]) -> Option<Numeral>
     ensures { MatchOption result (HasNoFrontNumber text.now) (λ m. IsFrontNumber text.now m.count m.value) }
@@ -78,7 +78,7 @@ fn front_number(text: &[u8]) -> Option<Numeral>
     }
 }
 
-/// What follows a name at the front of a line.
+/// What follows a name at the beginning of a line.
 fn behind_name<'a>(name: &[u8], line: &'a [u8]) -> Option<&'a [u8]>
     ensures { MatchOption result ((rest : List ℕ) → line.now ≢ name.now ++ rest) (λ rest. line.now ≡ name.now ++ rest.now) }
 {

@@ -65,7 +65,7 @@ pub fn push_number(line: &mut Vec<u8>, number: i128) -> Result<(), AllocError>
     Ok(())
 }
 
-/// Puts numbers at the end of a line.
+/// Appends numbers to a line.
 pub fn push_numbers(line: &mut Vec<u8>, numbers: &Numbers<'_>) -> Result<(), AllocError>
     ensures { OnOk result (line.new.items ≡ line.old.items ++ numbers_text (numbers_in numbers.now)) }
 {
@@ -82,7 +82,7 @@ pub fn number_from_one(index: u16) -> i128
     i128::from(index) + 1
 }
 
-/// Puts numbers at the end of a line, counted from 1.
+/// Appends numbers to a line, counted from 1.
 pub fn push_from_one(line: &mut Vec<u8>, numbers: &[u16]) -> Result<(), AllocError>
     ensures { OnOk result (line.new.items ≡ line.old.items ++ numbers_text (counted_from_one numbers.now)) }
 {

@@ -46,7 +46,7 @@ pub fn cost_line(alloc: Global, cost: i128) -> Result<String, AllocError>
     format!(in alloc; "cost {cost}\n")
 }
 
-/// Puts a line for each facility at the end of the text.
+/// Appends a line for each facility to the text.
 fn push_places(alloc: Global, text: &mut Vec<u8>, locations: &[u16]) -> Result<(), AllocError>
     ensures { OnOk result (text.new.items ≡ text.old.items ++ place_lines 0 locations.now) }
 {

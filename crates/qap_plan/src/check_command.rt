@@ -14,7 +14,7 @@ pub struct CheckRequest<'a> {
     pub answer: &'a str,
     /// The file of the proof.
     pub proof: Option<&'a str>,
-    /// Whether what follows an instance is passed over.
+    /// Whether what follows an instance is skipped.
     pub passes: bool,
 }
 

@@ -30,7 +30,7 @@ fn proof_of(rt: &HostRuntime, request: &CheckRequest<'_>) -> Result<Option<Vec<u
     }
 }
 
-/// Judges an answer to a plan.
+/// Checks an answer to a plan.
 fn check_plan(rt: &HostRuntime, request: &CheckRequest<'_>, proof: Option<&[u8]>) -> ExitCode {
     let problem = match loaded_plan(rt, request.file) {
         Ok(loaded) => loaded.problem,
@@ -50,7 +50,7 @@ fn check_plan(rt: &HostRuntime, request: &CheckRequest<'_>, proof: Option<&[u8]>
     }
 }
 
-/// Judges an answer to an instance.
+/// Checks an answer to an instance.
 fn check_instance(rt: &HostRuntime, request: &CheckRequest<'_>, proof: Option<&[u8]>) -> ExitCode {
     let instance = match instance_of(rt, request.file, request.passes) {
         Ok((instance, _)) => instance,

@@ -175,7 +175,7 @@ fn solve_command<'a>(alloc: Global) -> Result<Command<'a>, AllocError> {
         .arg(ignore_rest(alloc))
 }
 
-/// The option that passes over what follows an instance.
+/// The option that skips what follows an instance.
 pub(crate) fn ignore_rest<'a>(alloc: Global) -> Arg<'a> {
     Arg::new(alloc, "ignore-rest")
         .long("ignore-rest")

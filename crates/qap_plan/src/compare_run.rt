@@ -150,7 +150,7 @@ where
     Ok(found)
 }
 
-/// What is told of the two arrangements.
+/// What is reported of the two arrangements.
 fn told(
     alloc: Global,
     problem: &NamedProblem,

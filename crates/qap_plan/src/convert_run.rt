@@ -37,8 +37,8 @@ pub fn run_convert(rt: &HostRuntime, request: &ConvertRequest<'_>) -> ExitCode {
     ExitCode::from(status.code())
 }
 
-/// Writes the names, so that no instance stands without them, and then the instance; to a device, the instance alone. Then it says how large that
-/// is.
+/// Writes the names, so that no instance is without them, and then the instance; to a device, the instance alone. Then
+/// it says how large that is.
 fn write_both(
     rt: &HostRuntime,
     outputs: &mut Outputs<'_>,
@@ -66,7 +66,7 @@ fn write_both(
     print_text(rt, line.as_bytes())
 }
 
-/// Whether something of this name is there that is no regular file.
+/// Whether something of this name is there that is not a regular file.
 fn is_device(rt: &HostRuntime, name: &str) -> bool {
     match fs::metadata(rt, name) {
         Ok(found) => !found.is_file(),

@@ -2,7 +2,7 @@
 
 ghost use Rattle.std.specs.Prelude.{◌<◌};
 
-/// The most digits behind the point.
+/// The most digits after the point.
 const MAX_DECIMALS: u32 = 3;
 
 /// The milliseconds that a text states: a decimal number of seconds, or of minutes or hours if `m` or `h` follows it
@@ -24,7 +24,7 @@ fn unit_of(text: &[u8]) -> (&[u8], u64) {
     }
 }
 
-/// The digits of a decimal number as a whole one, and how many stand behind the point.
+/// The digits of a decimal number as a whole one, and how many are after the point.
 fn decimal_of(text: &[u8]) -> Option<(u64, u32)> {
     let mut value: u64 = 0;
     let mut decimals = None;

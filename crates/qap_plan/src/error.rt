@@ -27,10 +27,10 @@ pub enum PlanError {
     /// A text gives no node.
     #[error("the node is not a list of facilities, each followed by its location, such as \"1 5 2 7\": count from 1, facilities ascending, one blank between")]
     Node,
-    /// A proof that was put together is none for the instance.
+    /// An assembled proof is not one for the instance.
     #[error("the proof is refused: {0}")]
     Proof(ProofError),
-    /// There is no memory left.
+    /// Memory ran out.
     #[error("out of memory")]
     OutOfMemory,
     /// A file could not be opened, read or written.

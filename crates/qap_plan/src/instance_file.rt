@@ -14,7 +14,7 @@ use qap_io::{Counted, Status};
 use std::fs;
 use std::process::ExitCode;
 
-/// The problem of a plan for a run: why there is none is printed on standard error, and the exit status comes back.
+/// The problem of a plan for a run: why there is none is printed on standard error, and the exit status is returned.
 pub fn loaded_plan(rt: &HostRuntime, file: &str) -> Result<Loaded, ExitCode>
     ensures { IfOk result (λ loaded. HasSizes loaded.problem) }
 {

@@ -9,7 +9,7 @@ use qap_text::{MAX_INPUT, read_all};
 use std::fs;
 use std::process::ExitCode;
 
-/// All bytes of a file for a run: why there are none is reported on standard error, and the exit status comes back.
+/// All bytes of a file for a run: why there are none is reported on standard error, and the exit status is returned.
 pub fn bytes_of(rt: &HostRuntime, file: &str) -> Result<Vec<u8>, ExitCode> {
     let Ok(opened) = fs::open(rt, file) else {
         return Err(refuse(rt, file, PlanError::Device));

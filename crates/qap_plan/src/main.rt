@@ -114,7 +114,7 @@ fn arguments(rt: &(impl Env + AllocGlobal)) -> io::Result<Vec<String>> {
     Ok(env::args(rt)?.collect(rt.alloc())?)
 }
 
-/// Tells why the command line couldn't be read.
+/// Reports why the command line could not be read.
 fn tell_unread(rt: &HostRuntime, error: &io::Error) -> ExitCode {
     if error.kind() == io::ErrorKind::OutOfMemory {
         return refuse(rt, "qapplan", PlanError::OutOfMemory);
@@ -190,7 +190,7 @@ pub(crate) fn refuse_picture(rt: &HostRuntime, file: &str) -> ExitCode {
     ExitCode::from(Status::Usage.code())
 }
 
-/// Tells that there is no table of places of an instance without names.
+/// Reports that an instance without names has no table of places.
 fn refuse_table(rt: &HostRuntime, file: &str) -> ExitCode {
     let _ = rt.eprintln(format_args!(
         "error: {file}: a table of places needs a plan, a file whose name ends in .toml: remove --csv, or write one"

@@ -20,7 +20,7 @@ const NODE_BYTES: u64 = 300;
 /// What a decided node takes for each facility of the instance, in bytes.
 const NUMBER_BYTES: u64 = 8;
 
-/// The same where the proof is put together behind the search.
+/// The same where the proof is assembled after the search.
 const PROOF_BYTES: u64 = 64;
 
 /// The options of a search.
@@ -38,9 +38,9 @@ pub struct Options {
     pub improve: u64,
     /// What the tabu search draws its random numbers from.
     pub seed: u64,
-    /// Whether what follows the instance is passed over.
+    /// Whether what follows the instance is skipped.
     pub passes: bool,
-    /// Whether the search's proof is put together.
+    /// Whether the search's proof is assembled.
     pub proves: bool,
 }
 

@@ -66,7 +66,7 @@ fn node_and_start<'a>(
     }
 }
 
-/// Solves the part from the permutation, unless its proof stands already.
+/// Solves the part from the permutation, unless its proof already exists.
 fn run_on<T>(
     system: &T,
     rt: &HostRuntime,
@@ -115,7 +115,7 @@ where
     }
 }
 
-/// What stands in the file of an earlier run; `None` where there is no such file, or it can't be read.
+/// What is in the file of an earlier run; `None` where there is no such file, or it can't be read.
 fn earlier(rt: &HostRuntime, name: &str) -> Option<Vec<u8>> {
     let found = fs::metadata(rt, name).ok()?;
     if !found.is_file() {

@@ -117,7 +117,7 @@ pub(crate) fn planned_by(found: Bounded) -> Planned
     }
 }
 
-/// The same of an answer that is a proof.
+/// Likewise for an answer that is a proof.
 pub(crate) fn proved_by(found: Proved) -> Result<Planned, AllocError>
     ensures permutation { IfOk result (λ x. x.permutation ≡ found.proof.permutation) }
     ensures cost { IfOk result (λ x. x.cost ≡ found.proof.cost) }

@@ -15,7 +15,7 @@ pub struct ShowRequest<'a> {
     pub out: Option<&'a str>,
     /// The file that a picture of the answer to a plan is written to.
     pub svg: Option<&'a str>,
-    /// Whether what follows an instance is passed over.
+    /// Whether what follows an instance is skipped.
     pub passes: bool,
 }
 

@@ -47,7 +47,7 @@ pub fn accept(alloc: Global, instance: &Instance, text: &[u8]) -> Result<Verdict
     Ok(verdict_of(&head.root, head.bound, head.cost))
 }
 
-/// What stands before the tree of a text, where that is the text of a proof which proves its bound for the instance.
+/// What is before the tree of a text, where that is the text of a proof which proves its bound for the instance.
 pub(crate) fn proved_head<'a>(
     alloc: Global,
     instance: &Instance,
@@ -81,7 +81,7 @@ pub(crate) fn perm_misfit(instance: &Instance, perm: &Perm, stated: i128) -> Opt
     None
 }
 
-/// Judges the tree and the last line, and reports the first fault of what they say, where none was reported before.
+/// Checks the tree and the last line, and reports the first semantic fault, where none was reported before.
 fn walk_to_end(
     alloc: Global,
     instance: &Instance,

@@ -14,7 +14,7 @@ use crate::error::ProofError;
 use qap_cost::MAX_VALUE;
 use qap_lines::{first_line, one_number};
 
-/// The bound, which may have a line, the number of the line behind it, and the text from there on.
+/// The bound, which may have a line, the number of the line after it, and the text from there on.
 #[derive(Clone, Copy)]
 pub(crate) struct Bounded<'a> {
     pub(crate) bound: i128,

@@ -71,8 +71,8 @@ fn check_stated(instance: &Instance, proof: &Proof) -> Result<(), ProofError>
     }
 }
 
-/// The line behind those of a tree over a root that begins at this line, where it shows that no permutation which completes the
-/// root costs less than the bound; and if not, the first fault of what its nodes say.
+/// The line after those of a tree over a root that begins at this line, if it proves that no permutation which
+/// completes the root costs less than the bound; and if not, the first semantic fault.
 fn check_root(
     rows: &mut NodeRows<'_>,
     judge: &Judge<'_>,
@@ -101,7 +101,7 @@ fn check_root(
     }
 }
 
-/// The same for the child of this number of a split.
+/// Likewise for the child of this number of a split.
 #[cycle(check)]
 fn check_child(
     rows: &mut NodeRows<'_>,
@@ -140,7 +140,7 @@ fn check_child(
     Ok(line.saturating_add(1))
 }
 
-/// The same for a split, whose own line this is.
+/// Likewise for a split, whose own line this is.
 #[cycle(check)]
 fn check_split(
     rows: &mut NodeRows<'_>,
@@ -174,7 +174,7 @@ fn check_split(
     check_children(rows, judge, &parent, children, first)
 }
 
-/// The same for the children of a split, the first of which begins at this line.
+/// Likewise for the children of a split, the first of which begins at this line.
 #[cycle(check)]
 fn check_children(
     rows: &mut NodeRows<'_>,
@@ -229,7 +229,8 @@ fn check_closed(
     }
 }
 
-/// What the duals of a split, if it has any, yield for each child, where they fit the reduced matrix of the node.
+/// What the duals of a split, if it has any, yield for each child, where they fit the Gilmore-Lawler matrix of the
+/// node.
 fn check_duals(
     rows: &mut NodeRows<'_>,
     judge: &Judge<'_>,

@@ -157,7 +157,7 @@ fn raised(leaf: &Leaf, root: &Partial, bound: i128) -> i128
     }
 }
 
-/// Whether each facility that the first node places stands in the second, at the same location.
+/// Whether each facility that the first node places is in the second, at the same location.
 fn are_among(part: &Partial, node: &Partial) -> bool
     ensures { IsTrue result ↔ AreAmong part.now node.now }
 {

@@ -71,7 +71,7 @@ pub enum ProofError {
     /// A permutation does not preserve the matrix, moves what is placed, or does not map the earlier child to this one.
     #[error("line {0}: the permutation takes no earlier child to this one")]
     NotAnImage(u64),
-    /// There is no memory left.
+    /// Memory ran out.
     #[error("out of memory")]
     OutOfMemory,
     /// The writer failed.

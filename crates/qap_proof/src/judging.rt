@@ -12,7 +12,7 @@ use gilmore_lawler::{NodeRows, dual_sum};
 use qap_cost::Partial;
 use std::alloc::AllocError;
 
-/// What keeps duals from closing a node, if something does. Its reduced matrix isn't made.
+/// The fault that keeps duals from closing a node, if any. Its Gilmore-Lawler matrix isn't made.
 pub(crate) fn closed_fault(
     rows: &mut NodeRows<'_>,
     bound: i128,

@@ -77,7 +77,7 @@ fn push_root(
     }
 }
 
-/// The same for the child of this number of a split.
+/// Likewise for the child of this number of a split.
 #[cycle(leaves)]
 fn push_child(
     rows: &mut NodeRows<'_>,
@@ -113,7 +113,7 @@ fn push_child(
     }
 }
 
-/// The same for a split.
+/// Likewise for a split.
 #[cycle(leaves)]
 fn push_split(
     rows: &mut NodeRows<'_>,
@@ -149,7 +149,7 @@ fn push_split(
     }
 }
 
-/// The same for the children of a split.
+/// Likewise for the children of a split.
 #[cycle(leaves)]
 fn push_children(
     rows: &mut NodeRows<'_>,

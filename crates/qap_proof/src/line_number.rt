@@ -10,5 +10,5 @@ pub(crate) const COST_LINE: u64 = 3;
 pub(crate) const PERM_LINE: u64 = 4;
 /// The line of the root where it isn't empty, and else that of the bound or of the tree's first node.
 pub(crate) const ROOT_LINE: u64 = 5;
-/// The line behind that of a root.
+/// The line after that of a root.
 pub(crate) const LINE_BEHIND_ROOT: u64 = 6;

@@ -244,8 +244,8 @@ pub(crate) fn judge_number(
     }
 }
 
-/// The earlier child and the permutation of a mirrored child's line: `m` and n + 1 numbers, counted from 1; `None` where the line
-/// is none such.
+/// The earlier child and the permutation of a symmetric child's line: `m` and n + 1 numbers, counted from 1; `None`
+/// where the line is none such.
 fn mirrored_line(
     alloc: Global,
     line: &[u8],

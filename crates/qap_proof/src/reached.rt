@@ -64,7 +64,7 @@ fn own_place(node: &Partial, side: Side, number: u16) -> Result<usize, AllocErro
     }
 }
 
-/// Where the number stands in a list that has it.
+/// Where the number is in a list that has it.
 fn place_of(free: &[u16], number: u16) -> usize
     requires { (i : ℕ) × (i < length free.now) × (slice_index free.now i ≡ number) }
     ensures { IsPlaceOf free.now number result }
@@ -77,7 +77,8 @@ fn place_of(free: &[u16], number: u16) -> usize
     unreachable!()
 }
 
-/// The row and the column of the pair that a child of this number puts together, where `own` is the place of what the split is on.
+/// The row and the column of the pair that a child of this number places, where `own` is the place of what the split is
+/// on.
 fn cell(side: Side, own: usize, child: usize) -> (usize, usize)
     ensures { IsCell side own child result.0 result.1 }
 {

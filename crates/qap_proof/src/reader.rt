@@ -18,7 +18,7 @@ use crate::tree_reader::read_tree;
 use qap_cost::{Partial, Perm};
 use std::alloc::Global;
 
-/// What stands before the tree of a proof, the number of the tree's first line, and the text from there on.
+/// What is before the tree of a proof, the number of the tree's first line, and the text from there on.
 #[derive(Drop)]
 pub(crate) struct Head<'a> {
     pub(crate) cost: i128,
@@ -61,7 +61,7 @@ fn read_to_end(alloc: Global, head: &Head<'_>) -> Result<Tree, ProofError>
     Ok(read.tree)
 }
 
-/// Reads what stands before the tree.
+/// Reads what is before the tree.
 pub(crate) fn read_head(alloc: Global, text: &[u8]) -> Result<Head<'_>, ProofError>
     ensures { MatchResult result
         (λ h. HasHead text.now h.root h.cost h.bound h.perm h.line h.rest.now)

@@ -71,7 +71,7 @@ fn graft(tree: &mut Tree, left: &mut usize, finer: &mut Option<Tree>) {
     }
 }
 
-/// The same for the children of a split.
+/// Likewise for the children of a split.
 #[cycle(grafting)]
 fn graft_children(children: &mut [Tree], left: &mut usize, finer: &mut Option<Tree>) {
     for i in 0..children.len() {
@@ -79,7 +79,7 @@ fn graft_children(children: &mut [Tree], left: &mut usize, finer: &mut Option<Tr
     }
 }
 
-/// The same for a leaf.
+/// Likewise for a leaf.
 fn graft_leaf(leaf: &mut Tree, left: &mut usize, finer: &mut Option<Tree>) {
     if *left > 0 {
         *left -= 1;

@@ -16,7 +16,7 @@ use qap_io::from_one;
 use qap_lines::{first_line, read_numbers};
 use std::alloc::{AllocError, Global};
 
-/// The root, which may have a line, the number of the line behind it, and the text from there on.
+/// The root, which may have a line, the number of the line after it, and the text from there on.
 #[derive(Drop)]
 pub(crate) struct Rooted<'a> {
     pub(crate) root: Partial,
@@ -125,7 +125,7 @@ fn root_from_one(alloc: Global, values: &[i128], n: usize) -> Result<Option<Part
     Ok(Some(root))
 }
 
-/// The facility and the location that this turn gives, if they may be placed then: the facility comes behind those
+/// The facility and the location that this turn gives, if they may be placed then: the facility comes after those
 /// placed, and the location is free.
 fn next_pair(root: &Partial, values: &[i128], turn: usize) -> Option<(u16, u16)>
     requires inside { 2 * turn + 1 < length values.now }

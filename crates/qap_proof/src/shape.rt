@@ -18,7 +18,7 @@ use crate::tree::{KeptDuals, Tree};
 use qap_cost::{Partial, Perm};
 use qap_lines::are_limited;
 
-/// The line behind those of a tree that begins at this line, before which its split has this many earlier children, and
+/// The line after those of a tree that begins at this line, before which its split has this many earlier children, and
 /// which has duals or hasn't; or the first fault of the tree's shape.
 #[cycle(shape)]
 pub(crate) fn judge_tree(
@@ -47,7 +47,7 @@ pub(crate) fn judge_tree(
     Ok(line.saturating_add(1))
 }
 
-/// The same for the children of a split, the first of which begins at this line.
+/// Likewise for the children of a split, the first of which begins at this line.
 #[cycle(shape)]
 fn judge_children(
     children: &[Tree],

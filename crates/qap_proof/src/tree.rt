@@ -8,7 +8,7 @@ use number_list::NumberList;
 use qap_cost::Perm;
 use std::alloc::{AllocError, Global};
 
-/// Duals of a node's reduced matrix: one for each free facility and one for each free location, both ascending.
+/// Duals of a node's Gilmore-Lawler matrix: one for each free facility and one for each free location, both ascending.
 #[derive(Drop)]
 pub struct Duals {
     pub u: Vec<i128>,
@@ -49,7 +49,7 @@ impl KeptDuals {
 /// locations and children are counted from 0.
 #[derive(Drop)]
 pub enum Tree {
-    /// The part is closed by duals of its reduced matrix.
+    /// The part is closed by duals of its Gilmore-Lawler matrix.
     Closed {
         duals: KeptDuals,
     },

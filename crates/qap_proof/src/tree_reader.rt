@@ -15,7 +15,7 @@ use crate::tree::Tree;
 use qap_cost::{Partial, Perm};
 use std::alloc::Global;
 
-/// A tree that was read, the text behind its lines, and the number of the next line.
+/// A tree that was read, the text after its lines, and the number of the next line.
 #[derive(Drop)]
 pub(crate) struct TreeRead<'a> {
     pub(crate) tree: Tree,
@@ -23,7 +23,7 @@ pub(crate) struct TreeRead<'a> {
     pub(crate) next: u64,
 }
 
-/// The children of a split that were read, the text behind their lines, and the number of the next line.
+/// The children of a split that were read, the text after their lines, and the number of the next line.
 #[derive(Drop)]
 struct ChildrenRead<'a> {
     trees: Vec<Tree>,
@@ -31,8 +31,8 @@ struct ChildrenRead<'a> {
     next: u64,
 }
 
-/// Reads the tree of a node at the front of a text, whose first line has this number, before which its split has this
-/// many earlier children, and which has duals or hasn't.
+/// Reads the tree of a node at the beginning of a text, whose first line has this number, before which its split has
+/// this many earlier children, and which has duals or hasn't.
 #[cycle(reading)]
 pub(crate) fn read_tree<'a>(
     alloc: Global,
@@ -79,7 +79,7 @@ fn mirrored_tree(earlier: u16, image: Perm) -> Tree
     Tree::Mirrored { earlier, image }
 }
 
-/// Reads the children of a split, the first of which is at the front of the text and begins at this line.
+/// Reads the children of a split, the first of which is at the beginning of the text and begins at this line.
 #[cycle(reading)]
 fn read_split<'a>(
     alloc: Global,

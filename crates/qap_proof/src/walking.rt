@@ -24,8 +24,8 @@ use gilmore_lawler::{NodeRows, fits};
 use qap_cost::{Instance, Partial, Perm};
 use std::alloc::{AllocError, Global};
 
-/// What a tree is judged by: the instance, and the bound that it is to show, in the units of the costs; and where the memory for
-/// that comes from.
+/// The parameters of a tree's check: the instance, and the bound that it should prove, in the units of the costs; and
+/// where the memory for that comes from.
 #[derive(Clone, Copy)]
 pub(crate) struct Judge<'a> {
     pub(crate) alloc: Global,
@@ -43,7 +43,7 @@ pub(crate) struct Parent<'a> {
     pub(crate) values: &'a [i128],
 }
 
-/// The text behind lines that were walked along, the number of its first line, and the first fault of what those before it say.
+/// The text after lines that were walked along, the number of its first line, and the first semantic fault.
 #[derive(Clone, Copy)]
 pub(crate) struct Walked<'a> {
     pub(crate) rest: &'a [u8],
@@ -59,8 +59,8 @@ pub(crate) struct JudgedSplit {
     pub(crate) fault: Option<ProofError>,
 }
 
-/// Judges the tree at the front of a text, whose first line has this number, for a root. Where a fault was reported
-/// before, and behind the first fault of what the lines say, they are judged by how they are spelled alone.
+/// Checks the tree at the beginning of a text, whose first line has this number, for a root. Where a fault was reported
+/// before, and after the first semantic fault, only their syntax is checked.
 pub(crate) fn walk_root<'a>(
     rows: &mut NodeRows<'_>,
     judge: &Judge<'_>,
@@ -89,7 +89,7 @@ pub(crate) fn walk_root<'a>(
     }
 }
 
-/// The same for the child of this number of a split, behind the lines that were walked along.
+/// Likewise for the child of this number of a split, after the lines that were walked along.
 #[cycle(walking)]
 fn walk_child<'a>(
     rows: &mut NodeRows<'_>,
@@ -136,7 +136,7 @@ fn walk_child<'a>(
     }
 }
 
-/// Judges a split, whose line has this number, and its children, the first of which is at the front of the text.
+/// Checks a split, whose line has this number, and its children, the first of which is at the beginning of the text.
 #[cycle(walking)]
 fn walk_split<'a>(
     rows: &mut NodeRows<'_>,
@@ -168,7 +168,7 @@ fn walk_split<'a>(
     walk_children(rows, judge, &parent, text, next, judged.fault)
 }
 
-/// Judges the children of a split, the first of which is at the front of the text and begins at this line.
+/// Checks the children of a split, the first of which is at the beginning of the text and begins at this line.
 #[cycle(walking)]
 fn walk_children<'a>(
     rows: &mut NodeRows<'_>,
@@ -278,7 +278,7 @@ pub(crate) fn judge_split(
     }
 }
 
-/// The first fault to report where a child that is cut follows what was reported before, if there is one.
+/// The first fault to report where a child that is pruned follows what was reported before, if there is one.
 pub(crate) fn judge_cut(
     judge: &Judge<'_>,
     parent: &Parent<'_>,
@@ -298,7 +298,7 @@ pub(crate) fn judge_cut(
     }
 }
 
-/// The first fault to report where a mirrored child follows what was reported before, if there is one.
+/// The first fault to report where a symmetric child follows what was reported before, if there is one.
 pub(crate) fn judge_mirrored(
     judge: &Judge<'_>,
     parent: &Parent<'_>,

@@ -23,7 +23,7 @@ use qap_lines::{
 use std::alloc::{AllocError, Global};
 use std::io::Write;
 
-/// Puts facilities and locations at the end of a line alternately, counted from 1.
+/// Appends facilities and locations to a line alternately, counted from 1.
 pub(crate) fn push_by_turns(
     line: &mut Vec<u8>,
     facilities: &[u16],
@@ -39,7 +39,7 @@ pub(crate) fn push_by_turns(
     Ok(())
 }
 
-/// Puts the duals of a split at the end of a line, if it has any.
+/// Appends the duals of a split to a line, if it has any.
 fn push_duals(line: &mut Vec<u8>, duals: &Option<KeptDuals>) -> Result<(), AllocError>
     ensures { OnOk result (line.new.items ≡ line.old.items ++ numbers_text (numbers_of_duals (may_pair_of duals.now))) }
 {
@@ -72,7 +72,7 @@ fn make_split(line: &mut Vec<u8>, split: &SplitLine) -> Result<(), AllocError>
     Ok(())
 }
 
-/// The line of a mirrored child.
+/// The line of a symmetric child.
 fn make_mirrored(line: &mut Vec<u8>, earlier: u16, image: &Perm) -> Result<(), AllocError>
     ensures { OnOk result (line.new.items ≡ tree_text (mirrored earlier image.now)) }
 {
@@ -161,7 +161,7 @@ fn write_split<W: Write>(
     write_text(writer, line)
 }
 
-/// Writes the line of a mirrored child.
+/// Writes the line of a symmetric child.
 fn write_mirrored<W: Write>(
     writer: &mut Counted<W>,
     line: &mut Vec<u8>,
@@ -194,7 +194,7 @@ fn write_tree<W: Write>(
     }
 }
 
-/// Writes the lines of trees, one after another.
+/// Writes the lines of trees, in sequence.
 #[cycle(writing)]
 fn write_trees<W: Write>(
     writer: &mut Counted<W>,

@@ -33,7 +33,7 @@ fn perm_of(
     Ok(Some(perm))
 }
 
-/// Whether each facility that the node places stands at its place there.
+/// Whether each facility that the node places is at its place there.
 fn completes(locations: &[u16], node: &Partial) -> bool {
     let places = node.places();
     for (t, facility) in node.facilities().iter().enumerate() {

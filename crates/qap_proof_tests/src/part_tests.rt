@@ -69,7 +69,7 @@ fn missing_parts_come_hardest_first(rt: HostRuntime) -> Result<(), Fail> {
     Ok(())
 }
 
-/// What the first proof shows once the second one's tree stands in the place of the leaf of this number.
+/// What the first proof shows once the second one's tree is in the place of the leaf of this number.
 fn taken_further(alloc: Global, instance: &Instance, leaf: usize) -> Result<Verdict, ProofError> {
     let proof = read(alloc, SECOND_SHORT)?;
     let part = read(alloc, SECOND_PART)?;

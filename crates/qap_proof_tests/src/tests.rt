@@ -7,14 +7,14 @@ use std::alloc::{AllocError, Global};
 use std::process::Abort;
 use std::test::Fail;
 
-/// What stands before the tree where two facilities at their own locations cost 11.
+/// What is before the tree where two facilities at their own locations cost 11.
 pub(crate) const TWO_HEAD: &[u8] = b"qapproof 1\nn 2\ncost 11\nperm 1 2\n";
 
-/// The same for three that cost 21.
+/// Likewise for three that cost 21.
 pub(crate) const THREE_HEAD: &[u8] = b"qapproof 1\nn 3\ncost 21\nperm 1 2 3\n";
 
-/// A split on a location whose first child is closed, whose second one is the image of that, and whose third one is cut, over three
-/// facilities with equal flows: each row of the reduced matrix of the whole is 3 7 11.
+/// A split on a location whose first child is closed, whose second one is the symmetric image of that, and whose third
+/// one is pruned, over three facilities with equal flows: each row of the Gilmore-Lawler matrix of the whole is 3 7 11.
 pub(crate) const ALL_FORMS: &[u8] =
     b"qapproof 1\nn 3\ncost 21\nperm 1 2 3\nt 1 0 0 0 3 7 11\nb 0 0 8 13\nm 1 2 1 3\nc\nend\n";
 
@@ -26,24 +26,24 @@ fn instance(alloc: Global, n: usize, a: &[i64], b: &[i64]) -> Result<Option<Inst
     Ok(Instance::new(n, Vec::from_slice(alloc, a)?, Vec::from_slice(alloc, b)?).ok())
 }
 
-/// Two facilities, whose permutations cost 11 and 17. The reduced matrix of the whole is 6 15 by 2 5.
+/// Two facilities, whose permutations cost 11 and 17. The Gilmore-Lawler matrix of the whole is 6 15 by 2 5.
 pub(crate) fn two(alloc: Global) -> Result<Option<Instance>, AllocError> {
     instance(alloc, 2, &[0, 3, 1, 0], &[0, 2, 5, 0])
 }
 
-/// Three facilities at locations that are all as far apart: each permutation costs 21, and each permutation of the locations keeps the
-/// distances.
+/// Three facilities at locations that are all as far apart: each permutation costs 21, and each permutation of the
+/// locations preserves the distances.
 pub(crate) fn even(alloc: Global) -> Result<Option<Instance>, AllocError> {
     instance(alloc, 3, &OTHERS, &ONES)
 }
 
-/// The same with the matrices exchanged: each permutation of the facilities keeps the flows, and none but one that of the locations the
-/// distances.
+/// The same with the matrices exchanged: each permutation of the facilities preserves the flows, and none but one that
+/// of the locations the distances.
 pub(crate) fn level(alloc: Global) -> Result<Option<Instance>, AllocError> {
     instance(alloc, 3, &ONES, &OTHERS)
 }
 
-/// The two parts of a text, one behind the other.
+/// The two parts of a text, one after the other.
 fn joined(alloc: Global, head: &[u8], tail: &[u8]) -> Result<Vec<u8>, AllocError> {
     let mut text = Vec::from_slice(alloc, head)?;
     text.extend_from_slice(tail)?;
@@ -67,7 +67,7 @@ fn without_verdict(answer: Result<Verdict, ProofError>) -> Result<(), ProofError
     }
 }
 
-/// Asserts what `accept` says of a text in two parts, and that the proof in memory is judged alike.
+/// Asserts what `accept` says of a text in two parts, and that the proof in memory is checked alike.
 pub(crate) fn assert_judged(
     rt: &impl Abort,
     alloc: Global,
@@ -142,7 +142,7 @@ fn images(rt: HostRuntime) -> Result<(), Fail> {
     Ok(())
 }
 
-/// The number of the line that a beginning of a text ends in.
+/// The number of the line that a prefix of a text ends in.
 fn last_line(text: &[u8]) -> u64 {
     let mut line: u64 = 1;
     for byte in text {

@@ -23,11 +23,11 @@ use tuple_match::Tuple;
 /// The flows and the distances of three facilities.
 pub(crate) type Matrices = ([i64; 9], [i64; 9]);
 
-/// The order 0 1 2 costs 24, and none costs less. The root's reduced matrix has the rows 9 7 4, 11 8 5 and 16 13 7, whose least
-/// assignment takes 9, 8 and 7, so that the root closes at once.
+/// The order 0 1 2 costs 24, and none costs less. The root's Gilmore-Lawler matrix has the rows 9 7 4, 11 8 5 and 16 13
+/// 7, whose least assignment takes 9, 8 and 7, so that the root closes at once.
 pub(crate) const FIRST: Matrices = ([0, 1, 2, 1, 0, 3, 2, 3, 0], [0, 5, 2, 5, 0, 1, 2, 1, 0]);
 
-/// Each order costs 1, and the root's reduced matrix holds zeros alone.
+/// Each order costs 1, and the root's Gilmore-Lawler matrix holds zeros alone.
 pub(crate) const SECOND: Matrices = ([0, 1, 0, 0, 0, 1, 1, 0, 0], [0, 1, 0, 1, 0, 0, 0, 0, 0]);
 
 /// The instance of these matrices.

@@ -30,7 +30,7 @@ const CLOSING: [Made; 4] = [
     (Kind::Commit, true),
 ];
 
-/// One turn of a worker: the thought, where one is due, and a step.
+/// One turn of a worker: the evaluation, where one is due, and a step.
 pub(crate) fn turn<L: Law, M: Room<L>>(
     hand: &mut Hand,
     room: &mut M,

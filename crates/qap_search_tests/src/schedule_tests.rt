@@ -109,12 +109,12 @@ fn assembled(alloc: Global, n: usize, space: TxnSpace) -> Result<Certificate, Fa
     Ok(assemble(alloc, n, tuples_of(space)?)?)
 }
 
-/// Why these tuples of a search of three facilities are no certificate.
+/// Why these tuples of a search of three facilities are not a certificate.
 fn refusal(alloc: Global, tuples: Vec<Tuple>) -> Option<AssembleError> {
     assemble(alloc, 3, tuples).err()
 }
 
-/// The tuples that a worker leaves behind after these steps.
+/// The tuples that a worker leaves after these steps.
 fn left_behind(alloc: Global, steps: &[Step]) -> Result<Vec<Tuple>, Fail> {
     let instance = three(alloc, &SECOND)?;
     tuples_of(run_of(alloc, &instance, 1, steps)?.space)
@@ -279,15 +279,15 @@ fn left_by_formula(alloc: Global, instance: &Instance, first: u32) -> Result<Txn
     }
 }
 
-/// The cost and the bound that stand at the end of a run by the formula.
+/// The cost and the bound that are at the end of a run by the formula.
 fn end_by_formula(alloc: Global, instance: &Instance, first: u32) -> Result<(i128, i128), Fail> {
     let space = left_by_formula(alloc, instance, first)?;
     let certificate = assembled(alloc, instance.size(), space)?;
     told(alloc, instance, &certificate)
 }
 
-/// Fifty schedules by the formula on an instance: at the end of each no node is open, and what stands is a certificate of the
-/// least cost.
+/// Fifty schedules by the formula on an instance: at the end of each no node is open, and what remains is a certificate
+/// of the least cost.
 fn fifty_schedules(alloc: Global, instance: &Instance) -> Result<(), Fail>
     requires { instance.now.size ≤ 6 }
 {

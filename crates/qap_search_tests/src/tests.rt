@@ -176,7 +176,7 @@ static REFUSED: [(Row, AssembleError); 13] = [
     ),
 ];
 
-/// Why these tuples are no certificate.
+/// Why these tuples are not a certificate.
 fn refusal(alloc: Global, row: Row) -> Result<Option<AssembleError>, Fail> {
     Ok(assemble(alloc, 3, tuples(alloc, row)?).err())
 }
@@ -283,7 +283,7 @@ fn other_tuples_are_no_stopped_search(rt: HostRuntime) -> Result<(), Fail> {
     Ok(())
 }
 
-/// What is worked out about a node.
+/// What is computed about a node.
 fn thought_of(alloc: Global, instance: &Instance, node: &Partial) -> Result<Thought, AllocError>
     requires { instance.now.size ≡ node.now.size }
     ensures { IfOk result (IsOn node.now) }
@@ -292,7 +292,7 @@ fn thought_of(alloc: Global, instance: &Instance, node: &Partial) -> Result<Thou
     Thought::new(alloc, instance, node, &matrix)
 }
 
-/// Asserts what is worked out of the root, and how many tuples are written of it.
+/// Asserts what is computed of the root, and how many tuples are written of it.
 fn assert_decided(
     rt: &impl Abort,
     alloc: Global,

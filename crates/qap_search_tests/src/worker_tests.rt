@@ -22,7 +22,7 @@ const LEASE_MS: u64 = 1000;
 /// How many turns a wait may take.
 const TURNS: u64 = 10_000_000;
 
-/// A clock that stands.
+/// A stopped clock.
 struct Stopped;
 
 impl Clock for Stopped {
@@ -212,7 +212,7 @@ fn gate_late(rt: HostRuntime) -> Result<(), Fail> {
     Ok(())
 }
 
-/// The second thought waits until the third one has begun.
+/// The second evaluation waits until the third one has begun.
 #[derive(Drop)]
 struct Thinking {
     begun: AtomicU64,

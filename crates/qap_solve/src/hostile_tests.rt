@@ -39,7 +39,8 @@ fn failing<D>(device: D, call: usize) -> Counted<OneByte<FailAt<D>>> {
     Counted::new(OneByte::new(FailAt::new(device, call.max(1) as u64)))
 }
 
-/// What a search is answered whose reader fails so, how many calls of the reader and of the writer failed, and what went out.
+/// What a search is answered whose reader fails so, how many calls of the reader and of the writer failed, and what was
+/// written.
 fn read_fails<T>(
     system: &T,
     alloc: Global,
@@ -94,8 +95,8 @@ fn end_of(output: Counted<OneByte<FailAt<Vec<u8>>>>) -> Ended {
     (failed, flushed, written)
 }
 
-/// Asserts that a writer's call of this number failed, so that it holds what went out before, or that none failed, and that it holds all
-/// of the text and was flushed then.
+/// Asserts that a writer's call of this number failed, so that it holds what was written before, or that none failed,
+/// and that it holds all of the text and was flushed then.
 fn assert_ended(rt: &impl Abort, (failed, flushed, written): &Ended, call: usize, text: &[u8]) {
     let fails = call <= text.len() + 1;
     let length = text.len().min(call.saturating_sub(1));

@@ -24,7 +24,7 @@ pub enum RunError {
     /// The search was stopped at its node limit, and its result has been written.
     #[error("the limit of nodes is reached")]
     Stopped,
-    /// There is no memory left.
+    /// Memory ran out.
     #[error("out of memory")]
     OutOfMemory,
     /// The reader or the writer failed.

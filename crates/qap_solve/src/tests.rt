@@ -36,7 +36,7 @@ pub(crate) struct Outcome {
     status: u8,
 }
 
-/// A clock that stands.
+/// A stopped clock.
 struct Stopped;
 
 impl Clock for Stopped {
@@ -61,7 +61,7 @@ pub(crate) const PROVING: Options = Options {
     cert: true,
 };
 
-/// What `solve_stream` answers to a clock that stands and a gate that always passes.
+/// What `solve_stream` answers with a stopped clock and a gate that always passes.
 pub(crate) fn solved<T, R, W>(
     system: &T,
     alloc: Global,
@@ -221,7 +221,7 @@ where
     run(system, alloc, EVEN, &options)
 }
 
-/// How many lines there are, the empty one behind the last line feed among them.
+/// How many lines there are, the empty one after the last line feed among them.
 fn count_lines(text: &[u8]) -> usize {
     text.split(|byte| *byte == b'\n').count()
 }

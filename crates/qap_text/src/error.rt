@@ -37,7 +37,7 @@ pub enum TextError {
     /// The input is longer than was allowed.
     #[error("the input is too long")]
     InputTooLong,
-    /// There is no memory left.
+    /// Memory ran out.
     #[error("out of memory")]
     OutOfMemory,
     /// The reader or the writer failed.

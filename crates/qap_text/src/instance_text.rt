@@ -29,7 +29,7 @@ pub fn read_instance(alloc: Global, text: &[u8]) -> Result<(Instance, &[u8]), Te
     }
 }
 
-/// The size, and the place behind it.
+/// The size, and the position after it.
 fn read_size(text: &[u8]) -> Result<(usize, usize), TextError>
     ensures { MatchResult result
         (λ r. (0 < r.0) × (r.0 ≤ 256) × (start : ℕ) × IsNumberAt text.now 0 start r.1 (pos r.0))
@@ -47,7 +47,7 @@ fn read_size(text: &[u8]) -> Result<(usize, usize), TextError>
     Ok((numeral.value as usize, numeral.stop))
 }
 
-/// The next entry from a place on, and the place behind it.
+/// The next entry from a place on, and the position after it.
 fn read_entry(text: &[u8], from: usize) -> Result<(i64, usize), TextError>
     requires { from ≤ length text.now }
     ensures { MatchResult result
@@ -63,7 +63,7 @@ fn read_entry(text: &[u8], from: usize) -> Result<(i64, usize), TextError>
     Ok((numeral.value as i64, numeral.stop))
 }
 
-/// So many entries from a place on, and the place behind them.
+/// This many entries from a place on, and the position after them.
 fn read_entries(
     alloc: Global,
     text: &[u8],

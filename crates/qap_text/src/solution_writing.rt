@@ -46,14 +46,14 @@ fn made_text(alloc: Global, value: i128, locations: &[u16]) -> Result<Vec<u8>, A
     Ok(text)
 }
 
-/// Puts a location at the end of a text, counted from 1.
+/// Appends a location to the text, counted from 1.
 fn push_location(text: &mut Vec<u8>, location: u16) -> Result<(), AllocError>
     ensures { OnOk result (text.new.items ≡ text.old.items ++ decimal (location + 1)) }
 {
     text.extend_from_slice(Buffer::new().format(u32::from(location) + 1).as_bytes())
 }
 
-/// Puts locations at the end of a text, counted from 1, with a space between.
+/// Appends locations to the text, counted from 1, with a space between.
 fn push_locations(text: &mut Vec<u8>, locations: &[u16]) -> Result<(), AllocError>
     ensures { OnOk result (text.new.items ≡ text.old.items ++ locations_text locations.now) }
 {
@@ -64,7 +64,7 @@ fn push_locations(text: &mut Vec<u8>, locations: &[u16]) -> Result<(), AllocErro
     push_others(text, others)
 }
 
-/// Puts locations at the end of a text, counted from 1, each behind a space.
+/// Appends locations to the text, counted from 1, each after a space.
 fn push_others(text: &mut Vec<u8>, locations: &[u16]) -> Result<(), AllocError>
     ensures { OnOk result (text.new.items ≡ text.old.items ++ behind_spaces locations.now) }
 {

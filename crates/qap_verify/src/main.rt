@@ -40,7 +40,7 @@ fn arguments(rt: &(impl Env + AllocGlobal)) -> io::Result<Vec<String>> {
     Ok(env::args(rt)?.collect(rt.alloc())?)
 }
 
-/// Tells why the command line couldn't be read.
+/// Reports why the command line could not be read.
 fn tell_unread(rt: &HostRuntime, error: &io::Error) -> ExitCode {
     if error.kind() == io::ErrorKind::OutOfMemory {
         return refuse(rt, RunError::OutOfMemory);

@@ -22,7 +22,7 @@ pub enum RunError {
     /// The proof is at fault.
     #[error("{0}")]
     Proof(ProofError),
-    /// There is no memory left.
+    /// Memory ran out.
     #[error("out of memory")]
     OutOfMemory,
     /// A reader or the writer failed.

@@ -30,7 +30,7 @@ fn size_text(alloc: Global, size: usize) -> Result<Vec<u8>, AllocError>
     Vec::from_slice(alloc, Buffer::new().format(size).as_bytes())
 }
 
-/// Puts the entries of A at the end of the text, row by row.
+/// Appends the entries of A to the text, row by row.
 fn push_flows(text: &mut Vec<u8>, instance: &Instance) -> Result<(), AllocError>
     requires { Spells text.old.items 0 (pos instance.now.size ∷ []) (length text.old.items) }
     ensures { OnOk result (Spells text.new.items 0 (pos instance.now.size ∷ instance.now.a) (length text.new.items)) }
@@ -42,7 +42,7 @@ fn push_flows(text: &mut Vec<u8>, instance: &Instance) -> Result<(), AllocError>
     Ok(())
 }
 
-/// Puts the entries of B at the end of the text, row by row.
+/// Appends the entries of B to the text, row by row.
 fn push_distances(text: &mut Vec<u8>, instance: &Instance) -> Result<(), AllocError>
     requires { Spells text.old.items 0 (pos instance.now.size ∷ instance.now.a) (length text.old.items) }
     ensures { OnOk result (Spells text.new.items 0 (pos instance.now.size ∷ instance.now.a ++ instance.now.b) (length text.new.items)) }
@@ -54,7 +54,7 @@ fn push_distances(text: &mut Vec<u8>, instance: &Instance) -> Result<(), AllocEr
     Ok(())
 }
 
-/// Puts an entry at the end of the text, on a line of its own where it begins a row.
+/// Appends an entry to the text, on a line of its own where it begins a row.
 fn push_entry(text: &mut Vec<u8>, entry: i64, begins_row: bool) -> Result<(), AllocError>
     ensures { OnOk result (text.new.items ≡ text.old.items ++ (if begins_row then 10 else 32) ∷ signed_decimal entry) }
 {

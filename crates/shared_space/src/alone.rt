@@ -43,8 +43,8 @@ impl<L: Law> Model for Alone<L> {
 }
 
 impl<L: Law> Alone<L> {
-    /// Puts a space whose content is lawful and that has accepted no commit under the law, with this many shares, one
-    /// for each part of the blank. Refused memory, the blank and the space come back.
+    /// Puts a space with lawful content that has accepted no commit under the law, with this many shares, one for each
+    /// part of the blank. If memory runs out, the blank and the space are returned.
     pub fn new(
         alloc: Global,
         blank: Blank,
@@ -98,7 +98,7 @@ impl<L: Law> Alone<L> {
         self.closed = true;
     }
 
-    /// Puts a tuple out, outside all transactions.
+    /// Writes a tuple, outside all transactions.
     pub(crate) fn out(&mut self, tuple: Tuple, lease: Lease) -> Result<EntryId, (SpaceError, Tuple)>
         requires { lease ≡ Lease.Forever → IsFree L.lawful L.allowed }
         ensures step { Step self.old.world.space (out tuple lease) (out_reply result) self.new.world.space }
@@ -108,7 +108,7 @@ impl<L: Law> Alone<L> {
         self.space.out(tuple, lease)
     }
 
-    /// Takes a tuple, outside all transactions, or answers `None` where none can be had now.
+    /// Takes a tuple, outside all transactions, or returns `None` where none is available now.
     pub(crate) fn inp(&mut self, template: &Template) -> Option<(EntryId, Tuple)>
         requires { IsFree L.lawful L.allowed }
         ensures step { Step self.old.world.space (inp template.now) (inp_reply result) self.new.world.space }
@@ -119,7 +119,7 @@ impl<L: Law> Alone<L> {
         self.space.inp(template)
     }
 
-    /// Copies a tuple, outside all transactions, or answers `None` where none can be had now.
+    /// Copies a tuple, outside all transactions, or returns `None` where none is available now.
     pub(crate) fn rdp(&self, template: &Template) -> Result<Option<(EntryId, Tuple)>, SpaceError>
         ensures step { Step self.now.world.space (rdp template.now) (rdp_reply result) self.now.world.space }
         ensures matches { IfOk result (λ found. IfSome found (λ pair. Matches template.now pair.1)) }
@@ -128,7 +128,7 @@ impl<L: Law> Alone<L> {
         self.space.rdp(template)
     }
 
-    /// One worker more has left. Takes no memory.
+    /// One more worker has left. Allocates nothing.
     pub fn leave(&mut self)
         ensures { self.new ≡ one_left self.old }
     {
@@ -137,7 +137,7 @@ impl<L: Law> Alone<L> {
         }
     }
 
-    /// The space back, out of its law. Takes no memory.
+    /// The space back, out of its law. Allocates nothing.
     pub fn into_space(self) -> TxnSpace
         ensures value { result ≡ self.world }
         ensures lawful { L.lawful (content_of result) result.commits }
@@ -145,8 +145,8 @@ impl<L: Law> Alone<L> {
         self.space
     }
 
-    /// The space back for all its shares, with the number of commits that they counted, which is the space's own. Takes no
-    /// memory.
+    /// The space back for all its shares, with the number of commits that they counted, which is the space's own.
+    /// Allocates nothing.
     pub fn into_inner(self, shares: Vec<Share<L>>) -> (TxnSpace, u64)
         requires all { vec_len shares ≡ L.parts }
         requires some { 0 < vec_len shares }

@@ -6,10 +6,10 @@ use thiserror::Error;
 /// Why a wait for a tuple ends without one.
 #[derive(Clone, Copy, Debug, PartialEq, Eq, Error)]
 pub enum SharedError {
-    /// Refusal 34: the space is closed, and no such tuple can be had.
+    /// Refusal 34: the space is closed, and no such tuple is available.
     #[error("the space is closed")]
     Closed,
-    /// Refusal 50: there is no memory.
+    /// Refusal 50: memory ran out.
     #[error("out of memory")]
     OutOfMemory,
 }

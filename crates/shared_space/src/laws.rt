@@ -22,7 +22,7 @@ pub fn two_marks_law()
         SameItems (gone_of renewed (with_mark b (m ∷ []))) (m.tuple ∷ []) × SameItems (kept_of (with_mark b (m ∷ []))) (b.tuple ∷ []) }
 {}
 
-/// A tuple that is written to stay forever is added.
+/// A tuple that is written permanently is added.
 pub fn writing_law()
     ensures { (writes : List Write) (tuple : List FieldValue) →
         added_of (writes ++ record { tuple = tuple; lease = Forever; taken = false } ∷ []) ≡ added_of writes ++ tuple ∷ [] }

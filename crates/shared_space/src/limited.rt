@@ -46,8 +46,8 @@ impl<L: Law> Model for Limited<L> {
 
 impl<L: Law> Limited<L> {
     /// A space whose content is lawful and that has accepted no commit, under the law and its limit, with this many
-    /// shares, one for each part of the blank. With a limit of 0 it is closed. Refused memory, the blank and the space
-    /// come back.
+    /// shares, one for each part of the blank. With a limit of 0 it is closed. If memory runs out, the blank and the
+    /// space are returned.
     pub fn new(
         alloc: Global,
         blank: Blank,
@@ -88,7 +88,7 @@ impl<L: Law> Limited<L> {
         self.alone.shut();
     }
 
-    /// Puts a tuple out, outside all transactions.
+    /// Writes a tuple, outside all transactions.
     pub fn out(&mut self, tuple: Tuple, lease: Lease) -> Result<EntryId, (SpaceError, Tuple)>
         requires { lease ≡ Lease.Forever → IsFree L.lawful L.allowed }
         ensures acts { Acts L.limit self.old (outside (out tuple lease) (out_reply result)) self.new }
@@ -98,7 +98,7 @@ impl<L: Law> Limited<L> {
         self.alone.out(tuple, lease)
     }
 
-    /// Takes a tuple, outside all transactions, or answers `None` where none can be had now.
+    /// Takes a tuple, outside all transactions, or returns `None` where none is available now.
     pub fn inp(&mut self, template: &Template) -> Option<(EntryId, Tuple)>
         requires { IsFree L.lawful L.allowed }
         ensures acts { Acts L.limit self.old (outside (inp template.now) (inp_reply result)) self.new }
@@ -107,7 +107,7 @@ impl<L: Law> Limited<L> {
         self.alone.inp(template)
     }
 
-    /// Copies a tuple, outside all transactions, or answers `None` where none can be had now.
+    /// Copies a tuple, outside all transactions, or returns `None` where none is available now.
     pub fn rdp(&self, template: &Template) -> Result<Option<(EntryId, Tuple)>, SpaceError>
         ensures acts { Acts L.limit self.now (outside (rdp template.now) (rdp_reply result)) self.now }
         ensures matches { IfOk result (λ found. IfSome found (λ pair. Matches template.now pair.1)) }
@@ -132,15 +132,15 @@ impl<L: Law> Limited<L> {
         self.alone.space().count_of_class(word, fields, numbers)
     }
 
-    /// One worker more has left. Takes no memory.
+    /// One more worker has left. Allocates nothing.
     pub fn leave(&mut self)
         ensures { self.new ≡ one_left self.old }
     {
         self.alone.leave();
     }
 
-    /// The space back for all its shares, with the number of commits that they counted, which is the space's own and at most
-    /// the limit. Takes no memory.
+    /// The space back for all its shares, with the number of commits that they counted, which is the space's own and at
+    /// most the limit. Allocates nothing.
     pub fn into_inner(self, shares: Vec<Share<L>>) -> (TxnSpace, u64)
         requires all { vec_len shares ≡ L.parts }
         requires some { 0 < vec_len shares }

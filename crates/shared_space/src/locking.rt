@@ -10,8 +10,8 @@ const TRIES: u32 = 1000;
 /// How often it tries so, before the system puts it to sleep.
 const YIELDS: u32 = 1000;
 
-/// How many pauses lie between two tries. The thread that has the lock is then less often disturbed by those that ask for it, and
-/// makes its next call while what it touched is still near its processor.
+/// How many pauses are between two tries. The thread that has the lock is then less often disturbed by those that ask
+/// for it, and makes its next call while what it touched is still near its processor.
 const PAUSES: u32 = 16;
 
 /// Takes the lock. A call on the space takes far less time than it takes to put a thread to sleep and to wake it up, so a

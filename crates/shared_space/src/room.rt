@@ -34,23 +34,23 @@ pub trait Room<L: Law> {
     fn take_spent(&mut self) -> Option<Spent>
         ensures { self.new ≡ self.old };
 
-    /// Takes for a transaction a tuple that the template asks for, or answers `None` where none can be had now. A permanent
-    /// entry's tuple is one that a lawful content holds. Refusals: 31, 32, 50.
+    /// Takes for a transaction a tuple matching the template, or returns `None` where none is available now. A
+    /// permanent entry's tuple is one that a lawful content holds. Refusals: 31, 32, 50.
     fn inp_in(&mut self, txn: &mut Txn, template: &Template) -> Result<Option<Found>, TxnError>
         ensures did { did self.old (call txn.old (inp_in template.now)) (answered (find_answer result) txn.new) self.new }
         ensures found { IfOk result (λ found. IfSome found (Shows template.now txn.new)) }
         ensures marks { Finds (InLawful L.lawful) true template.now txn.old (find_answer result) txn.new };
 
-    /// Reads for a transaction a tuple that the template asks for, or answers `None` where none can be had now. A permanent
-    /// entry's tuple is one that a lawful content holds. Refusals: 31, 32, 50.
+    /// Reads for a transaction a tuple matching the template, or returns `None` where none is available now. A
+    /// permanent entry's tuple is one that a lawful content holds. Refusals: 31, 32, 50.
     fn rdp_in(&mut self, txn: &mut Txn, template: &Template) -> Result<Option<Found>, TxnError>
         ensures did { did self.old (call txn.old (rdp_in template.now)) (answered (find_answer result) txn.new) self.new }
         ensures found { IfOk result (λ found. IfSome found (Shows template.now txn.new)) }
         ensures marks { Finds (InLawful L.lawful) false template.now txn.old (find_answer result) txn.new };
 
     /// Commits a transaction, and counts that in the share. What the transaction took, read and wrote must be allowed.
-    /// Refusals: 37 where there is a limit and it is reached, which is judged first; 31, 32, 33, 50. The transaction comes back
-    /// and the share counts nothing.
+    /// Refusals: 37 where there is a limit and it is reached, which is checked first; 31, 32, 33, 50. The transaction
+    /// is returned and the share counts nothing.
     fn commit(&mut self, share: &mut Share<L>, txn: Txn) -> Result<(), (CommitError, Txn)>
         requires { MayCommit L.allowed txn }
         ensures did { did self.old (call txn commit) (commit_reply txn result) self.new }
@@ -58,17 +58,18 @@ pub trait Room<L: Law> {
         ensures uncounted { OnErr result (share.new ≡ share.old) }
         ensures handed_back { IfErr result (λ back. back.1 ≡ txn) };
 
-    /// Ends a transaction, whose marks are dropped. Refusals: 31, 32; the transaction comes back. Takes no memory.
+    /// Ends a transaction, whose marks are dropped. Refusals: 31, 32; the transaction is returned. Allocates nothing.
     fn abort(&mut self, txn: Txn) -> Result<(), (TxnError, Txn)>
         ensures did { did self.old (call txn abort) (answered (end_answer result) txn) self.new }
         ensures handed_back { IfErr result (λ back. back.1 ≡ txn) };
 
-    /// Moves the moment on; an earlier moment changes nothing. Refusal: 33 where the moment lies past 2^62. Takes no memory.
+    /// Advances the moment; an earlier moment changes nothing. Refusal: 33 where the moment is past 2^62. Allocates
+    /// nothing.
     fn advance(&mut self, moment: u64) -> Result<(), SpaceError>
         ensures { did self.old (advance moment) (moved (done_reply result)) self.new };
 
-    /// Closes the space where no entry is there whose tuple the template asks for, or every worker has left, and
-    /// reports whether it is closed. A closed space stays closed. Takes no memory.
+    /// Closes the space where no entry is there whose tuple matches the template, or every worker has left, and reports
+    /// whether it is closed. A closed space stays closed. Allocates nothing.
     fn close(&mut self, template: &Template) -> bool
         ensures { did self.old (close template.now) (told result) self.new };
 

@@ -44,9 +44,9 @@ pub struct Shared<L: Law> {
 }
 
 impl<L: Law> Shared<L> {
-    /// Puts a space whose content is lawful and that has accepted no commit under the law and a lock, with this many
-    /// shares, one for each part of the blank. The law sets no limit of commits. Refused memory, the blank and the
-    /// space come back.
+    /// Puts a space with lawful content that has accepted no commit under the law and a lock, with this many shares,
+    /// one for each part of the blank. The law sets no limit of commits. If memory runs out, the blank and the space
+    /// are returned.
     pub fn new(
         alloc: Global,
         blank: Blank,
@@ -130,7 +130,7 @@ impl<L: Law> Shared<L> {
         put
     }
 
-    /// Takes a tuple, outside all transactions, or answers `None` where none can be had now. Takes no memory.
+    /// Takes a tuple, outside all transactions, or returns `None` where none is available now. Allocates nothing.
     pub fn inp<R: Wait>(&self, rt: &R, template: &Template) -> Option<(EntryId, Tuple)>
         requires { IsFree L.lawful L.allowed }
         ensures { IfSome result (λ found. Matches template.now found.1) }
@@ -138,7 +138,7 @@ impl<L: Law> Shared<L> {
         locked(rt, &self.limited).inp(template)
     }
 
-    /// Copies a tuple, outside all transactions, or answers `None` where none can be had now. Refusal: 50.
+    /// Copies a tuple, outside all transactions, or returns `None` where none is available now. Refusal: 50.
     pub fn rdp<R: Wait>(
         &self,
         rt: &R,
@@ -264,7 +264,7 @@ impl<L: Law> Shared<L> {
         ended
     }
 
-    /// Ends a transaction, whose marks are dropped. Refusals: 31, 32; the transaction comes back. Takes no memory.
+    /// Ends a transaction, whose marks are dropped. Refusals: 31, 32; the transaction is returned. Allocates nothing.
     pub fn abort<R: Wait>(&self, rt: &R, txn: Txn) -> Result<(), (TxnError, Txn)>
         ensures handed_back { IfErr result (λ back. back.1 ≡ txn) }
         ensures kind { IfErr result (λ back. IsAbortError back.0) }
@@ -326,14 +326,14 @@ impl<L: Law> Shared<L> {
         looks.look(&***locked(rt, &self.limited));
     }
 
-    /// One worker more has left. Takes no memory.
+    /// One more worker has left. Allocates nothing.
     pub fn leave<R: Wait>(&self, rt: &R) {
         locked(rt, &self.limited).leave();
         self.changed.notify_all();
     }
 
     /// The space back for all its shares, with the number of commits that they counted, which is the space's own and at
-    /// most the limit. Takes no memory.
+    /// most the limit. Allocates nothing.
     pub fn into_inner(self, shares: Vec<Share<L>>) -> (TxnSpace, u64)
         requires all { vec_len shares ≡ L.parts }
         requires some { 0 < vec_len shares }

@@ -24,7 +24,7 @@ use tuple_space::Lease;
 struct Met {
     /// Whether the space was closed at first and after each commit.
     closed: [bool; 4],
-    /// Whether each commit was refused by the limit, its transaction handed back.
+    /// Whether each commit was refused by the limit, its transaction returned.
     limited: [bool; 3],
     /// The share's commits, and all shares' in the end.
     share: u64,

@@ -110,7 +110,7 @@ fn write_in_pairs<L: Law + Send + Sync, R: Threads + Wait + Sync>(
     )
 }
 
-/// Four workers at a time, whose shares come back.
+/// Four workers at a time, whose shares are returned.
 pub(crate) fn write_in_four<L: Law + Send + Sync, R: Threads + Wait + Sync>(
     rt: &R,
     alloc: Global,
@@ -146,7 +146,7 @@ fn count_in_four<L: Law + Send + Sync, R: Threads + Wait + Sync>(
     Ok([total, space.commits(), count_jobs(alloc, &space)?])
 }
 
-/// Puts out the job of a number, outside all transactions.
+/// Writes the job of a number, outside all transactions.
 fn put<L: Law, R: Wait>(rt: &R, alloc: Global, shared: &Shared<L>, number: i128) -> Result<(), Fail>
     requires { IsFree L.lawful L.allowed }
 {
@@ -171,7 +171,7 @@ fn wait_in<L: Law, R: Wait>(
     Ok(number_of(&tuple))
 }
 
-/// What a thread got that waited for a job, which another put out.
+/// What a thread got that waited for a job that another one writes.
 fn wait_for_other<L: Law + Send + Sync, R: Threads + Wait + Sync>(
     rt: &R,
     shared: &Shared<L>,
@@ -260,7 +260,7 @@ fn read_back_in<L: Law, R: Wait>(
     Ok((first, second, third.is_some()))
 }
 
-/// Reads under a transaction that is ended, and moves the moment on.
+/// Reads under a transaction that is ended, and advances the moment.
 fn read_and_abort<L: Law, R: Wait>(
     rt: &R,
     shared: &Shared<L>,
@@ -315,8 +315,8 @@ fn wait_rd<L: Law, R: Wait>(
     Ok(number_of(&tuple))
 }
 
-/// Whether a space is closed with a job, while a transaction has taken it, and without one; what reading finds on the closed
-/// space, and what it finds once a job is put out there.
+/// Whether a space is closed with a job, while a transaction has taken it, and without one; what reading finds on the
+/// closed space, and what it finds once a job is written there.
 fn close_in<L: Law, R: Wait>(
     rt: &R,
     alloc: Global,
@@ -375,7 +375,7 @@ fn commit_late<L: Law, R: Wait>(
     Ok((refused, read(rt, shared, jobs)?))
 }
 
-/// Whether a space with a job is closed before its only worker has left, and behind that.
+/// Whether a space with a job is closed before its only worker has left, and after that.
 fn close_and_leave<L: Law, R: Wait>(rt: &R, shared: &Shared<L>, jobs: &Template) -> [bool; 2] {
     let before = shared.close(rt, jobs);
     shared.leave(rt);

@@ -16,7 +16,7 @@ use std::alloc::{AllocError, Global};
 use tuple_match::Template;
 use tuple_space::Lease;
 
-/// The command that these words ask for behind `out`: a transaction or none, a lease, and a tuple's fields.
+/// The command that these words ask for after `out`: a transaction or none, a lease, and a tuple's fields.
 pub(crate) fn read_offer(alloc: Global, words: &[&[u8]]) -> Result<Option<Command>, AllocError>
     ensures { IfOk result (λ found. MatchOption found
         ((command : CommandValue) → Follows OutVerb (map (λ word. word.now) words.now) command → ⊥)
@@ -51,7 +51,7 @@ pub(crate) struct Question {
     pub(crate) template: Template,
 }
 
-/// What these words ask for behind `inp` and `rdp`.
+/// What these words ask for after `inp` and `rdp`.
 pub(crate) fn read_question(alloc: Global, words: &[&[u8]]) -> Result<Option<Question>, AllocError>
     ensures { IfOk result (λ found. MatchOption found
         ((under : Option ℕ) (template : List PatternValue) → IsQuestion (map (λ word. word.now) words.now) under template → ⊥)
@@ -83,7 +83,7 @@ fn read_one(words: &[&[u8]]) -> Option<u64>
     }
 }
 
-/// The command that these words ask for behind a verb that takes one number.
+/// The command that these words ask for after a verb that takes one number.
 pub(crate) fn read_numbered(verb: Verb, words: &[&[u8]]) -> Option<Command>
     requires { TakesOneNumber verb }
     ensures { MatchOption result
@@ -108,7 +108,7 @@ pub(crate) fn read_numbered(verb: Verb, words: &[&[u8]]) -> Option<Command>
     }
 }
 
-/// The command that these words ask for behind `renew`: a transaction's number, and how many milliseconds it is to live.
+/// The command that these words ask for after `renew`: a transaction's number, and how many milliseconds it is to live.
 pub(crate) fn read_renewal(words: &[&[u8]]) -> Option<Command>
     ensures { MatchOption result
         ((command : CommandValue) → Follows RenewVerb (map (λ word. word.now) words.now) command → ⊥)

@@ -12,7 +12,7 @@ use std::alloc::AllocError;
 use tuple_match::{Template, Tuple};
 use tuple_space::{EntryId, Lease, SpaceError};
 
-/// Puts a tuple out, outside all transactions.
+/// Writes a tuple, outside all transactions.
 pub(crate) fn put_out(world: &mut TxnSpace, tuple: Tuple, lease: Lease) -> Result<Reply, AllocError>
     ensures done { IfOk result (λ reply. Outside world.old (space.out tuple lease) reply world.new) }
     ensures going { KeepsGoing world.old world.new }

@@ -13,7 +13,7 @@ use tuple_space::Lease;
 /// The command in a line of a script.
 #[derive(Debug, Drop)]
 pub enum Command {
-    /// Put out a tuple, under a transaction or under none.
+    /// Write a tuple, under a transaction or under none.
     Out {
         under: Option<u64>,
         lease: Lease,
@@ -67,7 +67,7 @@ pub(crate) fn read_command(alloc: Global, words: &[&[u8]]) -> Result<Option<Comm
     }
 }
 
-/// The command of a verb and the words behind it.
+/// The command of a verb and the words after it.
 fn read_rest(alloc: Global, verb: Verb, words: &[&[u8]]) -> Result<Option<Command>, AllocError>
     ensures { IfOk result (λ found. MatchOption found
         ((command : CommandValue) → Follows verb (map (λ word. word.now) words.now) command → ⊥)

@@ -11,7 +11,7 @@ pub enum LineError {
     /// Refusal 36: it is not a command, exceeds a limit of tuples, or is longer than 65,536 bytes.
     #[error("the line is no command, or a tuple or the line is beyond its limits")]
     BadCommand,
-    /// Refusal 50: there is no memory left.
+    /// Refusal 50: memory ran out.
     #[error("there is no memory left to read the line")]
     OutOfMemory,
 }

@@ -61,7 +61,7 @@ fn end_line<W: Write>(
     Ok(())
 }
 
-/// Answers the lines that end in a piece of a script, and keeps what is left behind them.
+/// Answers the lines that end in a piece of a script, and keeps what is left after them.
 pub(crate) fn feed<W: Write>(
     alloc: Global,
     session: &mut Session,

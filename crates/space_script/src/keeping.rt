@@ -154,7 +154,7 @@ pub(crate) fn begin_kept(
     }
 }
 
-/// Moves the moment on, and drops the transactions whose lease has ended.
+/// Advances the moment, and drops the transactions whose lease has ended.
 pub(crate) fn advance_kept(world: &mut TxnSpace, kept: &mut Kept, moment: u64) -> Reply
     requires { IsSession (session_of world.old kept.old.items) }
     ensures done { Advances world.old moment result world.new }

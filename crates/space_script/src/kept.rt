@@ -34,7 +34,7 @@ impl Model for Kept {
 }
 
 impl Kept {
-    /// No transactions. Takes no memory.
+    /// No transactions. Allocates nothing.
     pub(crate) fn new(alloc: Global) -> Kept
         ensures { result.items ≡ [] }
     {
@@ -66,7 +66,7 @@ impl Kept {
         self.by_number.reserve(1)
     }
 
-    /// Puts a transaction behind the others, where there is room for it.
+    /// Appends a transaction to the others, where there is room for it.
     fn push(&mut self, txn: Txn)
         requires room { 0 < self.old.room }
         requires new { NoneKept self.old.items txn.number }
@@ -75,7 +75,7 @@ impl Kept {
         self.by_number.insert(txn.number(), txn).unwrap();
     }
 
-    /// Puts a transaction behind the others if it is live in a space, where there is room for it.
+    /// Appends a transaction to the others if it is live in a space, where there is room for it.
     pub(crate) fn push_live(&mut self, world: &TxnSpace, txn: Txn)
         requires room { 0 < self.old.room }
         requires new { NoneKept self.old.items txn.number }
@@ -86,7 +86,7 @@ impl Kept {
         }
     }
 
-    /// Puts a transaction behind the others, or, where there is no memory, drops it.
+    /// Appends a transaction to the others, or, where there is no memory, drops it.
     pub(crate) fn put_back(&mut self, txn: Txn) -> Result<(), AllocError>
         requires { NoneKept self.old.items txn.number }
         ensures { MatchResult result (λ _. self.new.items ≡ self.old.items ++ txn ∷ []) (λ _. self.new.items ≡ self.old.items) }
@@ -96,7 +96,7 @@ impl Kept {
         Ok(())
     }
 
-    /// Takes out the transaction at a place; those behind it close up.
+    /// Takes out the transaction at a place; those after it close up.
     pub(crate) fn remove(&mut self, place: usize) -> Txn
         requires { place < length self.old.items }
         ensures value { slice_get self.old.items place ≡ Some result }
@@ -171,7 +171,7 @@ impl Kept {
         self.by_number.values().all(|txn| world.is_live(txn))
     }
 
-    /// Drops the transactions that are not live in a space. Where all are, the table isn't built anew.
+    /// Drops the transactions that are not live in a space. Where all are, the table isn't built again.
     pub(crate) fn keep_live(&mut self, world: &TxnSpace)
         ensures { self.new.items ≡ live_of world.now self.old.items }
     {

@@ -53,7 +53,7 @@ fn words<'a>(alloc: Global, line: &'a [u8]) -> Result<Vec<&'a [u8]>, AllocError>
     Ok(words)
 }
 
-/// What stands before, between and behind the blanks of a line; nothing stands between two neighbours.
+/// What is before, between and after the blanks of a line; nothing is between two neighbours.
 fn pieces<'a>(alloc: Global, line: &'a [u8]) -> Result<Vec<&'a [u8]>, AllocError>
     ensures { IfOk result (λ pieces. map (λ piece. piece.now) pieces.items ≡ slice_split blank_of line.now) }
 {

@@ -18,7 +18,7 @@ pub fn read_list(alloc: Global, word: &[u8]) -> Result<Option<Vec<i128>>, AllocE
     }
 }
 
-/// What stands in the brackets of a word; `None` where it isn't in brackets.
+/// What is in the brackets of a word; `None` where it isn't in brackets.
 fn in_brackets(word: &[u8]) -> Option<&[u8]>
     ensures { MatchOption result ((inner : List ℕ) → word.now ≢ 91 ∷ inner ++ 93 ∷ []) (λ inner. word.now ≡ 91 ∷ inner.now ++ 93 ∷ []) }
 {
@@ -28,7 +28,7 @@ fn in_brackets(word: &[u8]) -> Option<&[u8]>
     }
 }
 
-/// What stands before the closing bracket at the end of a text; `None` where there is none.
+/// What is before the closing bracket at the end of a text; `None` where there is none.
 fn before_bracket(text: &[u8]) -> Option<&[u8]>
     ensures { MatchOption result ((inner : List ℕ) → text.now ≢ inner ++ 93 ∷ []) (λ inner. text.now ≡ inner.now ++ 93 ∷ []) }
 {
@@ -65,7 +65,7 @@ fn read_each(alloc: Global, words: &[&[u8]]) -> Result<Option<Vec<i128>>, AllocE
     Ok(Some(numbers))
 }
 
-/// What stands before, between and behind the commas of a text.
+/// What is before, between and after the commas of a text.
 fn between_commas<'a>(alloc: Global, text: &'a [u8]) -> Result<Vec<&'a [u8]>, AllocError>
     ensures { IfOk result (λ words. map (λ word. word.now) words.items ≡ slice_split is_comma text.now) }
 {

@@ -13,13 +13,13 @@ use tuple_match::{Field, Tuple};
 /// What a command of a script is answered.
 #[derive(Debug, Drop)]
 pub enum Reply {
-    /// It was carried out.
+    /// It was executed.
     Done,
     /// The number of the transaction that was begun.
     Begun(u64),
     /// The tuple that was taken or read.
     Got(Tuple),
-    /// No tuple can be had.
+    /// No tuple is available.
     Nothing,
     /// The number of the refusal.
     Refused(u16),
@@ -58,7 +58,7 @@ fn got_line(alloc: Global, tuple: &Tuple) -> Result<Vec<u8>, AllocError>
     Ok(line)
 }
 
-/// Puts fields at the end of a line, each behind a space.
+/// Appends fields to a line, each after a space.
 fn push_fields(line: &mut Vec<u8>, fields: &[Field]) -> Result<(), AllocError>
     ensures { OnOk result (line.new.items ≡ line.old.items ++ fields_text (fields_value fields.now)) }
 {
@@ -68,7 +68,7 @@ fn push_fields(line: &mut Vec<u8>, fields: &[Field]) -> Result<(), AllocError>
     Ok(())
 }
 
-/// Puts a field at the end of a line, behind a space.
+/// Appends a field to a line, after a space.
 fn push_field(line: &mut Vec<u8>, field: &Field) -> Result<(), AllocError>
     ensures { OnOk result (line.new.items ≡ line.old.items ++ 32 ∷ field_text (field_value field.now)) }
 {
@@ -84,7 +84,7 @@ fn push_field(line: &mut Vec<u8>, field: &Field) -> Result<(), AllocError>
     }
 }
 
-/// Puts the list that a field is at the end of a line.
+/// Appends the list that a field is to a line.
 #[tactic(auto, using(crate::proofs::Replies::numbers_from, crate::proofs::Replies::no_numbers))]
 fn push_lean_list(line: &mut Vec<u8>, field: &Field) -> Result<(), AllocError>
     requires { (ns : List ℤ) × (field_value field.now ≡ numbers ns) }
@@ -97,7 +97,7 @@ fn push_lean_list(line: &mut Vec<u8>, field: &Field) -> Result<(), AllocError>
     push_list(line, &numbers)
 }
 
-/// Puts a list of numbers at the end of a line, in brackets.
+/// Appends a list of numbers to a line, in brackets.
 fn push_list(line: &mut Vec<u8>, numbers: &[i128]) -> Result<(), AllocError>
     ensures { OnOk result (line.new.items ≡ line.old.items ++ codes "[" ++ between_commas numbers.now ++ codes "]") }
 {
@@ -110,7 +110,7 @@ fn push_list(line: &mut Vec<u8>, numbers: &[i128]) -> Result<(), AllocError>
     Ok(())
 }
 
-/// Puts numbers at the end of a line, each behind a comma.
+/// Appends numbers to a line, each after a comma.
 fn push_more(line: &mut Vec<u8>, numbers: &[i128]) -> Result<(), AllocError>
     ensures { OnOk result (line.new.items ≡ line.old.items ++ behind_commas numbers.now) }
 {
@@ -121,7 +121,7 @@ fn push_more(line: &mut Vec<u8>, numbers: &[i128]) -> Result<(), AllocError>
     Ok(())
 }
 
-/// Puts a number at the end of a line.
+/// Appends a number to a line.
 fn push_number(line: &mut Vec<u8>, number: i128) -> Result<(), AllocError>
     ensures { OnOk result (line.new.items ≡ line.old.items ++ signed_decimal number) }
 {

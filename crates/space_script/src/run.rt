@@ -38,7 +38,7 @@ pub fn run_script<R: Read, W: Write>(
     ran
 }
 
-/// Carries out the lines of a script. Where memory runs out, replies may still wait for a flush.
+/// Executes the lines of a script. Where memory runs out, replies may still wait for a flush.
 fn run_lines<R: Read, W: Write>(
     alloc: Global,
     reader: &mut Counted<R>,
@@ -54,8 +54,8 @@ fn run_lines<R: Read, W: Write>(
     Ok(())
 }
 
-/// Answers the lines that end in what a reader has left, and keeps what is left behind them. Replies are flushed before the
-/// next read.
+/// Answers the lines that end in what a reader has left, and keeps what is left after them. Replies are flushed before
+/// the next read.
 fn feed_all<R: Read, W: Write>(
     alloc: Global,
     reader: &mut Counted<R>,

@@ -14,7 +14,7 @@ pub enum ScriptError {
     /// More than 2^62 bytes came.
     #[error("the script is too long")]
     InputTooLong,
-    /// There is no memory left.
+    /// Memory ran out.
     #[error("out of memory")]
     OutOfMemory,
     /// The reader or the writer failed.

@@ -32,7 +32,7 @@ impl Model for Session {
 }
 
 impl Session {
-    /// A space with no tuples and no transactions, at the moment 0. Takes no memory.
+    /// A space with no tuples and no transactions, at the moment 0. Allocates nothing.
     pub(crate) fn new(alloc: Global) -> Session
         ensures { result ≡ start }
     {
@@ -42,8 +42,8 @@ impl Session {
         }
     }
 
-    /// Carries a command out, and tells the reply. The one error is want of memory, which ends a script: of what the session
-    /// holds then no more is said than of every session.
+    /// Executes a command, and returns the reply. The only error is out of memory, which ends a script: of what the
+    /// session holds then no more is said than of every session.
     pub(crate) fn perform(&mut self, command: Command) -> Result<Reply, AllocError>
         ensures { IfOk result (λ reply. Performs self.old command reply self.new) }
     {
@@ -51,7 +51,7 @@ impl Session {
     }
 }
 
-/// Carries a command out on a space, for the transactions that are kept.
+/// Executes a command on a space, for the transactions that are kept.
 fn carry_out(space: &mut TxnSpace, kept: &mut Kept, command: Command) -> Result<Reply, AllocError>
     requires { IsSession (session_of space.old kept.old.items) }
     ensures done { IfOk result (λ reply. Performs (session_of space.old kept.old.items) command reply (session_of space.new kept.new.items)) }

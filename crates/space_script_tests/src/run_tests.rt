@@ -50,7 +50,7 @@ fn cuts_lines(rt: HostRuntime) -> Result<(), Fail> {
     Ok(())
 }
 
-/// Puts a line at the end of a script: a command, and a byte so many times behind it.
+/// Puts a line at the end of a script: a command, and a byte this many times after it.
 fn push_line(script: &mut Vec<u8>, command: &[u8], byte: u8, count: usize) -> Result<(), Fail> {
     script.extend_from_slice(command)?;
     for _ in 0..count {
@@ -111,7 +111,7 @@ const REPLIES: &[u8] = b"txn 1\nnone\nrefused 36\nok\n";
 /// How many bytes of the script come before a line has ended, and of its replies until then.
 const ENDED: [(usize, usize); 5] = [(0, 0), (8, 6), (9, 6), (17, 11), (21, 22)];
 
-/// How much is answered once so many bytes of the script have come, and the next read fails.
+/// How much is answered once this many bytes of the script have come, and the next read fails.
 fn answered(come: usize) -> usize {
     let mut most = 0;
     for (bytes, replies) in ENDED {

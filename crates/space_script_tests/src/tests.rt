@@ -168,7 +168,7 @@ fn refuses_what_is_no_command(rt: HostRuntime) -> Result<(), Fail> {
     Ok(())
 }
 
-/// A command with blanks behind it, of so many bytes.
+/// A command with blanks after it, of this many bytes.
 fn padded(alloc: Global, length: usize, last: u8) -> Result<Vec<u8>, Fail> {
     let mut line = Vec::from_slice(alloc, b"commit 1")?;
     for _ in 9..length {
@@ -178,7 +178,7 @@ fn padded(alloc: Global, length: usize, last: u8) -> Result<Vec<u8>, Fail> {
     Ok(line)
 }
 
-/// A command that puts out a list of so many ones.
+/// A command that writes a list of this many ones.
 fn with_ones(alloc: Global, count: usize) -> Result<Vec<u8>, Fail> {
     let mut line = Vec::from_slice(alloc, b"out - 5 [1")?;
     for _ in 1..count {
@@ -223,7 +223,7 @@ fn names_the_errors(rt: HostRuntime) -> Result<(), Fail> {
     Ok(())
 }
 
-/// Carries lines out as a script, and as one that comes a byte at a time, and compares each reply with the line that stands
+/// Executes lines as a script, and as one that comes a byte at a time, and compares each reply with the line that is
 /// beside it.
 fn expect_replies(alloc: Global, rows: &[(&str, &str)]) -> Result<(), Fail> {
     let mut script = String::new(alloc);

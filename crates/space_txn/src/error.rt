@@ -20,7 +20,7 @@ pub enum TxnError {
     /// Refusal 33: the numbers of transactions, of entries or of commits are used up.
     #[error("the numbers are used up")]
     Exhausted,
-    /// Refusal 50: there is no memory.
+    /// Refusal 50: memory ran out.
     #[error("out of memory")]
     OutOfMemory,
 }
@@ -41,7 +41,7 @@ impl<T: Drop> From<AllocFailed<T>> for TxnError {
     }
 }
 
-/// The refusal of a transaction where the space refused what it would put out.
+/// The refusal of a transaction where the space refused what it would write.
 pub(crate) fn refusal_of(error: SpaceError) -> TxnError
     requires { error ≢ SpaceError.NotThere }
     ensures { IsRefusalOf error result }

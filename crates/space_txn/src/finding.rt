@@ -52,7 +52,7 @@ pub(crate) fn put_mark_on(
     Ok(())
 }
 
-/// Takes an entry that a transaction has read: its mark is changed where it stands. Takes no memory.
+/// Takes an entry that a transaction has read: its mark is changed where it is. Allocates nothing.
 pub(crate) fn take_marked(
     space: &mut Space,
     marks: &mut Marks,

@@ -48,7 +48,7 @@ impl Model for Spare {
 }
 
 impl Spare {
-    /// Such memory, taken anew.
+    /// Such memory, taken again.
     pub fn new(alloc: Global) -> Result<Spare, AllocError> {
         let lists = Lists {
             marks: Marks::new(alloc),

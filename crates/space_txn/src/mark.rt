@@ -10,7 +10,7 @@ use crate::marks::Marks;
 use tuple_match::Tuple;
 use tuple_space::{Entry, Held, Hold, Space};
 
-/// So many marks are looked up by their numbers alone.
+/// This many marks are looked up by their numbers alone.
 const FEW: usize = 8;
 
 /// A transaction's mark on an entry: that it took or read it.
@@ -36,7 +36,7 @@ fn is_mark_of(mark: &Mark, entry: &Entry, hold: &Hold) -> bool
         && mark.tuple == entry.tuple
 }
 
-/// The place behind a transaction's mark on an entry, if it has one there, or `None` where another mark stands at the place.
+/// The place after a transaction's mark on an entry, if it has one there, or `None` where another mark is at the place.
 fn place_behind(marks: &Marks, place: usize, entry: &Entry, number: u64) -> Option<usize>
     requires { place ≤ length marks.now.items }
     ensures { MatchOption result
@@ -52,8 +52,9 @@ fn place_behind(marks: &Marks, place: usize, entry: &Entry, number: u64) -> Opti
     Some(place + 1)
 }
 
-/// The place behind a transaction's mark on the entry of a row, if the row is its own, there is such an entry and it has a
-/// mark there, or `None` where another mark stands at the place. The entry is looked for first in the place that is this far below its number.
+/// The place after a transaction's mark on the entry of a row, if the row is its own, there is such an entry and it has
+/// a mark there, or `None` where another mark is at the place. The entry is looked for first in the place that is this
+/// far below its number.
 fn place_behind_row(
     marks: &Marks,
     place: usize,
@@ -173,7 +174,7 @@ pub(crate) fn put_mark(marks: &mut Marks, mark: Mark)
     marks.insert(place, mark);
 }
 
-/// Makes the mark on the entry of this number, where there is one, a mark that takes it. Takes no memory.
+/// Makes the mark on the entry of this number, where there is one, a mark that takes it. Allocates nothing.
 pub(crate) fn take_mark(marks: &mut Marks, number: u64, permanent: bool)
     requires rising { AllPairs (λ m n. m.entry < n.entry) marks.old.items }
     requires marked { is_some (find (λ m. m.entry == number) marks.old.items) ≡ true }

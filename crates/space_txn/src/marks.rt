@@ -27,7 +27,7 @@ impl Model for Marks {
 }
 
 impl Marks {
-    /// No marks. Takes no memory.
+    /// No marks. Allocates nothing.
     pub(crate) fn new(alloc: Global) -> Marks
         ensures { result.items ≡ [] }
     {
@@ -43,7 +43,7 @@ impl Marks {
         self.places.clear();
     }
 
-    /// How many marks there are; they stand in rising order of the entries' numbers.
+    /// How many marks there are; they are in ascending order of the entries' numbers.
     pub(crate) fn len(&self) -> usize
         ensures len { result ≡ length self.now.items }
         ensures rising { AllPairs (λ m n. m.entry < n.entry) self.now.items }
@@ -79,7 +79,7 @@ impl Marks {
         self.places[place] = Some(mark);
     }
 
-    /// Makes the mark at a place one that takes its entry. Takes no memory.
+    /// Makes the mark at a place one that takes its entry. Allocates nothing.
     pub(crate) fn take(&mut self, place: usize, permanent: bool)
         requires { place < length self.old.items }
         ensures { (m : Mark) → slice_get self.old.items place ≡ Some m → self.new.items ≡ slice_set self.old.items place (record m { taken = true; permanent = permanent }) }

@@ -29,7 +29,7 @@ impl Model for Transactions {
 }
 
 impl Transactions {
-    /// None. Takes no memory.
+    /// None. Allocates nothing.
     pub(crate) fn new(alloc: Global) -> Transactions
         ensures { result ≡ [] }
     {
@@ -95,7 +95,7 @@ impl Transactions {
         *row = renewed_row(*row, number, end);
     }
 
-    /// Drops a transaction; those behind it close up.
+    /// Drops a transaction; those after it close up.
     pub(crate) fn remove(&mut self, number: u64)
         ensures { self.new ≡ others number self.old }
     {
@@ -111,7 +111,7 @@ impl Transactions {
         self.as_slice().iter().any(|row| row.end <= moment)
     }
 
-    /// Drops the transactions whose lease has ended. The map's table is built anew only where there are such.
+    /// Drops the transactions whose lease has ended. The map's table is built again only where there are such.
     pub(crate) fn drop_ended(&mut self, moment: u64)
         ensures { self.new ≡ going_at moment self.old }
     {

@@ -44,7 +44,7 @@ impl Model for TxnSpace {
 }
 
 impl TxnSpace {
-    /// A space with no tuples and no transactions, at the moment 0. Takes no memory.
+    /// A space with no tuples and no transactions, at the moment 0. Allocates nothing.
     pub fn new(alloc: Global) -> TxnSpace
         ensures { result ≡ opening }
     {
@@ -73,7 +73,7 @@ impl TxnSpace {
         self.commits
     }
 
-    /// Puts a tuple out, outside all transactions. Refusals: 33, 50; the tuple comes back.
+    /// Writes a tuple, outside all transactions. Refusals: 33, 50; the tuple is returned.
     pub fn out(&mut self, tuple: Tuple, lease: Lease) -> Result<EntryId, (SpaceError, Tuple)>
         ensures step { space.Step self.old.space (space.out tuple lease) (space.out_reply result) self.new.space }
         ensures rest { self.new ≡ with_space self.old self.new.space }
@@ -82,7 +82,7 @@ impl TxnSpace {
         self.space.out(tuple, lease)
     }
 
-    /// Takes a tuple, outside all transactions, or answers `None` where none can be had now. Takes no memory.
+    /// Takes a tuple, outside all transactions, or returns `None` where none is available now. Allocates nothing.
     pub fn inp(&mut self, template: &Template) -> Option<(EntryId, Tuple)>
         ensures step { space.Step self.old.space (space.inp template.now) (space.inp_reply result) self.new.space }
         ensures rest { self.new ≡ with_space self.old self.new.space }
@@ -90,14 +90,14 @@ impl TxnSpace {
         self.space.inp(template)
     }
 
-    /// Copies a tuple, outside all transactions, or answers `None` where none can be had now. Refusal: 50.
+    /// Copies a tuple, outside all transactions, or returns `None` where none is available now. Refusal: 50.
     pub fn rdp(&self, template: &Template) -> Result<Option<(EntryId, Tuple)>, SpaceError>
         ensures { space.Step self.now.space (space.rdp template.now) (space.rdp_reply result) self.now.space }
     {
         self.space.rdp(template)
     }
 
-    /// Renews the lease of a live entry. Refusal: 35. Takes no memory.
+    /// Renews the lease of a live entry. Refusal: 35. Allocates nothing.
     pub fn renew(&mut self, id: EntryId, lease: Lease) -> Result<(), SpaceError>
         ensures step { space.Step self.old.space (space.renew id lease) (space.done_reply result) self.new.space }
         ensures rest { self.new ≡ with_space self.old self.new.space }
@@ -247,8 +247,8 @@ impl TxnSpace {
         self.live.is_live(self.space.now(), txn.number)
     }
 
-    /// Renews a transaction's lease: its end is the later of its old end and that of a lease granted now. Refusals: 31, 32.
-    /// Takes no memory.
+    /// Renews a transaction's lease: its end is the later of its old end and that of a lease granted now. Refusals: 31,
+    /// 32. Allocates nothing.
     pub fn renew_txn(&mut self, txn: &Txn, asked: u64) -> Result<(), TxnError>
         ensures { Step self.old txn.now (renew_txn asked) (renew_answer result) self.new txn.now }
     {
@@ -258,7 +258,7 @@ impl TxnSpace {
         Ok(())
     }
 
-    /// Ends a transaction, whose marks are dropped. Refusals: 31, 32; the transaction comes back. Takes no memory.
+    /// Ends a transaction, whose marks are dropped. Refusals: 31, 32; the transaction is returned. Allocates nothing.
     pub fn abort(&mut self, txn: Txn) -> Result<(), (TxnError, Txn)>
         ensures step { Step self.old txn abort (end_answer result) self.new txn }
         ensures handed_back { IfErr result (λ back. back.1 ≡ txn) }
@@ -269,7 +269,7 @@ impl TxnSpace {
         }
     }
 
-    /// The same, where what the transaction held is left to the caller to drop. Takes no memory.
+    /// The same, where what the transaction held is left for the caller to drop. Allocates nothing.
     pub fn abort_leaving(&mut self, txn: Txn) -> Result<Spent, (TxnError, Txn)>
         ensures step { Step self.old txn abort (end_answer result) self.new txn }
         ensures handed_back { IfErr result (λ back. back.1 ≡ txn) }
@@ -296,7 +296,7 @@ impl TxnSpace {
         }
     }
 
-    /// The same, where what the transaction held is left to the caller to drop.
+    /// The same, where what the transaction held is left for the caller to drop.
     pub fn commit_leaving(&mut self, txn: Txn) -> Result<Spent, (TxnError, Txn)>
         ensures step { Step self.old txn commit (end_answer result) self.new txn }
         ensures handed_back { IfErr result (λ back. back.1 ≡ txn) }

@@ -78,7 +78,7 @@ impl Run {
         }
     }
 
-    /// Makes a call, and tells whether it is answered as its row says.
+    /// Makes a call, and returns whether it is answered as its row says.
     fn answers(&mut self, alloc: Global, act: Act) -> Result<bool, Fail> {
         match act {
             OutForever(number, n) => self.put(alloc, number, Lease::Forever, n),

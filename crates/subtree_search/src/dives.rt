@@ -125,7 +125,7 @@ impl Ground<'_> {
         None
     }
 
-    /// The nodes that a random dive below a line stands for.
+    /// The nodes that a random dive below a line represents.
     #[cycle(diving)]
     fn dive(
         &self,
@@ -157,7 +157,7 @@ impl Ground<'_> {
         Ok(draw.count + draw.weight * below)
     }
 
-    /// The nodes that a random dive below a node stands for.
+    /// The nodes that a random dive below a node represents.
     #[cycle(diving)]
     fn dive_below(
         &self,

@@ -43,8 +43,8 @@ impl Level {
         })
     }
 
-    /// Begins anew at a node: no row and column belong together, and the permutations are kept that leave alone what it places and
-    /// move something.
+    /// Begins again at a node: no row and column belong together, and the permutations are kept that fix what it places
+    /// and move something.
     pub fn begin(
         &mut self,
         node: &Partial,
@@ -151,7 +151,7 @@ impl Level {
     }
 }
 
-/// Makes the list the numbers of the permutations that leave alone what is taken, and move something.
+/// Makes the list the numbers of the permutations that fix what is taken, and move something.
 fn keep(list: &mut Vec<u16>, permutations: &[Perm], taken: &[u16]) -> Result<(), AllocError> {
     list.clear();
     for (index, permutation) in permutations.iter().enumerate() {

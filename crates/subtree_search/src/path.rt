@@ -29,7 +29,7 @@ impl Model for Path {
 }
 
 impl Path {
-    /// At the node of size 1 that places nothing. No memory is taken.
+    /// At the node of size 1 that places nothing. Allocates nothing.
     pub fn new(alloc: Global) -> Path
         ensures { result ≡ root_of 1 }
     {

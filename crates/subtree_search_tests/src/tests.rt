@@ -134,7 +134,7 @@ struct Found {
     nodes: u64,
 }
 
-/// Searches below the node from a permutation, under the pair duals of so many rounds.
+/// Searches below the node from a permutation, under the pair duals of this many rounds.
 fn search_below<S: Stop>(
     rt: &impl Abort,
     alloc: Global,
@@ -228,7 +228,7 @@ fn child(node: &Partial, f: u16, k: u16) -> Result<Option<Partial>, AllocError> 
     }
 }
 
-/// Asserts it at the node and at each node with so many facilities more, each of them behind the last.
+/// Asserts it at the node and at each node with this many more facilities, each of them after the last.
 fn assert_below(
     rt: &impl Abort,
     alloc: Global,

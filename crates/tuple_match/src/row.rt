@@ -22,7 +22,7 @@ pub(crate) enum Row {
 }
 
 impl Row {
-    /// The fields in a block that copies share. Refused memory, they come back.
+    /// The fields in a block that copies share. If memory runs out, they are returned.
     pub(crate) fn share(self, alloc: Global) -> Result<Row, (AllocError, Row)>
         ensures { MatchResult result (λ row. row_value row ≡ row_value self) (λ back. row_value back.1 ≡ row_value self) }
     {

@@ -66,7 +66,7 @@ impl ShortWord {
     }
 }
 
-/// Puts the bytes at the front of the room.
+/// Puts the bytes at the beginning of the room.
 fn put(room: &mut [u8], bytes: &[u8])
     requires { length bytes.now ≤ length room.old }
     ensures front { take (length bytes.now) room.new ≡ bytes.now }

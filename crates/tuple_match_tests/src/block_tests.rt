@@ -52,7 +52,7 @@ static ORDERS: [(&[i128], &[i128], Ordering); 6] = [
     (&[-5, 7], &[-5, 7], Ordering::Equal),
 ];
 
-/// How one list stands to another, both narrowed.
+/// How two narrowed lists compare.
 fn compared(alloc: Global, list: &[i128], other: &[i128]) -> Result<Option<Ordering>, AllocError> {
     let list = Field::List(list.to_vec(alloc)?).narrowed();
     let other = Field::List(other.to_vec(alloc)?).narrowed();

@@ -123,7 +123,7 @@ fn is_template(alloc: Global, parts: &[Part]) -> Result<bool, AllocError> {
     Ok(Template::new(actuals).is_ok())
 }
 
-/// Why these fields are no tuple's, if they aren't, and the fields that come back of the tuple or of the refusal.
+/// Why these fields are not a tuple's, if they aren't, and the fields that are returned of the tuple or of the refusal.
 fn made(alloc: Global, parts: &[Part]) -> Result<(Option<MatchError>, Vec<Field>), AllocError> {
     match Tuple::new(fields(alloc, parts)?) {
         Ok(tuple) => Ok((None, tuple.into_fields()?)),
@@ -131,7 +131,7 @@ fn made(alloc: Global, parts: &[Part]) -> Result<(Option<MatchError>, Vec<Field>
     }
 }
 
-/// Asserts whether these fields are a tuple's, and that they come back.
+/// Asserts whether these fields are a tuple's, and that they are returned.
 fn assert_made(
     rt: &impl Abort,
     alloc: Global,

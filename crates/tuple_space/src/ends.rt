@@ -20,7 +20,7 @@ use std::cmp::Reverse;
 use std::collections::BinaryHeap;
 use std::marker::Model;
 
-/// So many endings may be left over before any are dropped.
+/// This many endings may be left over before any are dropped.
 const FEW: usize = 64;
 
 /// Moments at which leases end, each with the number of its entry: the earliest is taken out first. That of an entry
@@ -44,7 +44,7 @@ impl Model for Ends {
 }
 
 impl Ends {
-    /// None. Takes no memory.
+    /// None. Allocates nothing.
     pub(crate) fn new(alloc: Global) -> Ends
         ensures { result.rows ≡ [] }
     {
@@ -152,8 +152,8 @@ pub(crate) fn drop_ended(
     }
 }
 
-/// Notes when the lease of a write ends that is put out after the number last given, and tells the number that is then
-/// the last.
+/// Notes when the lease of a write ends that is written after the number last given, and returns the number that is
+/// then the last.
 fn note_write(ends: &mut Ends, write: &Write, moment: u64, last: u64) -> Result<u64, AllocError>
     requires early { moment ≤ most }
     requires few { last ≤ most }
@@ -169,7 +169,8 @@ fn note_write(ends: &mut Ends, write: &Write, moment: u64, last: u64) -> Result<
     Ok(number)
 }
 
-/// Notes when the leases of writes end that are put out after the number last given. Refused memory, some may be noted.
+/// Notes when the leases of writes end that are written after the number last given. If memory runs out, some may be
+/// noted.
 pub(crate) fn note_writes(
     ends: &mut Ends,
     writes: &Writes,

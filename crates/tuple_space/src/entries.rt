@@ -20,15 +20,15 @@ use indexmap::map::IntoValues;
 use std::alloc::{AllocError, Global};
 use std::marker::Model;
 
-/// So many places may be empty before any close up.
+/// This many places may be empty before any close up.
 const FEW: usize = 64;
 
 /// Places in order of number, each under its own.
 type Places = IndexMap<u64, Option<Entry>, NumberHasher>;
 
-/// Entries in order of number, each in a place under its own. The place of one that leaves stays empty until more than 64 of them and
-/// a quarter of all are, when those behind close up: one at a time would write all rows behind it each time, which other threads
-/// have read or written last.
+/// Entries in order of number, each in a place under its own. The place of one that leaves stays empty until more than
+/// 64 of them and a quarter of all are, when those after close up: one at a time would write all rows after it each
+/// time, which other threads have read or written last.
 #[derive(Debug, Drop)]
 pub(crate) struct Entries {
     places: Places,
@@ -145,7 +145,7 @@ fn make_way(number: u64, places: &mut Places, empty: usize) -> usize
 }
 
 impl Entries {
-    /// No entries. Takes no memory.
+    /// No entries. Allocates nothing.
     pub(crate) fn new(alloc: Global) -> Entries
         ensures { result.items ≡ [] }
     {

@@ -15,7 +15,7 @@ pub enum SpaceError {
     /// Refusal 35: no live entry has the number.
     #[error("no live entry has this number")]
     NotThere,
-    /// Refusal 50: there is no memory.
+    /// Refusal 50: memory ran out.
     #[error("out of memory")]
     OutOfMemory,
 }

@@ -42,7 +42,7 @@ fn is_row_at(rows: &[Held], place: usize, number: u64) -> bool
     rows[place].entry == number
 }
 
-/// Puts a row in its place, where there is room for it, unless it stands there.
+/// Puts a row in its place, where there is room for it, unless it is there.
 pub(crate) fn add_held(rows: &mut Vec<Held>, new: Held)
     requires rising { (holder : ℕ) → AreRising (numbers_by holder rows.old.items) }
     requires room { vec_len rows.old + 1 ≤ vec_capacity rows.old }

@@ -38,7 +38,7 @@ impl Model for Holds {
 }
 
 impl Holds {
-    /// No holds. Takes no memory.
+    /// No holds. Allocates nothing.
     pub fn new(alloc: Global) -> Holds
         ensures { result ≡ [] }
     {

@@ -151,7 +151,7 @@ fn drop_taken_number(entries: &mut Entries, buckets: &mut Vec<Bucket>, number: u
     }
 }
 
-/// How many writes are put out.
+/// How many writes are written.
 pub(crate) fn count_puts(writes: &Writes) -> usize
     ensures { result ≡ put_count writes.now }
 {
@@ -164,7 +164,7 @@ pub(crate) fn count_puts(writes: &Writes) -> usize
     count
 }
 
-/// Puts out what a place holds, where there is room for it, and tells the number last given.
+/// Writes what a place holds, where there is room for it, and returns the last number given.
 fn put_row(entries: &mut Entries, row: Option<Write>, moment: u64, last: u64) -> u64
     requires early { moment ≤ most }
     requires few { last + put_count (items_in (row ∷ [])) ≤ most }
@@ -194,8 +194,8 @@ fn put_row(entries: &mut Entries, row: Option<Write>, moment: u64, last: u64) ->
     number
 }
 
-/// Puts writes out in order, where there is room for them, and tells the number last given. They are gone from their places then,
-/// whose memory stays.
+/// Puts writes out in order, where there is room for them, and returns the last number given. They are gone from their
+/// places then, whose memory stays.
 pub(crate) fn put_rows(entries: &mut Entries, rows: &mut Rows, moment: u64, last: u64) -> u64
     requires early { moment ≤ most }
     requires few { last + put_count (items_in rows.old.items) ≤ most }

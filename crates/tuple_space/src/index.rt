@@ -12,10 +12,10 @@ ghost use Rattle.tuple_space.specs.declared.index.Slot.{Slot};
 use std::alloc::AllocError;
 use tuple_match::{Field, Pattern, Template, Tuple};
 
-/// How many values there are under which second fields stand that are no lists.
+/// How many values there are under which second fields are that are no lists.
 const VALUES: usize = 256;
 
-/// Where numbers stand in a bucket.
+/// Where numbers are in a bucket.
 #[derive(Clone, Copy, Debug, PartialEq, Eq)]
 pub(crate) enum Slot {
     /// Under the length of the second field, 0 if it is not a list.
@@ -31,9 +31,9 @@ pub(crate) struct Bucket {
     pub(crate) word: Vec<u8>,
     /// How many fields the tuples have.
     pub(crate) count: usize,
-    /// The numbers in rising order, by the length of the second field where that is a list; 0 for all others.
+    /// The numbers in ascending order, by the length of the second field where that is a list; 0 for all others.
     pub(crate) by_length: Vec<Vec<u64>>,
-    /// Those whose second field is no list, in rising order, by its value.
+    /// Those whose second field is not a list, in ascending order, by its value.
     pub(crate) by_value: Vec<Vec<u64>>,
 }
 
@@ -60,14 +60,14 @@ fn second_length(tuple: &Tuple) -> usize
     }
 }
 
-/// The value under which a number stands.
+/// The value under which a number is.
 fn number_value(number: i128) -> usize
     ensures { result ≡ unsigned_abs number % 256 }
 {
     (number.unsigned_abs() % VALUES as u128) as usize
 }
 
-/// The value under which a word stands.
+/// The value under which a word is.
 fn word_value(word: &[u8]) -> usize
     ensures { result ≡ word_value word.now }
 {
@@ -78,7 +78,7 @@ fn word_value(word: &[u8]) -> usize
     value
 }
 
-/// The value under which a field stands, if it is no list.
+/// The value under which a field is, if it is not a list.
 fn value_of(field: &Field) -> Option<usize>
     ensures { result ≡ value_of (field_value field.now) }
 {
@@ -91,7 +91,7 @@ fn value_of(field: &Field) -> Option<usize>
     }
 }
 
-/// The value under which a tuple's second field stands, if there is one that is no list.
+/// The value under which a tuple's second field is, if there is one that is not a list.
 fn second_value(tuple: &Tuple) -> Option<usize>
     ensures { result ≡ second_value tuple.now }
 {
@@ -101,7 +101,7 @@ fn second_value(tuple: &Tuple) -> Option<usize>
     }
 }
 
-/// Where a tuple with this second field stands.
+/// Where a tuple with this second field is.
 fn slot_of(field: &Field) -> Slot
     ensures { result ≡ slot_of (field_value field.now) }
 {
@@ -112,7 +112,7 @@ fn slot_of(field: &Field) -> Slot
     }
 }
 
-/// Where the tuples stand whose second field is the one that a template asks for, if it asks for one field.
+/// Where the tuples are whose second field is the one that a template asks for, if it asks for one field.
 pub(crate) fn sought_slot(template: &Template) -> Option<Slot>
     ensures { result ≡ sought_slot template.now }
 {
@@ -191,7 +191,7 @@ fn grow(lists: &mut Vec<Vec<u64>>, length: usize) -> Result<(), AllocError>
     Ok(())
 }
 
-/// Puts a number behind those of a length.
+/// Puts a number after those of a length.
 fn put_number(lists: &mut Vec<Vec<u64>>, length: usize, number: u64) -> Result<(), AllocError>
     ensures long { OnOk result (length < vec_len lists.new) }
     ensures put { OnOk result (list_at length lists.new.items ≡ list_at length lists.old.items ++ number ∷ []) }
@@ -213,7 +213,7 @@ fn take_back(lists: &mut Vec<Vec<u64>>, place: usize)
     lists[place].truncate(last);
 }
 
-/// Puts a number behind those of a length and of a value, or behind neither.
+/// Puts a number after those of a length and of a value, or after neither.
 fn put_both(bucket: &mut Bucket, length: usize, value: usize, number: u64) -> Result<(), AllocError>
     ensures key { key bucket.new ≡ key bucket.old }
     ensures put { OnOk result (IsPutIn length (Some value) number bucket.old bucket.new) }
@@ -227,7 +227,7 @@ fn put_both(bucket: &mut Bucket, length: usize, value: usize, number: u64) -> Re
     Err(error)
 }
 
-/// Puts the number of a tuple into its slots of a bucket. Refused memory, it is in none.
+/// Puts the number of a tuple into its slots of a bucket. If memory runs out, it is in none.
 fn put_in(bucket: &mut Bucket, tuple: &Tuple, number: u64) -> Result<(), AllocError>
     ensures key { key bucket.new ≡ key bucket.old }
     ensures put { OnOk result (IsPutIn (second_length tuple.now) (second_value tuple.now) number bucket.old bucket.new) }
@@ -273,7 +273,7 @@ fn numbers_in(lists: &[Vec<u64>], place: usize) -> &[u64]
     }
 }
 
-/// How many numbers stand under a class: under a word and a count of fields, those of a length.
+/// How many numbers are under a class: under a word and a count of fields, those of a length.
 pub(crate) fn class_size(buckets: &[Bucket], word: &[u8], count: usize, numbers: usize) -> usize
     ensures { result ≡ length (numbers_of (class_of word.now count numbers) buckets.now) }
 {
@@ -305,7 +305,7 @@ fn take_number(lists: &mut Vec<Vec<u64>>, length: usize, number: u64)
     }
 }
 
-/// Takes a number out of numbers in rising order.
+/// Takes a number out of numbers in ascending order.
 fn drop_number(numbers: &mut Vec<u64>, number: u64)
     requires { AreRising numbers.old.items }
     ensures { numbers.new.items ≡ filter (λ n. not (n == number)) numbers.old.items }
@@ -315,8 +315,8 @@ fn drop_number(numbers: &mut Vec<u64>, number: u64)
     }
 }
 
-/// Puts the number of a tuple, which is above all that were put before, into its bucket. Refused memory, no number has been
-/// put.
+/// Puts the number of a tuple, which is above all that were put before, into its bucket. If memory runs out, no number
+/// has been put.
 pub(crate) fn add_entry(
     buckets: &mut Vec<Bucket>,
     tuple: &Tuple,

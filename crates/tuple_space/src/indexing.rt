@@ -9,7 +9,7 @@ use crate::index::{Bucket, add_entry, drop_entry};
 use crate::write::{Write, Writes};
 use std::alloc::AllocError;
 
-/// Puts the number that a write is to have into its bucket, and tells the number that is then the last.
+/// Puts the number that a write is to have into its bucket, and returns the number that is then the last.
 fn add_write(buckets: &mut Vec<Bucket>, write: &Write, last: u64) -> Result<u64, AllocError>
     requires few { last ≤ most }
     requires ordered { AreUpTo last buckets.old.items }
@@ -27,7 +27,7 @@ fn add_write(buckets: &mut Vec<Bucket>, write: &Write, last: u64) -> Result<u64,
     Ok(number)
 }
 
-/// Puts the numbers that writes are to have into their buckets. Refused memory, some may stand there.
+/// Puts the numbers that writes are to have into their buckets. If memory runs out, some may be there.
 pub(crate) fn add_writes(
     buckets: &mut Vec<Bucket>,
     writes: &Writes,
@@ -48,7 +48,7 @@ pub(crate) fn add_writes(
     Ok(())
 }
 
-/// Takes the number that a write was to have out of its bucket, and tells the number that is then the last.
+/// Takes the number that a write was to have out of its bucket, and returns the number that is then the last.
 fn drop_write(buckets: &mut Vec<Bucket>, write: &Write, last: u64) -> u64
     requires few { last ≤ most }
     requires ordered { AreOrdered buckets.old.items }

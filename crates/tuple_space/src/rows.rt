@@ -39,7 +39,7 @@ pub(crate) fn take_number(
     Some(entry)
 }
 
-/// Moves the end of a live entry's lease to a later one, and tells whether there is such an entry.
+/// Moves the end of a live entry's lease to a later one, and returns whether there is such an entry.
 pub(crate) fn change_end(entries: &mut Entries, number: u64, moment: u64, end: LeaseEnd) -> bool
     requires { IsRising entries.old.items }
     ensures is_live { result ≡ list_any (λ e. (e.number == number) && is_live moment e.end) entries.old.items }
@@ -56,7 +56,7 @@ pub(crate) fn change_end(entries: &mut Entries, number: u64, moment: u64, end: L
     true
 }
 
-/// How many places hold an entry that is there and whose tuple the template asks for.
+/// How many places hold an entry that is there and whose tuple matches the template.
 fn count_in(places: &[Option<Entry>], moment: u64, template: &Template) -> usize
     ensures { result ≡ count_by (holds_one (is_counted moment template.now)) places.now }
 {
@@ -66,7 +66,7 @@ fn count_in(places: &[Option<Entry>], moment: u64, template: &Template) -> usize
         .count()
 }
 
-/// How many entries are there whose tuples the template asks for.
+/// How many entries are there whose tuples match the template.
 pub(crate) fn count_of(entries: &Entries, moment: u64, template: &Template) -> u64
     ensures { result ≡ count_by (is_counted moment template.now) entries.now.items }
 {

@@ -13,7 +13,7 @@ use crate::entry::{Claim, Entry};
 use crate::index::{Bucket, is_of, numbers_at, sought_slot, sought_word};
 use tuple_match::Template;
 
-/// Which entries are wanted, of those whose tuples a template asks for.
+/// Which entries are wanted, of those whose tuples match a template.
 #[derive(Clone, Copy, Debug, PartialEq, Eq)]
 pub(crate) enum Wanted {
     /// Those that a claim allows.
@@ -99,7 +99,7 @@ fn last_shift(entries: &Entries, numbers: &[u64]) -> u64 {
     }
 }
 
-/// The entry that is wanted whose number stands last among these.
+/// The entry that is wanted whose number is last among these.
 fn last_wanted<'a>(
     entries: &'a Entries,
     numbers: &[u64],
@@ -121,7 +121,7 @@ fn last_wanted<'a>(
     None
 }
 
-/// The entry that is wanted whose number stands last in the last list that has one.
+/// The entry that is wanted whose number is last in the last list that has one.
 fn longest_wanted<'a>(
     entries: &'a Entries,
     lists: &[Vec<u64>],
@@ -142,8 +142,8 @@ fn longest_wanted<'a>(
     None
 }
 
-/// The entry that is wanted whose number stands so in a bucket, where the bucket is that of a word and of the template's length: in the
-/// slot of the second field, if the template asks for one field there.
+/// The entry that is wanted whose number is so in a bucket, where the bucket is that of a word and of the template's
+/// length: in the slot of the second field, if the template asks for one field there.
 fn wanted_in_bucket<'a>(
     entries: &'a Entries,
     bucket: &Bucket,
@@ -166,7 +166,7 @@ fn wanted_in_bucket<'a>(
     }
 }
 
-/// The entry that is wanted whose number stands so in the bucket of a word and of the template's length.
+/// The entry that is wanted whose number is so in the bucket of a word and of the template's length.
 fn wanted_of_word<'a>(
     entries: &'a Entries,
     buckets: &[Bucket],
@@ -216,7 +216,7 @@ pub(crate) fn find_wanted<'a>(
     }
 }
 
-/// Whether no entry is there whose tuple the template asks for.
+/// Whether no entry is there whose tuple matches the template.
 pub(crate) fn is_lacking(
     entries: &Entries,
     buckets: &[Bucket],

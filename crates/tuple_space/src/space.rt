@@ -63,7 +63,7 @@ impl Model for Space {
 }
 
 impl Space {
-    /// A space with no tuples, at the moment 0. Takes no memory.
+    /// A space with no tuples, at the moment 0. Allocates nothing.
     pub fn new(alloc: Global) -> Space
         ensures { result ≡ opening }
     {
@@ -278,7 +278,7 @@ impl Space {
         Ok(())
     }
 
-    /// Ends all holds of a holder. An entry whose lease has ended leaves with its last hold. Takes no memory.
+    /// Ends all holds of a holder. An entry whose lease has ended leaves with its last hold. Allocates nothing.
     pub fn unpin(&mut self, holder: u64)
         ensures { self.new ≡ with_entries self.old (released holder self.old.moment self.old.entries) }
     {
@@ -292,7 +292,7 @@ impl Space {
         drop_rows_by(&mut self.held, holder);
     }
 
-    /// Drops the entries that a holder took. Takes no memory.
+    /// Drops the entries that a holder took. Allocates nothing.
     pub fn remove_taken(&mut self, holder: u64)
         ensures { self.new ≡ with_entries self.old (without_taken holder self.old.entries) }
     {
@@ -360,8 +360,8 @@ impl Space {
         Ok(())
     }
 
-    /// Takes the tuples out whose lease is forever, in order of number, held ones included. Refused memory, the space comes
-    /// back whole.
+    /// Takes the tuples out whose lease is forever, in order of number, held ones included. If memory runs out, the
+    /// space is returned whole.
     pub fn into_permanent(self) -> Result<Vec<Tuple>, (AllocError, Space)>
         ensures ok { IfOk result (λ tuples. tuples.items ≡ permanent_tuples self.entries) }
         ensures handed_back { IfErr result (λ back. back.1 ≡ self) }

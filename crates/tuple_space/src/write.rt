@@ -43,7 +43,7 @@ impl Model for Writes {
 }
 
 impl Writes {
-    /// No writes. Takes no memory.
+    /// No writes. Allocates nothing.
     pub fn new(alloc: Global) -> Writes
         ensures { result ≡ [] }
     {
@@ -52,7 +52,7 @@ impl Writes {
         }
     }
 
-    /// Adds a write. Refused memory, the tuple comes back; the first four take none.
+    /// Adds a write. If memory runs out, the tuple is returned; the first four take none.
     pub fn push(&mut self, tuple: Tuple, lease: Lease) -> Result<(), (AllocError, Tuple)>
         ensures ok { OnOk result (self.new ≡ self.old ++ record { tuple = tuple; lease = lease; taken = false } ∷ []) }
         ensures err { OnErr result (self.new ≡ self.old) }

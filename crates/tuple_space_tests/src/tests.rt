@@ -28,7 +28,7 @@ fn number_of(tuple: &Tuple) -> Option<i128> {
     }
 }
 
-/// What is told of the jobs that can be had: the number of the one that is read.
+/// What is reported of the jobs that is available: the number of the one that is read.
 fn read(space: &Space, template: &Template) -> Result<Option<i128>, SpaceError> {
     match space.rdp(template)? {
         Some((_, tuple)) => Ok(number_of(&tuple)),
@@ -41,7 +41,7 @@ fn put(alloc: Global, space: &mut Space, number: i128, lease: Lease) -> Result<E
     Ok(space.out(job(alloc, number)?, lease)?)
 }
 
-/// Asserts that a job can be had while its lease lasts.
+/// Asserts that a job is available while its lease lasts.
 fn assert_leases_end(
     rt: &impl Abort,
     alloc: Global,
@@ -148,7 +148,7 @@ fn taken(space: &mut Space, template: &Template) -> Option<u64> {
     Some(id.number())
 }
 
-/// Puts out lists under the word `node`, one under another word, and a job.
+/// Writes lists under the word `node`, one under another word, and a job.
 fn put_lists(alloc: Global, space: &mut Space) -> Result<(), Fail> {
     for numbers in [[1].as_slice(), &[], &[1, 2], &[2]] {
         space.out(listed(alloc, "node", numbers)?, Lease::Forever)?;

@@ -180,7 +180,8 @@ pub(crate) fn permutation_of(
     permutation_in(locations, room)
 }
 
-/// The same of the numbers of a list, in an empty list that is there: where that has room for them, no memory is taken.
+/// Likewise for the numbers of a list, in an empty list that is there: where that has room for them, no memory is
+/// taken.
 pub(crate) fn permutation_in(
     locations: &Numbers<'_>,
     room: Vec<u16>,

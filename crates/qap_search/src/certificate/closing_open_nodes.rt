@@ -16,12 +16,12 @@ use qap_cost::{Matrix, Partial};
 use std::alloc::{AllocError, Global};
 use tuple_match::Tuple;
 
-/// Memory in which open nodes are read and their duals worked out, kept from one node to the next.
+/// Memory in which open nodes are read and their duals computed, kept from one node to the next.
 #[derive(Drop)]
 pub(crate) struct Closing {
     /// The node that was read.
     pub(crate) node: Partial,
-    /// A least assignment of its reduced matrix, with the duals.
+    /// A least assignment of its Gilmore-Lawler matrix, with the duals.
     pub(crate) answer: Assignment,
     workspace: Workspace,
     matrix: Matrix,
@@ -45,7 +45,7 @@ impl Closing {
         })
     }
 
-    /// Makes the answer the least assignment of the reduced matrix of the node that was read.
+    /// Makes the answer the least assignment of the Gilmore-Lawler matrix of the node that was read.
     pub(crate) fn work_out(&mut self, instance: &RankedInstance) -> Result<(), AllocError>
         requires same_size { instance.now.size ≡ self.old.node.size }
         requires placement { IsPlacement self.old.node }
@@ -60,7 +60,7 @@ impl Closing {
     }
 }
 
-/// The tuples, where each open node is closed by the duals of a least assignment of its reduced matrix.
+/// The tuples, where each open node is closed by the duals of a least assignment of its Gilmore-Lawler matrix.
 pub(crate) fn close_open(
     alloc: Global,
     instance: &RankedInstance,
@@ -100,7 +100,7 @@ fn closed_tuple(
     Ok(close(alloc, instance, closing)?)
 }
 
-/// The tuple of the node that was read, closed by the duals of a least assignment of its reduced matrix.
+/// The tuple of the node that was read, closed by the duals of a least assignment of its Gilmore-Lawler matrix.
 fn close(
     alloc: Global,
     instance: &RankedInstance,

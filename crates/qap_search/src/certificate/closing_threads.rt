@@ -20,7 +20,8 @@ pub(crate) trait Closers {
     /// What they need.
     ghost ready: { Type 0 };
 
-    /// The tuples, in any order, where each open node is closed by the duals of a least assignment of its reduced matrix.
+    /// The tuples, in any order, where each open node is closed by the duals of a least assignment of its
+    /// Gilmore-Lawler matrix.
     fn close_open(
         &self,
         alloc: Global,
@@ -124,8 +125,7 @@ fn both(mut front: Vec<Tuple>, mut back: Vec<Tuple>) -> Result<Vec<Tuple>, Assem
     }
 }
 
-/// The tuples in two lists, dealt out alternately, so that both get as many open nodes: these stand together at the
-/// end.
+/// The tuples in two lists, dealt out alternately, so that both get as many open nodes: these are together at the end.
 fn dealt(alloc: Global, mut tuples: Vec<Tuple>) -> Result<(Vec<Tuple>, Vec<Tuple>), AllocError>
     ensures { IfOk result (λ dealt. SameItems tuples.items (dealt.0.items ++ dealt.1.items)) }
 {

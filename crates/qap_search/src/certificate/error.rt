@@ -12,7 +12,7 @@ pub enum AssembleError {
     /// Refusal 42: the tuples are not those of one tree and one permutation of the size.
     #[error("the tuples are not those of a certificate")]
     NotATree,
-    /// Refusal 50: there is no memory left.
+    /// Refusal 50: memory ran out.
     #[error("out of memory")]
     OutOfMemory,
 }

@@ -45,7 +45,7 @@ pub(crate) fn least_shown(
     }
 }
 
-/// The same for the children of a split.
+/// Likewise for the children of a split.
 #[cycle(showing)]
 fn least_shown_by_all(
     alloc: Global,

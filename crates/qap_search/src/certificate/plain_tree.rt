@@ -12,8 +12,8 @@ use qap_cert::Tree as PlainTree;
 use qap_proof::{Side, SplitLine, Tree};
 use std::alloc::Global;
 
-/// The same tree as a certificate's, where its splits are on facilities and say no duals, and no child is cut off or mirrored. The
-/// lists of duals are moved.
+/// The same tree as a certificate's, where its splits are on facilities and say no duals, and no child is pruned or
+/// symmetric. The lists of duals are moved.
 #[cycle(plain)]
 pub(crate) fn plain_tree(alloc: Global, tree: Tree) -> Result<PlainTree, AssembleError>
     ensures { MatchResult result
@@ -49,7 +49,7 @@ fn plain_facility(split: &SplitLine) -> Option<u16>
     }
 }
 
-/// The same of trees in a row.
+/// Likewise for trees in a row.
 #[cycle(plain)]
 fn plain_trees(alloc: Global, mut trees: Vec<Tree>) -> Result<Vec<PlainTree>, AssembleError>
     ensures { MatchResult result

@@ -19,8 +19,8 @@ use qap_proof::{Proof, ProofError};
 use std::alloc::{AllocError, Global};
 use tuple_match::Tuple;
 
-/// The proof of tuples that are a cut tree over this root, where each open node is closed by the duals of a least assignment of its
-/// reduced matrix. Its bound is the least of the cost and of what its closed nodes show.
+/// The proof of tuples that are a cut tree over this root, where each open node is closed by the duals of a least
+/// assignment of its Gilmore-Lawler matrix. Its bound is the least of the cost and of what its closed nodes show.
 pub(crate) fn proof_of<K: Closers>(
     closers: &K,
     alloc: Global,
@@ -46,7 +46,7 @@ pub(crate) fn proof_of<K: Closers>(
     }
 }
 
-/// The want of memory that the error reports.
+/// The out-of-memory error.
 fn want_of_memory(error: ProofError) -> AllocError
     requires { error ≡ ProofError.OutOfMemory }
 {

@@ -52,8 +52,8 @@ pub(crate) fn assemble_stopped_by<K: Closers>(
     certificate_with(alloc, size, closed, bound)
 }
 
-/// Puts the tuples of a search together where these have closed its open nodes, each by the duals of a least assignment of its reduced
-/// matrix.
+/// Puts the tuples of a search together where these have closed its open nodes, each by the duals of a least assignment
+/// of its Gilmore-Lawler matrix.
 pub(crate) fn put_together_closed<K: Closers>(
     closers: &K,
     alloc: Global,

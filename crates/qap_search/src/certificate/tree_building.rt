@@ -44,8 +44,8 @@ pub(crate) fn take_tree(
     }
 }
 
-/// Takes the tree of the child of this number, which is put together with this one of the other side, and which is cut off where the
-/// flag is 1.
+/// Takes the tree of the child of this number, which is placed with this one of the other side, and which is pruned
+/// where the flag is 1.
 #[cycle(building)]
 fn take_child(
     alloc: Global,
@@ -109,7 +109,7 @@ fn take_plain(
     take_children(alloc, node, split, &cuts, nodes)
 }
 
-/// The same of a node that is split with duals.
+/// Likewise for a node that is split with duals.
 #[cycle(building)]
 fn take_pruned(
     alloc: Global,
@@ -145,7 +145,8 @@ fn take_pruned(
     take_children(alloc, node, split, &cuts, nodes)
 }
 
-/// Takes the children of a node that is split so, and makes its tree; a child whose flag is 1 is cut off, and else the flag is 0.
+/// Takes the children of a node that is split so, and makes its tree; a child whose flag is 1 is pruned, and else the
+/// flag is 0.
 #[cycle(building)]
 fn take_children(
     alloc: Global,
@@ -172,7 +173,7 @@ fn take_children(
     Ok(Tree::Split { split, children })
 }
 
-/// The facility and the location that a child of a split puts together, where this is the one of the other side.
+/// The facility and the location that a child of a split places, where this is the one of the other side.
 pub(crate) fn pair_with(split: &SplitLine, other: u16) -> (u16, u16)
     ensures { (x : Placement) (c : ℕ) → other ≡ slice_index (others_on split.now.side x) c →
         (result.0 ≡ facility_on split.now.side x split.now.number c) × (result.1 ≡ location_on split.now.side x split.now.number c) }

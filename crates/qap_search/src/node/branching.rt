@@ -27,7 +27,7 @@ pub(crate) struct Free<'a> {
     pub(crate) locations: &'a [u16],
 }
 
-/// A node with its reduced matrix, and the duals of a least assignment of that.
+/// A node with its Gilmore-Lawler matrix, and the duals of a least assignment of that.
 #[derive(Drop)]
 pub(crate) struct Assigned<'a> {
     pub(crate) instance: &'a Instance,
@@ -81,8 +81,8 @@ pub struct Branch {
 }
 
 impl Branch {
-    /// By what the children are taken, the least first, that aren't cut off where the best permutation costs so much; nothing where
-    /// they are taken by their locations.
+    /// By what the children are taken, the least first, that aren't cut off where the best permutation has this cost;
+    /// nothing where they are taken by their locations.
     pub(crate) fn order(&self, alloc: Global, best: i128) -> Result<Vec<i128>, AllocError> {
         let Some(reached) = &self.reached else {
             return Vec::from_slice(alloc, &self.entries);
@@ -305,7 +305,7 @@ fn wider(widest: &Widest, free: &Free<'_>) -> (Side, u16)
     }
 }
 
-/// Where the greatest number stands, the first of equal ones.
+/// Where the greatest number is, the first of equal ones.
 fn first_greatest(numbers: &[i128]) -> usize
     requires some { 0 < length numbers.now }
     ensures { result < length numbers.now }

@@ -42,7 +42,7 @@ pub fn decide(
     Ok(Some(branch_tuples(alloc, node, thought, branch, best)?))
 }
 
-/// The tuples of the node, split on what the thought says: where its duals may cut children off, those at which they
+/// The tuples of the node, split on what the evaluation says: where its duals may prune children, those at which they
 /// reach the best cost are, and of the others those are images that it says are.
 fn branch_tuples(
     alloc: Global,

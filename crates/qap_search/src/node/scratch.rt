@@ -17,7 +17,7 @@ use qap_proof::Duals;
 use std::alloc::{AllocError, Global};
 use std::mem::replace;
 
-/// Lists that a thought is worked out in; what they hold doesn't matter from one to the next.
+/// Lists that an evaluation is computed in; what they hold doesn't matter from one to the next.
 #[derive(Drop)]
 pub(crate) struct Scratch {
     solver: Solver,
@@ -31,7 +31,7 @@ pub(crate) struct Scratch {
 }
 
 impl Scratch {
-    /// No memory is taken.
+    /// Allocates nothing.
     pub(crate) fn new(alloc: Global) -> Result<Scratch, AllocError> {
         Ok(Scratch {
             solver: Solver::new(alloc),
@@ -43,7 +43,7 @@ impl Scratch {
         })
     }
 
-    /// What is worked out about the node from its reduced matrix, with a branch that is chosen so.
+    /// What is computed about the node from its Gilmore-Lawler matrix, with a branch that is chosen so.
     pub(crate) fn thought(
         &mut self,
         alloc: Global,
@@ -95,7 +95,7 @@ impl Scratch {
         })
     }
 
-    /// Keeps the memory of a thought that isn't needed any more.
+    /// Keeps the memory of an evaluation that is no longer needed.
     pub(crate) fn keep(&mut self, thought: Thought) {
         self.answer.u = thought.u;
         self.answer.v = thought.v;

@@ -18,7 +18,7 @@ pub struct Thought {
     pub v: Vec<i128>,
     /// What the placed facilities cost among themselves, and the sum of the duals: no completion costs less.
     pub value: i128,
-    /// The completion by a least assignment of the reduced matrix.
+    /// The completion by a least assignment of the Gilmore-Lawler matrix.
     pub candidate: Perm,
     /// What the candidate costs.
     pub cost: i128,

@@ -46,7 +46,7 @@ pub fn solve_alone<R: Wait>(
     answer_of(&One, alloc, instance, None, run)
 }
 
-/// The run on a space that stands at the opening, under a law that is the search's.
+/// The run on a space that is at the opening, under a law that is the search's.
 fn search<L: Law, R: Wait>(
     rt: &R,
     alloc: Global,

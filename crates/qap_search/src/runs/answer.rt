@@ -14,11 +14,11 @@ pub enum SolveError {
     /// Refusal 41: this many nodes are open.
     #[error("{0} nodes are open")]
     Unfinished(u64),
-    /// Refusal 43: the limit of commits was reached while nodes were open. The certificate bounds the least cost from below, and
-    /// has a permutation that costs so much.
+    /// Refusal 43: the limit of commits was reached while nodes were open. The certificate bounds the least cost from
+    /// below, and has a permutation that has this cost.
     #[error("the limit of nodes is reached")]
     Stopped(Answer),
-    /// Refusal 50: there is no memory left.
+    /// Refusal 50: memory ran out.
     #[error("out of memory")]
     OutOfMemory,
 }

@@ -58,7 +58,7 @@ fn first_best(places: &[Option<Entry>]) -> Option<(i128, Numbers<'_>)>
     None
 }
 
-/// The same of one place.
+/// Likewise for one place.
 fn best_at(place: &Option<Entry>) -> Option<(i128, Numbers<'_>)>
     ensures { MatchOption result
         (All (λ (tuple : List FieldValue). (c : ℤ) (ps : List ℤ) → tuple ≢ best_of c ps) (tuples_in (place.now ∷ [])))
@@ -129,7 +129,7 @@ pub(crate) fn open_bound(
     Ok(bound)
 }
 
-/// The same of one place.
+/// Likewise for one place.
 fn bound_at(
     instance: &RankedInstance,
     closing: &mut Closing,

@@ -88,7 +88,7 @@ fn halves(places: &[Option<Entry>]) -> (&[Option<Entry>], &[Option<Entry>])
     places.split_at(middle(places))
 }
 
-/// The place before which half of the open nodes stand, since these stand together.
+/// The place before which half of the open nodes are, since these are together.
 fn middle(places: &[Option<Entry>]) -> usize
     ensures { result ≤ length places.now }
 {

@@ -45,8 +45,8 @@ impl Ending {
     }
 }
 
-/// The best permutation that a run leaves, and the bound by its open nodes, read where they stand: by many threads, or, where these find no
-/// memory, by the calling one in that which was taken before the search.
+/// The best permutation that a run leaves, and the bound by its open nodes, read where they are: by many threads, or,
+/// where these find no memory, by the calling one in that which was taken before the search.
 pub(crate) fn bounded_of<R: Threads + Sync>(
     many: &Many<'_, R>,
     alloc: Global,
@@ -99,7 +99,8 @@ pub(crate) fn bound_with(
     Ok(value.min(bound))
 }
 
-/// What the placed facilities of the node that was read cost among themselves, and a least assignment of its reduced matrix.
+/// What the placed facilities of the node that was read cost among themselves, and a least assignment of its
+/// Gilmore-Lawler matrix.
 fn node_value(instance: &RankedInstance, closing: &mut Closing) -> Result<i128, AllocError>
     requires same_size { instance.now.size ≡ closing.old.node.size }
     requires placement { IsPlacement closing.old.node }

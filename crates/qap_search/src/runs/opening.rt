@@ -69,7 +69,7 @@ fn first_numbers(alloc: Global, n: usize) -> Result<Vec<u16>, AllocError>
     Ok(numbers)
 }
 
-/// Puts a tuple out to stay forever.
+/// Puts a tuple out permanently.
 fn put_forever(space: &mut TxnSpace, tuple: Tuple) -> Result<(), AllocError>
     requires { space.old.space.last < most }
     ensures { OnOk result (space.new ≡ with_space space.old (put space.old.space tuple Forever)) }

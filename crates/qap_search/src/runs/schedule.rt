@@ -54,7 +54,7 @@ pub fn play(
     follow::<Brand>(alloc, instance, space, blank, workers, steps)
 }
 
-/// The same, on a space that stands at the opening, under a law that is the search's.
+/// The same, on a space that is at the opening, under a law that is the search's.
 fn follow<L: Law>(
     alloc: Global,
     instance: &Instance,

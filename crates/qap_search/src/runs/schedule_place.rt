@@ -15,7 +15,7 @@ use std::alloc::{AllocError, Global};
 use std::marker::Model;
 use std::sync::Arc;
 
-/// Where one worker stands, with the share of all who stood there, and what those had counted who were lost.
+/// The state of one worker, with the share of its place, and the counts of those that were lost there.
 #[derive(Drop)]
 pub(crate) struct Post<L: Law> {
     worker: u16,
@@ -60,7 +60,7 @@ impl<L: Law> Post<L> {
         })
     }
 
-    /// The worker's next step, and the thought that it calls for.
+    /// The worker's next step, and the evaluation that it calls for.
     pub(crate) fn turn(&mut self, room: &mut Alone<L>) -> Result<(), AllocError>
         requires { is_due self.old.hand.stage ≡ false }
         ensures turn { OnOk result (TakesTurn self.old.hand room.old self.new.hand room.new) }
@@ -70,7 +70,7 @@ impl<L: Law> Post<L> {
         take_turn(&mut self.hand, &mut self.share, room)
     }
 
-    /// Puts a worker who has done nothing yet in the place of the one who stands there, who is lost with its transaction.
+    /// Puts a worker who has done nothing yet in the place of the one who is there, who is lost with its transaction.
     pub(crate) fn lose(
         &mut self,
         alloc: Global,

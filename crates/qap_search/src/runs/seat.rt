@@ -20,7 +20,8 @@ pub(crate) struct Workplace<'a, R: Wait, L: Law, G: Gate> {
     pub(crate) nodes: &'a Template,
     pub(crate) best: &'a Template,
     pub(crate) gate: &'a G,
-    /// Whether a worker that ends for want of memory aborts its transactions, so that others can take its nodes at once.
+    /// Whether a worker that ends because memory ran out aborts its transactions, so that others can take its nodes at
+    /// once.
     pub(crate) aborts: bool,
 }
 
@@ -144,7 +145,7 @@ impl<L: Law> Steps<L> for Seat<L> {
     }
 }
 
-/// The worker's next step, where no thought is due.
+/// The worker's next step, where no evaluation is due.
 fn next_of(hand: &Hand) -> Option<Kind> {
     if hand.thinks() {
         None
@@ -153,8 +154,7 @@ fn next_of(hand: &Hand) -> Option<Kind> {
     }
 }
 
-/// Thinks on each node at hand on which a thought is due, and works out what is to be written of it. The error says how
-/// the worker ends.
+/// Evaluates each of its nodes that is due, and prepares its writes. The error says how the worker ends.
 fn think_on_all<G: Gate>(hand: &mut Hand, gate: &G) -> Result<(), Ended>
     ensures accepted { hand.new.accepted ≡ hand.old.accepted }
     ensures cutting { hand.new.cutting ≡ hand.old.cutting }
@@ -227,8 +227,8 @@ fn commit_all<L: Law, M: Room<L>>(
     Ok(found)
 }
 
-/// Reads or takes the best permutation for a node that was thought on and commits what it leads to; what can't be committed is given
-/// up.
+/// Reads or takes the best permutation for a node that was evaluated and commits what it leads to; what can't be
+/// committed is given up.
 fn commit<L: Law, M: Room<L>>(
     room: &mut M,
     hand: &mut Hand,
@@ -360,9 +360,9 @@ fn step_if<L: Law, M: Room<L>>(
     }
 }
 
-/// One turn: a thought where one is due, else a step that the gate lets pass. No transaction begins on a closed space.
-/// A worker that found no best permutation gives its transaction up at once and waits for one, and one that gave up for
-/// another reason waits for a node. The error says how the worker ends.
+/// One turn: an evaluation where one is due, else a step that the gate lets pass. No transaction begins on a closed
+/// space. A worker that found no best permutation gives its transaction up at once and waits for one, and one that gave
+/// up for another reason waits for a node. The error says how the worker ends.
 fn turn<R: Wait, L: Law, G: Gate>(
     place: &Workplace<'_, R, L, G>,
     worker: u16,
@@ -438,8 +438,8 @@ fn step<R: Wait, L: Law, G: Gate>(
     Ok(())
 }
 
-/// Waits until there is a tuple that the template asks for. The error says how the worker ends: where the space is
-/// closed it is done.
+/// Waits until there is a tuple matching the template. The error says how the worker ends: where the space is closed it
+/// is done.
 fn wait_for<R: Wait, L: Law, G: Gate>(
     place: &Workplace<'_, R, L, G>,
     template: &Template,

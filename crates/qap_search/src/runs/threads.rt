@@ -330,7 +330,7 @@ where
     search::<Brand, R, C, G, S, O>(rt, alloc, instance, space, blank, plan, keeper)
 }
 
-/// The same, on a space that stands at the opening, under a law that is the search's.
+/// The same, on a space that is at the opening, under a law that is the search's.
 fn search<L, R, C, G, S, O>(
     rt: &R,
     alloc: Global,
@@ -607,8 +607,8 @@ fn work<R: Wait, L: Law, G: Gate>(place: &Workplace<'_, R, L, G>, seat: &Mutex<S
     place.shared.leave(place.rt);
 }
 
-/// Moves the moment on by the clock, and shows the observer how far the search has come, until the space is closed, by itself or
-/// since the stop is wanted.
+/// Advances the moment by the clock, and shows the observer how far the search has come, until the space is closed, by
+/// itself or since a stop is requested.
 fn keep<R, L, C, G, S, O>(
     place: &Workplace<'_, R, L, G>,
     watch: &Watch<'_>,

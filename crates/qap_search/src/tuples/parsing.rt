@@ -57,15 +57,15 @@ pub(crate) enum Piece {
     Decided(DecidedNode),
 }
 
-/// What the tuple says; `None` where it is no tuple of a best permutation or a decided node. Its lists are moved as they lie, unless
-/// another tuple shares them.
+/// What the tuple says; `None` where it is not a tuple of a best permutation or a decided node. Its lists are moved as
+/// they lie, unless another tuple shares them.
 pub(crate) fn piece_of(tuple: Tuple) -> Result<Option<Piece>, AllocError>
     ensures { IfOk result (λ told. MatchOption told (IsNoPiece tuple) (λ piece. piece_tuple piece ≡ tuple)) }
 {
     Ok(piece_in(tuple.into_fields()?))
 }
 
-/// The same of a tuple of these fields.
+/// Likewise for a tuple of these fields.
 fn piece_in(mut fields: Vec<Field>) -> Option<Piece>
     ensures { MatchOption result
         (IsNoPiece (fields_value fields.items))
@@ -84,7 +84,7 @@ fn piece_in(mut fields: Vec<Field>) -> Option<Piece>
     }
 }
 
-/// The same for a tuple that ends in this list, behind these fields.
+/// Likewise for a tuple that ends in this list, after these fields.
 fn piece_before(mut fields: Vec<Field>, last: NumberList) -> Option<Piece>
     ensures { MatchOption result
         (IsNoPiece (fields_value fields.items ++ numbers (numbers_held last) ∷ []))
@@ -97,7 +97,7 @@ fn piece_before(mut fields: Vec<Field>, last: NumberList) -> Option<Piece>
     }
 }
 
-/// The same for a tuple that ends in a number and a list.
+/// Likewise for a tuple that ends in a number and a list.
 fn piece_by_number(fields: Vec<Field>, value: i128, last: NumberList) -> Option<Piece>
     ensures { MatchOption result
         (IsNoPiece (fields_value fields.items ++ number value ∷ numbers (numbers_held last) ∷ []))
@@ -119,7 +119,7 @@ fn piece_by_number(fields: Vec<Field>, value: i128, last: NumberList) -> Option<
     }))
 }
 
-/// The same for a tuple that ends in two lists.
+/// Likewise for a tuple that ends in two lists.
 fn piece_by_lists(fields: Vec<Field>, before: NumberList, last: NumberList) -> Option<Piece>
     ensures { MatchOption result
         (IsNoPiece (fields_value fields.items ++ numbers (numbers_held before) ∷ numbers (numbers_held last) ∷ []))
@@ -135,7 +135,7 @@ fn piece_by_lists(fields: Vec<Field>, before: NumberList, last: NumberList) -> O
     }))
 }
 
-/// The same for a tuple that ends in two lists behind more than two fields: that of a split with duals, or none.
+/// Likewise for a tuple that ends in two lists after more than two fields: that of a split with duals, or none.
 fn pruned_piece(fields: Vec<Field>, v: NumberList, cuts: NumberList) -> Option<Piece>
     requires { 2 < length fields.items }
     ensures { MatchOption result

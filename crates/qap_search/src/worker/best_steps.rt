@@ -36,8 +36,8 @@ use std::alloc::{AllocError, Global};
 use tuple_match::{Field, Template, Tuple, does_match_law};
 use tuple_space::EntryId;
 
-/// Takes the tuple of the best permutation, where none is known of or the last thought's candidate costs less than that; else reads
-/// it, and then what has been prepared for its cost is written as it is.
+/// Takes the tuple of the best permutation, where none is known of or the last evaluation's candidate costs less than
+/// that; else reads it, and then what has been prepared for its cost is written as it is.
 pub(crate) fn seek_best<L: Law, M: Room<L>>(
     alloc: Global,
     room: &mut M,
@@ -123,7 +123,8 @@ fn told_found(
     }
 }
 
-/// Writes what was prepared for the cost in the tuple of the entry that was read; else, what that leads to is worked out now.
+/// Writes what was prepared for the cost in the tuple of the entry that was read; else, what that leads to is computed
+/// now.
 fn told_read(
     alloc: Global,
     id: EntryId,
@@ -214,8 +215,8 @@ fn told_written(written: Result<Option<i128>, AllocError>, txn: Txn, tally: Tall
     }
 }
 
-/// Writes what the best permutation of the entry, of this cost, leads to, and returns what the one costs that stands
-/// then. `None` where nothing can be written.
+/// Writes what the best permutation of the entry, of this cost, leads to, and returns the cost of the incumbent after
+/// it. `None` where nothing can be written.
 fn write(
     alloc: Global,
     txn: &mut Txn,
@@ -254,8 +255,8 @@ fn write_beside(
     Ok(Some(cost))
 }
 
-/// Writes what is decided of the node beside the best permutation that stands then: the thought's candidate where it costs less
-/// than the one that was taken, and else that one.
+/// Writes what is decided of the node beside the incumbent after the commit: the evaluation's candidate where it costs
+/// less than the one that was taken, and else that one.
 fn write_anew(
     alloc: Global,
     txn: &mut Txn,
@@ -279,7 +280,8 @@ fn write_anew(
     Ok(Some(standing))
 }
 
-/// By what the open children of the thought's node are taken, the least first, where the best permutation costs so much.
+/// By what the open children of the evaluation's node are taken, the least first, where the best permutation has this
+/// cost.
 pub(crate) fn order_of(
     alloc: Global,
     thought: &Thought,
@@ -291,7 +293,7 @@ pub(crate) fn order_of(
     }
 }
 
-/// Writes the tuples, to stay forever, those of children by the entries that are taken first behind the others.
+/// Writes the tuples, permanently, those of children by the entries that are taken first after the others.
 fn put(alloc: Global, txn: &mut Txn, tuples: Vec<Tuple>, entries: &[i128]) -> Result<(), AllocError>
     ensures same { HasMarksOf txn.old txn.new }
     ensures written { OnOk result (SameItems (added_of txn.new.writes) (added_of txn.old.writes ++ tuples.items)) }

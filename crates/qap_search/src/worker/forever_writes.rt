@@ -26,7 +26,7 @@ pub fn put_forever(txn: &mut Txn, tuples: Vec<Tuple>) -> Result<(), TxnError>
     Ok(())
 }
 
-/// Adds writes of the tuples, in order, each to stay forever. At an error some of them may have been added.
+/// Adds writes of the tuples, in order, each permanently. At an error some of them may have been added.
 pub(crate) fn push_forever(writes: &mut Writes, tuples: Vec<Tuple>) -> Result<(), AllocError>
     ensures { OnOk result (SameItems (added_of writes.new) (added_of writes.old ++ tuples.items)) }
 {
@@ -37,7 +37,7 @@ pub(crate) fn push_forever(writes: &mut Writes, tuples: Vec<Tuple>) -> Result<()
     Ok(())
 }
 
-/// Adds a write of one tuple, to stay forever.
+/// Adds a write of one tuple, permanently.
 fn push_one(writes: &mut Writes, tuple: Tuple) -> Result<(), AllocError>
     ensures { OnOk result (WritesForever tuple writes.old writes.new) }
 {
@@ -47,7 +47,7 @@ fn push_one(writes: &mut Writes, tuple: Tuple) -> Result<(), AllocError>
     }
 }
 
-/// Writes one tuple under the transaction, to stay forever.
+/// Writes one tuple under the transaction, permanently.
 fn put_one(txn: &mut Txn, tuple: Tuple) -> Result<(), TxnError>
     ensures number { txn.new.number ≡ txn.old.number }
     ensures marks { txn.new.marks ≡ txn.old.marks }
@@ -67,8 +67,8 @@ struct WithEntry {
     tuple: Tuple,
 }
 
-/// The tuples of a split and what follows it, its children in falling order of their entries, so that the one whose entry is
-/// least is the newest of them. They stay as they are where there is no entry.
+/// The tuples of a split and what follows it, its children in falling order of their entries, so that the one whose
+/// entry is least is the newest of them. They stay as they are where there is no entry.
 pub(crate) fn by_entries(
     alloc: Global,
     tuples: Vec<Tuple>,
@@ -105,7 +105,8 @@ fn with_entries(
     Ok(all)
 }
 
-/// The tuple that stands at this place, with its entry: the first is that of the split, and those behind the children come last.
+/// The tuple that is at this place, with its entry: the first is that of the split, and those after the children come
+/// last.
 fn with_entry(place: usize, tuple: Tuple, entries: &[i128]) -> WithEntry
     ensures { result.tuple ≡ tuple }
 {

@@ -27,7 +27,7 @@ pub trait Gate {
     /// The step was made; whether it was answered without a refusal.
     fn after(&self, worker: u16, kind: Kind, accepted: bool);
 
-    /// The worker has a node's reduced matrix and works out its duals.
+    /// The worker has a node's Gilmore-Lawler matrix and computes its duals.
     fn thinking(&self, worker: u16);
 
     /// Whether it lets every step pass and wants no reports. A worker then makes those of its steps that follow one

@@ -36,7 +36,7 @@ impl Model for Ground {
 }
 
 impl Ground {
-    /// No rows yet of this instance, with these symmetries of it. No memory is taken.
+    /// No rows yet of this instance, with these symmetries of it. Allocates nothing.
     pub(crate) fn new(
         alloc: Global,
         ranked: Arc<RankedInstance>,

@@ -7,8 +7,8 @@ use crate::worker::prepared::Prepared;
 use crate::worker::stage::{LastThought, Reserve, Stage};
 use std::alloc::{AllocError, Global};
 
-/// One of the nodes that a worker has at hand at the same time, each with a transaction of its own: where it stands with it, what it
-/// thought on last there, and what it is to write.
+/// One of the nodes that a worker has at hand at the same time, each with a transaction of its own: where it is with
+/// it, what it evaluated last there, and what it is to write.
 #[derive(Drop)]
 pub(crate) struct Job {
     pub(crate) stage: Stage,
@@ -18,7 +18,7 @@ pub(crate) struct Job {
 }
 
 impl Job {
-    /// No node yet. No memory is taken.
+    /// No node yet. Allocates nothing.
     pub(crate) fn new(alloc: Global) -> Job
         ensures { IsIdle result }
     {

@@ -15,7 +15,8 @@ use crate::worker::stage::LastThought;
 use std::alloc::{AllocError, Global};
 use tuple_space::Writes;
 
-/// What is to be written of the last thought where the best permutation stays and costs so much, if that has been worked out.
+/// What is to be written of the last evaluation where the best permutation stays and has this cost, if that has been
+/// computed.
 #[derive(Drop)]
 pub(crate) struct Prepared {
     cost: Option<i128>,
@@ -23,7 +24,7 @@ pub(crate) struct Prepared {
 }
 
 impl Prepared {
-    /// Nothing has been worked out. No memory is taken.
+    /// Nothing has been computed. Allocates nothing.
     pub(crate) fn new(alloc: Global) -> Prepared
         ensures { result.cost ≡ None }
     {
@@ -33,22 +34,22 @@ impl Prepared {
         }
     }
 
-    /// Whether it is what is to be written where the best permutation costs so much.
+    /// Whether it is what is to be written where the best permutation has this cost.
     pub(crate) fn is_for(&self, cost: i128) -> bool
         ensures { IsTrue result ↔ (self.now.cost ≡ Some cost) }
     {
         self.cost == Some(cost)
     }
 
-    /// Forgets what was worked out.
+    /// Forgets what was computed.
     pub(crate) fn forget(&mut self)
         ensures { self.new.cost ≡ None }
     {
         self.cost = None;
     }
 
-    /// Works out what is to be written of the thought where the best permutation stays and costs so much. At an error, and where
-    /// nothing can be written, nothing has been worked out.
+    /// Computes what is to be written of the evaluation where the best permutation stays and has this cost. At an
+    /// error, and where nothing can be written, nothing has been computed.
     pub(crate) fn prepare(
         &mut self,
         alloc: Global,
@@ -72,7 +73,8 @@ impl Prepared {
     }
 }
 
-/// The same for the cost that is remembered, where there is one and a last thought. Refused memory, nothing has been worked out.
+/// Likewise for the cost that is remembered, where there is one and a last evaluation. If memory runs out, nothing has
+/// been computed.
 pub(crate) fn prepare_at(
     alloc: Global,
     prepared: &mut Prepared,

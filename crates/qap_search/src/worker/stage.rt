@@ -13,7 +13,7 @@ use std::alloc::{AllocError, Global};
 use tuple_match::Template;
 use tuple_space::EntryId;
 
-/// Where a worker stands in its turn.
+/// The stage of a worker's turn.
 #[derive(Drop)]
 pub(crate) enum Stage {
     /// It has no transaction.
@@ -31,7 +31,7 @@ pub(crate) enum Stage {
 }
 
 impl Stage {
-    /// Where a worker stands then that gives up its node.
+    /// The stage of a worker that then gives up its node.
     pub(crate) fn given_up(self) -> Stage
         ensures { result ≡ given_up self }
     {
@@ -46,7 +46,7 @@ impl Stage {
     }
 }
 
-/// A node with what was worked out about it.
+/// A node with what was computed about it.
 #[derive(Drop)]
 pub(crate) struct LastThought {
     pub(crate) node: Partial,
@@ -58,13 +58,13 @@ pub(crate) struct LastThought {
 pub(crate) struct Desk {
     /// The node that was read.
     pub(crate) node: Partial,
-    /// Its reduced matrix.
+    /// Its Gilmore-Lawler matrix.
     pub(crate) matrix: Matrix,
     pub(crate) scratch: Scratch,
 }
 
 impl Desk {
-    /// No memory is taken.
+    /// Allocates nothing.
     pub(crate) fn new(alloc: Global) -> Result<Desk, AllocError> {
         Ok(Desk {
             node: Partial::root(alloc, 1)?,
@@ -73,7 +73,7 @@ impl Desk {
         })
     }
 
-    /// Keeps the memory of a thought that isn't needed any more.
+    /// Keeps the memory of an evaluation that is no longer needed.
     pub(crate) fn keep(&mut self, last: LastThought) {
         let LastThought { node, thought } = last;
         self.node = node;
@@ -93,7 +93,7 @@ pub(crate) struct Reserve {
 }
 
 impl Reserve {
-    /// No memory is taken.
+    /// Allocates nothing.
     pub(crate) fn new() -> Reserve {
         Reserve {
             spent: None,
@@ -150,7 +150,7 @@ pub(crate) struct Tally {
     pub(crate) refused: u64,
 }
 
-/// Where a worker stands in its turn, and what it remembers and counts.
+/// The stage of a worker's turn, and what it remembers and counts.
 #[derive(Drop)]
 pub(crate) struct Standing {
     pub(crate) stage: Stage,
@@ -177,7 +177,7 @@ impl Tally {
         }
     }
 
-    /// One accepted commit more, after which the best permutation costs so much.
+    /// One accepted commit more, after which the best permutation has this cost.
     pub(crate) fn with_commit(self, cost: i128) -> Tally
         requires { self.accepted < 2 ^ 64 - 1 }
         ensures { result ≡ record self { best = Some cost; accepted = self.accepted + 1 } }
@@ -189,7 +189,7 @@ impl Tally {
         }
     }
 
-    /// Whether no best permutation is known of, or the thought's candidate costs less than that.
+    /// Whether no best permutation is known of, or the evaluation's candidate costs less than that.
     pub(crate) fn is_hopeful(&self, last: &LastThought) -> bool
         ensures { result ≡ is_hopeful self.now.best (Some (thought_of last.now)) }
     {
@@ -199,7 +199,7 @@ impl Tally {
         }
     }
 
-    /// The same where the best permutation costs so much.
+    /// The same where the best permutation has this cost.
     pub(crate) fn with_best(self, cost: i128) -> Tally
         ensures { result ≡ record self { best = Some cost } }
     {

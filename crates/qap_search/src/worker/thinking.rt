@@ -48,7 +48,7 @@ pub(crate) fn think_in<G: Gate>(
     Ok(true)
 }
 
-/// Thinks on the node that was read, where that isn't the one of the last thought. At an error nothing changed.
+/// Evaluates the node that was read, where that isn't the one of the last evaluation. At an error nothing changed.
 fn think_on<G: Gate>(
     tools: &Tools,
     gate: &G,
@@ -84,7 +84,7 @@ fn think_on<G: Gate>(
     Ok(())
 }
 
-/// Makes the thought on the node that was read the last one, and keeps the memory of the one before.
+/// Makes the evaluation of the node that was read the last one, and keeps the memory of the one before.
 fn remember(alloc: Global, desk: &mut Desk, thought: Thought, last: &mut Option<LastThought>)
     ensures { last.new ≡ Some (record { node = desk.old.node; thought = thought }) }
 {
@@ -97,7 +97,7 @@ fn remember(alloc: Global, desk: &mut Desk, thought: Thought, last: &mut Option<
     }
 }
 
-/// Whether the last thought is on the node.
+/// Whether the last evaluation is of the node.
 fn is_on(last: &Option<LastThought>, node: &Partial) -> bool
     ensures { IsTrue result ↔ IsOnNode last.now node.now }
 {
@@ -148,7 +148,7 @@ pub(crate) fn node_numbers(tuple: &Tuple) -> Option<Numbers<'_>>
     }
 }
 
-/// Where a worker stands after a thought that was due: whether the node was thought on.
+/// The stage of a worker after an evaluation that was due: whether the node was evaluated.
 pub(crate) fn stage_thought(stage: Stage, considered: bool) -> Stage
     ensures { (t : TxnValue) (number : ℕ) → stage ≡ Taken t number → result ≡ stage_after considered t }
 {

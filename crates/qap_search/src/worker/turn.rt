@@ -25,7 +25,7 @@ use space_txn::{Found, Spare, Txn, TxnError};
 use std::alloc::AllocError;
 use tuple_match::{Template, does_match_law};
 
-/// Makes the next step of a worker that stands there, and begins a transaction in spare memory, where there is some.
+/// Makes the next step of a worker that is there, and begins a transaction in spare memory, where there is some.
 pub(crate) fn turn<L: Law, M: Room<L>>(
     tools: &Tools,
     room: &mut M,
@@ -79,7 +79,7 @@ fn find_best<L: Law, M: Room<L>>(
     seek_best(tools.alloc, room, &tools.best, txn, last, prepared, tally)
 }
 
-/// Whether no best permutation is known of, or the last thought's candidate costs less than that.
+/// Whether no best permutation is known of, or the last evaluation's candidate costs less than that.
 pub(crate) fn is_hopeful(tally: &Tally, last: &Option<LastThought>) -> bool
     ensures { result ≡ is_hopeful tally.now.best (last_of last.now) }
 {
@@ -165,7 +165,7 @@ fn took(what: Found, txn: Txn, tally: Tally) -> Outcome
     }
 }
 
-/// Commits a transaction, after which the best permutation that stands costs so much.
+/// Commits a transaction, after which the incumbent has this cost.
 pub(crate) fn commit<L: Law, M: Room<L>>(
     room: &mut M,
     share: &mut Share<L>,
@@ -266,7 +266,7 @@ pub(crate) fn went_on(stage: Stage, tally: Tally) -> Outcome
     }
 }
 
-/// A step that met this refusal: where the transaction has ended the worker is idle, and else it stands where it stood.
+/// A step that met this refusal: where the transaction has ended the worker is idle, and else it is where it was.
 pub(crate) fn refused(error: TxnError, stage: Stage, tally: Tally) -> Outcome
     ensures turn { (cutting : Bool) (I : Problem) (lease : ℕ) (last : Option ThoughtValue) (old : Stage) →
         AfterRefusal (hand_of cutting I lease last old tally) stage error result.told (hand_of cutting I lease last result.stage result.tally) }

@@ -3,7 +3,7 @@ use crate::error::TxnError;
 use std::test::Fail;
 use tuple_space::MOST;
 
-/// No commit is accepted after 2^62 of them; the transaction comes back, and can be given up.
+/// No commit is accepted after 2^62 of them; the transaction is returned, and can be given up.
 #[test]
 fn last_commit(rt: HostRuntime) -> Result<(), Fail> {
     let alloc = rt.alloc();

@@ -10,7 +10,7 @@ fn job(alloc: Global, number: i128) -> Result<Tuple, AllocError> {
     Tuple::of_two(alloc, [Field::word(alloc, "job")?, Field::Int(number)])
 }
 
-/// 2^62 is given out, and nothing after it: the tuple comes back.
+/// 2^62 is given out, and nothing after it: the tuple is returned.
 #[test]
 fn last_number(rt: HostRuntime) -> Result<(), Fail> {
     let alloc = rt.alloc();
