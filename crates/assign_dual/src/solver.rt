@@ -12,7 +12,7 @@ use qap_cost::Matrix;
 use std::alloc::{AllocError, Global};
 use std::marker::Model;
 
-/// The greatest absolute value of entries that are sought in 64 bits: 10^18, of which eight fit.
+/// The greatest absolute value of entries for which 64 bits are used: 10^18, of which eight fit.
 const MAX_NARROW: u128 = 1_000_000_000_000_000_000;
 
 /// Lists for computing least assignments, kept from one to the next; answers do not depend on earlier calls. Contracts

@@ -39,8 +39,8 @@ fn less<N: Number>(entry: N, dual: N) -> N
     entry.minus(dual)
 }
 
-/// The place from `done` on whose column is nearest: of equally near ones the last, which more often has no row, since
-/// those that were scanned for earlier rows came to the front.
+/// The position from `done` on whose column is nearest: of equally near ones the last, which more often has no row,
+/// since those scanned for earlier rows were moved to the front.
 fn nearest<N: Number>(columns: &[usize], distances: &[N], done: usize) -> usize
     requires order { IsBijection columns.now }
     requires distances_count { length distances.now ≡ length columns.now }
@@ -74,8 +74,8 @@ fn choose<N: Number>(columns: &mut [usize], distances: &[N], done: usize)
     columns.swap(done, best);
 }
 
-/// Lets each column from `place` on, of which none is scanned, be reached from the row at that place of the tree, where
-/// that is shorter: `base` is the row's distance less its dual.
+/// Relaxes the unscanned columns from `place` on from the row at that position of the tree, if that is shorter: `base`
+/// is the row's distance minus its dual.
 fn relax<N: Number>(
     row: &[N],
     base: N,

@@ -75,7 +75,7 @@ fn lower(row: &[i64], own: i64, columns: &mut [i64]) {
     }
 }
 
-/// Parts the rows and columns whose entry isn't the sum of the two duals.
+/// Unmatches the rows and columns whose entry is not the sum of the two duals.
 fn part_others(matrix: &[i64], matching: &mut Matching, u: &[i64], v: &[i64]) {
     let m = u.len();
     for r in 0..m {

@@ -27,7 +27,7 @@ pub fn fill_left(
     fill_pairs(alloc, instance, free, state)
 }
 
-/// Row `i`, column `j` of A; 0 where there is none.
+/// Row `i`, column `j` of A; 0 if there is none.
 fn a_of(instance: &Instance, i: usize, j: usize) -> i64 {
     if i < instance.size() && j < instance.size() {
         instance.a(i, j)
@@ -36,7 +36,7 @@ fn a_of(instance: &Instance, i: usize, j: usize) -> i64 {
     }
 }
 
-/// Row `k`, column `l` of B; 0 where there is none.
+/// Row `k`, column `l` of B; 0 if there is none.
 fn b_of(instance: &Instance, k: usize, l: usize) -> i64 {
     if k < instance.size() && l < instance.size() {
         instance.b(k, l)

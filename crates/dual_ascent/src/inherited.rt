@@ -56,8 +56,8 @@ fn copy_alpha(start: &PairDuals<i64>, rows: &[usize], columns: &[usize], alpha: 
     }
 }
 
-/// The dual of facility number `i` at location number `k` for facility number `j`; 0 where that is the same or there
-/// is none.
+/// The dual of the `i`-th facility at the `k`-th location for the `j`-th facility; 0 if that is the same or there is
+/// none.
 fn alpha_of(start: &PairDuals<i64>, i: usize, k: usize, j: usize) -> i64 {
     let m = start.free();
     if i < m && k < m && j < m && i != j {
@@ -80,8 +80,8 @@ fn copy_beta(start: &PairDuals<i64>, rows: &[usize], columns: &[usize], beta: &m
     }
 }
 
-/// The dual of facility number `i` at location number `k` for location number `l`; 0 where that is the same or there
-/// is none.
+/// The dual of the `i`-th facility at the `k`-th location for the `l`-th location; 0 if that is the same or there is
+/// none.
 fn beta_of(start: &PairDuals<i64>, i: usize, k: usize, l: usize) -> i64 {
     let m = start.free();
     if i < m && k < m && l < m && k != l {

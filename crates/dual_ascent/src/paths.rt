@@ -40,7 +40,7 @@ impl Search {
         })
     }
 
-    /// Opens all columns, none of which has been reached.
+    /// Opens all columns, with none reached.
     fn reset(&mut self) {
         self.distances.fill(i64::MAX);
         self.closed.fill(0);

@@ -83,7 +83,8 @@ fn list_without(those: &[u16], s: usize, numbers: &mut Vec<u16>) -> Result<(), A
     Ok(())
 }
 
-/// Which of the free locations is taken at these places, where they are those that are taken and one more after them.
+/// Which of the free locations is taken at these positions, where they are those that are taken and one more after
+/// them.
 pub(crate) fn place_behind(taken: &[u16], free: &[u16], places: &[u16]) -> Option<usize>
     ensures { MatchOption result ⊤ (λ s. (s < length free.now) × (places.now ≡ taken.now ++ slice_index free.now s ∷ [])) }
 {

@@ -153,9 +153,9 @@ fn make_level(
     own[0].make(ranked, above.last(), node, free)
 }
 
-/// Makes the rows of the distances at each level above the node with these locations those of its ancestor there, from
-/// the lowest ancestor on whose rows are kept. Siblings that come later find those of their parent, regardless of who
-/// evaluated it.
+/// Computes the rows of the distances at each level above the node with these locations for its ancestor there,
+/// starting from the lowest ancestor with stored rows. Siblings that come later find those of their parent, regardless
+/// of who evaluated it.
 fn make_ancestors(
     ranked: &RankedInstance,
     places: &[u16],

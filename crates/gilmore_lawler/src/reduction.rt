@@ -166,8 +166,8 @@ impl RankedInstance {
         )
     }
 
-    /// Makes the rows those of the distances where these locations are taken, with the locations, from those where the last of them
-    /// is free, if these are such.
+    /// Computes the rows of the distances with these locations taken, together with the locations, from those with the
+    /// last of them free, if these are such.
     pub(crate) fn make_known_behind(
         &self,
         before: &LocationRows,

@@ -29,7 +29,7 @@ impl Model for FewBytes {
 }
 
 impl FewBytes {
-    /// These numbers in place, or `None` where there are too many or one of them is not from 0 to 255.
+    /// These numbers in place, or `None` if there are too many or one of them is not from 0 to 255.
     pub(crate) fn of(numbers: &[i128]) -> Option<FewBytes>
         ensures { IfSome result (λ few. map pos few ≡ numbers.now) }
     {
@@ -45,7 +45,7 @@ impl FewBytes {
         }
     }
 
-    /// The numbers of both rows alternately in place, or `None` where there are too many or one of them is above 255.
+    /// The numbers of both rows alternately in place, or `None` if there are too many or one of them is above 255.
     pub(crate) fn by_turns(first: &[u16], second: &[u16]) -> Option<FewBytes>
         requires { length second.now ≡ length first.now }
         ensures { IfSome result (λ few. map pos few ≡ by_turns first.now second.now) }
@@ -67,7 +67,7 @@ impl FewBytes {
         }
     }
 
-    /// These numbers and two more after them, or `None` where there are too many or one of the two is above 255.
+    /// These numbers and two more after them, or `None` if there are too many or one of the two is above 255.
     pub(crate) fn with_two(&self, first: u16, second: u16) -> Option<FewBytes>
         ensures { IfSome result (λ few. few ≡ self.now ++ first ∷ second ∷ []) }
     {
@@ -122,7 +122,7 @@ impl Model for FewShorts {
 }
 
 impl FewShorts {
-    /// These numbers in place, or `None` where there are too many or one of them takes more than 16 bits.
+    /// These numbers in place, or `None` if there are too many or one of them takes more than 16 bits.
     pub(crate) fn of(numbers: &[i128]) -> Option<FewShorts>
         ensures { IfSome result (λ few. few ≡ numbers.now) }
     {

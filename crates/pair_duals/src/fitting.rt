@@ -152,7 +152,7 @@ fn fits_pair<N: Number>(
     true
 }
 
-/// Whether what is left of a pair at two locations is no less than 0, or these are the same.
+/// Whether the residual of a pair at two locations is nonnegative, or these are the same.
 fn is_met<N: Number>(left: N, k: usize, l: usize) -> bool
     ensures { IsTrue result ↔ (k ≢ l → pos 0 ≤ℤ N.value left) }
 {

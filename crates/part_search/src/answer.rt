@@ -63,7 +63,7 @@ pub fn answer_of(alloc: Global, instance: &Instance, space: TxnSpace) -> Result<
     })
 }
 
-/// The lesser of the least value, where there is one, and the cost.
+/// The smaller of the minimum value, if there is one, and the cost.
 fn lesser(least: Option<i128>, best: &Incumbent) -> i128
     ensures below { result ≤ℤ best.now.cost }
     ensures least { IfSome least (λ l. result ≤ℤ l) }

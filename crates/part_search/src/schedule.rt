@@ -209,7 +209,7 @@ fn make<L: Law, S: Stop>(
     }
 }
 
-/// The turn of the worker of this number, where there is one.
+/// The turn of the worker of this number, if there is one.
 fn turn<L: Law, S: Stop>(
     stop: &S,
     worker: usize,
@@ -226,7 +226,7 @@ fn turn<L: Law, S: Stop>(
     Ok(())
 }
 
-/// Loses the worker of this number, where there is one.
+/// Loses the worker of this number, if there is one.
 fn lose<L: Law, S: Stop>(
     alloc: Global,
     task: &Task<'_, S>,

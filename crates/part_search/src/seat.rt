@@ -124,8 +124,8 @@ impl<L: Law> Seat<L> {
         }
     }
 
-    /// Tries the node that it has, outside the space's lock; then it commits what is left and takes another one under one taking of the
-    /// lock, and waits for one where there is none.
+    /// Tries its node outside the space's lock; then it commits what is left and takes another node under one
+    /// acquisition of the lock, and waits for one if there is none.
     fn go_on_at<R: Wait + time::Clock>(&mut self, place: &Workplace<'_, R, L>) {
         let due = Due {
             rt: place.rt,
@@ -149,7 +149,7 @@ impl<L: Law> Seat<L> {
 }
 
 impl<L: Law> Steps<L> for Seat<L> {
-    /// A worker that has ended gives up what it has at hand; any other goes on.
+    /// A worker that has ended gives up its node; any other continues.
     fn make<M: Room<L>>(&mut self, room: &mut M) {
         if self.ended.is_some() {
             let _ = finish(room, &mut self.worker, &mut self.share);
@@ -163,7 +163,7 @@ impl<L: Law> Steps<L> for Seat<L> {
 }
 
 /// Commits what was tried or gives it up, and then, unless the space is closed, takes an open node; returns whether
-/// there was none. The error says how the worker ends.
+/// there was none. The error is how the worker ends.
 fn go_on<L: Law, M: Room<L>>(
     room: &mut M,
     worker: &mut Worker,
@@ -220,7 +220,7 @@ fn step<L: Law, M: Room<L>>(
     }
 }
 
-/// Waits until there is an open node. The error says how the worker ends: where the space is closed it is done.
+/// Waits until there is an open node. The error is how the worker ends: if the space is closed it is done.
 fn wait<R: Wait + time::Clock, L: Law>(place: &Workplace<'_, R, L>) -> Result<(), Ended> {
     place.waiting.fetch_add(1, Ordering::SeqCst);
     let found = place.shared.rd(place.rt, place.nodes);

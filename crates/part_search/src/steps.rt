@@ -59,7 +59,7 @@ fn told_node(found: Result<Option<Found>, TxnError>, txn: Txn) -> Outcome
     }
 }
 
-/// A write of the transaction itself is none of an open node.
+/// A write of the transaction itself is not one of an open node.
 fn took(what: Found, txn: Txn) -> Outcome
     requires { IsFoundOpen (found what) txn }
     ensures stage { (I : Problem) (c : ℤ) → IsStage I c result.stage }
@@ -108,7 +108,7 @@ fn told_best(
     }
 }
 
-/// A write of the transaction itself is none of a best permutation.
+/// A write of the transaction itself is not one of an incumbent.
 fn told_found(
     alloc: Global,
     instance: &Instance,

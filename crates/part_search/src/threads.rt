@@ -164,8 +164,8 @@ fn seats_for<L: Law, S>(
     Ok(seats)
 }
 
-/// Lets each worker work in a thread of its own, and keeps the space until it is closed. A worker whose thread can't be started has
-/// left.
+/// Runs each worker in its own thread, and keeps the space until it is closed. A worker whose thread cannot be started
+/// has left.
 fn work_all<R, L, S>(place: &Workplace<'_, R, L>, seats: &[Mutex<Seat<L>>], watch: &S)
 where
     R: Threads + Wait + time::Clock + Sync,
@@ -188,7 +188,7 @@ fn work<R: Wait + time::Clock, L: Law>(place: &Workplace<'_, R, L>, seat: &Mutex
     place.shared.leave(place.rt);
 }
 
-/// Advances the moment by the clock until the space is closed, by itself or since the watch says so.
+/// Advances the moment by the clock until the space is closed, by itself or because the watch requests it.
 fn keep<R: Wait + time::Clock, L: Law, S: Watch>(place: &Workplace<'_, R, L>, watch: &S) {
     let since = Instant::now(place.rt).ok();
     for _ in place.rt.forever() {
@@ -206,7 +206,7 @@ fn keep<R: Wait + time::Clock, L: Law, S: Watch>(place: &Workplace<'_, R, L>, wa
     }
 }
 
-/// How many milliseconds have passed; none where there is no clock.
+/// The elapsed milliseconds; none if there is no clock.
 fn moment(clock: &impl time::Clock, since: Option<Instant>) -> u64 {
     match since {
         Some(since) => match since.elapsed(clock) {

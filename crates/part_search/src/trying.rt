@@ -16,8 +16,8 @@ use subtree_search::{Incumbent, Stop, SubtreeSearch};
 use tuple_match::Tuple;
 use tuple_space::{EntryId, Lease};
 
-/// Splits the open node that was taken, tries its children, and writes those that are left open. `false` where the entry is none of
-/// an open node, or its lease ends.
+/// Splits the open node that was taken, tries its children, and writes those that remain open. `false` if the entry is
+/// not one of an open node, or its lease ends.
 pub(crate) fn try_taken<S: Stop>(
     alloc: Global,
     ground: &Ground,

@@ -130,12 +130,12 @@ impl Worker {
         matches!(self.stage, Stage::Idle)
     }
 
-    /// Whether it took an open node that is to be tried.
+    /// Whether it took an open node that must be tried.
     pub(crate) fn has_node(&self) -> bool {
         matches!(self.stage, Stage::Taken(..))
     }
 
-    /// Gives up the node at hand: where it has a transaction, the next step aborts it.
+    /// Gives up its node: if it has a transaction, the next step aborts it.
     pub(crate) fn give_up(&mut self)
         ensures { self.new ≡ self.old }
     {

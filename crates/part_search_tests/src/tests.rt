@@ -196,7 +196,7 @@ fn assert_ended(rt: &impl Abort, ended: Ended, own: i128, least: i128) {
     }
 }
 
-/// What searches of an instance rest on, below the root that puts a facility at a location where there are two or more.
+/// What searches of an instance need, below the root that puts a facility at a location if there are two or more.
 fn assert_instance(rt: &impl Abort, alloc: Global, instance: &Instance) -> Result<(), Fail> {
     let all = listing(alloc, instance)?;
     for depth in 0..instance.size().min(2) {

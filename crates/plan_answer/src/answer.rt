@@ -61,7 +61,7 @@ pub fn verdict_text(
     Ok(text)
 }
 
-/// The line that says that the tables' numbers were rounded, where they were, and those of the pairs that cost most.
+/// The line about the rounding of the tables' numbers, if they were rounded, and the lines of the costliest pairs.
 pub(crate) fn dearest_text(
     alloc: Global,
     problem: &NamedProblem,

@@ -178,7 +178,7 @@ fn moves(from: u16, to: u16) -> usize
     if from == to { 0 } else { 1 }
 }
 
-/// The line that says how many departments move.
+/// The line with the number of departments that move.
 fn count_line(alloc: Global, moved: usize, all: usize) -> Result<String, AllocError>
     ensures { IfOk result (λ line. string_bytes line ≡ count_line moved all) }
 {

@@ -30,7 +30,7 @@ pub fn gap_text(alloc: Global, cost: i128, bound: i128) -> Result<Option<Vec<u8>
     }
 }
 
-/// What an answer says of this many tenths of a percent.
+/// The text of an answer for this many tenths of a percent.
 fn percent_text(alloc: Global, tenths: i128) -> Result<Vec<u8>, AllocError>
     ensures { IfOk result (λ text. IsPercentText tenths text.items) }
 {

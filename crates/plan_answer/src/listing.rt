@@ -25,7 +25,7 @@ pub fn pairs_text(
     Ok(text)
 }
 
-/// What is above the lines, where there are any.
+/// The heading of the lines, if there are any.
 fn heading(pairs: &[Pair]) -> &'static [u8]
     ensures { result.now ≡ heading pairs.now }
 {

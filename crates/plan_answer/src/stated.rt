@@ -58,7 +58,7 @@ fn stated_line(
     Ok(text)
 }
 
-/// Appends what is stated of the cost to the text: that it is optimal, or between which bounds the least cost lies.
+/// Appends what is stated about the cost to the text: that it is optimal, or the bounds of the least cost.
 fn push_stated(
     text: &mut Vec<u8>,
     is_open: bool,

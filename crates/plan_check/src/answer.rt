@@ -90,7 +90,7 @@ fn stated_answer(
     })
 }
 
-/// The permutation that a value lists, where it keeps what is fixed.
+/// The permutation that a value lists, if it respects what is fixed.
 fn kept_permutation(alloc: Global, fixed: &Partial, value: &Value) -> Result<Perm, AnswerError>
     ensures { MatchResult result
         (λ p. ListsLocations (view value.now) p × Completes fixed.now p)

@@ -32,7 +32,7 @@ fn problem(alloc: Global, plan: &[u8]) -> Result<NamedProblem, Fail>
     Ok(read_tables(alloc, &plan, FLOWS, DISTANCES)?)
 }
 
-/// How an answer to a plan is shown, or why it is none.
+/// How an answer to a plan is shown, or why it is not one.
 fn shown(alloc: Global, plan: &[u8], text: &str) -> Result<String, Fail> {
     let problem = problem(alloc, plan)?;
     match answer_to_plan(alloc, &problem, text.as_bytes()) {

@@ -37,7 +37,7 @@ pub fn distances_of(alloc: Global, table: &Table) -> Result<Distances, PlanError
     }
 }
 
-/// Checks that nothing is said of measuring where there are no places.
+/// Checks that a plan without places has no keys for measuring.
 fn check_unmeasured(table: &Table) -> Result<(), PlanError>
     requires { HasNone (table_view table.now) (codes "places") }
     ensures none { OnOk result (HasNone (table_view table.now) (codes "metric") × HasNone (table_view table.now) (codes "decimals")) }
@@ -59,7 +59,7 @@ fn check_none(table: &Table, key: &'static str, other: &'static str) -> Result<(
     }
 }
 
-/// By what the distances are measured, where there are places.
+/// How distances are measured, if there are places.
 fn metric_of(alloc: Global, table: &Table) -> Result<Metric, PlanError>
     requires { HasSome (table_view table.now) (codes "places") }
     ensures metric { IfOk result (SaysMetric (table_view table.now)) }

@@ -94,21 +94,21 @@ pub fn is_known(key: &str) -> bool
     is_known_of_flows(key) || is_known_of_distances(key) || is_known_of_rules(key) || key == "fixed"
 }
 
-/// Whether a plan may have a key that says how the tables are read.
+/// Whether a key is one that specifies how the tables are read.
 fn is_known_of_rules(key: &str) -> bool
     ensures { IsTrue result ↔ IsKnownOfRules key.now }
 {
     key == "decimal_mark" || key == "round" || key == "symmetric" || key == "duplicates"
 }
 
-/// Whether a plan may have a key that says of the flows.
+/// Whether a key is one of those for the flows.
 fn is_known_of_flows(key: &str) -> bool
     ensures { IsTrue result ↔ IsKnownOfFlows key.now }
 {
     key == "flows" || key == "trips" || key == "departments"
 }
 
-/// Whether a plan may have a key that says of the distances.
+/// Whether a key is one of those for the distances.
 fn is_known_of_distances(key: &str) -> bool
     ensures { IsTrue result ↔ IsKnownOfDistances key.now }
 {

@@ -6,7 +6,7 @@ use plan_picture::picture;
 use qap_cost::Perm;
 use std::test::Fail;
 
-/// What a plan's text says: its two files and how many departments are fixed, or why it is none.
+/// The content of a plan's text: its two files and how many departments are fixed, or why it is not a plan.
 fn told(rt: &HostRuntime, text: &[u8]) -> Result<String, Fail> {
     let alloc = rt.alloc();
     Ok(match read_plan(alloc, text) {

@@ -149,7 +149,7 @@ fn fault_of(error: &TablesError) -> Fault {
     }
 }
 
-/// The file of a name that is in a plan: what is no absolute path is sought from the plan's folder.
+/// The file of a name in a plan: a path that is not absolute is relative to the plan's folder.
 fn beside(alloc: Global, plan: &str, name: &str) -> Result<String, AllocError> {
     match Path::new(plan).parent() {
         Some(folder) => Ok(folder.join(alloc, name)?.into_string()),

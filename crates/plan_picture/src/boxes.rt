@@ -117,7 +117,7 @@ fn box_line(
     )
 }
 
-/// Appends the name of the department that is around a centre to the text, where there is one.
+/// Appends the name of the department centred at a point to the text, if there is one.
 fn push_department(
     alloc: Global,
     text: &mut Vec<u8>,
@@ -159,7 +159,7 @@ fn push_place_name(
     )
 }
 
-/// Appends a name whose middle is at a point to the text, whole where the pointer rests on it.
+/// Appends a name centred at a point to the text, in full while the pointer is over it.
 fn push_name(
     alloc: Global,
     text: &mut Vec<u8>,

@@ -68,7 +68,7 @@ fn box_size(problem: &NamedProblem) -> BoxSize {
     }
 }
 
-/// How many columns the widest of the names takes, once it is cut.
+/// How many columns the widest of the names takes, once truncated.
 fn widest(names: &[String]) -> usize
     ensures { result ≤ 24 }
 {

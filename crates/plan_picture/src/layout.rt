@@ -73,7 +73,7 @@ struct Frame {
     upper: i64,
 }
 
-/// The frame of points, where there are any.
+/// The frame of points, if there are any.
 fn frame_of(points: &[Point]) -> Option<Frame> {
     let (first, others) = points.split_first()?;
     let mut frame = Frame {
@@ -123,7 +123,7 @@ fn factor_between(p: &Point, q: &Point, size: BoxSize) -> Option<u128> {
     }
 }
 
-/// The least factor that makes a length this many pixels; `None` where there is no length.
+/// The least factor that makes a length this many pixels; `None` if there is no length.
 fn factor_for(pixels: u128, length: u128) -> Option<u128> {
     if length == 0 {
         return None;
@@ -179,7 +179,7 @@ fn steps(count: usize, length: u32) -> u32 {
     (count as u64).saturating_mul(step).min(u64::from(u32::MAX)) as u32
 }
 
-/// How many boxes are in a row: the least number whose square is no less than the count, and at least 1.
+/// How many boxes are in a row: the least number, at least 1, whose square is no less than the count.
 fn columns_for(count: usize) -> usize
     ensures { 0 < result }
 {

@@ -28,7 +28,7 @@ pub fn push_shown(alloc: Global, text: &mut Vec<u8>, name: &str) -> Result<(), A
     }
 }
 
-/// As much of a name as has room beside the mark that something was cut, and that mark.
+/// As much of a name as fits beside an ellipsis, and the ellipsis.
 fn cut_name(alloc: Global, name: &str) -> Result<String, AllocError>
     ensures { IfOk result (λ cut. string_bytes cut ≡ cut_name name.now) }
 {

@@ -90,7 +90,7 @@ fn beyond(high: u32, low: u32) -> u32 {
     0x10000_u32.wrapping_add((high & 0x3FF) << 10 | low & 0x3FF)
 }
 
-/// Appends a character to the text; U+FFFD where there is none of that number.
+/// Appends a character to the text; U+FFFD if there is none of that number.
 fn push_code(text: &mut String, code: u32) -> Result<(), AllocError> {
     text.push(char::from_u32(code).unwrap_or('\u{FFFD}'))
 }

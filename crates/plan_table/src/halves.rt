@@ -53,7 +53,7 @@ fn completed_row(
     Ok(filled)
 }
 
-/// The word of a field of a row, whose name is the one of this number; where it says nothing, that of the other half.
+/// The word of a field of a row, whose name is the one of this number; if it is empty, that of the reverse direction.
 fn word_of<'a>(
     rows: &'a [StringRecord],
     names: &[String],

@@ -44,7 +44,7 @@ pub fn is_layout(alloc: Global, text: &[u8]) -> Result<bool, AllocError> {
     }
 }
 
-/// Checks that the first two fields of a record say what the columns are.
+/// Checks that the first two fields of a record name the columns.
 fn check_layout_head(alloc: Global, text: &[u8], head: &StringRecord) -> Result<(), TableError>
     ensures { OnOk result (map (λ word. map to_ascii_lowercase word) (take 2 (fields_of head.now)) ≡ layout_head) }
 {

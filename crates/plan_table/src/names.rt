@@ -69,8 +69,8 @@ pub fn read_first_names(
     Ok(names)
 }
 
-/// A name that is not empty, has no control character and is none of the others; it is in this field of a row, counted
-/// from 0.
+/// A name that is not empty, has no control character and differs from the others; it is in this field of a row,
+/// counted from 0.
 fn new_name(
     alloc: Global,
     others: &[String],

@@ -225,7 +225,8 @@ fn is_whole(mark: DecimalMark, text: &[u8]) -> bool
         || are_groups(b'\'', text)
 }
 
-/// Whether these are groups of three digits, the first of which may be shorter and doesn't begin with 0, with this mark between them.
+/// Whether these are groups of three digits, the first of which may be shorter and does not begin with 0, with this
+/// separator.
 fn are_groups(group: u8, text: &[u8]) -> bool
     ensures { result ≡ are_groups group text.now }
 {

@@ -41,7 +41,7 @@ fn padded_digits(alloc: Global, magnitude: u128, places: usize) -> Result<Vec<u8
     Ok(padded)
 }
 
-/// Appends the digits before a point to the text, and where there are any after it, the point and these.
+/// Appends the digits before a point to the text, and if there are any after it, the point and these.
 fn push_digits(text: &mut Vec<u8>, whole: &[u8], fraction: &[u8]) -> Result<(), AllocError>
     ensures { OnOk result (text.new.items ≡ text.old.items ++ pointed_text whole.now fraction.now) }
 {

@@ -76,7 +76,7 @@ pub fn read_trips_between(
     Ok(matrix)
 }
 
-/// The first three fields of each record below the first, which says what the columns are. No record is longer than the first.
+/// The first three fields of each record below the first, which names the columns. No record is longer than the first.
 fn read_list(alloc: Global, text: &[u8]) -> Result<Vec<StringRecord>, TableError>
     ensures { IfOk result (λ rows. IsList text.now (map fields_of rows.items)) }
 {
@@ -353,7 +353,7 @@ fn sum_too_large(alloc: Global, text: &[u8], row: &StringRecord) -> TableError {
     }
 }
 
-/// The entries of cells; one that is empty says 0, or what that of the way back says where each half completes the
+/// The entries of cells; an empty one is 0, or has the content of the reverse direction if the halves complete each
 /// other.
 fn entries_of(
     alloc: Global,
@@ -382,7 +382,7 @@ fn filled_cells(alloc: Global, cells: &[Option<i64>]) -> Result<Vec<i64>, AllocE
     cells.iter().map(|cell| filled(*cell)).collect(alloc)
 }
 
-/// What a cell says.
+/// The content of a cell.
 fn filled(cell: Option<i64>) -> i64
     ensures { result ≡ filled_with cell }
 {

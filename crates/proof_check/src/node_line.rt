@@ -20,7 +20,7 @@ pub(crate) struct SplitLine {
     pub(crate) u: Vec<i128>,
 }
 
-/// What the line of a node says.
+/// The content of a node's line.
 #[derive(Drop)]
 pub(crate) enum NodeLine {
     /// It reaches the bound by these numbers, one for each free facility.
@@ -28,7 +28,7 @@ pub(crate) enum NodeLine {
     Split(SplitLine),
 }
 
-/// What the line of a node of an instance of this size says, where `m` facilities are free.
+/// The content of the line of a node of an instance of this size, with `m` facilities free.
 pub(crate) fn read_node_line(
     alloc: Global,
     line: &[u8],

@@ -44,7 +44,7 @@ pub(crate) fn read_rows<R: BufRead>(
     Ok(rows)
 }
 
-/// The numbers of a line, which are to be this many, each from -10^24 to 10^24.
+/// The numbers of a line, which must be this many, each from -10^24 to 10^24.
 fn read_row(alloc: Global, line: &[u8], number: u64, width: usize) -> Result<Vec<i128>, ProofError>
     requires { width ≤ 512 }
     ensures { IfOk result (λ row. AreLimited width row.items × (line.now ≡ drop 1 (numbers_text row.items))) }

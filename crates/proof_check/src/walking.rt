@@ -37,8 +37,8 @@ pub(crate) struct Judge<'a> {
     pub(crate) below: i128,
 }
 
-/// A split whose children are walked along, with the pair duals in force and the form after its line, and the value that is to be
-/// exceeded; and the number of its line.
+/// A split whose children are being checked, with the pair duals in force and the form after its line, and the value to
+/// be exceeded; and the number of its line.
 #[derive(Clone, Copy)]
 pub(crate) struct Parent<'a> {
     pub(crate) split: SplitOf<'a>,
@@ -352,7 +352,7 @@ fn zeros(alloc: Global, count: usize) -> Result<Vec<i128>, AllocError>
     Ok(list)
 }
 
-/// The value that is to be exceeded under pair duals.
+/// The value to be exceeded under pair duals.
 fn threshold(judge: &Judge<'_>, duals: &PairDuals<i128>) -> i128
     requires { unsigned_abs judge.now.below ≤ 10 ^ 30 }
     ensures value { result ≡ pos duals.now.scale *ℤ judge.now.below }

@@ -210,7 +210,7 @@ pub(crate) fn check_bound(
     Ok(())
 }
 
-/// Likewise for the child of a split at this location, whose node isn't made.
+/// Likewise for the child of a split at this location, whose node is not built.
 pub(crate) fn check_child_bound(
     workspace: &mut Workspace,
     rows: &SplitRows<'_>,

@@ -53,7 +53,7 @@ pub(crate) fn node_line<'a>(
     })
 }
 
-/// The facility of a split, which is to be free; `None` where the line isn't that of a split.
+/// The facility of a split, which must be free; `None` if the line is not that of a split.
 fn judge_split_line(
     line: &[u8],
     grammar: Grammar,
@@ -72,7 +72,7 @@ fn judge_split_line(
     Ok(Some(facility))
 }
 
-/// The facility of a split's line; `None` where the line is none such.
+/// The facility of a split's line; `None` if the line has another form.
 fn split_facility(line: &[u8], grammar: Grammar, placed: &Placed) -> Option<u16>
     requires small { grammar.size ≤ 256 }
     ensures { MatchOption result
@@ -90,7 +90,7 @@ fn split_facility(line: &[u8], grammar: Grammar, placed: &Placed) -> Option<u16>
 }
 
 /// Checks the line of a bound: `b` and a number for each free facility and each free location. The first `wanted` of
-/// the numbers are put into `first`, in place of what it was; where none is wanted, no memory is taken.
+/// the numbers replace the content of `first`; if `wanted` is 0, nothing is allocated.
 pub(crate) fn bound_numbers(
     line: &[u8],
     grammar: Grammar,

@@ -49,8 +49,7 @@ impl Placed {
         self.facilities[..self.count].contains(&facility)
     }
 
-    /// These, and one more after them. It isn't inlined: a walk that calls itself would keep what is copied here at
-    /// each of its levels.
+    /// These, and one more after them. It is not inlined, since a recursive walk would keep its copy at each level.
     #[inline(never)]
     pub(crate) fn with(&self, facility: u16) -> Placed
         requires { length self.now < 256 }

@@ -140,7 +140,7 @@ fn judge_children<'a>(
     })
 }
 
-/// Likewise for the child at this location. The node of a child whose line is that of a bound isn't made.
+/// Likewise for the child at this location. The node of a child whose line is that of a bound is not built.
 #[cycle(walking)]
 fn judge_child<'a>(
     buffers: &mut Buffers,

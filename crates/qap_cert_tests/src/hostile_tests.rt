@@ -16,7 +16,7 @@ use std::test::Fail;
 const BOUND: &[u8] = b"qapcert 1\nn 3\ncost 24\nperm 1 2 3\nb 9 10 12 0 -2 -5\nend\n";
 
 const BOUND_2: &[u8] = b"qapcert 2\nn 3\ncost 24\nperm 1 2 3\nb 9 10 12 0 -2 -5\nend\n";
-/// A certificate that states a wrong cost, and whose first bound doesn't fit.
+/// A certificate that states a wrong cost, and whose first bound does not fit.
 const WRONG: &[u8] =
     b"qapcert 2\nn 3\ncost 2\nperm 1 2 3\ns 2\nb 0 0 9 0\nb 0 0 1 0\nb 0 1 0 0\nend\n";
 
@@ -166,7 +166,7 @@ fn written(alloc: Global, certificate: &Certificate, call: u64) -> Outcome
     }
 }
 
-/// Asserts what is written of the certificate with this text, where each call in turn fails.
+/// Asserts what is written of the certificate with this text when each call in turn fails.
 fn assert_writes(rt: &impl Abort, alloc: Global, certificate: &Certificate, text: &[u8]) {
     for call in 1..=text.len() + 2 {
         let written = written(alloc, certificate, call as u64);

@@ -75,7 +75,7 @@ fn certificate(
     }
 }
 
-/// What `check` says of the certificate of these, or what keeps them from being one.
+/// The answer of `check` for the certificate with these parts, or what prevents them from being one.
 fn verdict(
     alloc: Global,
     instance: &Instance,

@@ -46,7 +46,7 @@ pub(crate) fn ring(alloc: Global) -> Result<Option<Instance>, AllocError> {
     )
 }
 
-/// What `accept` says of a text.
+/// The answer of `accept` for a text.
 pub(crate) fn judged(
     alloc: Global,
     instance: &Instance,
@@ -55,7 +55,7 @@ pub(crate) fn judged(
     accept(alloc, instance, text)
 }
 
-/// The fault that `read` tells, if it tells one.
+/// The fault that `read` reports, if any.
 pub(crate) fn reading_fault(alloc: Global, text: &[u8]) -> Option<CertError> {
     read(alloc, text).err()
 }
@@ -68,7 +68,7 @@ fn written(alloc: Global, certificate: &Certificate) -> (Result<(), CertError>, 
     (answer, failed, writer.into_inner())
 }
 
-/// Asserts what `accept` says of a text.
+/// Asserts the answer of `accept` for a text.
 pub(crate) fn assert_judged(
     rt: &impl Abort,
     alloc: Global,
@@ -135,7 +135,7 @@ fn ring_text(alloc: Global, version: &[u8], rest: &[u8]) -> Result<Vec<u8>, Allo
     Ok(text)
 }
 
-/// Asserts what `accept` says of a text of size 3 and the cost 1, for the ring.
+/// Asserts the answer of `accept` for a text of size 3 and the cost 1, for the ring.
 fn assert_ring_text(
     rt: &impl Abort,
     alloc: Global,
@@ -148,7 +148,7 @@ fn assert_ring_text(
     Ok(())
 }
 
-/// What `accept` says of a text that begins with these lines of size 3 and the cost 1, for the ring.
+/// The answer of `accept` for a text that begins with these lines of size 3 and the cost 1, for the ring.
 #[test]
 fn verdicts(rt: HostRuntime) -> Result<(), Fail> {
     let alloc = rt.alloc();

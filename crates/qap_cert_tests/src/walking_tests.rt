@@ -17,7 +17,7 @@ fn shown(certificate: &Certificate) -> Verdict {
     }
 }
 
-/// What checking the certificate comes to.
+/// The result of checking the certificate.
 pub(crate) fn checked(
     alloc: Global,
     instance: &Instance,
@@ -188,7 +188,8 @@ pub(crate) fn deep(alloc: Global, version: &str, cost: &str) -> Result<Vec<u8>, 
     Ok(text)
 }
 
-/// Asserts what `accept` says of the deep tree in this version, for an instance each of whose permutations costs 0.
+/// Asserts the answer of `accept` for the deep tree in this version, for an instance each of whose permutations costs
+/// 0.
 fn assert_deep(
     rt: &impl Abort,
     alloc: Global,

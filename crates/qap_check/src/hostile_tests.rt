@@ -47,7 +47,7 @@ const WORKED: [Worked; 4] = [
     },
 ];
 
-/// The line that says why this beginning of an instance and a certificate is refused: `instance` is the instance's
+/// The line that reports why this prefix of an instance and a certificate is refused: `instance` is the instance's
 /// length.
 fn fault_of(alloc: Global, beginning: &[u8], instance: usize) -> Result<String, AllocError> {
     let feeds = beginning.iter().filter(|byte| **byte == b'\n').count();
@@ -114,7 +114,7 @@ struct Reply {
     written: Vec<u8>,
 }
 
-/// Asks a question, and keeps what is written in memory.
+/// Makes a request, and keeps what is written in memory.
 fn reply_of<R: Read, S: Read>(
     alloc: Global,
     question: Question,
@@ -275,7 +275,7 @@ fn output_fails_at(
     (answer, end_of(output))
 }
 
-/// Asserts what is written where each call of the writer in turn fails.
+/// Asserts what is written when each call of the writer in turn fails.
 fn assert_output_fails(rt: &impl Abort, alloc: Global, worked: &Worked) {
     let calls = worked.answer.len() + 1;
     for call in 1..=calls + 1 {

@@ -35,7 +35,7 @@ fn main(rt: HostRuntime) -> ExitCode {
     }
 }
 
-/// Reports why the command line asks for nothing.
+/// Reports why the command line is rejected.
 fn tell(rt: &HostRuntime, error: CommandError) -> ExitCode {
     match error {
         CommandError::OutOfMemory => refuse(rt, RunError::OutOfMemory),

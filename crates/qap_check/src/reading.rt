@@ -41,7 +41,7 @@ fn behind_instance(rest: &[u8], separators: Separators) -> &[u8]
     }
 }
 
-/// All that the second reader has, where there is one; else what follows the instance.
+/// All that the second reader has, if there is one; otherwise what follows the instance.
 fn read_other<S: Read>(
     alloc: Global,
     second: &mut Option<Counted<S>>,

@@ -70,7 +70,7 @@ static NODES: [(usize, &[(u16, u16)], &[u16], &[u16]); 5] = [
     (4, &[(2, 3), (0, 0), (3, 2), (1, 1)], &[], &[]),
 ];
 
-/// Fails unless the node with these pairs says this of each number.
+/// Fails unless the node with these pairs gives this answer for each number.
 fn expect_answers(rt: &impl Abort, node: &Partial, pairs: &[(u16, u16)], locations: &[u16]) {
     for k in 0..6 {
         let placed = place_of(pairs, k);

@@ -15,9 +15,9 @@ pub(crate) struct Choice {
     pub second: usize,
 }
 
-/// The exchange that is to be made rather than all others looked at; before any is found, that of a facility with itself.
+/// The exchange that has priority over all others seen so far; before any is found, that of a facility with itself.
 ///
-/// Its parts lie side by side, with no `Option` round them, so that they stay in registers on the way through all pairs.
+/// Its parts are side by side, without an `Option`, so that they stay in registers during the enumeration of the pairs.
 #[derive(Clone, Copy)]
 struct Best<N> {
     first: usize,
@@ -28,8 +28,8 @@ struct Best<N> {
     aspires: bool,
 }
 
-/// The exchange to make of two facilities that may move, where the facilities are at these locations: of those that aspire the one that
-/// costs least, and if none does, of those that aren't tabu; of equal ones the first.
+/// The exchange to make of two facilities that may move, with the facilities at these locations: of those that aspire
+/// the one that costs least, and if none does, of those that are not tabu; of equal ones the first.
 ///
 /// One aspires whose difference is below `bar`, or that is due.
 pub(crate) fn choose<N: Number>(
@@ -98,7 +98,8 @@ fn best_with<N: Number>(
     best
 }
 
-/// The exchange of this pair, whose first facility may move, if it may be made and is to be made rather than the best so far, and else that.
+/// The exchange of this pair, whose first facility may move, if it may be made and has priority over the best so far,
+/// and otherwise the latter.
 fn better<N: Number>(
     memory: &Memory,
     locations: &[u16],

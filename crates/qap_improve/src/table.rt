@@ -20,7 +20,7 @@ pub(crate) struct Differences<N> {
     contrasts: Vec<Contrast>,
 }
 
-/// Those of the permutation with these locations, each by itself. Takes time in n^3.
+/// Those of the permutation with these locations, each computed separately, in time O(n^3).
 pub(crate) fn all_differences<N: Number>(
     alloc: Global,
     instance: &Instance,

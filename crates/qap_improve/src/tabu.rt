@@ -196,7 +196,7 @@ fn best_of<N: Number>(walk: Walk<N>) -> Improved
     }
 }
 
-/// Makes the exchange that is to be made next of two facilities that may move, if there is one.
+/// Makes the next exchange of two facilities that may move, if there is one.
 fn step<N: Number>(instance: &Instance, may_move: &[bool], walk: &mut Walk<N>, memory: &mut Memory)
     requires walk { IsWalk N.value N.limit instance.now walk.old }
     requires movable { length may_move.now ≡ instance.now.size }

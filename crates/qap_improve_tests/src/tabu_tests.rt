@@ -21,7 +21,7 @@ impl Hook for Patience {
     }
 }
 
-/// The locations and the cost that a search answers; `None` where it may not be begun.
+/// The locations and the cost that a search returns; `None` if its precondition fails.
 fn told_search<H: Hook>(
     alloc: Global,
     instance: &Instance,
@@ -149,7 +149,8 @@ fn equal_seeds_give_equal_answers(rt: HostRuntime) -> Result<(), Fail> {
     Ok(())
 }
 
-/// The locations and the cost that a search among the facilities that may move answers; `None` where it may not be begun.
+/// The locations and the cost that a search among the facilities that may move returns; `None` if its precondition
+/// fails.
 fn told_search_among(
     alloc: Global,
     instance: &Instance,

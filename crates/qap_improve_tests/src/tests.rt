@@ -51,7 +51,7 @@ pub(crate) fn permutation_of(alloc: Global, locations: &[u16]) -> Result<Option<
     Ok(Perm::new(Vec::from_slice(alloc, locations)?).ok())
 }
 
-/// What the double sum says of the permutation; `None` where the sizes differ.
+/// The double sum for the permutation; `None` if the sizes differ.
 pub(crate) fn cost_by_sum(instance: &Instance, permutation: &Perm) -> Option<i128> {
     if permutation.len() != instance.size() {
         return None;
@@ -59,7 +59,7 @@ pub(crate) fn cost_by_sum(instance: &Instance, permutation: &Perm) -> Option<i12
     Some(cost(instance, permutation))
 }
 
-/// What `difference` says; `None` where it may not be asked.
+/// The answer of `difference`; `None` if its precondition fails.
 fn told_difference(instance: &Instance, permutation: &Perm, r: usize, s: usize) -> Option<i128> {
     let n = instance.size();
     if permutation.len() != n || r >= n || s >= n || r == s {
@@ -68,7 +68,7 @@ fn told_difference(instance: &Instance, permutation: &Perm, r: usize, s: usize) 
     Some(difference(instance, permutation, r, s))
 }
 
-/// The locations and the cost where the descent ends; `None` where it may not be begun.
+/// The locations and the cost at which the descent ends; `None` if its precondition fails.
 fn told_descent(
     alloc: Global,
     instance: &Instance,

@@ -92,7 +92,7 @@ pub fn parse<'a>(alloc: Global, words: &'a [String]) -> Result<Task<'a>, Error>
     }
 }
 
-/// The time limit that is asked for, where it is no time.
+/// The requested time limit, if it is not a time.
 fn wrong_time<'a>(matches: &ArgMatches<'a>) -> Option<&'a str> {
     match matches.subcommand() {
         Some(("solve" | "split" | "part" | "compare", found)) => {
@@ -106,7 +106,7 @@ fn wrong_time<'a>(matches: &ArgMatches<'a>) -> Option<&'a str> {
     }
 }
 
-/// The time limit that is asked for, in milliseconds.
+/// The requested time limit, in milliseconds.
 pub(crate) fn time_limit(found: &ArgMatches<'_>) -> Option<u64> {
     milliseconds_of(found.get_str("seconds")?)
 }

@@ -38,7 +38,7 @@ pub fn run_convert(rt: &HostRuntime, request: &ConvertRequest<'_>) -> ExitCode {
 }
 
 /// Writes the names, so that no instance is without them, and then the instance; to a device, the instance alone. Then
-/// it says how large that is.
+/// it prints the size.
 fn write_both(
     rt: &HostRuntime,
     outputs: &mut Outputs<'_>,

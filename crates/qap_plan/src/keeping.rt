@@ -69,8 +69,8 @@ where
     Ok(kept_or_first(instance, fixed, first, planned_by(found)))
 }
 
-/// The permutation that the search begins with: what a tabu search finds that keeps what is fixed, from the start, or
-/// any, made to keep it.
+/// The initial permutation of the search: what a tabu search finds that respects what is fixed, from the start, or any,
+/// made to respect it.
 fn kept_start<S: Stop>(
     alloc: Global,
     instance: &Instance,
@@ -91,7 +91,7 @@ fn kept_start<S: Stop>(
     Ok(found.permutation)
 }
 
-/// The start, or the permutation that leaves each facility at the location of its number, made to keep what is fixed.
+/// The start, or the identity, made to respect what is fixed.
 fn own_start(
     alloc: Global,
     instance: &Instance,
@@ -109,8 +109,8 @@ fn own_start(
     }
 }
 
-/// What a search has found, where its permutation keeps what is fixed; else the same bound with the permutation that it
-/// began with.
+/// What a search has found, if its permutation respects what is fixed; otherwise the same bound with the permutation
+/// with which it began.
 fn kept_or_first(instance: &Instance, fixed: &Partial, first: Perm, found: Planned) -> Planned
     requires size { fixed.now.size ≡ instance.now.size }
     requires first { Completes fixed.now first }

@@ -91,7 +91,7 @@ fn main(rt: HostRuntime) -> ExitCode {
     }
 }
 
-/// Does what is asked for. `system` is what threads, waiting and the time are asked of.
+/// Executes the request. `system` provides threads, waiting and the time.
 fn carry_out<T>(system: &T, rt: &HostRuntime, task: &Task<'_>) -> ExitCode
 where
     T: Threads + Wait + Clock + Sync,
@@ -123,7 +123,7 @@ fn tell_unread(rt: &HostRuntime, error: &io::Error) -> ExitCode {
     ExitCode::from(Status::Usage.code())
 }
 
-/// Prints the help or the version where it was asked for, and else what is wrong with the command line.
+/// Prints the help or the version if requested, and otherwise what is wrong with the command line.
 fn tell(rt: &HostRuntime, error: &Error) -> ExitCode {
     if error.kind() == ErrorKind::OutOfMemory {
         return refuse(rt, "qapplan", PlanError::OutOfMemory);
@@ -143,7 +143,7 @@ pub(crate) fn refuse_with(rt: &HostRuntime, file: &str, error: PlanError) -> Sta
     error.status()
 }
 
-/// Solves an instance. `system` is what threads, waiting and the time are asked of.
+/// Solves an instance. `system` provides threads, waiting and the time.
 fn solve<T>(system: &T, rt: &HostRuntime, request: &Request<'_>) -> ExitCode
 where
     T: Threads + Wait + Clock + Sync,
@@ -198,7 +198,7 @@ fn refuse_table(rt: &HostRuntime, file: &str) -> ExitCode {
     ExitCode::from(Status::Usage.code())
 }
 
-/// The file of the start that is asked for; its name, where it can't be opened.
+/// The file of the requested start; its name, if it cannot be opened.
 pub(crate) fn start_of<'a, R: Files>(
     rt: &R,
     request: &Request<'a>,
@@ -248,7 +248,7 @@ pub(crate) fn faulty_file<'a>(request: &Request<'a>, error: PlanError) -> &'a st
     }
 }
 
-/// Prints the answer and writes the files that were asked for, each whatever became of the others, and gives the exit status.
+/// Prints the answer and writes the requested files, each independently of the others, and returns the exit status.
 fn finish(
     rt: &HostRuntime,
     request: &Request<'_>,

@@ -43,7 +43,7 @@ where
     }
 }
 
-/// The part's node and the permutation to begin with; the name of what is at fault, and why, where there isn't one of each.
+/// The part's node and the initial permutation; otherwise the name of what is at fault, and why.
 fn node_and_start<'a>(
     rt: &HostRuntime,
     request: &PartRequest<'a>,
@@ -115,7 +115,7 @@ where
     }
 }
 
-/// What is in the file of an earlier run; `None` where there is no such file, or it can't be read.
+/// The content of the file of an earlier run; `None` if there is no such file, or it cannot be read.
 fn earlier(rt: &HostRuntime, name: &str) -> Option<Vec<u8>> {
     let found = fs::metadata(rt, name).ok()?;
     if !found.is_file() {
@@ -125,7 +125,8 @@ fn earlier(rt: &HostRuntime, name: &str) -> Option<Vec<u8>> {
     read_all(rt.alloc(), &mut Counted::new(file), MAX_INPUT).ok()
 }
 
-/// Writes the proof, says what it shows, and gives the exit status. Where the proof can't be written, nothing is said of it.
+/// Writes the proof, prints what it establishes, and returns the exit status. If the proof cannot be written, nothing
+/// is printed about it.
 fn finish(
     rt: &HostRuntime,
     request: &PartRequest<'_>,
@@ -142,7 +143,7 @@ fn finish(
     ExitCode::from(status.code())
 }
 
-/// Says what the proof of the part shows, and gives the exit status.
+/// Prints what the proof of the part establishes, and returns the exit status.
 fn end(rt: &HostRuntime, cost: i128, bound: i128, when: &str) -> Status {
     let status = if bound < cost {
         Status::Stopped
@@ -155,7 +156,7 @@ fn end(rt: &HostRuntime, cost: i128, bound: i128, when: &str) -> Status {
     }
 }
 
-/// The line that says what the proof of the part shows.
+/// The line with what the proof of the part establishes.
 fn line_of(alloc: Global, cost: i128, bound: i128, when: &str) -> Result<String, AllocError> {
     if bound < cost {
         format!(in alloc; "cost {cost}, part within {bound} to {cost}, proved{when}\n")

@@ -85,7 +85,7 @@ where
     }
 }
 
-/// A reader of the text of a start, where there is one.
+/// A reader of the text of a start, if there is one.
 fn reader_of(start: &Option<Vec<u8>>) -> Option<Counted<&[u8]>> {
     match start {
         Some(text) => Some(Counted::new(text.as_slice())),
@@ -102,7 +102,7 @@ pub(crate) fn tell_notes(rt: &HostRuntime, loaded: &Loaded) {
     }
 }
 
-/// Prints the answer and writes the files that were asked for, each whatever became of the others, and gives the exit status.
+/// Prints the answer and writes the requested files, each independently of the others, and returns the exit status.
 fn finish(
     rt: &HostRuntime,
     request: &Request<'_>,

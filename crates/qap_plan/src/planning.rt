@@ -97,7 +97,7 @@ where
     Ok(planned_by(found))
 }
 
-/// What the search's answer says of all permutations.
+/// What the search's answer implies for all permutations.
 pub(crate) fn planned_by(found: Bounded) -> Planned
     ensures permutation { result.permutation ≡ found.permutation }
     ensures cost { result.cost ≡ found.cost }
@@ -147,7 +147,7 @@ pub(crate) fn decided(reports: &[Report]) -> u64 {
     nodes
 }
 
-/// Lets a tabu search go on until its stop is wanted.
+/// Lets a tabu search continue until a stop is requested.
 #[derive(Drop)]
 pub(crate) struct UntilStopped<'a, S: Stop> {
     pub(crate) stop: &'a S,
@@ -177,7 +177,7 @@ pub(crate) fn improved<S: Stop>(
     Ok(found.permutation)
 }
 
-/// The permutation that the tabu search begins with: the start, where there is one.
+/// The initial permutation of the tabu search: the start, if there is one.
 fn first_of(alloc: Global, instance: &Instance, start: Option<Perm>) -> Result<Perm, AllocError>
     requires { IfSome start (Permutes instance.now) }
     ensures permutes { IfOk result (Permutes instance.now) }

@@ -47,7 +47,7 @@ fn show_plan(rt: &HostRuntime, request: &ShowRequest<'_>) -> ExitCode {
     }
 }
 
-/// Prints an answer to a plan, and writes it and its picture where that is asked for.
+/// Prints an answer to a plan, and writes it and its picture if requested.
 fn tell_plan(
     rt: &HostRuntime,
     request: &ShowRequest<'_>,
@@ -104,7 +104,7 @@ fn show_instance(rt: &HostRuntime, request: &ShowRequest<'_>) -> ExitCode {
     }
 }
 
-/// Prints the text, and writes it to the file that is asked for.
+/// Prints the text, and writes it to the requested file.
 fn tell(rt: &HostRuntime, request: &ShowRequest<'_>, text: Vec<u8>) -> ExitCode {
     let inputs = [
         file_id(rt, request.file),

@@ -8,7 +8,7 @@ use crate::options::{MAX_NODES, Options};
 use clap::{Arg, ArgMatches, Command, value_parser};
 use std::alloc::{AllocError, Global};
 
-/// The most parts that may be asked for.
+/// The greatest number of parts that may be requested.
 const MAX_PARTS: u64 = 1 << 20;
 
 /// The request to split the search of an instance into parts.

@@ -59,7 +59,7 @@ where
     }
 }
 
-/// The permutation that is asked for to begin with; why there is none is reported on standard error.
+/// The requested initial permutation; why there is none is reported on standard error.
 fn start_of(
     rt: &HostRuntime,
     request: &SplitRequest<'_>,
@@ -105,7 +105,7 @@ impl Names {
     }
 }
 
-/// Writes the files, says what is left, and gives the exit status.
+/// Writes the files, prints what is left, and returns the exit status.
 fn finish(
     rt: &HostRuntime,
     request: &SplitRequest<'_>,
@@ -130,7 +130,7 @@ fn finish(
     ExitCode::from(status.code())
 }
 
-/// The line that says what is left.
+/// The line with what is left.
 fn line_of(alloc: Global, skeleton: &Skeleton) -> Result<String, AllocError> {
     let (cost, bound) = (skeleton.proof.cost(), skeleton.proof.bound());
     let left = skeleton.parts.len();

@@ -112,7 +112,7 @@ where
     })
 }
 
-/// Splits the hardest part, where there is one.
+/// Splits the hardest part, if there is one.
 fn split_hardest<T, K>(
     system: &T,
     alloc: Global,
@@ -158,7 +158,7 @@ where
     })
 }
 
-/// What a proof shows whose hardest leaf is taken further by this part, where these are the others that are missing.
+/// The bound of a proof whose hardest leaf is refined by this part, where these are the others that are missing.
 fn bound_of(part: &Proof, others: &[MissingPart]) -> i128 {
     match others.first() {
         Some(next) => part.bound().min(next.value),

@@ -74,7 +74,7 @@ fn start_fault(error: TextError) -> PlanError
     }
 }
 
-/// The permutation, where it costs what is stated.
+/// The permutation, if its cost is the stated one.
 fn with_cost(instance: &Instance, stated: i128, permutation: Perm) -> Result<Perm, PlanError>
     requires { length permutation ≡ instance.now.size }
     ensures { MatchResult result

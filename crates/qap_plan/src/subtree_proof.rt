@@ -20,7 +20,7 @@ use subtree_search::Stop;
 /// How many nodes are evaluated between two questions whether to stop, about: there is one every 1,000 nodes, and one after each trial.
 const NODES_PER_LOOK: u64 = 500;
 
-/// After so many of these questions the progress is shown once.
+/// After this many checks the progress is reported once.
 const LOOKS: u64 = 16;
 
 /// Proves that no completion of the plan's root costs less than a permutation, by one thread. `None` where the size or a number is out of
@@ -54,7 +54,7 @@ pub(crate) fn prove_subtrees<K: Keeper>(
     }
 }
 
-/// What a proof says of the completions of its root.
+/// What a proof establishes about the completions of its root.
 fn planned_of(proof: PairProof, nodes: u64) -> Result<Planned, AllocError>
     ensures permutation { IfOk result (λ x. x.permutation ≡ proof.permutation) }
     ensures cost { IfOk result (λ x. x.cost ≡ proof.cost) }
@@ -73,7 +73,7 @@ fn planned_of(proof: PairProof, nodes: u64) -> Result<Planned, AllocError>
     })
 }
 
-/// Stops a search for a proof where a keeper wants it, and shows that one how far it has come.
+/// Stops a search for a proof if a keeper requests it, and reports its progress to that keeper.
 #[derive(Drop)]
 struct Watcher<'a, 'k, K: Keeper> {
     within: &'a WithinMemory<'k, K>,

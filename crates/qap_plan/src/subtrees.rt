@@ -106,7 +106,7 @@ fn shared_ground(
     }
 }
 
-/// The least power of two, times which the cost comes to 2^15, and at most 2^16.
+/// The least power of two that raises the cost to 2^15, and at most 2^16.
 pub(crate) fn scale_for(cost: i128) -> u32
     ensures some { 0 < result }
 {
@@ -118,7 +118,7 @@ pub(crate) fn scale_for(cost: i128) -> u32
     (1_u32 << exponent).max(1)
 }
 
-/// What the answer says of the completions of the root.
+/// What the answer implies for the completions of the root.
 fn found_by(answer: &Answer) -> Result<Planned, AllocError>
     ensures permutation { IfOk result (λ x. x.permutation ≡ answer.now.best.permutation) }
     ensures cost { IfOk result (λ x. x.cost ≡ answer.now.best.cost) }
@@ -182,7 +182,7 @@ fn with_bound(found: Planned, bound: i128) -> Planned
     Planned { bound, ..found }
 }
 
-/// Stops a search on subtrees where another keeper wants it, and shows that one how far it has come.
+/// Stops a subtree search if another keeper requests it, and reports its progress to that keeper.
 #[derive(Drop)]
 struct Watcher<'a, 'k, K: Keeper> {
     within: &'a WithinMemory<'k, K>,

@@ -29,7 +29,7 @@ struct Stated<'a> {
     rest: &'a [u8],
 }
 
-/// Reads the line of the bound, which has this number, if there is one: where there is none, the bound is the cost.
+/// Reads the line of the bound, which has this number, if there is one: otherwise the bound is the cost.
 pub(crate) fn read_bound(text: &[u8], cost: i128, number: u64) -> Result<Bounded<'_>, ProofError>
     requires cost { IsLimited cost }
     requires number { number ≤ 6 }

@@ -196,7 +196,7 @@ fn push_closed(
     Ok(())
 }
 
-/// Adds a child that the duals of its split cut off.
+/// Adds a child that the duals of its split prune.
 fn push_cut(
     parent: &Parent<'_>,
     child: usize,

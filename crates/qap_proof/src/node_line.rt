@@ -68,7 +68,7 @@ pub fn read_node_line<'a>(
     })
 }
 
-/// What the line says, where it is that of a node.
+/// The content of the line, if it is that of a node.
 fn judge_line(
     alloc: Global,
     line: &[u8],
@@ -104,8 +104,8 @@ fn judge_line(
     }
 }
 
-/// The duals of a closed node's line: `b` and a number for each free facility and each free location; `None` where the line is none
-/// of `b` and numbers.
+/// The duals of a closed node's line: `b` and a number for each free facility and each free location; `None` if the
+/// line does not consist of `b` and numbers.
 fn closed_line(
     alloc: Global,
     line: &[u8],
@@ -143,8 +143,8 @@ pub(crate) fn letter(side: Side) -> &'static [u8]
     }
 }
 
-/// A split on this side, whose line has a facility or a location, counted from 1, and then nothing more or duals; `None` where the
-/// line is none of that letter, of one of the facilities or locations, and of numbers.
+/// A split on this side, whose line has a facility or a location, counted from 1, and then nothing more or duals;
+/// `None` if the line does not consist of that letter, one of the facilities or locations, and numbers.
 fn split_line(
     alloc: Global,
     line: &[u8],
@@ -185,7 +185,7 @@ fn split_line(
     }))
 }
 
-/// The first of some numbers, which is to be one of `count` that are counted from 1; it is counted from 0.
+/// The first of some numbers, which must be one of `count` that are counted from 1; it is returned as counted from 0.
 fn first_from_one(numbers: &[i128], count: usize) -> Option<u16>
     requires { count ≤ 256 }
     ensures { MatchOption result
@@ -206,7 +206,7 @@ fn others(numbers: &[i128]) -> &[i128]
     &numbers[1..]
 }
 
-/// Whether there are as many numbers as are wanted, all within -10^24 to 10^24.
+/// Whether the count of numbers is right, and all are within -10^24 to 10^24.
 fn judge_count(numbers: LineNumbers, wanted: usize, number: u64) -> Result<(), ProofError>
     ensures { MatchResult result
         (λ done. (numbers.count ≡ wanted) × (numbers.limited ≡ true))
@@ -244,8 +244,8 @@ pub(crate) fn judge_number(
     }
 }
 
-/// The earlier child and the permutation of a symmetric child's line: `m` and n + 1 numbers, counted from 1; `None`
-/// where the line is none such.
+/// The earlier child and the permutation of a symmetric child's line: `m` and n + 1 numbers, counted from 1; `None` if
+/// the line has another form.
 fn mirrored_line(
     alloc: Global,
     line: &[u8],

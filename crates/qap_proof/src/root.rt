@@ -31,7 +31,7 @@ struct Stated<'a> {
     rest: &'a [u8],
 }
 
-/// Reads the line of the root of size `n`, if there is one: where there is none, the root is empty.
+/// Reads the line of the root of size `n`, if there is one: otherwise the root is empty.
 pub(crate) fn read_root(alloc: Global, text: &[u8], n: usize) -> Result<Rooted<'_>, ProofError>
     requires positive { 0 < n }
     requires small { n ≤ 256 }

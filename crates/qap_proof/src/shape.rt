@@ -118,7 +118,7 @@ fn judge_duals(duals: &KeptDuals, free: usize, line: u64) -> Result<(), ProofErr
     Ok(())
 }
 
-/// Whether a child may be cut, whose split has duals or hasn't.
+/// Whether a child of a split with or without duals may be pruned.
 fn judge_cut(has_duals: bool, line: u64) -> Result<(), ProofError>
     ensures { MatchResult result
         (λ done. has_duals ≡ true)
@@ -130,7 +130,7 @@ fn judge_cut(has_duals: bool, line: u64) -> Result<(), ProofError>
     Ok(())
 }
 
-/// Whether a child may be the image of the one of this number, where there are this many earlier ones, under this
+/// Whether a child may be the symmetric image of the one of this number, with this many earlier ones, under this
 /// permutation.
 fn judge_mirrored(
     number: u16,

@@ -33,8 +33,8 @@ pub(crate) struct Judge<'a> {
     pub(crate) bound: i128,
 }
 
-/// A split whose children are walked along: the node that it is of, what it says, the free ones that it has children
-/// for, and what its duals, if it has any, yield for each.
+/// A split whose children are being checked: its node, its content, the free ones for which it has children, and the
+/// values of its duals, if it has any, for each.
 #[derive(Clone, Copy)]
 pub(crate) struct Parent<'a> {
     pub(crate) node: &'a Partial,
@@ -51,8 +51,8 @@ pub(crate) struct Walked<'a> {
     pub(crate) fault: Option<ProofError>,
 }
 
-/// What was found of a split's duals: what they yield for each child, and the first fault of what the lines up to the
-/// split's say.
+/// The result of checking a split's duals: their value for each child, and the first semantic fault of the lines up to
+/// the split's.
 #[derive(Drop)]
 pub(crate) struct JudgedSplit {
     pub(crate) values: Vec<i128>,
@@ -202,7 +202,7 @@ fn walk_children<'a>(
     Ok(walked)
 }
 
-/// The first fault to report where a closed node follows what was reported before, if there is one.
+/// The first fault to report if a closed node follows what was reported before, if any.
 pub(crate) fn judge_closed(
     rows: &mut NodeRows<'_>,
     judge: &Judge<'_>,
@@ -223,8 +223,8 @@ pub(crate) fn judge_closed(
     }
 }
 
-/// The first fault to report where a split follows what was reported before, if there is one; and where there is none,
-/// what its duals, if it has any, yield for each child.
+/// The first fault to report if a split follows what was reported before, if any; and if there is none, the values of
+/// its duals, if it has any, for each child.
 pub(crate) fn judge_split(
     rows: &mut NodeRows<'_>,
     judge: &Judge<'_>,
@@ -278,7 +278,7 @@ pub(crate) fn judge_split(
     }
 }
 
-/// The first fault to report where a child that is pruned follows what was reported before, if there is one.
+/// The first fault to report if a pruned child follows what was reported before, if any.
 pub(crate) fn judge_cut(
     judge: &Judge<'_>,
     parent: &Parent<'_>,
@@ -298,7 +298,7 @@ pub(crate) fn judge_cut(
     }
 }
 
-/// The first fault to report where a symmetric child follows what was reported before, if there is one.
+/// The first fault to report if a symmetric child follows what was reported before, if any.
 pub(crate) fn judge_mirrored(
     judge: &Judge<'_>,
     parent: &Parent<'_>,

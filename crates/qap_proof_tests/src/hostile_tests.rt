@@ -10,7 +10,8 @@ use std::alloc::{AllocError, Global};
 use std::process::Abort;
 use std::test::Fail;
 
-/// A bound below the least cost, and a permutation that costs more, shown by a split on a location whose children are both cut.
+/// A bound below the least cost, and a permutation that costs more, established by a split on a location whose children
+/// are both pruned.
 const GAP: &[u8] = b"qapproof 1\nn 2\ncost 17\nperm 2 1\nbound 9\nt 2 6 2 0 3\nc\nc\nend\n";
 
 /// What is put in the place of each byte.

@@ -143,7 +143,7 @@ fn proofs_over_a_known_root(rt: HostRuntime) -> Result<(), Fail> {
     Ok(())
 }
 
-/// The text of the node that a text tells, of three facilities.
+/// The text of the node that a text spells, of three facilities.
 fn told(alloc: Global, text: &[u8]) -> Result<Option<Vec<u8>>, AllocError> {
     match read_node_text(alloc, text, 3)? {
         Some(node) => Ok(Some(text_of_node(alloc, &node)?)),

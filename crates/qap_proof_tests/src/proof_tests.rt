@@ -50,7 +50,7 @@ fn written(alloc: Global, proof: &Proof, call: u64) -> Outcome
     }
 }
 
-/// Asserts what is written of the proof with this text, where each call in turn fails.
+/// Asserts what is written of the proof with this text when each call in turn fails.
 fn assert_writes(rt: &impl Abort, alloc: Global, proof: &Proof, text: &[u8]) {
     for call in 1..=text.len() + 2 {
         let written = written(alloc, proof, call as u64);

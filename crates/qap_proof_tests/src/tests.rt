@@ -50,7 +50,7 @@ fn joined(alloc: Global, head: &[u8], tail: &[u8]) -> Result<Vec<u8>, AllocError
     Ok(text)
 }
 
-/// What `accept` says of a text.
+/// The answer of `accept` for a text.
 pub(crate) fn judged(
     alloc: Global,
     instance: &Instance,
@@ -67,7 +67,7 @@ fn without_verdict(answer: Result<Verdict, ProofError>) -> Result<(), ProofError
     }
 }
 
-/// Asserts what `accept` says of a text in two parts, and that the proof in memory is checked alike.
+/// Asserts the answer of `accept` for a text in two parts, and that the proof in memory is checked alike.
 pub(crate) fn assert_judged(
     rt: &impl Abort,
     alloc: Global,
@@ -153,7 +153,7 @@ fn last_line(text: &[u8]) -> u64 {
     line
 }
 
-/// Asserts what is shown by a text, and that each proper beginning of it ends too early, in its last line.
+/// Asserts what a text establishes, and that each proper prefix of it ends too early, in its last line.
 fn assert_beginnings(
     rt: &impl Abort,
     alloc: Global,

@@ -195,7 +195,7 @@ fn leases_end_at_each_step(rt: HostRuntime) -> Result<(), Fail> {
     Ok(())
 }
 
-/// Twelve turns of two workers, with steps that change nothing before each where these are asked for.
+/// Twelve turns of two workers, optionally with steps that change nothing before each.
 fn twelve_turns(alloc: Global, mixed: bool) -> Result<Vec<Step>, Fail> {
     let past_all = (1 << 62) + 1;
     let nothing = [Turn(9), Lose(9), Advance(past_all)];

@@ -261,7 +261,7 @@ impl Gate for Without {
     fn thinking(&self, _worker: u16) {}
 }
 
-/// How many nodes a search leaves open whose workers are ended so; `None` where it yields anything else.
+/// How many nodes a search whose workers are ended so leaves open; `None` if it yields anything else.
 fn left_open<R>(
     rt: &R,
     alloc: Global,
@@ -394,7 +394,7 @@ fn count_done(answer: &Answer) -> usize {
     ended.filter(|report| report.ended == Ended::Done).count()
 }
 
-/// What a search by this many workers yields: the cost, the accepted commits, how many workers told a report and how
+/// The result of a search by this many workers: the cost, the accepted commits, how many workers sent a report and how
 /// many of them that the search was over, and whether the best permutation is the identity.
 fn worked<R>(
     rt: &R,
@@ -528,8 +528,8 @@ fn a_gap_holds_the_least_cost(rt: HostRuntime) -> Result<(), Fail> {
     Ok(())
 }
 
-/// What a search for a permutation alone yields: its cost, whether it is the identity, and how many workers told a
-/// report; `None` where the limit stops it.
+/// The result of a search for a permutation only: its cost, whether it is the identity, and how many workers sent a
+/// report; `None` if the limit stops it.
 fn least_found<R>(
     rt: &R,
     alloc: Global,

@@ -46,14 +46,14 @@ fn refuse(rt: &HostRuntime, error: RunError) -> ExitCode {
     ExitCode::from(refused(error, &mut Counted::new(rt.stderr())))
 }
 
-/// What the program's own command line asks for.
+/// The request of the program's own command line.
 fn requested(rt: &(impl Env + AllocGlobal)) -> Result<Request, CommandError>
     ensures { IfOk result MayRun }
 {
     parse(rt.alloc(), &words(rt)?)
 }
 
-/// Answers a request on standard output. `system` is what threads, waiting and the time are asked of.
+/// Answers a request on standard output. `system` provides threads, waiting and the time.
 fn run<T>(system: &T, rt: &HostRuntime, request: Request) -> ExitCode
 where
     T: Threads + Wait + Clock + Sync,

@@ -113,7 +113,7 @@ where
     }
 }
 
-/// A permutation of the instance's least cost, or, where that is asked for, a certificate of that cost.
+/// A permutation of the instance's least cost, or, if requested, a certificate of that cost.
 fn searched<T, C, G>(
     rt: &T,
     alloc: Global,

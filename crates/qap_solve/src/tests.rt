@@ -25,7 +25,7 @@ const TWO: &[u8] = b"2 0 3 1 0 0 2 5 0";
 const THREE: &[u8] = b"3 0 1 2 1 0 3 2 3 0 0 5 2 5 0 1 2 1 0";
 /// Three facilities, of which each order costs 1; the bound of the root is 0, and that of each child 1.
 pub(crate) const EVEN: &[u8] = b"3 0 1 0 0 0 1 1 0 0 0 1 0 1 0 0 0 0 0";
-/// Three facilities whose root isn't closed by its bound.
+/// Three facilities whose root is not closed by its bound.
 const SPLIT: &[u8] = b"3 0 1 0 0 5 1 1 0 0 1 1 0 1 1 0 0 0 1";
 
 /// What a run over memory writes to its standard output and its standard error, and its exit status.
@@ -53,7 +53,7 @@ pub(crate) const ONE: Options = Options {
     cert: false,
 };
 
-/// The same, where the certificate is asked for.
+/// Likewise, with the certificate requested.
 pub(crate) const PROVING: Options = Options {
     workers: 1,
     lease_ms: 600_000,
@@ -146,7 +146,7 @@ fn nothing_costs_anything(rt: HostRuntime) {
     assert_eq!(rt; (run.output.len(), run.status), (12, 0));
 }
 
-/// What the checker says of a certificate's text, for the instance of another.
+/// The checker's answer to a certificate's text, for the instance of another.
 fn verdict(alloc: Global, instance: &[u8], certificate: &[u8]) -> Result<Verdict, Fail> {
     let (instance, _) = read_instance(alloc, instance)?;
     Ok(accept(alloc, &instance, certificate)?)

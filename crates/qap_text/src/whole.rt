@@ -11,7 +11,7 @@ use std::io::Read;
 /// The most bytes that a program reads of an input: 1 GiB.
 pub const MAX_INPUT: usize = 1_073_741_824;
 
-/// How many bytes are asked for at once.
+/// How many bytes are requested at once.
 const PIECE: usize = 32_768;
 
 /// Reads all the bytes that a reader has left, if they are at most `limit`. It stops at the first read that fails.

@@ -31,7 +31,7 @@ pub fn skip_separators(text: &[u8]) -> &[u8]
     &text[start..]
 }
 
-/// The first place from one on whose byte is a separator, or is none, as `separator` says; else the text's end.
+/// The first position from one on whose byte is a separator, or is not, as `separator` says; otherwise the text's end.
 fn first_place(text: &[u8], from: usize, separator: bool) -> usize
     requires { from ≤ length text.now }
     ensures { IsFirstThatIs separator text.now from result }

@@ -49,7 +49,7 @@ fn tell_unread(rt: &HostRuntime, error: &io::Error) -> ExitCode {
     ExitCode::from(Status::Usage.code())
 }
 
-/// Prints the help or the version where it was asked for, and else what is wrong with the command line.
+/// Prints the help or the version if requested, and otherwise what is wrong with the command line.
 fn tell(rt: &HostRuntime, error: &Error) -> ExitCode {
     if error.kind() == ErrorKind::OutOfMemory {
         return refuse(rt, RunError::OutOfMemory);

@@ -24,8 +24,8 @@ pub trait Room<L: Law> {
         ensures did { did self.old (begin asked) (begun result) self.new }
         ensures empty { IfOk result (λ txn. (txn.marks ≡ []) × (txn.writes ≡ [])) };
 
-    /// The same in spare memory, where there is some, so that none is taken for what the transaction is to hold. Refused, that
-    /// memory stays where it is.
+    /// Likewise in spare memory, if there is some, so that none is allocated for what the transaction will hold. If
+    /// refused, that memory is unchanged.
     fn begin_in(&mut self, asked: u64, spare: &mut Option<Spare>) -> Result<Txn, TxnError>
         ensures did { did self.old (begin asked) (begun result) self.new }
         ensures empty { IfOk result (λ txn. (txn.marks ≡ []) × (txn.writes ≡ [])) };
@@ -49,8 +49,8 @@ pub trait Room<L: Law> {
         ensures marks { Finds (InLawful L.lawful) false template.now txn.old (find_answer result) txn.new };
 
     /// Commits a transaction, and counts that in the share. What the transaction took, read and wrote must be allowed.
-    /// Refusals: 37 where there is a limit and it is reached, which is checked first; 31, 32, 33, 50. The transaction
-    /// is returned and the share counts nothing.
+    /// Refusals: 37 if there is a limit and it is reached, which is checked first; 31, 32, 33, 50. The transaction is
+    /// then returned and the share unchanged.
     fn commit(&mut self, share: &mut Share<L>, txn: Txn) -> Result<(), (CommitError, Txn)>
         requires { MayCommit L.allowed txn }
         ensures did { did self.old (call txn commit) (commit_reply txn result) self.new }
@@ -68,7 +68,7 @@ pub trait Room<L: Law> {
     fn advance(&mut self, moment: u64) -> Result<(), SpaceError>
         ensures { did self.old (advance moment) (moved (done_reply result)) self.new };
 
-    /// Closes the space where no entry is there whose tuple matches the template, or every worker has left, and reports
+    /// Closes the space if no existing entry's tuple matches the template, or every worker has left, and returns
     /// whether it is closed. A closed space stays closed. Allocates nothing.
     fn close(&mut self, template: &Template) -> bool
         ensures { did self.old (close template.now) (told result) self.new };

@@ -34,7 +34,7 @@ impl<L: Law> Share<L> {
     }
 }
 
-/// Shares of one part each and no commits, where there is room for them.
+/// Shares of one part each and no commits, as many as the capacity allows.
 pub(crate) fn handed_out<L: Law>(room: Vec<Share<L>>, part: Part<L>, shares: usize) -> Vec<Share<L>>
     requires empty { room.items ≡ [] }
     requires enough { shares ≤ vec_capacity room }

@@ -19,7 +19,7 @@ use std::thread::Threads;
 use tuple_match::Tuple;
 use tuple_space::Lease;
 
-/// What one worker meets that asks for a commit three times under a limit.
+/// What one worker meets that commits three times under a limit.
 #[derive(Clone, Copy, Debug, PartialEq, Eq)]
 struct Met {
     /// Whether the space was closed at first and after each commit.

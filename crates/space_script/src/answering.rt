@@ -9,7 +9,7 @@ use crate::reply::{Reply, reply_line};
 use crate::session::Session;
 use std::alloc::{AllocError, Global};
 
-/// Carries a line out, and tells what is written to answer it: nothing where it has no words.
+/// Executes a line, and returns the text that answers it: nothing if it has no words.
 pub(crate) fn answer(
     alloc: Global,
     session: &mut Session,

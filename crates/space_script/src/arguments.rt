@@ -142,7 +142,7 @@ fn read_under(word: &[u8]) -> Option<Option<u64>>
     }
 }
 
-/// The lease that a word asks for.
+/// The lease that a word spells.
 fn read_lease(word: &[u8]) -> Option<Lease>
     ensures { MatchOption result ((lease : LeaseValue) → IsLeaseWord word.now lease → ⊥) (IsLeaseWord word.now) }
 {

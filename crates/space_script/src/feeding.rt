@@ -12,7 +12,7 @@ use qap_io::{Counted, put};
 use std::alloc::{AllocError, Global};
 use std::io::Write;
 
-/// A text cut at its first line feed.
+/// A text split at its first line feed.
 #[derive(Clone, Copy)]
 struct Cut<'a> {
     before: &'a [u8],
@@ -41,7 +41,7 @@ fn keep(line: &mut Vec<u8>, more: &[u8]) -> Result<(), AllocError>
     Ok(())
 }
 
-/// Answers a line, of which the front was kept before and the rest is `end`.
+/// Answers a line, whose beginning was kept before and whose rest is `end`.
 fn end_line<W: Write>(
     alloc: Global,
     session: &mut Session,

@@ -104,7 +104,7 @@ fn read_word(alloc: Global, word: &[u8]) -> Result<Option<Field>, AllocError>
     }
 }
 
-/// The pattern that a word spells: a formal, or a field that is asked for.
+/// The pattern that a word spells: a formal, or an actual field.
 fn read_pattern(alloc: Global, word: &[u8]) -> Result<Option<Pattern>, AllocError>
     ensures { IfOk result (λ found. MatchOption found
         ((pattern : PatternValue) → IsPatternWord word.now pattern → ⊥)

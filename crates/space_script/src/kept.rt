@@ -66,7 +66,7 @@ impl Kept {
         self.by_number.reserve(1)
     }
 
-    /// Appends a transaction to the others, where there is room for it.
+    /// Appends a transaction to the others, if there is capacity for it.
     fn push(&mut self, txn: Txn)
         requires room { 0 < self.old.room }
         requires new { NoneKept self.old.items txn.number }
@@ -75,7 +75,7 @@ impl Kept {
         self.by_number.insert(txn.number(), txn).unwrap();
     }
 
-    /// Appends a transaction to the others if it is live in a space, where there is room for it.
+    /// Appends a transaction to the others if it is live in a space and there is capacity for it.
     pub(crate) fn push_live(&mut self, world: &TxnSpace, txn: Txn)
         requires room { 0 < self.old.room }
         requires new { NoneKept self.old.items txn.number }
@@ -86,7 +86,7 @@ impl Kept {
         }
     }
 
-    /// Appends a transaction to the others, or, where there is no memory, drops it.
+    /// Appends a transaction to the others, or drops it if memory runs out.
     pub(crate) fn put_back(&mut self, txn: Txn) -> Result<(), AllocError>
         requires { NoneKept self.old.items txn.number }
         ensures { MatchResult result (λ _. self.new.items ≡ self.old.items ++ txn ∷ []) (λ _. self.new.items ≡ self.old.items) }

@@ -28,7 +28,7 @@ fn in_brackets(word: &[u8]) -> Option<&[u8]>
     }
 }
 
-/// What is before the closing bracket at the end of a text; `None` where there is none.
+/// What precedes the closing bracket at the end of a text; `None` if there is none.
 fn before_bracket(text: &[u8]) -> Option<&[u8]>
     ensures { MatchOption result ((inner : List ℕ) → text.now ≢ inner ++ 93 ∷ []) (λ inner. text.now ≡ inner.now ++ 93 ∷ []) }
 {

@@ -15,7 +15,7 @@ use std::io::{Read, Write};
 /// The most bytes of a script.
 const LONGEST_SCRIPT: u64 = 1 << 62;
 
-/// How many bytes are asked for at once.
+/// How many bytes are requested at once.
 const PIECE: usize = 32_768;
 
 /// Executes the lines of a script on a new space, and writes a reply for each that has words.

@@ -71,7 +71,7 @@ pub(crate) fn take_marked(
     take_mark(marks, id.number(), permanent);
 }
 
-/// Takes again a write that the template asks for.
+/// Takes again a write matching the template.
 pub(crate) fn take_own(writes: &mut Writes, template: &Template) -> Option<Found>
     ensures { MatchOption result
         (NoOpenWrite template.now writes.old × (writes.new ≡ writes.old))
@@ -82,7 +82,7 @@ pub(crate) fn take_own(writes: &mut Writes, template: &Template) -> Option<Found
     Some(Found::Own(place))
 }
 
-/// Finds a write that the template asks for.
+/// Finds a write matching the template.
 pub(crate) fn find_own(writes: &Writes, template: &Template) -> Option<Found>
     ensures { MatchOption result (NoOpenWrite template.now writes.now) (IsOwnFound template.now writes.now) }
 {

@@ -77,7 +77,8 @@ fn place_behind_row(
     }
 }
 
-/// How far the first mark's number is above the place of its entry, where there are many marks; a few are looked up by their numbers.
+/// How far the first mark's number is above the place of its entry, if there are many marks; a few are looked up by
+/// their numbers.
 fn first_shift(marks: &Marks, space: &Space) -> u64 {
     if marks.len() > FEW {
         space.shift_of(marks.at(0).entry)
@@ -161,7 +162,7 @@ pub(crate) fn has_mark_on(marks: &Marks, number: u64) -> bool
     }
 }
 
-/// Puts a mark in its place, or in the place of an older one on the same entry, where there is room for it.
+/// Inserts a mark, or replaces an older one on the same entry, if there is capacity for it.
 pub(crate) fn put_mark(marks: &mut Marks, mark: Mark)
     requires { 0 < marks.old.room }
     ensures { marks.new.items ≡ with_mark mark marks.old.items }
@@ -174,7 +175,7 @@ pub(crate) fn put_mark(marks: &mut Marks, mark: Mark)
     marks.insert(place, mark);
 }
 
-/// Makes the mark on the entry of this number, where there is one, a mark that takes it. Allocates nothing.
+/// Turns the mark on the entry of this number, if there is one, into a mark that takes it. Allocates nothing.
 pub(crate) fn take_mark(marks: &mut Marks, number: u64, permanent: bool)
     requires rising { AllPairs (λ m n. m.entry < n.entry) marks.old.items }
     requires marked { is_some (find (λ m. m.entry == number) marks.old.items) ≡ true }

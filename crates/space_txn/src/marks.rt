@@ -9,7 +9,7 @@ use smallvec::SmallVec;
 use std::alloc::{AllocError, Global};
 use std::marker::Model;
 
-/// Marks in order, the first four of which take no memory; a place that isn't in use holds none.
+/// Marks in order, the first four of which take no memory; an unused place holds none.
 #[derive(Debug, Drop)]
 pub(crate) struct Marks {
     places: SmallVec<Option<Mark>, 4>,
@@ -91,7 +91,7 @@ impl Marks {
         mark.permanent = permanent;
     }
 
-    /// Puts a mark between those on entries of lower and of greater numbers, where there is room for it.
+    /// Inserts a mark between those on entries with lower and with greater numbers, if there is capacity for it.
     pub(crate) fn insert(&mut self, place: usize, mark: Mark)
         requires within { place ≤ length self.old.items }
         requires before { AllWithin (λ m. m.entry < mark.entry) self.old.items 0 place }

@@ -111,7 +111,7 @@ impl Transactions {
         self.as_slice().iter().any(|row| row.end <= moment)
     }
 
-    /// Drops the transactions whose lease has ended. The map's table is built again only where there are such.
+    /// Drops the transactions whose lease has ended. The map's table is rebuilt only if there are any.
     pub(crate) fn drop_ended(&mut self, moment: u64)
         ensures { self.new ≡ going_at moment self.old }
     {

@@ -128,7 +128,7 @@ fn own_tuple(writes: &Writes, place: usize) -> Option<&Tuple>
     }
 }
 
-/// The place of a write that the template asks for and that wasn't taken again.
+/// The position of a write that matches the template and was not taken again.
 pub(crate) fn open_write(writes: &Writes, template: &Template) -> Option<usize>
     ensures none { IfNone result (All (λ x. is_open_write template.now x ≡ false) writes.now) }
     ensures place { IfSome result (λ i. i < length writes.now) }

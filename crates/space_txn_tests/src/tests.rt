@@ -78,7 +78,7 @@ impl Run {
         }
     }
 
-    /// Makes a call, and returns whether it is answered as its row says.
+    /// Makes a call, and returns whether its answer is that of its row.
     fn answers(&mut self, alloc: Global, act: Act) -> Result<bool, Fail> {
         match act {
             OutForever(number, n) => self.put(alloc, number, Lease::Forever, n),
@@ -208,7 +208,7 @@ fn count_in(space: &TxnSpace, jobs: &Template) -> u64 {
     space.count(jobs)
 }
 
-/// Asserts that each call is answered as its row says.
+/// Asserts that the answer to each call is that of its row.
 fn assert_answers(
     rt: &impl Ending,
     alloc: Global,

@@ -80,7 +80,7 @@ impl SubtreeSearch {
     }
 }
 
-/// A node that is to be proved, with pair duals of its own.
+/// A node to be proved, with its own pair duals.
 #[derive(Drop)]
 pub(crate) struct Part<'a, S> {
     pub alloc: Global,

@@ -152,7 +152,7 @@ fn split_children<S: Stop>(
     Ok(children)
 }
 
-/// Adds a child, where there is one.
+/// Adds a child, if there is one.
 fn add(children: &mut Vec<OpenChild>, child: Option<OpenChild>) -> Result<(), AllocError>
     ensures { OnOk result (Adds child children.old.items children.new.items) }
 {

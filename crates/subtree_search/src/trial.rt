@@ -25,8 +25,8 @@ const LEAST_TRIAL: u64 = 200;
 
 const MOST_TRIAL: u64 = 100_000;
 
-/// Tries the child of number `k` of a split: `None` where it is closed, and recorded. A child that is left open is marked as one whose
-/// text follows.
+/// Tries the `k`-th child of a split: `None` if it is closed, and recorded. A child that is left open is marked as one
+/// whose text follows.
 pub(crate) fn try_child<S: Stop, W: Record>(
     task: &Task<'_, S>,
     split: &Split<'_>,

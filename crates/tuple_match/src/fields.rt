@@ -211,7 +211,7 @@ impl Eq for Field {
 impl Clone for Field {
     ghost is_clone = { λ field copy. field_value copy ≡ field_value field };
 
-    /// Another field that says the same, or `AllocError` where there is no memory for its text or list.
+    /// A copy of the field, or `AllocError` if memory ran out for its text or list.
     fn clone(&self) -> Result<Field, AllocError>
         ensures { IfOk result (λ copy. field_value copy ≡ field_value self.now) }
     {

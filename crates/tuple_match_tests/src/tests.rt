@@ -79,7 +79,7 @@ static MATCHES: [(&[Question], &[Part], bool); 18] = [
     (&[Is(Int(i128::MAX))], &[Int(i128::MIN)], false),
 ];
 
-/// Whether a template of these patterns asks for the tuple of these fields, and how many patterns it lends.
+/// Whether a template of these patterns matches the tuple of these fields, and how many patterns it lends.
 fn asked(alloc: Global, questions: &[Question], parts: &[Part]) -> Result<(bool, usize), Fail> {
     let template = Template::new(patterns(alloc, questions)?)?;
     let tuple = Tuple::new(fields(alloc, parts)?)?;
@@ -160,7 +160,7 @@ fn keeps_the_limits(rt: HostRuntime) -> Result<(), Fail> {
 
 static SEVENS: [i128; 1025] = [7; 1025];
 
-/// Whether so many sevens are within the limits as a field, and whether they are a tuple.
+/// Whether this many sevens are within the limits as a field, and whether they form a tuple.
 fn judged(alloc: Global, sevens: &[i128]) -> Result<[bool; 2], AllocError> {
     let list = Field::List(sevens.to_vec(alloc)?);
     let within = list.is_within_limits();

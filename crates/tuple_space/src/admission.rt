@@ -28,14 +28,14 @@ fn is_open(entry: &Entry, claim: Claim, moment: u64) -> bool
     }
 }
 
-/// Whether the claim allows the entry and the template asks for its tuple.
+/// Whether the claim allows the entry and its tuple matches the template.
 pub(crate) fn can_be_had(entry: &Entry, claim: Claim, moment: u64, template: &Template) -> bool
     ensures { result ≡ can_be_had claim moment template.now entry.now }
 {
     is_open(entry, claim, moment) && matches(template, &entry.tuple)
 }
 
-/// Whether the entry is there and the template asks for its tuple.
+/// Whether the entry exists and its tuple matches the template.
 pub(crate) fn is_counted(entry: &Entry, moment: u64, template: &Template) -> bool
     ensures { result ≡ is_counted moment template.now entry.now }
 {

@@ -68,7 +68,7 @@ impl Ends {
         }
     }
 
-    /// Takes out the earliest ending, where it has come by a moment, and tells the number of its entry.
+    /// Removes the earliest ending, if it is due at a moment, and returns the number of its entry.
     pub(crate) fn take_come(&mut self, moment: u64) -> Option<u64>
         ensures none { IfNone result (All (λ r. moment < r.0.0) self.new.rows) }
         ensures same { IfNone result (self.new.rows ≡ self.old.rows) }
@@ -87,7 +87,7 @@ impl Ends {
         Some(number)
     }
 
-    /// Drops the endings of entries that are gone, where there are many endings.
+    /// Drops the endings of entries that are gone, if there are many endings.
     pub(crate) fn drop_gone(&mut self, entries: &Entries)
         ensures { (e : Entry) → has_number e.number entries.now.items ≡ true → KeepsEndings self.old.rows self.new.rows e }
     {
@@ -133,7 +133,7 @@ fn settle(
     }
 }
 
-/// Drops the entries that aren't there at a moment. It looks at those alone whose ending has come, and takes no memory.
+/// Drops the entries that are gone at a moment. It visits only those whose ending is due, and allocates nothing.
 pub(crate) fn drop_ended(
     entries: &mut Entries,
     buckets: &mut Vec<Bucket>,

@@ -127,8 +127,8 @@ fn close_up(places: &mut Places)
     );
 }
 
-/// Lets the places close up where a number above those of all entries isn't above those of all places, and tells how many are
-/// empty then.
+/// Compacts the places if a number above those of all entries is not above those of all places, and returns how many
+/// are then empty.
 fn make_way(number: u64, places: &mut Places, empty: usize) -> usize
     requires places { AreInPlaces places.old.entries }
     requires new { All (λ e. e.number < number) (items_in (values places.old)) }
@@ -175,7 +175,7 @@ impl Entries {
         self.places.reserve(additional)
     }
 
-    /// Puts an entry whose number is above those of the others, where there is room for it.
+    /// Appends an entry whose number is above those of the others, if there is capacity for it.
     pub(crate) fn push(&mut self, entry: Entry)
         requires room { 0 < self.old.room }
         requires new { All (λ e. e.number < entry.number) self.old.items }

@@ -12,9 +12,9 @@ const IN_A_ROW: u64 = 4;
 /// volume 3, section 6.4).
 const MULTIPLIER: u64 = 0x9e37_79b9_7f4a_7c15;
 
-/// Hashes a number so that a map finds it in the line of memory in which it finds the three beside it, and those in a
-/// line apart from other four. A space writes and takes entries whose numbers follow each other, so these are found
-/// with fewer looks into memory that another processor wrote last. Which hash a number has is no matter of an answer.
+/// Hashes a number so that a map finds it in the same cache line as the next three, and other groups of four in other
+/// lines. A space writes and takes entries with consecutive numbers, so these are found with fewer accesses to memory
+/// that another processor wrote last. No answer depends on the hash of a number.
 #[derive(Clone, Copy, Debug)]
 pub(crate) struct NumberHasher {
     hash: u64,

@@ -16,7 +16,8 @@ pub struct Held {
     pub by: u64,
 }
 
-/// The place of the first row of the same holder whose entry's number isn't lower; where there is none, how many rows there are.
+/// The position of the first row of the same holder whose entry's number is not lower; if there is none, how many rows
+/// there are.
 fn place_for(rows: &[Held], new: Held) -> usize
     ensures within { result ≤ length rows.now }
     ensures before { AllWithin (λ r. r.by ≡ new.by → r.entry < new.entry) rows.now 0 result }
@@ -42,7 +43,7 @@ fn is_row_at(rows: &[Held], place: usize, number: u64) -> bool
     rows[place].entry == number
 }
 
-/// Puts a row in its place, where there is room for it, unless it is there.
+/// Inserts a row, if there is capacity for it, unless it is already there.
 pub(crate) fn add_held(rows: &mut Vec<Held>, new: Held)
     requires rising { (holder : ℕ) → AreRising (numbers_by holder rows.old.items) }
     requires room { vec_len rows.old + 1 ≤ vec_capacity rows.old }
@@ -64,7 +65,7 @@ pub(crate) fn drop_rows_of(rows: &mut Vec<Held>, number: u64)
     rows.retain(|row| row.entry != number);
 }
 
-/// Drops the rows of entries that are gone: those of a holder, and where it is asked those of all others too, which is then
+/// Drops the rows of entries that are gone: those of a holder, and if requested those of all others too, which is then
 /// looked up for each row.
 pub(crate) fn drop_rows_gone(rows: &mut Vec<Held>, entries: &Entries, holder: u64, all: bool)
     ensures { rows.new.items ≡ filter (stays_noted holder all entries.now.items) rows.old.items }

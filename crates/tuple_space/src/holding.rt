@@ -164,7 +164,7 @@ pub(crate) fn count_puts(writes: &Writes) -> usize
     count
 }
 
-/// Writes what a place holds, where there is room for it, and returns the last number given.
+/// Writes what a place holds, if there is capacity for it, and returns the last number given.
 fn put_row(entries: &mut Entries, row: Option<Write>, moment: u64, last: u64) -> u64
     requires early { moment ≤ most }
     requires few { last + put_count (items_in (row ∷ [])) ≤ most }
@@ -194,8 +194,8 @@ fn put_row(entries: &mut Entries, row: Option<Write>, moment: u64, last: u64) ->
     number
 }
 
-/// Puts writes out in order, where there is room for them, and returns the last number given. They are gone from their
-/// places then, whose memory stays.
+/// Writes tuples in order, if there is capacity for them, and returns the last number given. Their places are then
+/// empty, and keep their memory.
 pub(crate) fn put_rows(entries: &mut Entries, rows: &mut Rows, moment: u64, last: u64) -> u64
     requires early { moment ≤ most }
     requires few { last + put_count (items_in rows.old.items) ≤ most }

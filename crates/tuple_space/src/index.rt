@@ -112,7 +112,7 @@ fn slot_of(field: &Field) -> Slot
     }
 }
 
-/// Where the tuples are whose second field is the one that a template asks for, if it asks for one field.
+/// The slot of the tuples whose second field is the one that a template specifies, if it specifies one.
 pub(crate) fn sought_slot(template: &Template) -> Option<Slot>
     ensures { result ≡ sought_slot template.now }
 {
@@ -122,7 +122,7 @@ pub(crate) fn sought_slot(template: &Template) -> Option<Slot>
     }
 }
 
-/// The word that a template asks for first.
+/// The first word of a template.
 pub(crate) fn sought_word(template: &Template) -> Option<&[u8]>
     ensures { option_copied result ≡ sought_word template.now }
 {
@@ -154,7 +154,7 @@ fn place_of_bucket(buckets: &[Bucket], word: &[u8], count: usize) -> Option<usiz
     None
 }
 
-/// The place of the bucket of a word and a count of fields, which is made where there is none.
+/// The position of the bucket of a word and a number of fields, which is created if there is none.
 fn place_for(buckets: &mut Vec<Bucket>, word: &[u8], count: usize) -> Result<usize, AllocError>
     ensures place { IfOk result (λ i. i < length buckets.new.items) }
     ensures is { IfOk result (HoldsAt (λ b. is_of word.now count b ≡ true) buckets.new.items) }

@@ -6,7 +6,7 @@ ghost use Rattle.tuple_space.specs.Rows.{permanent_tuples};
 use crate::entries::Entries;
 use tuple_match::Tuple;
 
-/// Moves the permanent tuples of entries to where there is room for them.
+/// Moves the permanent tuples of entries to a list with capacity for them.
 pub(crate) fn permanent_of(entries: Entries, room: Vec<Tuple>) -> Vec<Tuple>
     requires empty { room.items ≡ [] }
     requires enough { length entries.items ≤ vec_capacity room }

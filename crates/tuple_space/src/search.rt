@@ -22,7 +22,7 @@ pub(crate) enum Wanted {
     There,
 }
 
-/// Whether the entry is wanted, and the template asks for its tuple.
+/// Whether the entry is wanted, and its tuple matches the template.
 fn is_wanted(entry: &Entry, wanted: Wanted, moment: u64, template: &Template) -> bool
     ensures { result ≡ is_wanted wanted moment template.now entry.now }
 {
@@ -32,7 +32,7 @@ fn is_wanted(entry: &Entry, wanted: Wanted, moment: u64, template: &Template) ->
     }
 }
 
-/// The entry in a place, where it is wanted.
+/// The entry in a place, if it is wanted.
 fn wanted_in<'a>(
     place: &'a Option<Entry>,
     wanted: Wanted,
@@ -51,7 +51,7 @@ fn wanted_in<'a>(
     }
 }
 
-/// The newest entry that is wanted.
+/// The newest wanted entry.
 fn newest_wanted<'a>(
     places: &'a [Option<Entry>],
     wanted: Wanted,
@@ -70,7 +70,7 @@ fn newest_wanted<'a>(
     None
 }
 
-/// The entry of a number, where it is wanted. It is looked for first in the place that is this far below the number.
+/// The entry of a number, if it is wanted. It is looked up first in the place that is this far below the number.
 fn entry_if_wanted<'a>(
     entries: &'a Entries,
     number: u64,
@@ -99,7 +99,7 @@ fn last_shift(entries: &Entries, numbers: &[u64]) -> u64 {
     }
 }
 
-/// The entry that is wanted whose number is last among these.
+/// The wanted entry whose number is last among these.
 fn last_wanted<'a>(
     entries: &'a Entries,
     numbers: &[u64],
@@ -121,7 +121,7 @@ fn last_wanted<'a>(
     None
 }
 
-/// The entry that is wanted whose number is last in the last list that has one.
+/// The wanted entry whose number is last in the last list that has one.
 fn longest_wanted<'a>(
     entries: &'a Entries,
     lists: &[Vec<u64>],
@@ -142,8 +142,8 @@ fn longest_wanted<'a>(
     None
 }
 
-/// The entry that is wanted whose number is so in a bucket, where the bucket is that of a word and of the template's
-/// length: in the slot of the second field, if the template asks for one field there.
+/// The wanted entry whose number is last in a bucket, if the bucket is that of a word and of the template's length: in
+/// the slot of the second field, if the template specifies one.
 fn wanted_in_bucket<'a>(
     entries: &'a Entries,
     bucket: &Bucket,
@@ -166,7 +166,7 @@ fn wanted_in_bucket<'a>(
     }
 }
 
-/// The entry that is wanted whose number is so in the bucket of a word and of the template's length.
+/// The wanted entry whose number is last in the bucket of a word and of the template's length.
 fn wanted_of_word<'a>(
     entries: &'a Entries,
     buckets: &[Bucket],
@@ -195,8 +195,8 @@ fn wanted_of_word<'a>(
     None
 }
 
-/// An entry that is wanted. Where the template asks for a word first, that is one with the longest list as its second field, and
-/// the newest of these; else the newest.
+/// A wanted entry. If the template begins with a word, it is one with the longest list as its second field, and the
+/// newest of these; otherwise the newest.
 pub(crate) fn find_wanted<'a>(
     entries: &'a Entries,
     buckets: &[Bucket],

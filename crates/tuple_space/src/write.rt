@@ -21,7 +21,7 @@ pub struct Write {
     pub taken: bool,
 }
 
-/// Places for writes, the first four of which take no memory; a place that isn't in use holds none.
+/// Places for writes, the first four of which take no memory; an unused place holds none.
 pub(crate) type Rows = SmallVec<Option<Write>, 4>;
 
 /// Writes in order.

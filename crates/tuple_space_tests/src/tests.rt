@@ -76,7 +76,7 @@ fn hold(space: &mut Space, id: EntryId, holder: u64, taken: bool) -> Result<(), 
     }
 }
 
-/// Puts five jobs out to stay, and tells the second, the fourth and the fifth entry.
+/// Writes five jobs permanently, and returns the second, the fourth and the fifth entry.
 fn put_five(alloc: Global, space: &mut Space) -> Result<[EntryId; 3], Fail> {
     put(alloc, space, 0, Lease::Forever)?;
     let second = put(alloc, space, 1, Lease::Forever)?;
@@ -215,7 +215,7 @@ fn holders_leave_and_take(rt: HostRuntime) -> Result<(), Fail> {
     assert_holders(&rt, &mut space, &any_job(alloc)?, id)
 }
 
-/// Puts so many jobs out to stay, and tells their entries.
+/// Writes this many jobs permanently, and returns their entries.
 fn put_many(alloc: Global, space: &mut Space, many: i128) -> Result<Vec<EntryId>, Fail> {
     let mut entries = Vec::new(alloc);
     for number in 0..many {

@@ -94,8 +94,8 @@ pub(crate) struct Assembled {
     pub(crate) tree: Tree,
 }
 
-/// Puts tuples together that are, in any order, those of a tree over this root, one for each of its nodes that isn't cut off, and of a
-/// permutation. The lists of duals are moved, not copied.
+/// Assembles tuples that are, in any order, those of a tree over this root, one for each of its nodes that is not
+/// pruned, and of a permutation. The lists of duals are moved, not copied.
 pub(crate) fn put_together(
     alloc: Global,
     root: &Partial,

@@ -14,7 +14,7 @@ use qap_cost::Perm;
 use std::alloc::{AllocError, Global};
 use tuple_match::Tuple;
 
-/// The best permutation of tuples that are a cut tree, and its cost.
+/// The incumbent of tuples that are a cut tree, and its cost.
 pub(crate) fn best_of(alloc: Global, tuples: &[Tuple]) -> Result<(Perm, i128), AllocError>
     requires { (S : Search) × (commits : ℕ) × IsCutTree S tuples.now commits }
     ensures { IfOk result (λ best. (S : Search) (commits : ℕ) (tree : IsCutTree S tuples.now commits) →

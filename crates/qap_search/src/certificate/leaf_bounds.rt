@@ -21,8 +21,8 @@ use qap_lines::are_limited;
 use qap_proof::{Duals, SplitLine, Tree};
 use std::alloc::{AllocError, Global};
 
-/// The least of this number and of what the leaves of the tree at the node show. It says nothing of a tree whose leaves haven't a dual
-/// within -10^24 to 10^24 for each free facility and each free location.
+/// The minimum of this number and of the bounds of the tree's leaves at the node. It implies nothing about a tree whose
+/// leaves do not have a dual within -10^24 to 10^24 for each free facility and each free location.
 #[cycle(showing)]
 pub(crate) fn least_shown(
     alloc: Global,

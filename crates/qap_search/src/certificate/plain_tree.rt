@@ -37,7 +37,7 @@ pub(crate) fn plain_tree(alloc: Global, tree: Tree) -> Result<PlainTree, Assembl
     }
 }
 
-/// The facility of a split on one that says no duals.
+/// The facility of a split on one that states no duals.
 fn plain_facility(split: &SplitLine) -> Option<u16>
     ensures { MatchOption result
         ((f : ℕ) → split_of split.now ≢ on_facility f)

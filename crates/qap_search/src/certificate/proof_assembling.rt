@@ -19,8 +19,8 @@ use qap_proof::{Proof, ProofError};
 use std::alloc::{AllocError, Global};
 use tuple_match::Tuple;
 
-/// The proof of tuples that are a cut tree over this root, where each open node is closed by the duals of a least
-/// assignment of its Gilmore-Lawler matrix. Its bound is the least of the cost and of what its closed nodes show.
+/// The proof of tuples that are a cut tree over this root, with each open node closed by the duals of a least
+/// assignment of its Gilmore-Lawler matrix. Its bound is the minimum of the cost and of the bounds of its closed nodes.
 pub(crate) fn proof_of<K: Closers>(
     closers: &K,
     alloc: Global,

@@ -85,7 +85,7 @@ fn take_child(
     }
 }
 
-/// Takes what is below a node that is split on the facility of this number and says no duals, and makes its tree.
+/// Takes what is below a node that is split on the facility of this number and states no duals, and builds its tree.
 #[cycle(building)]
 fn take_plain(
     alloc: Global,

@@ -81,8 +81,8 @@ pub struct Branch {
 }
 
 impl Branch {
-    /// By what the children are taken, the least first, that aren't cut off where the best permutation has this cost;
-    /// nothing where they are taken by their locations.
+    /// The keys by which the children that are not pruned at this cost of the incumbent are taken, the least first;
+    /// none if they are taken by their locations.
     pub(crate) fn order(&self, alloc: Global, best: i128) -> Result<Vec<i128>, AllocError> {
         let Some(reached) = &self.reached else {
             return Vec::from_slice(alloc, &self.entries);

@@ -42,8 +42,8 @@ pub fn decide(
     Ok(Some(branch_tuples(alloc, node, thought, branch, best)?))
 }
 
-/// The tuples of the node, split on what the evaluation says: where its duals may prune children, those at which they
-/// reach the best cost are, and of the others those are images that it says are.
+/// The tuples of the node, split as the evaluation says: if its duals may prune children, those at which they reach the
+/// best cost are pruned, and of the others those are symmetric that it marks so.
 fn branch_tuples(
     alloc: Global,
     node: &Partial,

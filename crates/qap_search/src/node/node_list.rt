@@ -28,8 +28,8 @@ pub fn read_node(alloc: Global, n: usize, list: &[i128]) -> Result<Option<Partia
     }
 }
 
-/// Makes it the node of size `n` whose list this is, in the memory that it has where that is enough; answers whether it is that of a
-/// node of this size, and else it may be any node.
+/// Makes this the node of size `n` with this list, in its own memory if that suffices; returns whether the list is that
+/// of a node of this size, and otherwise it may be any node.
 pub(crate) fn read_into(
     n: usize,
     list: &Numbers<'_>,

@@ -131,8 +131,8 @@ pub(crate) fn shared_rows(
     Ok(Arc::new(alloc, RankedInstance::new(alloc, instance)?)?)
 }
 
-/// Steps the worker until the space is closed or there is no memory. Whether the space is to be closed is asked only where the
-/// worker gives its transaction up.
+/// Steps the worker until the space is closed or memory runs out. Closing the space is considered only when the worker
+/// gives its transaction up.
 fn work<L: Law, R: Wait>(
     rt: &R,
     hand: &mut Hand,

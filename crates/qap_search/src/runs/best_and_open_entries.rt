@@ -23,8 +23,8 @@ use std::alloc::AllocError;
 use tuple_match::Tuple;
 use tuple_space::Entry;
 
-/// The best permutation that the entries in these places tell, whose permanent tuples are a cut tree, and its cost. The list for its
-/// locations is empty; where it has room for them, no memory is taken.
+/// The incumbent among the entries in these places, whose permanent tuples are a cut tree, and its cost. The list for
+/// its locations is empty; if it has enough capacity, nothing is allocated.
 pub(crate) fn best_among(
     places: &[Option<Entry>],
     room: Vec<u16>,

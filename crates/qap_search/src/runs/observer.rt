@@ -21,7 +21,7 @@ pub struct Progress {
 
 /// Observes the progress of a search.
 pub trait Observer {
-    /// Whether it wants to see that. Who doesn't costs a search nothing.
+    /// Whether it wants to see the progress. An observer that does not costs a search nothing.
     fn is_watching(&self) -> bool;
 
     /// Sees how far the search has come. The thread that keeps the space shows it, outside the space's lock, at most ten times in a

@@ -12,7 +12,7 @@ use std::marker::Model;
 use std::sync::Wait;
 use tuple_match::Template;
 
-/// Where workers work: the space, what they wait for there, and who is asked before each step.
+/// What workers share: the space, what they wait for there, and the gate that is consulted before each step.
 #[derive(Drop)]
 pub(crate) struct Workplace<'a, R: Wait, L: Law, G: Gate> {
     pub(crate) rt: &'a R,
@@ -73,8 +73,8 @@ impl<L: Law> Seat<L> {
         }
     }
 
-    /// Works until the space is closed, the gate ends the worker or there is no memory. A worker that found none aborts its transactions
-    /// then, where the workplace asks for that: aborting takes no memory.
+    /// Works until the space is closed, the gate ends the worker or memory runs out. A worker that runs out of memory
+    /// then aborts its transactions, if the workplace requires it: aborting allocates nothing.
     pub(crate) fn work<R: Wait, G: Gate>(&mut self, place: &Workplace<'_, R, L, G>) {
         self.work_to_its_end(place);
         if place.aborts && self.ended == Some(Ended::Memory) {
@@ -132,7 +132,7 @@ impl<L: Law> Seat<L> {
 }
 
 impl<L: Law> Steps<L> for Seat<L> {
-    /// A worker that has ended gives up what it has at hand; any other goes on.
+    /// A worker that has ended gives up its nodes; any other continues.
     fn make<M: Room<L>>(&mut self, room: &mut M) {
         if self.ended.is_some() {
             give_up_all(room, &mut self.hand, &mut self.share);
@@ -154,7 +154,7 @@ fn next_of(hand: &Hand) -> Option<Kind> {
     }
 }
 
-/// Evaluates each of its nodes that is due, and prepares its writes. The error says how the worker ends.
+/// Evaluates each of its nodes that is due, and prepares its writes. The error is how the worker ends.
 fn think_on_all<G: Gate>(hand: &mut Hand, gate: &G) -> Result<(), Ended>
     ensures accepted { hand.new.accepted ≡ hand.old.accepted }
     ensures cutting { hand.new.cutting ≡ hand.old.cutting }
@@ -180,8 +180,8 @@ fn think<G: Gate>(hand: &mut Hand, gate: &G) -> Result<(), Ended>
     Ok(())
 }
 
-/// Goes on from the nodes at hand to others: commits what was decided of them and then, unless the space is closed,
-/// takes as many others. It reports what is lacking where none can be taken; the error says how the worker ends.
+/// Moves on from its nodes to others: commits what was decided about them and then, unless the space is closed, takes
+/// as many others. It reports what is missing if none can be taken; the error is how the worker ends.
 fn go_on<L: Law, M: Room<L>>(
     room: &mut M,
     hand: &mut Hand,
@@ -272,8 +272,8 @@ fn take_all<L: Law, M: Room<L>>(
     Ok(true)
 }
 
-/// Takes an open node, in a transaction of its own, and reports whether there was one; where there was none the
-/// transaction is given up.
+/// Takes an open node, in its own transaction, and returns whether there was one; otherwise the transaction is given
+/// up.
 fn take<L: Law, M: Room<L>>(
     room: &mut M,
     hand: &mut Hand,
@@ -292,7 +292,7 @@ fn take<L: Law, M: Room<L>>(
     Ok(took)
 }
 
-/// Gives up what is to be given up. What the transaction held that has ended is kept, to be dropped outside the space's lock.
+/// Gives up what must be given up. What the ended transaction held is kept, to be dropped outside the space's lock.
 fn give_up<L: Law, M: Room<L>>(
     room: &mut M,
     hand: &mut Hand,
@@ -326,7 +326,8 @@ fn give_up_all<L: Law, M: Room<L>>(room: &mut M, hand: &mut Hand, share: &mut Sh
     }
 }
 
-/// Gives up the node at hand, whatever was decided of it. An abort that is refused leaves the node to the end of its lease.
+/// Gives up its node, regardless of what was decided about it. An abort that is refused leaves the node to the end of
+/// its lease.
 fn abandon<L: Law, M: Room<L>>(room: &mut M, hand: &mut Hand, share: &mut Share<L>)
     requires law { IsSearchLaw hand.old.cutting hand.old.instance L.lawful L.allowed }
     requires before { hand.old.accepted ≡ share.old }
@@ -360,9 +361,9 @@ fn step_if<L: Law, M: Room<L>>(
     }
 }
 
-/// One turn: an evaluation where one is due, else a step that the gate lets pass. No transaction begins on a closed
-/// space. A worker that found no best permutation gives its transaction up at once and waits for one, and one that gave
-/// up for another reason waits for a node. The error says how the worker ends.
+/// One turn: an evaluation if one is due, otherwise a step that the gate allows. No transaction begins on a closed
+/// space. A worker that found no incumbent gives its transaction up at once and waits for one, and one that gave up for
+/// another reason waits for a node. The error is how the worker ends.
 fn turn<R: Wait, L: Law, G: Gate>(
     place: &Workplace<'_, R, L, G>,
     worker: u16,
@@ -392,8 +393,8 @@ fn turn<R: Wait, L: Law, G: Gate>(
     }
 }
 
-/// Gives the transaction up and waits for a best permutation, which somebody else has taken. The error says how the
-/// worker ends.
+/// Gives the transaction up and waits for an incumbent, which another worker has taken. The error is how the worker
+/// ends.
 fn wait_for_best<R: Wait, L: Law, G: Gate>(
     place: &Workplace<'_, R, L, G>,
     worker: u16,
@@ -438,8 +439,8 @@ fn step<R: Wait, L: Law, G: Gate>(
     Ok(())
 }
 
-/// Waits until there is a tuple matching the template. The error says how the worker ends: where the space is closed it
-/// is done.
+/// Waits until there is a tuple matching the template. The error is how the worker ends: if the space is closed it is
+/// done.
 fn wait_for<R: Wait, L: Law, G: Gate>(
     place: &Workplace<'_, R, L, G>,
     template: &Template,

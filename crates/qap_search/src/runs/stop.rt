@@ -4,8 +4,8 @@ ghost use Rattle.std.specs.Prelude.{◌≡◌, false};
 
 /// May stop a search before its end.
 pub trait Stop {
-    /// Whether the search is to stop now, though nodes are open. The thread that keeps the space asks in each of its rounds, outside
-    /// the space's lock, and no more once it is wanted.
+    /// Whether the search should stop now, although nodes are open. The thread that keeps the space asks in each of its
+    /// rounds, outside the space's lock, until a stop is requested.
     fn is_wanted(&self) -> bool;
 }
 

@@ -56,7 +56,7 @@ use std::time::Duration;
 use std::{thread, time};
 use tuple_match::Template;
 
-/// How many nodes the workers of a search have at hand together, where that is one each or more.
+/// How many nodes the workers of a search work on together, if that is at least one each.
 const AT_HAND: usize = 16;
 
 /// How many nodes a worker has at hand at most.
@@ -302,7 +302,7 @@ fn all_permutations(alloc: Global, instance: &Instance) -> Result<Beginning, All
     })
 }
 
-/// The run that goes as the plan says.
+/// The run of a search according to the plan.
 fn run_of<R, C, G, S, O>(
     rt: &R,
     alloc: Global,
@@ -483,7 +483,7 @@ where
     Run { space, reports }
 }
 
-/// The symmetries of the instance, to be shared by workers, where these split nodes by a rule that asks for them.
+/// The symmetries of the instance, to be shared by workers, if their branching rule needs them.
 fn shared_symmetries(
     alloc: Global,
     instance: &Instance,
@@ -575,7 +575,7 @@ fn jobs_beside(workers: usize, size: usize) -> usize {
     (AT_HAND / workers).clamp(1, AT_HAND_OF_ONE) - 1
 }
 
-/// Lets each worker work in a thread of its own, and keeps the space until it is closed. A worker whose thread can't be started
+/// Runs each worker in its own thread, and keeps the space until it is closed. A worker whose thread cannot be started
 /// has left.
 fn work_all<R, L, C, G, S, O>(
     place: &Workplace<'_, R, L, G>,
@@ -607,8 +607,8 @@ fn work<R: Wait, L: Law, G: Gate>(place: &Workplace<'_, R, L, G>, seat: &Mutex<S
     place.shared.leave(place.rt);
 }
 
-/// Advances the moment by the clock, and shows the observer how far the search has come, until the space is closed, by
-/// itself or since a stop is requested.
+/// Advances the moment by the clock, and reports the progress to the observer, until the space is closed, by itself or
+/// because a stop is requested.
 fn keep<R, L, C, G, S, O>(
     place: &Workplace<'_, R, L, G>,
     watch: &Watch<'_>,

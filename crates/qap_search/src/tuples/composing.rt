@@ -117,7 +117,7 @@ pub(crate) fn free_others(node: &Partial, side: Side) -> Result<Vec<u16>, AllocE
     }
 }
 
-/// Of each child a 1 where the duals reach the best cost there, and else a 0.
+/// For each child a 1 if the duals reach the best cost there, otherwise a 0.
 fn cut_flags(alloc: Global, reached: &[i128], best: i128) -> Result<Vec<i128>, AllocError>
     ensures list { IfOk result (λ v. v.items ≡ cut_numbers (children_by best [] 0 reached.now)) }
     ensures long { IfOk result (λ v. length v.items ≡ length reached.now) }
@@ -191,7 +191,7 @@ fn tuple_of_mirrored(
     Tuple::of_four(alloc, [name, list, earlier, by])
 }
 
-/// The tuple of a node that is split so with these duals, and of whose children these are cut off.
+/// The tuple of a node that is split so with these duals, with these of its children pruned.
 fn tuple_of_pruned(
     alloc: Global,
     node: &Partial,

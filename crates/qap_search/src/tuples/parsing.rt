@@ -32,7 +32,7 @@ pub(crate) struct PrunedSplit {
     pub(crate) side: Side,
     pub(crate) number: i128,
     pub(crate) duals: KeptDuals,
-    /// Of each child a 1 where the duals cut it off, and else a 0.
+    /// For each child a 1 if the duals prune it, otherwise a 0.
     pub(crate) cuts: NumberList,
 }
 
@@ -50,15 +50,15 @@ pub(crate) struct BestFound {
     pub(crate) locations: NumberList,
 }
 
-/// What a tuple of a search without open nodes says.
+/// The content of a tuple of a search without open nodes.
 #[derive(Drop)]
 pub(crate) enum Piece {
     Best(BestFound),
     Decided(DecidedNode),
 }
 
-/// What the tuple says; `None` where it is not a tuple of a best permutation or a decided node. Its lists are moved as
-/// they lie, unless another tuple shares them.
+/// The content of the tuple; `None` if it is not a tuple of an incumbent or a decided node. Its lists are moved in
+/// their stored form, unless another tuple shares them.
 pub(crate) fn piece_of(tuple: Tuple) -> Result<Option<Piece>, AllocError>
     ensures { IfOk result (λ told. MatchOption told (IsNoPiece tuple) (λ piece. piece_tuple piece ≡ tuple)) }
 {

@@ -21,8 +21,8 @@ pub(crate) struct Pieces {
     pub(crate) decided: Vec<DecidedNode>,
 }
 
-/// Distinguishes the tuples. They are refused where one is none of a best permutation or a decided node, and where
-/// there isn't one best permutation.
+/// Sorts the tuples by kind. They are refused if one is not of an incumbent or a decided node, or if there is not
+/// exactly one incumbent.
 pub(crate) fn tell_apart(alloc: Global, mut tuples: Vec<Tuple>) -> Result<Pieces, AssembleError>
     ensures { MatchResult result
         (λ p. SameItems tuples.items (pieces_tuples p))

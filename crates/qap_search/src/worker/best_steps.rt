@@ -92,7 +92,7 @@ fn told_best(
     }
 }
 
-/// A write of the transaction itself is none of a best permutation.
+/// A write of the transaction itself is not one of an incumbent.
 fn told_found(
     alloc: Global,
     what: Found,
@@ -255,8 +255,8 @@ fn write_beside(
     Ok(Some(cost))
 }
 
-/// Writes what is decided of the node beside the incumbent after the commit: the evaluation's candidate where it costs
-/// less than the one that was taken, and else that one.
+/// Writes the decision on the node together with the incumbent after the commit: the evaluation's candidate if it costs
+/// less than the one that was taken, and otherwise that one.
 fn write_anew(
     alloc: Global,
     txn: &mut Txn,
@@ -280,8 +280,8 @@ fn write_anew(
     Ok(Some(standing))
 }
 
-/// By what the open children of the evaluation's node are taken, the least first, where the best permutation has this
-/// cost.
+/// The keys by which the open children of the evaluation's node are taken, the least first, at this cost of the
+/// incumbent.
 pub(crate) fn order_of(
     alloc: Global,
     thought: &Thought,

@@ -67,8 +67,8 @@ struct WithEntry {
     tuple: Tuple,
 }
 
-/// The tuples of a split and what follows it, its children in falling order of their entries, so that the one whose
-/// entry is least is the newest of them. They stay as they are where there is no entry.
+/// The tuples of a split and what follows it, its children in descending order of their entries, so that the one whose
+/// entry is least is the newest of them. They are unchanged if there is no entry.
 pub(crate) fn by_entries(
     alloc: Global,
     tuples: Vec<Tuple>,

@@ -30,8 +30,8 @@ pub trait Gate {
     /// The worker has a node's Gilmore-Lawler matrix and computes its duals.
     fn thinking(&self, worker: u16);
 
-    /// Whether it lets every step pass and wants no reports. A worker then makes those of its steps that follow one
-    /// another under one taking of the space's lock, and neither asks nor informs it.
+    /// Whether it lets every step pass and needs no reports. A worker then makes consecutive steps under one
+    /// acquisition of the space's lock, and neither consults nor informs it.
     fn is_silent(&self) -> bool {
         false
     }

@@ -272,7 +272,7 @@ impl Hand {
         );
     }
 
-    /// Gives up the node at hand: where it has a transaction, the next step aborts it.
+    /// Gives up its node: if it has a transaction, the next step aborts it.
     pub(crate) fn give_up(&mut self)
         ensures not_due { is_due self.new.stage ≡ false }
         ensures stage { self.new.stage ≡ given_up self.old.stage }

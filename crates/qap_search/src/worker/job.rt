@@ -7,8 +7,8 @@ use crate::worker::prepared::Prepared;
 use crate::worker::stage::{LastThought, Reserve, Stage};
 use std::alloc::{AllocError, Global};
 
-/// One of the nodes that a worker has at hand at the same time, each with a transaction of its own: where it is with
-/// it, what it evaluated last there, and what it is to write.
+/// One of the nodes on which a worker is working, each with its own transaction: its stage, the last evaluation, and
+/// the writes.
 #[derive(Drop)]
 pub(crate) struct Job {
     pub(crate) stage: Stage,

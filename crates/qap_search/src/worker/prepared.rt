@@ -15,8 +15,7 @@ use crate::worker::stage::LastThought;
 use std::alloc::{AllocError, Global};
 use tuple_space::Writes;
 
-/// What is to be written of the last evaluation where the best permutation stays and has this cost, if that has been
-/// computed.
+/// The writes of the last evaluation if the incumbent stays and has this cost, if they have been computed.
 #[derive(Drop)]
 pub(crate) struct Prepared {
     cost: Option<i128>,
@@ -34,7 +33,7 @@ impl Prepared {
         }
     }
 
-    /// Whether it is what is to be written where the best permutation has this cost.
+    /// Whether these are the writes for an incumbent of this cost.
     pub(crate) fn is_for(&self, cost: i128) -> bool
         ensures { IsTrue result ↔ (self.now.cost ≡ Some cost) }
     {
@@ -48,8 +47,8 @@ impl Prepared {
         self.cost = None;
     }
 
-    /// Computes what is to be written of the evaluation where the best permutation stays and has this cost. At an
-    /// error, and where nothing can be written, nothing has been computed.
+    /// Computes the writes of the evaluation if the incumbent stays and has this cost. At an error, and if nothing can
+    /// be written, nothing has been computed.
     pub(crate) fn prepare(
         &mut self,
         alloc: Global,
@@ -73,8 +72,8 @@ impl Prepared {
     }
 }
 
-/// Likewise for the cost that is remembered, where there is one and a last evaluation. If memory runs out, nothing has
-/// been computed.
+/// Likewise for the remembered cost, if there is one and a last evaluation. If memory runs out, nothing has been
+/// computed.
 pub(crate) fn prepare_at(
     alloc: Global,
     prepared: &mut Prepared,

@@ -107,7 +107,7 @@ impl Reserve {
         self.older = self.spent.replace(spent);
     }
 
-    /// Sees to it that the next transaction has memory, where there is any, before the space's lock is taken for it. What the last
+    /// Allocates memory for the next transaction, if possible, before the space's lock is taken for it. What the last
     /// ones held is dropped.
     pub(crate) fn restock(&mut self, alloc: Global) {
         self.older = None;
@@ -132,8 +132,8 @@ pub(crate) struct Tools {
     pub(crate) lease_ms: u64,
     /// By which rule nodes are split.
     pub(crate) branching: Branching,
-    /// What the permutation costs that the search begins with, where that is known: until the worker has read the best
-    /// one, this says how far above a node's bound the cost may be.
+    /// The cost of the initial permutation of the search, if known: until the worker has read the incumbent, this shows
+    /// how far above a node's bound the cost may be.
     pub(crate) known: Option<i128>,
     /// Asks for any open node.
     pub(crate) node: Template,

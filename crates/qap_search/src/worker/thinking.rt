@@ -116,8 +116,8 @@ fn is_same(node: &Partial, other: &Partial) -> bool
         && *node.places() == *other.places()
 }
 
-/// Makes it the node of size `n` whose tuple the entry has, where that is there to stay; answers whether there is one, and else it may
-/// be any node.
+/// Makes this the node of size `n` in the entry's tuple, if that is permanent; returns whether there is one, and
+/// otherwise it may be any node.
 fn read_taken(n: usize, txn: &Txn, id: EntryId, node: &mut Partial) -> Result<bool, AllocError>
     requires positive { 0 < n }
     requires small { n ≤ 256 }

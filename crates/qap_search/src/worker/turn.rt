@@ -25,7 +25,7 @@ use space_txn::{Found, Spare, Txn, TxnError};
 use std::alloc::AllocError;
 use tuple_match::{Template, does_match_law};
 
-/// Makes the next step of a worker that is there, and begins a transaction in spare memory, where there is some.
+/// Makes the next step of a worker at this stage, and begins a transaction in spare memory, if there is some.
 pub(crate) fn turn<L: Law, M: Room<L>>(
     tools: &Tools,
     room: &mut M,
@@ -152,7 +152,7 @@ fn told_node(found: Result<Option<Found>, TxnError>, txn: Txn, tally: Tally) -> 
     }
 }
 
-/// A write of the transaction itself is none of an open node.
+/// A write of the transaction itself is not one of an open node.
 fn took(what: Found, txn: Txn, tally: Tally) -> Outcome
     ensures turn { (cutting : Bool) (I : Problem) (lease : ℕ) (last : Option ThoughtValue) (old : TxnValue) →
         AfterNode (hand_of cutting I lease last (Begun old) tally) (found what) txn result.told (hand_of cutting I lease last result.stage result.tally) }
@@ -185,8 +185,8 @@ pub(crate) fn commit<L: Law, M: Room<L>>(
     told_commit(committed, shared, cost, tally)
 }
 
-/// A commit that is accepted is counted; `shared` is what the share has counted then. Where the limit of commits is
-/// reached, the transaction is given up.
+/// A commit that is accepted is counted; `shared` is the share's count then. If the limit of commits is reached, the
+/// transaction is given up.
 fn told_commit(
     committed: Result<(), (CommitError, Txn)>,
     shared: u64,
