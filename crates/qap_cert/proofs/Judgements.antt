@@ -6,7 +6,7 @@ use Rattle.qap_cost.specs.Instance.{Problem}
 use Rattle.qap_cost.specs.Placement.{Placement, placing}
 use Rattle.qap_cert.proofs.Readings.{with_last}
 use Rattle.qap_cert.proofs.Trees.{line_after-more, line_after-none}
-use Rattle.qap_cert.proofs.Walks.{joined}
+use Rattle.qap_cert.specs.Code.{joined}
 use Rattle.qap_cert.specs.Fault.{IsTreeFault, IsTreeFaultAmong}
 use Rattle.qap_lines.specs.Line.{line_after}
 use Rattle.qap_cert.specs.Tree.{Node, Nodes, no_nodes, node, node_count, nodes_count}
@@ -44,3 +44,20 @@ IsTreeFaultAmong-at I g x f ks i line at ts us t e small below h is fault =
     let whole : take i ks ++ get_or ks i 0 ∷ drop (suc i) ks ≡ ks = ap (λ l. take i ks ++ l) (sym (drop-cons ks i 0 below)) ∙ take-append-drop i ks in
     subst (λ (js : List ℕ). IsTreeFaultAmong I g x f js line (joined (with_last ts t) us) e) whole
     (fault_behind I g x f (take i ks) (drop (suc i) ks) (get_or ks i 0) line at ts us t e small h is fault)
+
+-- valid children, and others behind them
+pub AllValid-joined : (I : Problem) (g : ℤ) (x : Placement) (f : ℕ) (js ks : List ℕ) (ts us : Nodes) → AllValid I g x f js ts → AllValid I g x f ks us → AllValid I g x f (js ++ ks) (joined ts us)
+AllValid-joined I g x f [] ks no_nodes us h k = k
+AllValid-joined I g x f (j ∷ js) ks no_nodes us h k = absurd h
+AllValid-joined I g x f [] ks (node t rest) us h k = absurd h
+AllValid-joined I g x f (j ∷ js) ks (node t rest) us h k = (h.0, AllValid-joined I g x f js ks rest us h.1 k)
+
+-- a fault of others behind valid children
+pub IsTreeFaultAmong-joined : (I : Problem) (g : ℤ) (x : Placement) (f : ℕ) (js ks : List ℕ) (line at : ℕ) (ts us : Nodes) (e : CertError) → line ≤ 18446744073709551615
+    → AllValid I g x f js ts → at ≡ line_after line (nodes_count ts) → IsTreeFaultAmong I g x f ks at us e → IsTreeFaultAmong I g x f (js ++ ks) line (joined ts us) e
+IsTreeFaultAmong-joined I g x f [] ks line at no_nodes us e small h is fault =
+    subst (λ (j : ℕ). IsTreeFaultAmong I g x f ks j us e) (is ∙ sym (line_after-none line small)) fault
+IsTreeFaultAmong-joined I g x f (j ∷ js) ks line at no_nodes us e small h is fault = absurd h
+IsTreeFaultAmong-joined I g x f [] ks line at (node s rest) us e small h is fault = absurd h
+IsTreeFaultAmong-joined I g x f (j ∷ js) ks line at (node s rest) us e small h is fault =
+    inr (h.0, IsTreeFaultAmong-joined I g x f js ks (line_after line (node_count s)) at rest us e (omega arith) h.1 (is ∙ sym (line_after-more line (node_count s) (nodes_count rest))) fault)

@@ -4,6 +4,7 @@ pub mod Duals
 pub mod Faults
 pub mod FirstFaults
 pub mod Judgements
+pub mod Levels
 pub mod Locations
 pub mod OneFault
 pub mod OneText

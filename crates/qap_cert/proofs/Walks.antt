@@ -5,6 +5,7 @@ use Rattle.qap_cost.specs.Placement.{IsFree}
 use Rattle.qap_cert.proofs.Readings.{with_last, AllHaveShape-with_last, child_count-with_last, nodes_count-with_last, trees_text-with_last, line_text-behind}
 use Rattle.qap_cert.proofs.Trees.{line_after-more, line_after-none}
 use Rattle.qap_lines.specs.Line.{line_after, IsLine}
+use Rattle.qap_cert.specs.Code.{joined}
 use Rattle.qap_cert.specs.NodeLine.{IsNodeLine}
 use Rattle.qap_cert.specs.TextFault.{IsEndFault, IsFaultAmong, IsFaultFromTree, IsSplitLine, IsTreeTextFault}
 use Rattle.gilmore_lawler.specs.Closing.{AreDuals}
@@ -75,11 +76,6 @@ BeginsWithTree-split w n placed inner line count text rest behind next after f P
   next_is = h.next_is ∙ ap (λ (k : ℕ). line_after k (nodes_count h.trees)) next_is ∙ line_after-more line 1 (nodes_count h.trees);
   holds = holds;
 }
-
--- trees in a row, and others behind them
-abbrev pub joined : Nodes → Nodes → Nodes
-joined no_nodes us = us
-joined (node t rest) us = node t (joined rest us)
 
 AllHaveShape-joined : (w : Version) (n : ℕ) (placed : List ℕ) (ts us : Nodes) → AllHaveShape w n placed ts → AllHaveShape w n placed us → AllHaveShape w n placed (joined ts us)
 AllHaveShape-joined w n placed no_nodes us h k = k

@@ -3,6 +3,7 @@ pub mod Certificate
 pub mod Code
 pub mod Fault
 pub mod Head
+pub mod Levels
 pub mod NodeLine
 pub mod Refusal
 pub mod Shape

@@ -15,7 +15,7 @@ use crate::checking::judge_perm;
 use crate::error::CertError;
 use crate::placed::Placed;
 use crate::reader::{Head, read_end, read_head};
-use crate::skimming::skim_tree;
+use crate::skimming::skim_trees;
 use crate::walking::{Buffers, Task, judge_tree};
 use gilmore_lawler::RankedInstance;
 use qap_cost::{Instance, Partial};
@@ -59,7 +59,9 @@ fn skim_to_end(alloc: Global, head: &Head<'_>) -> Result<(), CertError>
         (λ done. EndsBehindTree head.now.grammar.version head.now.grammar.size head.now.rest.now Any)
         (λ e. (e ≡ CertError.OutOfMemory) ⊎ IsFaultFromTree head.now.grammar.version head.now.grammar.size head.now.line head.now.rest.now e) }
 {
-    let behind = skim_tree(alloc, head.rest, head.grammar, &Placed::none(), head.line)?;
+    let mut left = Vec::with_capacity(alloc, head.grammar.size + 1)?;
+    let mut placed = Placed::none();
+    let behind = skim_trees(&mut left, head.rest, head.grammar, &mut placed, head.line, 1)?;
     read_end(behind.rest, behind.next)
 }
 
@@ -84,14 +86,7 @@ fn judge_to_end(
         ranked: &ranked,
         bound: head.bound,
     };
-    let judged = judge_tree(
-        &mut buffers,
-        &task,
-        &root,
-        head.rest,
-        &Placed::none(),
-        head.line,
-    )?;
+    let judged = judge_tree(&mut buffers, &task, root, head.rest, head.line)?;
     read_end(judged.rest, judged.next)?;
     Ok(judged.fault)
 }

@@ -32,10 +32,10 @@ struct Judge<'a> {
 /// A split whose children are checked: the node that it is of, its facility, and the locations that it has children
 /// for.
 #[derive(Clone, Copy)]
-pub(crate) struct Parent<'a> {
-    pub(crate) node: &'a Partial,
-    pub(crate) facility: u16,
-    pub(crate) locations: &'a [u16],
+struct Parent<'a> {
+    node: &'a Partial,
+    facility: u16,
+    locations: &'a [u16],
 }
 
 /// Whether the certificate alone proves that no permutation of the instance costs less than its bound. If the bound is

@@ -16,6 +16,7 @@ mod placed;
 mod reader;
 mod shape;
 mod skimming;
+mod splits;
 mod tree;
 mod tree_reader;
 mod version;

@@ -1,8 +1,10 @@
 //! Which facilities are placed above a node of a tree.
 
 ghost use Rattle.std.specs.Prelude.{◌≡◌, ◌<◌, ◌≤◌, ◌↔◌, ◌++◌, ◌∷◌, [], IsTrue, ℕ, length, slice_index};
+ghost use Rattle.qap_cost.specs.Placement.{IsPlacement};
+ghost use Rattle.qap_cert.specs.Levels.{placed_outside};
 
-use qap_cost::MAX_SIZE;
+use qap_cost::{MAX_SIZE, Partial};
 use std::marker::Model;
 
 /// The facilities that are placed above a node, in the order of placing: at most 256. They lie in place, so that no memory
@@ -34,6 +36,17 @@ impl Placed {
         }
     }
 
+    /// Those that are placed at a node.
+    pub(crate) fn at(node: &Partial) -> Placed
+        ensures value { result ≡ node.now.facilities }
+        ensures placement { IsPlacement node.now }
+    {
+        let mut facilities = [0; MAX_SIZE];
+        let count = node.depth();
+        facilities[..count].copy_from_slice(node.facilities());
+        Placed { facilities, count }
+    }
+
     /// How many are placed.
     pub(crate) fn count(&self) -> usize
         ensures value { result ≡ length self.now }
@@ -49,8 +62,23 @@ impl Placed {
         self.facilities[..self.count].contains(&facility)
     }
 
-    /// These, and one more after them. It is not inlined, since a recursive walk would keep its copy at each level.
-    #[inline(never)]
+    /// Places one more behind them.
+    pub(crate) fn push(&mut self, facility: u16)
+        requires { length self.old < 256 }
+        ensures { self.new ≡ self.old ++ facility ∷ [] }
+    {
+        self.facilities[self.count] = facility;
+        self.count += 1;
+    }
+
+    /// Takes the last one away; none where there is none.
+    pub(crate) fn pop(&mut self)
+        ensures { self.new ≡ placed_outside self.old }
+    {
+        self.count = self.count.saturating_sub(1);
+    }
+
+    /// These, and one more behind them.
     pub(crate) fn with(&self, facility: u16) -> Placed
         requires { length self.now < 256 }
         ensures { result ≡ self.now ++ facility ∷ [] }

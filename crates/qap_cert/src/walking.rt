@@ -1,22 +1,25 @@
-//! Checks a tree as its lines are read, without storing it.
+//! Judges a tree as its lines come, and holds none of it.
 
-ghost use Rattle.std.specs.Prelude.{◌≡◌, ◌⊎◌, ◌++◌, ◌∷◌, [], ◌+◌, ◌-◌, ◌<◌, ◌≤◌, length, slice_index, ℕ, MatchResult};
-ghost use Rattle.qap_cost.specs.Placement.{IsFreeFacility, IsFreeLocation, placing};
+ghost use Rattle.std.specs.Prelude.{◌≡◌, ◌⊎◌, ◌++◌, ◌∷◌, [], ◌+◌, ◌-◌, ◌*◌, ◌<◌, ◌≤◌, length, drop, take, map, reverse, slice_index, vec_len, ℕ, IfOk, OnOk, MatchResult};
+ghost use Rattle.qap_cost.specs.Placement.{IsFree, IsFreeFacility, IsFreeLocation, free_locations, placing, root_of};
 ghost use Rattle.gilmore_lawler.specs.Closing.{AreDuals};
+ghost use Rattle.qap_lines.specs.Line.{IsLine};
+ghost use Rattle.qap_cert.specs.Levels.{AreOfSize, BeginsWithLevels, IsFaultAtLevels, IsRunTold, IsSplitOf, IsToldBehind, IsToldOfLevels, level_of, placed_behind};
 ghost use Rattle.qap_cert.specs.TextFault.{IsNodeFault, IsSplitLine, IsTreeTextFault};
 ghost use Rattle.qap_cert.specs.Tree.{bound};
-ghost use Rattle.qap_cert.specs.Walk.{ClosesOrTells, BeginsWithTree, BeginsWithTrees, IsFaultBefore, IsToldOf, IsToldOfAll};
+ghost use Rattle.qap_cert.specs.Walk.{ClosesOrTells, BeginsWithTree, BeginsWithTrees, IsFaultBefore, IsToldOf};
 
-use crate::checking::{Parent, check_bound, check_child_bound};
+use crate::checking::{check_bound, check_child_bound};
 use crate::error::CertError;
-use crate::node_line::{Grammar, bound_numbers, node_line};
+use crate::node_line::{Grammar, NodeLine, bound_numbers, node_line};
 use crate::placed::Placed;
-use crate::skimming::skim_trees;
+use crate::skimming::{Behind, skim_trees};
+use crate::splits::Split;
 use gilmore_lawler::{FlowRows, RankedInstance, SplitRows, Workspace};
 use qap_cost::Partial;
-use std::alloc::Global;
+use std::alloc::{AllocError, Global};
 
-/// The parameters of a tree's check: the grammar of its lines, the instance, and the bound that it should prove.
+/// What a tree is judged by: the grammar of its lines, the instance, and the bound that it is to show.
 #[derive(Clone, Copy)]
 pub(crate) struct Task<'a> {
     pub(crate) grammar: Grammar,
@@ -24,7 +27,7 @@ pub(crate) struct Task<'a> {
     pub(crate) bound: i128,
 }
 
-/// The text after lines that were checked, the number of its first line, and the first bound among them that fails.
+/// The text behind lines that were judged, the number of its first line, and the first bound among them that fails.
 #[derive(Clone, Copy)]
 pub(crate) struct Judged<'a> {
     pub(crate) rest: &'a [u8],
@@ -51,81 +54,64 @@ impl Buffers {
     }
 }
 
-/// Checks the tree at the beginning of a text, whose first line has this number, for a node at which these facilities
-/// are placed. After the first bound that fails, lines are checked only for syntax.
-#[cycle(walking)]
+/// Judges the tree at the front of a text, whose first line has this number, for an instance of which nothing is placed yet.
+/// Behind the first bound that fails, lines are judged by the grammar alone.
 pub(crate) fn judge_tree<'a>(
     buffers: &mut Buffers,
     task: &Task<'_>,
-    node: &Partial,
+    root: Partial,
     text: &'a [u8],
-    placed: &Placed,
     line: u64,
 ) -> Result<Judged<'a>, CertError>
     requires small { task.now.grammar.size ≤ 256 }
-    requires depth { length placed.now ≤ task.now.grammar.size }
-    requires same_size { task.now.ranked.now.size ≡ node.now.size }
-    requires size { task.now.grammar.size ≡ node.now.size }
-    requires placed { placed.now ≡ node.now.facilities }
+    requires same_size { task.now.ranked.now.size ≡ task.now.grammar.size }
+    requires root { root ≡ root_of task.now.grammar.size }
     ensures { MatchResult result
-        (λ r. BeginsWithTree task.now.grammar.version task.now.grammar.size placed.now line text.now r.rest.now r.next (IsToldOf task.now.ranked.now task.now.bound node.now line r.fault))
-        (λ e. (e ≡ CertError.OutOfMemory) ⊎ IsTreeTextFault task.now.grammar.version task.now.grammar.size (task.now.grammar.size - length placed.now) placed.now line text.now e) }
+        (λ r. BeginsWithTree task.now.grammar.version task.now.grammar.size [] line text.now r.rest.now r.next
+        (IsToldOf task.now.ranked.now task.now.bound (root_of task.now.grammar.size) line r.fault))
+        (λ e. (e ≡ CertError.OutOfMemory) ⊎ IsTreeTextFault task.now.grammar.version task.now.grammar.size task.now.grammar.size [] line text.now e) }
 {
-    let first = node_line(text, task.grammar, placed, line)?;
+    let placed = Placed::none();
+    let first = node_line(text, task.grammar, &placed, line)?;
     let next = line.saturating_add(1);
     let Some(facility) = first.facility else {
-        let rows = FlowRows::new(task.ranked, node)?;
-        let fault = judge_bound(buffers, task, &rows, node, first.bytes, placed, line)?;
+        let rows = FlowRows::new(task.ranked, &root)?;
+        let fault = judge_bound(buffers, task, &rows, &root, first.bytes, &placed, line)?;
         let rest = first.rest;
         return Ok(Judged { rest, next, fault });
     };
-    let inner = placed.with(facility);
-    let locations = node.free_locations()?;
-    let parent = Parent {
-        node,
-        facility,
-        locations: &locations,
-    };
-    judge_children(buffers, task, &parent, first.rest, &inner, next)
+    let split = Split::new(root, facility)?;
+    judge_split(buffers, task, split, first.rest, next)
 }
 
-/// Likewise for the children of a split, after which these facilities are placed.
-#[cycle(walking)]
-fn judge_children<'a>(
+/// The same for the children of a split, whose lines begin here. The splits whose children are not all judged lie in a list, the
+/// innermost last; behind a bound that fails only the numbers of children that are left do. Neither list grows.
+fn judge_split<'a>(
     buffers: &mut Buffers,
     task: &Task<'_>,
-    parent: &Parent<'_>,
+    split: Split,
     text: &'a [u8],
-    placed: &Placed,
     line: u64,
 ) -> Result<Judged<'a>, CertError>
     requires small { task.now.grammar.size ≤ 256 }
-    requires depth { length placed.now ≤ task.now.grammar.size }
-    requires same_size { task.now.ranked.now.size ≡ parent.now.node.now.size }
-    requires size { task.now.grammar.size ≡ parent.now.node.now.size }
-    requires placed { placed.now ≡ parent.now.node.now.facilities ++ parent.now.facility ∷ [] }
-    requires facility { IsFreeFacility parent.now.node.now parent.now.facility }
-    requires free { (i : ℕ) → i < length parent.now.locations.now → IsFreeLocation parent.now.node.now (slice_index parent.now.locations.now i) }
-    requires some { 0 < length parent.now.locations.now }
-    requires few { length parent.now.locations.now + length parent.now.node.now.facilities ≡ parent.now.node.now.size }
+    requires same_size { task.now.ranked.now.size ≡ task.now.grammar.size }
+    requires size { split.node.size ≡ task.now.grammar.size }
     ensures { MatchResult result
-        (λ r. BeginsWithTrees task.now.grammar.version task.now.grammar.size placed.now (length parent.now.locations.now) line text.now r.rest.now r.next
-        (IsToldOfAll task.now.ranked.now task.now.bound parent.now.node.now parent.now.facility parent.now.locations.now line r.fault))
-        (λ e. (e ≡ CertError.OutOfMemory)
-        ⊎ IsFaultBefore task.now.grammar.version task.now.grammar.size placed.now (length parent.now.locations.now) line text.now e) }
+        (λ r. IsToldOfLevels task.now.grammar.version task.now.grammar.size task.now.ranked.now task.now.bound r.fault (split ∷ []) line text.now r.rest.now r.next)
+        (λ e. (e ≡ CertError.OutOfMemory) ⊎ IsFaultAtLevels task.now.grammar.version task.now.grammar.size (level_of split ∷ []) line text.now e) }
 {
-    let rows = SplitRows::new(task.ranked, parent.node, parent.facility)?;
-    let locations = parent.locations;
+    let levels = task.grammar.size + 1;
+    let mut left = Vec::with_capacity(buffers.alloc, levels)?;
+    let mut splits = Vec::with_capacity(buffers.alloc, levels)?;
+    push_split(&mut splits, split)?;
     let mut rest = text;
     let mut next = line;
-    for i in 0..locations.len() {
-        let location = locations[i];
-        let child = judge_child(buffers, task, &rows, location, rest, placed, next)?;
-        rest = child.rest;
-        next = child.next;
-        if let Some(fault) = child.fault {
-            let others = locations.len() - i - 1;
-            let behind = skim_trees(buffers.alloc, rest, task.grammar, placed, next, others)?;
+    while let Some(innermost) = splits.pop() {
+        let judged = judge_step(buffers, task, &mut splits, innermost, rest, next)?;
+        rest = judged.rest;
+        next = judged.next;
+        if let Some(fault) = judged.fault {
+            let behind = skim_splits(&mut splits, &mut left, task.grammar, rest, next)?;
             return Ok(Judged {
                 rest: behind.rest,
                 next: behind.next,
@@ -140,43 +126,184 @@ fn judge_children<'a>(
     })
 }
 
-/// Likewise for the child at this location. The node of a child whose line is that of a bound is not built.
-#[cycle(walking)]
-fn judge_child<'a>(
+/// Judges children of the innermost split as long as they are bounds, or begins the split that comes next, or leaves the innermost
+/// one if no child is left.
+fn judge_step<'a>(
     buffers: &mut Buffers,
     task: &Task<'_>,
-    rows: &SplitRows<'_>,
-    location: u16,
+    splits: &mut Vec<Split>,
+    innermost: Split,
     text: &'a [u8],
-    placed: &Placed,
     line: u64,
 ) -> Result<Judged<'a>, CertError>
     requires small { task.now.grammar.size ≤ 256 }
-    requires depth { length placed.now ≤ task.now.grammar.size }
-    requires same_size { task.now.ranked.now.size ≡ rows.now.node.size }
-    requires instance { rows.now.instance ≡ task.now.ranked.now }
-    requires size { task.now.grammar.size ≡ rows.now.node.size }
-    requires placed { placed.now ≡ rows.now.node.facilities ++ rows.now.facility ∷ [] }
-    requires location { IsFreeLocation rows.now.node location }
-    ensures { MatchResult result
-        (λ r. BeginsWithTree task.now.grammar.version task.now.grammar.size placed.now line text.now r.rest.now r.next
-        (IsToldOf task.now.ranked.now task.now.bound (placing rows.now.node rows.now.facility location) line r.fault))
-        (λ e. (e ≡ CertError.OutOfMemory) ⊎ IsTreeTextFault task.now.grammar.version task.now.grammar.size (task.now.grammar.size - length placed.now) placed.now line text.now e) }
+    requires same_size { task.now.ranked.now.size ≡ task.now.grammar.size }
+    requires size { innermost.node.size ≡ task.now.grammar.size }
+    requires sizes { AreOfSize task.now.grammar.size (reverse splits.old.items) }
+    ensures judged { MatchResult result
+        (λ r. IsToldBehind task.now.grammar.version task.now.grammar.size task.now.ranked.now task.now.bound r.fault (innermost ∷ reverse splits.old.items) line text.now
+        (reverse splits.new.items) r.next r.rest.now)
+        (λ e. (e ≡ CertError.OutOfMemory)
+        ⊎ IsFaultAtLevels task.now.grammar.version task.now.grammar.size (map level_of (innermost ∷ reverse splits.old.items)) line text.now e) }
+    ensures sizes { OnOk result (AreOfSize task.now.grammar.size (reverse splits.new.items)) }
+    ensures smaller { IfOk result (λ r. 2 * length r.rest.now + vec_len splits.new < 2 * length text.now + vec_len splits.old + 1) }
 {
-    let first = node_line(text, task.grammar, placed, line)?;
-    let Some(_) = first.facility else {
-        let fault = judge_child_bound(buffers, task, rows, location, first.bytes, placed, line)?;
-        let rest = first.rest;
-        let next = line.saturating_add(1);
-        return Ok(Judged { rest, next, fault });
+    if innermost.locations().is_empty() {
+        return Ok(Judged {
+            rest: text,
+            next: line,
+            fault: None,
+        });
+    }
+    let placed = innermost.placed();
+    let first = node_line(text, task.grammar, &placed, line)?;
+    let Some(facility) = first.facility else {
+        let run = judge_bounds(buffers, task, &innermost, &placed, text, first, line)?;
+        push_rest(splits, innermost, run.count)?;
+        return Ok(Judged {
+            rest: run.rest,
+            next: run.next,
+            fault: run.fault,
+        });
     };
-    let part = rows.child(location)?;
-    judge_tree(buffers, task, &part, text, placed, line)
+    let child = child_split(&innermost, facility)?;
+    push_rest(splits, innermost, 1)?;
+    push_split(splits, child)?;
+    Ok(Judged {
+        rest: first.rest,
+        next: line.saturating_add(1),
+        fault: None,
+    })
 }
 
-/// Checks the line of a bound, and reports the fault that keeps its duals from closing the node, if any. It isn't
-/// inlined, so that the walk keeps nothing of it at its levels.
-#[inline(never)]
+/// What bounds one behind another come to: how many they are, and the text behind them.
+#[derive(Clone, Copy)]
+struct Run<'a> {
+    count: usize,
+    rest: &'a [u8],
+    next: u64,
+    fault: Option<CertError>,
+}
+
+/// Judges the bounds at the front of a text, the first of which has this line, up to the next split, the first fault or the last child.
+/// No node of a child is made.
+fn judge_bounds<'a>(
+    buffers: &mut Buffers,
+    task: &Task<'_>,
+    split: &Split,
+    placed: &Placed,
+    text: &'a [u8],
+    first: NodeLine<'a>,
+    line: u64,
+) -> Result<Run<'a>, CertError>
+    requires small { task.now.grammar.size ≤ 256 }
+    requires same_size { task.now.ranked.now.size ≡ task.now.grammar.size }
+    requires size { split.now.node.size ≡ task.now.grammar.size }
+    requires placed { placed.now ≡ placed_behind split.now }
+    requires some { 0 < length split.now.locations }
+    requires first { IsLine text.now first.bytes.now first.rest.now }
+    requires no_split { (f : ℕ) → IsSplitLine task.now.grammar.version task.now.grammar.size placed.now first.bytes.now f → ⊥ }
+    ensures judged { MatchResult result
+        (λ r. BeginsWithTrees task.now.grammar.version task.now.grammar.size placed.now r.count line text.now r.rest.now r.next
+        (IsRunTold task.now.ranked.now task.now.bound split.now.node split.now.facility (take r.count split.now.locations) split.now.locations line r.fault))
+        (λ e. (e ≡ CertError.OutOfMemory)
+        ⊎ IsFaultBefore task.now.grammar.version task.now.grammar.size placed.now (length split.now.locations) line text.now e) }
+    ensures within { IfOk result (λ r. r.count ≤ length split.now.locations) }
+    ensures smaller { IfOk result (λ r. length r.rest.now < length text.now) }
+{
+    let rows = SplitRows::new(task.ranked, split.node(), split.facility())?;
+    let locations = split.locations();
+    let mut here = first;
+    let mut rest = text;
+    let mut next = line;
+    for i in 0..locations.len() {
+        let fault = judge_child_bound(buffers, task, &rows, locations[i], here.bytes, placed, next)?;
+        rest = here.rest;
+        next = next.saturating_add(1);
+        let count = i + 1;
+        if fault.is_some() || count == locations.len() {
+            return Ok(Run {
+                count,
+                rest,
+                next,
+                fault,
+            });
+        }
+        here = node_line(rest, task.grammar, placed, next)?;
+        if here.facility.is_some() {
+            return Ok(Run {
+                count,
+                rest,
+                next,
+                fault: None,
+            });
+        }
+    }
+    Ok(Run {
+        count: locations.len(),
+        rest,
+        next,
+        fault: None,
+    })
+}
+
+/// The split on this facility of the first child that is left.
+fn child_split(split: &Split, facility: u16) -> Result<Split, AllocError>
+    requires some { 0 < length split.now.locations }
+    requires depth { length (placed_behind split.now) < split.now.node.size }
+    requires facility { IsFree split.now.node.size (placed_behind split.now) facility }
+    ensures value { IfOk result (IsSplitOf (placing split.now.node split.now.facility (slice_index split.now.locations 0)) facility) }
+    ensures count { IfOk result (λ s. length s.locations + length (placed_behind split.now) ≡ split.now.node.size) }
+{
+    let child = split.node().place(split.facility(), split.locations()[0])?;
+    Split::new(child, facility)
+}
+
+/// Puts a split behind the others, of which this many children more were judged.
+fn push_rest(splits: &mut Vec<Split>, split: Split, count: usize) -> Result<(), AllocError>
+    requires { count ≤ length split.locations }
+    ensures { OnOk result (splits.new.items ≡ splits.old.items ++ record split { locations = drop count split.locations } ∷ []) }
+{
+    let mut rest = split;
+    rest.pass(count);
+    push_split(splits, rest)
+}
+
+/// Puts a split behind the others.
+fn push_split(splits: &mut Vec<Split>, split: Split) -> Result<(), AllocError>
+    ensures { OnOk result (splits.new.items ≡ splits.old.items ++ split ∷ []) }
+{
+    splits.push(split)?;
+    Ok(())
+}
+
+/// Judges the children that are left of these splits, the innermost of which is the last, by the grammar alone.
+fn skim_splits<'a>(
+    splits: &mut Vec<Split>,
+    left: &mut Vec<usize>,
+    grammar: Grammar,
+    text: &'a [u8],
+    line: u64,
+) -> Result<Behind<'a>, CertError>
+    requires small { grammar.size ≤ 256 }
+    requires sizes { AreOfSize grammar.size (reverse splits.old.items) }
+    ensures { MatchResult result
+        (λ r. BeginsWithLevels grammar.version grammar.size (map level_of (reverse splits.old.items)) line text.now r.rest.now r.next)
+        (λ e. (e ≡ CertError.OutOfMemory) ⊎ IsFaultAtLevels grammar.version grammar.size (map level_of (reverse splits.old.items)) line text.now e) }
+{
+    let mut rest = text;
+    let mut next = line;
+    while let Some(split) = splits.pop() {
+        let mut placed = split.placed();
+        let count = split.locations().len();
+        let behind = skim_trees(left, rest, grammar, &mut placed, next, count)?;
+        rest = behind.rest;
+        next = behind.next;
+    }
+    Ok(Behind { rest, next })
+}
+
+/// Judges the line of a bound, and reports what keeps its duals from closing the node, if something does.
 fn judge_bound(
     buffers: &mut Buffers,
     task: &Task<'_>,
@@ -204,8 +331,7 @@ fn judge_bound(
     bound_fault(&mut buffers.workspace, task, rows, node, u, v, line)
 }
 
-/// Likewise for the bound of the child at this location.
-#[inline(never)]
+/// The same for the bound of the child at this location.
 fn judge_child_bound(
     buffers: &mut Buffers,
     task: &Task<'_>,
@@ -257,7 +383,7 @@ fn bound_fault(
     }
 }
 
-/// Likewise for the bound of the child at this location.
+/// The same for the bound of the child at this location.
 fn child_bound_fault(
     workspace: &mut Workspace,
     task: &Task<'_>,
