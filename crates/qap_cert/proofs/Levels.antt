@@ -1,5 +1,5 @@
 -- Steps of a walk along the levels of a tree: trees that are read, splits that begin and those that end.
-use Rattle.std.proofs.Common.{◌≡◌, ℕ, ◌+◌, ◌-◌, ◌<◌, ◌≤◌, ◌++◌, List, [], ◌∷◌, length, take, drop, map, reverse, ℤ, refl, sym, ◌∙◌, ap, subst, inl, inr, ⊎_elim, arith, append-nil, length-append, take-append-drop, length-take, length-drop}
+use Rattle.std.proofs.Common.{◌≡◌, ℕ, ◌+◌, ◌-◌, ◌<◌, ◌≤◌, ◌++◌, List, [], ◌∷◌, length, take, drop, map, reverse, ℤ, refl, sym, ◌∙◌, ap, subst, inl, inr, ⊎_elim, arith, append-nil, length-append, take-append-drop, length-take}
 use Rattle.std.specs.Prelude.{codes, Option, Some, None}
 use Rattle.std.proofs.Math.Seq.{take-append_seam}
 use Rattle.std.proofs.lemmas.List.{reverse-append}
@@ -13,14 +13,14 @@ use Rattle.qap_cert.proofs.Versions.{AllLimited-split_numbers}
 use Rattle.qap_cert.proofs.Walks.{split_of, BeginsWithTrees-none, BeginsWithTree-split, BeginsWithTrees-joined, IsFaultBefore-joined, IsFaultAmong-before}
 use Rattle.qap_cert.specs.Code.{joined}
 use Rattle.qap_cert.specs.Fault.{IsTreeFault, IsTreeFaultAmong}
-use Rattle.qap_cert.specs.Levels.{Level, OpenSplit, placed_behind, level_of, BeginsWithLevels, IsFaultAtLevels, IsToldOfLevels, IsToldBehind, LeadsBehind, IsRunTold, levels_of, placed_outside}
+use Rattle.qap_cert.specs.Levels.{Level, OpenSplit, level_of, BeginsWithLevels, IsFaultAtLevels, IsToldOfLevels, IsToldBehind, LeadsBehind, IsRunTold, levels_of, placed_outside}
 use Rattle.qap_lines.specs.Line.{line_after, IsLine}
 use Rattle.qap_cert.specs.NodeLine.{IsNodeLine}
 use Rattle.qap_lines.specs.LineText.{line_text}
 use Rattle.qap_cert.specs.Shape.{AllHaveShape, child_count}
 use Rattle.qap_cert.specs.Text.{tree_text, trees_text}
 use Rattle.qap_cert.specs.TextFault.{IsTreeTextFault}
-use Rattle.qap_cert.specs.Tree.{Node, split, Nodes, no_nodes, node, node_count, nodes_count}
+use Rattle.qap_cert.specs.Tree.{Node, split, Nodes, no_nodes, node, nodes_count}
 use Rattle.qap_cert.specs.Valid.{Valid, AllValid}
 use Rattle.qap_cert.specs.Version.{MayName, split_numbers}
 use Rattle.qap_cert.specs.Walk.{BeginsWithTree, BeginsWithTrees, IsFaultBefore, IsToldOf, Any}

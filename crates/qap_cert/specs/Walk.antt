@@ -2,7 +2,7 @@
 use Rattle.std.specs.Prelude.{◌≡◌, ℕ, ◌-◌, ◌<◌, ◌++◌, [], List, length, ℤ, codes, Option, Some, None}
 use Rattle.qap_cost.specs.Instance.{Problem}
 use Rattle.qap_cost.specs.Placement.{Placement}
-use Rattle.qap_cert.specs.Fault.{IsTreeFault, IsTreeFaultAmong}
+use Rattle.qap_cert.specs.Fault.{IsTreeFault}
 use Rattle.qap_lines.specs.Line.{line_after}
 use Rattle.gilmore_lawler.specs.Closing.{AreDuals}
 use Rattle.qap_cert.specs.Shape.{HasShape, AllHaveShape, child_count}
@@ -10,7 +10,7 @@ use Rattle.qap_lines.specs.LineText.{numbers_text}
 use Rattle.qap_cert.specs.Text.{tree_text, trees_text}
 use Rattle.qap_cert.specs.TextFault.{IsTreeTextFault}
 use Rattle.qap_cert.specs.Tree.{Node, bound, Nodes, node_count, nodes_count}
-use Rattle.qap_cert.specs.Valid.{Valid, AllValid}
+use Rattle.qap_cert.specs.Valid.{Valid}
 use Rattle.qap_cert.specs.declared.error.CertError.{CertError}
 use Rattle.qap_cert.specs.declared.version.Version.{Version}
 
@@ -46,11 +46,6 @@ Any x = Unit {0}
 abbrev pub IsToldOf : Problem → ℤ → Placement → ℕ → Option CertError → Node → Type 0
 IsToldOf I g x line None t = Valid I g x t
 IsToldOf I g x line (Some e) t = IsTreeFault I g x line t e
-
--- likewise for the children of a split on a facility, for these locations
-abbrev pub IsToldOfAll : Problem → ℤ → Placement → ℕ → List ℕ → ℕ → Option CertError → Nodes → Type 0
-IsToldOfAll I g x f ks line None ts = AllValid I g x f ks ts
-IsToldOfAll I g x f ks line (Some e) ts = IsTreeFaultAmong I g x f ks line ts e
 
 -- the line spells duals for the node; the report says whether they close it, and if not the fault
 pub record ClosesOrTells (I : Problem) (g : ℤ) (x : Placement) (line : ℕ) (bytes : List ℕ) (fault : Option CertError) : Type 0 where

@@ -61,7 +61,14 @@ fn skim_to_end(alloc: Global, head: &Head<'_>) -> Result<(), CertError>
 {
     let mut left = Vec::with_capacity(alloc, head.grammar.size + 1)?;
     let mut placed = Placed::none();
-    let behind = skim_trees(&mut left, head.rest, head.grammar, &mut placed, head.line, 1)?;
+    let behind = skim_trees(
+        &mut left,
+        head.rest,
+        head.grammar,
+        &mut placed,
+        head.line,
+        1,
+    )?;
     read_end(behind.rest, behind.next)
 }
 

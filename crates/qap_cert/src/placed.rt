@@ -78,7 +78,9 @@ impl Placed {
         self.count = self.count.saturating_sub(1);
     }
 
-    /// These, and one more behind them.
+    /// These, and one more behind them. It isn't inlined: a reader of trees that calls itself would keep what is copied here at each of
+    /// its levels.
+    #[inline(never)]
     pub(crate) fn with(&self, facility: u16) -> Placed
         requires { length self.now < 256 }
         ensures { result ≡ self.now ++ facility ∷ [] }

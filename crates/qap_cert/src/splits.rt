@@ -80,7 +80,7 @@ impl Split {
         Placed::at(&self.node).with(self.facility)
     }
 
-    /// Leaves this many of the children behind.
+    /// Passes this many of the children that are left.
     pub(crate) fn pass(&mut self, count: usize)
         requires { count ≤ length self.old.locations }
         ensures { self.new ≡ record self.old { locations = drop count self.old.locations } }

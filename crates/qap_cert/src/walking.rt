@@ -84,8 +84,11 @@ pub(crate) fn judge_tree<'a>(
     judge_split(buffers, task, split, first.rest, next)
 }
 
-/// The same for the children of a split, whose lines begin here. The splits whose children are not all judged lie in a list, the
-/// innermost last; behind a bound that fails only the numbers of children that are left do. Neither list grows.
+/// The same for the children of a split, the first of which begins at this line.
+///
+/// The splits that have children left stand in a list, the innermost last; so the stack that is taken doesn't depend on the depth.
+/// Behind a bound that fails, a second list holds how many children are left at each level. Each has room for one level more than
+/// the instance has facilities, and neither grows.
 fn judge_split<'a>(
     buffers: &mut Buffers,
     task: &Task<'_>,
@@ -126,8 +129,8 @@ fn judge_split<'a>(
     })
 }
 
-/// Judges children of the innermost split as long as they are bounds, or begins the split that comes next, or leaves the innermost
-/// one if no child is left.
+/// Judges the children of the innermost split as long as they are bounds; or begins the split that comes first; or leaves the
+/// innermost one, if no child of it is left.
 fn judge_step<'a>(
     buffers: &mut Buffers,
     task: &Task<'_>,
@@ -176,7 +179,8 @@ fn judge_step<'a>(
     })
 }
 
-/// What bounds one behind another come to: how many they are, and the text behind them.
+/// Bounds that were judged one behind another: how many they are, the text behind them, the number of its first line, and what keeps
+/// the last of them from closing its node, if something does.
 #[derive(Clone, Copy)]
 struct Run<'a> {
     count: usize,
@@ -185,8 +189,8 @@ struct Run<'a> {
     fault: Option<CertError>,
 }
 
-/// Judges the bounds at the front of a text, the first of which has this line, up to the next split, the first fault or the last child.
-/// No node of a child is made.
+/// Judges the bounds at the front of a text up to a split, the first fault or the last child. The first of them has this line, which was
+/// read already. What the children have in common is made once, and no node of a child is.
 fn judge_bounds<'a>(
     buffers: &mut Buffers,
     task: &Task<'_>,
@@ -217,7 +221,8 @@ fn judge_bounds<'a>(
     let mut rest = text;
     let mut next = line;
     for i in 0..locations.len() {
-        let fault = judge_child_bound(buffers, task, &rows, locations[i], here.bytes, placed, next)?;
+        let location = locations[i];
+        let fault = judge_child_bound(buffers, task, &rows, location, here.bytes, placed, next)?;
         rest = here.rest;
         next = next.saturating_add(1);
         let count = i + 1;
@@ -247,7 +252,7 @@ fn judge_bounds<'a>(
     })
 }
 
-/// The split on this facility of the first child that is left.
+/// The split, on this facility, of the first child that is left.
 fn child_split(split: &Split, facility: u16) -> Result<Split, AllocError>
     requires some { 0 < length split.now.locations }
     requires depth { length (placed_behind split.now) < split.now.node.size }
@@ -259,7 +264,7 @@ fn child_split(split: &Split, facility: u16) -> Result<Split, AllocError>
     Split::new(child, facility)
 }
 
-/// Puts a split behind the others, of which this many children more were judged.
+/// Puts a split behind the others, once this many children more have been judged.
 fn push_rest(splits: &mut Vec<Split>, split: Split, count: usize) -> Result<(), AllocError>
     requires { count ≤ length split.locations }
     ensures { OnOk result (splits.new.items ≡ splits.old.items ++ record split { locations = drop count split.locations } ∷ []) }

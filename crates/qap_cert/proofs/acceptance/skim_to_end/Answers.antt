@@ -1,4 +1,4 @@
-use Rattle.std.proofs.Common.{◌≡◌, ℕ, List, ◌-◌, ◌≤◌, [], length, inl, inr, refl, subst, ⊎_elim, arith}
+use Rattle.std.proofs.Common.{ℕ, List, ◌-◌, [], length, inl, inr, subst, ⊎_elim, arith}
 use Rattle.std.proofs.lemmas.Result.{err_from_is_err_and}
 use Rattle.qap_cert.proofs.Levels.{BeginsWithTree-only, IsTreeTextFault-only}
 use Rattle.qap_cert.proofs.Walks.{map_result, EndsBehindTree-end, IsFaultFromTree-end}

@@ -1,5 +1,4 @@
-use Rattle.std.proofs.Common.{◌≡◌, ℕ, List, ◌+◌, ◌-◌, ◌<◌, ◌≤◌, ◌++◌, [], ◌∷◌, length, reverse, inl, inr, refl, sym, ap, ◌∙◌, subst, ⊎_elim, arith}
-use Rattle.std.specs.Prelude.{codes}
+use Rattle.std.proofs.Common.{◌≡◌, ℕ, List, ◌-◌, ◌∷◌, length, reverse, inl, inr, sym, ap, ◌∙◌, subst, ⊎_elim, arith}
 use Rattle.std.proofs.lemmas.Result.{err_from_is_err_and}
 use Rattle.qap_cert.proofs.Duals.{duals_there}
 use Rattle.qap_cert.proofs.Levels.{BeginsWithTrees-one, IsFaultAtLevels-first, IsSplitAt-read, LeadsBehind-closed, LeadsBehind-run, LeadsBehind-split, levels_of-pushed, reverse-last}

@@ -1,5 +1,4 @@
-use Rattle.std.proofs.Common.{◌≡◌, ℕ, List, ◌≤◌, [], ◌∷◌, length, reverse, inl, inr, sym, ◌∙◌, ap, subst, ⊎_elim, arith}
-use Rattle.std.specs.Prelude.{codes}
+use Rattle.std.proofs.Common.{◌≡◌, ℕ, List, [], ◌∷◌, reverse, inl, inr, sym, ◌∙◌, ap, subst, ⊎_elim}
 use Rattle.std.proofs.lemmas.List.{nil_from_length}
 use Rattle.std.proofs.lemmas.Result.{err_from_is_err_and}
 use Rattle.qap_cert.proofs.Levels.{BeginsWithTrees-all, IsFaultBefore-all, LeadsBehind-more, reverse-last}
@@ -21,8 +20,7 @@ pub loop-here-preserved : goal.loop-here-preserved
 loop-here-preserved c =
     let v = c.args.grammar.version in
     let n = c.args.grammar.size in
-    let popped = reverse-last c.loop-here.left.items c.pop.new.self.items c.in-Some.here c.in-Some.ensures.items in
-    (
+    let popped = reverse-last c.loop-here.left.items c.pop.new.self.items c.in-Some.here c.in-Some.ensures.items in (
       c.skim_step.ensures.depth,
       LeadsBehind-more v n (levels_of c.args.placed.now (c.args.count ∷ [])) (levels_of c.loop-here.placed (reverse c.loop-here.left.items)) (levels_of c.skim_step.new.placed (reverse c.skim_step.new.left.items))
           c.args.line c.loop-here.next c.in_ok-behind.behind.next c.args.text.now c.loop-here.rest.now c.in_ok-behind.behind.rest.now c.loop-here.invariant.1

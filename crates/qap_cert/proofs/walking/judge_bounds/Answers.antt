@@ -1,4 +1,4 @@
-use Rattle.std.proofs.Common.{◌≡◌, ℕ, ℤ, List, ◌+◌, ◌-◌, ◌<◌, ◌≤◌, ◌++◌, [], ◌∷◌, length, get_or, take, inl, inr, refl, sym, ap, ◌∙◌, subst, ⊎_elim, arith, rules, length-append}
+use Rattle.std.proofs.Common.{◌≡◌, ℕ, ℤ, List, ◌+◌, ◌-◌, ◌<◌, ◌≤◌, ◌++◌, [], ◌∷◌, length, get_or, take, inl, inr, sym, ap, subst, ⊎_elim, arith, rules, length-append}
 use Rattle.std.specs.Prelude.{Option, Some, None}
 use Rattle.std.proofs.lemmas.Result.{err_from_is_err_and}
 use Rattle.qap_cost.specs.Instance.{Problem}
@@ -11,7 +11,6 @@ use Rattle.qap_cert.proofs.Readings.{IsTreeTextFault-line}
 use Rattle.qap_cert.proofs.Walks.{BeginsWithTree-bound, BeginsWithTrees-none, BeginsWithTrees-more, IsFaultBefore-at}
 use Rattle.qap_cert.specs.Levels.{IsRunTold}
 use Rattle.qap_cert.specs.NodeLine.{IsNodeLine}
-use Rattle.qap_cert.specs.Tree.{bound}
 use Rattle.qap_cert.specs.Valid.{AllValid}
 use Rattle.qap_cert.specs.Walk.{BeginsWithTree, BeginsWithTrees, ClosesOrTells, IsToldOf}
 use Rattle.qap_cert.specs.declared.error.CertError.{CertError}
@@ -153,8 +152,7 @@ loop-i-preserved c =
     let none : c.in_ok-fault.fault ≡ None = search rules in
     let bound_line : c.in_ok-here.here.facility ≡ None = search rules in
     let rows = same_split I c.in_ok-rows.rows x c.node.result.now f c.facility.result (c.in_ok-rows.ensures {u = tt}) c.node.ensures.value c.facility.ensures.value in
-    let first = c.in_ok-here.ensures {u = tt} in
-    (
+    let first = c.in_ok-here.ensures {u = tt} in (
       omega (arith, h.0, ap length h.2.is, length-append c.loop-i.here.bytes.now (10 ∷ c.loop-i.here.rest.now)),
       run_more v n I g x f ks i placed c.args.line c.args.text.now c.loop-i.rest.now c.loop-i.next c.loop-i.here.rest.now c.saturating_add-next.result None
           (omega (arith, c.ranges.line.fits)) (omega (arith, c.loop-i-test.true, ap length c.locations-locations.ensures.value)) h.1

@@ -1,4 +1,4 @@
-use Rattle.std.proofs.Common.{◌≡◌, ℕ, List, [], ◌∷◌, length, map, reverse, inl, inr, refl, sym, ◌∙◌, ap, subst, ⊎_elim, rules}
+use Rattle.std.proofs.Common.{◌≡◌, List, [], ◌∷◌, map, reverse, inl, inr, refl, sym, ◌∙◌, subst, ⊎_elim, rules}
 use Rattle.std.specs.Prelude.{Option, None}
 use Rattle.std.proofs.lemmas.List.{nil_from_length}
 use Rattle.std.proofs.lemmas.Result.{err_from_is_err_and}
@@ -61,8 +61,7 @@ loop-innermost-preserved c =
     let popped = reverse-last c.loop-innermost.splits.items c.pop.new.self.items c.in-Some.innermost c.in-Some.ensures.items in
     let told = IsToldBehind-more v n I g judged.fault (c.args.split ∷ []) (reverse c.loop-innermost.splits.items) outer c.args.line c.loop-innermost.next judged.next c.args.text.now c.loop-innermost.rest.now judged.rest.now
     c.loop-innermost.invariant.1
-    (subst (λ (splits : List OpenSplit). IsToldBehind v n I g judged.fault splits c.loop-innermost.next c.loop-innermost.rest.now outer judged.next judged.rest.now) (sym popped) c.in_ok-judged.ensures.judged) in
-    (
+    (subst (λ (splits : List OpenSplit). IsToldBehind v n I g judged.fault splits c.loop-innermost.next c.loop-innermost.rest.now outer judged.next judged.rest.now) (sym popped) c.in_ok-judged.ensures.judged) in (
       c.in_ok-judged.ensures.sizes,
       subst (λ (o : Option CertError). IsToldBehind v n I g o (c.args.split ∷ []) c.args.line c.args.text.now outer judged.next judged.rest.now) none told,
     )

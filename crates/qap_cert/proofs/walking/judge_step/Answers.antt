@@ -1,9 +1,8 @@
-use Rattle.std.proofs.Common.{◌≡◌, ℕ, List, ◌+◌, ◌-◌, ◌<◌, ◌≤◌, ◌++◌, [], ◌∷◌, length, get_or, take, drop, map, reverse, inl, inr, refl, sym, ap, ◌∙◌, subst, arith, rules, length-append}
+use Rattle.std.proofs.Common.{◌≡◌, ℕ, List, ◌-◌, ◌<◌, ◌++◌, [], ◌∷◌, length, get_or, take, drop, map, reverse, inr, refl, sym, ap, ◌∙◌, subst, arith, rules}
 use Rattle.std.specs.Prelude.{None}
 use Rattle.std.proofs.lemmas.List.{nil_from_length}
 use Rattle.std.proofs.lemmas.Result.{err_from_is_err_and}
-use Rattle.qap_cost.specs.Placement.{IsFree, IsFreeFacility, placing, free_locations}
-use Rattle.qap_lines.specs.Line.{IsLine}
+use Rattle.qap_cost.specs.Placement.{IsFree, placing, free_locations}
 use Rattle.qap_cert.proofs.Levels.{IsFaultAtLevels-first, IsSplitAt, IsSplitAt-read, IsToldBehind-closed, IsToldBehind-run, IsToldBehind-split, reverse-last}
 use Rattle.qap_cert.proofs.Readings.{IsTreeTextFault-line}
 use Rattle.qap_cert.specs.Levels.{IsRunTold, IsToldBehind, OpenSplit, level_of, placed_behind}

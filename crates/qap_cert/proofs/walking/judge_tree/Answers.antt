@@ -1,5 +1,5 @@
-use Rattle.std.proofs.Common.{◌≡◌, ℕ, List, ◌+◌, ◌-◌, ◌<◌, ◌≤◌, ◌++◌, [], ◌∷◌, length, inl, inr, refl, sym, ◌∙◌, ap, subst, ⊎_elim, arith}
-use Rattle.qap_cost.specs.Placement.{Placement, IsFreeFacility, free_locations, root_of}
+use Rattle.std.proofs.Common.{◌≡◌, ℕ, List, ◌-◌, [], ◌∷◌, length, inl, inr, refl, ap, subst, ⊎_elim, arith}
+use Rattle.qap_cost.specs.Placement.{Placement, free_locations, root_of}
 use Rattle.qap_cert.proofs.Levels.{IsSplitAt, IsSplitAt-read, IsToldOf-root, IsTreeTextFault-root}
 use Rattle.qap_cert.proofs.Walks.{map_result}
 use Rattle.qap_cert.specs.Levels.{IsFaultAtLevels, IsSplitOf, IsToldOfLevels, OpenSplit, level_of}

@@ -1,4 +1,4 @@
-use Rattle.std.proofs.Common.{◌≡◌, ℕ, List, ◌++◌, [], ◌∷◌, length, map, reverse, inl, inr, sym, ap, subst, ⊎_elim}
+use Rattle.std.proofs.Common.{ℕ, List, ◌∷◌, length, map, reverse, inl, inr, sym, subst, ⊎_elim}
 use Rattle.std.proofs.lemmas.Result.{err_from_is_err_and}
 use Rattle.qap_cert.proofs.Levels.{LeadsBehind-level, LeadsBehind-more, reverse-last}
 use Rattle.qap_cert.specs.Levels.{AreOfSize, IsFaultAtLevels, LeadsBehind, OpenSplit, level_of, placed_behind}
@@ -30,8 +30,7 @@ loop-split-preserved c =
     let read : BeginsWithTrees v n (placed_behind s) (length s.locations) c.loop-split.next c.loop-split.rest.now behind.rest.now behind.next Any =
     subst (λ (xs : List ℕ). BeginsWithTrees v n xs (length s.locations) c.loop-split.next c.loop-split.rest.now behind.rest.now behind.next Any) c.placed-placed.ensures.value
     (subst (λ (ks : List ℕ). BeginsWithTrees v n c.placed-placed.result (length ks) c.loop-split.next c.loop-split.rest.now behind.rest.now behind.next Any) c.locations-count.ensures.value c.in_ok-behind.ensures) in
-    let sizes : AreOfSize n (s ∷ outer) = subst (AreOfSize n) popped c.loop-split.invariant.0 in
-    (
+    let sizes : AreOfSize n (s ∷ outer) = subst (AreOfSize n) popped c.loop-split.invariant.0 in (
       sizes.1,
       LeadsBehind-more v n (map level_of (reverse c.args.splits.now.items)) (map level_of (reverse c.loop-split.splits.items)) (map level_of outer) c.args.line c.loop-split.next behind.next
           c.args.text.now c.loop-split.rest.now behind.rest.now c.loop-split.invariant.1
