@@ -19,11 +19,6 @@ use std::fs::{self, File};
 use std::io::Read;
 use std::process::ExitCode;
 
-#[cfg(test)]
-mod hostile_tests;
-#[cfg(test)]
-mod tests;
-
 fn main(rt: HostRuntime) -> ExitCode {
     let words = match words(&rt) {
         Ok(words) => words,

@@ -25,11 +25,6 @@ use std::sync::Wait;
 use std::thread::Threads;
 use std::time::Clock;
 
-#[cfg(test)]
-mod hostile_tests;
-#[cfg(test)]
-mod tests;
-
 /// How many bytes of output are kept until they are written together.
 const BUFFER: usize = 65_536;
 
