@@ -2,21 +2,11 @@
 //! callers that make several are cheap to prove.
 
 ghost use Rattle.std.specs.Prelude.{◌≡◌, ◌≤◌, IfOk};
-ghost use Rattle.std.specs.Arc.{arc_value};
-ghost use Rattle.qap_search.specs.Node.Decision.{IsOn};
-ghost use Rattle.qap_search.specs.Runs.Opening.{IsOpening};
-ghost use Rattle.qap_search.specs.Law.Search.{whole};
-ghost use Rattle.qap_search.specs.Law.SearchLaw.{IsLawOf};
 
-use gilmore_lawler::RankedInstance;
 use qap_cert::{Certificate, check};
-use qap_cost::{Instance, Partial, least_by_listing};
-use qap_search::{Thought, decide};
-use shared_space::{Alone, Law, Share};
+use qap_cost::{Instance, least_by_listing};
 use space_txn::TxnSpace;
 use std::alloc::{AllocError, Global};
-use std::sync::Arc;
-use std::sync::ledger::Blank;
 use std::test::Fail;
 use tuple_match::Tuple;
 
@@ -63,16 +53,6 @@ pub(crate) fn least_of(alloc: Global, instance: &Instance) -> Result<i128, Alloc
     Ok(least)
 }
 
-/// The instance with its rows in order, as workers share it.
-pub(crate) fn shared_rows(
-    alloc: Global,
-    instance: &Instance,
-) -> Result<Arc<RankedInstance>, AllocError>
-    ensures { IfOk result (λ shared. arc_value shared ≡ instance.now) }
-{
-    Ok(Arc::new(alloc, RankedInstance::new(alloc, instance)?)?)
-}
-
 /// The cost and the bound of a certificate, once the checker has accepted it.
 pub(crate) fn told(
     alloc: Global,
@@ -86,37 +66,4 @@ pub(crate) fn told(
 /// The tuples that a space holds.
 pub(crate) fn tuples_of(space: TxnSpace) -> Result<Vec<Tuple>, Fail> {
     space.into_tuples().map_err(|back| Fail::from(back.0))
-}
-
-/// How many tuples take the place of the node beside a best permutation of this cost; 0 where none do.
-pub(crate) fn decided(
-    alloc: Global,
-    node: &Partial,
-    thought: &Thought,
-    best: i128,
-) -> Result<usize, AllocError>
-    requires { IsOn node.now thought.now }
-{
-    let written = decide(alloc, node, thought, best)?;
-    Ok(written.map_or(0, |tuples| tuples.len()))
-}
-
-/// A room of one thread for one worker, at the opening of a search, and the worker's share.
-pub(crate) fn room_for_one<L: Law>(
-    alloc: Global,
-    instance: &Instance,
-    space: TxnSpace,
-    blank: Blank,
-) -> Result<(Alone<L>, Share<L>), Fail>
-    requires name { blank.name ≡ L.name }
-    requires parts { blank.parts ≡ L.parts }
-    requires one { blank.parts ≡ 1 }
-    requires law { IsLawOf (whole instance.now) L.lawful L.allowed }
-    requires opening { IsOpening (whole instance.now) space }
-{
-    let (room, mut shares) = Alone::<L>::new(alloc, blank, space, 1).map_err(|back| back.0)?;
-    match shares.pop() {
-        Some(share) => Ok((room, share)),
-        None => Err(Fail::new("one worker has one share")),
-    }
 }

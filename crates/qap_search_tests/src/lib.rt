@@ -4,8 +4,6 @@
 #[cfg(test)]
 mod examples;
 #[cfg(test)]
-mod hand_tests;
-#[cfg(test)]
 mod schedule_tests;
 #[cfg(test)]
 mod solving_tests;

@@ -1,16 +1,9 @@
-//! What no clause states: that tuples are assembled, with the certificates of worked examples, and each kind of
-//! refusal.
+//! What no clause says: that tuples are put together, with the certificates of worked examples, and each kind of refusal.
 
-ghost use Rattle.std.specs.Prelude.{◌≡◌, IfOk};
-ghost use Rattle.qap_search.specs.Node.Decision.{IsOn};
-
-use crate::examples::{FIRST, Matrices, SECOND, decided, three, told};
+use crate::examples::{FIRST, Matrices, SECOND, three, told};
 use Part::{Int, List, Word};
-use gilmore_lawler::reduced;
-use qap_cost::{Instance, Partial};
-use qap_search::{AssembleError, Thought, assemble, assemble_stopped, read_node};
+use qap_search::{AssembleError, assemble, assemble_stopped, read_node};
 use std::alloc::{AllocError, Global};
-use std::process::Abort;
 use std::test::Fail;
 use tuple_match::{Field, Tuple};
 
@@ -65,16 +58,6 @@ fn tuples(alloc: Global, row: Row) -> Result<Vec<Tuple>, Fail> {
 fn assembled(alloc: Global, matrices: &Matrices, row: Row) -> Result<(i128, i128), Fail> {
     let certificate = assemble(alloc, 3, tuples(alloc, row)?)?;
     told(alloc, &three(alloc, matrices)?, &certificate)
-}
-
-#[test]
-fn a_closed_root_is_a_certificate(rt: HostRuntime) -> Result<(), Fail> {
-    let row: Row = &[
-        &[BEST, Int(24), IDENTITY],
-        &[CLOSED, List(&[]), List(&[9, 10, 12]), List(&[0, -2, -5])],
-    ];
-    assert_eq!(rt; assembled(rt.alloc(), &FIRST, row)?, (24, 24));
-    Ok(())
 }
 
 #[test]
@@ -176,7 +159,7 @@ static REFUSED: [(Row, AssembleError); 13] = [
     ),
 ];
 
-/// Why these tuples are not a certificate.
+/// Why these tuples are no certificate.
 fn refusal(alloc: Global, row: Row) -> Result<Option<AssembleError>, Fail> {
     Ok(assemble(alloc, 3, tuples(alloc, row)?).err())
 }
@@ -239,7 +222,7 @@ fn stopped_searches_show_a_bound(rt: HostRuntime) -> Result<(), Fail> {
     Ok(())
 }
 
-/// Tuples of no search that could have been stopped, and of one with a bound below -10^24.
+/// Tuples of no search that could have been stopped, and of one that shows less than -10^24.
 static NO_SEARCH: [Row; 6] = [
     &[],
     &[&[NODE, List(&[])]],
@@ -281,42 +264,6 @@ fn other_tuples_are_no_stopped_search(rt: HostRuntime) -> Result<(), Fail> {
         );
     }
     Ok(())
-}
-
-/// What is computed about a node.
-fn thought_of(alloc: Global, instance: &Instance, node: &Partial) -> Result<Thought, AllocError>
-    requires { instance.now.size ≡ node.now.size }
-    ensures { IfOk result (IsOn node.now) }
-{
-    let matrix = reduced(alloc, instance, node)?;
-    Thought::new(alloc, instance, node, &matrix)
-}
-
-/// Asserts what is computed of the root, and how many tuples are written of it.
-fn assert_decided(
-    rt: &impl Abort,
-    alloc: Global,
-    root: &Partial,
-    thought: &Thought,
-) -> Result<(), Fail>
-    requires { IsOn root.now thought.now }
-{
-    assert_eq!(rt; thought.value, 24);
-    assert_eq!(rt; thought.cost, 24);
-    let on = thought.branch.as_ref().map(|branch| branch.number);
-    assert_eq!(rt; on, Some(0));
-    assert_eq!(rt; decided(alloc, root, thought, 24)?, 1);
-    assert_eq!(rt; decided(alloc, root, thought, 25)?, 4);
-    Ok(())
-}
-
-#[test]
-fn a_node_is_worked_out_and_decided(rt: HostRuntime) -> Result<(), Fail> {
-    let alloc = rt.alloc();
-    let instance = three(alloc, &FIRST)?;
-    let root = Partial::root(alloc, 3)?;
-    let thought = thought_of(alloc, &instance, &root)?;
-    assert_decided(&rt, alloc, &root, &thought)
 }
 
 static LISTS: [(&[i128], bool); 7] = [
