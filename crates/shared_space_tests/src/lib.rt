@@ -2,8 +2,8 @@
 #![tactic(auto)]
 
 #[cfg(test)]
-mod limit_tests;
+mod jobs;
 #[cfg(test)]
-mod tests;
+mod limit_tests;
 #[cfg(test)]
 mod thread_tests;
