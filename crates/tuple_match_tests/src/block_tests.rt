@@ -1,5 +1,6 @@
 use std::alloc::{AllocError, Global};
 use std::cmp::Ordering;
+use std::process::Abort;
 use std::test::Fail;
 use tuple_match::{Field, Tuple};
 
@@ -19,16 +20,38 @@ fn is_in_place(field: &Field) -> bool {
     matches!(field, Field::ShortWord(_))
 }
 
+/// Whether a word is equal to the one of this text that lies in memory of its own.
+fn is_as_long(alloc: Global, word: &Field, text: &str) -> Result<bool, AllocError> {
+    Ok(long_word(alloc, text)? == *word)
+}
+
+/// Whether a word is equal to its clone.
+fn is_its_clone(word: &Field) -> Result<bool, AllocError> {
+    Ok(word.clone()? == *word)
+}
+
+/// Asserts that a word has this text, and whether it lies in place.
+fn assert_word(
+    rt: &impl Abort,
+    alloc: Global,
+    word: &Field,
+    text: &str,
+    in_place: bool,
+) -> Result<(), AllocError> {
+    assert_eq!(rt; is_in_place(word), in_place);
+    assert_eq!(rt; word.as_word(), Some(text));
+    assert!(rt; is_as_long(alloc, word, text)?);
+    assert!(rt; is_its_clone(word)?);
+    Ok(())
+}
+
 #[test]
 fn puts_short_words_in_place(rt: HostRuntime) -> Result<(), Fail> {
+    let alloc = rt.alloc();
     for (text, in_place) in WORDS.iter() {
-        let word = Field::word(rt.alloc(), text)?;
-        assert_eq!(rt; is_in_place(&word), *in_place);
-        assert_eq!(rt; word.as_word(), Some(*text));
-        assert!(rt; long_word(rt.alloc(), text)? == word);
-        let narrowed = long_word(rt.alloc(), text)?.narrowed();
-        assert_eq!(rt; is_in_place(&narrowed), *in_place);
-        assert!(rt; narrowed == word.clone()?);
+        assert_word(&rt, alloc, &Field::word(alloc, text)?, text, *in_place)?;
+        let narrowed = long_word(alloc, text)?.narrowed();
+        assert_word(&rt, alloc, &narrowed, text, *in_place)?;
     }
     Ok(())
 }
@@ -123,20 +146,28 @@ fn gives_back(alloc: Global, tuple: Tuple, count: i128) -> Result<bool, AllocErr
     Ok(tuple.into_fields()? == numbers_up_to(alloc, count)?)
 }
 
+/// Asserts that a tuple is the numbers from 1 to this one, and that its copy is the same.
+fn assert_block(
+    rt: &impl Abort,
+    alloc: Global,
+    tuple: Tuple,
+    count: i128,
+) -> Result<(), AllocError> {
+    let copy = tuple.copy()?;
+    assert!(rt; copy == tuple);
+    assert!(rt; gives_back(alloc, tuple, count)?);
+    assert!(rt; gives_back(alloc, copy, count)?);
+    Ok(())
+}
+
 #[test]
 fn shares_a_block(rt: HostRuntime) -> Result<(), Fail> {
     let alloc = rt.alloc();
     let two = Tuple::of_two(alloc, [Field::Int(1), Field::Int(2)])?;
+    assert_block(&rt, alloc, two, 2)?;
     let three = Tuple::of_three(alloc, [Field::Int(1), Field::Int(2), Field::Int(3)])?;
-    let four = four_in_a_block(alloc)?;
-    let seven = seven_in_a_block(alloc)?;
-    let copy = four.copy()?;
-    assert!(rt; copy == four);
-    assert!(rt; copy != three);
-    assert!(rt; gives_back(alloc, four, 4)?);
-    assert!(rt; gives_back(alloc, copy, 4)?);
-    assert!(rt; gives_back(alloc, two, 2)?);
-    assert!(rt; gives_back(alloc, three, 3)?);
-    assert!(rt; gives_back(alloc, seven, 7)?);
+    assert_block(&rt, alloc, three, 3)?;
+    assert_block(&rt, alloc, four_in_a_block(alloc)?, 4)?;
+    assert_block(&rt, alloc, seven_in_a_block(alloc)?, 7)?;
     Ok(())
 }
