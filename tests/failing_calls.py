@@ -72,8 +72,8 @@ def solves():
 
 
 def certificates():
-    """Which certificate `qapsolve` writes is not known in advance: the one that is written where nothing fails shows that
-    1 is the least cost."""
+    """Which certificate `qapsolve` writes is not known in advance: the one that is written where nothing fails shows
+    that 1 is the least cost."""
     yield "case: qapsolve solve --cert\nuse: tests/each_call.py tests/fail_io.c"
     yield f"bytes input: {EVEN}\nrun:"
     yield "    for call in 'read 0' 'write 1'; do"
