@@ -2,12 +2,6 @@
 #![tactic(auto)]
 
 #[cfg(test)]
-mod fault_tests;
-#[cfg(test)]
-mod hostile_tests;
-#[cfg(test)]
 mod part_tests;
 #[cfg(test)]
 mod proof_tests;
-#[cfg(test)]
-mod tests;

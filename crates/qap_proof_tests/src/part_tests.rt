@@ -1,15 +1,21 @@
-//! The parts that a proof still needs, proofs refined at a leaf, proofs over a known root, and nodes as texts.
+//! The parts that are missing beside a proof, proofs whose leaves are taken further, proofs over a root that is known, and nodes as texts.
 
-use crate::tests::two;
 use qap_cost::{Instance, Partial};
 use qap_io::Counted;
 use qap_proof::{
-    Proof, ProofError, Stated, Verdict, accept, accept_over, check, missing_parts, read,
-    read_node_text, refined, text_of_node, write,
+    MissingPart, Proof, ProofError, Stated, Verdict, accept, accept_over, check, missing_parts,
+    read, read_node_text, refined, text_of_node, write,
 };
 use std::alloc::{AllocError, Global};
 use std::process::Abort;
 use std::test::Fail;
+
+/// Two facilities, whose permutations cost 11 and 17. The reduced matrix of the whole is 6 15 by 2 5.
+pub(crate) fn two(alloc: Global) -> Result<Option<Instance>, AllocError> {
+    let a = Vec::from_slice(alloc, &[0, 3, 1, 0])?;
+    let b = Vec::from_slice(alloc, &[0, 2, 5, 0])?;
+    Ok(Instance::new(2, a, b).ok())
+}
 
 /// Facility 1 at location 1 costs 11, and 10 is shown; at location 2 it costs 17, and 4 is shown.
 const BOTH_SHORT: &[u8] = b"qapproof 1\nn 2\ncost 11\nperm 1 2\nbound 4\ns 1\nb 10 0\nb 4 0\nend\n";
@@ -21,36 +27,43 @@ const SECOND_SHORT: &[u8] =
 /// What facility 1 at location 2 costs.
 const SECOND_PART: &[u8] = b"qapproof 1\nn 2\ncost 11\nperm 1 2\nnode 1 2\nb 17 0\nend\n";
 
-/// The leaves that show too little, each with its number, its value and its node's text.
+/// The leaves that show too little.
 fn missing(
     alloc: Global,
     instance: &Instance,
     text: &[u8],
-) -> Result<Vec<(usize, i128, Vec<u8>)>, ProofError> {
+) -> Result<Vec<MissingPart>, ProofError> {
     let proof = read(alloc, text)?;
     check(alloc, instance, &proof)?;
-    let mut found = Vec::new(alloc);
-    for part in &missing_parts(alloc, instance, &proof)? {
-        let node = text_of_node(alloc, &part.node)?;
-        found
-            .push((part.leaf, part.value, node))
-            .map_err(|_| AllocError)?;
-    }
-    Ok(found)
+    Ok(missing_parts(alloc, instance, &proof)?)
 }
 
-/// Asserts which leaf a place of the list has, and what it shows.
+/// Asserts which leaf a part is, what it shows, and the text of its node.
+fn assert_part(
+    rt: &impl Abort,
+    alloc: Global,
+    part: &MissingPart,
+    (leaf, value, node): (usize, i128, &[u8]),
+) -> Result<(), AllocError> {
+    assert_eq!(rt; (part.leaf, part.value), (leaf, value));
+    assert_eq!(rt; text_of_node(alloc, &part.node)?.as_slice(), node);
+    Ok(())
+}
+
+/// Asserts which leaves of a text show too little.
 fn assert_missing(
     rt: &impl Abort,
-    found: &[(usize, i128, Vec<u8>)],
-    place: usize,
-    want: (usize, i128, &[u8]),
-) {
-    let Some((leaf, value, node)) = found.get(place) else {
-        panic!(rt; "no part is missing at {place}");
-    };
-    assert_eq!(rt; (*leaf, *value), (want.0, want.1));
-    assert_eq!(rt; node.as_slice(), want.2);
+    alloc: Global,
+    instance: &Instance,
+    text: &[u8],
+    wanted: &[(usize, i128, &[u8])],
+) -> Result<(), Fail> {
+    let found = missing(alloc, instance, text)?;
+    assert_eq!(rt; found.len(), wanted.len());
+    for (part, want) in found.iter().zip(wanted) {
+        assert_part(rt, alloc, part, *want)?;
+    }
+    Ok(())
 }
 
 #[test]
@@ -59,28 +72,39 @@ fn missing_parts_come_hardest_first(rt: HostRuntime) -> Result<(), Fail> {
     let Some(two) = two(alloc)? else {
         panic!(rt; "an instance is refused");
     };
-    let both = missing(alloc, &two, BOTH_SHORT)?;
-    assert_eq!(rt; both.len(), 2);
-    assert_missing(&rt, &both, 0, (1, 4, b"1 2"));
-    assert_missing(&rt, &both, 1, (0, 10, b"1 1"));
-    let one = missing(alloc, &two, SECOND_SHORT)?;
-    assert_eq!(rt; one.len(), 1);
-    assert_missing(&rt, &one, 0, (1, 4, b"1 2"));
-    Ok(())
+    let both: [(usize, i128, &[u8]); 2] = [(1, 4, b"1 2"), (0, 10, b"1 1")];
+    assert_missing(&rt, alloc, &two, BOTH_SHORT, &both)?;
+    assert_missing(&rt, alloc, &two, SECOND_SHORT, &both[..1])
 }
 
-/// What the first proof shows once the second one's tree is in the place of the leaf of this number.
-fn taken_further(alloc: Global, instance: &Instance, leaf: usize) -> Result<Verdict, ProofError> {
+/// The first proof, with the second one's tree in the place of the leaf of this number.
+fn put_in(
+    alloc: Global,
+    instance: &Instance,
+    proof: Proof,
+    leaf: usize,
+    part: Proof,
+) -> Result<Proof, ProofError> {
+    refined(alloc, instance, proof, leaf, part, 11)
+}
+
+/// The proof whose second leaf shows too little, with another proof's tree in the place of the leaf of this number.
+fn finer(alloc: Global, instance: &Instance, leaf: usize) -> Result<Proof, ProofError> {
     let proof = read(alloc, SECOND_SHORT)?;
     let part = read(alloc, SECOND_PART)?;
-    let finer = refined(alloc, instance, proof, leaf, part, 11)?;
-    accept(alloc, instance, &text_of(alloc, &finer)?)
+    put_in(alloc, instance, proof, leaf, part)
 }
 
 fn text_of(alloc: Global, proof: &Proof) -> Result<Vec<u8>, ProofError> {
     let mut text = Counted::new(Vec::new(alloc));
     write(alloc, &mut text, proof)?;
     Ok(text.into_inner())
+}
+
+/// What that proof shows.
+fn taken_further(alloc: Global, instance: &Instance, leaf: usize) -> Result<Verdict, ProofError> {
+    let text = text_of(alloc, &finer(alloc, instance, leaf)?)?;
+    accept(alloc, instance, &text)
 }
 
 // The duals of the part don't fit in the place of the first leaf, whose line is the sixth; and where nothing is taken further, the second
@@ -143,7 +167,7 @@ fn proofs_over_a_known_root(rt: HostRuntime) -> Result<(), Fail> {
     Ok(())
 }
 
-/// The text of the node that a text spells, of three facilities.
+/// The text of the node that a text tells, of three facilities.
 fn told(alloc: Global, text: &[u8]) -> Result<Option<Vec<u8>>, AllocError> {
     match read_node_text(alloc, text, 3)? {
         Some(node) => Ok(Some(text_of_node(alloc, &node)?)),

@@ -1,10 +1,10 @@
-//! Proofs in memory: read, written again, checked, and refused because of their shape.
+//! Proofs in memory: what is read, written again, and refused by its shape.
 
 ghost use Rattle.std.specs.Prelude.{◌<◌};
 
-use qap_cost::{Instance, Partial, Perm};
+use qap_cost::{Partial, Perm};
 use qap_io::{Counted, FailAt, OneByte};
-use qap_proof::{Duals, KeptDuals, Proof, ProofError, Side, SplitLine, Tree, check, read, write};
+use qap_proof::{Duals, KeptDuals, Proof, ProofError, Side, SplitLine, Tree, read, write};
 use std::alloc::{AllocError, Global};
 use std::process::Abort;
 use std::test::Fail;
@@ -19,12 +19,6 @@ const EACH_FORM: &[u8] =
 /// The same over the empty root, with its cost as its bound.
 const FROM_THE_TOP: &[u8] =
     b"qapproof 1\nn 2\ncost 7\nperm 2 1\ns 1 0 1 2 -1000000000000000000000000\nt 2\nb\nm 1 2 1\nend\n";
-
-/// What is said of the proof that a text is, where it is one.
-pub(crate) fn checked(alloc: Global, instance: &Instance, text: &[u8]) -> Result<(), ProofError> {
-    let proof = read(alloc, text)?;
-    check(alloc, instance, &proof)
-}
 
 /// What came of writing a proof.
 #[derive(Drop)]
@@ -50,7 +44,7 @@ fn written(alloc: Global, proof: &Proof, call: u64) -> Outcome
     }
 }
 
-/// Asserts what is written of the proof with this text when each call in turn fails.
+/// Asserts what goes out of the proof with this text, where each call in turn fails.
 fn assert_writes(rt: &impl Abort, alloc: Global, proof: &Proof, text: &[u8]) {
     for call in 1..=text.len() + 2 {
         let written = written(alloc, proof, call as u64);
@@ -233,12 +227,17 @@ fn cuts_and_images(rt: HostRuntime) -> Result<(), Fail> {
     assert_second(&rt, alloc, None, image(alloc, 0, &[0, 1, 2])?, longer)
 }
 
-#[test]
-fn parts(rt: HostRuntime) -> Result<(), Fail> {
-    let proof = read(rt.alloc(), EACH_FORM)?;
+/// Asserts what a proof lends.
+fn assert_parts(rt: &impl Abort, proof: &Proof) {
     assert_eq!(rt; (proof.cost(), proof.bound()), (7, -5));
     assert_eq!(rt; proof.perm().locations(), [1, 0, 3, 2].as_slice());
     assert_eq!(rt; proof.root().facilities(), [0, 3].as_slice());
     assert_eq!(rt; proof.root().places(), [2, 0].as_slice());
+}
+
+#[test]
+fn parts(rt: HostRuntime) -> Result<(), Fail> {
+    let proof = read(rt.alloc(), EACH_FORM)?;
+    assert_parts(&rt, &proof);
     Ok(())
 }
