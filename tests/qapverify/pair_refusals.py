@@ -25,6 +25,7 @@ ALTERED = [
     (6, "0 5 0 0", "21 NotFeasible at 5"),
     # Departments 3 and 2 exchange 3 both ways, which costs 6; room 2 is next to room 3.
     (14, "0 7 0 0", "21 NotFeasible at 5"),
+    (14, "7 0 0 0", "21 NotFeasible at 5"),
     (15, "s 4 .++ 4 0 0", "13 BadLine at 15"),
     (15, "s 2 .+ 4 0 0", "13 BadLine at 15"),
     (15, "s 2 .x+ 4 0 0", "13 BadLine at 15"),
@@ -35,6 +36,7 @@ ALTERED = [
     (16, "c", "13 BadLine at 16"),
     (16, "x 10", "19 DualCount at 16"),
     (16, "s 2 .. 10 6", "25 FacilityTaken at 16"),
+    (16, "s 1 .x 10 6", "13 BadLine at 16"),
     (16, "t 2 .. 10 6", "26 LocationTaken at 16"),
     (17, "m 3 3 2 1", "29 NoEarlierChild at 17"),
     (17, "m 1 3 2", "13 BadLine at 17"),
@@ -55,6 +57,9 @@ RIGHT = [
     (4, "perm 1 2 3\\nbound 23", "gap 23 24"),
     (4, "perm 3 2 1", "optimal 24"),
     (15, "s 2 .++ 3 0 0", "optimal 24"),
+    (6, "0 3 0 0", "optimal 24"),
+    (9, "-7 -1 0 0", "optimal 24"),
+    (16, "s 3 .. 10 6", "optimal 24"),
     (16, "t 1 .. 10 6", "optimal 24"),
     (17, "g 1 1 2 3 3 2 1", "optimal 24"),
 ]

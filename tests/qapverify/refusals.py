@@ -92,6 +92,9 @@ PROOFS = [
     (TWO, f"{HEAD}|node|b|end", "53 RootBad at 5"),
     (TWO, f"{HEAD}|node 1", "53 RootBad at 5"),
     (TWO, f"{HEAD}|node 1 3", "53 RootBad at 5"),
+    # Pair duals where one facility is free.
+    ("2 0 4 1 0 0 2 7 0", "qapproof 2|n 2|cost 15|perm 1 2|node 1 3|p 1||x 15|end", "53 RootBad at 5"),
+    ("2 0 4 1 0 0 2 7 0", "qapproof 2|n 2|cost 15|perm 1 2|node 1 1|p 1| |x 15|end", "13 BadLine at 7"),
     # A fault of the text comes before every fault of what it says.
     (TWO, f"{HEAD}|b 7 2 0 3|end|x", "15 TrailingText at 7"),
 ]

@@ -14,9 +14,25 @@ PART = "qapproof 1\nn 2\ncost 11\nperm 1 2\nnode 1 1\nbound 5\ns 2 11 0\nc\nend\
 # A bound below the least cost, and a permutation that costs more, by a split on a location whose children are both cut.
 GAP = "qapproof 1\nn 2\ncost 17\nperm 2 1\nbound 9\nt 2 6 2 0 3\nc\nc\nend\n"
 
-# The same proofs, each with its instance and what it shows.
-WHOLE = [(TWO, PART, "part 5"), (LEVEL, ALL_FORMS, "optimal 21"), (TWO, GAP, "gap 9 17")]
+# Pair duals, a split two of whose children have a text, and an image. It is examples/corridor.proof2.
+CORRIDOR = "3 0 5 2 5 0 3 2 3 0 0 1 2 1 0 1 2 1 0"
+PAIRS = "qapproof 2\nn 3\ncost 24\nperm 1 2 3\np 1\n" + 3 * "0 4 0 0\n" + 6 * "0 0 0 0\n"
+PAIRS += "s 2 .++ 4 0 0\ns 1 .. 10 6\nm 1 3 2 1\nend\n"
 
+# What stands in place of each byte, in a proof without pair duals and in one with them.
+INSTEAD = "0123-9 \nbcmst"
+INSTEAD_IN_PAIRS = "0129 -.+\nxpstmg"
+
+# These proofs, each with its instance, what it shows, and what stands in place of each byte.
+WHOLE = [
+    (TWO, PART, "part 5", INSTEAD),
+    (LEVEL, ALL_FORMS, "optimal 21", INSTEAD),
+    (TWO, GAP, "gap 9 17", INSTEAD),
+    (CORRIDOR, PAIRS, "optimal 24", INSTEAD_IN_PAIRS),
+]
+
+CHEAPER = "2 0 4 1 0 0 2 7 0"
+PAIRS_HEAD = "qapproof 2|n 2|cost 15|perm 1 2"
 TWO_HEAD = "qapproof 1|n 2|cost 11|perm 1 2"
 THREE_HEAD = "qapproof 1|n 3|cost 21|perm 1 2 3"
 
@@ -35,10 +51,10 @@ RIGHT = [
     (EVEN, f"{THREE_HEAD}|s 1|b 8 13 0 0|m 1 2 1 3|m 2 1 3 2|end", "optimal 21"),
     (LEVEL, f"{THREE_HEAD}|t 1|b 0 0 8 13|m 1 2 1 3|m 1 3 2 1|end", "optimal 21"),
     (EVEN, f"{THREE_HEAD}|s 1|s 2|b 17 0|m 1 1 3 2|m 1 2 1 3|m 1 3 2 1|end", "optimal 21"),
+    # Pair duals where one facility is free; these permutations cost 15 and 30.
+    (CHEAPER, f"{PAIRS_HEAD}|node 1 1|p 1||x 15|end", "part 15"),
+    (CHEAPER, f"{PAIRS_HEAD}|node 1 2|p 1||x 15|end", "part 15"),
 ]
-
-# What stands in place of each byte.
-INSTEAD = "0123-9 \\nbcmst"
 
 
 def escaped(text):
@@ -50,15 +66,15 @@ def cases():
         proof = escaped(lines.replace("|", "\n"))
         yield f"case: right {number}: {verdict}\nbytes a.dat: {instance}\nbytes a.proof: {proof}\\n"
         yield f"run: qapverify a.dat a.proof\nstdout: {verdict}"
-    for number, (instance, proof, verdict) in enumerate(WHOLE):
+    for number, (instance, proof, verdict, _) in enumerate(WHOLE):
         yield f"case: {number}: each proper beginning\nbytes a.dat: {instance}\nbytes a.proof: {escaped(proof)}"
         yield "run:\n    qapverify a.dat a.proof"
         yield f"    for stop in $(seq 0 {len(proof) - 1}); do head -c $stop a.proof > cut; qapverify a.dat cut; done"
         lines = [proof[:stop].count("\n") + 1 for stop in range(len(proof))]
         yield f"stdout: {verdict}\nstderr:\n" + "\n".join(f"    refused 14 Truncated at {line}" for line in lines)
         yield "status: 1"
-    for number, (instance, proof, _) in enumerate(WHOLE):
+    for number, (instance, proof, _, others) in enumerate(WHOLE):
         yield f"case: {number}: each byte changed\nuse: tests/checks.py tests/each_byte.py"
         yield f"bytes a.dat: {instance}\nbytes a.proof: {escaped(proof)}"
-        yield f"run: python3 each_byte.py a.dat a.proof '{INSTEAD}' qapverify a.dat a.proof"
-        yield f"stdout: {13 * len(proof)} texts"
+        yield f"run: python3 each_byte.py a.dat a.proof '{escaped(others)}' qapverify a.dat a.proof"
+        yield f"stdout: {len(others) * len(proof)} texts"
