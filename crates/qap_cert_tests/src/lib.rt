@@ -2,10 +2,6 @@
 #![tactic(auto)]
 
 #[cfg(test)]
-mod hostile_tests;
-#[cfg(test)]
 mod tests;
 #[cfg(test)]
 mod text_tests;
-#[cfg(test)]
-mod walking_tests;
