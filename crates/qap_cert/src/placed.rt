@@ -7,8 +7,8 @@ ghost use Rattle.qap_cert.specs.Levels.{placed_outside};
 use qap_cost::{MAX_SIZE, Partial};
 use std::marker::Model;
 
-/// The facilities that are placed above a node, in the order of placing: at most 256. They lie in place, so that no memory
-/// is taken.
+/// The facilities that are placed above a node, in the order of placement: at most 256. They are stored inline, without
+/// allocation.
 #[derive(Drop)]
 pub(crate) struct Placed {
     facilities: [u16; MAX_SIZE],
@@ -62,7 +62,7 @@ impl Placed {
         self.facilities[..self.count].contains(&facility)
     }
 
-    /// Places one more behind them.
+    /// Places one more after them.
     pub(crate) fn push(&mut self, facility: u16)
         requires { length self.old < 256 }
         ensures { self.new ≡ self.old ++ facility ∷ [] }
@@ -71,15 +71,14 @@ impl Placed {
         self.count += 1;
     }
 
-    /// Takes the last one away; none where there is none.
+    /// Removes the last one, if there is one.
     pub(crate) fn pop(&mut self)
         ensures { self.new ≡ placed_outside self.old }
     {
         self.count = self.count.saturating_sub(1);
     }
 
-    /// These, and one more behind them. It isn't inlined: a reader of trees that calls itself would keep what is copied here at each of
-    /// its levels.
+    /// These, and one more after them. It is not inlined, since a recursive reader would keep its copy at each level.
     #[inline(never)]
     pub(crate) fn with(&self, facility: u16) -> Placed
         requires { length self.now < 256 }

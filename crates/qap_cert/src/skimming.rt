@@ -1,4 +1,4 @@
-//! Judges the lines of trees by the grammar alone, and keeps nothing of them.
+//! Checks only the syntax of a tree's lines, and stores nothing of them.
 
 ghost use Rattle.std.specs.Prelude.{◌≡◌, ◌⊎◌, ◌+◌, ◌-◌, ◌*◌, ◌<◌, ◌≤◌, ◌++◌, ◌∷◌, [], length, reverse, vec_len, IfOk, OnOk, MatchResult};
 ghost use Rattle.qap_cert.specs.Levels.{IsFaultAtLevels, LeadsBehind, levels_of, placed_outside};
@@ -16,9 +16,9 @@ pub(crate) struct Behind<'a> {
     pub(crate) next: u64,
 }
 
-/// What is behind the lines of this many trees at the front of a text, whose first line has this number, where these facilities
-/// are placed. At each level of a tree that is not read to its end, `left` holds how many children are left: if it has room for
-/// the depth of the trees and one more, no memory is taken.
+/// What comes after the lines of this many trees at the beginning of a text, whose first line has this number, where
+/// these facilities are placed. For each level of an unfinished tree, `left` holds the number of children left: with
+/// room for the depth of the trees and one more, nothing is allocated.
 pub(crate) fn skim_trees<'a>(
     left: &mut Vec<usize>,
     text: &'a [u8],
@@ -45,7 +45,7 @@ pub(crate) fn skim_trees<'a>(
     Ok(Behind { rest, next })
 }
 
-/// Reads one line at a level with this many children left, or leaves the level if it has none.
+/// Reads one line at a level with this many children left, or leaves the level if there are none.
 fn skim_step<'a>(
     left: &mut Vec<usize>,
     text: &'a [u8],
@@ -85,7 +85,7 @@ fn skim_step<'a>(
     Ok(Behind { rest, next })
 }
 
-/// Begins a level with this many children.
+/// Enters a level with this many children.
 fn push_count(left: &mut Vec<usize>, count: usize) -> Result<(), AllocError>
     ensures { OnOk result (left.new.items ≡ left.old.items ++ count ∷ []) }
 {

@@ -1,4 +1,4 @@
-//! Splits whose children are judged one after another.
+//! Splits whose children are checked one after another.
 
 ghost use Rattle.std.specs.Prelude.{◌≡◌, ◌∷◌, [], ◌+◌, ◌≤◌, ◌<◌, ℕ, drop, length, slice_index, IfOk};
 ghost use Rattle.qap_cost.specs.Placement.{IsFreeFacility, IsFreeLocation};
@@ -9,7 +9,7 @@ use qap_cost::Partial;
 use std::alloc::AllocError;
 use std::marker::Model;
 
-/// A split: its node, its facility, the locations of its children, and how many of these were judged.
+/// A split: its node, its facility, the locations of its children, and how many of these have been checked.
 #[derive(Drop)]
 pub(crate) struct Split {
     node: Partial,
@@ -32,7 +32,7 @@ impl Model for Split {
 }
 
 impl Split {
-    /// The split of a node on this facility, where no child has been judged.
+    /// The split of a node on this facility, with no child checked yet.
     pub(crate) fn new(node: Partial, facility: u16) -> Result<Split, AllocError>
         requires depth { length node.facilities < node.size }
         requires facility { IsFreeFacility node facility }
@@ -64,7 +64,7 @@ impl Split {
         self.facility
     }
 
-    /// The locations of the children that are left.
+    /// The locations of the remaining children.
     pub(crate) fn locations(&self) -> &[u16]
         ensures value { result.now ≡ self.now.locations }
         ensures free { (i : ℕ) → i < length self.now.locations → IsFreeLocation self.now.node (slice_index self.now.locations i) }
@@ -80,7 +80,7 @@ impl Split {
         Placed::at(&self.node).with(self.facility)
     }
 
-    /// Passes this many of the children that are left.
+    /// Skips this many of the remaining children.
     pub(crate) fn pass(&mut self, count: usize)
         requires { count ≤ length self.old.locations }
         ensures { self.new ≡ record self.old { locations = drop count self.old.locations } }

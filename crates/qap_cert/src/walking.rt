@@ -1,4 +1,4 @@
-//! Judges a tree as its lines come, and holds none of it.
+//! Checks a tree line by line, without storing it.
 
 ghost use Rattle.std.specs.Prelude.{◌≡◌, ◌⊎◌, ◌++◌, ◌∷◌, [], ◌+◌, ◌-◌, ◌*◌, ◌<◌, ◌≤◌, length, drop, take, map, reverse, slice_index, vec_len, ℕ, IfOk, OnOk, MatchResult};
 ghost use Rattle.qap_cost.specs.Placement.{IsFree, IsFreeFacility, IsFreeLocation, free_locations, placing, root_of};
@@ -19,7 +19,7 @@ use gilmore_lawler::{FlowRows, RankedInstance, SplitRows, Workspace};
 use qap_cost::Partial;
 use std::alloc::{AllocError, Global};
 
-/// What a tree is judged by: the grammar of its lines, the instance, and the bound that it is to show.
+/// What a tree is checked against: the grammar of its lines, the instance, and the bound that it has to establish.
 #[derive(Clone, Copy)]
 pub(crate) struct Task<'a> {
     pub(crate) grammar: Grammar,
@@ -27,7 +27,7 @@ pub(crate) struct Task<'a> {
     pub(crate) bound: i128,
 }
 
-/// The text behind lines that were judged, the number of its first line, and the first bound among them that fails.
+/// The text after some checked lines, the number of its first line, and the first of their bounds that fails.
 #[derive(Clone, Copy)]
 pub(crate) struct Judged<'a> {
     pub(crate) rest: &'a [u8],
@@ -35,7 +35,7 @@ pub(crate) struct Judged<'a> {
     pub(crate) fault: Option<CertError>,
 }
 
-/// Memory that is kept from one line to the next, for the rows of a node and for the duals of a bound; and where it comes from.
+/// Memory reused from one line to the next, for the rows of a node and the duals of a bound; and its allocator.
 #[derive(Drop)]
 pub(crate) struct Buffers {
     alloc: Global,
@@ -44,7 +44,7 @@ pub(crate) struct Buffers {
 }
 
 impl Buffers {
-    /// No memory yet.
+    /// Without memory.
     pub(crate) fn new(alloc: Global) -> Buffers {
         Buffers {
             alloc,
@@ -54,8 +54,8 @@ impl Buffers {
     }
 }
 
-/// Judges the tree at the front of a text, whose first line has this number, for an instance of which nothing is placed yet.
-/// Behind the first bound that fails, lines are judged by the grammar alone.
+/// Checks the tree at the beginning of a text, whose first line has this number, where nothing is placed. After the
+/// first bound that fails, only the syntax of the lines is checked.
 pub(crate) fn judge_tree<'a>(
     buffers: &mut Buffers,
     task: &Task<'_>,
@@ -84,11 +84,11 @@ pub(crate) fn judge_tree<'a>(
     judge_split(buffers, task, split, first.rest, next)
 }
 
-/// The same for the children of a split, the first of which begins at this line.
+/// Likewise for the children of a split, the first of which begins at this line.
 ///
-/// The splits that have children left stand in a list, the innermost last; so the stack that is taken doesn't depend on the depth.
-/// Behind a bound that fails, a second list holds how many children are left at each level. Each has room for one level more than
-/// the instance has facilities, and neither grows.
+/// The splits with children left are in a list, the innermost last, so that the use of the stack does not depend on the
+/// depth. After a bound that fails, a second list holds the number of children left at each level. Each list has room
+/// for one level more than the instance has facilities, and neither grows.
 fn judge_split<'a>(
     buffers: &mut Buffers,
     task: &Task<'_>,
@@ -129,8 +129,8 @@ fn judge_split<'a>(
     })
 }
 
-/// Judges the children of the innermost split as long as they are bounds; or begins the split that comes first; or leaves the
-/// innermost one, if no child of it is left.
+/// Checks children of the innermost split as long as they are bounds; or enters a child that is a split; or leaves the
+/// innermost split, if none of its children is left.
 fn judge_step<'a>(
     buffers: &mut Buffers,
     task: &Task<'_>,
@@ -179,8 +179,8 @@ fn judge_step<'a>(
     })
 }
 
-/// Bounds that were judged one behind another: how many they are, the text behind them, the number of its first line, and what keeps
-/// the last of them from closing its node, if something does.
+/// A run of checked bounds: how many there are, the text after them, the number of its first line, and why the last of
+/// them does not close its node, if it does not.
 #[derive(Clone, Copy)]
 struct Run<'a> {
     count: usize,
@@ -189,8 +189,8 @@ struct Run<'a> {
     fault: Option<CertError>,
 }
 
-/// Judges the bounds at the front of a text up to a split, the first fault or the last child. The first of them has this line, which was
-/// read already. What the children have in common is made once, and no node of a child is.
+/// Checks the bounds at the beginning of a text, up to a split, the first fault or the last child. The first of them has
+/// this line, which has been read already. What the children share is computed once, and no child's node is built.
 fn judge_bounds<'a>(
     buffers: &mut Buffers,
     task: &Task<'_>,
@@ -252,7 +252,7 @@ fn judge_bounds<'a>(
     })
 }
 
-/// The split, on this facility, of the first child that is left.
+/// The split, on this facility, of the first remaining child.
 fn child_split(split: &Split, facility: u16) -> Result<Split, AllocError>
     requires some { 0 < length split.now.locations }
     requires depth { length (placed_behind split.now) < split.now.node.size }
@@ -264,7 +264,7 @@ fn child_split(split: &Split, facility: u16) -> Result<Split, AllocError>
     Split::new(child, facility)
 }
 
-/// Puts a split behind the others, once this many children more have been judged.
+/// Appends a split, after this many more of its children have been checked.
 fn push_rest(splits: &mut Vec<Split>, split: Split, count: usize) -> Result<(), AllocError>
     requires { count ≤ length split.locations }
     ensures { OnOk result (splits.new.items ≡ splits.old.items ++ record split { locations = drop count split.locations } ∷ []) }
@@ -274,7 +274,7 @@ fn push_rest(splits: &mut Vec<Split>, split: Split, count: usize) -> Result<(), 
     push_split(splits, rest)
 }
 
-/// Puts a split behind the others.
+/// Appends a split.
 fn push_split(splits: &mut Vec<Split>, split: Split) -> Result<(), AllocError>
     ensures { OnOk result (splits.new.items ≡ splits.old.items ++ split ∷ []) }
 {
@@ -282,7 +282,7 @@ fn push_split(splits: &mut Vec<Split>, split: Split) -> Result<(), AllocError>
     Ok(())
 }
 
-/// Judges the children that are left of these splits, the innermost of which is the last, by the grammar alone.
+/// Checks only the syntax of the remaining children of these splits, of which the last is the innermost.
 fn skim_splits<'a>(
     splits: &mut Vec<Split>,
     left: &mut Vec<usize>,
@@ -308,7 +308,7 @@ fn skim_splits<'a>(
     Ok(Behind { rest, next })
 }
 
-/// Judges the line of a bound, and reports what keeps its duals from closing the node, if something does.
+/// Checks the line of a bound, and reports why its duals do not close the node, if they do not.
 fn judge_bound(
     buffers: &mut Buffers,
     task: &Task<'_>,
@@ -336,7 +336,7 @@ fn judge_bound(
     bound_fault(&mut buffers.workspace, task, rows, node, u, v, line)
 }
 
-/// The same for the bound of the child at this location.
+/// Likewise for the bound of the child at this location.
 fn judge_child_bound(
     buffers: &mut Buffers,
     task: &Task<'_>,
@@ -364,7 +364,7 @@ fn judge_child_bound(
     child_bound_fault(&mut buffers.workspace, task, rows, location, u, v, line)
 }
 
-/// What keeps a bound from closing its node, if something does.
+/// Why a bound does not close its node, if it does not.
 fn bound_fault(
     workspace: &mut Workspace,
     task: &Task<'_>,
@@ -388,7 +388,7 @@ fn bound_fault(
     }
 }
 
-/// The same for the bound of the child at this location.
+/// Likewise for the bound of the child at this location.
 fn child_bound_fault(
     workspace: &mut Workspace,
     task: &Task<'_>,
