@@ -22,7 +22,7 @@ beginning room (c ∷ cs) = if nat_lt (columns_of c) room then encode_utf8 c ++ 
 abbrev pub cut_name : List ℕ → List ℕ
 cut_name name = beginning max_columns (chars name) ++ encode_utf8 8230
 
--- a name that does not fit is truncated, and stands in full in a title
+-- a name that does not fit is truncated, and is given in full in a title
 abbrev pub shown_name : List ℕ → List ℕ
 shown_name name =
     if nat_lt max_columns (str_width false (chars name))

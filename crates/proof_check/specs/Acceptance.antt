@@ -39,7 +39,7 @@ pair_head_text x c g p =
     line_text (codes "qapproof") (pos 2 ∷ []) ++ line_text (codes "n") (pos (length p) ∷ []) ++ line_text (codes "cost") (c ∷ [])
     ++ line_text (codes "perm") (from_one p) ++ root_text x.facilities x.places ++ bound_text c g
 
--- they were read, and the line behind them
+-- they were read, and the line after them
 pub record ReadsHead (x : Placement) (c g : ℤ) (p line : List ℕ) (old new : Option (List ℕ)) : Type 0 where
   pub cost : IsLimited c
   pub bound : IsBoundFor c g

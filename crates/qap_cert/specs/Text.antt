@@ -30,7 +30,7 @@ head_text v C =
 abbrev pub bound_text : ℤ → ℤ → List ℕ
 bound_text c g = if int_lt g c then line_text (codes "bound") (g ∷ []) else []
 
--- the first four lines, the bound where it is below the cost, the tree, and the end
+-- the first four lines, the bound if it is below the cost, the tree, and the end
 abbrev pub certificate_text : Version → Claim → List ℕ
 certificate_text v C = head_text v C ++ bound_text C.cost C.bound ++ tree_text v C.tree ++ codes "end\n"
 

@@ -42,7 +42,7 @@ abbrev mutual
   AreAllLeaves I x s c (node t rest) ls =
       (here others : List Leaf) × (ls ≡ here ++ others) × AreLeaves I (child x s c) t here × AreAllLeaves I x s (c + 1) rest others
 
--- each facility that y places stands in x, at the same location
+-- x places each facility that y places, at the same location
 abbrev pub AreAmong : Placement → Placement → Type 0
 AreAmong y x = (t : ℕ) → t < length y.facilities → StandsAt x (slice_index y.facilities t) (slice_index y.places t)
 

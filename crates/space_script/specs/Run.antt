@@ -29,7 +29,7 @@ pub record Obeys (old : SessionValue) (line reply : List ℕ) (new : SessionValu
   pub done : Performs old command told new
   pub is : reply ≡ reply_text told
 
--- From old, a line may be answered this text and lead to new: none where it has no words, a refusal where it is bad.
+-- From old, a line may be answered with this text and lead to new: with none if it has no words, with a refusal if it is bad.
 abbrev pub Answers : SessionValue → List ℕ → List ℕ → SessionValue → Type 0
 Answers old line reply new =
     (IsBlankLine line × (reply ≡ []) × (new ≡ old)) ⊎ (Obeys old line reply new ⊎ (IsBadLine line × (reply ≡ reply_text (Refused 36)) × (new ≡ old)))
