@@ -9,8 +9,8 @@
 #   sbatch --array=1-$(wc -l < parts/parts.txt) part.sbatch nug18.dat parts
 #   qapverify nug18.dat parts/skeleton.proof parts/part-*.proof
 #
-# All machines see the folder, and have qapplan on their paths. A task whose machine is lost is queued again by Slurm; the whole array may be
-# submitted again, since proofs that are there and right are left.
+# All machines must see the folder, and have qapplan on their paths. Slurm requeues a task whose machine is lost; the whole array may be
+# submitted again, since valid proofs are kept.
 instance=$1
 folder=$2
 number=$SLURM_ARRAY_TASK_ID
