@@ -61,7 +61,7 @@ impl Solver {
         })
     }
 
-    /// A least assignment, as the function `solve` gives it for the matrix.
+    /// A least assignment, as the function `solve` returns it for the matrix.
     pub fn solve(&mut self, alloc: Global, matrix: &Matrix) -> Result<Assignment, AllocError>
         requires { AllWithin (10 ^ 21) matrix.now.entries }
         ensures least { IfOk result (IsLeast matrix.now) }
@@ -72,8 +72,8 @@ impl Solver {
         Ok(answer)
     }
 
-    /// Makes the answer a least assignment, as the function `solve` gives it for the matrix. Allocates nothing where
-    /// solver and answer have room for it. At an error the answer's lists may have any numbers.
+    /// Makes the answer a least assignment, as the function `solve` returns it for the matrix. Allocates nothing if
+    /// solver and answer have capacity for it. At an error the answer's lists may have any numbers.
     pub fn solve_into(&mut self, matrix: &Matrix, answer: &mut Assignment) -> Result<(), AllocError>
         requires { AllWithin (10 ^ 21) matrix.now.entries }
         ensures least { OnOk result (IsLeast matrix.now answer.new) }

@@ -27,7 +27,7 @@ impl Assigner {
     }
 
     /// Writes the duals of a matrix, listed by rows, to `u` and `v`, a number for each row and one for each column, and
-    /// returns their sum. Of time `m^3` for `m` rows; no memory is taken.
+    /// returns their sum. Takes time `m^3` for `m` rows; nothing is allocated.
     pub fn solve(&mut self, matrix: &[i64], u: &mut [i64], v: &mut [i64]) -> i64 {
         start_duals(matrix, u, v);
         self.matching.clear();

@@ -26,7 +26,7 @@ pub fn first(numbers: &[i64], n: usize) -> &[i64] {
     }
 }
 
-/// The number at a place.
+/// The number at a position.
 pub fn at(numbers: &[i64], place: usize) -> i64 {
     match numbers.get(place) {
         Some(number) => *number,
@@ -34,21 +34,21 @@ pub fn at(numbers: &[i64], place: usize) -> i64 {
     }
 }
 
-/// Writes the number at a place.
+/// Writes the number at a position.
 pub fn put(numbers: &mut [i64], place: usize, number: i64) {
     if let Some(there) = numbers.get_mut(place) {
         *there = number;
     }
 }
 
-/// Adds to the number at a place.
+/// Adds to the number at a position.
 pub fn add_at(numbers: &mut [i64], place: usize, number: i64) {
     if let Some(there) = numbers.get_mut(place) {
         *there = there.wrapping_add(number);
     }
 }
 
-/// The index at a place, if there is one.
+/// The index at a position, if there is one.
 pub fn index_of(indices: &[Option<usize>], place: usize) -> Option<usize> {
     match indices.get(place) {
         Some(index) => *index,

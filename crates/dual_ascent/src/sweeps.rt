@@ -24,7 +24,7 @@ struct Layers {
 /// What a sweep needs for one facility at one location.
 #[derive(Drop)]
 struct Block {
-    /// The weights of its pairs, but for its own factors.
+    /// The weights of its pairs, except its own factors.
     weights: Vec<f64>,
     /// Its factor for each facility.
     rows: Vec<f64>,

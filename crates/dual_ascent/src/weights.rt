@@ -31,7 +31,7 @@ pub fn at(numbers: &[f64], place: usize) -> f64 {
     }
 }
 
-/// Writes the number at a place.
+/// Writes the number at a position.
 pub fn put(numbers: &mut [f64], place: usize, number: f64) {
     if let Some(there) = numbers.get_mut(place) {
         *there = number;

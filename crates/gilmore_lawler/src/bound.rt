@@ -7,8 +7,8 @@ ghost use Rattle.qap_cost.specs.Objective.{cost_of};
 ghost use Rattle.qap_cost.specs.Placement.{Placement, IsPlacement, Completes, fixed_cost_of};
 ghost use Rattle.gilmore_lawler.specs.ReducedMatrix.{IsReduced};
 
-/// Where `(u, v)` fits the Gilmore-Lawler matrix of a node, each permutation that completes the node costs at least
-/// what the placed facilities cost among themselves and the sum of `u` and `v`.
+/// If `(u, v)` fits the Gilmore-Lawler matrix of a node, each permutation that completes the node costs at least what
+/// the placed facilities cost among themselves and the sum of `u` and `v`.
 pub fn node_bound_law()
     ensures { (I : Problem) (x : Placement) (M : Square) (u v : List ℤ) (p : List ℕ) → IsPlacement x → I.size ≡ x.size → IsReduced I x M → DualsFit M u v → Completes x p → (fixed_cost_of I x +ℤ dual_value u v) ≤ℤ cost_of I p }
 {}

@@ -227,7 +227,7 @@ fn write_child_row(
     write_without(&row[linear..], gone, numbers, second)
 }
 
-/// Writes these numbers from this place on, and returns the position after them.
+/// Writes these numbers from this position on, and returns the position after them.
 fn write_all(xs: &[i32], numbers: &mut [i32], start: usize) -> usize
     requires room { start + length xs.now ≤ length numbers.old }
     ensures end { result ≡ start + length xs.now }

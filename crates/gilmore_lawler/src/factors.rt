@@ -73,7 +73,7 @@ fn fill_rows(
     end
 }
 
-/// Writes the entry of `i` with itself, and the pairs with each placed one, from this place on, and returns the
+/// Writes the entry of `i` with itself, and the pairs with each placed one, from this position on, and returns the
 /// position after them.
 pub(crate) fn write_linear(
     instance: &Instance,
@@ -96,8 +96,8 @@ pub(crate) fn write_linear(
     write_pairs(instance, side, own, placed, numbers, first)
 }
 
-/// Writes the entries of `i` with each of these and theirs with it from this place on, and returns the position after
-/// them.
+/// Writes the entries of `i` with each of these and theirs with it from this position on, and returns the position
+/// after them.
 fn write_pairs(
     instance: &Instance,
     side: Side,
@@ -120,7 +120,7 @@ fn write_pairs(
     place
 }
 
-/// Writes the entry of `i` with another one, and of that one with it, at this place, and returns the position after
+/// Writes the entry of `i` with another one, and of that one with it, at this position, and returns the position after
 /// them.
 pub(crate) fn write_pair(
     instance: &Instance,
@@ -143,7 +143,7 @@ pub(crate) fn write_pair(
     write_one(back, numbers, middle)
 }
 
-/// Writes one number at this place, and returns the position after it.
+/// Writes one number at this position, and returns the position after it.
 fn write_one(number: i32, numbers: &mut [i32], start: usize) -> usize
     requires room { start < length numbers.old }
     ensures end { result ≡ start + 1 }

@@ -15,7 +15,7 @@ use std::alloc::AllocError;
 use std::marker::Model;
 
 /// The rows of the flows between facilities where certain ones are placed: what the Gilmore-Lawler matrices of all
-/// nodes that place these have in common, wherever they place them; and the rows of the distances but for the last
+/// nodes that place these have in common, wherever they place them; and the rows of the distances except the last
 /// location, which siblings have in common too.
 #[derive(Drop)]
 pub struct FlowRows<'a> {
@@ -103,7 +103,7 @@ impl<'a> FlowRows<'a> {
     }
 }
 
-/// The locations of the node but the last, which its siblings share; none where it has none.
+/// The locations of the node but the last, which its siblings share; none if it has none.
 fn but_last(node: &Partial) -> &[u16]
     ensures { AreDifferent node.now.size result.now }
 {

@@ -3,7 +3,7 @@
 ghost use Rattle.std.specs.Prelude.{◌≡◌, ◌<◌, ◌≤◌, ◌+◌, ◌++◌, ◌<ℤ◌, ◌≤ℤ◌, length, pos, remove, slice_index_or, take, ℕ};
 ghost use Rattle.gilmore_lawler.specs.Order.{IsDescending};
 
-/// Writes the numbers of a row that falls but one of this value, from this place on, and returns the position after
+/// Writes the numbers of a row that falls but one of this value, from this position on, and returns the position after
 /// them.
 ///
 /// Each place takes its number or the next one, so that no branch waits for the comparison.

@@ -173,8 +173,8 @@ fn make_ancestors(
     Ok(())
 }
 
-/// The level below that of the lowest ancestor of the node with these locations whose rows of the distances are kept, or 0 where
-/// those of none are.
+/// The level below that of the lowest ancestor of the node with these locations whose rows of the distances are kept,
+/// or 0 if those of none are.
 fn first_missing(places: &[u16], levels: &[Level]) -> usize
     requires { length places.now < length levels.now }
     ensures { result ≤ length places.now }

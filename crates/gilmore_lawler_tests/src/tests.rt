@@ -23,7 +23,7 @@ fn entries_of(alloc: Global, matrix: &Matrix) -> Result<Vec<i128>, AllocError> {
     Ok(entries)
 }
 
-/// The node of size `n` that places no facility, where there is one.
+/// The node of size `n` that places no facility, if there is one.
 fn root(alloc: Global, n: usize) -> Result<Option<Partial>, AllocError> {
     if n == 0 || n > 256 {
         return Ok(None);
@@ -180,7 +180,7 @@ fn duals_that_fit(rt: HostRuntime) -> Result<(), Fail> {
     Ok(())
 }
 
-/// The entry in row `i` and column `j` of an `n` by `n` matrix; 0 where there is none.
+/// The entry in row `i` and column `j` of an `n` by `n` matrix; 0 if there is none.
 fn entry(n: usize, matrix: &[i64], i: usize, j: usize) -> i128 {
     i128::from(
         matrix

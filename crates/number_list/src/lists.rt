@@ -102,7 +102,7 @@ impl NumberList {
     }
 }
 
-/// The numbers in fewer than 128 bits each, or `None` where one of them takes as many.
+/// The numbers in fewer than 128 bits each, or `None` if one of them takes as many.
 fn narrow(alloc: Global, numbers: &[i128]) -> Result<Option<NumberList>, AllocError>
     ensures { IfOk result (λ found. IfSome found (λ list. numbers_held list ≡ numbers.now)) }
 {

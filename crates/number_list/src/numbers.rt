@@ -35,7 +35,7 @@ impl Numbers<'_> {
         }
     }
 
-    /// The number at a place.
+    /// The number at a position.
     pub fn at(&self, place: usize) -> i128
         requires { place < length (numbers_in self.now) }
         ensures { result ≡ slice_index_or (numbers_in self.now) place (pos 0) }

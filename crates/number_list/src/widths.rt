@@ -8,7 +8,7 @@ use std::alloc::{AllocError, Global};
 pub(crate) trait Width: Copy {
     ghost value: { Self → ℤ };
 
-    /// The number in this width, or `None` where it takes more.
+    /// The number in this width, or `None` if it takes more.
     fn narrowed(number: i128) -> Option<Self>
         ensures { IfSome result (λ narrow. value narrow ≡ number) };
 
@@ -53,7 +53,7 @@ impl Width for i32 {
     }
 }
 
-/// Puts the numbers at the beginning of the room, in its width; answers whether each fits.
+/// Puts the numbers at the beginning of the buffer, in its width; answers whether each fits.
 pub(crate) fn fill<W: Width>(room: &mut [W], numbers: &[i128]) -> bool
     requires { length numbers.now ≤ length room.old }
     ensures filled { IsTrue result → map W.value (take (length numbers.now) room.new) ≡ numbers.now }

@@ -71,7 +71,7 @@ impl<F: Write + OpenFile + Drop> Output<F> {
         self.device.is_none() && self.earlier == Some(file)
     }
 
-    /// Writes the text and puts the file in its place. At an error the place is as it was.
+    /// Writes the text and puts the file in its place. At an error the place is unchanged.
     pub fn put<R: Files + AllocGlobal>(self, rt: &R, text: &[u8]) -> io::Result<()> {
         let Output {
             target,

@@ -17,7 +17,7 @@ const MOST: usize = 256;
 /// Whether the pair duals fit: whether they leave no pair of different free facilities at different free locations less
 /// than 0.
 ///
-/// One pass over all pairs, of time `m^4 / 2` for `m` free facilities. Allocates nothing.
+/// One pass over all pairs, in time `m^4 / 2` for `m` free facilities. Allocates nothing.
 pub fn fits<N: Number>(instance: &Instance, duals: &PairDuals<N>) -> bool
     requires size { instance.now.size ≡ duals.now.size }
     requires in_scale { IsInScale N.limits instance.now duals.now.scale }

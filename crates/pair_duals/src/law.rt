@@ -14,19 +14,19 @@ pub fn seats_law()
     ensures { (y : Placement) (p : List ℕ) → IsPlacement y → Completes y p → (seat : List ℕ) × Seats y p seat }
 {}
 
-/// Where pair duals fit, each completion of a node below theirs costs, scaled, at least the fixed cost of that node and the
-/// entries of their matrix at its seats.
+/// If pair duals fit, each completion of a node below theirs costs, scaled, at least the fixed cost of that node and
+/// the entries of their matrix at its seats.
 pub fn pair_duals_law()
     ensures { (I : Problem) (D : Duals) (y : Placement) (rows columns p seat : List ℕ) → IsPlacement y → I.size ≡ y.size → Fit I D → AreNumbers D y rows columns → Completes y p → Seats y p seat
         → (pos D.scale *ℤ fixed_cost_of I y +ℤ sum_to (λ r. dual_entry I D y rows columns r (slice_index seat r)) (length rows)) ≤ℤ (pos D.scale *ℤ cost_of I p) }
 {}
 
-/// Where they fit and no entry of a node's form is less than nothing, each completion costs, scaled, at least the form's value.
+/// If they fit and no entry of a node's form is negative, each completion costs, scaled, at least the form's value.
 pub fn form_bound_law()
     ensures { (I : Problem) (D : Duals) (y : Placement) (R : Form) (p : List ℕ) → IsPlacement y → Fit I D → IsFormOf I D y R → IsNonNegative R → Completes y p → R.value ≤ℤ (pos D.scale *ℤ cost_of I p) }
 {}
 
-/// Where they fit, and numbers for rows and columns are together no more than any entry, each completion costs, scaled, at
+/// If they fit, and numbers for rows and columns are together no more than any entry, each completion costs, scaled, at
 /// least the form's value and all these numbers.
 pub fn closing_law()
     ensures { (I : Problem) (D : Duals) (y : Placement) (R : Form) (u v : List ℤ) (p : List ℕ) → IsPlacement y → Fit I D → IsFormOf I D y R → AreUnder R u v → Completes y p

@@ -87,7 +87,7 @@ fn size_of(instance: &Instance, numbers: Numbers, i: usize, j: usize) -> u64
     number(instance, numbers, i, j).unsigned_abs()
 }
 
-/// The absolute value of the number at `i` and `j`; 0 where these are the same.
+/// The absolute value of the number at `i` and `j`; 0 if these are the same.
 fn size_of_other(instance: &Instance, numbers: Numbers, i: usize, j: usize) -> u64
     requires i_in { i < instance.now.size }
     requires j_in { j < instance.now.size }
@@ -114,7 +114,7 @@ fn gcd_of_row(instance: &Instance, numbers: Numbers, i: usize) -> u64
     divisor
 }
 
-/// What divides all numbers but those on the diagonal.
+/// What divides all numbers except those on the diagonal.
 fn gcd_of_others(instance: &Instance, numbers: Numbers) -> u64
     ensures value { result ≡ gcd_of_others (number_at instance.now numbers) instance.now.size }
     ensures range { result ≤ 2 * 10 ^ 9 }
@@ -147,7 +147,7 @@ fn product_step(instance: &Instance, facilities: Numbers, locations: Numbers) ->
     gcd(others, alone)
 }
 
-/// The same, and 0 where a matrix isn't symmetric.
+/// The same, and 0 if a matrix isn't symmetric.
 fn step_if_symmetric(
     instance: &Instance,
     matrix: Numbers,

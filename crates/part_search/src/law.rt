@@ -32,7 +32,7 @@ pub fn bound_law()
         ((o : OpenNode) → Contains content (node_tuple o) → g ≤ℤ o.value) → IsClosed S.instance S.root g }
 {}
 
-/// Where no node is open, no completion of the root costs less than the best permutation.
+/// If no node is open, no completion of the root costs less than the best permutation.
 pub fn optimal_law()
     ensures { (S : Part) (content : Content) → (h : IsSearched S content) → open_count content ≡ 0 → IsClosed S.instance S.root h.best.cost }
 {}

@@ -16,8 +16,8 @@ use tuple_match::Template;
 /// How many steps a worker makes at most until it has no transaction.
 const STEPS_TO_IDLE: usize = 3;
 
-/// Where workers work: the space, what they wait for there, how many wait, whether the search is to stop, how many nodes were taken and
-/// tried, and when children are left open untried.
+/// What workers share: the space, what they wait for there, how many wait, whether the search should stop, how many
+/// nodes were taken and tried, and when children are left open untried.
 #[derive(Drop)]
 pub(crate) struct Workplace<'a, R: Wait + time::Clock, L: Law> {
     pub(crate) rt: &'a R,

@@ -143,8 +143,8 @@ fn told_written(written: Result<bool, AllocError>, txn: Txn) -> Outcome
     }
 }
 
-/// Writes the better of the permutation in the entry's tuple and the incumbent, which it becomes. `false` where the tuple is of no
-/// permutation with its cost, or its lease ends.
+/// Writes the better of the permutation in the entry's tuple and the incumbent, which it becomes. `false` if the tuple
+/// is of no permutation with its cost, or its lease ends.
 fn write_best(
     alloc: Global,
     instance: &Instance,

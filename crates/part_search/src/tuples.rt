@@ -71,7 +71,7 @@ fn list_field(alloc: Global, list: &[u16]) -> Result<Field, AllocError>
     Field::list(alloc, &wide)
 }
 
-/// The open node of size `n` that the tuple is of; `None` where it is of none.
+/// The open node of size `n` that the tuple is of; `None` if it is of none.
 pub(crate) fn read_open(alloc: Global, n: usize, tuple: &Tuple) -> Result<Option<Open>, AllocError>
     requires positive { 0 < n }
     requires small { n ≤ 256 }
@@ -134,7 +134,7 @@ fn put(node: &mut Partial, facility: i128, location: i128) -> Result<bool, Alloc
     Ok(true)
 }
 
-/// The best permutation that the tuple is of; `None` where it is of no permutation of the instance with its cost.
+/// The best permutation that the tuple is of; `None` if it is of no permutation of the instance with its cost.
 pub(crate) fn read_best(
     alloc: Global,
     instance: &Instance,

@@ -12,8 +12,8 @@ use plan_table::decimal_text;
 use qap_cost::{Perm, cost};
 use std::alloc::{AllocError, Global};
 
-/// What the arrangement of today and the best one cost, in the plan's own units, what is proved of the best by this bound, and a line for each
-/// department that moves.
+/// What the arrangement of today and the best one cost, in the plan's own units, what is proved about the best by this
+/// bound, and a line for each department that moves.
 pub fn compared_text(
     alloc: Global,
     problem: &NamedProblem,
@@ -42,7 +42,7 @@ pub fn compared_text(
     Ok(text)
 }
 
-/// What both cost, and what is proved of the best.
+/// What both cost, and what is proved about the best.
 fn costs_text(
     alloc: Global,
     problem: &NamedProblem,
@@ -77,7 +77,7 @@ fn push_costs(text: &mut Vec<u8>, today: &[u8], best: &[u8], less: &[u8]) -> Res
     Ok(())
 }
 
-/// Appends what is proved of the best to the text.
+/// Appends what is proved about the best to the text.
 fn push_proved(
     text: &mut Vec<u8>,
     is_open: bool,
@@ -109,8 +109,8 @@ fn push_open(text: &mut Vec<u8>, best: &[u8], bound: &[u8], kept: &[u8]) -> Resu
     Ok(())
 }
 
-/// How much less the second cost is, in percent of the first, rounded down to tenths; nothing where the first isn't above zero, or the second
-/// is larger.
+/// How much less the second cost is, in percent of the first, rounded down to tenths; nothing if the first isn't above
+/// zero, or the second is larger.
 fn less_text(alloc: Global, today: i128, best: i128) -> Result<Vec<u8>, AllocError>
     requires today { unsigned_abs today ≤ max_value }
     requires best { unsigned_abs best ≤ max_value }
@@ -122,7 +122,7 @@ fn less_text(alloc: Global, today: i128, best: i128) -> Result<Vec<u8>, AllocErr
     }
 }
 
-/// What is said of this many tenths of a percent.
+/// What is said about this many tenths of a percent.
 fn saving_text(alloc: Global, tenths: i128) -> Result<Vec<u8>, AllocError>
     ensures { IfOk result (λ text. IsSavingText tenths text.items) }
 {
@@ -207,7 +207,7 @@ fn push_moves(
     Ok(())
 }
 
-/// Appends the line of a department that moves between these places to the text; nothing where they are the same.
+/// Appends the line of a department that moves between these places to the text; nothing if they are the same.
 fn push_move_between(
     text: &mut Vec<u8>,
     department: &str,

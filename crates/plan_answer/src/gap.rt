@@ -42,8 +42,8 @@ fn percent_text(alloc: Global, tenths: i128) -> Result<Vec<u8>, AllocError>
     Ok(text)
 }
 
-/// The cost less the bound, in tenths of a percent of the bound, rounded up; `None` where the bound isn't above zero, or above the cost, or where
-/// the cost is larger than one can be.
+/// The cost less the bound, in tenths of a percent of the bound, rounded up; `None` if the bound isn't above zero, or
+/// above the cost, or where the cost is larger than one can be.
 fn tenths_apart(cost: i128, bound: i128) -> Option<i128>
     ensures { MatchOption result (is_told cost bound ≡ false) (λ tenths. (is_told cost bound ≡ true) × (tenths ≡ pos (tenths_above cost bound))) }
 {

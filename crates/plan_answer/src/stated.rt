@@ -40,7 +40,7 @@ pub fn cost_line(alloc: Global, problem: &NamedProblem, cost: i128) -> Result<Ve
     Ok(text)
 }
 
-/// The line that reports what is stated of the cost.
+/// The line that reports what is stated about the cost.
 fn stated_line(
     alloc: Global,
     problem: &NamedProblem,

@@ -59,7 +59,7 @@ fn filled_up(
     Ok(filled)
 }
 
-/// The flow between two departments, or none where one of them is added.
+/// The flow between two departments, or none if one of them is added.
 fn flow_between(flows: &[i64], departments: usize, i: usize, j: usize) -> i64
     requires square { length flows.now ≡ departments * departments }
     requires in_range { All InRange flows.now }

@@ -67,7 +67,7 @@ fn name_of(places: &[String], k: usize) -> &str
     places[k].as_str()
 }
 
-/// The department that is at a place, where one does.
+/// The department at a place, if any.
 fn department_at<'a>(departments: &'a [String], locations: &[u16], k: usize) -> Option<&'a str>
     requires { length departments.now ≤ length locations.now }
     ensures { option_map (λ name. name.now) result ≡ department_at (map string_bytes departments.now) locations.now k }

@@ -91,8 +91,8 @@ fn frame_of(points: &[Point]) -> Option<Frame> {
     Some(frame)
 }
 
-/// By how much coordinates are magnified, times `UNIT`; `None` where the picture would become too large, or two places
-/// are at one point.
+/// By how much coordinates are magnified, times `UNIT`; `None` if the picture would become too large, or two places are
+/// at one point.
 fn magnification(points: &[Point], frame: Frame, size: BoxSize) -> Option<u128> {
     let across = u128::from(frame.left.abs_diff(frame.right));
     let down = u128::from(frame.lower.abs_diff(frame.upper));
@@ -106,7 +106,7 @@ fn magnification(points: &[Point], frame: Frame, size: BoxSize) -> Option<u128> 
     if fits { Some(factor) } else { None }
 }
 
-/// The least factor at which the boxes of two points are apart, across or down; `None` where the points are one.
+/// The least factor at which the boxes of two points are apart, across or down; `None` if the points are one.
 fn factor_between(p: &Point, q: &Point, size: BoxSize) -> Option<u128> {
     let across = factor_for(
         u128::from(size.width.saturating_add(GAP)),
@@ -191,7 +191,7 @@ fn columns_for(count: usize) -> usize
     }
 }
 
-/// The boxes in a picture that has room for them, for the lines that are bent around them, and for the line above.
+/// The boxes in a picture that has capacity for them, for the lines that are bent around them, and for the line above.
 fn framed(alloc: Global, centres: &[Centre], size: BoxSize) -> Result<Layout, AllocError>
     ensures { IfOk result (λ layout. length layout.centres.items ≡ length centres.now) }
 {

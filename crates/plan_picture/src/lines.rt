@@ -98,7 +98,7 @@ fn push_flow(
     text.extend_from_slice(line.as_bytes())
 }
 
-/// How much goes between two departments, both ways together; none where that is less.
+/// How much goes between two departments, both ways together; none if that is less.
 fn flow_between(instance: &Instance, i: usize, j: usize) -> u64
     requires i { i < instance.now.size }
     requires j { j < instance.now.size }

@@ -108,7 +108,7 @@ fn moved(separator: Separator, reached: Reached, byte: u8, stand: Stand) -> Reac
     }
 }
 
-/// Where the field begins that is reached with a byte: where it is at a field's start, that is a new one.
+/// The start of the field that is reached with a byte: at the start of a field, that is a new one.
 fn place_after(separator: Separator, place: Place, byte: u8, stand: Stand, line: u64) -> Place
     ensures { result ≡ place_after separator place byte stand line }
 {

@@ -147,7 +147,7 @@ fn mirror_of(n: usize, cell: usize) -> usize
     cell % n * n + cell / n
 }
 
-/// What is said of one thing; where nothing is, what is said of the other.
+/// The first value, or if there is none the second.
 fn either(own: Option<i64>, other: Option<i64>) -> Option<i64>
     ensures { result ≡ either_of own other }
 {

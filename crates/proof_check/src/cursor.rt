@@ -24,7 +24,7 @@ impl Cursor {
     }
 }
 
-/// Reads the next line, in the memory that the last one had where that is enough.
+/// Reads the next line, in the memory that the last one had if that suffices.
 pub(crate) fn advance<R: BufRead>(reader: &mut R, cursor: &mut Cursor) -> Result<(), ProofError>
     ensures { OnOk result (Consumes (R.remaining reader.old) (R.remaining reader.new) (cursor.new.line.items ++ 10 ∷ [])) }
 {
@@ -69,7 +69,7 @@ fn nothing<R: BufRead>(reader: &mut R, line: &mut Vec<u8>, number: u64) -> Resul
     }
 }
 
-/// What is reported of a read that failed.
+/// What is reported about a read that failed.
 fn told(error: &Error) -> ProofError {
     if error.kind() == ErrorKind::OutOfMemory {
         ProofError::OutOfMemory

@@ -374,7 +374,7 @@ fn place_of(list: &[u16], number: u16) -> Option<usize>
     None
 }
 
-/// What is reported of a split on what is not free.
+/// What is reported about a split on what is not free.
 fn taken(side: Side, number: u64) -> ProofError {
     match side {
         Side::Facility => ProofError::FacilityTaken(number),

@@ -12,8 +12,8 @@ ghost use Rattle.proof_tree.specs.Claim.{IsPairProof, PairClaim, PairProves};
 ghost use Rattle.proof_tree.specs.Tree.{Tree};
 ghost use Rattle.proof_tree.specs.Valid.{ReachesBound, Under, Valid, under};
 
-/// Where pair duals fit and a form is that of a node, no completion of the node of a tree that is valid under them costs less
-/// than the bound.
+/// If pair duals fit and a form is that of a node, no completion of the node of a tree that is valid under them costs
+/// less than the bound.
 pub fn valid_law()
     ensures { (I : Problem) (step : ℕ) (bound : ℤ) (y : Placement) (D : Duals) (R : Form) (t : Tree) → IsPlacement y → I.size ≡ y.size → DividesCosts I step
         → Fit I D → IsFormOf I D y R → Valid I step bound y (Some (under D R)) t → NoneCompletesForLess I y bound }

@@ -87,7 +87,7 @@ fn verdict(
     check(alloc, instance, &certificate)
 }
 
-/// Asserts what is said of the certificate of one bound, whose duals are 9, 10, this one, 0, -2 and -5.
+/// Asserts what is said about the certificate of one bound, whose duals are 9, 10, this one, 0, -2 and -5.
 fn assert_root_bound(
     rt: &impl Abort,
     alloc: Global,
@@ -127,7 +127,7 @@ fn bounds_at_the_root(rt: HostRuntime) -> Result<(), Fail> {
     Ok(())
 }
 
-/// Asserts what is said of the tree that splits down to each permutation, on this facility first.
+/// Asserts what is said about the tree that splits down to each permutation, on this facility first.
 fn assert_full_tree(
     rt: &impl Abort,
     alloc: Global,
@@ -142,7 +142,7 @@ fn assert_full_tree(
     Ok(())
 }
 
-/// Asserts what is said of a split on this facility into two bounds, which have these duals of the other facility.
+/// Asserts what is said about a split on this facility into two bounds, which have these duals of the other facility.
 fn assert_split(
     rt: &impl Abort,
     alloc: Global,
@@ -183,7 +183,7 @@ fn splits(rt: HostRuntime) -> Result<(), Fail> {
     Ok(())
 }
 
-/// Asserts the fault that is reported of a split whose first child is a bound and whose second one is this.
+/// Asserts the fault that is reported about a split whose first child is a bound and whose second one is this.
 fn assert_second(
     rt: &impl Abort,
     alloc: Global,

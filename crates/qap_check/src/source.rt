@@ -21,7 +21,7 @@ pub struct Texts {
     pub other: OtherText,
 }
 
-/// Bytes from a place on.
+/// Bytes from a position on.
 #[derive(Drop)]
 pub struct OtherText {
     bytes: Vec<u8>,

@@ -100,7 +100,7 @@ impl Matrix {
     }
 }
 
-/// Where `(u, v)` fits a matrix, no assignment costs less than the sum of `u` and `v`.
+/// If `(u, v)` fits a matrix, no assignment costs less than the sum of `u` and `v`.
 pub fn weak_duality_law()
     ensures { (M : Square) (u v : List ℤ) (p : List ℕ) → DualsFit M u v → Assigns M p → dual_value u v ≤ℤ assignment_cost M p }
 {}

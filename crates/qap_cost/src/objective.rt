@@ -56,7 +56,7 @@ pub fn product(x: i64, y: i64) -> i64
     x * y
 }
 
-/// Exchanging the two matrices gives a permutation the cost that its inverse has with the matrices as they were.
+/// Exchanging the two matrices gives a permutation the cost that its inverse has with the matrices unchanged.
 ///
 /// Two conventions are in use for which matrix a permutation is applied to; this law is the bridge.
 pub fn exchange_law()

@@ -157,7 +157,7 @@ impl Partial {
         })
     }
 
-    /// Puts the free facility `f` at the free location `k` too. If memory runs out, the node is as it was.
+    /// Puts the free facility `f` at the free location `k` too. If memory runs out, the node is unchanged.
     pub fn put(&mut self, f: u16, k: u16) -> Result<(), AllocError>
         requires facility { IsFreeFacility self.old f }
         requires location { IsFreeLocation self.old k }
@@ -184,7 +184,7 @@ impl Partial {
         self.places.clear();
     }
 
-    /// Takes the memory for all that it may place. Refused that, the node is as it was.
+    /// Takes the memory for all that it may place. Refused that, the node is unchanged.
     pub fn reserve(&mut self) -> Result<(), AllocError>
         ensures same { self.new ≡ self.old }
         ensures placement { IsPlacement self.new }

@@ -9,7 +9,7 @@ fn instance(alloc: Global, n: usize, a: &[i64], b: &[i64]) -> Result<Option<Inst
     Ok(Instance::new(n, Vec::from_slice(alloc, a)?, Vec::from_slice(alloc, b)?).ok())
 }
 
-/// The node of size `n` that places no facility, where there is one.
+/// The node of size `n` that places no facility, if there is one.
 fn root(alloc: Global, n: usize) -> Result<Option<Partial>, AllocError> {
     if n == 0 || n > 256 {
         return Ok(None);

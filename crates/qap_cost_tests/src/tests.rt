@@ -84,7 +84,7 @@ fn copy_of(permutation: &Perm) -> Result<Perm, AllocError> {
     permutation.copy()
 }
 
-/// The location of facility `i`, where there is one.
+/// The location of facility `i`, if there is one.
 fn location_of(permutation: &Perm, i: usize) -> Option<u16> {
     if i >= permutation.len() {
         return None;
@@ -92,7 +92,7 @@ fn location_of(permutation: &Perm, i: usize) -> Option<u16> {
     Some(permutation.at(i))
 }
 
-/// Row `i` and column `j` of A and of B, where there is one.
+/// Row `i` and column `j` of A and of B, if there is one.
 fn entries_at(instance: &Instance, i: usize, j: usize) -> Option<(i64, i64)> {
     let n = instance.size();
     if i >= n || j >= n {
@@ -166,12 +166,12 @@ fn greatest_entries(rt: HostRuntime) -> Result<(), Fail> {
     Ok(())
 }
 
-/// Why the numbers are not an instance; `None` where they are one.
+/// Why the numbers are not an instance; `None` if they are one.
 fn refusal(alloc: Global, n: usize, a: &[i64], b: &[i64]) -> Result<Option<CostError>, AllocError> {
     Ok(instance(alloc, n, a, b)?.err())
 }
 
-/// Why the numbers are not a permutation, and the numbers that are returned; `None` where they are one.
+/// Why the numbers are not a permutation, and the numbers that are returned; `None` if they are one.
 fn returned(alloc: Global, numbers: &[u16]) -> Result<Option<(CostError, Vec<u16>)>, AllocError> {
     Ok(Perm::new(Vec::from_slice(alloc, numbers)?).err())
 }
@@ -211,7 +211,7 @@ fn matrix(alloc: Global, size: usize, entries: &[i128]) -> Result<Option<Matrix>
     Ok(Matrix::new(size, Vec::from_slice(alloc, entries)?))
 }
 
-/// Row `i`, and its entry in column `k`, where there is one.
+/// Row `i`, and its entry in column `k`, if there is one.
 fn row_and_entry(matrix: &Matrix, i: usize, k: usize) -> Option<(&[i128], i128)> {
     if i >= matrix.size() || k >= matrix.size() {
         return None;

@@ -266,7 +266,7 @@ fn write<N: Number>(
     put(entries, r * instance.size() + s, difference);
 }
 
-/// The number at this place.
+/// The number at this position.
 pub(crate) fn number_at<N: Number>(numbers: &[N], place: usize) -> N
     requires { place < length numbers.now }
     ensures { N.value result ≡ slice_index_or (map N.value numbers.now) place (pos 0) }

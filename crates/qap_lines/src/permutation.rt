@@ -25,7 +25,7 @@ pub fn permutation_from_one(alloc: Global, values: &[i128]) -> Result<Option<Per
     }
 }
 
-/// Locations that are counted from 1, counted from 0; `None` where one of them isn't from 1 to their count.
+/// Locations that are counted from 1, counted from 0; `None` if one of them isn't from 1 to their count.
 fn locations_from_one(alloc: Global, values: &[i128]) -> Result<Option<Vec<u16>>, AllocError>
     requires small { length values.now ≤ 256 }
     ensures { IfOk result (λ found. MatchOption found

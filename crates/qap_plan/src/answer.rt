@@ -64,7 +64,7 @@ fn place_line(alloc: Global, facility: usize, location: usize) -> Result<String,
     format!(in alloc; "facility {facility} at location {location}\n")
 }
 
-/// What is proved of the cost.
+/// What is proved about the cost.
 pub fn verdict_line(alloc: Global, cost: i128, bound: i128) -> Result<String, AllocError>
     ensures { IfOk result (λ line. string_bytes line ≡ verdict_line cost bound) }
 {

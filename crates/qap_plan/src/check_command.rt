@@ -28,7 +28,7 @@ pub fn check_command<'a>(alloc: Global) -> Result<Command<'a>, AllocError> {
         .arg(ignore_rest(alloc))
 }
 
-/// The request that was found; `None` where something is missing.
+/// The request that was found; `None` if something is missing.
 pub fn check_request<'a>(found: &ArgMatches<'a>) -> Option<CheckRequest<'a>> {
     Some(CheckRequest {
         file: found.get_str("PLAN")?,

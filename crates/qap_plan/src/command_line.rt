@@ -270,7 +270,7 @@ pub(crate) fn with_improvement<'a>(
         )
 }
 
-/// The options of a search; `None` where something is missing, or there are too many workers.
+/// The options of a search; `None` if something is missing, or there are too many workers.
 pub(crate) fn options_of(found: &ArgMatches<'_>, passes: bool, proves: bool) -> Option<Options>
     ensures { IfSome result AreLimited }
 {
@@ -290,7 +290,7 @@ pub(crate) fn options_of(found: &ArgMatches<'_>, passes: bool, proves: bool) -> 
     })
 }
 
-/// The request that was found; `None` where something is missing, or there are too many workers.
+/// The request that was found; `None` if something is missing, or there are too many workers.
 fn request_of<'a>(found: &ArgMatches<'a>) -> Option<Request<'a>>
     ensures { IfSome result (λ request. AreLimited request.options) }
 {

@@ -45,7 +45,7 @@ pub fn compare_command<'a>(alloc: Global) -> Result<Command<'a>, AllocError> {
     )
 }
 
-/// The request that was found; `None` where something is missing.
+/// The request that was found; `None` if something is missing.
 pub fn compare_request<'a>(found: &ArgMatches<'a>) -> Option<CompareRequest<'a>>
     ensures { IfSome result (λ request. AreLimited request.options) }
 {

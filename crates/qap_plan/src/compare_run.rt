@@ -150,7 +150,7 @@ where
     Ok(found)
 }
 
-/// What is reported of the two arrangements.
+/// What is reported about the two arrangements.
 fn told(
     alloc: Global,
     problem: &NamedProblem,

@@ -31,7 +31,7 @@ pub fn convert_command<'a>(alloc: Global) -> Result<Command<'a>, AllocError> {
         )
 }
 
-/// The request that was found; `None` where something is missing.
+/// The request that was found; `None` if something is missing.
 pub fn convert_request<'a>(found: &ArgMatches<'a>) -> Option<ConvertRequest<'a>> {
     Some(ConvertRequest {
         plan: found.get_str("PLAN")?,

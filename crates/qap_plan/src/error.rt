@@ -15,7 +15,7 @@ pub enum PlanError {
     /// The file is too long, or does not begin with an instance.
     #[error("{0}")]
     Text(TextError),
-    /// A word follows the instance, at this place.
+    /// A word follows the instance, at this position.
     #[error("something follows the instance, at {0}; remove it, or pass over it with --ignore-rest")]
     Rest(usize),
     /// The file of the start is too long, or does not begin with a solution of the instance's size.

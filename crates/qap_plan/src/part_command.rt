@@ -62,7 +62,7 @@ pub fn part_command<'a>(alloc: Global) -> Result<Command<'a>, AllocError> {
     with_limits(alloc, command)?.arg(ignore_rest(alloc))
 }
 
-/// The request that was found; `None` where something is missing, or there are too many workers.
+/// The request that was found; `None` if something is missing, or there are too many workers.
 pub fn part_request<'a>(found: &ArgMatches<'a>) -> Option<PartRequest<'a>>
     ensures { IfSome result (λ request. AreLimited request.options) }
 {

@@ -139,8 +139,8 @@ impl<R: Eprint + AllocGlobal + Files, T: time::Clock> Keeper for Teller<'_, R, T
 }
 
 /// How far a search has come after this many milliseconds, in at most 79 columns: the seconds, the nodes that are
-/// decided and open, how many were decided in a second, the best cost, and how many of the root's children are done. Where nothing
-/// is known of the root's children, neither they nor the open nodes are named.
+/// decided and open, how many were decided in a second, the best cost, and how many of the root's children are done.
+/// Where nothing is known about the root's children, neither they nor the open nodes are named.
 pub fn progress_line(
     alloc: Global,
     milliseconds: u64,

@@ -57,7 +57,7 @@ pub(crate) fn with_answer<'a>(
         )
 }
 
-/// The request that was found; `None` where something is missing.
+/// The request that was found; `None` if something is missing.
 pub fn show_request<'a>(found: &ArgMatches<'a>) -> Option<ShowRequest<'a>> {
     Some(ShowRequest {
         file: found.get_str("PLAN")?,

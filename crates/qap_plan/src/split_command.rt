@@ -67,7 +67,7 @@ pub fn split_command<'a>(alloc: Global) -> Result<Command<'a>, AllocError> {
         .arg(ignore_rest(alloc))
 }
 
-/// The request that was found; `None` where something is missing.
+/// The request that was found; `None` if something is missing.
 pub fn split_request<'a>(found: &ArgMatches<'a>) -> Option<SplitRequest<'a>>
     ensures { IfSome result (λ request. AreLimited request.options) }
 {

@@ -23,8 +23,8 @@ const NODES_PER_LOOK: u64 = 500;
 /// After this many checks the progress is reported once.
 const LOOKS: u64 = 16;
 
-/// Proves that no completion of the plan's root costs less than a permutation, by one thread. `None` where the size or a number is out of
-/// range, a number of nodes limits the search, or the stop is requested.
+/// Proves that no completion of the plan's root costs less than a permutation, by one thread. `None` if the size or a
+/// number is out of range, a number of nodes limits the search, or a stop is requested.
 pub(crate) fn prove_subtrees<K: Keeper>(
     alloc: Global,
     instance: &Instance,

@@ -37,8 +37,8 @@ const SPARE_BITS: u32 = 112;
 /// In how many rounds of the thread that keeps the space the progress is shown once.
 const ROUNDS_PER_LOOK: u32 = 128;
 
-/// Searches below the plan's root, to the end or until the stop is requested. `None` where the size or a number is out of range, or a
-/// number of nodes limits the search.
+/// Searches below the plan's root, to the end or until a stop is requested. `None` if the size or a number is out of
+/// range, or a number of nodes limits the search.
 pub(crate) fn search_subtrees<T, K>(
     system: &T,
     alloc: Global,
@@ -90,7 +90,7 @@ where
     Ok(Some(with_bound(found, bound)))
 }
 
-/// What the workers share of the instance. `None` where a number is out of range for the scale.
+/// What the workers share of the instance. `None` if a number is out of range for the scale.
 fn shared_ground(
     alloc: Global,
     instance: &Instance,

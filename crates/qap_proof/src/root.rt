@@ -103,8 +103,8 @@ pub(crate) fn judge_root(
     }
 }
 
-/// The root that places facilities at locations as these numbers, counted from 1, give them alternately; `None` where
-/// they give none that isn't empty, its facilities ascending.
+/// The root that places facilities at locations as these numbers, counted from 1, give them alternately; `None` if they
+/// give none that isn't empty, its facilities ascending.
 fn root_from_one(alloc: Global, values: &[i128], n: usize) -> Result<Option<Partial>, AllocError>
     requires positive { 0 < n }
     requires small { n ≤ 256 }

@@ -128,7 +128,7 @@ fn fault(
     }
 }
 
-/// Asserts what is said of a cost and a bound, over a closed root.
+/// Asserts what is said about a cost and a bound, over a closed root.
 fn assert_numbers(
     rt: &impl Abort,
     alloc: Global,
@@ -158,7 +158,7 @@ fn numbers(rt: HostRuntime) -> Result<(), Fail> {
     assert_numbers(&rt, alloc, (11, 11), &[0, 1, 2], other_size)
 }
 
-/// Asserts what is said of a split whose second child is this.
+/// Asserts what is said about a split whose second child is this.
 fn assert_second(
     rt: &impl Abort,
     alloc: Global,

@@ -60,7 +60,7 @@ fn solve_command<'a>(alloc: Global) -> Result<Command<'a>, AllocError> {
         .arg(cert)
 }
 
-/// The options that were found: each has a default, but for the limit of nodes.
+/// The options that were found: each has a default, except the limit of nodes.
 fn options_of(found: &ArgMatches<'_>) -> Result<Options, CommandError>
     ensures { IfOk result AreLimited }
 {

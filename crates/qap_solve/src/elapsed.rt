@@ -22,7 +22,7 @@ impl<'a, T: time::Clock> Elapsed<'a, T> {
 }
 
 impl<T: time::Clock> Clock for Elapsed<'_, T> {
-    /// In milliseconds; 0 where the time can't be read.
+    /// In milliseconds; 0 if the time can't be read.
     fn now(&self) -> u64 {
         let Some(start) = self.start else {
             return 0;

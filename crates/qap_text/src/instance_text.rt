@@ -47,7 +47,7 @@ fn read_size(text: &[u8]) -> Result<(usize, usize), TextError>
     Ok((numeral.value as usize, numeral.stop))
 }
 
-/// The next entry from a place on, and the position after it.
+/// The next entry from a position on, and the position after it.
 fn read_entry(text: &[u8], from: usize) -> Result<(i64, usize), TextError>
     requires { from ≤ length text.now }
     ensures { MatchResult result
@@ -63,7 +63,7 @@ fn read_entry(text: &[u8], from: usize) -> Result<(i64, usize), TextError>
     Ok((numeral.value as i64, numeral.stop))
 }
 
-/// This many entries from a place on, and the position after them.
+/// This many entries from a position on, and the position after them.
 fn read_entries(
     alloc: Global,
     text: &[u8],

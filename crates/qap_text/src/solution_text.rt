@@ -40,7 +40,7 @@ pub fn read_solution(alloc: Global, n: usize, text: &[u8]) -> Result<(i128, Perm
     }
 }
 
-/// The place after the first word, which must be the size `n`.
+/// The position after the first word, which must be the size `n`.
 fn read_known_size(text: &[u8], n: usize) -> Result<usize, TextError>
     requires { n ≤ 256 }
     ensures { MatchResult result
@@ -56,7 +56,7 @@ fn read_known_size(text: &[u8], n: usize) -> Result<usize, TextError>
     Ok(numeral.stop)
 }
 
-/// The objective value from a place on, and the position after it.
+/// The objective value from a position on, and the position after it.
 fn read_value(text: &[u8], from: usize) -> Result<(i128, usize), TextError>
     requires { from ≤ length text.now }
     ensures { MatchResult result
@@ -72,7 +72,7 @@ fn read_value(text: &[u8], from: usize) -> Result<(i128, usize), TextError>
     Ok((numeral.value, numeral.stop))
 }
 
-/// The next location from a place on, counted from 0, and the position after it.
+/// The next location from a position on, counted from 0, and the position after it.
 fn read_location(
     text: &[u8],
     from: usize,
@@ -98,7 +98,7 @@ fn read_location(
     Ok((location, numeral.stop))
 }
 
-/// The locations of `n` facilities from a place on, counted from 0.
+/// The locations of `n` facilities from a position on, counted from 0.
 fn read_locations(alloc: Global, text: &[u8], from: usize, n: usize) -> Result<Vec<u16>, TextError>
     requires place { from ≤ length text.now }
     requires small { n ≤ 256 }

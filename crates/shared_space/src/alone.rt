@@ -108,7 +108,7 @@ impl<L: Law> Alone<L> {
         self.space.out(tuple, lease)
     }
 
-    /// Takes a tuple, outside all transactions, or returns `None` where none is available now.
+    /// Takes a tuple, outside all transactions, or returns `None` if none is available now.
     pub(crate) fn inp(&mut self, template: &Template) -> Option<(EntryId, Tuple)>
         requires { IsFree L.lawful L.allowed }
         ensures step { Step self.old.world.space (inp template.now) (inp_reply result) self.new.world.space }
@@ -119,7 +119,7 @@ impl<L: Law> Alone<L> {
         self.space.inp(template)
     }
 
-    /// Copies a tuple, outside all transactions, or returns `None` where none is available now.
+    /// Copies a tuple, outside all transactions, or returns `None` if none is available now.
     pub(crate) fn rdp(&self, template: &Template) -> Result<Option<(EntryId, Tuple)>, SpaceError>
         ensures step { Step self.now.world.space (rdp template.now) (rdp_reply result) self.now.world.space }
         ensures matches { IfOk result (λ found. IfSome found (λ pair. Matches template.now pair.1)) }

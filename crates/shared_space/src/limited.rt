@@ -98,7 +98,7 @@ impl<L: Law> Limited<L> {
         self.alone.out(tuple, lease)
     }
 
-    /// Takes a tuple, outside all transactions, or returns `None` where none is available now.
+    /// Takes a tuple, outside all transactions, or returns `None` if none is available now.
     pub fn inp(&mut self, template: &Template) -> Option<(EntryId, Tuple)>
         requires { IsFree L.lawful L.allowed }
         ensures acts { Acts L.limit self.old (outside (inp template.now) (inp_reply result)) self.new }
@@ -107,7 +107,7 @@ impl<L: Law> Limited<L> {
         self.alone.inp(template)
     }
 
-    /// Copies a tuple, outside all transactions, or returns `None` where none is available now.
+    /// Copies a tuple, outside all transactions, or returns `None` if none is available now.
     pub fn rdp(&self, template: &Template) -> Result<Option<(EntryId, Tuple)>, SpaceError>
         ensures acts { Acts L.limit self.now (outside (rdp template.now) (rdp_reply result)) self.now }
         ensures matches { IfOk result (λ found. IfSome found (λ pair. Matches template.now pair.1)) }

@@ -34,15 +34,15 @@ pub trait Room<L: Law> {
     fn take_spent(&mut self) -> Option<Spent>
         ensures { self.new ≡ self.old };
 
-    /// Takes for a transaction a tuple matching the template, or returns `None` where none is available now. A
-    /// permanent entry's tuple is one that a lawful content holds. Refusals: 31, 32, 50.
+    /// Takes for a transaction a tuple matching the template, or returns `None` if none is available now. A permanent
+    /// entry's tuple is one that a lawful content holds. Refusals: 31, 32, 50.
     fn inp_in(&mut self, txn: &mut Txn, template: &Template) -> Result<Option<Found>, TxnError>
         ensures did { did self.old (call txn.old (inp_in template.now)) (answered (find_answer result) txn.new) self.new }
         ensures found { IfOk result (λ found. IfSome found (Shows template.now txn.new)) }
         ensures marks { Finds (InLawful L.lawful) true template.now txn.old (find_answer result) txn.new };
 
-    /// Reads for a transaction a tuple matching the template, or returns `None` where none is available now. A
-    /// permanent entry's tuple is one that a lawful content holds. Refusals: 31, 32, 50.
+    /// Reads for a transaction a tuple matching the template, or returns `None` if none is available now. A permanent
+    /// entry's tuple is one that a lawful content holds. Refusals: 31, 32, 50.
     fn rdp_in(&mut self, txn: &mut Txn, template: &Template) -> Result<Option<Found>, TxnError>
         ensures did { did self.old (call txn.old (rdp_in template.now)) (answered (find_answer result) txn.new) self.new }
         ensures found { IfOk result (λ found. IfSome found (Shows template.now txn.new)) }

@@ -130,7 +130,7 @@ impl<L: Law> Shared<L> {
         put
     }
 
-    /// Takes a tuple, outside all transactions, or returns `None` where none is available now. Allocates nothing.
+    /// Takes a tuple, outside all transactions, or returns `None` if none is available now. Allocates nothing.
     pub fn inp<R: Wait>(&self, rt: &R, template: &Template) -> Option<(EntryId, Tuple)>
         requires { IsFree L.lawful L.allowed }
         ensures { IfSome result (λ found. Matches template.now found.1) }
@@ -138,7 +138,7 @@ impl<L: Law> Shared<L> {
         locked(rt, &self.limited).inp(template)
     }
 
-    /// Copies a tuple, outside all transactions, or returns `None` where none is available now. Refusal: 50.
+    /// Copies a tuple, outside all transactions, or returns `None` if none is available now. Refusal: 50.
     pub fn rdp<R: Wait>(
         &self,
         rt: &R,

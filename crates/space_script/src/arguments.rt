@@ -129,7 +129,7 @@ pub(crate) fn read_renewal(words: &[&[u8]]) -> Option<Command>
     }
 }
 
-/// A transaction's number, or none where the word is a dash.
+/// A transaction's number, or none if the word is a dash.
 fn read_under(word: &[u8]) -> Option<Option<u64>>
     ensures { MatchOption result ((under : Option ℕ) → IsUnder word.now under → ⊥) (IsUnder word.now) }
 {

@@ -52,7 +52,7 @@ pub enum Command {
     },
 }
 
-/// The command that these words spell; `None` where they spell none.
+/// The command that these words spell; `None` if they spell none.
 pub(crate) fn read_command(alloc: Global, words: &[&[u8]]) -> Result<Option<Command>, AllocError>
     ensures { IfOk result (λ found. MatchOption found
         ((command : CommandValue) → IsCommand (map (λ word. word.now) words.now) command → ⊥)

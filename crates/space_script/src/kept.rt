@@ -50,7 +50,7 @@ impl Kept {
         self.by_number.get_index_of(&number)
     }
 
-    /// The transaction at a place.
+    /// The transaction at a position.
     pub(crate) fn get(&self, place: usize) -> &Txn
         requires { place < length self.now.items }
         ensures { slice_get self.now.items place ≡ Some result.now }
@@ -96,7 +96,7 @@ impl Kept {
         Ok(())
     }
 
-    /// Takes out the transaction at a place; those after it close up.
+    /// Takes out the transaction at a position; those after it close up.
     pub(crate) fn remove(&mut self, place: usize) -> Txn
         requires { place < length self.old.items }
         ensures value { slice_get self.old.items place ≡ Some result }
@@ -109,7 +109,7 @@ impl Kept {
         }
     }
 
-    /// Writes a tuple under the transaction at a place.
+    /// Writes a tuple under the transaction at a position.
     pub(crate) fn out_in(
         &mut self,
         place: usize,
@@ -130,7 +130,7 @@ impl Kept {
         }
     }
 
-    /// Takes a tuple of a space under the transaction at a place.
+    /// Takes a tuple of a space under the transaction at a position.
     pub(crate) fn inp_in(
         &mut self,
         world: &mut TxnSpace,
@@ -147,7 +147,7 @@ impl Kept {
         world.inp_in(txn, template)
     }
 
-    /// Reads a tuple of a space under the transaction at a place.
+    /// Reads a tuple of a space under the transaction at a position.
     pub(crate) fn rdp_in(
         &mut self,
         world: &mut TxnSpace,

@@ -18,7 +18,7 @@ pub fn read_list(alloc: Global, word: &[u8]) -> Result<Option<Vec<i128>>, AllocE
     }
 }
 
-/// What is in the brackets of a word; `None` where it isn't in brackets.
+/// What is in the brackets of a word; `None` if it isn't in brackets.
 fn in_brackets(word: &[u8]) -> Option<&[u8]>
     ensures { MatchOption result ((inner : List ℕ) → word.now ≢ 91 ∷ inner ++ 93 ∷ []) (λ inner. word.now ≡ 91 ∷ inner.now ++ 93 ∷ []) }
 {
@@ -38,7 +38,7 @@ fn before_bracket(text: &[u8]) -> Option<&[u8]>
     }
 }
 
-/// Numbers with single commas between them, or none where the text is empty.
+/// Numbers with single commas between them, or none if the text is empty.
 fn read_numbers(alloc: Global, text: &[u8]) -> Result<Option<Vec<i128>>, AllocError>
     ensures { IfOk result (λ found. MatchOption found ((zs : List ℤ) → AreNumbers text.now zs → ⊥) (λ v. AreNumbers text.now v.items)) }
 {

@@ -38,7 +38,7 @@ pub fn run_script<R: Read, W: Write>(
     ran
 }
 
-/// Executes the lines of a script. Where memory runs out, replies may still wait for a flush.
+/// Executes the lines of a script. If memory runs out, replies may still wait for a flush.
 fn run_lines<R: Read, W: Write>(
     alloc: Global,
     reader: &mut Counted<R>,

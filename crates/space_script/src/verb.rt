@@ -16,7 +16,7 @@ pub(crate) enum Verb {
     Advance,
 }
 
-/// What a first word represents; `None` where it begins no command.
+/// What a first word represents; `None` if it begins no command.
 pub(crate) fn read_verb(word: &[u8]) -> Option<Verb>
     ensures { MatchOption result ((verb : Verb) → word.now ≢ verb_word verb) (λ verb. word.now ≡ verb_word verb) }
 {

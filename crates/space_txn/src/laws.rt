@@ -113,7 +113,7 @@ pub fn finding_law()
         Step old t (rdp_in template) (found (Own place)) new t' → NothingHad old.space Read template }
 {}
 
-/// Where a holder's hold ends, an entry whose lease has ended leaves if nobody else holds it, and stays if somebody does.
+/// If a holder's hold ends, an entry whose lease has ended leaves if nobody else holds it, and stays if somebody does.
 pub fn leaving_law()
     ensures leaves { (holder moment : ℕ) (e : Entry) → is_held_by holder e ≡ true → is_live moment e.end ≡ false →
         All (λ h. h.by ≡ holder) e.holds → stays_without holder moment e ≡ false }

@@ -36,7 +36,7 @@ fn is_mark_of(mark: &Mark, entry: &Entry, hold: &Hold) -> bool
         && mark.tuple == entry.tuple
 }
 
-/// The place after a transaction's mark on an entry, if it has one there, or `None` where another mark is at the place.
+/// The position after a transaction's mark on an entry, if it has one there, or `None` if another mark is at the place.
 fn place_behind(marks: &Marks, place: usize, entry: &Entry, number: u64) -> Option<usize>
     requires { place ≤ length marks.now.items }
     ensures { MatchOption result
@@ -52,8 +52,8 @@ fn place_behind(marks: &Marks, place: usize, entry: &Entry, number: u64) -> Opti
     Some(place + 1)
 }
 
-/// The place after a transaction's mark on the entry of a row, if the row is its own, there is such an entry and it has
-/// a mark there, or `None` where another mark is at the place. The entry is looked for first in the place that is this
+/// The position after a transaction's mark on the entry of a row, if the row is its own, there is such an entry and it
+/// has a mark there, or `None` if another mark is at the place. The entry is looked for first in the place that is this
 /// far below its number.
 fn place_behind_row(
     marks: &Marks,
@@ -129,7 +129,7 @@ fn mark_place(marks: &Marks, number: u64) -> usize
     low
 }
 
-/// Whether the mark at a place is on the entry of this number.
+/// Whether the mark at a position is on the entry of this number.
 fn is_mark_at(marks: &Marks, place: usize, number: u64) -> bool
     ensures { MatchBool result
         ((place < length marks.now.items) × HoldsAt (λ m. m.entry ≡ number) marks.now.items place)

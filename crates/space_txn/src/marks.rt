@@ -9,7 +9,7 @@ use smallvec::SmallVec;
 use std::alloc::{AllocError, Global};
 use std::marker::Model;
 
-/// Marks in order, the first four of which take no memory; an unused place holds none.
+/// Marks in order, the first four of which allocate nothing; an unused place holds none.
 #[derive(Debug, Drop)]
 pub(crate) struct Marks {
     places: SmallVec<Option<Mark>, 4>,
@@ -51,7 +51,7 @@ impl Marks {
         self.places.len()
     }
 
-    /// The mark at a place.
+    /// The mark at a position.
     pub(crate) fn at(&self, place: usize) -> &Mark
         requires { place < length self.now.items }
         ensures { result.now ≡ slice_index_or self.now.items place result.now }
@@ -79,7 +79,7 @@ impl Marks {
         self.places[place] = Some(mark);
     }
 
-    /// Makes the mark at a place one that takes its entry. Allocates nothing.
+    /// Makes the mark at a position one that takes its entry. Allocates nothing.
     pub(crate) fn take(&mut self, place: usize, permanent: bool)
         requires { place < length self.old.items }
         ensures { (m : Mark) → slice_get self.old.items place ≡ Some m → self.new.items ≡ slice_set self.old.items place (record m { taken = true; permanent = permanent }) }

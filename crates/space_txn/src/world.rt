@@ -82,7 +82,7 @@ impl TxnSpace {
         self.space.out(tuple, lease)
     }
 
-    /// Takes a tuple, outside all transactions, or returns `None` where none is available now. Allocates nothing.
+    /// Takes a tuple, outside all transactions, or returns `None` if none is available now. Allocates nothing.
     pub fn inp(&mut self, template: &Template) -> Option<(EntryId, Tuple)>
         ensures step { space.Step self.old.space (space.inp template.now) (space.inp_reply result) self.new.space }
         ensures rest { self.new ≡ with_space self.old self.new.space }
@@ -90,7 +90,7 @@ impl TxnSpace {
         self.space.inp(template)
     }
 
-    /// Copies a tuple, outside all transactions, or returns `None` where none is available now. Refusal: 50.
+    /// Copies a tuple, outside all transactions, or returns `None` if none is available now. Refusal: 50.
     pub fn rdp(&self, template: &Template) -> Result<Option<(EntryId, Tuple)>, SpaceError>
         ensures { space.Step self.now.space (space.rdp template.now) (space.rdp_reply result) self.now.space }
     {

@@ -162,7 +162,7 @@ fn add(children: &mut Vec<OpenChild>, child: Option<OpenChild>) -> Result<(), Al
     Ok(())
 }
 
-/// The child of number `k`, where it is left open; `None` where it is pruned or its trial closes it.
+/// The child of number `k`, where it is left open; `None` if it is pruned or its trial closes it.
 fn child_left<S: Stop>(
     task: &Task<'_, S>,
     split: &Split<'_>,

@@ -58,7 +58,7 @@ impl Row {
         }
     }
 
-    /// The same fields, shared with one more, or `None` where they aren't shared, or by more than can be counted.
+    /// The same fields, shared with one more, or `None` if they aren't shared, or by more than can be counted.
     fn shared(&self) -> Option<Row>
         ensures { IfSome result (λ row. row_value row ≡ row_value self.now) }
     {

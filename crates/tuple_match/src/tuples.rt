@@ -105,7 +105,7 @@ impl Tuple {
         })
     }
 
-    /// The same tuple, whose copies share its fields with it and take no memory. If memory runs out, it is returned.
+    /// The same tuple, whose copies share its fields with it and allocate nothing. If memory runs out, it is returned.
     pub fn share(self, alloc: Global) -> Result<Tuple, (AllocError, Tuple)>
         ensures { MatchResult result (λ tuple. tuple ≡ self) (λ back. back.1 ≡ self) }
     {

@@ -27,7 +27,7 @@ impl Model for ShortWord {
 }
 
 impl ShortWord {
-    /// The word in place, or `None` where it has too many bytes.
+    /// The word in place, or `None` if it has too many bytes.
     pub(crate) fn of(word: &str) -> Option<ShortWord>
         ensures { IfSome result (λ short. short ≡ word.now) }
     {
@@ -66,7 +66,7 @@ impl ShortWord {
     }
 }
 
-/// Puts the bytes at the beginning of the room.
+/// Puts the bytes at the beginning of the buffer.
 fn put(room: &mut [u8], bytes: &[u8])
     requires { length bytes.now ≤ length room.old }
     ensures front { take (length bytes.now) room.new ≡ bytes.now }

@@ -196,7 +196,8 @@ impl Entries {
         }
     }
 
-    /// How far the number is above its place, where it has one: as far as those beside it, unless entries between them have left.
+    /// How far the number is above its place, if it has one: as far as those beside it, unless entries between them
+    /// have left.
     pub(crate) fn shift_of(&self, number: u64) -> u64 {
         match self.places.get_index_of(&number) {
             Some(place) => number.saturating_sub(place as u64),
@@ -263,7 +264,7 @@ impl Entries {
         set_end_in(place, end);
     }
 
-    /// Holds the entry of a number, in the place of the holder's older hold of it, which takes no memory.
+    /// Holds the entry of a number, in the place of the holder's older hold of it, which allocates nothing.
     pub(crate) fn hold(&mut self, number: u64, holder: u64, taken: bool) -> Result<(), AllocError>
         ensures ok { OnOk result (self.new.items ≡ changed number (held_by holder taken) self.old.items) }
         ensures err { OnErr result (self.new.items ≡ self.old.items) }

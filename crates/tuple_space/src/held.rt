@@ -31,7 +31,7 @@ fn place_for(rows: &[Held], new: Held) -> usize
     rows.len()
 }
 
-/// Whether the row at a place is on the entry of this number.
+/// Whether the row at a position is on the entry of this number.
 fn is_row_at(rows: &[Held], place: usize, number: u64) -> bool
     ensures { MatchBool result
         ((place < length rows.now) × HoldsAt (λ r. r.entry ≡ number) rows.now place)

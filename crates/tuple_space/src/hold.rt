@@ -20,7 +20,7 @@ pub struct Hold {
     pub permanent: bool,
 }
 
-/// The holds of one entry, the first of which takes no memory: most entries that are held have one holder.
+/// The holds of one entry, the first of which allocates nothing: most entries that are held have one holder.
 #[derive(Debug, Drop)]
 pub struct Holds {
     rows: SmallVec<Hold, 1>,

@@ -21,7 +21,7 @@ pub struct Write {
     pub taken: bool,
 }
 
-/// Places for writes, the first four of which take no memory; an unused place holds none.
+/// Places for writes, the first four of which allocate nothing; an unused place holds none.
 pub(crate) type Rows = SmallVec<Option<Write>, 4>;
 
 /// Writes in order.
@@ -81,7 +81,7 @@ impl Writes {
         self.rows.len()
     }
 
-    /// The write at a place.
+    /// The write at a position.
     pub(crate) fn at(&self, place: usize) -> &Write
         requires { place < length self.now }
         ensures { result.now ≡ slice_index_or self.now place result.now }
@@ -92,7 +92,7 @@ impl Writes {
         }
     }
 
-    /// The write at a place, or `None` past the last.
+    /// The write at a position, or `None` past the last.
     pub fn get(&self, place: usize) -> Option<&Write>
         ensures { option_copied result ≡ slice_get self.now place }
     {

@@ -28,7 +28,7 @@ fn number_of(tuple: &Tuple) -> Option<i128> {
     }
 }
 
-/// What is reported of the jobs that is available: the number of the one that is read.
+/// The available job: the number of the one that is read.
 fn read(space: &Space, template: &Template) -> Result<Option<i128>, SpaceError> {
     match space.rdp(template)? {
         Some((_, tuple)) => Ok(number_of(&tuple)),

@@ -84,8 +84,8 @@ fn power(base: u64, n: usize) -> u64 {
     power
 }
 
-/// What the digits of a number to base `n` cost as locations; `None` where two are the same, or one of a placed
-/// facility isn't its place.
+/// What the digits of a number to base `n` cost as locations; `None` if two are the same, or one of a placed facility
+/// isn't its place.
 fn cost_of(instance: &Instance, node: &Partial, number: u64) -> Option<i128> {
     let n = instance.size();
     let mut total: i128 = 0;
@@ -121,8 +121,8 @@ pub fn least_cost(instance: &Instance, node: &Partial) -> i128 {
     least
 }
 
-/// The node whose digits to base `n + 1` are 0 for a free facility, and else one more than its location; `None` where
-/// two are the same.
+/// The node whose digits to base `n + 1` are 0 for a free facility, and else one more than its location; `None` if two
+/// are the same.
 fn node_of(alloc: Global, n: u16, number: u64) -> Result<Option<Partial>, AllocError> {
     if n == 0 || n > 256 {
         return Ok(None);

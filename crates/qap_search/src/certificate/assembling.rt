@@ -167,7 +167,7 @@ pub(crate) fn certificate_with(
     }
 }
 
-/// The permutation of these locations; `None` where they are none.
+/// The permutation of these locations; `None` if they are none.
 pub(crate) fn permutation_of(
     alloc: Global,
     locations: &Numbers<'_>,
@@ -180,8 +180,7 @@ pub(crate) fn permutation_of(
     permutation_in(locations, room)
 }
 
-/// Likewise for the numbers of a list, in an empty list that is there: where that has room for them, no memory is
-/// taken.
+/// Likewise for the numbers of a list, in a given empty list: if that has capacity for them, nothing is allocated.
 pub(crate) fn permutation_in(
     locations: &Numbers<'_>,
     room: Vec<u16>,
@@ -200,7 +199,7 @@ pub(crate) fn permutation_in(
     }
 }
 
-/// The same numbers in 16 bits; `None` where one of them doesn't fit.
+/// The same numbers in 16 bits; `None` if one of them doesn't fit.
 fn small_numbers(numbers: &Numbers<'_>, room: Vec<u16>) -> Result<Option<Vec<u16>>, AllocError>
     requires { room.items ≡ [] }
     ensures { IfOk result (λ found. MatchOption found

@@ -72,8 +72,8 @@ fn least_shown_by_all(
     Ok(found)
 }
 
-/// The lesser of this number and of what duals show at the node: the cost of its placed facilities among themselves, and the
-/// sum of the duals.
+/// The smaller of this number and of what duals show at the node: the cost of its placed facilities among themselves,
+/// and the sum of the duals.
 fn least_with(instance: &Instance, node: &Partial, duals: &Duals, least: i128) -> i128
     requires same_size { instance.now.size ≡ node.now.size }
     ensures { AreDuals (free_count node.now) duals.now.u.items duals.now.v.items →

@@ -97,8 +97,8 @@ impl Branch {
     }
 }
 
-/// The branch of a node, from a least assignment with its duals; of equal facilities and locations the first, facilities before
-/// locations. `None` where nothing is free.
+/// The branch of a node, from a least assignment with its duals; of equal facilities and locations the first,
+/// facilities before locations. `None` if nothing is free.
 pub(crate) fn branch_of(
     alloc: Global,
     guide: &Guide<'_>,
@@ -305,7 +305,7 @@ fn wider(widest: &Widest, free: &Free<'_>) -> (Side, u16)
     }
 }
 
-/// Where the greatest number is, the first of equal ones.
+/// The position of the greatest number; of equal ones the first.
 fn first_greatest(numbers: &[i128]) -> usize
     requires some { 0 < length numbers.now }
     ensures { result < length numbers.now }

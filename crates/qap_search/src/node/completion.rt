@@ -50,7 +50,7 @@ fn completion(
     Ok(put_each(places, free.facilities, matched))
 }
 
-/// Makes the list that of the numbers that are at these places.
+/// Makes the list that of the numbers that are at these positions.
 fn pick(numbers: &[u16], at: &[u16], picked: &mut Vec<u16>) -> Result<(), AllocError>
     requires { (t : ℕ) → t < length at.now → slice_index at.now t < length numbers.now }
     ensures { OnOk result (picked.new.items ≡ map (slice_index numbers.now) at.now) }

@@ -22,7 +22,7 @@ pub struct Thought {
     pub candidate: Perm,
     /// What the candidate costs.
     pub cost: i128,
-    /// What to split the node on. `None` where nothing is free.
+    /// What to split the node on. `None` if nothing is free.
     pub branch: Option<Branch>,
 }
 

@@ -7,7 +7,7 @@ use tuple_match::Template;
 /// How far a search has come.
 #[derive(Clone, Copy, Debug, PartialEq, Eq)]
 pub struct Progress {
-    /// What the best permutation costs that was found so far. `None` where nobody has seen it yet.
+    /// What the best permutation costs that was found so far. `None` if nobody has seen it yet.
     pub cost: Option<i128>,
     /// How many nodes are decided.
     pub decided: u64,

@@ -78,7 +78,7 @@ pub(crate) fn bounded_of<R: Threads + Sync>(
     })
 }
 
-/// The lesser of the bound and of the value of the tuple's node, where that is open.
+/// The smaller of the bound and of the value of the tuple's node, where that is open.
 pub(crate) fn bound_with(
     instance: &RankedInstance,
     closing: &mut Closing,

@@ -132,7 +132,7 @@ fn make<L: Law>(
     }
 }
 
-/// The turn of the worker of this number, where there is one.
+/// The turn of the worker of this number, if there is one.
 fn turn<L: Law>(
     worker: usize,
     posts: &mut Vec<Post<L>>,
@@ -149,7 +149,7 @@ fn turn<L: Law>(
     Ok(())
 }
 
-/// Loses the worker of this number, where there is one.
+/// Loses the worker of this number, if there is one.
 fn lose<L: Law>(
     alloc: Global,
     rows: &Arc<RankedInstance>,
@@ -168,7 +168,7 @@ fn lose<L: Law>(
     Ok(())
 }
 
-/// What is reported of each worker.
+/// What is reported about each worker.
 fn reports_of<L: Law>(alloc: Global, posts: &[Post<L>]) -> Result<Vec<Report>, AllocError>
     ensures { IfOk result (λ reports. reports.items ≡ map report_of posts.now) }
 {

@@ -36,8 +36,8 @@ use std::alloc::{AllocError, Global};
 use tuple_match::{Field, Template, Tuple, does_match_law};
 use tuple_space::EntryId;
 
-/// Takes the tuple of the best permutation, where none is known of or the last evaluation's candidate costs less than
-/// that; else reads it, and then what has been prepared for its cost is written as it is.
+/// Takes the tuple of the best permutation, if none is known or the last evaluation's candidate costs less than that;
+/// else reads it, and then what has been prepared for its cost is written as it is.
 pub(crate) fn seek_best<L: Law, M: Room<L>>(
     alloc: Global,
     room: &mut M,
@@ -175,7 +175,7 @@ fn told_prepared(
     told_written(Ok(Some(cost)), txn, tally.with_best(cost))
 }
 
-/// Where the entry that was found is there to stay, what it leads to is written, and its cost is remembered.
+/// If the entry that was found is there to stay, what it leads to is written, and its cost is remembered.
 fn told_entry(
     alloc: Global,
     id: EntryId,
@@ -216,7 +216,7 @@ fn told_written(written: Result<Option<i128>, AllocError>, txn: Txn, tally: Tall
 }
 
 /// Writes what the best permutation of the entry, of this cost, leads to, and returns the cost of the incumbent after
-/// it. `None` where nothing can be written.
+/// it. `None` if nothing can be written.
 fn write(
     alloc: Global,
     txn: &mut Txn,

@@ -105,8 +105,8 @@ fn with_entries(
     Ok(all)
 }
 
-/// The tuple that is at this place, with its entry: the first is that of the split, and those after the children come
-/// last.
+/// The tuple that is at this position, with its entry: the first is that of the split, and those after the children
+/// come last.
 fn with_entry(place: usize, tuple: Tuple, entries: &[i128]) -> WithEntry
     ensures { result.tuple ≡ tuple }
 {

@@ -69,8 +69,8 @@ impl Ground {
         }
     }
 
-    /// Makes the matrix the reduced one of the node, in the memory that it has where that is enough. At an error it may be any matrix;
-    /// the call can be made again.
+    /// Makes the matrix the reduced one of the node, in its own memory if that suffices. At an error it may be any
+    /// matrix; the call can be made again.
     pub(crate) fn reduce_into(
         &mut self,
         node: &Partial,

@@ -166,7 +166,7 @@ pub(crate) struct Outcome {
 }
 
 impl Tally {
-    /// Nothing is known of and nothing has been counted.
+    /// Nothing is known, and nothing has been counted.
     pub(crate) fn new() -> Tally
         ensures { result ≡ record { best = None; accepted = 0; refused = 0 } }
     {
@@ -189,7 +189,7 @@ impl Tally {
         }
     }
 
-    /// Whether no best permutation is known of, or the evaluation's candidate costs less than that.
+    /// Whether no incumbent is known, or the evaluation's candidate costs less than that.
     pub(crate) fn is_hopeful(&self, last: &LastThought) -> bool
         ensures { result ≡ is_hopeful self.now.best (Some (thought_of last.now)) }
     {

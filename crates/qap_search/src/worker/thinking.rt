@@ -24,7 +24,8 @@ use std::mem::replace;
 use tuple_match::Tuple;
 use tuple_space::EntryId;
 
-/// Thinks on the node that was taken, where this best cost is known; `false` where its entry's lease ends. At an error nothing changed.
+/// Evaluates the node that was taken, given this best cost; `false` if its entry's lease ends. At an error nothing
+/// changed.
 pub(crate) fn think_in<G: Gate>(
     tools: &Tools,
     gate: &G,

@@ -79,7 +79,7 @@ fn find_best<L: Law, M: Room<L>>(
     seek_best(tools.alloc, room, &tools.best, txn, last, prepared, tally)
 }
 
-/// Whether no best permutation is known of, or the last evaluation's candidate costs less than that.
+/// Whether no incumbent is known, or the last evaluation's candidate costs less than that.
 pub(crate) fn is_hopeful(tally: &Tally, last: &Option<LastThought>) -> bool
     ensures { result ≡ is_hopeful tally.now.best (last_of last.now) }
 {
