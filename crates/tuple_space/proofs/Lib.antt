@@ -1,4 +1,5 @@
 pub mod ClassLemmas
+pub mod CountLemmas
 pub mod EndLemmas
 pub mod EntryLemmas
 pub mod HeldLemmas

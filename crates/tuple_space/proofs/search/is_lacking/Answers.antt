@@ -1,6 +1,6 @@
 use Rattle.std.proofs.Common.{sym}
 use Rattle.tuple_space.specs.Entry.{is_counted}
-use Rattle.tuple_space.proofs.IndexLemmas.{count_none, count_stands}
+use Rattle.tuple_space.proofs.CountLemmas.{count_none, count_stands}
 use Rattle.tuple_space.proofs.search.is_lacking.Goals as goal
 
 pub returns-in-Some : goal.returns-in-Some
