@@ -1,15 +1,12 @@
-//! What no clause states about nodes and the enumeration: that calls succeed, and the costs of worked examples.
+//! What no clause says of nodes and of the listing: that calls succeed, and the costs of worked examples.
 
-use qap_cost::{Instance, Matrix, Partial, Perm, cost, least_by_listing, marked, product};
+use crate::tests::{cost_between, instance};
+use qap_cost::{Instance, Matrix, Partial, Perm, least_by_listing, marked, product};
 use std::alloc::{AllocError, Global};
 use std::process::Abort;
 use std::test::Fail;
 
-fn instance(alloc: Global, n: usize, a: &[i64], b: &[i64]) -> Result<Option<Instance>, AllocError> {
-    Ok(Instance::new(n, Vec::from_slice(alloc, a)?, Vec::from_slice(alloc, b)?).ok())
-}
-
-/// The node of size `n` that places no facility, if there is one.
+/// The node of size `n` that places no facility, where there is one.
 fn root(alloc: Global, n: usize) -> Result<Option<Partial>, AllocError> {
     if n == 0 || n > 256 {
         return Ok(None);
@@ -70,13 +67,22 @@ static NODES: [(usize, &[(u16, u16)], &[u16], &[u16]); 5] = [
     (4, &[(2, 3), (0, 0), (3, 2), (1, 1)], &[], &[]),
 ];
 
-/// Fails unless the node with these pairs gives this answer for each number.
-fn expect_answers(rt: &impl Abort, node: &Partial, pairs: &[(u16, u16)], locations: &[u16]) {
+/// Fails unless the node with these pairs says this of each number, and these are free.
+fn expect_node(
+    rt: &impl Abort,
+    node: &Partial,
+    pairs: &[(u16, u16)],
+    (facilities, locations): (&[u16], &[u16]),
+) -> Result<(), AllocError> {
     for k in 0..6 {
         let placed = place_of(pairs, k);
         let want = (locations.contains(&k), placed.is_some(), placed);
         assert_eq!(rt; answers(node, k), want, "at {k} of {pairs:?}");
     }
+    let (free_facilities, free_locations) = free_of(node)?;
+    assert_eq!(rt; free_facilities.as_slice(), facilities);
+    assert_eq!(rt; free_locations.as_slice(), locations);
+    Ok(())
 }
 
 #[test]
@@ -85,36 +91,10 @@ fn placed_and_free(rt: HostRuntime) -> Result<(), Fail> {
         let Some(node) = node(rt.alloc(), n, pairs)? else {
             panic!(rt; "{pairs:?} of {n} is refused");
         };
-        let node = node.copy()?;
         let count = pairs.len();
         assert_eq!(rt; counts(&node), [n, count, count, count]);
-        let (free_facilities, free_locations) = free_of(&node)?;
-        assert_eq!(rt; free_facilities.as_slice(), facilities);
-        assert_eq!(rt; free_locations.as_slice(), locations);
-        expect_answers(&rt, &node, pairs, locations);
+        expect_node(&rt, &node.copy()?, pairs, (facilities, locations))?;
     }
-    Ok(())
-}
-
-/// How many numbers there are, and the first and the last.
-fn ends(numbers: &[u16]) -> (usize, Option<u16>, Option<u16>) {
-    (
-        numbers.len(),
-        numbers.first().copied(),
-        numbers.last().copied(),
-    )
-}
-
-#[test]
-fn free_of_the_greatest_size(rt: HostRuntime) -> Result<(), Fail> {
-    let alloc = rt.alloc();
-    let Some(node) = node(alloc, 256, &[(255, 255), (1, 0)])? else {
-        panic!(rt; "a node is refused");
-    };
-    let (facilities, locations) = free_of(&node)?;
-    assert_eq!(rt; ends(&locations), (254, Some(1), Some(254)));
-    assert_eq!(rt; facilities.first(), Some(&0));
-    assert!(rt; !node.is_free(256));
     Ok(())
 }
 
@@ -126,17 +106,9 @@ fn fixed_cost(instance: &Instance, node: &Partial) -> Option<i128> {
     Some(node.fixed_cost(instance))
 }
 
-/// What the permutation costs, where it is of the instance's size.
-fn cost_of(instance: &Instance, permutation: &Perm) -> Option<i128> {
-    if instance.size() != permutation.len() {
-        return None;
-    }
-    Some(cost(instance, permutation))
-}
-
-/// The pairs that are placed, and their cost.
+/// The pairs that are placed, and what they cost.
 ///
-/// 4 * 2 = 8 if only facility 1 is at location 0; 7 * 6 + 3 * 5 + 1 * 2 + 4 * 2 = 67 if 0 is also at 1.
+/// 4 * 2 = 8 where facility 1 alone stands at location 0; 7 * 6 + 3 * 5 + 1 * 2 + 4 * 2 = 67 where 0 stands at 1 too.
 static FIXED: [(&[(u16, u16)], i128); 6] = [
     (&[], 0),
     (&[(0, 0)], 14),
@@ -149,7 +121,7 @@ static FIXED: [(&[(u16, u16)], i128); 6] = [
 #[test]
 fn fixed_costs(rt: HostRuntime) -> Result<(), Fail> {
     let alloc = rt.alloc();
-    let Some(instance) = instance(alloc, 2, &[7, 3, 1, 4], &[2, 2, 5, 6])? else {
+    let Ok(instance) = instance(alloc, 2, &[7, 3, 1, 4], &[2, 2, 5, 6])? else {
         panic!(rt; "an instance is refused");
     };
     for (pairs, want) in FIXED {
@@ -161,7 +133,7 @@ fn fixed_costs(rt: HostRuntime) -> Result<(), Fail> {
     let Ok(full) = Perm::new(vec![in alloc; 1, 0]?) else {
         panic!(rt; "a permutation is refused");
     };
-    assert_eq!(rt; cost_of(&instance, &full), Some(67));
+    assert_eq!(rt; cost_between(&instance, &full), Some(67));
     Ok(())
 }
 
@@ -208,14 +180,14 @@ static LEAST: [(usize, &[i64], &[i64], i128); 4] = [
 fn least_costs_of_worked_examples(rt: HostRuntime) -> Result<(), Fail> {
     let alloc = rt.alloc();
     for (n, a, b, want) in LEAST {
-        let Some(instance) = instance(alloc, n, a, b)? else {
+        let Ok(instance) = instance(alloc, n, a, b)? else {
             panic!(rt; "an instance is refused");
         };
         let Some((least, permutation)) = least(alloc, &instance)? else {
             panic!(rt; "an instance is too large");
         };
         assert_eq!(rt;
-            (least, cost_of(&instance, &permutation)),
+            (least, cost_between(&instance, &permutation)),
             (want, Some(want))
         );
         if n == 2 {
@@ -225,12 +197,21 @@ fn least_costs_of_worked_examples(rt: HostRuntime) -> Result<(), Fail> {
     Ok(())
 }
 
-/// Asserts what is free of a node that places 1 at 2 and 3 at 0, in a list that is kept.
-fn assert_listed(rt: &impl Abort, node: &Partial, list: &mut Vec<u16>) -> Result<(), Fail> {
+/// Fails unless this is what is free of a node that places 1 at 2 and 3 at 0, in a list that is kept.
+fn expect_listed(rt: &impl Abort, node: &Partial, list: &mut Vec<u16>) -> Result<(), AllocError> {
     node.list_free_facilities(list)?;
     assert_eq!(rt; list.as_slice(), [0, 2].as_slice());
     node.list_free_locations(list)?;
     assert_eq!(rt; list.as_slice(), [1, 3].as_slice());
+    Ok(())
+}
+
+/// Fails unless a node of two facilities that are placed is the empty one once it is made so.
+fn expect_reset(rt: &impl Abort, node: &mut Partial) -> Result<(), AllocError> {
+    node.reserve()?;
+    assert_eq!(rt; counts(node), [4, 2, 2, 2]);
+    node.reset(3);
+    assert_eq!(rt; counts(node), [3, 0, 0, 0]);
     Ok(())
 }
 
@@ -240,17 +221,33 @@ fn memory_is_kept(rt: HostRuntime) -> Result<(), Fail> {
     let Some(mut node) = node(alloc, 4, &[(1, 2), (3, 0)])? else {
         panic!(rt; "a node is refused");
     };
-    let mut list = vec![in alloc; 9; 7]?;
-    assert_listed(&rt, &node, &mut list)?;
-    node.reserve()?;
-    assert_eq!(rt; counts(&node), [4, 2, 2, 2]);
-    node.reset(3);
-    assert_eq!(rt; counts(&node), [3, 0, 0, 0]);
-    let locations = Perm::new(vec![in alloc; 1, 0]?)?.into_locations();
-    assert_eq!(rt; locations.as_slice(), [1, 0].as_slice());
-    let room = Matrix::with_room(alloc, 2)?;
-    assert_eq!(rt; (room.size(), Matrix::empty(alloc).size()), (0, 0));
-    let matrix = Matrix::new(1, vec![in alloc; 7]?).ok_or("count")?;
-    assert_eq!(rt; matrix.into_entries().as_slice(), [7].as_slice());
+    expect_listed(&rt, &node, &mut vec![in alloc; 9; 7]?)?;
+    expect_reset(&rt, &mut node)?;
+    Ok(())
+}
+
+/// The locations that come back of a permutation of two.
+fn locations_back(alloc: Global) -> Result<Option<Vec<u16>>, AllocError> {
+    match Perm::new(vec![in alloc; 1, 0]?) {
+        Ok(permutation) => Ok(Some(permutation.into_locations())),
+        Err(_) => Ok(None),
+    }
+}
+
+/// The entries that come back of a matrix of size 1.
+fn entries_back(alloc: Global) -> Result<Option<Vec<i128>>, AllocError> {
+    match Matrix::new(1, vec![in alloc; 7]?) {
+        Some(matrix) => Ok(Some(matrix.into_entries())),
+        None => Ok(None),
+    }
+}
+
+#[test]
+fn parts_come_back(rt: HostRuntime) -> Result<(), Fail> {
+    let alloc = rt.alloc();
+    assert_eq!(rt; locations_back(alloc)?.as_deref(), Some([1, 0].as_slice()));
+    assert_eq!(rt; entries_back(alloc)?.as_deref(), Some([7].as_slice()));
+    assert_eq!(rt; Matrix::with_room(alloc, 2)?.size(), 0);
+    assert_eq!(rt; Matrix::empty(alloc).size(), 0);
     Ok(())
 }
