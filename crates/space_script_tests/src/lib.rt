@@ -2,6 +2,4 @@
 #![tactic(auto)]
 
 #[cfg(test)]
-mod run_tests;
-#[cfg(test)]
 mod tests;
