@@ -2,8 +2,8 @@
 #![tactic(auto)]
 
 #[cfg(test)]
-mod jobs;
-#[cfg(test)]
 mod limit_tests;
+#[cfg(test)]
+mod tests;
 #[cfg(test)]
 mod thread_tests;

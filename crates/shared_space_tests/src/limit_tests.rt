@@ -5,7 +5,7 @@ ghost use Rattle.std.specs.Prelude.{◌≡◌, IfOk, Some, vec_len};
 ghost use Rattle.shared_space.specs.Law.{IsFree};
 ghost use Rattle.shared_space.specs.Place.{Place};
 
-use crate::jobs::{count_jobs, job};
+use crate::tests::{count_jobs, job};
 use crate::thread_tests::write_in_four;
 use shared_space::{CommitError, Law, Share, Shared};
 use space_txn::{Txn, TxnSpace};

@@ -2,7 +2,7 @@ ghost use Rattle.std.specs.Prelude.{◌≡◌, IfOk, None, vec_len};
 ghost use Rattle.shared_space.specs.Law.{IsFree};
 ghost use Rattle.shared_space.specs.Place.{Place};
 
-use crate::jobs::{any_job, count_jobs, job, write};
+use crate::tests::{any_job, count_jobs, job, write};
 use shared_space::{CommitError, Law, Room, Share, Shared, SharedError, Via};
 use space_txn::{TxnError, TxnSpace};
 use std::alloc::Global;
