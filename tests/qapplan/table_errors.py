@@ -29,9 +29,6 @@ TOO_FAR = ("lie too far apart: with the digits after its point dropped, a distan
            "coordinates, keep fewer decimals or choose a larger unit")
 PAIR_FIELDS = "write two names and a number on each line"
 
-# What the shipped programs say once they are as new as the sources.
-NEW = (NO_NUMBER, '`duplicates = "sum"`')
-
 MANY = [f"n{number}" for number in range(257)]
 
 # The text of a matrix with names, and what is said of it.
@@ -182,8 +179,6 @@ def cases():
     for number, (kind, (text, message)) in enumerate(tables):
         yield f"case: {kind} {number}: {message}\nbytes plan.toml: {escaped(PLANS[kind])}\nbytes x.csv: {escaped(text)}"
         yield f"run: qapplan solve plan.toml\nstderr: error: x.csv: {message}\nstatus: 1"
-        if kind in ("halves", "sums") or any(part in message for part in NEW):
-            yield "unshipped:"
 
 
 def escaped(text):
