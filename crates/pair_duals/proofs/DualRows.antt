@@ -10,28 +10,34 @@ use Rattle.pair_duals.proofs.Values.{place_in_square, value_read, value_within}
 use Rattle.std.proofs.lemmas.Nat.{mul-le}
 
 -- what lies from a place on
-taken : (limit m s : ℕ) (xs : List ℤ) (f : ℕ → ℤ) → s + m ≤ length xs → AllWithin limit xs → ((k : ℕ) → k < m → get_or xs (s + k) (pos 0) ≡ f k) → IsDualRow limit m f (take m (drop s xs))
-taken limit m s xs f inside range same =
+taken : (limit m s : ℕ) (xs : List ℤ) (f : ℕ → ℤ) → s + m ≤ length xs → ((k : ℕ) → k < m → get_or xs (s + k) (pos 0) ≡ f k) → ((k : ℕ) → k < m → unsigned_abs (f k) ≤ limit) → IsDualRow limit m f (take m (drop s xs))
+taken limit m s xs f inside same small =
     let room : m ≤ length (drop s xs) = omega (arith, length-drop s xs) in
     let count : length (take m (drop s xs)) ≡ m = length-take-le m (drop s xs) room in
-    let at : (k : ℕ) → k < m → get_or (take m (drop s xs)) k (pos 0) ≡ get_or xs (s + k) (pos 0) = λ k below. get_or-take m (drop s xs) k (pos 0) below ∙ get_or-drop s xs k (pos 0) in
+    let entries : (k : ℕ) → k < m → get_or (take m (drop s xs)) k (pos 0) ≡ f k = λ k below. get_or-take m (drop s xs) k (pos 0) below ∙ get_or-drop s xs k (pos 0) ∙ same k below in
     record {
       count = count;
-      entries = λ k below. at k below ∙ same k below;
+      entries = entries;
       range = record {
         each = λ k below.
             let h : k < m = omega (arith, count) in
-            subst (λ z. unsigned_abs z ≤ limit) (sym (at k h)) (range.each (s + k) (omega arith));
+            subst (λ z. unsigned_abs z ≤ limit) (sym (entries k h)) (small k h);
       };
     }
 
--- m duals taken from a place of their list are a row
+-- m numbers taken from a place of their list are a row
+pub IsDualRow-taken_small : {X : Type 0} (value : X → ℤ) (limit m s n : ℕ) (xs : List X) (f : ℕ → ℤ) → n ≡ m → s + m ≤ length xs → ((k : ℕ) → k < m → get_or (map value xs) (s + k) (pos 0) ≡ f k) → ((k : ℕ) → k < m → unsigned_abs (f k) ≤ limit)
+    → IsDualRow limit m f (map value (take n (drop s xs)))
+IsDualRow-taken_small value limit m s n xs f count inside same small =
+    let whole : take m (drop s (map value xs)) ≡ map value (take n (drop s xs)) =
+    ap (take m) (drop-map value s xs) ∙ take-map value m (drop s xs) ∙ ap (λ k. map value (take k (drop s xs))) (sym count) in
+    subst (IsDualRow limit m f) whole (taken limit m s (map value xs) f (omega (arith, length-map xs value)) same small)
+
+-- the same where all numbers of the list are duals
 pub IsDualRow-taken : {X : Type 0} (value : X → ℤ) (limit m s n : ℕ) (xs : List X) (f : ℕ → ℤ) → n ≡ m → s + m ≤ length xs → AllWithin limit (map value xs) → ((k : ℕ) → k < m → get_or (map value xs) (s + k) (pos 0) ≡ f k)
     → IsDualRow limit m f (map value (take n (drop s xs)))
 IsDualRow-taken value limit m s n xs f count inside range same =
-    let whole : take m (drop s (map value xs)) ≡ map value (take n (drop s xs)) =
-    ap (take m) (drop-map value s xs) ∙ take-map value m (drop s xs) ∙ ap (λ k. map value (take k (drop s xs))) (sym count) in
-    subst (IsDualRow limit m f) whole (taken limit m s (map value xs) f (omega (arith, length-map xs value)) range same)
+    IsDualRow-taken_small value limit m s n xs f count inside same (λ k below. subst (λ z. unsigned_abs z ≤ limit) (same k below) (range.each (s + k) (omega (arith, length-map xs value))))
 
 -- where a row of a layer ends
 pub row_in_layers : (m j i : ℕ) → j < m → i < m → (j * m + i) * m + m ≤ cube m

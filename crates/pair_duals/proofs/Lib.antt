@@ -1,3 +1,4 @@
+pub mod Children
 pub mod CostSplits
 pub mod CostSteps
 pub mod Divisors

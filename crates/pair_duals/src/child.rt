@@ -1,8 +1,8 @@
 //! The matrix of a child.
 
-ghost use Rattle.std.specs.Prelude.{◌≡◌, ◌+◌, ◌-◌, ◌*◌, ◌<◌, length, map, remove, unsigned_abs, ◌≤◌, ◌^◌, IfOk, ℕ, slice_index};
+ghost use Rattle.std.specs.Prelude.{◌≡◌, ◌+◌, ◌-◌, ◌*◌, ◌<◌, length, map, remove, unsigned_abs, ◌≤◌, ◌^◌, IfOk, OnOk, ℕ, slice_index};
 ghost use Rattle.pair_duals.specs.DualRow.{IsDualRow};
-ghost use Rattle.pair_duals.specs.Filling.{AreEntries, FillsPart, FillsRows};
+ghost use Rattle.pair_duals.specs.Filling.{FillsPart, FillsRows};
 ghost use Rattle.pair_duals.specs.Shared.{beta_along, entry_from, entry_to};
 ghost use Rattle.pair_duals.specs.Range.{IsInScale};
 ghost use Rattle.pair_duals.specs.Reduced.{AreWithin, child_entry, count_of, past};
@@ -12,8 +12,10 @@ use crate::filling::write;
 use crate::number::Number;
 use crate::pairs::{left_of, scaled_entry};
 use crate::reduced::Reduced;
+use crate::residuals::Residuals;
 use qap_cost::Instance;
 use std::alloc::{AllocError, Global};
+use std::mem::replace;
 
 /// The numbers without that at place `h`, in the memory of a list.
 pub fn without(mut list: Vec<u16>, numbers: &[u16], h: usize) -> Result<Vec<u16>, AllocError>
@@ -26,9 +28,8 @@ pub fn without(mut list: Vec<u16>, numbers: &[u16], h: usize) -> Result<Vec<u16>
     Ok(list)
 }
 
-/// For each column of a parent what all entries there share in a child that is put at some location: the entry of B
-/// that leads there, the entry that leads back, and the dual of the facility that is put there for the column's
-/// location.
+/// For each column of a child what all entries there share: the entry of B that leads to the location of the placed
+/// facility, the entry that leads back, and the dual of that facility for the column's location.
 #[derive(Drop)]
 pub struct Shared<N: Number> {
     pub there: Vec<i64>,
@@ -100,30 +101,29 @@ fn write_betas<N: Number>(duals: &PairDuals<N>, columns: &[u16], j: usize, l: us
     }
 }
 
-/// What the entries of each column of `parent` share where row `h` is put at column `g`, in the memory of another.
-pub fn share_columns<N: Number>(
+/// What the entries of each of the columns share where facility number `j` is put at location number `l`, in the memory
+/// of another.
+fn share_columns<N: Number>(
     shared: Shared<N>,
     instance: &Instance,
     duals: &PairDuals<N>,
-    parent: &Reduced<N>,
-    h: usize,
-    g: usize,
+    columns: &[u16],
+    j: usize,
+    l: usize,
 ) -> Result<Shared<N>, AllocError>
-    requires row { h < count_of parent.now }
-    requires column { g < count_of parent.now }
     requires size { instance.now.size ≡ duals.now.size }
-    requires within { AreWithin duals.now parent.now.rows parent.now.columns }
-    ensures there { IfOk result (λ s. IsDualRow (10 ^ 9) (length parent.now.columns) (entry_to instance.now duals.now parent.now.columns (slice_index parent.now.columns g)) s.there.items) }
-    ensures back { IfOk result (λ s. IsDualRow (10 ^ 9) (length parent.now.columns) (entry_from instance.now duals.now parent.now.columns (slice_index parent.now.columns g)) s.back.items) }
-    ensures own { IfOk result (λ s. IsDualRow N.limits.dual (length parent.now.columns) (beta_along duals.now parent.now.columns (slice_index parent.now.rows h) (slice_index parent.now.columns g)) (map N.value s.own.items)) }
+    requires columns { (c : ℕ) → c < length columns.now → slice_index columns.now c < length duals.now.locations }
+    requires j_in { j < length duals.now.facilities }
+    requires l_in { l < length duals.now.locations }
+    ensures there { IfOk result (λ s. IsDualRow (10 ^ 9) (length columns.now) (entry_to instance.now duals.now columns.now l) s.there.items) }
+    ensures back { IfOk result (λ s. IsDualRow (10 ^ 9) (length columns.now) (entry_from instance.now duals.now columns.now l) s.back.items) }
+    ensures own { IfOk result (λ s. IsDualRow N.limits.dual (length columns.now) (beta_along duals.now columns.now j l) (map N.value s.own.items)) }
 {
     let Shared {
         mut there,
         mut back,
         mut own,
     } = shared;
-    let (rows, columns) = (parent.rows(), parent.columns());
-    let (j, l) = (usize::from(rows[h]), usize::from(columns[g]));
     there.resize(columns.len(), 0)?;
     back.resize(columns.len(), 0)?;
     own.resize(columns.len(), N::narrow(0))?;
@@ -133,86 +133,106 @@ pub fn share_columns<N: Number>(
     Ok(Shared { there, back, own })
 }
 
-/// The entries of the child of `parent` that puts row `h` at column `g`, in the memory of a list.
-pub fn child_entries<N: Number>(
-    mut list: Vec<N>,
-    instance: &Instance,
-    duals: &PairDuals<N>,
-    parent: &Reduced<N>,
-    h: usize,
-    g: usize,
-    shared: &Shared<N>,
-) -> Result<Vec<N>, AllocError>
-    requires row { h < count_of parent.now }
-    requires column { g < count_of parent.now }
-    requires size { instance.now.size ≡ duals.now.size }
-    requires in_scale { IsInScale N.limits instance.now duals.now.scale }
-    requires within { AreWithin duals.now parent.now.rows parent.now.columns }
-    requires there { IsDualRow (10 ^ 9) (length parent.now.columns) (entry_to instance.now duals.now parent.now.columns (slice_index parent.now.columns g)) shared.now.there.items }
-    requires back { IsDualRow (10 ^ 9) (length parent.now.columns) (entry_from instance.now duals.now parent.now.columns (slice_index parent.now.columns g)) shared.now.back.items }
-    requires own { IsDualRow N.limits.dual (length parent.now.columns) (beta_along duals.now parent.now.columns (slice_index parent.now.rows h) (slice_index parent.now.columns g)) (map N.value shared.now.own.items) }
-    ensures length { IfOk result (λ v. length v.items ≡ (count_of parent.now - 1) * (count_of parent.now - 1)) }
-    ensures entries { IfOk result (λ v. AreEntries (count_of parent.now - 1) (child_entry instance.now duals.now parent.now.rows parent.now.columns parent.now.entries h g) (map N.value v.items)) }
-{
-    let m = parent.free() - 1;
-    list.resize(m * m, N::narrow(0))?;
-    fill_child(instance, duals, parent, &(h, g), shared, &mut list);
-    Ok(list)
+/// Residuals that are computed from the duals wherever they are read.
+#[derive(Drop)]
+pub struct ComputedResiduals<'a, N: Number> {
+    pub instance: &'a Instance,
+    pub duals: &'a PairDuals<N>,
 }
 
-/// Writes the entries of the child of `parent` that puts a row at a column.
+impl<N: Number> Residuals<N> for ComputedResiduals<'_, N> {
+    ghost problem = { λ s. s.instance.now };
+
+    ghost duals = { λ s. s.duals.now };
+
+    fn write_child(
+        &self,
+        shared: &mut Shared<N>,
+        parent: &Reduced<N>,
+        h: usize,
+        g: usize,
+        columns: &[u16],
+        entries: &mut [N],
+    ) -> Result<(), AllocError>
+        requires row { h < count_of parent.now }
+        requires column { g < count_of parent.now }
+        requires columns { columns.now ≡ remove parent.now.columns g }
+        requires size { self.now.instance.now.size ≡ self.now.duals.now.size }
+        requires in_scale { IsInScale N.limits self.now.instance.now self.now.duals.now.scale }
+        requires within { AreWithin self.now.duals.now parent.now.rows parent.now.columns }
+        requires room { length entries.old ≡ (count_of parent.now - 1) * (count_of parent.now - 1) }
+        ensures { OnOk result (FillsRows (count_of parent.now - 1) (child_entry self.now.instance.now self.now.duals.now parent.now.rows parent.now.columns parent.now.entries h g) (count_of parent.now - 1) (map N.value entries.old) (map N.value entries.new)) }
+    {
+        let alloc = *shared.there.allocator();
+        let (j, l) = (
+            usize::from(parent.rows()[h]),
+            usize::from(parent.columns()[g]),
+        );
+        let old = replace(shared, Shared::empty(alloc));
+        *shared = share_columns(old, self.instance, self.duals, columns, j, l)?;
+        fill_child(self, parent, &(h, g), columns, shared, entries);
+        Ok(())
+    }
+}
+
+/// Writes the entries of the child of `parent` that puts a row at a column; `columns` are the child's.
 fn fill_child<N: Number>(
-    instance: &Instance,
-    duals: &PairDuals<N>,
+    residuals: &ComputedResiduals<N>,
     parent: &Reduced<N>,
     seat: &(usize, usize),
+    columns: &[u16],
     shared: &Shared<N>,
     entries: &mut [N],
 )
     requires row { seat.now.0 < count_of parent.now }
     requires column { seat.now.1 < count_of parent.now }
-    requires size { instance.now.size ≡ duals.now.size }
-    requires in_scale { IsInScale N.limits instance.now duals.now.scale }
-    requires within { AreWithin duals.now parent.now.rows parent.now.columns }
-    requires there { IsDualRow (10 ^ 9) (length parent.now.columns) (entry_to instance.now duals.now parent.now.columns (slice_index parent.now.columns seat.now.1)) shared.now.there.items }
-    requires back { IsDualRow (10 ^ 9) (length parent.now.columns) (entry_from instance.now duals.now parent.now.columns (slice_index parent.now.columns seat.now.1)) shared.now.back.items }
-    requires own { IsDualRow N.limits.dual (length parent.now.columns) (beta_along duals.now parent.now.columns (slice_index parent.now.rows seat.now.0) (slice_index parent.now.columns seat.now.1)) (map N.value shared.now.own.items) }
+    requires columns { columns.now ≡ remove parent.now.columns seat.now.1 }
+    requires count { length columns.now + 1 ≡ count_of parent.now }
+    requires size { residuals.now.instance.now.size ≡ residuals.now.duals.now.size }
+    requires in_scale { IsInScale N.limits residuals.now.instance.now residuals.now.duals.now.scale }
+    requires within { AreWithin residuals.now.duals.now parent.now.rows parent.now.columns }
+    requires there { IsDualRow (10 ^ 9) (length columns.now) (entry_to residuals.now.instance.now residuals.now.duals.now columns.now (slice_index parent.now.columns seat.now.1)) shared.now.there.items }
+    requires back { IsDualRow (10 ^ 9) (length columns.now) (entry_from residuals.now.instance.now residuals.now.duals.now columns.now (slice_index parent.now.columns seat.now.1)) shared.now.back.items }
+    requires own { IsDualRow N.limits.dual (length columns.now) (beta_along residuals.now.duals.now columns.now (slice_index parent.now.rows seat.now.0) (slice_index parent.now.columns seat.now.1)) (map N.value shared.now.own.items) }
     requires room { length entries.old ≡ (count_of parent.now - 1) * (count_of parent.now - 1) }
-    ensures { FillsRows (count_of parent.now - 1) (child_entry instance.now duals.now parent.now.rows parent.now.columns parent.now.entries seat.now.0 seat.now.1) (count_of parent.now - 1) (map N.value entries.old) (map N.value entries.new) }
+    ensures { FillsRows (count_of parent.now - 1) (child_entry residuals.now.instance.now residuals.now.duals.now parent.now.rows parent.now.columns parent.now.entries seat.now.0 seat.now.1) (count_of parent.now - 1) (map N.value entries.old) (map N.value entries.new) }
 {
     for r in 0..parent.free() - 1 {
-        fill_child_row(instance, duals, parent, seat, shared, r, entries);
+        fill_child_row(residuals, parent, seat, columns, shared, r, entries);
     }
 }
 
 /// Writes row `r` of it.
 fn fill_child_row<N: Number>(
-    instance: &Instance,
-    duals: &PairDuals<N>,
+    residuals: &ComputedResiduals<N>,
     parent: &Reduced<N>,
     seat: &(usize, usize),
+    columns: &[u16],
     shared: &Shared<N>,
     r: usize,
     entries: &mut [N],
 )
     requires row { seat.now.0 < count_of parent.now }
     requires column { seat.now.1 < count_of parent.now }
-    requires size { instance.now.size ≡ duals.now.size }
-    requires in_scale { IsInScale N.limits instance.now duals.now.scale }
-    requires within { AreWithin duals.now parent.now.rows parent.now.columns }
-    requires there { IsDualRow (10 ^ 9) (length parent.now.columns) (entry_to instance.now duals.now parent.now.columns (slice_index parent.now.columns seat.now.1)) shared.now.there.items }
-    requires back { IsDualRow (10 ^ 9) (length parent.now.columns) (entry_from instance.now duals.now parent.now.columns (slice_index parent.now.columns seat.now.1)) shared.now.back.items }
-    requires own { IsDualRow N.limits.dual (length parent.now.columns) (beta_along duals.now parent.now.columns (slice_index parent.now.rows seat.now.0) (slice_index parent.now.columns seat.now.1)) (map N.value shared.now.own.items) }
+    requires columns { columns.now ≡ remove parent.now.columns seat.now.1 }
+    requires count { length columns.now + 1 ≡ count_of parent.now }
+    requires size { residuals.now.instance.now.size ≡ residuals.now.duals.now.size }
+    requires in_scale { IsInScale N.limits residuals.now.instance.now residuals.now.duals.now.scale }
+    requires within { AreWithin residuals.now.duals.now parent.now.rows parent.now.columns }
+    requires there { IsDualRow (10 ^ 9) (length columns.now) (entry_to residuals.now.instance.now residuals.now.duals.now columns.now (slice_index parent.now.columns seat.now.1)) shared.now.there.items }
+    requires back { IsDualRow (10 ^ 9) (length columns.now) (entry_from residuals.now.instance.now residuals.now.duals.now columns.now (slice_index parent.now.columns seat.now.1)) shared.now.back.items }
+    requires own { IsDualRow N.limits.dual (length columns.now) (beta_along residuals.now.duals.now columns.now (slice_index parent.now.rows seat.now.0) (slice_index parent.now.columns seat.now.1)) (map N.value shared.now.own.items) }
     requires room { length entries.old ≡ (count_of parent.now - 1) * (count_of parent.now - 1) }
     requires r_in { r < count_of parent.now - 1 }
-    ensures { FillsPart (count_of parent.now - 1) (child_entry instance.now duals.now parent.now.rows parent.now.columns parent.now.entries seat.now.0 seat.now.1) r (count_of parent.now - 1) (map N.value entries.old) (map N.value entries.new) }
+    ensures { FillsPart (count_of parent.now - 1) (child_entry residuals.now.instance.now residuals.now.duals.now parent.now.rows parent.now.columns parent.now.entries seat.now.0 seat.now.1) r (count_of parent.now - 1) (map N.value entries.old) (map N.value entries.new) }
 {
+    let (instance, duals) = (residuals.instance, residuals.duals);
     let (h, g) = *seat;
     let m = parent.free() - 1;
     let row = past(h, r);
-    let (rows, columns) = (parent.rows(), parent.columns());
+    let rows = parent.rows();
     let (i, j) = (usize::from(rows[row]), usize::from(rows[h]));
-    let l = usize::from(columns[g]);
+    let l = usize::from(parent.columns()[g]);
     let (facility, other) = (duals.facility(i), duals.facility(j));
     let a_there = scaled_entry(duals.scale(), instance.a(facility, other));
     let a_back = scaled_entry(duals.scale(), instance.a(other, facility));
@@ -220,16 +240,16 @@ fn fill_child_row<N: Number>(
     let own = duals.alpha(j, l, i);
     let (there, back, owns): (&[i64], &[i64], &[N]) = (&shared.there, &shared.back, &shared.own);
     for c in 0..m {
-        let column = past(g, c);
-        let k = usize::from(columns[column]);
+        let k = usize::from(columns[c]);
         let left = left_of(
             a_there,
-            there[column],
+            there[c],
             a_back,
-            back[column],
+            back[c],
             alpha[k].plus(beta[k]),
-            own.plus(owns[column]),
+            own.plus(owns[c]),
         );
+        let column = past(g, c);
         write(entries, m, r, c, parent.entry(row, column).plus(left));
     }
 }

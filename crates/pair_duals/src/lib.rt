@@ -10,15 +10,18 @@ mod least;
 mod number;
 mod pairs;
 mod reduced;
+mod residuals;
 mod scale;
 mod start;
 mod step;
 
+pub use child::ComputedResiduals;
 pub use duals::{MAX_SCALE, PairDuals, are_duals};
 pub use fitting::fits;
 pub use law::{child_law, closing_law, form_bound_law, pair_duals_law, seats_law};
 pub use number::Number;
 pub use pairs::residual;
 pub use reduced::Reduced;
+pub use residuals::Residuals;
 pub use scale::is_in_scale;
 pub use step::{cost_step, step_law};

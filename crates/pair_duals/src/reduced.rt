@@ -10,10 +10,11 @@ ghost use Rattle.pair_duals.specs.Range.{IsInReach, IsInScale};
 ghost use Rattle.pair_duals.specs.Seats.{child_at};
 ghost use Rattle.pair_duals.specs.Reduced.{Form, AreLeast, AreLeastOfRows, AreWithin, IsChild, IsFormOf, IsLine, IsNonNegative, IsStart, at, count_of, empty_form};
 
-use crate::child::{Shared, child_entries, share_columns, without};
+use crate::child::{ComputedResiduals, Shared, without};
 use crate::duals::PairDuals;
 use crate::least::{least_of_columns, least_of_rows, sum, take_both};
 use crate::number::Number;
+use crate::residuals::Residuals;
 use crate::start::{first_numbers, start_entries};
 use qap_cost::{Instance, Partial};
 use std::alloc::{AllocError, Global};
@@ -166,7 +167,7 @@ impl<N: Number> Reduced<N> {
     }
 
     /// Makes `child` the form of the child that puts row `h` at column `g`, in the memory of `child` if that suffices.
-    /// If memory runs out, `child` is the form with no rows.
+    /// If memory runs out, `child` is the form with no rows. The residuals of pairs are computed from the duals.
     pub fn child(
         &self,
         instance: &Instance,
@@ -185,19 +186,41 @@ impl<N: Number> Reduced<N> {
         ensures form { OnOk result ((y : Placement) → IsPlacement y → IsFormOf instance.now duals.now y self.now → IsFormOf instance.now duals.now (child_at y h g) child.new) }
         ensures refused { OnErr result (child.new ≡ empty_form) }
     {
+        self.child_with(&ComputedResiduals { instance, duals }, h, g, child)
+    }
+
+    /// The same by residuals of any kind.
+    pub fn child_with<R: Residuals<N>>(
+        &self,
+        residuals: &R,
+        h: usize,
+        g: usize,
+        child: &mut Reduced<N>,
+    ) -> Result<(), AllocError>
+        requires row { h < count_of self.now }
+        requires column { g < count_of self.now }
+        requires size { (R.problem residuals.now).size ≡ (R.duals residuals.now).size }
+        requires in_scale { IsInScale N.limits (R.problem residuals.now) (R.duals residuals.now).scale }
+        requires duals { AreDuals N.limits (R.duals residuals.now) }
+        requires within { AreWithin (R.duals residuals.now) self.now.rows self.now.columns }
+        ensures child { OnOk result (IsChild (R.problem residuals.now) (R.duals residuals.now) self.now h g child.new) }
+        ensures form { OnOk result ((y : Placement) → IsPlacement y → IsFormOf (R.problem residuals.now) (R.duals residuals.now) y self.now → IsFormOf (R.problem residuals.now) (R.duals residuals.now) (child_at y h g) child.new) }
+        ensures refused { OnErr result (child.new ≡ empty_form) }
+    {
         let alloc = *self.rows.allocator();
         let Reduced {
             rows,
             columns,
-            entries,
-            shared,
+            mut entries,
+            mut shared,
             ..
         } = replace(child, Reduced::empty(alloc));
         let value = self.value + self.entry(h, g).widen();
-        let shared = share_columns(shared, instance, duals, self, h, g)?;
-        let entries = child_entries(entries, instance, duals, self, h, g, &shared)?;
         let rows = without(rows, &self.rows, h)?;
         let columns = without(columns, &self.columns, g)?;
+        let m = self.free() - 1;
+        entries.resize(m * m, N::narrow(0))?;
+        residuals.write_child(&mut shared, self, h, g, &columns, &mut entries)?;
         *child = Reduced {
             value,
             rows,

@@ -15,4 +15,4 @@ returns g c =
     let value = g.N.Number.value in
     let R = c.args.parent.now in
     let all : c.loop-r.r ≡ count_of R - 1 = omega (arith, c.free-r-end.ensures.value) in
-    subst (λ (k : ℕ). FillsRows (count_of R - 1) (child_entry c.args.instance.now c.args.duals.now R.rows R.columns R.entries c.args.seat.now.0 c.args.seat.now.1) k (map value c.args.entries.now) (map value c.loop-r.entries)) all c.loop-r.invariant
+    subst (λ (k : ℕ). FillsRows (count_of R - 1) (child_entry c.args.residuals.now.instance.now c.args.residuals.now.duals.now R.rows R.columns R.entries c.args.seat.now.0 c.args.seat.now.1) k (map value c.args.entries.now) (map value c.loop-r.entries)) all c.loop-r.invariant

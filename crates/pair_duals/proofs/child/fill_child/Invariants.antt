@@ -6,4 +6,4 @@ use Rattle.pair_duals.proofs.child.fill_child.Given as goal
 abbrev pub invariant-loop-r : goal.invariant-loop-r
 invariant-loop-r g l =
     let value = g.N.Number.value in
-    FillsRows (count_of l.parent - 1) (child_entry l.instance l.duals l.parent.rows l.parent.columns l.parent.entries l.seat.0 l.seat.1) l.r (map value l.initial.entries) (map value l.entries)
+    FillsRows (count_of l.parent - 1) (child_entry l.residuals.instance.now l.residuals.duals.now l.parent.rows l.parent.columns l.parent.entries l.seat.0 l.seat.1) l.r (map value l.initial.entries) (map value l.entries)

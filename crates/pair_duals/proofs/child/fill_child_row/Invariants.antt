@@ -6,4 +6,4 @@ use Rattle.pair_duals.proofs.child.fill_child_row.Given as goal
 abbrev pub invariant-loop-c : goal.invariant-loop-c
 invariant-loop-c g l =
     let value = g.N.Number.value in
-    FillsPart (count_of l.parent - 1) (child_entry l.instance l.duals l.parent.rows l.parent.columns l.parent.entries l.seat.0 l.seat.1) l.r l.c (map value l.initial.entries) (map value l.entries)
+    FillsPart (count_of l.parent - 1) (child_entry l.residuals.instance.now l.residuals.duals.now l.parent.rows l.parent.columns l.parent.entries l.seat.0 l.seat.1) l.r l.c (map value l.initial.entries) (map value l.entries)
