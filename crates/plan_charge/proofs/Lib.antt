@@ -1,0 +1,4 @@
+pub mod Charged
+pub mod Extensions
+pub mod Nodes
+pub mod Tables
