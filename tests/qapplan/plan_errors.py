@@ -8,7 +8,7 @@ EMPTY = ",\n"
 
 SYNTAX = "write a key, `=` and a file in quotes on each line, as in `flows = \"trips.csv\"`"
 KEYS = ("a plan has the keys flows or trips, departments, distances or places, metric, decimals, decimal_mark, round, "
-        "symmetric, duplicates and fixed")
+        "symmetric, duplicates, title, y and fixed")
 NOT_ROUND = 'the key "round" must be a whole number from 0 to 9, without quotes, as in `round = 3`'
 NOT_SYMMETRIC = 'the key "symmetric" must be true or false, without quotes, as in `symmetric = true`'
 NOT_DECIMALS = 'the key "decimals" must be a whole number from 0 to 9, without quotes, as in `decimals = 2`'
@@ -51,6 +51,9 @@ PLANS = [
      'the key "departments" goes with "trips", which is missing: remove it, or add that one'),
     (f"{MATRICES}metric = 'squared'\n",
      'the key "metric" goes with "places", which is missing: remove it, or add that one'),
+    (f"{MATRICES}y = 'down'\n", 'the key "y" goes with "places", which is missing: remove it, or add that one'),
+    (f"{SOME_PLACES}metric = 'squared'\ny = 'left'\n", 'the key "y" says "left": write "up" or "down"'),
+    (f"{MATRICES}title = 3\n", 'the key "title" has the type integer: write a text in quotes'),
     (f"{MATRICES}decimal_mark = ';'\n", 'the key "decimal_mark" says ";": write "." or ","'),
     (f"{MATRICES}decimal_mark = 1\n", 'the key "decimal_mark" has the type integer: write a text in quotes'),
     (f"{MATRICES}decimals = 2\n",
@@ -135,6 +138,8 @@ def cases():
         yield f"case: plan {number}: {message or 'no TOML'}".replace("\n", " ")
         yield "bytes plan.toml: " + text.replace("\n", "\\n").replace("\xff", "\\xff")
         yield "run: qapplan solve plan.toml\nstatus: 1"
+        if message and (KEYS in message or '"y"' in message or '"title"' in message):
+            yield "unshipped:"
         if message:
             yield f"stderr: error: plan.toml: {message}"
         else:

@@ -3,53 +3,22 @@ use Rattle.std.proofs.Common.{◌≡◌, ◌∙◌, List, ℕ, Some, None, codes
 use Rattle.std.specs.Prelude.{IsUtf8}
 use Rattle.toml.specs.Parse.{parse_document}
 use Rattle.toml.specs.Data.{Members}
-use Rattle.plan_file.specs.Plan.{HasSome, IsFaultOf, IsFixingFault, IsNamesFault, IsPlanFault, IsSyntaxError, IsTable}
+use Rattle.plan_file.specs.Keys.{HasSome}
+use Rattle.plan_file.specs.Plan.{IsFaultOf, IsFixingFault, IsNamesFault, IsPlanFault, IsSyntaxError, IsTable}
 use Rattle.plan_file.specs.declared.error.PlanError.{PlanError}
-use Rattle.plan_file.specs.declared.error.PlanError.TheVariants.{Syntax, UnknownKey, NoText, ControlInText, NeitherKey, AmongFixed, BothKeys, MissingKey, LoneKey, OtherMetric, OtherMark, NoRound, NoSymmetric, OtherDuplicates, NoDecimals, ExactMetric, Departments, Fixed, OutOfMemory}
+use Rattle.plan_file.specs.declared.error.PlanError.TheVariants.{Syntax, UnknownKey, NoText, ControlInText, NeitherKey, AmongFixed, BothKeys, MissingKey, LoneKey, OtherMetric, OtherMark, OtherY, NoRound, NoSymmetric, OtherDuplicates, NoDecimals, ExactMetric, Departments, Fixed, OutOfMemory}
 
 -- what is wrong with a list of names is a fault of a table that gives the departments
 pub fault_of_names : (ms : Members) (e : PlanError) → HasSome ms (codes "departments") → IsNamesFault e → IsFaultOf ms e
 fault_of_names ms (Departments fault) there h = there
 fault_of_names ms OutOfMemory there h = tt
-fault_of_names ms (Syntax place message) there h = absurd h
-fault_of_names ms (UnknownKey key) there h = absurd h
-fault_of_names ms (NoText key found) there h = absurd h
-fault_of_names ms (ControlInText key code) there h = absurd h
-fault_of_names ms (NeitherKey key other) there h = absurd h
-fault_of_names ms (AmongFixed key) there h = absurd h
-fault_of_names ms (BothKeys key other) there h = absurd h
-fault_of_names ms (MissingKey key other) there h = absurd h
-fault_of_names ms (LoneKey key other) there h = absurd h
-fault_of_names ms (OtherMetric found) there h = absurd h
-fault_of_names ms (OtherMark found) there h = absurd h
-fault_of_names ms NoRound there h = absurd h
-fault_of_names ms NoSymmetric there h = absurd h
-fault_of_names ms (OtherDuplicates found) there h = absurd h
-fault_of_names ms NoDecimals there h = absurd h
-fault_of_names ms (ExactMetric metric) there h = absurd h
-fault_of_names ms (Fixed fault) there h = absurd h
+fault_of_names ms _ there h = absurd h
 
 -- what is wrong with what is fixed is a fault of a table that has it
 pub fault_of_fixing : (ms : Members) (e : PlanError) → HasSome ms (codes "fixed") → IsFixingFault e → IsFaultOf ms e
 fault_of_fixing ms (Fixed fault) there h = there
 fault_of_fixing ms OutOfMemory there h = tt
-fault_of_fixing ms (Syntax place message) there h = absurd h
-fault_of_fixing ms (UnknownKey key) there h = absurd h
-fault_of_fixing ms (NoText key found) there h = absurd h
-fault_of_fixing ms (ControlInText key code) there h = absurd h
-fault_of_fixing ms (NeitherKey key other) there h = absurd h
-fault_of_fixing ms (AmongFixed key) there h = absurd h
-fault_of_fixing ms (BothKeys key other) there h = absurd h
-fault_of_fixing ms (MissingKey key other) there h = absurd h
-fault_of_fixing ms (LoneKey key other) there h = absurd h
-fault_of_fixing ms (OtherMetric found) there h = absurd h
-fault_of_fixing ms (OtherMark found) there h = absurd h
-fault_of_fixing ms NoRound there h = absurd h
-fault_of_fixing ms NoSymmetric there h = absurd h
-fault_of_fixing ms (OtherDuplicates found) there h = absurd h
-fault_of_fixing ms NoDecimals there h = absurd h
-fault_of_fixing ms (ExactMetric metric) there h = absurd h
-fault_of_fixing ms (Departments fault) there h = absurd h
+fault_of_fixing ms _ there h = absurd h
 
 -- what is wrong with the table of a text keeps that from being a plan
 pub fault_of_table : (text : List ℕ) (ms : Members) (e : PlanError) → IsTable text ms → IsFaultOf ms e → IsPlanFault text e
@@ -65,6 +34,7 @@ fault_of_table text ms (MissingKey key other) is h = (ms, is, h)
 fault_of_table text ms (LoneKey key other) is h = (ms, is, h)
 fault_of_table text ms (OtherMetric found) is h = (ms, is, h)
 fault_of_table text ms (OtherMark found) is h = (ms, is, h)
+fault_of_table text ms (OtherY found) is h = (ms, is, h)
 fault_of_table text ms NoRound is h = (ms, is, h)
 fault_of_table text ms NoSymmetric is h = (ms, is, h)
 fault_of_table text ms (OtherDuplicates found) is h = (ms, is, h)

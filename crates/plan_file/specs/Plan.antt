@@ -10,6 +10,8 @@ use Rattle.plan_table.specs.declared.numeral.DecimalMark.TheVariants.{Point, Com
 use Rattle.plan_table.specs.declared.rules.Rules.{Rules}
 use Rattle.plan_metric.specs.declared.metric.Metric.{Metric}
 use Rattle.plan_metric.specs.declared.metric.Metric.TheVariants.{Rectilinear, Euclidean, Squared}
+use Rattle.plan_file.specs.Drawing.{SaysDrawing}
+use Rattle.plan_file.specs.Keys.{HasNone, HasSome, HasText}
 use Rattle.plan_file.specs.declared.error.PlanError.{PlanError}
 use Rattle.plan_file.specs.declared.error.PlanError.TheVariants as error
 use Rattle.plan_file.specs.declared.source.Distances.{Distances}
@@ -31,9 +33,13 @@ IsKnownOfDistances key = (key ≡ codes "distances") ⊎ ((key ≡ codes "places
 abbrev pub IsKnownOfRules : List ℕ → Type 0
 IsKnownOfRules key = (key ≡ codes "decimal_mark") ⊎ ((key ≡ codes "round") ⊎ ((key ≡ codes "symmetric") ⊎ (key ≡ codes "duplicates")))
 
--- the keys that a plan may have: for the flows, the distances, how they are read, and what is fixed
+-- the keys that specify how the plan is drawn
+abbrev pub IsKnownOfDrawing : List ℕ → Type 0
+IsKnownOfDrawing key = (key ≡ codes "title") ⊎ (key ≡ codes "y")
+
+-- the keys that a plan may have: for the flows, the distances, how they are read, how it is drawn, and what is fixed
 abbrev pub IsKnown : List ℕ → Type 0
-IsKnown key = IsKnownOfFlows key ⊎ (IsKnownOfDistances key ⊎ (IsKnownOfRules key ⊎ (key ≡ codes "fixed")))
+IsKnown key = IsKnownOfFlows key ⊎ (IsKnownOfDistances key ⊎ (IsKnownOfRules key ⊎ (IsKnownOfDrawing key ⊎ (key ≡ codes "fixed"))))
 
 -- each key of a table is one that a plan may have
 abbrev pub AreKnown : Members → Type 0
@@ -49,14 +55,6 @@ pub record IsTable (text : List ℕ) (members : Members) : Type 0 where
 abbrev pub strings_of : List (List ℕ) → Items
 strings_of [] = no_items
 strings_of (s ∷ ss) = item (string s) (strings_of ss)
-
--- the table has this text at a key
-abbrev pub HasText : Members → List ℕ → List ℕ → Type 0
-HasText ms key text = get_member key ms ≡ Some (string text)
-
--- it has nothing there
-abbrev pub HasNone : Members → List ℕ → Type 0
-HasNone ms key = get_member key ms ≡ None
 
 -- one key of two is there, and names a file
 pub record NamesFile (ms : Members) (key other file : List ℕ) : Type 0 where
@@ -144,10 +142,7 @@ pub record IsPlanText (text : List ℕ) (plan : Plan) : Type 0 where
   pub distances : SaysDistances members plan.distances
   pub rules : SaysRules members plan.rules
   pub fixed : SaysFixed (get_member (codes "fixed") members) plan.fixed.items
-
--- the table has something at a key
-abbrev pub HasSome : Members → List ℕ → Type 0
-HasSome ms key = (d : Data) × (get_member key ms ≡ Some d)
+  pub drawing : SaysDrawing members plan.drawing
 
 -- it has something there that is not a text
 abbrev pub HasNoText : Members → List ℕ → Type 0
@@ -176,6 +171,7 @@ IsFaultOf ms (error.OtherMetric found) =
     HasText ms (codes "metric") (string_bytes found) × (string_bytes found ≢ codes "rectilinear") × (string_bytes found ≢ codes "euclidean") × (string_bytes found ≢ codes "squared")
 IsFaultOf ms (error.OtherMark found) =
     HasText ms (codes "decimal_mark") (string_bytes found) × (string_bytes found ≢ codes ".") × (string_bytes found ≢ codes ",")
+IsFaultOf ms (error.OtherY found) = HasText ms (codes "y") (string_bytes found) × (string_bytes found ≢ codes "up") × (string_bytes found ≢ codes "down")
 IsFaultOf ms error.NoRound = HasSome ms (codes "round")
 IsFaultOf ms error.NoSymmetric = HasSome ms (codes "symmetric")
 IsFaultOf ms (error.OtherDuplicates found) = HasText ms (codes "duplicates") (string_bytes found) × (string_bytes found ≢ codes "sum")

@@ -15,7 +15,7 @@ pub enum PlanError {
         message: String,
     },
     /// It has another key than a plan may have.
-    #[error("the key \"{key}\" is unknown: a plan has the keys flows or trips, departments, distances or places, metric, decimals, decimal_mark, round, symmetric, duplicates and fixed")]
+    #[error("the key \"{key}\" is unknown: a plan has the keys flows or trips, departments, distances or places, metric, decimals, decimal_mark, round, symmetric, duplicates, title, y and fixed")]
     UnknownKey {
         key: String,
     },
@@ -68,6 +68,11 @@ pub enum PlanError {
     /// No decimal mark is written so.
     #[error("the key \"decimal_mark\" says \"{found}\": write \".\" or \",\"")]
     OtherMark {
+        found: String,
+    },
+    /// No direction of the y axis is written so.
+    #[error("the key \"y\" says \"{found}\": write \"up\" or \"down\"")]
+    OtherY {
         found: String,
     },
     /// The number of decimals for rounding is invalid.

@@ -2,6 +2,7 @@
 //! distances between places.
 #![tactic(auto)]
 
+mod drawing;
 mod error;
 mod fixing;
 mod layout;
@@ -21,5 +22,5 @@ pub use layout::{LayoutError, layout_node};
 pub use place::TextPlace;
 pub use plan::read_plan;
 pub use problem::problem_of;
-pub use source::{Distances, Flows, Plan};
+pub use source::{Distances, Drawing, Flows, Plan, YAxis};
 pub use tables::{MAX_PLACES, NamedProblem, read_tables};

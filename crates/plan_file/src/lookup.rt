@@ -3,7 +3,7 @@
 ghost use Rattle.std.specs.Prelude.{◌≡◌, ◌≢◌, ℕ, ℤ, Bool, List, MatchOption, Some};
 ghost use Rattle.toml.specs.Data.{Items, Members, array, boolean, get_member, integer, string, table as table_of};
 ghost use Rattle.toml.specs.View.{items_view, table_view, view};
-ghost use Rattle.plan_file.specs.Plan.{HasNone};
+ghost use Rattle.plan_file.specs.Keys.{HasNone};
 
 use toml::{Table, Value};
 

@@ -3,7 +3,8 @@
 ghost use Rattle.std.specs.Prelude.{IfErr, IfOk, OnOk, codes};
 ghost use Rattle.toml.specs.Data.{get_member};
 ghost use Rattle.toml.specs.View.{table_view};
-ghost use Rattle.plan_file.specs.Plan.{HasNone, HasSome, HasText, IsFaultOf, SaysDecimals, SaysDistances, SaysMetric};
+ghost use Rattle.plan_file.specs.Keys.{HasNone, HasSome, HasText};
+ghost use Rattle.plan_file.specs.Plan.{IsFaultOf, SaysDecimals, SaysDistances, SaysMetric};
 
 use crate::error::PlanError;
 use crate::lookup::{number_in, value_at};

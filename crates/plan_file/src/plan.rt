@@ -3,10 +3,11 @@
 ghost use Rattle.std.specs.Prelude.{◌≡◌, ◌↔◌, IfErr, IfOk, IsTrue, MatchOption, OnOk};
 ghost use Rattle.toml.specs.Errors.{IsMemory};
 ghost use Rattle.toml.specs.View.{table_view};
-ghost use Rattle.plan_file.specs.Plan.{AreKnown, IsFaultOf, IsKnown, IsKnownOfDistances, IsKnownOfFlows, IsKnownOfRules, IsPlanFault, IsPlanText, IsSyntaxError};
+ghost use Rattle.plan_file.specs.Plan.{AreKnown, IsFaultOf, IsKnown, IsKnownOfDistances, IsKnownOfDrawing, IsKnownOfFlows, IsKnownOfRules, IsPlanFault, IsPlanText, IsSyntaxError};
 ghost use Rattle.plan_file.specs.Tables.{IsSound};
 ghost use Rattle.plan_file.specs.declared.error.PlanError.TheVariants.{OutOfMemory as WantOfMemory};
 
+use crate::drawing::drawing_of;
 use crate::error::PlanError;
 use crate::measuring::distances_of;
 use crate::place::TextPlace;
@@ -19,9 +20,10 @@ use toml::de::Error;
 use toml::{Table, table_from_slice};
 
 /// Reads a plan: a text in TOML with the keys `flows` or `trips`, `departments`, `distances` or `places`, `metric`, `decimals`, `decimal_mark`,
-/// `round`, `symmetric`, `duplicates` and `fixed`, and no other.
+/// `round`, `symmetric`, `duplicates`, `title`, `y` and `fixed`, and no other.
 ///
-/// `departments` goes with `trips` alone; `metric` goes with `places` and must be there; `decimals` goes with the Euclidean metric alone.
+/// `departments` goes with `trips` alone; `metric` goes with `places` and must be there; `decimals` goes with the Euclidean metric alone;
+/// `y` goes with `places`.
 pub fn read_plan(alloc: Global, text: &[u8]) -> Result<Plan, PlanError>
     ensures plan { IfOk result (IsPlanText text.now) }
     ensures sound { IfOk result IsSound }
@@ -36,11 +38,13 @@ pub fn read_plan(alloc: Global, text: &[u8]) -> Result<Plan, PlanError>
     let distances = distances_of(alloc, &table)?;
     let rules = rules_of(alloc, &table)?;
     let fixed = fixed_of(alloc, &table)?;
+    let drawing = drawing_of(alloc, &table)?;
     Ok(Plan {
         flows,
         distances,
         rules,
         fixed,
+        drawing,
     })
 }
 
@@ -91,7 +95,11 @@ fn unknown_key(table: &Table) -> Option<&str>
 pub fn is_known(key: &str) -> bool
     ensures { IsTrue result ↔ IsKnown key.now }
 {
-    is_known_of_flows(key) || is_known_of_distances(key) || is_known_of_rules(key) || key == "fixed"
+    is_known_of_flows(key)
+        || is_known_of_distances(key)
+        || is_known_of_rules(key)
+        || is_known_of_drawing(key)
+        || key == "fixed"
 }
 
 /// Whether a key is one that specifies how the tables are read.
@@ -99,6 +107,13 @@ fn is_known_of_rules(key: &str) -> bool
     ensures { IsTrue result ↔ IsKnownOfRules key.now }
 {
     key == "decimal_mark" || key == "round" || key == "symmetric" || key == "duplicates"
+}
+
+/// Whether a key is one that specifies how the plan is drawn.
+fn is_known_of_drawing(key: &str) -> bool
+    ensures { IsTrue result ↔ IsKnownOfDrawing key.now }
+{
+    key == "title" || key == "y"
 }
 
 /// Whether a key is one of those for the flows.

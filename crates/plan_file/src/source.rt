@@ -3,7 +3,7 @@
 use plan_metric::Metric;
 use plan_table::{Pin, Rules};
 
-/// The content of a plan: the files of its flows and distances, how they are read, and what is fixed.
+/// The content of a plan: the files of its flows and distances, how they are read, what is fixed, and how it is drawn.
 #[derive(Debug, Drop)]
 pub struct Plan {
     pub flows: Flows,
@@ -12,6 +12,26 @@ pub struct Plan {
     pub rules: Rules,
     /// Departments fixed at given places.
     pub fixed: Vec<Pin>,
+    /// How it is drawn.
+    pub drawing: Drawing,
+}
+
+/// How a plan is drawn.
+#[derive(Debug, Drop)]
+pub struct Drawing {
+    /// The title of pictures and reports, if given.
+    pub title: Option<String>,
+    /// The direction of the places' y axis.
+    pub y: YAxis,
+}
+
+/// The direction in which y grows.
+#[derive(Clone, Copy, Debug, PartialEq, Eq)]
+pub enum YAxis {
+    /// As on a map.
+    Up,
+    /// As on a screen.
+    Down,
 }
 
 /// The source of the flows between departments.

@@ -2,7 +2,7 @@
 
 use plan_answer::{Pair, dearest_pairs};
 use plan_file::{read_plan, read_tables};
-use plan_picture::picture;
+use plan_picture::{Caption, picture};
 use qap_cost::Perm;
 use std::test::Fail;
 
@@ -42,7 +42,7 @@ const PLANS: [Told; 29] = [
     ),
     (
         b"flow = \"a.csv\"\ndistances = \"b.csv\"\n",
-        "the key \"flow\" is unknown: a plan has the keys flows or trips, departments, distances or places, metric, decimals, decimal_mark, round, symmetric, duplicates and fixed",
+        "the key \"flow\" is unknown: a plan has the keys flows or trips, departments, distances or places, metric, decimals, decimal_mark, round, symmetric, duplicates, title, y and fixed",
     ),
     (
         b"distances = \"b.csv\"\nflows = 3\n",
@@ -138,7 +138,7 @@ const PLANS: [Told; 29] = [
     ),
     (
         b"\"fl\\u001b[2Jows\" = \"a.csv\"\n",
-        "the key \"fl\\u{1b}[2Jows\" is unknown: a plan has the keys flows or trips, departments, distances or places, metric, decimals, decimal_mark, round, symmetric, duplicates and fixed",
+        "the key \"fl\\u{1b}[2Jows\" is unknown: a plan has the keys flows or trips, departments, distances or places, metric, decimals, decimal_mark, round, symmetric, duplicates, title, y and fixed",
     ),
 ];
 
@@ -319,24 +319,35 @@ fn finds_the_dearest_pairs(rt: HostRuntime) -> Result<(), Fail> {
     Ok(())
 }
 
-/// Boxes of 44 by 46 pixels: each name has at most 3 letters. The places lie 30 and 40 apart, so that 16 pixels
+/// Boxes of 48 by 56 pixels: each name has at most 3 letters. The places lie 30 and 40 apart, so that 16 pixels
 /// represent 1; an eighth of the way across is left above and below, and of the way down on either side. What no XML
 /// document may have in the title is replaced.
 const PICTURE: &str =
-    "<svg xmlns=\"http://www.w3.org/2000/svg\" width=\"740\" height=\"902\" viewBox=\"0 0 740 902\" font-family=\"monospace\">
-<rect width=\"740\" height=\"902\" fill=\"white\"/>
-<text x=\"28\" y=\"34\" font-size=\"16\">\u{fffd}cost &quot;28&quot;\u{fffd}</text>
-<g fill=\"none\" stroke=\"#3b6ea5\" stroke-opacity=\"0.6\">
-<path d=\"M 610 151 Q 210 350 130 791\" stroke-width=\"9.0\"/>
+    "<svg xmlns=\"http://www.w3.org/2000/svg\" width=\"696\" height=\"972\" viewBox=\"0 0 696 972\" font-family=\"monospace\">
+<rect width=\"696\" height=\"972\" fill=\"white\"/>
+<text x=\"28\" y=\"32\" font-size=\"15\" font-weight=\"bold\">\u{fffd}cost &quot;28&quot;\u{fffd}</text>
+<text x=\"28\" y=\"48\" font-size=\"13\">at most 2% above the least</text>
+<g fill=\"none\" stroke=\"#8fb0d3\" stroke-opacity=\"0.8\">
+<path d=\"M 588 144 Q 188 344 108 784\" stroke-width=\"9.0\"/>
 </g>
-<rect x=\"108\" y=\"768\" width=\"44\" height=\"46\" rx=\"5\" fill=\"#fff3d6\" stroke=\"#7a5b00\" stroke-width=\"3\"/>
-<text x=\"130\" y=\"788\" text-anchor=\"middle\" font-size=\"13\" font-weight=\"bold\">R&amp;D</text>
-<text x=\"130\" y=\"805\" text-anchor=\"middle\" font-size=\"12\" fill=\"#666666\">A</text>
-<rect x=\"588\" y=\"128\" width=\"44\" height=\"46\" rx=\"5\" fill=\"#eef3f9\" stroke=\"#333333\"/>
-<text x=\"610\" y=\"148\" text-anchor=\"middle\" font-size=\"13\" font-weight=\"bold\">&lt;b&gt;</text>
-<text x=\"610\" y=\"165\" text-anchor=\"middle\" font-size=\"12\" fill=\"#666666\">B</text>
-<rect x=\"348\" y=\"768\" width=\"44\" height=\"46\" rx=\"5\" fill=\"#ffffff\" stroke=\"#999999\" stroke-dasharray=\"5 4\"/>
-<text x=\"370\" y=\"805\" text-anchor=\"middle\" font-size=\"12\" fill=\"#666666\">C</text>
+<rect x=\"84\" y=\"756\" width=\"48\" height=\"56\" rx=\"5\" fill=\"#fff3d6\" stroke=\"#7a5b00\" stroke-width=\"3\"/>
+<text x=\"108\" y=\"780\" text-anchor=\"middle\" font-size=\"13\" font-weight=\"bold\">R&amp;D</text>
+<text x=\"108\" y=\"796\" text-anchor=\"middle\" font-size=\"12\" fill=\"#666666\">A</text>
+<rect x=\"564\" y=\"116\" width=\"48\" height=\"56\" rx=\"5\" fill=\"#eef3f9\" stroke=\"#333333\"/>
+<text x=\"588\" y=\"140\" text-anchor=\"middle\" font-size=\"13\" font-weight=\"bold\">&lt;b&gt;</text>
+<text x=\"588\" y=\"156\" text-anchor=\"middle\" font-size=\"12\" fill=\"#666666\">B</text>
+<rect x=\"324\" y=\"756\" width=\"48\" height=\"56\" rx=\"5\" fill=\"#ffffff\" stroke=\"#999999\" stroke-dasharray=\"5 4\"/>
+<text x=\"348\" y=\"788\" text-anchor=\"middle\" font-size=\"12\" fill=\"#666666\">C</text>
+<defs><marker id=\"tip\" viewBox=\"0 0 10 10\" refX=\"4.5\" refY=\"5\" markerWidth=\"1.9\" markerHeight=\"1.9\" orient=\"auto\"><path d=\"M 0 0 L 10 5 L 0 10 z\" fill=\"#c2571a\"/></marker></defs>
+<g fill=\"none\" stroke=\"#c2571a\" stroke-opacity=\"0.8\" marker-end=\"url(#tip)\">
+<path d=\"M 108 756 Q 494 584 588 172\" stroke-width=\"9.0\"/>
+</g>
+<text y=\"872\" font-size=\"12\" fill=\"#555555\">
+<tspan x=\"28\" dy=\"18\"><tspan fill=\"#c2571a\">&#9644;</tspan> the costliest pairs, wider where they cost more</tspan>
+<tspan x=\"28\" dy=\"18\"><tspan fill=\"#8fb0d3\">&#9644;</tspan> all flows, wider where they are larger</tspan>
+<tspan x=\"28\" dy=\"18\"><tspan fill=\"#7a5b00\">&#9632;</tspan> fixed</tspan>
+<tspan x=\"28\" dy=\"18\"><tspan fill=\"#777777\">&#9633;</tspan> stays empty</tspan>
+</text>
 </svg>
 ";
 
@@ -353,7 +364,11 @@ fn draws_an_arrangement(rt: HostRuntime) -> Result<(), Fail> {
         panic!(rt; "these locations are a permutation");
     };
     assert!(rt; permutation.len() == problem.instance.size());
-    let text = picture(alloc, &problem, &permutation, "\u{fffe}cost \"28\"\u{b}")?;
+    let caption = Caption {
+        title: "\u{fffe}cost \"28\"\u{b}",
+        verdict: b"at most 2% above the least",
+    };
+    let text = picture(alloc, &problem, &permutation, &caption, false)?;
     let told = std::str::from_utf8(&text).unwrap_or("");
     assert_eq!(rt; told, PICTURE);
     Ok(())

@@ -5,7 +5,8 @@ ghost use Rattle.plan_file.specs.Tables.{HasSizes};
 ghost use Rattle.plan_input.specs.declared.loading.LoadError.TheVariants.{OutOfMemory as WantOfMemory};
 
 use plan_file::{
-    FixingError, NamedProblem, PlanError, ProblemError, TablesError, read_plan, read_tables,
+    Drawing, FixingError, NamedProblem, PlanError, ProblemError, TablesError, read_plan,
+    read_tables,
 };
 use plan_table::{Encoding, TableError, decode};
 use qap_io::{Counted, Status};
@@ -76,10 +77,11 @@ impl From<AllocError> for LoadError {
     }
 }
 
-/// The problem of a plan, and the files of the tables that it was read from, with their encodings.
+/// The problem of a plan, how it is drawn, and the files of the tables that it was read from, with their encodings.
 #[derive(Drop)]
 pub struct Loaded {
     pub problem: NamedProblem,
+    pub drawing: Drawing,
     pub flows_file: String,
     pub flows_encoding: Encoding,
     pub distances_file: String,
@@ -114,6 +116,7 @@ pub fn load_problem<R: Files + AllocGlobal>(rt: &R, file: &str) -> Result<Loaded
     match read_tables(alloc, &plan, &flows.text, &distances.text) {
         Ok(problem) => Ok(Loaded {
             problem,
+            drawing: plan.drawing,
             flows_file,
             flows_encoding: flows.encoding,
             distances_file,

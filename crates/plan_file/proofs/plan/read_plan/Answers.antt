@@ -20,6 +20,7 @@ returns-clause-plan c = record {
   distances = c.in_ok-distances.ensures.distances;
   rules = c.in_ok-rules.ensures.rules;
   fixed = c.in_ok-fixed.ensures.fixed;
+  drawing = c.in_ok-drawing.ensures.drawing;
 }
 
 pub returns-in-Err-clause-refused : goal.returns-in-Err-clause-refused
@@ -55,3 +56,9 @@ returns-in_err-fixed-clause-refused c =
     let p = err_from_is_err_and c.from_residual-in_err-fixed.result c.from_residual-in_err-fixed.ensures.1 in
     let is = is_table c.args.text.now (table_view c.in-Ok.table) c.in-Ok.ensures.ok in
     rw (p.1, p.2) (fault_of_table c.args.text.now (table_view c.in-Ok.table) c.in_err-fixed.field-0.0 is c.in_err-fixed.ensures.refused)
+
+pub returns-in_err-drawing-clause-refused : goal.returns-in_err-drawing-clause-refused
+returns-in_err-drawing-clause-refused c =
+    let p = err_from_is_err_and c.from_residual-in_err-drawing.result c.from_residual-in_err-drawing.ensures.1 in
+    let is = is_table c.args.text.now (table_view c.in-Ok.table) c.in-Ok.ensures.ok in
+    rw (p.1, p.2) (fault_of_table c.args.text.now (table_view c.in-Ok.table) c.in_err-drawing.field-0.0 is c.in_err-drawing.ensures.refused)
