@@ -16,4 +16,4 @@ pub use gap::gap_text;
 pub use layout::layout_text;
 pub use listing::cost_text;
 pub use pairs::{Pair, dearest_pairs};
-pub use stated::{cost_line, stated_text};
+pub use stated::{cost_line, stated_line, stated_text};

@@ -41,7 +41,7 @@ pub fn cost_line(alloc: Global, problem: &NamedProblem, cost: i128) -> Result<Ve
 }
 
 /// The line that reports what is stated about the cost.
-fn stated_line(
+pub fn stated_line(
     alloc: Global,
     problem: &NamedProblem,
     cost: i128,

@@ -15,6 +15,6 @@ largest_to f (suc n) = max (f n) (largest_to f n)
 abbrev pub largest_flow : Problem → ℕ
 largest_flow I = largest_to (λ i. largest_to (flow_between I i) i) I.size
 
--- tenths of a pixel: proportional to the largest flow, whose line is nine pixels wide, and at least half a pixel
+-- tenths of a pixel: proportional to the largest amount, whose line is nine pixels wide, and at least half a pixel
 abbrev pub width_of : ℕ → ℕ → ℕ
 width_of flow most = max 5 (min 90 (flow * 90 / max 1 most))

@@ -1,6 +1,9 @@
+pub mod Arrows
 pub mod Drawing
 pub mod Escaping
 pub mod Flows
+pub mod Joining
+pub mod Legend
 pub mod Marks
 pub mod Naming
 pub mod Picture

@@ -1,7 +1,7 @@
 -- The elements of a picture (Scalable Vector Graphics 1.1, 9 and 10), with their coordinates in pixels.
-use Rattle.std.specs.Prelude.{ℕ, ◌+◌, ◌-◌, ◌/◌, ◌%◌, List, ◌++◌, codes}
+use Rattle.std.specs.Prelude.{ℕ, ◌+◌, ◌-◌, ◌*◌, ◌/◌, ◌%◌, List, ◌++◌, codes, min}
 use Rattle.std.specs.Fmt.{decimal}
-use Rattle.plan_picture.specs.Naming.{shown_name}
+use Rattle.plan_picture.specs.Escaping.{escaped}
 use Rattle.plan_picture.specs.declared.layout.BoxSize.{BoxSize}
 use Rattle.plan_picture.specs.declared.layout.Centre.{Centre}
 
@@ -25,10 +25,14 @@ box_mark centre size style =
     codes "<rect x=\"" ++ decimal (centre.x - size.width / 2) ++ codes "\" y=\"" ++ decimal (centre.y - size.height / 2)
     ++ codes "\" width=\"" ++ decimal size.width ++ codes "\" height=\"" ++ decimal size.height ++ codes "\" rx=\"5\" " ++ style ++ codes "/>\n"
 
--- what precedes a name centred at a point
-abbrev pub name_head : ℕ → ℕ → List ℕ → List ℕ
-name_head x y style = codes "<text x=\"" ++ decimal x ++ codes "\" y=\"" ++ decimal y ++ codes "\" text-anchor=\"middle\" " ++ style ++ codes ">"
+-- the baseline of line i of n that are centred at a height, 16 pixels apart; from the thousandth on, they are in one place
+abbrev pub line_y : ℕ → ℕ → ℕ → ℕ
+line_y y n i = y + (12 + 16 * min i 1000) - 8 * min n 1000
 
--- a name centred at a point
+-- what precedes a line of text at a point
+abbrev pub name_head : ℕ → ℕ → List ℕ → List ℕ
+name_head x y style = codes "<text x=\"" ++ decimal x ++ codes "\" y=\"" ++ decimal y ++ codes "\" " ++ style ++ codes ">"
+
+-- a line of text at a point
 abbrev pub name_mark : ℕ → ℕ → List ℕ → List ℕ → List ℕ
-name_mark x y style name = name_head x y style ++ shown_name name ++ codes "</text>\n"
+name_mark x y style line = name_head x y style ++ escaped line ++ codes "</text>\n"

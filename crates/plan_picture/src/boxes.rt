@@ -1,62 +1,95 @@
 //! The boxes of places.
 
-ghost use Rattle.std.specs.Prelude.{◌≡◌, ◌<◌, ◌≤◌, ◌==◌, ◌++◌, IfOk, MatchOption, None, OnOk, Some, [], length, map, slice_index_or, string_bytes};
+ghost use Rattle.std.specs.Prelude.{◌≡◌, ◌<◌, ◌≤◌, ◌==◌, ◌++◌, [], IfOk, length, map, slice_index_or, string_bytes, unwrap_or};
 ghost use Rattle.std.specs.List.{list_any};
 ghost use Rattle.std.specs.Option.{option_map};
 ghost use Rattle.plan_file.specs.Tables.{HasSizes};
-ghost use Rattle.plan_picture.specs.Drawing.{department_at, department_mark, joined_to, place_mark, place_name_mark, style_of};
-ghost use Rattle.plan_picture.specs.Marks.{box_mark, name_head, name_mark};
+ghost use Rattle.plan_picture.specs.Drawing.{IsPlace, department_at, department_style, place_style, style_of};
+ghost use Rattle.plan_picture.specs.Joining.{IsJoinedTo};
+ghost use Rattle.plan_picture.specs.Marks.{box_mark};
 
 use crate::layout::{BoxSize, Centre};
-use crate::names::push_shown;
+use crate::naming::{Names, names_text};
 use plan_file::NamedProblem;
 use qap_cost::Perm;
 use std::alloc::{AllocError, Global};
 
-/// Appends a box for each place to the text.
-pub fn push_boxes(
+/// The greatest number of columns of a line in a box.
+pub const MAX_COLUMNS: usize = 20;
+
+/// A box for each place.
+pub fn boxes_text(
     alloc: Global,
-    text: &mut Vec<u8>,
     problem: &NamedProblem,
     permutation: &Perm,
     centres: &[Centre],
     size: BoxSize,
-) -> Result<(), AllocError>
+) -> Result<Vec<u8>, AllocError>
     requires sizes { HasSizes problem.now }
     requires same_size { length permutation.now ≡ problem.now.instance.size }
     requires each { length centres.now ≡ length problem.now.places.items }
-    ensures { OnOk result (text.new.items ≡ text.old.items ++ joined_to (place_mark problem.now permutation.now centres.now size) (length problem.now.places.items)) }
+    ensures { IfOk result (λ text. IsJoinedTo (IsPlace problem.now permutation.now centres.now size) (length problem.now.places.items) text.items) }
 {
+    let mut text = Vec::new(alloc);
     for k in 0..problem.places.len() {
-        push_place(alloc, text, problem, permutation, centres, size, k)?;
+        let place = place_text(alloc, problem, permutation, centres, size, k)?;
+        text.extend_from_slice(&place)?;
     }
-    Ok(())
+    Ok(text)
 }
 
-/// Appends the box of a place to the text, with the names of its department and its own.
-fn push_place(
+/// The box of a place, with the names of its department and its own.
+fn place_text(
     alloc: Global,
-    text: &mut Vec<u8>,
     problem: &NamedProblem,
     permutation: &Perm,
     centres: &[Centre],
     size: BoxSize,
     k: usize,
-) -> Result<(), AllocError>
+) -> Result<Vec<u8>, AllocError>
     requires sizes { HasSizes problem.now }
     requires same_size { length permutation.now ≡ problem.now.instance.size }
     requires each { length centres.now ≡ length problem.now.places.items }
     requires k { k < length problem.now.places.items }
-    ensures { OnOk result (text.new.items ≡ text.old.items ++ place_mark problem.now permutation.now centres.now size k) }
+    ensures { IfOk result (λ text. IsPlace problem.now permutation.now centres.now size k text.items) }
 {
     let centre = &centres[k];
     let department = department_at(&problem.departments, permutation.locations(), k);
     let style = style_of(is_among(problem.fixed.places(), k), department.is_some());
+    let names = Names {
+        first: name_or_none(department),
+        first_style: department_style(),
+        second: name_of(&problem.places, k),
+        second_style: place_style(),
+    };
     let box_line = box_line(alloc, centre, size, style)?;
-    text.extend_from_slice(box_line.as_bytes())?;
-    push_department(alloc, text, centre, department)?;
-    push_place_name(alloc, text, centre, name_of(&problem.places, k))?;
-    Ok(())
+    let mut text = box_line.into_bytes();
+    text.extend_from_slice(&names_text(alloc, centre, &names, MAX_COLUMNS)?)?;
+    Ok(text)
+}
+
+/// The name of a department, if there is one; else nothing.
+fn name_or_none<'a>(department: Option<&'a str>) -> &'a str
+    ensures { result.now ≡ unwrap_or (option_map (λ name. name.now) department.entry) [] }
+{
+    match department {
+        Some(name) => name,
+        None => "",
+    }
+}
+
+/// How the name of a department is drawn.
+fn department_style() -> &'static str
+    ensures { result.now ≡ department_style }
+{
+    "text-anchor=\"middle\" font-size=\"13\" font-weight=\"bold\""
+}
+
+/// How the name of a place is drawn.
+fn place_style() -> &'static str
+    ensures { result.now ≡ place_style }
+{
+    "text-anchor=\"middle\" font-size=\"12\" fill=\"#666666\""
 }
 
 /// The name of a place.
@@ -115,71 +148,4 @@ fn box_line(
     format!(in alloc;
         "<rect x=\"{x}\" y=\"{y}\" width=\"{width}\" height=\"{height}\" rx=\"5\" {style}/>\n"
     )
-}
-
-/// Appends the name of the department centred at a point to the text, if there is one.
-fn push_department(
-    alloc: Global,
-    text: &mut Vec<u8>,
-    centre: &Centre,
-    department: Option<&str>,
-) -> Result<(), AllocError>
-    ensures { OnOk result (text.new.items ≡ text.old.items ++ department_mark centre.now (option_map (λ name. name.now) department.entry)) }
-{
-    match department {
-        Some(name) => push_name(
-            alloc,
-            text,
-            name,
-            centre.x,
-            u64::from(centre.y.saturating_sub(3)),
-            "font-size=\"13\" font-weight=\"bold\"",
-        ),
-        None => Ok(()),
-    }
-}
-
-/// Appends the name of the place around a centre to the text.
-fn push_place_name(
-    alloc: Global,
-    text: &mut Vec<u8>,
-    centre: &Centre,
-    place: &str,
-) -> Result<(), AllocError>
-    ensures { OnOk result (text.new.items ≡ text.old.items ++ place_name_mark centre.now place.now) }
-{
-    let y = u64::from(centre.y) + 14;
-    push_name(
-        alloc,
-        text,
-        place,
-        centre.x,
-        y,
-        "font-size=\"12\" fill=\"#666666\"",
-    )
-}
-
-/// Appends a name centred at a point to the text, in full while the pointer is over it.
-fn push_name(
-    alloc: Global,
-    text: &mut Vec<u8>,
-    name: &str,
-    x: u32,
-    y: u64,
-    style: &str,
-) -> Result<(), AllocError>
-    ensures { OnOk result (text.new.items ≡ text.old.items ++ name_mark x y style.now name.now) }
-{
-    let head = name_head(alloc, x, y, style)?;
-    text.extend_from_slice(head.as_bytes())?;
-    push_shown(alloc, text, name)?;
-    text.extend_from_slice(b"</text>\n")?;
-    Ok(())
-}
-
-/// What is before a name.
-fn name_head(alloc: Global, x: u32, y: u64, style: &str) -> Result<String, AllocError>
-    ensures { IfOk result (λ head. string_bytes head ≡ name_head x y style.now) }
-{
-    format!(in alloc; "<text x=\"{x}\" y=\"{y}\" text-anchor=\"middle\" {style}>")
 }

@@ -1,7 +1,8 @@
-//! Names as text of an XML document.
+//! Names as text of an XML or HTML document.
 
 ghost use Rattle.std.specs.Prelude.{◌≡◌, ◌++◌, IfOk, OnOk};
 ghost use Rattle.std.specs.Char.{encode_utf8};
+ghost use Rattle.std.specs.Str.Lossy.{utf8_lossy};
 ghost use Rattle.plan_picture.specs.Escaping.{escaped, escaped_char, is_xml_char, plain_char};
 
 use std::alloc::{AllocError, Global};
@@ -16,6 +17,14 @@ pub fn escaped(alloc: Global, text: &str) -> Result<Vec<u8>, AllocError>
         push_letter(&mut all, letter)?;
     }
     Ok(all)
+}
+
+/// Likewise for bytes: what is not UTF-8 is replaced first.
+pub fn escaped_bytes(alloc: Global, bytes: &[u8]) -> Result<Vec<u8>, AllocError>
+    ensures { IfOk result (λ v. v.items ≡ escaped (utf8_lossy bytes.now)) }
+{
+    let text = String::from_utf8_lossy(alloc, bytes)?;
+    escaped(alloc, text.as_str())
 }
 
 /// Appends a character to the text, escaped.

@@ -8,9 +8,6 @@ use std::alloc::{AllocError, Global};
 /// How far boxes are from each other and from the picture's edge at least, in pixels.
 const GAP: u32 = 28;
 
-/// How high the line above the boxes is.
-const HEAD: u32 = 40;
-
 /// The most pixels from the first to the last box, across and down; a picture that needs more is drawn on a grid.
 const MOST: u128 = 6000;
 
@@ -40,47 +37,54 @@ pub struct Layout {
     pub width: u32,
     pub height: u32,
     pub centres: Vec<Centre>,
+    /// Whether the boxes are at their points.
+    pub is_scaled: bool,
 }
 
-/// The positions of this many boxes: at their points, x to the right and y upwards, magnified so that no two boxes
-/// overlap, or in rows if not every box has a point, or these are too close together.
+/// The positions of this many boxes below a head of some height: at their points, x to the right and y upwards or
+/// downwards, magnified so that no two boxes overlap, or in rows if not every box has a point, or these are too close
+/// together.
 pub fn layout_of(
     alloc: Global,
     count: usize,
     points: &[Point],
+    is_down: bool,
     size: BoxSize,
+    head: u32,
 ) -> Result<Layout, AllocError>
     ensures { IfOk result (λ layout. length layout.centres.items ≡ count) }
 {
     if points.len() != count {
-        return in_rows(alloc, count, size);
+        return in_rows(alloc, count, size, head);
     }
-    match frame_of(points) {
+    match frame_of(points, is_down) {
         Some(frame) => match magnification(points, frame, size) {
-            Some(factor) => at_points(alloc, points, frame, factor, size),
-            None => in_rows(alloc, count, size),
+            Some(factor) => at_points(alloc, points, frame, factor, size, head),
+            None => in_rows(alloc, count, size, head),
         },
-        None => in_rows(alloc, count, size),
+        None => in_rows(alloc, count, size, head),
     }
 }
 
-/// The least and the largest coordinates of points.
+/// The least and the largest coordinates of points, and which of those of y is at the top.
 #[derive(Clone, Copy)]
 struct Frame {
     left: i64,
     right: i64,
     lower: i64,
     upper: i64,
+    top: i64,
 }
 
 /// The frame of points, if there are any.
-fn frame_of(points: &[Point]) -> Option<Frame> {
+fn frame_of(points: &[Point], is_down: bool) -> Option<Frame> {
     let (first, others) = points.split_first()?;
     let mut frame = Frame {
         left: first.x,
         right: first.x,
         lower: first.y,
         upper: first.y,
+        top: first.y,
     };
     for point in others {
         frame.left = point.x.min(frame.left);
@@ -88,6 +92,7 @@ fn frame_of(points: &[Point]) -> Option<Frame> {
         frame.lower = point.y.min(frame.lower);
         frame.upper = point.y.max(frame.upper);
     }
+    frame.top = if is_down { frame.lower } else { frame.upper };
     Some(frame)
 }
 
@@ -143,23 +148,24 @@ fn at_points(
     frame: Frame,
     factor: u128,
     size: BoxSize,
+    head: u32,
 ) -> Result<Layout, AllocError>
     ensures { IfOk result (λ layout. length layout.centres.items ≡ length points.now) }
 {
     let mut centres = Vec::new(alloc);
     for point in points {
         let across = pixels(u128::from(frame.left.abs_diff(point.x)), factor);
-        let down = pixels(u128::from(frame.upper.abs_diff(point.y)), factor);
+        let down = pixels(u128::from(frame.top.abs_diff(point.y)), factor);
         centres.push(Centre {
             x: across.min(MOST) as u32,
             y: down.min(MOST) as u32,
         })?;
     }
-    framed(alloc, &centres, size)
+    framed(alloc, &centres, size, head, true)
 }
 
 /// Boxes in rows, as many rows as columns or fewer.
-fn in_rows(alloc: Global, count: usize, size: BoxSize) -> Result<Layout, AllocError>
+fn in_rows(alloc: Global, count: usize, size: BoxSize, head: u32) -> Result<Layout, AllocError>
     ensures { IfOk result (λ layout. length layout.centres.items ≡ count) }
 {
     let columns = columns_for(count);
@@ -170,7 +176,7 @@ fn in_rows(alloc: Global, count: usize, size: BoxSize) -> Result<Layout, AllocEr
             y: steps(k / columns, size.height),
         })?;
     }
-    framed(alloc, &centres, size)
+    framed(alloc, &centres, size, head, false)
 }
 
 /// How many pixels this many boxes and gaps take.
@@ -191,8 +197,14 @@ fn columns_for(count: usize) -> usize
     }
 }
 
-/// The boxes in a picture that has capacity for them, for the lines that are bent around them, and for the line above.
-fn framed(alloc: Global, centres: &[Centre], size: BoxSize) -> Result<Layout, AllocError>
+/// The boxes in a picture that has capacity for them, for the lines that are bent around them, and for the head above.
+fn framed(
+    alloc: Global,
+    centres: &[Centre],
+    size: BoxSize,
+    head: u32,
+    is_scaled: bool,
+) -> Result<Layout, AllocError>
     ensures { IfOk result (λ layout. length layout.centres.items ≡ length centres.now) }
 {
     let mut across: u32 = 0;
@@ -201,25 +213,22 @@ fn framed(alloc: Global, centres: &[Centre], size: BoxSize) -> Result<Layout, Al
         across = centre.x.max(across);
         down = centre.y.max(down);
     }
-    let side = (size.width / 2)
-        .saturating_add(GAP)
-        .saturating_add(down / 8);
-    let top = (size.height / 2)
-        .saturating_add(GAP)
-        .saturating_add(across / 8);
+    let side = (size.width / 2).max(down / 8).saturating_add(GAP);
+    let top = (size.height / 2).max(across / 8).saturating_add(GAP);
     let mut moved = Vec::new(alloc);
     for centre in centres {
         moved.push(Centre {
             x: centre.x.saturating_add(side),
-            y: centre.y.saturating_add(top).saturating_add(HEAD),
+            y: centre.y.saturating_add(top).saturating_add(head),
         })?;
     }
     Ok(Layout {
         width: across.saturating_add(side).saturating_add(side),
         height: down
-            .saturating_add(HEAD)
+            .saturating_add(head)
             .saturating_add(top)
             .saturating_add(top),
         centres: moved,
+        is_scaled,
     })
 }

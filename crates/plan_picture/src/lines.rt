@@ -2,7 +2,8 @@
 
 ghost use Rattle.std.specs.Prelude.{◌≡◌, ◌<◌, ◌^◌, ◌++◌, IfOk, OnOk, length, slice_index, string_bytes};
 ghost use Rattle.qap_cost.specs.Bijection.{IsPerm};
-ghost use Rattle.plan_picture.specs.Drawing.{flow_mark, flow_marks, joined_to};
+ghost use Rattle.plan_picture.specs.Drawing.{flow_mark, flow_marks};
+ghost use Rattle.plan_picture.specs.Joining.{joined_to};
 ghost use Rattle.plan_picture.specs.Flows.{flow_between, largest_flow, largest_to, width_of};
 ghost use Rattle.plan_picture.specs.Marks.{bent, line_mark};
 
@@ -11,10 +12,10 @@ use qap_cost::{Instance, Perm};
 use std::alloc::{AllocError, Global};
 
 /// How wide the widest line is, in tenths of a pixel.
-const WIDEST: u64 = 90;
+const WIDEST: u128 = 90;
 
 /// How wide the narrowest line is, in tenths of a pixel.
-const NARROWEST: u64 = 5;
+const NARROWEST: u128 = 5;
 
 /// What the lines of a picture are drawn of.
 #[derive(Drop)]
@@ -45,7 +46,7 @@ pub fn push_lines(
         centres,
         most: largest_flow(instance),
     };
-    text.extend_from_slice(b"<g fill=\"none\" stroke=\"#3b6ea5\" stroke-opacity=\"0.6\">\n")?;
+    text.extend_from_slice(b"<g fill=\"none\" stroke=\"#8fb0d3\" stroke-opacity=\"0.8\">\n")?;
     for i in 0..instance.size() {
         push_lines_of(alloc, text, &arrangement, i)?;
     }
@@ -132,16 +133,16 @@ fn largest_flow_of(instance: &Instance, i: usize) -> u64
     most
 }
 
-/// How wide the line of a flow is, in tenths of a pixel: in proportion, and no less than a pixel's half.
-fn width_of(flow: u64, most: u64) -> u64
-    requires { flow < 2 ^ 32 }
-    ensures { result ≡ width_of flow most }
+/// How wide the line of an amount is, in tenths of a pixel: in proportion, and no less than a pixel's half.
+pub fn width_of(amount: u64, most: u64) -> u64
+    ensures { result ≡ width_of amount most }
 {
-    (flow * WIDEST / most.max(1)).clamp(NARROWEST, WIDEST)
+    let width = u128::from(amount) * WIDEST / u128::from(most.max(1));
+    width.min(WIDEST).max(NARROWEST) as u64
 }
 
 /// A line from one centre to another, a little bent, so that lines in one direction lie apart.
-fn line(alloc: Global, from: &Centre, to: &Centre, tenths: u64) -> Result<String, AllocError>
+pub fn line(alloc: Global, from: &Centre, to: &Centre, tenths: u64) -> Result<String, AllocError>
     ensures { IfOk result (λ line. string_bytes line ≡ line_mark from.now to.now tenths) }
 {
     let (x, y, u, v) = (from.x, from.y, to.x, to.y);

@@ -2,7 +2,8 @@ use Rattle.std.proofs.Common.{◌≡◌, ◌<◌, ◌∙◌, List, ap, arith, ge
 use Rattle.std.specs.Prelude.{if◌then◌else◌, nat_lt, string_bytes}
 use Rattle.std.proofs.lemmas.Bool.{lt-ltb}
 use Rattle.qap_cost.specs.Instance.{Problem}
-use Rattle.plan_picture.specs.Drawing.{centre_of, flow_mark}
+use Rattle.plan_picture.specs.Arrows.{centre_of}
+use Rattle.plan_picture.specs.Drawing.{flow_mark}
 use Rattle.plan_picture.specs.Flows.{flow_between, largest_flow, width_of}
 use Rattle.plan_picture.specs.Marks.{line_mark}
 use Rattle.plan_picture.specs.declared.layout.Centre.{Centre}

@@ -1,5 +1,6 @@
 use Rattle.std.proofs.Common.{◌≡◌, ◌++◌, ℕ, arith, subst}
-use Rattle.plan_picture.specs.Drawing.{flow_mark, joined_to}
+use Rattle.plan_picture.specs.Drawing.{flow_mark}
+use Rattle.plan_picture.specs.Joining.{joined_to}
 use Rattle.plan_picture.proofs.Joining.{three_parts}
 use Rattle.plan_picture.proofs.lines.push_lines.Goals as goal
 

@@ -1,5 +1,6 @@
 use Rattle.std.proofs.Common.{◌≡◌, ◌++◌}
-use Rattle.plan_picture.specs.Drawing.{flow_mark, joined_to}
+use Rattle.plan_picture.specs.Drawing.{flow_mark}
+use Rattle.plan_picture.specs.Joining.{joined_to}
 use Rattle.plan_picture.proofs.lines.push_lines_of.Given as goal
 
 abbrev pub invariant-loop-j : goal.invariant-loop-j
