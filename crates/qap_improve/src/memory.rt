@@ -1,6 +1,6 @@
 //! The memory of a tabu search: when each facility may return to each location (Taillard 1991).
 
-ghost use Rattle.std.specs.Prelude.{◌≡◌, ◌*◌, ◌<◌, ◌≤◌, IfOk, vec_len};
+ghost use Rattle.std.specs.Prelude.{◌≡◌, ◌*◌, ◌<◌, ◌≤◌, IfOk, IfSome, vec_len};
 
 use rand_core::{Rng, SeedableRng};
 use rand_xoshiro::Xoshiro256PlusPlus;
@@ -103,6 +103,22 @@ impl Memory {
         let tenure = self.tenure();
         let place = facility * self.size + location;
         self.free_from[place] = self.now.saturating_add(tenure);
+    }
+
+    /// Two facilities at random, the lower first; `None` if the same one was drawn twice.
+    pub fn draw(&mut self) -> Option<(usize, usize)>
+        requires { 0 < self.old.size }
+        ensures size { self.new.size ≡ self.old.size }
+        ensures order { IfSome result (λ pair. pair.0 < pair.1) }
+        ensures second { IfSome result (λ pair. pair.1 < self.old.size) }
+    {
+        let one = (self.random.next_u64() % self.size as u64) as usize;
+        let other = (self.random.next_u64() % self.size as u64) as usize;
+        if one == other {
+            None
+        } else {
+            Some((one.min(other), one.max(other)))
+        }
     }
 
     /// A number of iterations between 0.9 and 1.1 times the number of facilities that may move, at random.

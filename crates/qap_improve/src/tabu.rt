@@ -24,7 +24,10 @@ use std::alloc::{AllocError, Global};
 pub struct TabuPlan {
     /// The seed of its random numbers.
     pub seed: u64,
-    /// How many iterations it makes at most; 0 answers the start.
+    /// How many exchanges at random it makes before its first iteration. Where they lead, it goes on; the start is still the
+    /// best that it knows.
+    pub kicks: u32,
+    /// How many iterations it makes at most; with 0, and no kicks, it answers the start.
     pub iterations: u64,
 }
 
@@ -98,25 +101,9 @@ pub fn tabu_search_among<H: Hook>(
     let moving = moving_in(may_move);
     let mut memory = Memory::new(alloc, instance.size(), moving, plan.seed)?;
     if has_small_entries(instance) {
-        search::<i64, H>(
-            alloc,
-            instance,
-            start,
-            may_move,
-            plan.iterations,
-            &mut memory,
-            hook,
-        )
+        search::<i64, H>(alloc, instance, start, may_move, plan, &mut memory, hook)
     } else {
-        search::<i128, H>(
-            alloc,
-            instance,
-            start,
-            may_move,
-            plan.iterations,
-            &mut memory,
-            hook,
-        )
+        search::<i128, H>(alloc, instance, start, may_move, plan, &mut memory, hook)
     }
 }
 
@@ -133,7 +120,7 @@ fn search<N: Number, H: Hook>(
     instance: &Instance,
     start: &Perm,
     may_move: &[bool],
-    iterations: u64,
+    plan: &TabuPlan,
     memory: &mut Memory,
     hook: &mut H,
 ) -> Result<Improved, AllocError>
@@ -148,7 +135,8 @@ fn search<N: Number, H: Hook>(
     ensures kept { IfOk result (λ x. KeepsOthers may_move.now start.now x.permutation) }
 {
     let mut walk = begun::<N>(alloc, instance, start)?;
-    for _ in 0..iterations {
+    kick(instance, may_move, &mut walk, memory, plan.kicks);
+    for _ in 0..plan.iterations {
         if !hook.goes_on(walk.best_cost) {
             break;
         }
@@ -193,6 +181,51 @@ fn best_of<N: Number>(walk: Walk<N>) -> Improved
     Improved {
         permutation,
         cost: walk.best_cost,
+    }
+}
+
+/// Makes exchanges at random of facilities that may move: as many as `kicks`, less those drawn that may not.
+fn kick<N: Number>(
+    instance: &Instance,
+    may_move: &[bool],
+    walk: &mut Walk<N>,
+    memory: &mut Memory,
+    kicks: u32,
+)
+    requires walk { IsWalk N.value N.limit instance.now walk.old }
+    requires movable { length may_move.now ≡ instance.now.size }
+    requires size { memory.old.size ≡ instance.now.size }
+    ensures walk { IsWalk N.value N.limit instance.now walk.new }
+    ensures no_dearer { walk.new.best_cost ≤ℤ walk.old.best_cost }
+    ensures kept { (start : List ℕ) → WalkKeeps may_move.now start walk.old → WalkKeeps may_move.now start walk.new }
+    ensures size { memory.new.size ≡ instance.now.size }
+{
+    for _ in 0..kicks {
+        kick_once(instance, may_move, walk, memory);
+    }
+}
+
+/// Draws two facilities, and exchanges them if both may move.
+fn kick_once<N: Number>(
+    instance: &Instance,
+    may_move: &[bool],
+    walk: &mut Walk<N>,
+    memory: &mut Memory,
+)
+    requires walk { IsWalk N.value N.limit instance.now walk.old }
+    requires movable { length may_move.now ≡ instance.now.size }
+    requires size { memory.old.size ≡ instance.now.size }
+    ensures walk { IsWalk N.value N.limit instance.now walk.new }
+    ensures no_dearer { walk.new.best_cost ≤ℤ walk.old.best_cost }
+    ensures kept { (start : List ℕ) → WalkKeeps may_move.now start walk.old → WalkKeeps may_move.now start walk.new }
+    ensures size { memory.new.size ≡ instance.now.size }
+{
+    if let Some((r, s)) = memory.draw()
+        && may_move[r]
+        && may_move[s]
+    {
+        make_exchange(instance, walk, r, s);
+        keep_if_best(walk);
     }
 }
 

@@ -57,6 +57,7 @@ fn assert_reaches_least(
     let instance = instance_of(alloc, start.len(), seed, range)?.ok_or("instance")?;
     let start = permutation_of(alloc, start)?.ok_or("start")?;
     let plan = TabuPlan {
+        kicks: 0,
         seed,
         iterations: 300,
     };
@@ -111,6 +112,7 @@ fn assert_answers_start(
     let instance = instance_of(alloc, 5, 7, Range::Whole)?.ok_or("instance")?;
     let start = permutation_of(alloc, &[2, 0, 4, 1, 3])?.ok_or("start")?;
     let plan = TabuPlan {
+        kicks: 0,
         seed: 1,
         iterations,
     };
@@ -137,6 +139,7 @@ fn equal_seeds_give_equal_answers(rt: HostRuntime) -> Result<(), Fail> {
     let instance = instance_of(alloc, 12, 3, Range::Whole)?.ok_or("instance")?;
     let start = permutation_of(alloc, &[0, 1, 2, 3, 4, 5, 6, 7, 8, 9, 10, 11])?.ok_or("start")?;
     let plan = TabuPlan {
+        kicks: 0,
         seed: 5,
         iterations: 40,
     };
@@ -161,6 +164,7 @@ fn told_search_among(
         return Ok(None);
     }
     let plan = TabuPlan {
+        kicks: 0,
         seed: 2,
         iterations: 300,
     };
