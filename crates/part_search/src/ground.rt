@@ -3,22 +3,21 @@
 ghost use Rattle.std.specs.Prelude.{◌≡◌, ◌<◌, ◌≤ℤ◌, ◌<ℤ◌, ◌*ℤ◌, ℕ, ℤ, pos, All, IfOk, IfSome, MatchOption, map};
 ghost use Rattle.dual_ascent.specs.AscentRange.{HasRange};
 ghost use Rattle.qap_cost.specs.Instance.{IsInstance, Problem};
+ghost use Rattle.pair_duals.specs.PairDuals.{AreOf, Fit};
 ghost use Rattle.subtree_search.specs.Best.{IsIncumbent};
 ghost use Rattle.subtree_search.specs.Opens.{IsOpen, IsSettled, node_of};
 ghost use Rattle.part_search.specs.Ground.{IsChildValue, IsFreeChild, StandFor};
 ghost use Rattle.part_search.specs.Tuples.{open_of};
 
+use crate::aid::Aid;
 use crate::open_node::Open;
-use dual_ascent::{ascend, has_range};
+use dual_ascent::{Effort, ascend_softly, has_range};
 use pair_duals::{PairDuals, cost_step};
 use qap_cost::{Instance, Partial, Perm};
 use qap_symmetry::{Table, symmetries_of};
 use std::alloc::{AllocError, Global};
 use std::marker::Model;
-use subtree_search::{Incumbent, OpenChild, Stop, Subtree, SubtreeSearch};
-
-/// How many rounds find the pair duals of a node that starts from those of the root.
-const ROUNDS: u32 = 8;
+use subtree_search::{Incumbent, OpenChild, Subtree, SubtreeSearch};
 
 /// An instance with the symmetries of its matrices and its cost step, and pair duals of the root, from which those of other nodes
 /// start. It is seen as the instance.
@@ -44,14 +43,14 @@ impl Model for Ground {
 }
 
 impl Ground {
-    /// What searches below a root need, with pair duals of this scale, found by this many rounds at the root. `None` if
-    /// the instance is out of range for that scale.
+    /// What searches below a root need, with pair duals of this scale, found at the root with this effort. `None` if the
+    /// instance is out of range for that scale.
     pub fn new(
         alloc: Global,
         instance: &Instance,
         root: &Partial,
         scale: u32,
-        rounds: u32,
+        effort: &Effort,
     ) -> Result<Option<Ground>, AllocError>
         requires { instance.now.size ≡ root.now.size }
         ensures { IfOk result (λ found. MatchOption found (HasRange instance.now scale → ⊥) (λ (I : Problem). I ≡ instance.now)) }
@@ -59,7 +58,7 @@ impl Ground {
         if !has_range(instance, scale) {
             return Ok(None);
         }
-        let duals = ascend(alloc, instance, root, None, rounds, scale)?;
+        let duals = ascend_softly(alloc, instance, root, None, effort, scale)?;
         let flows = symmetries_of(alloc, instance, Table::Flows)?;
         let distances = symmetries_of(alloc, instance, Table::Distances)?;
         Ok(Some(Ground {
@@ -82,15 +81,15 @@ impl Ground {
         &self.instance
     }
 
-    /// Splits an open node under pair duals of its own and tries its children; those that remain open cover it at the
-    /// cost of the incumbent.
-    pub(crate) fn split<S: Stop>(
+    /// Splits an open node under pair duals of its own and tries its children; those that remain open cover it at the cost
+    /// of the incumbent.
+    pub(crate) fn split<S: Aid>(
         &self,
         alloc: Global,
         search: &mut SubtreeSearch,
         at: &Open,
         incumbent: &mut Incumbent,
-        stop: &S,
+        aid: &S,
     ) -> Result<Vec<Open>, AllocError>
         requires size { at.now.node.size ≡ self.now.size }
         requires incumbent { IsIncumbent self.now incumbent.old }
@@ -98,17 +97,70 @@ impl Ground {
         ensures incumbent { IsIncumbent self.now incumbent.new }
         ensures no_worse { incumbent.new.cost ≤ℤ incumbent.old.cost }
     {
-        let start = Some(&self.duals);
-        let duals = ascend(alloc, &self.instance, &at.node, start, ROUNDS, self.scale)?;
+        let duals = self.duals_at(alloc, &at.node, aid)?;
+        let opens = self.split_under(alloc, search, at, &duals, incumbent, aid)?;
+        if !opens.is_empty() {
+            aid.keep(&at.node, duals)?;
+        }
+        Ok(opens)
+    }
+
+    /// Pair duals of a node, which start from those that are known of a node above it, or from those of the root.
+    fn duals_at<S: Aid>(
+        &self,
+        alloc: Global,
+        node: &Partial,
+        aid: &S,
+    ) -> Result<PairDuals<i64>, AllocError>
+        requires { node.now.size ≡ self.now.size }
+        ensures of_node { IfOk result (AreOf node.now) }
+        ensures fits { IfOk result (Fit self.now) }
+        ensures range { IfOk result (λ D. HasRange self.now D.scale) }
+    {
+        let known = aid.start_for(node)?;
+        let start = match &known {
+            Some(duals) => duals,
+            None => &self.duals,
+        };
+        let effort = Effort::inner();
+        ascend_softly(
+            alloc,
+            &self.instance,
+            node,
+            Some(start),
+            &effort,
+            self.scale,
+        )
+    }
+
+    /// Splits an open node under these pair duals.
+    fn split_under<S: Aid>(
+        &self,
+        alloc: Global,
+        search: &mut SubtreeSearch,
+        at: &Open,
+        duals: &PairDuals<i64>,
+        incumbent: &mut Incumbent,
+        aid: &S,
+    ) -> Result<Vec<Open>, AllocError>
+        requires size { at.now.node.size ≡ self.now.size }
+        requires of_node { AreOf at.now.node duals.now }
+        requires fit { Fit self.now duals.now }
+        requires range { HasRange self.now duals.now.scale }
+        requires incumbent { IsIncumbent self.now incumbent.old }
+        ensures stand { IfOk result (λ opens. StandFor self.now incumbent.new.cost (open_of at.now) (map open_of opens.items)) }
+        ensures incumbent { IsIncumbent self.now incumbent.new }
+        ensures no_worse { incumbent.new.cost ≤ℤ incumbent.old.cost }
+    {
         let subtree = Subtree {
             instance: &self.instance,
             node: &at.node,
-            duals: &duals,
+            duals,
             step: self.step,
             flows: &self.flows,
             distances: &self.distances,
         };
-        let children = search.split(&subtree, incumbent, stop)?;
+        let children = search.split(&subtree, incumbent, aid)?;
         children_of(alloc, at, &children, duals.scale())
     }
 }

@@ -2,7 +2,9 @@
 //! those that remain open. Closed nodes are not stored.
 #![tactic(auto)]
 
+mod aid;
 mod answer;
+mod board;
 mod ground;
 mod law;
 mod open_node;
@@ -17,10 +19,11 @@ mod tuples;
 mod watch;
 mod worker;
 
+pub use aid::Aid;
 pub use answer::{Answer, answer_of};
 pub use ground::Ground;
 pub use law::{best_law, bound_law, opening_law, optimal_law, order_law, replacement_law};
 pub use schedule::{Step, Task, play};
-pub use threads::{Crew, solve};
+pub use threads::{Crew, Order, solve};
 pub use watch::Watch;
 pub use worker::Worker;

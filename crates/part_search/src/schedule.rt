@@ -11,6 +11,7 @@ ghost use Rattle.part_search.specs.Opening.{IsOpening, part_of};
 ghost use Rattle.part_search.specs.Schedule.{IsRun, Moves, Turns};
 ghost use Rattle.part_search.specs.Worker.{Allows, Made};
 
+use crate::aid;
 use crate::ground::Ground;
 use crate::opening::opening_space;
 use crate::worker::Worker;
@@ -155,7 +156,7 @@ fn turn_of<L: Law, S: Stop>(
     ensures instance { worker.new ≡ worker.old }
 {
     worker.step(room, share)?;
-    worker.try_node(stop)
+    worker.try_node(&aid::Alone(stop))
 }
 
 /// A worker who has done nothing yet.

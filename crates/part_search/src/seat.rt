@@ -3,12 +3,17 @@
 ghost use Rattle.std.specs.Prelude.{◌≡◌};
 ghost use Rattle.part_search.specs.Worker.{Allows};
 
+use crate::aid::Aid;
+use crate::board::{Board, Wanted};
+use crate::threads::Order;
 use crate::worker::Worker;
+use pair_duals::PairDuals;
+use qap_cost::Partial;
 use shared_space::{Law, Room, Share, Shared, SharedError, Steps};
-use std::alloc::AllocError;
+use std::alloc::{AllocError, Global};
 use std::marker::Model;
-use std::sync::Wait;
 use std::sync::atomic::{AtomicBool, AtomicU64, Ordering};
+use std::sync::{Arc, Mutex, Wait};
 use std::time::{self, Duration, Instant};
 use subtree_search::Stop;
 use tuple_match::Template;
@@ -17,16 +22,20 @@ use tuple_match::Template;
 const STEPS_TO_IDLE: usize = 3;
 
 /// What workers share: the space, what they wait for there, how many wait, whether the search should stop, how many
-/// nodes were taken and tried, and when children are left open untried.
+/// nodes were taken and tried, when children are left open untried, what they know of open nodes, and which they take
+/// first.
 #[derive(Drop)]
 pub(crate) struct Workplace<'a, R: Wait + time::Clock, L: Law> {
     pub(crate) rt: &'a R,
+    pub(crate) alloc: Global,
     pub(crate) shared: &'a Shared<L>,
     pub(crate) nodes: &'a Template,
     pub(crate) waiting: &'a AtomicU64,
     pub(crate) halt: &'a AtomicBool,
     pub(crate) tried: &'a AtomicU64,
     pub(crate) turn_ms: u64,
+    pub(crate) board: &'a Mutex<Board>,
+    pub(crate) order: Order,
 }
 
 /// Lets a worker try the children of a node until the search is to stop, another worker has no node, or its time is up.
@@ -35,6 +44,8 @@ struct Due<'a, R: Wait + time::Clock> {
     rt: &'a R,
     waiting: &'a AtomicU64,
     halt: &'a AtomicBool,
+    board: &'a Mutex<Board>,
+    alloc: Global,
     since: Option<Instant>,
     turn: Duration,
 }
@@ -46,6 +57,17 @@ impl<R: Wait + time::Clock> Stop for Due<'_, R> {
         self.waiting.load(Ordering::SeqCst) > 0
             || self.halt.load(Ordering::SeqCst)
             || self.is_over()
+    }
+}
+
+impl<R: Wait + time::Clock> Aid for Due<'_, R> {
+    fn start_for(&self, node: &Partial) -> Result<Option<Arc<PairDuals<i64>>>, AllocError> {
+        self.board.lock(self.rt).nearest(node)
+    }
+
+    fn keep(&self, node: &Partial, duals: PairDuals<i64>) -> Result<(), AllocError> {
+        let duals = Arc::new(self.alloc, duals)?;
+        self.board.lock(self.rt).keep(node, duals)
     }
 }
 
@@ -131,6 +153,8 @@ impl<L: Law> Seat<L> {
             rt: place.rt,
             waiting: place.waiting,
             halt: place.halt,
+            board: place.board,
+            alloc: place.alloc,
             since: Instant::now(place.rt).ok(),
             turn: Duration::from_millis(place.turn_ms),
         };
@@ -141,8 +165,14 @@ impl<L: Law> Seat<L> {
             self.ended = Some(Ended::Memory);
         }
         self.lacks = false;
+        let wanted = wanted_at(place);
+        let is_advised = wanted.is_some();
+        self.worker.want(wanted);
         place.shared.together(place.rt, self);
-        if self.ended.is_none() && self.lacks {
+        if self.ended.is_none() && post(place, self.worker.take_opened()).is_err() {
+            self.ended = Some(Ended::Memory);
+        }
+        if self.ended.is_none() && self.lacks && !is_advised {
             self.ended = wait(place).err();
         }
     }
@@ -230,4 +260,26 @@ fn wait<R: Wait + time::Clock, L: Law>(place: &Workplace<'_, R, L>) -> Result<()
         Err(SharedError::Closed) => Err(Ended::Done),
         Err(SharedError::OutOfMemory) => Err(Ended::Memory),
     }
+}
+
+/// The open node that a worker should take next, if the order says which.
+fn wanted_at<R: Wait + time::Clock, L: Law>(place: &Workplace<'_, R, L>) -> Option<Wanted> {
+    match place.order {
+        Order::Deepest => None,
+        Order::Least => place.board.lock(place.rt).take_least(),
+    }
+}
+
+/// Puts the nodes that were left open on the board, if workers take nodes from there.
+fn post<R: Wait + time::Clock, L: Law>(
+    place: &Workplace<'_, R, L>,
+    opened: Vec<Wanted>,
+) -> Result<(), AllocError> {
+    if matches!(place.order, Order::Least) {
+        let mut board = place.board.lock(place.rt);
+        for wanted in opened {
+            board.add(wanted)?;
+        }
+    }
+    Ok(())
 }

@@ -10,6 +10,7 @@ ghost use Rattle.part_search.specs.Opening.{IsOpening, part_of};
 ghost use Rattle.part_search.specs.Worker.{Allows};
 
 use crate::answer::{Answer, answer_of};
+use crate::board::Board;
 use crate::opening::opening_space;
 use crate::schedule::Task;
 use crate::seat::{Seat, Workplace};
@@ -29,16 +30,26 @@ use std::{thread, time};
 use subtree_search::Incumbent;
 use tuple_match::Template;
 
+/// Which open node a worker takes next.
+#[derive(Clone, Copy, Debug, PartialEq, Eq)]
+pub enum Order {
+    /// The deepest, of these the newest: the search ends soonest, in the least memory.
+    Deepest,
+    /// The one with the least value: the proved bound rises steadily.
+    Least,
+}
+
 /// How many milliseconds the keeper pauses before it looks again.
 const PAUSE_MS: u64 = 1;
 
-/// The workers of a search: how many, the leases of their transactions in milliseconds, and the time in milliseconds
-/// after which they leave a node's untried children open.
+/// The workers of a search: how many, the leases of their transactions in milliseconds, the time in milliseconds after
+/// which they leave a node's untried children open, and which nodes they take first.
 #[derive(Clone, Copy, Debug)]
 pub struct Crew {
     pub workers: u16,
     pub lease_ms: u64,
     pub turn_ms: u64,
+    pub order: Order,
 }
 
 /// The best permutation that a search by threads finds, and a lower bound on all completions of the root: the cost
@@ -124,14 +135,18 @@ where
     let waiting = AtomicU64::new(0);
     let halt = AtomicBool::new(false);
     let tried = AtomicU64::new(0);
+    let board = Mutex::new(Board::new(alloc));
     let place = Workplace {
         rt,
+        alloc,
         shared: &shared,
         nodes: &nodes,
         waiting: &waiting,
         halt: &halt,
         tried: &tried,
         turn_ms: crew.turn_ms,
+        board: &board,
+        order: crew.order,
     };
     work_all(&place, &seats, task.stop);
     let shares = shares_of(room, seats);

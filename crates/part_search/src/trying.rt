@@ -1,44 +1,56 @@
 //! A worker's work on the open node that it took, outside the space.
 
-ghost use Rattle.std.specs.Prelude.{◌≡◌, ◌≤ℤ◌, ◌++◌, ◌∷◌, [], true, IfOk, IfSome, OnOk, map, ◌<◌, ◌≤◌};
+ghost use Rattle.std.specs.Prelude.{◌≡◌, ◌≤ℤ◌, ◌++◌, ◌∷◌, [], IfOk, IfSome, OnOk, map, ◌<◌, ◌≤◌};
 ghost use Rattle.space_txn.specs.Content.{added_of};
 ghost use Rattle.subtree_search.specs.Best.{IsIncumbent};
 ghost use Rattle.part_search.specs.Tuples.{node_tuple, open_of};
 ghost use Rattle.part_search.specs.Worker.{HasOpen, HasTaken, HasTried};
 
+use crate::aid::Aid;
+use crate::board::Wanted;
 use crate::ground::Ground;
 use crate::open_node::Open;
 use crate::tuples::{read_open, tuple_of_open};
 use shared_space::writing_law;
 use space_txn::Txn;
 use std::alloc::{AllocError, Global};
-use subtree_search::{Incumbent, Stop, SubtreeSearch};
+use subtree_search::{Incumbent, SubtreeSearch};
 use tuple_match::Tuple;
 use tuple_space::{EntryId, Lease};
 
-/// Splits the open node that was taken, tries its children, and writes those that remain open. `false` if the entry is
-/// not one of an open node, or its lease ends.
-pub(crate) fn try_taken<S: Stop>(
+/// Splits the open node that was taken, tries its children, writes those that remain open, and lists them. `None` if the
+/// entry is not one of an open node, or its lease ends.
+pub(crate) fn try_taken<S: Aid>(
     alloc: Global,
     ground: &Ground,
     search: &mut SubtreeSearch,
     incumbent: &mut Incumbent,
     txn: &mut Txn,
     id: EntryId,
-    stop: &S,
-) -> Result<bool, AllocError>
+    aid: &S,
+) -> Result<Option<Vec<Wanted>>, AllocError>
     requires incumbent { IsIncumbent ground.now incumbent.old }
     requires taken { HasTaken txn.old id }
-    ensures tried { IfOk result (λ tried. tried ≡ true → HasTried ground.now incumbent.new.cost txn.new) }
+    ensures tried { IfOk result (λ tried. IfSome tried (λ _. HasTried ground.now incumbent.new.cost txn.new)) }
     ensures incumbent { IsIncumbent ground.now incumbent.new }
     ensures no_worse { incumbent.new.cost ≤ℤ incumbent.old.cost }
 {
     let Some(at) = open_at(alloc, ground.instance().size(), txn, id)? else {
-        return Ok(false);
+        return Ok(None);
     };
-    let opens = ground.split(alloc, search, &at, incumbent, stop)?;
+    let opens = ground.split(alloc, search, &at, incumbent, aid)?;
     write_all(alloc, txn, &opens)?;
-    Ok(true)
+    let wanted = wanted_of(alloc, &opens)?;
+    Ok(Some(wanted))
+}
+
+/// The open nodes, by templates.
+fn wanted_of(alloc: Global, opens: &[Open]) -> Result<Vec<Wanted>, AllocError> {
+    let mut wanted = Vec::with_capacity(alloc, opens.len())?;
+    for open_node in opens {
+        wanted.push(Wanted::new(alloc, open_node)?)?;
+    }
+    Ok(wanted)
 }
 
 /// The open node of size `n` in the tuple of an entry that was taken, where that is there to stay.

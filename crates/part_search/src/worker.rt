@@ -7,6 +7,8 @@ ghost use Rattle.qap_cost.specs.Instance.{Problem};
 ghost use Rattle.part_search.specs.Worker.{Allows, IsStage, IsWorker, Made};
 ghost use Rattle.part_search.specs.declared.stage.Stage.{Stage};
 
+use crate::aid::Aid;
+use crate::board::Wanted;
 use crate::ground::Ground;
 use crate::stage::{Outcome, Stage};
 use crate::steps::{abort, begin, commit, take_best, take_node};
@@ -18,7 +20,7 @@ use std::alloc::{AllocError, Global};
 use std::marker::Model;
 use std::mem::replace;
 use std::sync::Arc;
-use subtree_search::{Incumbent, Stop, SubtreeSearch};
+use subtree_search::{Incumbent, SubtreeSearch};
 use tuple_match::Template;
 
 /// What a worker's calls are made with.
@@ -28,8 +30,20 @@ pub(crate) struct Tools {
     lease_ms: u64,
     /// Asks for any open node.
     node: Template,
+    /// Asks for the open node to take next, if one is wanted.
+    wanted: Option<Template>,
     /// Asks for the best permutation.
     best: Template,
+}
+
+impl Tools {
+    /// What its next call asks for that takes a node.
+    fn next(&self) -> &Template {
+        match &self.wanted {
+            Some(template) => template,
+            None => &self.node,
+        }
+    }
 }
 
 /// A worker of a search on parts: it takes an open node, splits it and tries its children, and commits those that are left open with
@@ -42,6 +56,8 @@ pub struct Worker {
     search: SubtreeSearch,
     incumbent: Incumbent,
     stage: Stage,
+    /// The nodes that its last trial left open.
+    opened: Vec<Wanted>,
 }
 
 impl Model for Worker {
@@ -70,6 +86,7 @@ impl Worker {
         let tools = Tools {
             lease_ms,
             node: node_template(alloc)?,
+            wanted: None,
             best: best_template(alloc)?,
         };
         let incumbent = Incumbent::new(ground.instance(), start);
@@ -80,12 +97,13 @@ impl Worker {
             search: SubtreeSearch::new(alloc),
             incumbent,
             stage: Stage::Idle,
+            opened: Vec::new(alloc),
         })
     }
 
     /// If it took an open node, splits it and tries its children, outside the space; its next step commits what is
     /// left. At an error memory ran out, and the node is given up.
-    pub fn try_node<S: Stop>(&mut self, stop: &S) -> Result<(), AllocError>
+    pub fn try_node<S: Aid>(&mut self, aid: &S) -> Result<(), AllocError>
         ensures { self.new ≡ self.old }
     {
         let stage = replace(&mut self.stage, Stage::Idle);
@@ -95,10 +113,11 @@ impl Worker {
             &mut self.search,
             &mut self.incumbent,
             stage,
-            stop,
+            aid,
         );
         self.stage = stage;
-        tried
+        self.opened = tried?;
+        Ok(())
     }
 
     /// Makes the next step, one call on the room, and answers whether it met no refusal. At an error there was no memory.
@@ -125,6 +144,23 @@ impl Worker {
         outcome.told
     }
 
+    /// Says which open node it asks for when it next takes one; any, if none is wanted.
+    pub(crate) fn want(&mut self, wanted: Option<Wanted>)
+        ensures { self.new ≡ self.old }
+    {
+        self.tools.wanted = match wanted {
+            Some(wanted) => Some(wanted.into_template()),
+            None => None,
+        };
+    }
+
+    /// The nodes that its last trial left open, once.
+    pub(crate) fn take_opened(&mut self) -> Vec<Wanted>
+        ensures { self.new ≡ self.old }
+    {
+        replace(&mut self.opened, Vec::new(self.alloc))
+    }
+
     /// Whether it has no transaction.
     pub(crate) fn is_idle(&self) -> bool {
         matches!(self.stage, Stage::Idle)
@@ -144,28 +180,29 @@ impl Worker {
     }
 }
 
-/// The stage of a worker after it has tried the node that it took, and whether there was memory.
-fn tried<S: Stop>(
+/// The stage of a worker after it has tried the node that it took, and the nodes that are left open. At an error there
+/// was no memory.
+fn tried<S: Aid>(
     alloc: Global,
     ground: &Ground,
     search: &mut SubtreeSearch,
     incumbent: &mut Incumbent,
     stage: Stage,
-    stop: &S,
-) -> (Stage, Result<(), AllocError>)
+    aid: &S,
+) -> (Stage, Result<Vec<Wanted>, AllocError>)
     requires worker { IsWorker ground.now incumbent.old stage }
     ensures { IsWorker ground.now incumbent.new result.0 }
 {
     match stage {
         Stage::Taken(mut txn, id) => {
-            let tried = try_taken(alloc, ground, search, incumbent, &mut txn, id, stop);
+            let tried = try_taken(alloc, ground, search, incumbent, &mut txn, id, aid);
             match tried {
-                Ok(true) => (Stage::Tried(txn), Ok(())),
-                Ok(false) => (Stage::GivingUp(txn), Ok(())),
+                Ok(Some(opened)) => (Stage::Tried(txn), Ok(opened)),
+                Ok(None) => (Stage::GivingUp(txn), Ok(Vec::new(alloc))),
                 Err(error) => (Stage::GivingUp(txn), Err(error)),
             }
         }
-        other => (other, Ok(())),
+        other => (other, Ok(Vec::new(alloc))),
     }
 }
 
@@ -187,7 +224,7 @@ fn turn<L: Law, M: Room<L>>(
     let instance = ground.instance();
     match stage {
         Stage::Idle => begin(room, tools.lease_ms),
-        Stage::Begun(txn) => take_node(room, &tools.node, txn),
+        Stage::Begun(txn) => take_node(room, tools.next(), txn),
         Stage::Taken(txn, _) => abort(room, txn),
         Stage::Tried(txn) => take_best(alloc, instance, room, &tools.best, txn, incumbent),
         Stage::Ready(txn) => commit(room, share, instance, txn),

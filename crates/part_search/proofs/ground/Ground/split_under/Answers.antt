@@ -1,4 +1,4 @@
-use Rattle.part_search.proofs.ground.Ground.split.Goals as goal
+use Rattle.part_search.proofs.ground.Ground.split_under.Goals as goal
 
 pub returns-clause-stand : goal.returns-clause-stand
 returns-clause-stand g c =
