@@ -294,20 +294,81 @@ def expect_pairs(plan, answer):
     expect(all(costs[i, j] == cost for i, j, cost in told), f"the pairs are {told}")
 
 
-def picture(run, name, source, answer):
-    """A picture is well-formed, has the cost as its title, and names each place and its department, by the JSON of
-    an answer."""
-    answer = json_text.loads(run.text(answer))
-    plan = Plan(run, source)
+SVG = "{http://www.w3.org/2000/svg}"
+
+
+def boxes_of(svg):
+    """The department and the place of each box of a picture; their names may be broken into lines."""
+    boxes = []
+    for mark in svg:
+        if mark.tag == f"{SVG}rect" and mark.get("rx"):
+            boxes.append(["", ""])
+        elif mark.tag == f"{SVG}text" and mark.get("text-anchor"):
+            boxes[-1][0 if mark.get("font-weight") == "bold" else 1] += mark.text
+    return [tuple(box) for box in boxes]
+
+
+def caption_of(svg):
+    """The title of a picture, and what it says about the cost."""
+    lines = [mark for mark in svg.iter(f"{SVG}text") if not mark.get("text-anchor") and not len(mark)]
+    bold = [mark.get("font-weight") == "bold" for mark in lines]
+    return ["".join(mark.text for mark, is_bold in zip(lines, bold) if is_bold == title) for title in (True, False)]
+
+
+def drawn(svg, plan, answer):
+    """A picture has each department at its place, and the other places are empty."""
+    taken = dict(zip(answer["arrangement"], plan.departments))
+    expect(sorted(boxes_of(svg)) == sorted((taken.get(place, ""), place) for place in plan.places), f"the boxes are {boxes_of(svg)}")
+
+
+def verdict_of(answer):
+    """The beginning of what is said about the cost of an answer: that it is optimal or a bound, or as stated."""
+    if answer["status"] == "optimal":
+        return f"cost {answer['cost']}, (optimal|stated as optimal)"
+    return f"cost {answer['cost']}, (stated )?within {answer['bound']} to {answer['cost']}"
+
+
+def picture(run, name, source, answer, *title):
+    """A picture is well-formed, has the title, says what is known about the cost, and has each department at its place,
+    by the JSON of an answer."""
+    answer, title = json_text.loads(run.text(answer)), " ".join(title)
     svg = ElementTree.fromstring(run.text(name))
-    space = "{http://www.w3.org/2000/svg}"
-    texts = [("".join(text.itertext()), text.get("font-weight") == "bold") for text in svg.iter(f"{space}text")]
-    names = [text for text, _ in texts[1:]]
-    expect(svg.tag == f"{space}svg", f"the root is {svg.tag}")
-    expect(texts[0][0] == f"cost {answer['cost']}", f"the title is {texts[0][0]}")
-    expect(sorted(names) == sorted(plan.departments + plan.places), f"the names are {names}")
-    drawn = [(text, below) for (text, bold), (below, _) in zip(texts, texts[1:]) if bold]
-    expect(sorted(drawn) == sorted(zip(plan.departments, answer["arrangement"])), f"the picture has {drawn}")
+    expect(svg.tag == f"{SVG}svg", f"the root is {svg.tag}")
+    found, verdict = caption_of(svg)
+    expect(found == title, f"the title is {found}")
+    expect(re.match(verdict_of(answer), verdict), f"it says {verdict}")
+    drawn(svg, Plan(run, source), answer)
+
+
+def arrows(run, name, answer):
+    """A picture's arrows are as wide as the costliest pairs of an answer cost, the costliest first."""
+    pairs = json_text.loads(run.text(answer))["pairs"]
+    svg = ElementTree.fromstring(run.text(name))
+    marked = [group for group in svg.iter(f"{SVG}g") if group.get("marker-end")]
+    widths = [Fraction(path.get("stroke-width")) for path in marked[0]]
+    costs = [Fraction(pair["cost"]) for pair in pairs]
+    wanted = [max(5, min(90, cost * 90 // costs[0])) / Fraction(10) for cost in costs]
+    expect(widths[:len(wanted)] == wanted and widths == sorted(widths, reverse=True), f"the widths are {widths}")
+
+
+def report(run, name, source, answer, *title):
+    """A report is well-formed; it has the title, what is proved, the picture, the place of each department, the
+    costliest pairs and the commands that check it."""
+    answer, title, plan = json_text.loads(run.text(answer)), " ".join(title), Plan(run, source)
+    page = ElementTree.fromstring(run.text(name))
+    titles = [page.find("head/title").text, page.find("body/h1").text]
+    expect(titles == [title, title], f"the titles are {titles}")
+    verdict = page.find("body/p[@class='verdict']").text.strip()
+    expect(re.match(verdict_of(answer) + ".*proved", verdict), f"it says {verdict}")
+    drawn(page.find(f"body/figure/{SVG}svg"), plan, answer)
+    rows = [[[cell.text for cell in row.findall("td")] for row in table.findall("tr")[1:]] for table in page.findall("body/table")]
+    empty = [place for place in plan.places if place not in answer["arrangement"]]
+    wanted = [*map(list, zip(plan.departments, answer["arrangement"])), *(["stays empty", place] for place in empty)]
+    expect(rows[0] == wanted, f"the places are {rows[0]}")
+    pairs = [[pair["from"], pair["to"], pair["cost"]] for pair in answer["pairs"]]
+    expect(rows[1][:len(pairs)] == pairs, f"the pairs are {rows[1]}")
+    commands = page.findall("body/pre")[-1].text
+    expect(len(re.findall(r"(?m)^qapplan (solve|check) ", commands)) == 2, f"the commands are {commands}")
 
 
 def solution(run, name, instance, optimum):

@@ -8,6 +8,7 @@ pub mod NodeLines
 pub mod Options
 pub mod Outputs
 pub mod Parts
+pub mod Picturing
 pub mod Planning
 pub mod Reading
 pub mod Refused

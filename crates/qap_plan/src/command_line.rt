@@ -35,6 +35,8 @@ pub struct Request<'a> {
     pub proof: Option<&'a str>,
     /// The file that a picture of the answer to a plan is written to.
     pub svg: Option<&'a str>,
+    /// The file that a report on the answer to a plan is written to.
+    pub report: Option<&'a str>,
     /// Whether to write nothing to standard output.
     pub quiet: bool,
     /// Whether to report progress on standard error even if that is not a terminal.
@@ -172,6 +174,12 @@ fn solve_command<'a>(alloc: Global) -> Result<Command<'a>, AllocError> {
                 "draw the answer to a plan, as an SVG picture in this file",
             ),
         )?
+        .arg(
+            Arg::new(alloc, "report")
+                .long("report")
+                .value_name("FILE")
+                .help("write a report on the answer to a plan to this file, as an HTML page"),
+        )?
         .arg(ignore_rest(alloc))
 }
 
@@ -257,8 +265,9 @@ pub(crate) fn with_improvement<'a>(
                 .long("improve")
                 .value_name("ITERATIONS")
                 .value_parser(value_parser!(u64))
-                .default_value("5000")
-                .help("number of exchanges that a tabu search makes first"),
+                .help(
+                    "number of exchanges that a tabu search makes first; 5000 by default, and under a time limit as many as fit in a part of it",
+                ),
         )?
         .arg(
             Arg::new(alloc, "seed")
@@ -283,7 +292,7 @@ pub(crate) fn options_of(found: &ArgMatches<'_>, passes: bool, proves: bool) -> 
         nodes: found.get_one("nodes"),
         milliseconds: time_limit(found),
         memory: found.get_one("memory"),
-        improve: found.get_one("improve")?,
+        improve: found.get_one("improve"),
         seed: found.get_one("seed")?,
         passes,
         proves,
@@ -304,6 +313,7 @@ fn request_of<'a>(found: &ArgMatches<'a>) -> Option<Request<'a>>
         csv: found.get_str("csv"),
         proof,
         svg: found.get_str("svg"),
+        report: found.get_str("report"),
         quiet: found.get_flag("quiet"),
         progress: found.get_flag("progress"),
         stop_file: found.get_str("stop-file"),

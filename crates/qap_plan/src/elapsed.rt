@@ -63,4 +63,10 @@ impl<T: time::Clock> Keeper for Elapsed<'_, T> {
     fn resident_bytes(&self) -> Option<u64> {
         None
     }
+
+    fn usable_bytes(&self) -> Option<u64> {
+        None
+    }
+
+    fn tell_memory(&self) {}
 }

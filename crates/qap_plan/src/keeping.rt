@@ -6,13 +6,15 @@ ghost use Rattle.qap_cost.specs.Placement.{Completes};
 ghost use Rattle.qap_plan.specs.Keeping.{IsKept, IsNoDearerKept, IsSearched, ProvesKept, ShowsKept};
 ghost use Rattle.qap_plan.specs.Options.{AreLimited};
 
+use crate::improving::improved_below;
 use crate::keeper::Keeper;
 use crate::memory_limit::WithinMemory;
 use crate::options::Options;
-use crate::planning::{Planned, UntilStopped, planned_by, proved_by};
+use crate::planning::{Planned, planned_by, proved_by};
 use crate::subtree_proof::prove_subtrees;
 use crate::subtrees::search_subtrees;
-use plan_fixed::{ascending, completed, completes, improved_keeping};
+use crate::timing::bound_time;
+use plan_fixed::{ascending, completed, completes};
 use qap_cost::{Instance, Partial, Perm, cost};
 use qap_search::{Always, Branching, Pace, Plan, Stop, identity, prove_from, solve_least_from};
 use std::alloc::{AllocError, Global};
@@ -42,14 +44,16 @@ where
     ensures pair_proof { IfOk result (λ x. IfSome x.pair_proof (ShowsKept instance.now fixed.now x.permutation x.cost x.bound)) }
 {
     let root = ascending(alloc, fixed)?;
-    let first = kept_start(alloc, instance, fixed, start, options, keeper)?;
+    let bound_ms = bound_time(system, alloc, instance, &root, options, keeper)?;
+    let timing = (keeper, bound_ms);
+    let first = kept_start(system, alloc, instance, fixed, start, options, timing)?;
     let within = WithinMemory::new(keeper, options.allowed_bytes());
     let pace = Pace {
         clock: &within,
         gate: &Always,
     };
     let plan = Plan {
-        crew: options.crew(instance.size()),
+        crew: options.crew_in_time(&root, bound_ms, keeper.now()),
         root: &root,
         start: &first,
         branching: Branching::Cutting,
@@ -62,33 +66,34 @@ where
         let found = proved_by(found)?;
         return Ok(kept_or_first(instance, fixed, first, found));
     }
-    if let Some(found) = search_subtrees(system, alloc, instance, &plan, options.nodes, &within)? {
+    if let Some(found) = search_subtrees(system, alloc, instance, &plan, options, &within)? {
         return Ok(kept_or_first(instance, fixed, first, found));
     }
     let found = solve_least_from(system, alloc, instance, &plan, &pace, &within, &within)?;
     Ok(kept_or_first(instance, fixed, first, planned_by(found)))
 }
 
-/// The initial permutation of the search: what a tabu search finds that respects what is fixed, from the start, or any,
-/// made to respect it.
-fn kept_start<S: Stop>(
+/// The initial permutation of the search: what tabu searches find that respects what is fixed, from the start, or any, made
+/// to respect it.
+fn kept_start<T, K>(
+    system: &T,
     alloc: Global,
     instance: &Instance,
     fixed: &Partial,
     start: Option<Perm>,
     options: &Options,
-    stop: &S,
+    timing: (&K, u64),
 ) -> Result<Perm, AllocError>
+where
+    T: Threads + Wait + time::Clock + Sync,
+    K: Keeper,
     requires start { IfSome start (Permutes instance.now) }
     requires size { fixed.now.size ≡ instance.now.size }
     ensures completes { IfOk result (Completes fixed.now) }
     ensures no_dearer { IfOk result (λ p. IsNoDearerKept instance.now fixed.now start (cost_of instance.now p)) }
 {
     let own = own_start(alloc, instance, fixed, start)?;
-    let plan = options.tabu_plan();
-    let mut hook = UntilStopped { stop };
-    let found = improved_keeping(alloc, instance, fixed, &own, &plan, &mut hook)?;
-    Ok(found.permutation)
+    improved_below(system, alloc, instance, fixed, own, options, timing)
 }
 
 /// The start, or the identity, made to respect what is fixed.

@@ -16,6 +16,7 @@ mod converting;
 mod duration;
 mod elapsed;
 mod error;
+mod improving;
 mod instance_file;
 mod json;
 mod judged_files;
@@ -29,6 +30,7 @@ mod outputs;
 mod part_command;
 mod part_run;
 mod parting;
+mod picturing;
 mod plan_run;
 mod planning;
 mod progress;
@@ -44,6 +46,7 @@ mod standing;
 mod starting;
 mod subtree_proof;
 mod subtrees;
+mod timing;
 
 ghost use Rattle.qap_plan.specs.Asking.{IsLimitedTask};
 ghost use Rattle.qap_plan.specs.Options.{AreLimited};
@@ -152,6 +155,9 @@ where
     if request.svg.is_some() {
         return refuse_picture(rt, request.file);
     }
+    if request.report.is_some() {
+        return refuse_report(rt, request.file);
+    }
     if request.csv.is_some() {
         return refuse_table(rt, request.file);
     }
@@ -186,6 +192,14 @@ where
 pub(crate) fn refuse_picture(rt: &HostRuntime, file: &str) -> ExitCode {
     let _ = rt.eprintln(format_args!(
         "error: {file}: a picture needs a plan, a file whose name ends in .toml: remove --svg, or write one"
+    ));
+    ExitCode::from(Status::Usage.code())
+}
+
+/// Says that there is no report on an instance without names.
+fn refuse_report(rt: &HostRuntime, file: &str) -> ExitCode {
+    let _ = rt.eprintln(format_args!(
+        "error: {file}: a report needs a plan, a file whose name ends in .toml: remove --report, or write one"
     ));
     ExitCode::from(Status::Usage.code())
 }

@@ -14,8 +14,12 @@ pub struct WithinMemory<'a, K: Keeper> {
 }
 
 impl<'a, K: Keeper> WithinMemory<'a, K> {
-    /// For a search that has come nowhere yet.
+    /// For a search that has come nowhere yet, and may have this many bytes; by default as many as the keeper finds usable.
     pub fn new(keeper: &'a K, allowed: Option<u64>) -> WithinMemory<'a, K> {
+        let allowed = match allowed {
+            Some(bytes) => Some(bytes),
+            None => keeper.usable_bytes(),
+        };
         WithinMemory {
             keeper,
             allowed,
@@ -53,8 +57,9 @@ impl<K: Keeper> Observer for WithinMemory<'_, K> {
     }
 
     fn see(&self, progress: &Progress) {
-        if self.is_too_much() {
+        if !self.is_passed.get() && self.is_too_much() {
             self.is_passed.set(true);
+            self.keeper.tell_memory();
         }
         if self.keeper.is_watching() {
             self.keeper.see(progress);

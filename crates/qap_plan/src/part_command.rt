@@ -79,7 +79,7 @@ pub fn part_request<'a>(found: &ArgMatches<'a>) -> Option<PartRequest<'a>>
             nodes: found.get_one("nodes"),
             milliseconds: time_limit(found),
             memory: found.get_one("memory"),
-            improve: 0,
+            improve: Some(0),
             seed: 1,
             passes: found.get_flag("ignore-rest"),
             proves: true,

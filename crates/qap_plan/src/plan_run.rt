@@ -14,14 +14,14 @@ use crate::instance_file::{inputs_of, loaded_plan};
 use crate::json::named_json_text;
 use crate::layout_file::start_text;
 use crate::outputs::{Outputs, print_text, worse};
+use crate::picturing::{drawn_of, proved_picture, report_text};
 use crate::planning::Planned;
 use crate::progress::{Teller, telling_of};
 use crate::proof_file::proof_text;
 use crate::{bytes_of_json, end_of, faulty_file, refuse, refuse_with};
-use plan_answer::{answer_text, cost_text, layout_text};
+use plan_answer::{answer_text, layout_text};
 use plan_file::NamedProblem;
 use plan_input::{Loaded, notes_of};
-use plan_picture::picture;
 use qap_cost::Perm;
 use qap_io::{Counted, Status};
 use std::alloc::Global;
@@ -53,6 +53,7 @@ where
         request.json,
         request.csv,
         request.svg,
+        request.report,
         request.proof,
     ];
     let outputs = match Outputs::open(rt, &names, &inputs_of(rt, request.file, &loaded)) {
@@ -77,7 +78,8 @@ where
             rt,
             request,
             outputs,
-            problem,
+            &loaded,
+            &start,
             &answer,
             elapsed.milliseconds(),
         ),
@@ -107,13 +109,15 @@ fn finish(
     rt: &HostRuntime,
     request: &Request<'_>,
     mut outputs: Outputs<'_>,
-    problem: &NamedProblem,
+    loaded: &Loaded,
+    start: &Option<Vec<u8>>,
     answer: &Planned,
     milliseconds: u64,
 ) -> ExitCode
-    requires sizes { HasSizes problem.now }
-    requires kept { Completes problem.now.fixed answer.now.permutation }
+    requires sizes { HasSizes loaded.now.problem }
+    requires kept { Completes loaded.now.problem.fixed answer.now.permutation }
 {
+    let problem = &loaded.problem;
     let mut status = end_of(answer);
     if !request.quiet {
         status = worse(status, print_answer(rt, request.file, problem, answer));
@@ -131,8 +135,13 @@ fn finish(
         status = worse(status, outputs.put(rt, request.csv, csv));
     }
     if request.svg.is_some() {
-        let svg = picture_text(rt.alloc(), problem, &answer.permutation, answer.cost);
+        let svg = proved_picture(rt.alloc(), problem, answer, &drawn_of(loaded));
         status = worse(status, outputs.put(rt, request.svg, svg));
+    }
+    if request.report.is_some() {
+        let drawn = &drawn_of(loaded);
+        let page = report_text(rt.alloc(), problem, answer, request.file, drawn, start);
+        status = worse(status, outputs.put(rt, request.report, page));
     }
     if request.proof.is_some() {
         let proof = proof_text(rt.alloc(), answer);
@@ -178,20 +187,4 @@ pub(crate) fn csv_text(
 {
     let text = layout_text(alloc, problem, permutation)?;
     Ok(text)
-}
-
-/// A picture of an arrangement of this cost.
-pub(crate) fn picture_text(
-    alloc: Global,
-    problem: &NamedProblem,
-    permutation: &Perm,
-    cost: i128,
-) -> Result<Vec<u8>, PlanError>
-    requires sizes { HasSizes problem.now }
-    requires kept { Completes problem.now.fixed permutation.now }
-{
-    let cost = cost_text(alloc, problem, cost)?;
-    let cost = std::str::from_utf8(&cost).unwrap_or("");
-    let title = format!(in alloc; "cost {cost}")?;
-    Ok(picture(alloc, problem, permutation, title.as_str())?)
 }

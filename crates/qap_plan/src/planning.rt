@@ -6,14 +6,16 @@ ghost use Rattle.qap_cost.specs.Placement.{root_of};
 ghost use Rattle.qap_plan.specs.Options.{AreLimited};
 ghost use Rattle.qap_plan.specs.Planning.{IsNoDearer, IsPlanned, ProvesPlanned, ShowsPlanned};
 
+use crate::improving::improved_below;
 use crate::keeper::Keeper;
 use crate::memory_limit::WithinMemory;
 use crate::options::Options;
 use crate::subtree_proof::prove_subtrees;
 use crate::subtrees::search_subtrees;
+use crate::timing::bound_time;
 use proof_search::PairProof;
-use qap_cost::{Instance, Partial, Perm};
-use qap_improve::{Hook, tabu_search};
+use qap_cost::{Instance, Partial, Perm, root_law};
+use qap_improve::Hook;
 use qap_proof::Proof;
 use qap_search::{
     Always, Bounded, Branching, Pace, Plan, Proved, Report, Stop, identity, prove_from,
@@ -71,14 +73,15 @@ where
     ensures pair_proof { IfOk result (λ x. IfSome x.pair_proof (ShowsPlanned instance.now (root_of instance.now.size) x.permutation x.cost x.bound)) }
 {
     let root = Partial::root(alloc, instance.size())?;
-    let start = improved(alloc, instance, start, options, keeper)?;
+    let bound_ms = bound_time(system, alloc, instance, &root, options, keeper)?;
+    let start = improved(system, alloc, instance, start, options, (keeper, bound_ms))?;
     let within = WithinMemory::new(keeper, options.allowed_bytes());
     let pace = Pace {
         clock: &within,
         gate: &Always,
     };
     let plan = Plan {
-        crew: options.crew(instance.size()),
+        crew: options.crew_in_time(&root, bound_ms, keeper.now()),
         root: &root,
         start: &start,
         branching: Branching::Cutting,
@@ -90,7 +93,7 @@ where
         let found = prove_from(system, alloc, instance, &plan, &pace, &within, &within)?;
         return proved_by(found);
     }
-    if let Some(found) = search_subtrees(system, alloc, instance, &plan, options.nodes, &within)? {
+    if let Some(found) = search_subtrees(system, alloc, instance, &plan, options, &within)? {
         return Ok(found);
     }
     let found = solve_least_from(system, alloc, instance, &plan, &pace, &within, &within)?;
@@ -160,21 +163,25 @@ impl<S: Stop> Hook for UntilStopped<'_, S> {
 }
 
 /// The permutation that the search for a proof begins with.
-pub(crate) fn improved<S: Stop>(
+pub(crate) fn improved<T, K>(
+    system: &T,
     alloc: Global,
     instance: &Instance,
     start: Option<Perm>,
     options: &Options,
-    stop: &S,
+    timing: (&K, u64),
 ) -> Result<Perm, AllocError>
-    requires { IfSome start (Permutes instance.now) }
+where
+    T: Threads + Wait + time::Clock + Sync,
+    K: Keeper,
+    requires start { IfSome start (Permutes instance.now) }
     ensures permutes { IfOk result (Permutes instance.now) }
     ensures no_dearer { IfOk result (λ p. IsNoDearer instance.now start (cost_of instance.now p)) }
 {
+    root_law();
+    let root = Partial::root(alloc, instance.size())?;
     let first = first_of(alloc, instance, start)?;
-    let plan = options.tabu_plan();
-    let found = tabu_search(alloc, instance, &first, &plan, &mut UntilStopped { stop })?;
-    Ok(found.permutation)
+    improved_below(system, alloc, instance, &root, first, options, timing)
 }
 
 /// The initial permutation of the tabu search: the start, if there is one.

@@ -2,7 +2,7 @@
 
 use crate::elapsed::Elapsed;
 use crate::keeper::Keeper;
-use crate::resident::resident_bytes;
+use crate::resident::{resident_bytes, usable_bytes};
 use qap_search::{Clock, Observer, Progress, Stop};
 use std::alloc::{AllocError, Global};
 use std::cell::Cell;
@@ -135,6 +135,17 @@ impl<R: Eprint + AllocGlobal + Files, T: time::Clock> Stop for Teller<'_, R, T> 
 impl<R: Eprint + AllocGlobal + Files, T: time::Clock> Keeper for Teller<'_, R, T> {
     fn resident_bytes(&self) -> Option<u64> {
         resident_bytes(self.rt)
+    }
+
+    fn usable_bytes(&self) -> Option<u64> {
+        usable_bytes(self.rt)
+    }
+
+    fn tell_memory(&self) {
+        self.finish();
+        let _ = self.rt.eprintln(format_args!(
+            "the search ends, since it has more memory than it may: --memory MB allows more"
+        ));
     }
 }
 

@@ -1,21 +1,24 @@
 //! A run of `show`, which shows an answer again.
 
+ghost use Rattle.std.specs.Prelude.{IfOk};
 ghost use Rattle.plan_file.specs.Tables.{HasSizes};
 ghost use Rattle.qap_cost.specs.Placement.{Completes};
+ghost use Rattle.qap_plan.specs.Picturing.{ShowsStated};
 
 use crate::answer::stated_text as numbers_text;
 use crate::error::PlanError;
 use crate::instance_file::{inputs_of, instance_of, loaded_plan};
 use crate::judged_files::{bytes_of, refuse_answer};
 use crate::outputs::{Inputs, Outputs, print_text, worse};
-use crate::plan_run::picture_text;
+use crate::picturing::{Drawn, captioned_picture, drawn_of};
 use crate::show_command::ShowRequest;
 use crate::{refuse, refuse_picture};
 use output_file::file_id;
-use plan_answer::stated_text;
+use plan_answer::{stated_line, stated_text};
 use plan_check::{Answer, answer_to_instance, answer_to_plan};
 use plan_file::NamedProblem;
 use plan_input::is_plan;
+use std::alloc::Global;
 use std::process::ExitCode;
 
 /// Shows the answer with the JSON in a file; its bound is reported as stated.
@@ -41,7 +44,14 @@ fn show_plan(rt: &HostRuntime, request: &ShowRequest<'_>) -> ExitCode {
         Ok(answer) => {
             let [plan, flows, distances, _] = inputs_of(rt, request.file, &loaded);
             let inputs = [plan, flows, distances, file_id(rt, request.answer)];
-            tell_plan(rt, request, &inputs, &loaded.problem, &answer)
+            tell_plan(
+                rt,
+                request,
+                &inputs,
+                &loaded.problem,
+                &answer,
+                &drawn_of(&loaded),
+            )
         }
         Err(error) => refuse_answer(rt, request.answer, &error),
     }
@@ -54,6 +64,7 @@ fn tell_plan(
     inputs: &Inputs,
     problem: &NamedProblem,
     answer: &Answer,
+    drawn: &Drawn<'_>,
 ) -> ExitCode
     requires sizes { HasSizes problem.now }
     requires kept { Completes problem.now.fixed answer.now.permutation }
@@ -73,11 +84,27 @@ fn tell_plan(
     };
     let mut status = print_text(rt, &text);
     if request.svg.is_some() {
-        let svg = picture_text(rt.alloc(), problem, &answer.permutation, answer.cost);
+        let svg = stated_picture(rt.alloc(), problem, answer, drawn);
         status = worse(status, outputs.put(rt, request.svg, svg));
     }
     status = worse(status, outputs.put(rt, request.out, Ok(text)));
     ExitCode::from(status.code())
+}
+
+/// The picture of an answer, with what is stated about its cost.
+fn stated_picture(
+    alloc: Global,
+    problem: &NamedProblem,
+    answer: &Answer,
+    drawn: &Drawn<'_>,
+) -> Result<Vec<u8>, PlanError>
+    requires sizes { HasSizes problem.now }
+    requires kept { Completes problem.now.fixed answer.now.permutation }
+    ensures { IfOk result (λ text. ShowsStated problem.now answer.now.permutation answer.now.cost answer.now.bound drawn.now.title.now text.items) }
+{
+    let words = stated_line(alloc, problem, answer.cost, answer.bound)?;
+    let text = captioned_picture(alloc, problem, &answer.permutation, &words, drawn)?;
+    Ok(text)
 }
 
 /// Shows an answer to an instance.

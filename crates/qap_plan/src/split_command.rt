@@ -79,7 +79,7 @@ pub fn split_request<'a>(found: &ArgMatches<'a>) -> Option<SplitRequest<'a>>
             nodes: found.get_one("nodes"),
             milliseconds: time_limit(found),
             memory: None,
-            improve: found.get_one("improve")?,
+            improve: found.get_one("improve"),
             seed: found.get_one("seed")?,
             passes: found.get_flag("ignore-rest"),
             proves: true,

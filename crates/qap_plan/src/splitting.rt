@@ -46,7 +46,7 @@ where
     requires start { IfSome start (Permutes instance.now) }
     ensures { IfOk result (IsSplitUp instance.now start) }
 {
-    let first = improved(alloc, instance, start, options, keeper)?;
+    let first = improved(system, alloc, instance, start, options, (keeper, 0))?;
     let skeleton = whole(system, alloc, instance, &first, keeper)?;
     split_on(system, alloc, instance, skeleton, options, wanted, keeper)
 }
@@ -175,7 +175,7 @@ fn one_node(nodes: u64) -> Options
         nodes: Some(nodes),
         milliseconds: None,
         memory: None,
-        improve: 0,
+        improve: Some(0),
         seed: 1,
         passes: false,
         proves: true,

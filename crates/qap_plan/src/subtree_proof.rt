@@ -9,7 +9,7 @@ ghost use Rattle.qap_plan.specs.Planning.{ShowsPlanned};
 use crate::keeper::Keeper;
 use crate::memory_limit::WithinMemory;
 use crate::planning::Planned;
-use crate::subtrees::{MAX_SIZE, ROUNDS, scale_for};
+use crate::subtrees::{ROUNDS, has_few_free, scale_for};
 use proof_search::{Found, PairProof, prove};
 use qap_cost::{Instance, cost};
 use qap_search::{Observer, Plan, Progress, Stop as _};
@@ -38,7 +38,7 @@ pub(crate) fn prove_subtrees<K: Keeper>(
     ensures proof { IfOk result (λ found. IfSome found (λ x. x.proof ≡ None)) }
     ensures pair_proof { IfOk result (λ found. IfSome found (λ x. IfSome x.pair_proof (ShowsPlanned instance.now plan.now.root.now x.permutation x.cost x.bound))) }
 {
-    if instance.size() > MAX_SIZE || limit.is_some() {
+    if !has_few_free(plan.root) || limit.is_some() {
         return Ok(None);
     }
     let scale = scale_for(cost(instance, plan.start));

@@ -8,8 +8,10 @@ ghost use Rattle.qap_plan.specs.Keeping.{IsSearched};
 
 use crate::keeper::Keeper;
 use crate::memory_limit::WithinMemory;
+use crate::options::{Options, free_in};
 use crate::planning::Planned;
-use part_search::{Answer, Crew, Ground, Task, Watch, solve};
+use dual_ascent::Effort;
+use part_search::{Answer, Crew, Ground, Order, Task, Watch, solve};
 use qap_cost::{Instance, Partial, cost};
 use qap_search::{Always, Clock, Observer, Pace, Plan, Progress, Stop as _, solve_least_from};
 use std::alloc::{AllocError, Global};
@@ -19,10 +21,11 @@ use std::thread::Threads;
 use std::time;
 use subtree_search::Stop;
 
-/// The greatest size at which a node is searched so: a worker holds the residuals of a node, four numbers of the size for each.
-pub(crate) const MAX_SIZE: usize = 36;
+/// The most free facilities with which a root is searched so: finding pair duals takes memory with the fourth power of
+/// their number.
+const MAX_FREE: u64 = 36;
 
-/// How many rounds find the pair duals of the root.
+/// How many hard rounds follow the soft sweeps that find the pair duals of the root.
 pub(crate) const ROUNDS: u32 = 30;
 
 /// For how many milliseconds a worker tries the children of the node that it took.
@@ -44,7 +47,7 @@ pub(crate) fn search_subtrees<T, K>(
     alloc: Global,
     instance: &Instance,
     plan: &Plan<'_>,
-    nodes: Option<u64>,
+    options: &Options,
     within: &WithinMemory<'_, K>,
 ) -> Result<Option<Planned>, AllocError>
 where
@@ -58,7 +61,7 @@ where
     ensures proof { IfOk result (λ found. IfSome found (λ x. x.proof ≡ None)) }
     ensures pair_proof { IfOk result (λ found. IfSome found (λ x. x.pair_proof ≡ None)) }
 {
-    if instance.size() > MAX_SIZE || nodes.is_some() {
+    if !has_few_free(plan.root) || options.nodes.is_some() {
         return Ok(None);
     }
     let start_cost = cost(instance, plan.start);
@@ -80,6 +83,7 @@ where
         workers: plan.crew.workers,
         lease_ms: plan.crew.lease_ms,
         turn_ms: TURN_MS,
+        order: order_of(options),
     };
     let answer = solve(system, alloc, &task, crew)?;
     let found = found_by(&answer)?;
@@ -88,6 +92,20 @@ where
     }
     let bound = root_bound(system, alloc, instance, plan, within)?;
     Ok(Some(with_bound(found, bound)))
+}
+
+/// Under a time limit the search takes the open node with the least value first, so that its bound rises.
+fn order_of(options: &Options) -> Order {
+    if options.milliseconds.is_some() {
+        Order::Least
+    } else {
+        Order::Deepest
+    }
+}
+
+/// Whether a root has few enough free facilities for pair duals.
+pub(crate) fn has_few_free(root: &Partial) -> bool {
+    free_in(root) <= MAX_FREE
 }
 
 /// What the workers share of the instance. `None` if a number is out of range for the scale.
@@ -100,7 +118,7 @@ fn shared_ground(
     requires { root.now.size ≡ instance.now.size }
     ensures { IfOk result (λ found. IfSome found (λ h. arc_value h ≡ instance.now)) }
 {
-    match Ground::new(alloc, instance, root, scale, ROUNDS)? {
+    match Ground::new(alloc, instance, root, scale, &Effort::root())? {
         Some(ground) => Ok(Some(Arc::new(alloc, ground)?)),
         None => Ok(None),
     }
@@ -138,7 +156,7 @@ fn found_by(answer: &Answer) -> Result<Planned, AllocError>
 }
 
 /// The bound of the root alone, which a search that is stopped before its first node yields.
-fn root_bound<T, S>(
+pub(crate) fn root_bound<T, S>(
     system: &T,
     alloc: Global,
     instance: &Instance,
