@@ -321,7 +321,7 @@ def drawn(svg, plan, answer):
     expect(sorted(boxes_of(svg)) == sorted((taken.get(place, ""), place) for place in plan.places), f"the boxes are {boxes_of(svg)}")
 
 
-def verdict_of(answer):
+def words_of(answer):
     """The beginning of what is said about the cost of an answer: that it is optimal or a bound, or as stated."""
     if answer["status"] == "optimal":
         return f"cost {answer['cost']}, (optimal|stated as optimal)"
@@ -336,7 +336,7 @@ def picture(run, name, source, answer, *title):
     expect(svg.tag == f"{SVG}svg", f"the root is {svg.tag}")
     found, verdict = caption_of(svg)
     expect(found == title, f"the title is {found}")
-    expect(re.match(verdict_of(answer), verdict), f"it says {verdict}")
+    expect(re.match(words_of(answer), verdict), f"it says {verdict}")
     drawn(svg, Plan(run, source), answer)
 
 
@@ -359,7 +359,7 @@ def report(run, name, source, answer, *title):
     titles = [page.find("head/title").text, page.find("body/h1").text]
     expect(titles == [title, title], f"the titles are {titles}")
     verdict = page.find("body/p[@class='verdict']").text.strip()
-    expect(re.match(verdict_of(answer) + ".*proved", verdict), f"it says {verdict}")
+    expect(re.match(words_of(answer) + ".*proved", verdict), f"it says {verdict}")
     drawn(page.find(f"body/figure/{SVG}svg"), plan, answer)
     rows = [[[cell.text for cell in row.findall("td")] for row in table.findall("tr")[1:]] for table in page.findall("body/table")]
     empty = [place for place in plan.places if place not in answer["arrangement"]]
@@ -368,7 +368,7 @@ def report(run, name, source, answer, *title):
     pairs = [[pair["from"], pair["to"], pair["cost"]] for pair in answer["pairs"]]
     expect(rows[1][:len(pairs)] == pairs, f"the pairs are {rows[1]}")
     commands = page.findall("body/pre")[-1].text
-    expect(len(re.findall(r"(?m)^qapplan (solve|check) ", commands)) == 2, f"the commands are {commands}")
+    expect(len(re.findall(r"(?:^|\s)qapplan (solve|check) ", commands)) == 2, f"the commands are {commands}")
 
 
 def solution(run, name, instance, optimum):

@@ -1,4 +1,4 @@
-"""Each message of `qapplan show` and `check` about an answer and about its proof (docs/PLANNING.md, "Errors")."""
+"""Each message of `qapplan show` and `check` about an answer and about its proof (docs/MESSAGES.md)."""
 
 SHARED = """
 file plan.toml:

@@ -1,4 +1,4 @@
-"""Each message of `qapplan` about an instance in the QAPLIB format, and about a start (docs/PLANNING.md, "Errors")."""
+"""Each message of `qapplan` about an instance in the QAPLIB format, and about a start (docs/MESSAGES.md)."""
 
 TWO = "2 0 3 1 0 0 5 2 0"
 

@@ -1,4 +1,4 @@
-"""Each message of `qapplan` about a plan, and about tables that do not fit together (docs/PLANNING.md, "Errors")."""
+"""Each message of `qapplan` about a plan, and about tables that do not fit together (docs/MESSAGES.md)."""
 
 FLOWS = ",Saw,Lathe\nSaw,0,2.5\nLathe,1,0\n"
 DISTANCES = ",A,B,C\nA,0,1.25,4\nB,2,0,3\nC,4,3,0\n"

@@ -1,4 +1,4 @@
-"""Each message of `qapplan` about a table (docs/PLANNING.md, "Errors"), with its line and field."""
+"""Each message of `qapplan` about a table (docs/MESSAGES.md), with its line and field."""
 
 MATRIX_HEAD = "begin with a line of an empty field and the names, as `,Saw,Lathe`"
 NO_NAME = "write an empty field and then 1 to 256 names, as in `,Saw,Lathe`"
