@@ -2,6 +2,7 @@
 
 ghost use Rattle.std.specs.Prelude.{◌≡◌, true};
 
+use dual_ascent::Effort;
 use itertools::Itertools;
 use part_search::{Ground, Step, Task, answer_of, play};
 use qap_cost::{Instance, Partial, Perm, cost};
@@ -207,7 +208,7 @@ fn assert_instance(rt: &impl Abort, alloc: Global, instance: &Instance) -> Resul
             }
         }
         assert_eq!(rt; instance.size(), root.size());
-        let ground = Ground::new(alloc, instance, &root, SCALE, 3)?.ok_or("range")?;
+        let ground = Ground::new(alloc, instance, &root, SCALE, &Effort::hard(3))?.ok_or("range")?;
         let ground = Arc::new(alloc, ground)?;
         let least = least_of(&root, &all).ok_or("no completion")?;
         let (start, own) = all.get(all.len() / 2).ok_or("no permutation")?;
