@@ -56,6 +56,17 @@ impl TxnSpace {
         }
     }
 
+    /// A space with no tuples and no transactions, at the moment 0, in which so many commits were accepted. Allocates nothing.
+    pub fn after(alloc: Global, commits: u64) -> TxnSpace
+        requires { commits ≤ most }
+        ensures { result ≡ record opening { commits = commits } }
+    {
+        TxnSpace {
+            commits,
+            ..TxnSpace::new(alloc)
+        }
+    }
+
     /// The moment, in milliseconds. Its clauses also state what holds for every space.
     pub fn now(&self) -> u64
         ensures moment { result ≡ self.now.space.moment }
@@ -352,6 +363,3 @@ impl TxnSpace {
         }
     }
 }
-
-#[cfg(test)]
-mod tests;

@@ -4,7 +4,7 @@ use std::alloc::Global;
 use std::process::Abort as Ending;
 use std::test::Fail;
 use tuple_match::{Field, Pattern, Template, Tuple};
-use tuple_space::{Lease, SpaceError, Writes};
+use tuple_space::{Lease, MOST, SpaceError, Writes};
 
 /// A call as a row of a table writes it: the number of a transaction, or 0 for none, and what is answered.
 #[derive(Clone, Copy, Debug)]
@@ -437,5 +437,20 @@ fn tells_each_refusal(rt: HostRuntime) -> Result<(), Fail> {
         let text = format!(in rt.alloc(); "{error}")?;
         assert_eq!(rt; text.as_str(), want);
     }
+    Ok(())
+}
+
+/// No commit is accepted after 2^62 of them; the transaction is returned, and can be given up.
+#[test]
+fn last_commit(rt: HostRuntime) -> Result<(), Fail> {
+    let alloc = rt.alloc();
+    let mut space = TxnSpace::after(alloc, MOST);
+    let txn = space.begin(1000)?;
+    let Err((error, txn)) = space.commit(txn) else {
+        return Err(Fail::new("more than 2^62 commits"));
+    };
+    assert_eq!(rt; error, TxnError::Exhausted);
+    assert!(rt; space.abort(txn).is_ok());
+    assert_eq!(rt; space.commits(), 4_611_686_018_427_387_904);
     Ok(())
 }

@@ -77,6 +77,18 @@ impl Space {
         }
     }
 
+    /// A space with no tuples, at the moment 0, whose next tuple gets the number that follows this one, as if tuples up to
+    /// it had been written and taken. Allocates nothing.
+    pub fn after(alloc: Global, last: u64) -> Space
+        requires { last ≤ most }
+        ensures { result ≡ record opening { last = last } }
+    {
+        Space {
+            last,
+            ..Space::new(alloc)
+        }
+    }
+
     /// The moment, in milliseconds.
     pub fn now(&self) -> u64
         ensures step { Step self.now now (told result) self.now }
@@ -381,6 +393,3 @@ impl Space {
         Ok(permanent_of(entries, room))
     }
 }
-
-#[cfg(test)]
-mod tests;

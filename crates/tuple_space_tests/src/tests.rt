@@ -2,7 +2,7 @@ use std::alloc::{AllocError, Global};
 use std::process::Abort;
 use std::test::Fail;
 use tuple_match::{Field, Pattern, Template, Tuple};
-use tuple_space::{Entry, EntryId, Held, Lease, Space, SpaceError};
+use tuple_space::{Entry, EntryId, Held, Lease, MOST, Space, SpaceError};
 
 /// The tuple `job n`.
 fn job(alloc: Global, number: i128) -> Result<Tuple, Fail> {
@@ -275,5 +275,22 @@ fn empty_places_close_up(rt: HostRuntime) -> Result<(), Fail> {
     left.push(200)?;
     assert_eq!(rt; jobs_left(alloc, &space)?.as_slice(), left.as_slice());
     assert_eq!(rt; read(&space, &any_job(alloc)?)?, Some(200));
+    Ok(())
+}
+
+/// 2^62 is given out, and nothing after it: the tuple is returned.
+#[test]
+fn last_number(rt: HostRuntime) -> Result<(), Fail> {
+    let alloc = rt.alloc();
+    let mut space = Space::after(alloc, MOST - 1);
+    let id = space.out(job(alloc, 1)?, Lease::Forever)?;
+    assert_eq!(rt; id.number(), 4_611_686_018_427_387_904);
+    let Err((error, back)) = space.out(job(alloc, 2)?, Lease::Forever) else {
+        return Err(Fail::new("a number above 2^62"));
+    };
+    assert_eq!(rt;
+        (error, back == job(alloc, 2)?),
+        (SpaceError::Exhausted, true)
+    );
     Ok(())
 }
