@@ -17,7 +17,7 @@ use Rattle.qap_proof.proofs.Validity.{Proves-NoneCompletesForLess}
 use Rattle.qap_proof.specs.Acceptance.{IsVerdictOf, ProvesFor}
 use Rattle.qap_lines.specs.Bound.{IsBoundFor}
 use Rattle.qap_proof.specs.Claim.{Claim, claim_of, IsProof, NoneCompletesForLess, Proves}
-use Rattle.qap_proof.specs.Cover.{AreAmong, AreLeaves, AreRaised, CoverValue, HasPart, IsAtLeast, IsBounded, IsCovering, IsLeastOf, IsRaised, IsRaisedValue, IsShown, IsSoOf, IsVerdictOn, cover_of, leaf}
+use Rattle.qap_proof.specs.Cover.{AreAmong, AreLeaves, AreRaised, CoverValue, Establishes, HasPart, IsAdmitted, IsAtLeast, IsBounded, IsCovering, IsLeastOf, IsRaised, IsRaisedValue, IsShown, IsSoOf, IsVerdictOn, cover_of, leaf}
 use Rattle.qap_proof.specs.Tree.{cut, whole}
 use Rattle.qap_proof.specs.declared.acceptance.Verdict.{Verdict}
 use Rattle.qap_proof.specs.declared.acceptance.Verdict.TheVariants.{Optimal, Gap, Part}
@@ -71,33 +71,6 @@ raised_least root g b old new raised least =
 -- the lesser of two costs
 pub record IsLesser (a b c : ℤ) : Type 0 where
   pub is : ((b <ℤ a) × (c ≡ b)) ⊎ ((a ≤ℤ b) × (c ≡ a))
-
--- a part more
-pub IsCovering-more : (I : Problem) (x : Placement) (c d : ℤ) (old new : List Leaf) (C : Claim) → IsInstance I → IsProof C → Proves I C → IsLesser c C.cost d → AreRaised C.root C.bound old new → IsCovering (cover_of I x c old) → IsCovering (cover_of I x d new)
-IsCovering-more I x c d old new C instance shape proved lesser raised h =
-    let part = Proves-NoneCompletesForLess I C instance shape proved in
-    let reached : (p : List ℕ) × Permutes I p × (cost_of I p ≡ C.cost) = (C.permutation, record { bijection = shape.permutation.bijection; same_size = proved.same_size }, proved.cost) in record {
-      reached = elim lesser.is [
-        | inl less ↦ (reached.0, reached.1, reached.2 ∙ sym less.1)
-        | inr stays ↦ (h.reached.0, h.reached.1, h.reached.2 ∙ sym stays.1)
-      ];
-      limited = elim lesser.is [
-        | inl less ↦ subst IsLimited (sym less.1) shape.cost
-        | inr stays ↦ subst IsLimited (sym stays.1) h.limited
-      ];
-      least = λ k e below.
-          let within : k < length old = omega (arith, raised.0, below) in
-          raised_least C.root C.bound (neg_ℤ (pos max_value)) (get_or old k e) (get_or new k e) (raised.1 k e within) (h.least k e within);
-      shown = λ k e below.
-          let within : k < length old = omega (arith, raised.0, below) in
-          raised_shown I C.root C.bound (get_or old k e) (get_or new k e) (shape.root.size ∙ proved.same_size) part (raised.1 k e within) (h.shown k e within);
-      covers = λ g all.
-          h.covers g (λ k e within.
-          let below : k < length new = omega (arith, raised.0, within) in
-          subst (λ (y : Placement). NoneCompletesForLess I y g) (raised.1 k e within).0 (all k e below));
-      placement = h.placement;
-      same_size = h.same_size;
-    }
 
 -- the minimum of two costs is the lesser one
 pub IsLesser-min : (a b : ℤ) → IsLesser a b (int_min a b)
@@ -236,29 +209,57 @@ AreRaisedTo-more root bound i old new l z within is raised h =
 pub AreRaised-all : (root : Placement) (bound : ℤ) (i : ℕ) (old new : List Leaf) → length old ≤ i → AreRaisedTo root bound i old new → AreRaised root bound old new
 AreRaised-all root bound i old new past h = (h.same, λ k d below. h.raised k d (omega (arith, below, past)))
 
--- the proof of a part has come beside a cover
-pub IsCovering-added : (I J : Problem) (x : Placement) (c : ℤ) (old new : List Leaf) (text : List ℕ) (y : Placement) (d g e : ℤ) → IsInstance J → J ≡ I → ProvesFor J text y d g → e ≡ int_min c d → AreRaised y g old new
-    → IsCovering (cover_of I x c old) → IsCovering (cover_of I x e new)
-IsCovering-added I J x c old new text y d g e instance here proved min_is raised h =
-    let C = proved.proof in
-    let least : e ≡ int_min c C.cost = min_is ∙ ap (λ (z : ℤ). int_min c z) (sym proved.cost) in
-    IsCovering-more I x c e old new C (subst IsInstance here instance) proved.is_text.proof (subst (λ (K : Problem). Proves K C) here proved.proved)
-    (subst (IsLesser c C.cost) (sym least) (IsLesser-min c C.cost))
-    (subst (λ (z : ℤ). AreRaised C.root z old new) (sym proved.bound) (subst (λ (w : Placement). AreRaised w g old new) (sym proved.root) raised))
-    h
+-- what the proof of a part establishes
+pub Establishes-proved : (I : Problem) (text : List ℕ) (y : Placement) (d g : ℤ) → IsInstance I → ProvesFor I text y d g → Establishes I y d g
+Establishes-proved I text y d g instance h =
+    let C = h.proof in
+    let shape = h.is_text.proof in record {
+      same_size = ap (λ (w : Placement). w.size) (sym h.root) ∙ shape.root.size ∙ h.proved.same_size;
+      limited = subst IsLimited h.cost shape.cost;
+      reached = (C.permutation, record { bijection = shape.permutation.bijection; same_size = h.proved.same_size }, h.proved.cost ∙ h.cost);
+      bounded = subst (λ (w : Placement). NoneCompletesForLess I w g) h.root
+          (subst (NoneCompletesForLess I C.root) h.bound (Proves-NoneCompletesForLess I C instance shape h.proved));
+    }
 
--- the proof of a part stands beside the others: the lesser cost, and the leaves raised by the part
-pub HasPart-added : (I J : Problem) (x : Placement) (c : ℤ) (old new : List Leaf) (text : List ℕ) (y : Placement) (d g e : ℤ) → J ≡ I → ProvesFor J text y d g → e ≡ int_min c d → AreRaised y g old new
-    → HasPart text (cover_of I x c old) (cover_of I x e new)
-HasPart-added I J x c old new text y d g e here proved min_is raised =
+-- a cover stays one when what another proof establishes is added
+pub IsCovering-admitted : (I : Problem) (x : Placement) (c e : ℤ) (old new : List Leaf) (y : Placement) (d g : ℤ) → Establishes I y d g → e ≡ int_min c d → AreRaised y g old new
+    → IsCovering (cover_of I x c old) → IsCovering (cover_of I x e new)
+IsCovering-admitted I x c e old new y d g part min_is raised h =
+    let lesser : IsLesser c d e = subst (IsLesser c d) (sym min_is) (IsLesser-min c d) in record {
+      reached = elim lesser.is [
+        | inl less ↦ (part.reached.0, part.reached.1, part.reached.2 ∙ sym less.1)
+        | inr stays ↦ (h.reached.0, h.reached.1, h.reached.2 ∙ sym stays.1)
+      ];
+      limited = elim lesser.is [
+        | inl less ↦ subst IsLimited (sym less.1) part.limited
+        | inr stays ↦ subst IsLimited (sym stays.1) h.limited
+      ];
+      least = λ k l below.
+          let within : k < length old = omega (arith, raised.0, below) in
+          raised_least y g (neg_ℤ (pos max_value)) (get_or old k l) (get_or new k l) (raised.1 k l within) (h.least k l within);
+      shown = λ k l below.
+          let within : k < length old = omega (arith, raised.0, below) in
+          raised_shown I y g (get_or old k l) (get_or new k l) part.same_size part.bounded (raised.1 k l within) (h.shown k l within);
+      covers = λ b all.
+          h.covers b (λ k l within.
+          let below : k < length new = omega (arith, raised.0, within) in
+          subst (λ (w : Placement). NoneCompletesForLess I w b) (raised.1 k l within).0 (all k l below));
+      placement = h.placement;
+      same_size = h.same_size;
+    }
+
+-- where what the proof of a part establishes is added, the part is
+pub HasPart-admitted : (I : Problem) (old new : CoverValue) (text : List ℕ) (y : Placement) (d g : ℤ) → I ≡ old.instance → ProvesFor I text y d g → IsAdmitted y d g old new → HasPart text old new
+HasPart-admitted I old new text y d g here proved h =
     let C = proved.proof in record {
       proof = C;
       is_text = proved.is_text;
-      proved = subst (λ (K : Problem). Proves K C) here proved.proved;
-      instance = refl;
-      root = refl;
-      cost = min_is ∙ ap (λ (z : ℤ). int_min c z) (sym proved.cost);
-      leaves = subst (λ (z : ℤ). AreRaised C.root z old new) (sym proved.bound) (subst (λ (w : Placement). AreRaised w g old new) (sym proved.root) raised);
+      proved = subst (λ (J : Problem). Proves J C) here proved.proved;
+      instance = h.instance;
+      root = h.root;
+      cost = h.cost ∙ ap (λ (z : ℤ). int_min old.cost z) (sym proved.cost);
+      leaves = subst (λ (z : ℤ). AreRaised C.root z old.leaves new.leaves) (sym proved.bound)
+          (subst (λ (w : Placement). AreRaised w g old.leaves new.leaves) (sym proved.root) h.leaves);
     }
 
 -- a list that was written whole in the place of one of its length

@@ -93,6 +93,21 @@ pub record HasPart (text : List ℕ) (old new : CoverValue) : Type 0 where
   pub cost : new.cost ≡ int_min old.cost proof.cost
   pub leaves : AreRaised proof.root proof.bound old.leaves new.leaves
 
+-- what a proof over root x, of cost c and bound g, establishes in any format: some permutation costs c, and none that
+-- completes the root costs less than g
+pub record Establishes (I : Problem) (x : Placement) (c g : ℤ) : Type 0 where
+  pub same_size : x.size ≡ I.size
+  pub limited : IsLimited c
+  pub reached : (p : List ℕ) × Permutes I p × (cost_of I p ≡ c)
+  pub bounded : NoneCompletesForLess I x g
+
+-- what such a proof establishes has been added
+pub record IsAdmitted (x : Placement) (c g : ℤ) (old new : CoverValue) : Type 0 where
+  pub instance : new.instance ≡ old.instance
+  pub root : new.root ≡ old.root
+  pub cost : new.cost ≡ int_min old.cost c
+  pub leaves : AreRaised x g old.leaves new.leaves
+
 -- the leaf's value is at least g
 abbrev pub IsAtLeast : ℤ → Leaf → Type 0
 IsAtLeast g l = g ≤ℤ l.value

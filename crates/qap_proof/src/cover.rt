@@ -4,7 +4,7 @@ ghost use Rattle.std.specs.Prelude.{◌≡◌, ◌⊎◌, ◌↔◌, ◌<◌, �
 ghost use Rattle.qap_cost.specs.Placement.{StandsAt};
 ghost use Rattle.qap_proof.specs.Acceptance.{IsLimitedVerdict, IsRefused};
 ghost use Rattle.qap_proof.specs.Claim.{Proves};
-ghost use Rattle.qap_proof.specs.Cover.{AreAmong, AreLeaves, AreRaised, HasPart, IsLeastOf, IsOpened, IsRaisedValue, IsSoOf, IsVerdictOn};
+ghost use Rattle.qap_proof.specs.Cover.{AreAmong, AreLeaves, AreRaised, Establishes, HasPart, IsAdmitted, IsLeastOf, IsOpened, IsRaisedValue, IsSoOf, IsVerdictOn};
 ghost use Rattle.qap_proof.specs.Tree.{whole};
 ghost use Rattle.qap_proof.specs.declared.leaf.Leaf.{Leaf as LeafValue};
 
@@ -77,10 +77,18 @@ impl Cover {
             (λ done. HasPart text.now self.old self.new)
             (λ e. ((e ≡ ProofError.OutOfMemory) ⊎ IsRefused self.old.instance text.now e) × (self.new ≡ self.old)) }
     {
-        let part = proved_head(alloc, self.ranked.instance(), text)?;
-        raise(&mut self.leaves, &part.root, part.bound);
-        self.cost = self.cost.min(part.cost);
+        let part = proved_head(alloc, self.instance(), text)?;
+        self.admit(&part.root, part.cost, part.bound);
         Ok(())
+    }
+
+    /// Adds what a proof over this root, of this cost and this bound, establishes, in whichever format it is.
+    pub fn admit(&mut self, root: &Partial, cost: i128, bound: i128)
+        requires { Establishes self.old.instance root.now cost bound }
+        ensures { IsAdmitted root.now cost bound self.old self.new }
+    {
+        raise(&mut self.leaves, root, bound);
+        self.cost = self.cost.min(cost);
     }
 
     /// What all of them establish: the least cost; or a bound, and the least cost of their permutations; or if the root
@@ -102,6 +110,13 @@ impl Cover {
             least = least.min(leaf.value);
         }
         least
+    }
+
+    /// The instance of all proofs.
+    pub fn instance(&self) -> &Instance
+        ensures { result.now ≡ self.now.instance }
+    {
+        self.ranked.instance()
     }
 
     /// The leaves of the whole, in preorder, each with its current value.
