@@ -1,0 +1,4 @@
+mod Bounds
+mod Completions
+mod Exact
+mod Scatter

@@ -1,0 +1,6 @@
+pub mod Branch
+pub mod Completion
+pub mod Evaluation
+pub mod Parent
+pub mod Prepared
+pub mod Split
