@@ -1,0 +1,3 @@
+pub mod Evaluation
+pub mod Found
+pub mod Progress

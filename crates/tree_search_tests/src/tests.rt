@@ -1,0 +1,260 @@
+//! Searches against an enumeration of all completions.
+
+ghost use Rattle.std.specs.Prelude.{◌≡◌, true};
+
+use itertools::Itertools;
+use qap_cost::{Instance, Partial, Perm, cost};
+use qap_proof::{check, missing_parts};
+use std::alloc::{AllocError, Global};
+use std::process::Abort;
+use std::test::Fail;
+use subtree_search::{Never, Stop};
+use tree_search::{Found, prove};
+
+/// Stops a search as soon as it asks.
+#[derive(Clone, Copy, Debug)]
+struct AtOnce;
+
+impl Stop for AtOnce {
+    ghost says = { λ _ b. b ≡ true };
+
+    fn is_requested(&self) -> bool {
+        true
+    }
+}
+
+/// The kinds of generated matrices.
+#[derive(Clone, Copy, Debug, PartialEq)]
+enum Kind {
+    /// Any entries from -9 to 9.
+    Signed,
+    /// The same, but symmetric, with no diagonal.
+    Symmetric,
+    /// From 0 to 2.
+    Small,
+    /// 0 everywhere.
+    Zero,
+}
+
+/// The next number of Knuth's linear congruential generator of 64 bits.
+fn next(state: &mut u64) -> u64 {
+    *state = state
+        .wrapping_mul(6364136223846793005)
+        .wrapping_add(1442695040888963407);
+    *state >> 33
+}
+
+/// An entry of a kind of matrix.
+fn entry(kind: Kind, i: usize, j: usize, state: &mut u64) -> i64 {
+    let number = next(state);
+    let signed = (number % 19) as i64 - 9;
+    match kind {
+        Kind::Signed => signed,
+        Kind::Symmetric => { if i == j { 0 } else { signed } }
+        Kind::Small => (number % 3) as i64,
+        Kind::Zero => 0,
+    }
+}
+
+/// The entries of such a matrix, by rows.
+fn matrix(alloc: Global, n: usize, kind: Kind, state: &mut u64) -> Result<Vec<i64>, AllocError> {
+    let mut entries: Vec<i64> = Vec::new(alloc);
+    for i in 0..n {
+        for j in 0..n {
+            let own = entry(kind, i, j, state);
+            let other = entries.get(j.wrapping_mul(n).wrapping_add(i)).copied();
+            let is_copied = kind == Kind::Symmetric && j < i;
+            entries.push(if is_copied { other.unwrap_or(own) } else { own })?;
+        }
+    }
+    Ok(entries)
+}
+
+/// The instance that this seed gives.
+fn instance(
+    alloc: Global,
+    n: usize,
+    a: Kind,
+    b: Kind,
+    seed: u64,
+) -> Result<Option<Instance>, AllocError> {
+    let mut state = seed;
+    let flows = matrix(alloc, n, a, &mut state)?;
+    let distances = matrix(alloc, n, b, &mut state)?;
+    Ok(Instance::new(n, flows, distances).ok())
+}
+
+/// Whether a permutation completes a node.
+fn completes(node: &Partial, permutation: &Perm) -> bool {
+    for (f, k) in node.facilities().iter().zip(node.places()) {
+        if permutation.locations().get(usize::from(*f)) != Some(k) {
+            return false;
+        }
+    }
+    true
+}
+
+/// Every permutation with its cost.
+fn listing(alloc: Global, instance: &Instance) -> Result<Vec<(Perm, i128)>, AllocError> {
+    let mut all = Vec::new(alloc);
+    for locations in (0..instance.size() as u16).permutations(alloc, instance.size())? {
+        if let Ok(found) = Perm::new(locations?)
+            && found.len() == instance.size()
+        {
+            let own = cost(instance, &found);
+            all.push((found, own))?;
+        }
+    }
+    Ok(all)
+}
+
+/// The least cost of a completion of the node.
+fn least_of(node: &Partial, all: &[(Perm, i128)]) -> Option<i128> {
+    let mut least = None;
+    for (permutation, own) in all {
+        if completes(node, permutation) {
+            least = match least {
+                Some(other) if other <= *own => Some(other),
+                _ => Some(*own),
+            };
+        }
+    }
+    least
+}
+
+/// The root with facility 0 at this location, or the empty one.
+fn root_with(alloc: Global, n: usize, place: Option<u16>) -> Result<Option<Partial>, AllocError> {
+    if n == 0 || n > 256 {
+        return Ok(None);
+    }
+    let root = Partial::root(alloc, n)?;
+    match place {
+        Some(k) => child(&root, 0, k),
+        None => Ok(Some(root)),
+    }
+}
+
+/// The node with one facility more.
+fn child(node: &Partial, f: u16, k: u16) -> Result<Option<Partial>, AllocError> {
+    if usize::from(f) < node.size() && !node.is_placed(f) && node.is_free(k) {
+        Ok(Some(node.place(f, k)?))
+    } else {
+        Ok(None)
+    }
+}
+
+/// What a search found, as it is compared.
+#[derive(Clone, Copy, Debug, PartialEq)]
+struct Numbers {
+    cost: i128,
+    bound: i128,
+    nodes: u64,
+    open_nodes: u64,
+}
+
+/// Searches from a permutation, and asserts of what was found that its proof holds and is no dearer than the start, and
+/// what its bound and its numbers are.
+fn seen<S: Stop>(
+    rt: &impl Abort,
+    alloc: Global,
+    (instance, root): (&Instance, &Partial),
+    (start, own): (&Perm, i128),
+    least: i128,
+    (limit, stop): (Option<u64>, &S),
+) -> Result<Numbers, Fail> {
+    let Found {
+        proof,
+        nodes,
+        open_nodes,
+    } = prove(alloc, instance, root, start, limit, stop)?;
+    assert_eq!(rt; check(alloc, instance, &proof), Ok(()));
+    assert_eq!(rt; proof.cost(), cost(instance, proof.perm()));
+    assert!(rt; proof.cost() <= own && proof.bound() <= least);
+    assert!(rt; (open_nodes == 0) == (proof.bound() == proof.cost()));
+    assert!(rt; nodes <= limit.unwrap_or(u64::MAX));
+    let missing = missing_parts(alloc, instance, &proof)?;
+    assert_eq!(rt; missing.len() as u64, open_nodes);
+    Ok(Numbers {
+        cost: proof.cost(),
+        bound: proof.bound(),
+        nodes,
+        open_nodes,
+    })
+}
+
+/// Asserts what searches find from a permutation: without a limit the least cost; a limit of 0 or a stop at once, one
+/// leaf; a limit of 1, a proof whose bound is no less.
+fn assert_found(
+    rt: &impl Abort,
+    alloc: Global,
+    place: (&Instance, &Partial),
+    start: (&Perm, i128),
+    least: i128,
+) -> Result<u64, Fail> {
+    let whole = seen(rt, alloc, place, start, least, (None, &Never))?;
+    let best = start.1.min(least);
+    assert_eq!(rt;
+        (whole.cost, whole.bound, whole.open_nodes),
+        (best, best, 0)
+    );
+    let same = seen(rt, alloc, place, start, least, (Some(whole.nodes), &Never))?;
+    assert_eq!(rt; same, whole);
+    let none = seen(rt, alloc, place, start, least, (Some(0), &Never))?;
+    assert!(rt; none.nodes == 0 && none.open_nodes <= 1);
+    let stopped = seen(rt, alloc, place, start, least, (None, &AtOnce))?;
+    assert_eq!(rt; stopped, none);
+    for limit in [1, 2, whole.nodes / 2] {
+        let part = seen(rt, alloc, place, start, least, (Some(limit), &Never))?;
+        assert_eq!(rt; part.nodes, limit.min(whole.nodes));
+        assert!(rt; part.bound >= none.bound.min(part.cost));
+    }
+    Ok(whole.nodes)
+}
+
+/// Asserts it from the first, the middle and the last permutation, and returns how many nodes these searches decided.
+fn assert_searched(
+    rt: &impl Abort,
+    alloc: Global,
+    (instance, root): (&Instance, &Partial),
+    all: &[(Perm, i128)],
+) -> Result<u64, Fail> {
+    let least = least_of(root, all).ok_or("no completion")?;
+    let mut nodes: u64 = 0;
+    for pick in [0, all.len() / 2, all.len().saturating_sub(1)] {
+        let (start, own) = all.get(pick).ok_or("none")?;
+        assert_eq!(rt; start.len(), instance.size());
+        let found = assert_found(rt, alloc, (instance, root), (start, *own), least)?;
+        nodes = nodes.wrapping_add(found);
+    }
+    Ok(nodes)
+}
+
+/// Sizes, kinds, seeds, and where facility 0 is placed, if it is.
+static CASES: [(usize, Kind, Kind, u64, Option<u16>); 12] = [
+    (1, Kind::Signed, Kind::Signed, 1, None),
+    (1, Kind::Signed, Kind::Signed, 1, Some(0)),
+    (2, Kind::Signed, Kind::Signed, 2, None),
+    (3, Kind::Signed, Kind::Signed, 3, None),
+    (3, Kind::Zero, Kind::Signed, 4, Some(2)),
+    (4, Kind::Signed, Kind::Signed, 5, None),
+    (4, Kind::Small, Kind::Symmetric, 6, Some(1)),
+    (4, Kind::Symmetric, Kind::Symmetric, 7, None),
+    (5, Kind::Signed, Kind::Signed, 8, None),
+    (5, Kind::Symmetric, Kind::Small, 9, Some(3)),
+    (5, Kind::Small, Kind::Small, 10, None),
+    (5, Kind::Symmetric, Kind::Symmetric, 11, None),
+];
+
+#[test]
+fn searches_find_the_least(rt: HostRuntime) -> Result<(), Fail> {
+    let alloc = rt.alloc();
+    let mut nodes: u64 = 0;
+    for (n, a, b, seed, place) in CASES {
+        let instance = instance(alloc, n, a, b, seed)?.ok_or("instance")?;
+        let root = root_with(alloc, n, place)?.ok_or("root")?;
+        let all = listing(alloc, &instance)?;
+        nodes = nodes.wrapping_add(assert_searched(&rt, alloc, (&instance, &root), &all)?);
+    }
+    assert!(rt; nodes > 100);
+    Ok(())
+}
