@@ -47,5 +47,5 @@ returns c =
     record { fits = shown.fits; enough = omega (arith, ints, bound, value, c.min-bound.ensures.other_bound, shown.value) } in
     IfOk-weaker c.made.result _ _
     (λ C both. leaf-found I x c.in_ok-root.root b _ _ c.in_ok-permutation.permutation _ (pair_of e.duals) C both.1 both.0 c.in_ok-root.ensures.value (cost ∙ c.cost-cost.ensures.value)
-        (c.in_ok-permutation.ensures ∙ c.permutation.ensures) c.requires.incumbent c.leaf.ensures closes)
+    (c.in_ok-permutation.ensures ∙ c.permutation.ensures) c.requires.incumbent c.leaf.ensures closes)
     c.made.ensures
