@@ -4,7 +4,7 @@ ghost use Rattle.std.specs.Prelude.{◌≡◌, true};
 
 use itertools::Itertools;
 use qap_cost::{Instance, Partial, Perm, cost};
-use qap_proof::{check, missing_parts};
+use qap_proof::{check, missing_parts, read_node_text};
 use std::alloc::{AllocError, Global};
 use std::process::Abort;
 use std::test::Fail;
@@ -122,27 +122,6 @@ fn least_of(node: &Partial, all: &[(Perm, i128)]) -> Option<i128> {
     least
 }
 
-/// The root with facility 0 at this location, or the empty one.
-fn root_with(alloc: Global, n: usize, place: Option<u16>) -> Result<Option<Partial>, AllocError> {
-    if n == 0 || n > 256 {
-        return Ok(None);
-    }
-    let root = Partial::root(alloc, n)?;
-    match place {
-        Some(k) => child(&root, 0, k),
-        None => Ok(Some(root)),
-    }
-}
-
-/// The node with one facility more.
-fn child(node: &Partial, f: u16, k: u16) -> Result<Option<Partial>, AllocError> {
-    if usize::from(f) < node.size() && !node.is_placed(f) && node.is_free(k) {
-        Ok(Some(node.place(f, k)?))
-    } else {
-        Ok(None)
-    }
-}
-
 /// What a search found, as it is compared.
 #[derive(Clone, Copy, Debug, PartialEq)]
 struct Numbers {
@@ -152,21 +131,25 @@ struct Numbers {
     open_nodes: u64,
 }
 
-/// Searches from a permutation, and asserts of what was found that its proof holds and is no dearer than the start, and
-/// what its bound and its numbers are.
+/// Searches below the root of this text from a permutation, and asserts of what was found that its proof holds and is no
+/// dearer than the start, and what its bound and its numbers are.
 fn seen<S: Stop>(
     rt: &impl Abort,
     alloc: Global,
-    (instance, root): (&Instance, &Partial),
+    (instance, text): (&Instance, &[u8]),
     (start, own): (&Perm, i128),
     least: i128,
     (limit, stop): (Option<u64>, &S),
 ) -> Result<Numbers, Fail> {
+    let Some(root) = read_node_text(alloc, text, instance.size())? else {
+        panic!(rt; "a root is refused");
+    };
+    assert_eq!(rt; start.len(), instance.size());
     let Found {
         proof,
         nodes,
         open_nodes,
-    } = prove(alloc, instance, root, start, limit, stop)?;
+    } = prove(alloc, instance, &root, start, limit, stop)?;
     assert_eq!(rt; check(alloc, instance, &proof), Ok(()));
     assert_eq!(rt; proof.cost(), cost(instance, proof.perm()));
     assert!(rt; proof.cost() <= own && proof.bound() <= least);
@@ -187,7 +170,7 @@ fn seen<S: Stop>(
 fn assert_found(
     rt: &impl Abort,
     alloc: Global,
-    place: (&Instance, &Partial),
+    place: (&Instance, &[u8]),
     start: (&Perm, i128),
     least: i128,
 ) -> Result<u64, Fail> {
@@ -215,45 +198,44 @@ fn assert_found(
 fn assert_searched(
     rt: &impl Abort,
     alloc: Global,
-    (instance, root): (&Instance, &Partial),
+    (instance, text): (&Instance, &[u8]),
     all: &[(Perm, i128)],
 ) -> Result<u64, Fail> {
-    let least = least_of(root, all).ok_or("no completion")?;
+    let root = read_node_text(alloc, text, instance.size())?.ok_or("root")?;
+    let least = least_of(&root, all).ok_or("no completion")?;
     let mut nodes: u64 = 0;
     for pick in [0, all.len() / 2, all.len().saturating_sub(1)] {
         let (start, own) = all.get(pick).ok_or("none")?;
-        assert_eq!(rt; start.len(), instance.size());
-        let found = assert_found(rt, alloc, (instance, root), (start, *own), least)?;
+        let found = assert_found(rt, alloc, (instance, text), (start, *own), least)?;
         nodes = nodes.wrapping_add(found);
     }
     Ok(nodes)
 }
 
-/// Sizes, kinds, seeds, and where facility 0 is placed, if it is.
-static CASES: [(usize, Kind, Kind, u64, Option<u16>); 12] = [
-    (1, Kind::Signed, Kind::Signed, 1, None),
-    (1, Kind::Signed, Kind::Signed, 1, Some(0)),
-    (2, Kind::Signed, Kind::Signed, 2, None),
-    (3, Kind::Signed, Kind::Signed, 3, None),
-    (3, Kind::Zero, Kind::Signed, 4, Some(2)),
-    (4, Kind::Signed, Kind::Signed, 5, None),
-    (4, Kind::Small, Kind::Symmetric, 6, Some(1)),
-    (4, Kind::Symmetric, Kind::Symmetric, 7, None),
-    (5, Kind::Signed, Kind::Signed, 8, None),
-    (5, Kind::Symmetric, Kind::Small, 9, Some(3)),
-    (5, Kind::Small, Kind::Small, 10, None),
-    (5, Kind::Symmetric, Kind::Symmetric, 11, None),
+/// Sizes, kinds, seeds, and the texts of roots.
+static CASES: [(usize, Kind, Kind, u64, &[u8]); 12] = [
+    (1, Kind::Signed, Kind::Signed, 1, b""),
+    (1, Kind::Signed, Kind::Signed, 1, b"1 1"),
+    (2, Kind::Signed, Kind::Signed, 2, b""),
+    (3, Kind::Signed, Kind::Signed, 3, b""),
+    (3, Kind::Zero, Kind::Signed, 4, b"1 3"),
+    (4, Kind::Signed, Kind::Signed, 5, b""),
+    (4, Kind::Small, Kind::Symmetric, 6, b"2 2"),
+    (4, Kind::Symmetric, Kind::Symmetric, 7, b""),
+    (5, Kind::Signed, Kind::Signed, 8, b""),
+    (5, Kind::Symmetric, Kind::Small, 9, b"1 4 3 1"),
+    (5, Kind::Small, Kind::Small, 10, b""),
+    (5, Kind::Symmetric, Kind::Symmetric, 11, b""),
 ];
 
 #[test]
 fn searches_find_the_least(rt: HostRuntime) -> Result<(), Fail> {
     let alloc = rt.alloc();
     let mut nodes: u64 = 0;
-    for (n, a, b, seed, place) in CASES {
+    for (n, a, b, seed, text) in CASES {
         let instance = instance(alloc, n, a, b, seed)?.ok_or("instance")?;
-        let root = root_with(alloc, n, place)?.ok_or("root")?;
         let all = listing(alloc, &instance)?;
-        nodes = nodes.wrapping_add(assert_searched(&rt, alloc, (&instance, &root), &all)?);
+        nodes = nodes.wrapping_add(assert_searched(&rt, alloc, (&instance, text), &all)?);
     }
     assert!(rt; nodes > 100);
     Ok(())
