@@ -6,7 +6,7 @@ ghost use Rattle.tree_search.specs.Evaluation.{HasLines};
 use crate::evaluation::Evaluation;
 use crate::gain::best_line;
 use crate::ground::Ground;
-use crate::images::{Image, images_by};
+use crate::symmetry::{Symmetry, symmetric_children};
 use qap_cost::Partial;
 use qap_proof::{Side, SplitLine};
 use std::alloc::{AllocError, Global};
@@ -15,8 +15,8 @@ use std::alloc::{AllocError, Global};
 #[derive(Drop)]
 pub(crate) struct Branch {
     pub(crate) split: SplitLine,
-    /// The image that each child is, if it is one.
-    pub(crate) images: Vec<Option<Image>>,
+    /// The symmetry of each child to an earlier one, if it has any.
+    pub(crate) symmetries: Vec<Option<Symmetry>>,
     /// All children, in ascending order of their values.
     pub(crate) children: Vec<Child>,
 }
@@ -46,8 +46,8 @@ pub(crate) fn branch_of<S>(
     let alloc = ground.alloc;
     let gap = cost.wrapping_sub(evaluation.value);
     let (facilities, locations) = (&evaluation.facilities, &evaluation.locations);
-    let on_facility = images_by(alloc, &ground.distances, node.places(), locations)?;
-    let on_location = images_by(alloc, &ground.flows, node.facilities(), facilities)?;
+    let on_facility = symmetric_children(alloc, &ground.distances, node.places(), locations)?;
+    let on_location = symmetric_children(alloc, &ground.flows, node.facilities(), facilities)?;
     let row = best_line(&evaluation, Side::Facility, &on_facility, gap);
     let column = best_line(&evaluation, Side::Location, &on_location, gap);
     if column.saves_more(&row) {
@@ -69,7 +69,7 @@ fn split_on(
     evaluation: Evaluation,
     side: Side,
     number: usize,
-    images: Vec<Option<Image>>,
+    symmetries: Vec<Option<Symmetry>>,
 ) -> Result<Branch, AllocError>
     requires lines { HasLines evaluation }
     requires inside { number < evaluation.matrix.size }
@@ -87,7 +87,7 @@ fn split_on(
     };
     Ok(Branch {
         split,
-        images,
+        symmetries,
         children,
     })
 }

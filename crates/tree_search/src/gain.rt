@@ -4,7 +4,7 @@ ghost use Rattle.std.specs.Prelude.{◌≡◌, ◌<◌};
 ghost use Rattle.tree_search.specs.Evaluation.{HasLines};
 
 use crate::evaluation::Evaluation;
-use crate::images::Image;
+use crate::symmetry::Symmetry;
 use qap_proof::Side;
 
 /// The row or column of the facility or location that a split is on, and what it saves.
@@ -29,16 +29,16 @@ impl Line {
 pub(crate) fn best_line(
     evaluation: &Evaluation,
     side: Side,
-    images: &[Option<Image>],
+    symmetries: &[Option<Symmetry>],
     gap: i128,
 ) -> Line
     requires lines { HasLines evaluation.now }
     requires some { 0 < evaluation.now.matrix.size }
     ensures { result.number < evaluation.now.matrix.size }
 {
-    let mut best = line_at(evaluation, side, 0, images, gap);
+    let mut best = line_at(evaluation, side, 0, symmetries, gap);
     for number in 1..evaluation.matrix.size() {
-        let line = line_at(evaluation, side, number, images, gap);
+        let line = line_at(evaluation, side, number, symmetries, gap);
         if line.saves_more(&best) {
             best = line;
         }
@@ -51,7 +51,7 @@ fn line_at(
     evaluation: &Evaluation,
     side: Side,
     number: usize,
-    images: &[Option<Image>],
+    symmetries: &[Option<Symmetry>],
     gap: i128,
 ) -> Line
     requires lines { HasLines evaluation.now }
@@ -62,7 +62,7 @@ fn line_at(
     let mut sum = 0i128;
     for child in 0..evaluation.matrix.size() {
         let reduced = evaluation.reduced_cost(side, number, child);
-        if reduced >= gap || matches!(images.get(child), Some(Some(_))) {
+        if reduced >= gap || matches!(symmetries.get(child), Some(Some(_))) {
             spared = spared.wrapping_add(1);
         } else {
             sum = sum.wrapping_add(reduced);

@@ -7,11 +7,11 @@ mod completion;
 mod evaluation;
 mod gain;
 mod ground;
-mod images;
 mod one_leaf;
 mod open;
 mod progress;
 mod proving;
 mod search;
+mod symmetry;
 
 pub use proving::{Found, prove};

@@ -7,8 +7,8 @@ use crate::branching::{Branch, Child, branch_of};
 use crate::completion::completed;
 use crate::evaluation::{Evaluation, evaluate};
 use crate::ground::Ground;
-use crate::images::Image;
 use crate::progress::Progress;
+use crate::symmetry::Symmetry;
 use gilmore_lawler::NodeRows;
 use qap_cost::Partial;
 use qap_proof::{Side, SplitLine, Tree};
@@ -56,10 +56,10 @@ fn search_children<S: Stop>(
 {
     let Branch {
         split,
-        images,
+        symmetries,
         children: order,
     } = branch;
-    let mut children = without_search(ground.alloc, images)?;
+    let mut children = without_search(ground.alloc, symmetries)?;
     for child in &order {
         let Some(Tree::Cut) = children.get(child.number) else {
             continue;
@@ -140,11 +140,14 @@ fn is_split<S: Stop>(
 
 /// The trees of the children of a split before any is searched: those of symmetric ones refer to earlier ones, and the
 /// others are pruned.
-fn without_search(alloc: Global, images: Vec<Option<Image>>) -> Result<Vec<Tree>, AllocError> {
-    let mut children = Vec::with_capacity(alloc, images.len())?;
-    for image in images {
-        children.push(match image {
-            Some(Image { earlier, by }) => Tree::Mirrored { earlier, image: by },
+fn without_search(
+    alloc: Global,
+    symmetries: Vec<Option<Symmetry>>,
+) -> Result<Vec<Tree>, AllocError> {
+    let mut children = Vec::with_capacity(alloc, symmetries.len())?;
+    for symmetry in symmetries {
+        children.push(match symmetry {
+            Some(Symmetry { earlier, by }) => Tree::Mirrored { earlier, image: by },
             None => Tree::Cut,
         })?;
     }
