@@ -131,8 +131,8 @@ struct Numbers {
     open_nodes: u64,
 }
 
-/// Searches below the root of this text from a permutation, and asserts of what was found that its proof holds and is no
-/// dearer than the start, and what its bound and its numbers are.
+/// Searches below the root of this text from a permutation, and asserts of what was found that its proof holds and
+/// costs no more than the start, and what its bound and its numbers are.
 fn seen<S: Stop>(
     rt: &impl Abort,
     alloc: Global,
