@@ -1,11 +1,12 @@
 -- What a text of version 2 shows is so.
-use Rattle.std.proofs.Common.{◌≡◌, ◌⊎◌, ℕ, List, ℤ, Err, Ok, Result, inl, inr, refl, subst}
+use Rattle.std.proofs.Common.{◌≡◌, ◌⊎◌, ◌∙◌, ℕ, List, ℤ, Err, Ok, Result, ap, inl, inr, refl, subst, sym}
 use Rattle.std.specs.Prelude.{MatchOption, MatchResult, None, Option, Some}
 use Rattle.qap_cost.specs.Instance.{Problem}
 use Rattle.qap_cost.specs.Placement.{Placement}
 use Rattle.qap_cost.specs.Range.{IsLimited}
 use Rattle.pair_duals.proofs.CostSteps.{step-divides}
 use Rattle.qap_proof.specs.Acceptance.{IsLimitedVerdict, IsRefused, IsSo, ProvesFor}
+use Rattle.qap_proof.specs.Cover.{CoverValue, Establishes, IsAdmitted}
 use Rattle.qap_proof.specs.OverRoot.{ProvesForAnother}
 use Rattle.qap_proof.specs.declared.error.ProofError.{ProofError}
 use Rattle.qap_proof.specs.declared.error.ProofError.TheVariants.{OutOfMemory}
@@ -15,8 +16,9 @@ use Rattle.qap_proof.specs.declared.acceptance.Verdict.TheVariants.{Gap, Optimal
 use Rattle.proof_check.proofs.Laws.{gap, optimal, part}
 use Rattle.proof_check.specs.Acceptance.{IsPairVerdictOf, ShowsPairVerdict}
 use Rattle.proof_tree.proofs.Validity.{Proves-NoneCompletesForLess}
-use Rattle.proof_tree.specs.Claim.{IsPairProof, PairClaim}
+use Rattle.proof_tree.specs.Claim.{IsPairProof, PairClaim, PairProves}
 use Rattle.qap_proof.specs.Claim.{NoneCompletesForLess}
+use Rattle.proof_versions.specs.Adding.{HasPairPart}
 use Rattle.proof_versions.specs.OverRoot.{EitherProvesFor, EitherProvesForAnother, PairProvesFor}
 use Rattle.proof_versions.specs.Versions.{EitherIsRefused, EitherIsSo}
 
@@ -46,6 +48,27 @@ pub NoneCompletesForLess-pairs : (I : Problem) (text : List ℕ) (x : Placement)
 NoneCompletesForLess-pairs I text x c g h =
     subst (λ y. NoneCompletesForLess I y g) h.root
     (subst (NoneCompletesForLess I h.proof.root) h.bound (Proves-NoneCompletesForLess I h.proof h.is_text.proof (step-divides I) h.proved))
+
+-- what a proof of version 2 establishes
+pub Establishes-pairs : (I : Problem) (text : List ℕ) (x : Placement) (c g : ℤ) → PairProvesFor I text x c g → Establishes I x c g
+Establishes-pairs I text x c g h =
+    let C = h.proof in
+    let shape = h.is_text.proof in record {
+      same_size = ap (λ (y : Placement). y.size) (sym h.root) ∙ shape.root.size ∙ h.proved.same_size;
+      limited = subst IsLimited h.cost shape.cost;
+      reached = (C.permutation, record { bijection = shape.permutation.bijection; same_size = h.proved.same_size }, h.proved.cost ∙ h.cost);
+      bounded = NoneCompletesForLess-pairs I text x c g h;
+    }
+
+-- once that is admitted, the proof of the part has been added
+pub HasPairPart-admitted : (I : Problem) (old new : CoverValue) (text : List ℕ) (x : Placement) (c g : ℤ) → I ≡ old.instance → PairProvesFor I text x c g → IsAdmitted x c g old new → HasPairPart text old new
+HasPairPart-admitted I old new text x c g here h added = record {
+  proof = h.proof;
+  is_text = h.is_text;
+  proved = subst (λ (J : Problem). PairProves J h.proof) here h.proved;
+  admitted = subst (λ (y : Placement). IsAdmitted y h.proof.cost h.proof.bound old new) (sym h.root)
+      (subst (λ (z : ℤ). IsAdmitted x z h.proof.bound old new) (sym h.cost) (subst (λ (z : ℤ). IsAdmitted x c z old new) (sym h.bound) added));
+}
 
 -- what version 1 shows over a root, either does
 pub over_root-first : (I : Problem) (text : List ℕ) (x : Placement) (r : Result (Option Stated) ProofError)

@@ -1,3 +1,4 @@
+pub mod Adding
 pub mod OverRoot
 pub mod Part
 pub mod Versions

@@ -2,9 +2,11 @@
 #![tactic(auto)]
 
 mod acceptance;
+mod adding;
 mod over_root;
 mod pairs;
 mod part;
 
 pub use acceptance::accept;
+pub use adding::add_part;
 pub use over_root::accept_over;

@@ -16,10 +16,10 @@ const ROOT_LINE: u64 = 5;
 
 /// What a proof of version 2 states.
 #[derive(Drop)]
-struct PairStated {
-    root: Partial,
-    cost: i128,
-    bound: i128,
+pub(crate) struct PairStated {
+    pub(crate) root: Partial,
+    pub(crate) cost: i128,
+    pub(crate) bound: i128,
 }
 
 /// What a text establishes about the permutations that complete this root, if it is that of a proof in either version
@@ -50,7 +50,11 @@ pub fn accept_over(
 }
 
 /// What a text of version 2 states, where it is that of a proof which proves its bound for the instance.
-fn pair_stated(alloc: Global, instance: &Instance, text: &[u8]) -> Result<PairStated, ProofError>
+pub(crate) fn pair_stated(
+    alloc: Global,
+    instance: &Instance,
+    text: &[u8],
+) -> Result<PairStated, ProofError>
     ensures { IfOk result (λ s. PairProvesFor instance.now text.now s.root s.cost s.bound) }
 {
     let size = instance.size();

@@ -1,8 +1,8 @@
 //! What no clause states: that proofs in both versions are accepted, and which fault is reported for others.
 
-use proof_versions::{accept, accept_over};
+use proof_versions::{accept, accept_over, add_part};
 use qap_cost::{Instance, Partial};
-use qap_proof::{ProofError, Stated, Verdict, read_node_text};
+use qap_proof::{Cover, ProofError, Stated, Verdict, read_node_text};
 use std::alloc::{AllocError, Global};
 use std::test::Fail;
 
@@ -22,6 +22,14 @@ const GAP: &[u8] =
 
 /// Over the node that puts facility 1 at location 2, with the cost of the other permutation.
 const PART: &[u8] = b"qapproof 2\nn 2\ncost 11\nperm 1 2\nnode 1 2\nbound 10\np 1\n\nx 17\nend\n";
+
+/// A split on facility 1, whose leaves show 3 and 17.
+const WHOLE: &[u8] = b"qapproof 1\nn 2\ncost 17\nperm 2 1\nbound 3\ns 1\nb 3 0\nb 17 0\nend\n";
+
+/// Over the node that puts facility 1 at location 1.
+const LOW: &[u8] = b"qapproof 2\nn 2\ncost 11\nperm 1 2\nnode 1 1\nbound 10\np 1\n\nx 11\nend\n";
+
+const CLOSED: &[u8] = b"qapproof 2\nn 2\ncost 11\nperm 1 2\nnode 1 1\np 1\n\nx 11\nend\n";
 
 fn two(alloc: Global) -> Result<Option<Instance>, AllocError> {
     let a = Vec::from_slice(alloc, &FLOWS)?;
@@ -99,5 +107,57 @@ fn over_a_root(rt: HostRuntime) -> Result<(), Fail> {
     assert_eq!(rt; accept_over(alloc, &two, &other, PART), Ok(None));
     assert_eq!(rt; accept_over(alloc, &two, &node, SECOND), Ok(None));
     assert_eq!(rt; accept_over(alloc, &two, &node, PART), Ok(Some(below)));
+    Ok(())
+}
+
+#[test]
+fn parts(rt: HostRuntime) -> Result<(), Fail> {
+    let alloc = rt.alloc();
+    let Some(two) = two(alloc)? else {
+        panic!(rt; "an instance is refused");
+    };
+    let Ok(mut cover) = Cover::new(alloc, &two, WHOLE) else {
+        panic!(rt; "a proof is refused");
+    };
+    let refused: [(&[u8], ProofError); 4] = [
+        (
+            b"qapproof 2\nn 1\ncost 11\nperm 1\np 1\n\nx 11\nend\n",
+            ProofError::SizeDiffers(2),
+        ),
+        (
+            b"qapproof 2\nn 2\ncost 12\nperm 1 2\nnode 1 1\np 1\n\nx 12\nend\n",
+            ProofError::CostDiffers(3),
+        ),
+        (
+            b"qapproof 2\nn 2\ncost 17\nperm 2 1\nnode 1 1\np 1\n\nx 11\nend\n",
+            ProofError::BoundTooLow(8),
+        ),
+        (b"qapproof 3\n", ProofError::BadVersion),
+    ];
+    for (text, fault) in refused {
+        assert_eq!(rt; add_part(alloc, &mut cover, text), Err(fault));
+        assert_eq!(rt; cover.verdict(), Verdict::Gap(3, 17));
+    }
+    assert_eq!(rt; add_part(alloc, &mut cover, LOW), Ok(()));
+    assert_eq!(rt; cover.verdict(), Verdict::Gap(10, 11));
+    assert_eq!(rt; add_part(alloc, &mut cover, CLOSED), Ok(()));
+    assert_eq!(rt; cover.verdict(), Verdict::Optimal(11));
+    Ok(())
+}
+
+/// A proof over the empty root counts for all leaves.
+#[test]
+fn whole_as_a_part(rt: HostRuntime) -> Result<(), Fail> {
+    let alloc = rt.alloc();
+    let Some(two) = two(alloc)? else {
+        panic!(rt; "an instance is refused");
+    };
+    for text in [FIRST, SECOND] {
+        let Ok(mut cover) = Cover::new(alloc, &two, WHOLE) else {
+            panic!(rt; "a proof is refused");
+        };
+        assert_eq!(rt; add_part(alloc, &mut cover, text), Ok(()));
+        assert_eq!(rt; cover.verdict(), Verdict::Optimal(11));
+    }
     Ok(())
 }
