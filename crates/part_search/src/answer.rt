@@ -38,7 +38,8 @@ pub(crate) struct Survey {
 /// What the space of a search proves, at its end or when it was stopped, including the nodes that workers hold. The
 /// only error is out of memory.
 pub fn answer_of(alloc: Global, instance: &Instance, space: TxnSpace) -> Result<Answer, AllocError>
-    ensures { IfOk result (λ a. (S : Part) → S.instance ≡ instance.now → IsSearched S (content_of space) → IsAnswer S a) }
+    ensures answer { IfOk result (λ a. (S : Part) → S.instance ≡ instance.now → IsSearched S (content_of space) → IsAnswer S a) }
+    ensures nodes { IfOk result (λ a. a.nodes ≡ space.commits) }
 {
     best_law();
     bound_law();

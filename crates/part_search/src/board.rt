@@ -5,7 +5,8 @@ use crate::tuples::tuple_of_open;
 use pair_duals::PairDuals;
 use qap_cost::Partial;
 use std::alloc::{AllocError, Global};
-use std::collections::VecDeque;
+use std::cmp::Reverse;
+use std::collections::{BinaryHeap, HashMap, VecDeque};
 use std::sync::Arc;
 use tuple_match::{Pattern, Template};
 
@@ -53,7 +54,10 @@ struct Kept {
 /// them start.
 #[derive(Drop)]
 pub(crate) struct Board {
-    wanted: Vec<Wanted>,
+    /// The values of the open nodes, and their numbers in the order in which they were put here.
+    order: BinaryHeap<Reverse<(i128, u64)>>,
+    wanted: HashMap<u64, Wanted>,
+    last: u64,
     kept: VecDeque<Kept>,
     numbers: usize,
 }
@@ -62,7 +66,9 @@ impl Board {
     /// With nothing on it.
     pub(crate) fn new(alloc: Global) -> Board {
         Board {
-            wanted: Vec::new(alloc),
+            order: BinaryHeap::new(alloc),
+            wanted: HashMap::new(alloc),
+            last: 0,
             kept: VecDeque::new(alloc),
             numbers: 0,
         }
@@ -70,25 +76,16 @@ impl Board {
 
     /// Puts an open node on it.
     pub(crate) fn add(&mut self, wanted: Wanted) -> Result<(), AllocError> {
-        self.wanted.push(wanted)?;
+        self.last = self.last.wrapping_add(1);
+        self.order.push(Reverse((wanted.value, self.last)))?;
+        self.wanted.insert(self.last, wanted)?;
         Ok(())
     }
 
-    /// The open node with the least value, which is no longer on it.
+    /// The open node with the least value, of these the one put on it first, which is no longer on it.
     pub(crate) fn take_least(&mut self) -> Option<Wanted> {
-        let mut least: Option<(usize, i128)> = None;
-        for (place, wanted) in self.wanted.iter().enumerate() {
-            least = match least {
-                Some((_, value)) if value <= wanted.value => least,
-                _ => Some((place, wanted.value)),
-            };
-        }
-        let (place, _) = least?;
-        if place < self.wanted.len() {
-            Some(self.wanted.swap_remove(place))
-        } else {
-            None
-        }
+        let Reverse((_, number)) = self.order.pop()?;
+        self.wanted.remove(&number)
     }
 
     /// Keeps pair duals of a node, and drops those kept longest where they are too many.

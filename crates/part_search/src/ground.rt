@@ -1,34 +1,35 @@
 //! What a search on parts needs regardless of the node.
 
 ghost use Rattle.std.specs.Prelude.{◌≡◌, ◌<◌, ◌≤ℤ◌, ◌<ℤ◌, ◌*ℤ◌, ℕ, ℤ, pos, All, IfOk, IfSome, MatchOption, map};
+ghost use Rattle.std.specs.Arc.{arc_value};
 ghost use Rattle.dual_ascent.specs.AscentRange.{HasRange};
 ghost use Rattle.qap_cost.specs.Instance.{IsInstance, Problem};
 ghost use Rattle.pair_duals.specs.PairDuals.{AreOf, Fit};
 ghost use Rattle.subtree_search.specs.Best.{IsIncumbent};
 ghost use Rattle.subtree_search.specs.Opens.{IsOpen, IsSettled, node_of};
-ghost use Rattle.part_search.specs.Ground.{IsChildValue, IsFreeChild, StandFor};
+ghost use Rattle.part_search.specs.Ground.{IsChildValue, IsFreeChild, IsKnown, IsParent, IsSplitter, StandFor};
 ghost use Rattle.part_search.specs.Tuples.{open_of};
 
 use crate::aid::Aid;
 use crate::open_node::Open;
 use dual_ascent::{Effort, ascend_softly, has_range};
+use gilmore_lawler::RankedInstance;
+use node_split::NodeSplit;
 use pair_duals::{PairDuals, cost_step};
 use qap_cost::{Instance, Partial, Perm};
 use qap_symmetry::{Table, symmetries_of};
 use std::alloc::{AllocError, Global};
 use std::marker::Model;
+use std::sync::Arc;
 use subtree_search::{Incumbent, OpenChild, Subtree, SubtreeSearch};
 
-/// An instance with the symmetries of its matrices and its cost step, and pair duals of the root, from which those of other nodes
-/// start. It is seen as the instance.
+/// An instance with the symmetries of its matrices, and the bounds by which its nodes are split. It is seen as the instance.
 #[derive(Drop)]
 pub struct Ground {
     instance: Instance,
     flows: Vec<Perm>,
     distances: Vec<Perm>,
-    step: i128,
-    scale: u32,
-    duals: PairDuals<i64>,
+    bounds: Bounds,
 }
 
 impl Model for Ground {
@@ -39,7 +40,43 @@ impl Model for Ground {
 
     ghost view = { λ g. g.instance };
 
-    ghost invariant = { λ g. IsGround g.instance g.flows.items g.distances.items g.step g.scale };
+    ghost invariant = { λ g. IsGround g.instance g.flows.items g.distances.items g.bounds };
+}
+
+/// The bounds by which nodes are split.
+#[derive(Drop)]
+pub(crate) enum Bounds {
+    /// Those of pair duals, which start from these of the root.
+    Duals(RootDuals),
+    /// Those of Gilmore and Lawler, from the sorted rows of the instance.
+    Rows(Arc<RankedInstance>),
+}
+
+/// Pair duals of the root, the scale of those of other nodes, and the cost step of the instance.
+#[derive(Drop)]
+pub(crate) struct RootDuals {
+    pub(crate) step: i128,
+    pub(crate) scale: u32,
+    pub(crate) duals: PairDuals<i64>,
+}
+
+/// What a worker splits nodes with, in memory that is kept from one node to the next.
+#[derive(Drop)]
+pub(crate) struct Splitter {
+    pub(crate) search: SubtreeSearch,
+    pub(crate) rows: Option<NodeSplit>,
+}
+
+impl Splitter {
+    /// One that has no memory yet.
+    pub(crate) fn new(alloc: Global) -> Splitter
+        ensures { (I : Problem) → IsSplitter I result }
+    {
+        Splitter {
+            search: SubtreeSearch::new(alloc),
+            rows: None,
+        }
+    }
 }
 
 impl Ground {
@@ -61,14 +98,29 @@ impl Ground {
         let duals = ascend_softly(alloc, instance, root, None, effort, scale)?;
         let flows = symmetries_of(alloc, instance, Table::Flows)?;
         let distances = symmetries_of(alloc, instance, Table::Distances)?;
+        let step = cost_step(instance);
         Ok(Some(Ground {
             instance: instance.copy()?,
             flows: flows.permutations,
             distances: distances.permutations,
-            step: cost_step(instance),
-            scale,
-            duals,
+            bounds: Bounds::Duals(RootDuals { step, scale, duals }),
         }))
+    }
+
+    /// What searches of an instance of any size and with any entries need: nodes are split by the bounds of Gilmore and
+    /// Lawler. The only error is out of memory.
+    pub fn by_rows(alloc: Global, instance: &Instance) -> Result<Ground, AllocError>
+        ensures { IfOk result (λ (I : Problem). I ≡ instance.now) }
+    {
+        let ranked = Arc::new(alloc, RankedInstance::new(alloc, instance)?)?;
+        let flows = symmetries_of(alloc, instance, Table::Flows)?;
+        let distances = symmetries_of(alloc, instance, Table::Distances)?;
+        Ok(Ground {
+            instance: instance.copy()?,
+            flows: flows.permutations,
+            distances: distances.permutations,
+            bounds: Bounds::Rows(ranked),
+        })
     }
 
     /// The instance.
@@ -81,88 +133,175 @@ impl Ground {
         &self.instance
     }
 
-    /// Splits an open node under pair duals of its own and tries its children; those that remain open cover it at the cost
-    /// of the incumbent.
+    /// Splits an open node by its bounds; the children that remain open cover it at the cost of the incumbent.
     pub(crate) fn split<S: Aid>(
         &self,
         alloc: Global,
-        search: &mut SubtreeSearch,
+        splitter: &mut Splitter,
         at: &Open,
         incumbent: &mut Incumbent,
         aid: &S,
     ) -> Result<Vec<Open>, AllocError>
         requires size { at.now.node.size ≡ self.now.size }
+        requires splitter { IsSplitter self.now splitter.old }
         requires incumbent { IsIncumbent self.now incumbent.old }
         ensures stand { IfOk result (λ opens. StandFor self.now incumbent.new.cost (open_of at.now) (map open_of opens.items)) }
+        ensures splitter { IsSplitter self.now splitter.new }
         ensures incumbent { IsIncumbent self.now incumbent.new }
         ensures no_worse { incumbent.new.cost ≤ℤ incumbent.old.cost }
     {
-        let duals = self.duals_at(alloc, &at.node, aid)?;
-        let opens = self.split_under(alloc, search, at, &duals, incumbent, aid)?;
-        if !opens.is_empty() {
-            aid.keep(&at.node, duals)?;
-        }
-        Ok(opens)
-    }
-
-    /// Pair duals of a node, which start from those that are known of a node above it, or from those of the root.
-    fn duals_at<S: Aid>(
-        &self,
-        alloc: Global,
-        node: &Partial,
-        aid: &S,
-    ) -> Result<PairDuals<i64>, AllocError>
-        requires { node.now.size ≡ self.now.size }
-        ensures of_node { IfOk result (AreOf node.now) }
-        ensures fits { IfOk result (Fit self.now) }
-        ensures range { IfOk result (λ D. HasRange self.now D.scale) }
-    {
-        let known = aid.start_for(node)?;
-        let start = match &known {
-            Some(duals) => duals,
-            None => &self.duals,
-        };
-        let effort = Effort::inner();
-        ascend_softly(
-            alloc,
-            &self.instance,
-            node,
-            Some(start),
-            &effort,
-            self.scale,
-        )
-    }
-
-    /// Splits an open node under these pair duals.
-    fn split_under<S: Aid>(
-        &self,
-        alloc: Global,
-        search: &mut SubtreeSearch,
-        at: &Open,
-        duals: &PairDuals<i64>,
-        incumbent: &mut Incumbent,
-        aid: &S,
-    ) -> Result<Vec<Open>, AllocError>
-        requires size { at.now.node.size ≡ self.now.size }
-        requires of_node { AreOf at.now.node duals.now }
-        requires fit { Fit self.now duals.now }
-        requires range { HasRange self.now duals.now.scale }
-        requires incumbent { IsIncumbent self.now incumbent.old }
-        ensures stand { IfOk result (λ opens. StandFor self.now incumbent.new.cost (open_of at.now) (map open_of opens.items)) }
-        ensures incumbent { IsIncumbent self.now incumbent.new }
-        ensures no_worse { incumbent.new.cost ≤ℤ incumbent.old.cost }
-    {
-        let subtree = Subtree {
+        let parent = Parent {
             instance: &self.instance,
-            node: &at.node,
-            duals,
-            step: self.step,
             flows: &self.flows,
             distances: &self.distances,
+            at,
         };
-        let children = search.split(&subtree, incumbent, aid)?;
-        children_of(alloc, at, &children, duals.scale())
+        match &self.bounds {
+            Bounds::Duals(known) => {
+                split_by_duals(alloc, &parent, known, &mut splitter.search, incumbent, aid)
+            }
+            Bounds::Rows(ranked) => {
+                split_by_rows(alloc, &parent, ranked, &mut splitter.rows, incumbent, aid)
+            }
+        }
     }
+}
+
+/// An open node of an instance, with the symmetries of the instance.
+#[derive(Clone, Copy)]
+pub(crate) struct Parent<'a> {
+    pub(crate) instance: &'a Instance,
+    pub(crate) flows: &'a [Perm],
+    pub(crate) distances: &'a [Perm],
+    pub(crate) at: &'a Open,
+}
+
+/// Splits an open node under pair duals of its own and tries its children.
+fn split_by_duals<S: Aid>(
+    alloc: Global,
+    parent: &Parent<'_>,
+    known: &RootDuals,
+    search: &mut SubtreeSearch,
+    incumbent: &mut Incumbent,
+    aid: &S,
+) -> Result<Vec<Open>, AllocError>
+    requires parent { IsParent parent.now }
+    requires known { IsKnown parent.now.instance.now known.now }
+    requires incumbent { IsIncumbent parent.now.instance.now incumbent.old }
+    ensures stand { IfOk result (λ opens. StandFor parent.now.instance.now incumbent.new.cost (open_of parent.now.at.now) (map open_of opens.items)) }
+    ensures incumbent { IsIncumbent parent.now.instance.now incumbent.new }
+    ensures no_worse { incumbent.new.cost ≤ℤ incumbent.old.cost }
+{
+    let node = &parent.at.node;
+    let duals = duals_at(alloc, parent.instance, node, known, aid)?;
+    let opens = split_under(alloc, parent, known, &duals, search, incumbent, aid)?;
+    if !opens.is_empty() {
+        aid.keep(node, duals)?;
+    }
+    Ok(opens)
+}
+
+/// Pair duals of a node, which start from those that are known of a node above it, or from those of the root.
+fn duals_at<S: Aid>(
+    alloc: Global,
+    instance: &Instance,
+    node: &Partial,
+    known: &RootDuals,
+    aid: &S,
+) -> Result<PairDuals<i64>, AllocError>
+    requires size { node.now.size ≡ instance.now.size }
+    requires range { HasRange instance.now known.now.scale }
+    ensures of_node { IfOk result (AreOf node.now) }
+    ensures fits { IfOk result (Fit instance.now) }
+    ensures range { IfOk result (λ D. HasRange instance.now D.scale) }
+{
+    let above = aid.start_for(node)?;
+    let start = match &above {
+        Some(duals) => duals,
+        None => &known.duals,
+    };
+    let effort = Effort::inner();
+    ascend_softly(alloc, instance, node, Some(start), &effort, known.scale)
+}
+
+/// Splits an open node under these pair duals.
+fn split_under<S: Aid>(
+    alloc: Global,
+    parent: &Parent<'_>,
+    known: &RootDuals,
+    duals: &PairDuals<i64>,
+    search: &mut SubtreeSearch,
+    incumbent: &mut Incumbent,
+    aid: &S,
+) -> Result<Vec<Open>, AllocError>
+    requires parent { IsParent parent.now }
+    requires known { IsKnown parent.now.instance.now known.now }
+    requires of_node { AreOf parent.now.at.now.node duals.now }
+    requires fit { Fit parent.now.instance.now duals.now }
+    requires range { HasRange parent.now.instance.now duals.now.scale }
+    requires incumbent { IsIncumbent parent.now.instance.now incumbent.old }
+    ensures stand { IfOk result (λ opens. StandFor parent.now.instance.now incumbent.new.cost (open_of parent.now.at.now) (map open_of opens.items)) }
+    ensures incumbent { IsIncumbent parent.now.instance.now incumbent.new }
+    ensures no_worse { incumbent.new.cost ≤ℤ incumbent.old.cost }
+{
+    let subtree = Subtree {
+        instance: parent.instance,
+        node: &parent.at.node,
+        duals,
+        step: known.step,
+        flows: parent.flows,
+        distances: parent.distances,
+    };
+    let children = search.split(&subtree, incumbent, aid)?;
+    children_of(alloc, parent.at, &children, duals.scale())
+}
+
+/// Splits an open node by the bounds of Gilmore and Lawler, with what is kept for that.
+fn split_by_rows<S: Aid>(
+    alloc: Global,
+    parent: &Parent<'_>,
+    ranked: &Arc<RankedInstance>,
+    kept: &mut Option<NodeSplit>,
+    incumbent: &mut Incumbent,
+    aid: &S,
+) -> Result<Vec<Open>, AllocError>
+    requires parent { IsParent parent.now }
+    requires ranked { arc_value ranked.now ≡ parent.now.instance.now }
+    requires kept { IfSome kept.old (λ (I : Problem). I ≡ parent.now.instance.now) }
+    requires incumbent { IsIncumbent parent.now.instance.now incumbent.old }
+    ensures stand { IfOk result (λ opens. StandFor parent.now.instance.now incumbent.new.cost (open_of parent.now.at.now) (map open_of opens.items)) }
+    ensures kept { IfSome kept.new (λ (I : Problem). I ≡ parent.now.instance.now) }
+    ensures incumbent { IsIncumbent parent.now.instance.now incumbent.new }
+    ensures no_worse { incumbent.new.cost ≤ℤ incumbent.old.cost }
+{
+    let mut rows = match kept.take() {
+        Some(rows) => rows,
+        None => NodeSplit::new(alloc, ranked.clone()?)?,
+    };
+    let opens = split_in(alloc, parent, &mut rows, incumbent, aid)?;
+    *kept = Some(rows);
+    Ok(opens)
+}
+
+/// Splits an open node so.
+fn split_in<S: Aid>(
+    alloc: Global,
+    parent: &Parent<'_>,
+    rows: &mut NodeSplit,
+    incumbent: &mut Incumbent,
+    aid: &S,
+) -> Result<Vec<Open>, AllocError>
+    requires parent { IsParent parent.now }
+    requires rows { rows.old ≡ parent.now.instance.now }
+    requires incumbent { IsIncumbent parent.now.instance.now incumbent.old }
+    ensures stand { IfOk result (λ opens. StandFor parent.now.instance.now incumbent.new.cost (open_of parent.now.at.now) (map open_of opens.items)) }
+    ensures same { rows.new ≡ rows.old }
+    ensures incumbent { IsIncumbent parent.now.instance.now incumbent.new }
+    ensures no_worse { incumbent.new.cost ≤ℤ incumbent.old.cost }
+{
+    let (node, flows, distances) = (&parent.at.node, parent.flows, parent.distances);
+    let children = rows.split(node, flows, distances, incumbent, aid)?;
+    children_of(alloc, parent.at, &children, 1)
 }
 
 /// The open nodes that a split of a node leaves, with their values.

@@ -1,7 +1,8 @@
 //! A search by several workers, each in its own thread.
 
-ghost use Rattle.std.specs.Prelude.{◌≡◌, ◌<◌, ◌≤◌, [], None, false, IfOk, length, vec_capacity, vec_len};
+ghost use Rattle.std.specs.Prelude.{◌≡◌, ◌<◌, ◌≤◌, [], IfOk, length, replicate, vec_capacity, vec_len};
 ghost use Rattle.std.specs.Arc.{arc_value};
+ghost use Rattle.shared_space.specs.Limit.{IsWithin, is_reached};
 ghost use Rattle.shared_space.specs.Place.{place_of};
 ghost use Rattle.space_txn.specs.Content.{content_of};
 ghost use Rattle.part_search.specs.Answer.{IsAnswer};
@@ -43,17 +44,19 @@ pub enum Order {
 const PAUSE_MS: u64 = 1;
 
 /// The workers of a search: how many, the leases of their transactions in milliseconds, the time in milliseconds after
-/// which they leave a node's untried children open, and which nodes they take first.
+/// which they leave a node's untried children open, which nodes they take first, and after how many commits the search
+/// ends, if it does not end before: each commit decides one node.
 #[derive(Clone, Copy, Debug)]
 pub struct Crew {
     pub workers: u16,
     pub lease_ms: u64,
     pub turn_ms: u64,
     pub order: Order,
+    pub limit: Option<u64>,
 }
 
 /// The best permutation that a search by threads finds, and a lower bound on all completions of the root: the cost
-/// itself, unless the search was stopped or workers ran out of memory with nodes open.
+/// itself, unless the search was stopped, reached its limit or ran out of memory with nodes open.
 ///
 /// The calling thread keeps the space: it advances the moment by the clock, and closes the space when no node is open,
 /// when every worker has left, and when the task's watch requests it. Only that thread consults the watch, and reports
@@ -71,10 +74,12 @@ where
     requires few { crew.workers ≤ 64 }
     requires same_size { task.now.root.now.size ≡ (arc_value task.now.ground.now).size }
     requires start { length task.now.start.now ≡ (arc_value task.now.ground.now).size }
-    ensures { IfOk result (IsAnswer (part_of (arc_value task.now.ground.now) task.now.root.now (best_with (arc_value task.now.ground.now) task.now.start.now))) }
+    ensures answer { IfOk result (IsAnswer (part_of (arc_value task.now.ground.now) task.now.root.now (best_with (arc_value task.now.ground.now) task.now.start.now))) }
+    ensures limit { IfOk result (λ a. IsWithin crew.limit a.nodes) }
 {
     let space = run_of(rt, alloc, task, crew)?;
-    answer_of(alloc, task.ground.instance(), space)
+    let answer = answer_of(alloc, task.ground.instance(), space)?;
+    Ok(answer)
 }
 
 /// The space that such a search leaves.
@@ -91,13 +96,15 @@ where
     requires few { crew.workers ≤ 64 }
     requires same_size { task.now.root.now.size ≡ (arc_value task.now.ground.now).size }
     requires start { length task.now.start.now ≡ (arc_value task.now.ground.now).size }
-    ensures { IfOk result (λ space. IsSearched (part_of (arc_value task.now.ground.now) task.now.root.now (best_with (arc_value task.now.ground.now) task.now.start.now)) (content_of space)) }
+    ensures searched { IfOk result (λ space. IsSearched (part_of (arc_value task.now.ground.now) task.now.root.now (best_with (arc_value task.now.ground.now) task.now.start.now)) (content_of space)) }
+    ensures limit { IfOk result (λ space. IsWithin crew.limit space.commits) }
 {
     let instance = task.ground.instance();
     let start = Incumbent::new(instance, task.start.copy()?);
     let space = opening_space(alloc, instance, task.root, &start)?;
     let blank = Blank::new(u64::from(crew.workers));
-    search::<Brand, R, S>(rt, alloc, task, space, blank, crew)
+    let left = search::<Brand, R, S>(rt, alloc, task, space, blank, crew)?;
+    Ok(left)
 }
 
 /// The same, on a space that is at the opening, under a law that is the search's.
@@ -119,18 +126,16 @@ where
     requires one_each { blank.parts ≡ crew.workers }
     requires start { length task.now.start.now ≡ (arc_value task.now.ground.now).size }
     requires law { IsLawOf (part_of (arc_value task.now.ground.now) task.now.root.now (best_with (arc_value task.now.ground.now) task.now.start.now)) L.lawful L.allowed }
-    requires limit { L.limit ≡ None }
+    requires limit { L.limit ≡ crew.limit }
     requires opening { IsOpening (part_of (arc_value task.now.ground.now) task.now.root.now (best_with (arc_value task.now.ground.now) task.now.start.now)) space }
-    requires reached { L.reached (place_of space crew.workers 0 false) }
-    ensures { IfOk result (λ left. IsSearched (part_of (arc_value task.now.ground.now) task.now.root.now (best_with (arc_value task.now.ground.now) task.now.start.now)) (content_of left)) }
+    requires reached { L.reached (place_of space crew.workers 0 (is_reached crew.limit 0)) }
+    ensures searched { IfOk result (λ left. IsSearched (part_of (arc_value task.now.ground.now) task.now.root.now (best_with (arc_value task.now.ground.now) task.now.start.now)) (content_of left)) }
+    ensures limit { IfOk result (λ left. IsWithin crew.limit left.commits) }
 {
     let count = usize::from(crew.workers);
     let room = Vec::with_capacity(alloc, count)?;
     let nodes = node_template(alloc)?;
-    let made = Shared::<L>::new(alloc, blank, space, count);
-    let Ok((shared, shares)) = made else {
-        return Err(AllocError);
-    };
+    let (shared, shares) = shared_under::<L>(alloc, blank, space, count, crew.limit)?;
     let seats = seats_for(alloc, task, crew, shares)?;
     let waiting = AtomicU64::new(0);
     let halt = AtomicBool::new(false);
@@ -152,6 +157,33 @@ where
     let shares = shares_of(room, seats);
     let (space, _) = shared.into_inner(shares);
     Ok(space)
+}
+
+/// The space under its lock and this limit, with a share for each worker.
+fn shared_under<L: Law>(
+    alloc: Global,
+    blank: Blank,
+    space: TxnSpace,
+    shares: usize,
+    limit: Option<u64>,
+) -> Result<(Shared<L>, Vec<Share<L>>), AllocError>
+    requires name { blank.name ≡ L.name }
+    requires parts { blank.parts ≡ L.parts }
+    requires shares { shares ≡ L.parts }
+    requires lawful { L.lawful (content_of space) space.commits }
+    requires fresh { space.commits ≡ 0 }
+    requires limit { L.limit ≡ limit }
+    requires reached { L.reached (place_of space shares 0 (is_reached limit 0)) }
+    ensures { IfOk result (λ made. made.1.items ≡ replicate shares 0) }
+{
+    let made = match limit {
+        Some(limit) => Shared::<L>::with_limit(alloc, blank, space, shares, limit),
+        None => Shared::<L>::new(alloc, blank, space, shares),
+    };
+    match made {
+        Ok(made) => Ok(made),
+        Err(_) => Err(AllocError),
+    }
 }
 
 /// A seat for each share, with a worker.

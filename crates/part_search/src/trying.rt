@@ -3,18 +3,19 @@
 ghost use Rattle.std.specs.Prelude.{◌≡◌, ◌≤ℤ◌, ◌++◌, ◌∷◌, [], IfOk, IfSome, OnOk, map, ◌<◌, ◌≤◌};
 ghost use Rattle.space_txn.specs.Content.{added_of};
 ghost use Rattle.subtree_search.specs.Best.{IsIncumbent};
+ghost use Rattle.part_search.specs.Ground.{IsSplitter};
 ghost use Rattle.part_search.specs.Tuples.{node_tuple, open_of};
 ghost use Rattle.part_search.specs.Worker.{HasOpen, HasTaken, HasTried};
 
 use crate::aid::Aid;
 use crate::board::Wanted;
-use crate::ground::Ground;
+use crate::ground::{Ground, Splitter};
 use crate::open_node::Open;
 use crate::tuples::{read_open, tuple_of_open};
 use shared_space::writing_law;
 use space_txn::Txn;
 use std::alloc::{AllocError, Global};
-use subtree_search::{Incumbent, SubtreeSearch};
+use subtree_search::Incumbent;
 use tuple_match::Tuple;
 use tuple_space::{EntryId, Lease};
 
@@ -23,22 +24,24 @@ use tuple_space::{EntryId, Lease};
 pub(crate) fn try_taken<S: Aid>(
     alloc: Global,
     ground: &Ground,
-    search: &mut SubtreeSearch,
+    splitter: &mut Splitter,
     incumbent: &mut Incumbent,
     txn: &mut Txn,
     id: EntryId,
     aid: &S,
 ) -> Result<Option<Vec<Wanted>>, AllocError>
+    requires splitter { IsSplitter ground.now splitter.old }
     requires incumbent { IsIncumbent ground.now incumbent.old }
     requires taken { HasTaken txn.old id }
     ensures tried { IfOk result (λ tried. IfSome tried (λ _. HasTried ground.now incumbent.new.cost txn.new)) }
+    ensures splitter { IsSplitter ground.now splitter.new }
     ensures incumbent { IsIncumbent ground.now incumbent.new }
     ensures no_worse { incumbent.new.cost ≤ℤ incumbent.old.cost }
 {
     let Some(at) = open_at(alloc, ground.instance().size(), txn, id)? else {
         return Ok(None);
     };
-    let opens = ground.split(alloc, search, &at, incumbent, aid)?;
+    let opens = ground.split(alloc, splitter, &at, incumbent, aid)?;
     write_all(alloc, txn, &opens)?;
     let wanted = wanted_of(alloc, &opens)?;
     Ok(Some(wanted))

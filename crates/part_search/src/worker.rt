@@ -4,12 +4,13 @@ ghost use Rattle.std.specs.Prelude.{◌≡◌, ℤ, IfOk, length};
 ghost use Rattle.std.specs.Arc.{arc_value};
 ghost use Rattle.subtree_search.specs.Best.{IsIncumbent};
 ghost use Rattle.qap_cost.specs.Instance.{Problem};
+ghost use Rattle.part_search.specs.Ground.{IsSplitter};
 ghost use Rattle.part_search.specs.Worker.{Allows, IsStage, IsWorker, Made};
 ghost use Rattle.part_search.specs.declared.stage.Stage.{Stage};
 
 use crate::aid::Aid;
 use crate::board::Wanted;
-use crate::ground::Ground;
+use crate::ground::{Ground, Splitter};
 use crate::stage::{Outcome, Stage};
 use crate::steps::{abort, begin, commit, take_best, take_node};
 use crate::trying::try_taken;
@@ -20,7 +21,7 @@ use std::alloc::{AllocError, Global};
 use std::marker::Model;
 use std::mem::replace;
 use std::sync::Arc;
-use subtree_search::{Incumbent, SubtreeSearch};
+use subtree_search::Incumbent;
 use tuple_match::Template;
 
 /// What a worker's calls are made with.
@@ -53,7 +54,7 @@ pub struct Worker {
     alloc: Global,
     ground: Arc<Ground>,
     tools: Tools,
-    search: SubtreeSearch,
+    splitter: Splitter,
     incumbent: Incumbent,
     stage: Stage,
     /// The nodes that its last trial left open.
@@ -63,13 +64,14 @@ pub struct Worker {
 impl Model for Worker {
     ghost use Rattle.std.specs.Arc.{arc_value};
     ghost use Rattle.qap_cost.specs.Instance.{Problem};
+    ghost use Rattle.part_search.specs.Ground.{IsSplitter};
     ghost use Rattle.part_search.specs.Worker.{IsWorker};
 
     ghost Value = { Problem };
 
     ghost view = { λ w. arc_value w.ground };
 
-    ghost invariant = { λ w. IsWorker (arc_value w.ground) w.incumbent w.stage };
+    ghost invariant = { λ w. IsSplitter (arc_value w.ground) w.splitter × IsWorker (arc_value w.ground) w.incumbent w.stage };
 }
 
 impl Worker {
@@ -94,7 +96,7 @@ impl Worker {
             alloc,
             ground,
             tools,
-            search: SubtreeSearch::new(alloc),
+            splitter: Splitter::new(alloc),
             incumbent,
             stage: Stage::Idle,
             opened: Vec::new(alloc),
@@ -110,7 +112,7 @@ impl Worker {
         let (stage, tried) = tried(
             self.alloc,
             &self.ground,
-            &mut self.search,
+            &mut self.splitter,
             &mut self.incumbent,
             stage,
             aid,
@@ -185,17 +187,19 @@ impl Worker {
 fn tried<S: Aid>(
     alloc: Global,
     ground: &Ground,
-    search: &mut SubtreeSearch,
+    splitter: &mut Splitter,
     incumbent: &mut Incumbent,
     stage: Stage,
     aid: &S,
 ) -> (Stage, Result<Vec<Wanted>, AllocError>)
+    requires splitter { IsSplitter ground.now splitter.old }
     requires worker { IsWorker ground.now incumbent.old stage }
-    ensures { IsWorker ground.now incumbent.new result.0 }
+    ensures splitter { IsSplitter ground.now splitter.new }
+    ensures worker { IsWorker ground.now incumbent.new result.0 }
 {
     match stage {
         Stage::Taken(mut txn, id) => {
-            let tried = try_taken(alloc, ground, search, incumbent, &mut txn, id, aid);
+            let tried = try_taken(alloc, ground, splitter, incumbent, &mut txn, id, aid);
             match tried {
                 Ok(Some(opened)) => (Stage::Tried(txn), Ok(opened)),
                 Ok(None) => (Stage::GivingUp(txn), Ok(Vec::new(alloc))),

@@ -4,12 +4,14 @@ ghost use Rattle.std.specs.Prelude.{◌≡◌, true};
 
 use dual_ascent::Effort;
 use itertools::Itertools;
-use part_search::{Ground, Step, Task, answer_of, play};
+use part_search::{Answer, Crew, Ground, Order, Step, Task, answer_of, play, solve};
 use qap_cost::{Instance, Partial, Perm, cost};
 use std::alloc::{AllocError, Global};
 use std::process::Abort;
-use std::sync::Arc;
+use std::sync::{Arc, Wait};
 use std::test::Fail;
+use std::thread::Threads;
+use std::time::Clock;
 use subtree_search::{Never, Stop};
 
 /// Leaves each child open untried.
@@ -213,6 +215,8 @@ fn assert_instance(rt: &impl Abort, alloc: Global, instance: &Instance) -> Resul
         let least = least_of(&root, &all).ok_or("no completion")?;
         let (start, own) = all.get(all.len() / 2).ok_or("no permutation")?;
         assert_runs(rt, alloc, (&ground, &root), (start, *own), least)?;
+        let rows = Arc::new(alloc, Ground::by_rows(alloc, instance)?)?;
+        assert_runs(rt, alloc, (&rows, &root), (start, *own), least)?;
     }
     Ok(())
 }
@@ -224,6 +228,61 @@ fn schedules(rt: HostRuntime) -> Result<(), Fail> {
         for seed in 1..4u64 {
             let instance = instance(rt.alloc(), n, seed)?.ok_or("entries")?;
             assert_instance(&rt, rt.alloc(), &instance)?;
+        }
+    }
+    Ok(())
+}
+
+/// The answer of a search by two workers whose commits are limited.
+fn limited<R: Abort + Threads + Wait + Clock + Sync>(
+    rt: &R,
+    alloc: Global,
+    (ground, root): (&Arc<Ground>, &Partial),
+    start: &Perm,
+    order: Order,
+    limit: Option<u64>,
+) -> Result<Answer, AllocError> {
+    assert_eq!(rt; ground.instance().size(), root.size());
+    assert_eq!(rt; ground.instance().size(), start.len());
+    let task = Task {
+        ground,
+        root,
+        start,
+        stop: &Never,
+    };
+    let crew = Crew {
+        workers: 2,
+        lease_ms: 60_000,
+        turn_ms: 60_000,
+        order,
+        limit,
+    };
+    solve(rt, alloc, &task, crew)
+}
+
+/// Searches by rows that end after no commit, after one, and when no node is open.
+#[test]
+fn limits(rt: HostRuntime) -> Result<(), Fail> {
+    let alloc = rt.alloc();
+    let instance = instance(alloc, 5, 5)?.ok_or("entries")?;
+    let all = listing(alloc, &instance)?;
+    let root = Partial::root(alloc, instance.size())?;
+    let least = least_of(&root, &all).ok_or("no completion")?;
+    let (start, own) = all.get(all.len() / 2).ok_or("no permutation")?;
+    let ground = Arc::new(alloc, Ground::by_rows(alloc, &instance)?)?;
+    for order in [Order::Deepest, Order::Least] {
+        for limit in [Some(0), Some(1), None] {
+            let answer = limited(&rt, alloc, (&ground, &root), start, order, limit)?;
+            let ended = Ended {
+                cost: answer.best.cost(),
+                bound: answer.bound,
+                open_nodes: answer.open_nodes,
+            };
+            assert_ended(&rt, ended, *own, least);
+            match limit {
+                Some(limit) => assert_eq!(rt; answer.nodes, limit),
+                None => assert_eq!(rt; answer.open_nodes, 0),
+            }
         }
     }
     Ok(())

@@ -84,6 +84,7 @@ where
         lease_ms: plan.crew.lease_ms,
         turn_ms: TURN_MS,
         order: order_of(options),
+        limit: None,
     };
     let answer = solve(system, alloc, &task, crew)?;
     let found = found_by(&answer)?;

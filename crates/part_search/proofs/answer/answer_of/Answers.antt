@@ -5,8 +5,8 @@ use Rattle.part_search.specs.Answer.{IsAnswer, SurveysFirst}
 use Rattle.part_search.proofs.Answers.{answered}
 use Rattle.part_search.proofs.answer.answer_of.Goals as goal
 
-pub returns : goal.returns
-returns c = λ S same searched.
+pub returns-clause-answer : goal.returns-clause-answer
+returns-clause-answer c = λ S same searched.
     let bound : to_z w128 (of_z w128 c.lesser-bound.result) ≡ c.lesser-bound.result = search rules in
     let s = c.in_ok-best.field-0 in
     let surveyed = subst (λ (l : Content). SurveysFirst c.args.instance.now l (length l) s) c.deref.ensures.value (c.in_ok-best.ensures {u = tt}) in

@@ -1,4 +1,3 @@
-use Rattle.std.specs.Prelude.{None}
 use Rattle.std.specs.Arc.{arc_value}
 use Rattle.part_search.specs.Law.{IsSearched, Part, best_with}
 use Rattle.part_search.specs.Opening.{part_of}
@@ -17,7 +16,7 @@ ghosts-search-L-Law g a =
     record {
       lawful = λ content commits. IsSearched S content;
       allowed = MayReplace I;
-      limit = None;
+      limit = a.crew.limit;
       reached = λ _. Unit {0};
       unordered = searched_unordered S;
       keeps = searched_kept S;

@@ -1,4 +1,4 @@
 use Rattle.part_search.proofs.threads.search.Goals as goal
 
-pub returns : goal.returns
-returns g c = c.requires.law.is_searched _ _ c.into_inner-space.ensures.lawful
+pub returns-clause-searched : goal.returns-clause-searched
+returns-clause-searched g c = c.requires.law.is_searched _ _ c.into_inner-space.ensures.lawful

@@ -28,7 +28,7 @@ pub returns-then-found-eq0-clause-searched : goal.returns-then-found-eq0-clause-
 returns-then-found-eq0-clause-searched g c =
     let told = c.in_ok-found.ensures in
     rw (told.permutation, told.cost, told.bound)
-    (searched_of c.args.instance.now _ c.args.plan.now.root.now c.args.plan.now.start.now c.in_ok-answer.answer (subst (λ o. IfSome o (λ h. arc_value h ≡ c.args.instance.now)) c.in-Some.is c.in_ok-ground.ensures) c.in_ok-answer.ensures)
+    (searched_of c.args.instance.now _ c.args.plan.now.root.now c.args.plan.now.start.now c.in_ok-answer.answer (subst (λ o. IfSome o (λ h. arc_value h ≡ c.args.instance.now)) c.in-Some.is c.in_ok-ground.ensures) c.in_ok-answer.ensures.answer)
 
 pub returns-clause-searched : goal.returns-clause-searched
 returns-clause-searched g c =
@@ -36,7 +36,7 @@ returns-clause-searched g c =
     let with = c.with_bound.ensures in
     let low = c.in_ok-bound.bound in
     let same : to_z w128 (of_z w128 low) ≡ low = search rules in
-    let found = searched_of c.args.instance.now _ c.args.plan.now.root.now c.args.plan.now.start.now c.in_ok-answer.answer (subst (λ o. IfSome o (λ h. arc_value h ≡ c.args.instance.now)) c.in-Some.is c.in_ok-ground.ensures) c.in_ok-answer.ensures in
+    let found = searched_of c.args.instance.now _ c.args.plan.now.root.now c.args.plan.now.start.now c.in_ok-answer.answer (subst (λ o. IfSome o (λ h. arc_value h ≡ c.args.instance.now)) c.in-Some.is c.in_ok-ground.ensures) c.in_ok-answer.ensures.answer in
     rw (with.permutation, with.cost, told.permutation, told.cost) (record {
       permutes = found.permutes;
       costs = found.costs;
