@@ -1,12 +1,13 @@
--- Proofs of parts added to the proof of a whole, and the line of what they establish together.
+-- Proofs of parts, in either version, added to the proof of a whole, and the line of what they establish together.
 use Rattle.std.specs.Prelude.{◌≡◌, ℕ, ◌⊎◌, List, Option}
 use Rattle.qap_cost.specs.Instance.{Problem}
 use Rattle.qap_io.specs.Counting.{CountedDevice}
 use Rattle.qap_io.specs.Writing.{BreaksOff, Sends}
-use Rattle.qap_proof.specs.Acceptance.{IsRefused}
-use Rattle.qap_proof.specs.Cover.{CoverValue, HasPart, IsSoOf, IsVerdictOn}
+use Rattle.qap_proof.specs.Cover.{CoverValue, IsSoOf, IsVerdictOn}
 use Rattle.qap_proof.specs.declared.acceptance.Verdict.{Verdict}
 use Rattle.qap_proof.specs.declared.error.ProofError.{ProofError}
+use Rattle.proof_versions.specs.Adding.{HasEitherPart}
+use Rattle.proof_versions.specs.Versions.{EitherIsRefused}
 use Rattle.qap_text.specs.Input.{HasText, Input, max_input}
 use Rattle.qap_text.specs.Whole.{IsReadFault}
 use Rattle.qap_text.specs.declared.error.TextError.{TextError}
@@ -15,19 +16,19 @@ use Rattle.qap_verify.specs.Refusal.{of_proof, of_text}
 use Rattle.qap_verify.specs.declared.refusal.RunError.{RunError}
 use Rattle.qap_verify.specs.declared.refusal.RunError.TheVariants.{OutOfMemory, Device}
 
--- the input is the text of the proof of a part, which has been added to the others
+-- the input is the text of the proof of a part in either version, which has been added to the others
 pub record HasAdded {S : Type 0} (i : Input S) (old new : CoverValue) : Type 0 where
   pub text : List ℕ
   pub read : HasText i text
-  pub part : HasPart text old new
+  pub part : HasEitherPart text old new
 
--- the text that was read has this first fault as a proof that proves its bound
+-- the text that was read is refused as a proof in either version that proves its bound
 pub record IsNoPart {S : Type 0} (i : Input S) (I : Problem) (e : RunError) : Type 0 where
   pub text : List ℕ
   pub read : HasText i text
   pub fault : ProofError
   pub is : e ≡ of_proof fault
-  pub refused : IsRefused I text fault
+  pub refused : EitherIsRefused I text fault
 
 -- the bytes cannot be read within the limit, the text is at fault, or memory ran out
 abbrev pub HasNotAdded : {S : Type 0} → Input S → Problem → RunError → Type 0

@@ -27,7 +27,7 @@ pub fn parse<'a>(alloc: Global, words: &'a [String]) -> Result<Files<'a>, Error>
         .required(true)
         .help("a proof in the format qapproof 1 or qapproof 2");
     let parts = Arg::new(alloc, "PART").num_args(0..).help(
-        "proofs of parts, each over a node of its own; then all are in the format qapproof 1",
+        "proofs of parts, each over a node of its own; then PROOF is in the format qapproof 1",
     );
     let mut command = Command::new(alloc, "qapverify")
         .bin_name("qapverify")?

@@ -10,7 +10,7 @@ ghost use Rattle.qap_verify.specs.Refusal.{HasNoTexts, IsNoProof, IsNoWhole};
 ghost use Rattle.qap_verify.specs.Texts.{ComeTo, HasTexts, inputs_of};
 
 use crate::refusal::RunError;
-use proof_versions::accept;
+use proof_versions::{accept, add_part};
 use qap_cost::Instance;
 use qap_io::{Counted, send};
 use qap_proof::{Cover, Verdict};
@@ -47,8 +47,8 @@ pub fn verify_stream<R: Read, S: Read, W: Write>(
     Ok(())
 }
 
-/// Reads an instance and the proof of a whole, beside which proofs of parts may come; all of them are of version 1. The readers are
-/// asked as by `verify_stream`.
+/// Reads an instance and the proof of a whole, which is of version 1 and beside which proofs of parts may come. The
+/// readers are asked as by `verify_stream`.
 pub fn cover_stream<R: Read, S: Read>(
     alloc: Global,
     instance: &mut Counted<R>,
@@ -62,7 +62,8 @@ pub fn cover_stream<R: Read, S: Read>(
     Ok(Cover::new(alloc, &texts.instance, texts.proof.as_slice())?)
 }
 
-/// Reads the proof of a part, which is all that the reader has, and adds it to the others. Where it is refused, nothing is added.
+/// Reads the proof of a part in either version, which is all that the reader has, and adds it to the others. Where it is
+/// refused, nothing is added.
 pub fn part_stream<S: Read>(
     alloc: Global,
     cover: &mut Cover,
@@ -73,7 +74,7 @@ pub fn part_stream<S: Read>(
         (λ e. HasNotAdded i cover.old.instance e × (cover.new ≡ cover.old)) }
 {
     let text = read_all(alloc, proof, MAX_INPUT)?;
-    cover.add(alloc, text.as_slice())?;
+    add_part(alloc, cover, text.as_slice())?;
     Ok(())
 }
 
