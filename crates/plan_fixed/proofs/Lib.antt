@@ -1,3 +1,4 @@
 pub mod Freeings
+pub mod Identities
 pub mod Settlings
 pub mod Sortings

@@ -1,7 +1,8 @@
 //! Permutations that respect what is fixed: those that complete a node, and a search among them.
 #![tactic(auto)]
 
-ghost use Rattle.std.specs.Prelude.{◌≡◌, ◌≢◌, ◌<◌, ◌≤ℤ◌, ◌↔◌, ◌+◌, ℕ, List, IfOk, IsTrue, MatchOption, OnOk, length, slice_index};
+ghost use Rattle.std.specs.List.{range_with_len};
+ghost use Rattle.std.specs.Prelude.{◌≡◌, ◌≢◌, ◌<◌, ◌≤◌, ◌≤ℤ◌, ◌↔◌, ◌+◌, ℕ, List, IfOk, IsTrue, MatchOption, OnOk, length, slice_index};
 ghost use Rattle.qap_cost.specs.Bijection.{IsPerm};
 ghost use Rattle.qap_cost.specs.Objective.{Permutes, cost_of};
 ghost use Rattle.qap_cost.specs.Placement.{Completes, IsPlacement, StandsAt};
@@ -12,6 +13,30 @@ ghost use Rattle.plan_fixed.specs.Sorting.{Ascend, IsSortedTo};
 use qap_cost::{Instance, Partial, Perm};
 use qap_improve::{Hook, Improved, TabuPlan, tabu_search_among};
 use std::alloc::{AllocError, Global};
+
+/// The permutation of the instance that puts facility i at location i.
+pub fn identity(alloc: Global, instance: &Instance) -> Result<Perm, AllocError>
+    ensures value { IfOk result (λ p. p ≡ range_with_len 0 instance.now.size) }
+    ensures permutes { IfOk result (Permutes instance.now) }
+{
+    let locations = first_numbers(alloc, instance.size())?;
+    match Perm::new(locations) {
+        Ok(permutation) => Ok(permutation),
+        Err(_) => unreachable!(),
+    }
+}
+
+/// The numbers below `n`, ascending.
+fn first_numbers(alloc: Global, n: usize) -> Result<Vec<u16>, AllocError>
+    requires { n ≤ 256 }
+    ensures { IfOk result (λ numbers. numbers.items ≡ range_with_len 0 n) }
+{
+    let mut numbers = Vec::with_capacity(alloc, n)?;
+    for k in 0..n {
+        numbers.push(k as u16)?;
+    }
+    Ok(numbers)
+}
 
 /// Whether a permutation puts each facility that a node places at its place.
 pub fn completes(node: &Partial, permutation: &Perm) -> bool
