@@ -1,5 +1,5 @@
 -- Names as text of an XML document (Extensible Markup Language 1.0, 2.2 and 2.4).
-use Rattle.std.specs.Prelude.{ℕ, Bool, List, [], ◌∷◌, ◌++◌, codes, ◌==◌, ◌||◌, nat_lt, if◌then◌else◌}
+use Rattle.std.specs.Prelude.{ℕ, Bool, List, [], ◌∷◌, ◌++◌, codes, ◌==◌, ◌&&◌, ◌||◌, nat_lt, not, if◌then◌else◌}
 use Rattle.std.specs.Char.{encode_utf8}
 use Rattle.std.specs.Int.{is_in_range}
 use Rattle.std.specs.Str.{chars}
@@ -12,9 +12,9 @@ is_xml_char c = (c == 0x9) || (c == 0xA) || (c == 0xD) || is_in_range 0x20 0xD7F
 abbrev pub replacement : List ℕ
 replacement = encode_utf8 0xFFFD
 
--- a character that no document may have is replaced; one that ends a line, or a tab, becomes a blank
+-- a character that no document may have is replaced; a tab or a carriage return becomes a blank
 abbrev pub plain_char : ℕ → List ℕ
-plain_char c = if is_xml_char c then (if nat_lt c 0x20 then codes " " else encode_utf8 c) else replacement
+plain_char c = if is_xml_char c then (if nat_lt c 0x20 && not (c == 0xA) then codes " " else encode_utf8 c) else replacement
 
 -- a character with a special meaning is written as its entity
 abbrev pub escaped_char : ℕ → List ℕ

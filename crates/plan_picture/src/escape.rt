@@ -8,7 +8,7 @@ ghost use Rattle.plan_picture.specs.Escaping.{escaped, escaped_char, is_xml_char
 use std::alloc::{AllocError, Global};
 
 /// The text with each character that has a meaning in XML written as its entity, each that no document may have as
-/// U+FFFD, and each tab or end of a line as a blank.
+/// U+FFFD, and each tab or carriage return as a blank; line feeds stay.
 pub fn escaped(alloc: Global, text: &str) -> Result<Vec<u8>, AllocError>
     ensures { IfOk result (λ v. v.items ≡ escaped text.now) }
 {
@@ -47,7 +47,7 @@ fn push_plain(text: &mut Vec<u8>, letter: char) -> Result<(), AllocError>
     if !is_xml_char(letter) {
         return push_encoded(text, '\u{fffd}');
     }
-    if letter < ' ' {
+    if letter < ' ' && letter != '\n' {
         return text.extend_from_slice(b" ");
     }
     push_encoded(text, letter)

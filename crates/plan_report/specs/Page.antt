@@ -16,12 +16,12 @@ abbrev pub style : List ℕ
 style =
     codes "</title>\n<style>\n"
     ++ codes "body { font-family: system-ui, sans-serif; line-height: 1.4; color: #222; max-width: 60em; margin: 0 auto; padding: 1em; }\n"
-    ++ codes "figure { margin: 1em 0; overflow-x: auto; }\ntable { border-collapse: collapse; }\n"
+    ++ codes "h1 { overflow-wrap: anywhere; }\nfigure { margin: 1em 0; overflow-x: auto; }\ntable { border-collapse: collapse; }\n"
     ++ codes "th, td { text-align: left; padding: 0.25em 1em 0.25em 0; border-bottom: 1px solid #ddd; overflow-wrap: anywhere; }\n"
     ++ codes "pre { background: #f4f4f4; padding: 0.6em; white-space: pre-wrap; overflow-wrap: anywhere; }\n"
     ++ codes "footer, .empty { color: #777; }\n.verdict { font-size: 1.3em; font-weight: bold; }\n"
     ++ codes ".number { text-align: right; }\n@media (min-width: 50em) { svg { max-width: 100%; height: auto; } }\n"
-    ++ codes "@media print { body { max-width: none; padding: 0; } svg { max-width: 100%; height: auto; } figure, tr, pre { break-inside: avoid; } h2 { break-after: avoid; } }\n"
+    ++ codes "@media print { body { max-width: none; padding: 0; } svg { max-width: 100%; max-height: 15cm; height: auto; } figure, tr, pre { break-inside: avoid; } h2 { break-after: avoid; } }\n"
     ++ codes "</style>\n</head>\n<body>\n<h1>"
 
 -- what the verdict means
