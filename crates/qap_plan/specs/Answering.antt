@@ -10,7 +10,7 @@ use Rattle.qap_plan.specs.Reading.{HasNoPlan, HasPlan, WantsMemory}
 use Rattle.qap_plan.specs.Starting.{HasNoStart, HasStart, Starting}
 use Rattle.qap_plan.specs.declared.error.PlanError.{PlanError}
 use Rattle.qap_plan.specs.declared.error.PlanError.TheVariants.{Device}
-use Rattle.qap_plan.specs.declared.planning.Planned.{Planned}
+use Rattle.qap_plan.specs.declared.search.planning.Planned.{Planned}
 
 -- the input has an instance to be searched, and a start if one is requested, and this is what the search has found
 pub record ComesTo {R Q : Type 0} (i : Input R) (s : Starting Q) (passes : Bool) (x : Planned) : Type 0 where

@@ -8,7 +8,7 @@ use Rattle.qap_plan.specs.Keeping.{IsKept}
 use Rattle.qap_plan.specs.Starting.{HasNoStart, HasStart, Starting}
 use Rattle.qap_plan.specs.declared.error.PlanError.{PlanError}
 use Rattle.qap_plan.specs.declared.error.PlanError.TheVariants.{Device, OutOfMemory}
-use Rattle.qap_plan.specs.declared.planning.Planned.{Planned}
+use Rattle.qap_plan.specs.declared.search.planning.Planned.{Planned}
 
 -- there is a start if one is requested, and this is what the search of the arrangements that respect what is fixed has
 -- found

@@ -1,8 +1,8 @@
 -- The request of a command line.
 use Rattle.std.specs.Prelude.{⊤}
 use Rattle.qap_plan.specs.Options.{AreLimited}
-use Rattle.qap_plan.specs.declared.command_line.Task.{Task}
-use Rattle.qap_plan.specs.declared.command_line.Task.TheVariants.{Solve, Split, Part, Convert, Show, Check, Compare}
+use Rattle.qap_plan.specs.declared.commands.command_line.Task.{Task}
+use Rattle.qap_plan.specs.declared.commands.command_line.Task.TheVariants.{Solve, Split, Part, Convert, Show, Check, Compare}
 
 -- the options of a search are within their limits
 abbrev pub IsLimitedTask : Task → Type 0

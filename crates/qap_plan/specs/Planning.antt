@@ -2,7 +2,7 @@
 use Rattle.std.specs.Prelude.{◌≡◌, ◌≤ℤ◌, ℕ, ℤ, List, Option, Some, None}
 use Rattle.qap_cost.specs.Instance.{Problem}
 use Rattle.qap_cost.specs.Objective.{NoneCostsLess, Permutes, cost_of}
-use Rattle.qap_cost.specs.Placement.{Placement, root_of}
+use Rattle.qap_cost.specs.Placement.{Placement}
 use Rattle.qap_proof.specs.Claim.{Claim, IsProof, Proves}
 use Rattle.proof_search.specs.Held.{Held, Shows}
 
@@ -19,17 +19,17 @@ pub record IsPlanned (I : Problem) (start : Option (List ℕ)) (p : List ℕ) (c
   pub none_less : NoneCostsLess I g
   pub at_most : g ≤ℤ c
 
--- a valid proof over the whole instance, with this permutation, its cost and this bound
-pub record ProvesPlanned (I : Problem) (p : List ℕ) (c g : ℤ) (C : Claim) : Type 0 where
+-- a valid proof over this root, with this permutation, its cost and this bound
+pub record ProvesOver (I : Problem) (root : Placement) (p : List ℕ) (c g : ℤ) (C : Claim) : Type 0 where
   pub shape : IsProof C
   pub proves : Proves I C
-  pub whole : C.root ≡ root_of I.size
+  pub over : C.root ≡ root
   pub permutation : C.permutation ≡ p
   pub cost : C.cost ≡ c
   pub bound : C.bound ≡ g
 
 -- a valid proof with pair duals over this root, with this permutation and its cost, which is the bound
-pub record ShowsPlanned (I : Problem) (root : Placement) (p : List ℕ) (c g : ℤ) (h : Held) : Type 0 where
+pub record ShowsOver (I : Problem) (root : Placement) (p : List ℕ) (c g : ℤ) (h : Held) : Type 0 where
   pub shows : Shows I h
   pub over : h.root ≡ root
   pub permutation : h.permutation ≡ p

@@ -1,0 +1,17 @@
+//! The subcommands: their options and their runs.
+
+pub(crate) mod answering;
+pub(crate) mod arranging;
+pub(crate) mod check;
+pub(crate) mod checking;
+pub(crate) mod command_line;
+pub(crate) mod compare;
+pub(crate) mod convert;
+pub(crate) mod converting;
+pub(crate) mod duration;
+pub(crate) mod ending;
+pub(crate) mod part;
+pub(crate) mod show;
+pub(crate) mod solve;
+pub(crate) mod solve_instance;
+pub(crate) mod split;

@@ -1,0 +1,53 @@
+//! Solves an instance, from bytes to bytes.
+
+ghost use Rattle.std.specs.Prelude.{MatchResult, ◌≡◌};
+ghost use Rattle.qap_text.specs.Input.{input_of};
+ghost use Rattle.qap_plan.specs.Answering.{HasAnswered, HasNotAnswered};
+ghost use Rattle.qap_plan.specs.Options.{AreLimited};
+ghost use Rattle.qap_plan.specs.Starting.{starting_of};
+
+use crate::error::PlanError;
+use crate::input::reading::read_problem;
+use crate::input::starting::read_start;
+use crate::output::answer::answer_text;
+use crate::search::keeper::Keeper;
+use crate::search::options::Options;
+use crate::search::planning::Planned;
+use crate::search::searching::search;
+use qap_io::{Counted, send};
+use std::alloc::Global;
+use std::io::{Read, Write};
+use std::sync::Wait;
+use std::thread::Threads;
+use std::time;
+
+/// Reads an instance, and a start if there is a reader of one, searches it, and writes the best permutation found, with
+/// what is proved about its cost; also returns what the search has found. If there is no answer, nothing is written; if
+/// the writer fails, a prefix of the text has been written.
+pub fn plan_stream<T, R, Q, W, K>(
+    system: &T,
+    alloc: Global,
+    reader: &mut Counted<R>,
+    start: &mut Option<Counted<Q>>,
+    writer: &mut Counted<W>,
+    options: &Options,
+    keeper: &K,
+) -> Result<Planned, PlanError>
+where
+    T: Threads + Wait + time::Clock + Sync,
+    R: Read,
+    Q: Read,
+    W: Write,
+    K: Keeper,
+    requires { AreLimited options.now }
+    ensures { let i = input_of R.remaining reader.old reader.new in let s = starting_of Q.remaining start.old start.new in MatchResult result
+        (HasAnswered i s options.now.passes W.contents writer.old writer.new)
+        (HasNotAnswered i s options.now.passes W.contents writer.old writer.new) }
+{
+    let instance = read_problem(alloc, reader, options.passes)?;
+    let start = read_start(alloc, start, &instance)?;
+    let found = search(system, alloc, &instance, start, options, keeper)?;
+    let text = answer_text(alloc, &found.permutation, found.cost, found.bound)?;
+    send(writer, &text)?;
+    Ok(found)
+}

@@ -1,0 +1,4 @@
+//! Files that a run writes, and refusals.
+
+pub(crate) mod outputs;
+pub(crate) mod refusal;

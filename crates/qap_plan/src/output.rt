@@ -1,0 +1,9 @@
+//! What a run writes and reports.
+
+pub(crate) mod answer;
+pub(crate) mod json;
+pub(crate) mod node_lines;
+pub(crate) mod picturing;
+pub(crate) mod progress;
+pub(crate) mod proof_file;
+pub(crate) mod resident;

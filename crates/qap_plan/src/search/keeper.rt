@@ -1,0 +1,34 @@
+//! The clock, stop and observer of a run.
+
+/// How far a search has come.
+#[derive(Clone, Copy, Debug, PartialEq, Eq)]
+pub struct Progress {
+    /// What the permutation costs that the search began with, if that is to be reported.
+    pub cost: Option<i128>,
+    /// How many nodes were decided.
+    pub decided: u64,
+}
+
+/// Controls a run: measures its time, may stop it, observes its progress, and measures and limits its memory.
+pub trait Keeper {
+    /// How many milliseconds ago the run began.
+    fn now(&self) -> u64;
+
+    /// Whether the search is to stop.
+    fn is_wanted(&self) -> bool;
+
+    /// Whether it makes anything of the progress.
+    fn is_watching(&self) -> bool;
+
+    /// Sees how far the search has come.
+    fn see(&self, progress: &Progress);
+
+    /// How many bytes of memory the program has now, where that can be found out.
+    fn resident_bytes(&self) -> Option<u64>;
+
+    /// How many bytes it may have if no limit is given, where that can be found out.
+    fn usable_bytes(&self) -> Option<u64>;
+
+    /// Reports that the search ends since it has more.
+    fn tell_memory(&self);
+}

@@ -1,0 +1,109 @@
+//! The options of a search.
+
+ghost use Rattle.std.specs.Prelude.{◌≡◌};
+
+use part_search::{Crew, Order};
+use qap_cost::Partial;
+use qap_improve::TabuPlan;
+
+/// The most workers.
+pub const MAX_WORKERS: u16 = 64;
+
+/// The most nodes that a limit may allow.
+pub const MAX_NODES: u64 = 1 << 62;
+
+/// For how many milliseconds a worker's transaction is leased: ten minutes.
+const LEASE_MS: u64 = 600_000;
+
+/// How many exchanges the first tabu search makes if their number is not given.
+const ITERATIONS: u64 = 5000;
+
+/// Up to this many free facilities that search nearly always finds an optimum.
+const LARGEST_EASY: u64 = 20;
+
+/// With more free facilities than this a proof is rarely in reach.
+const LARGEST_PROVED: u64 = 36;
+
+/// For how many milliseconds tabu searches continue for each square of a number of facilities above the largest easy one.
+const MS_PER_SQUARE: u64 = 10;
+
+/// For how many milliseconds a worker tries the children of the node that it took.
+const TURN_MS: u64 = 1000;
+
+/// The options of a search.
+#[derive(Clone, Copy, Debug, PartialEq, Eq)]
+pub struct Options {
+    /// The number of workers, each in its own thread: from 1 to 64.
+    pub workers: u16,
+    /// After how many decided nodes the search stops.
+    pub nodes: Option<u64>,
+    /// After how many milliseconds the search stops.
+    pub milliseconds: Option<u64>,
+    /// How many megabytes the program may have while it searches.
+    pub memory: Option<u64>,
+    /// How many exchanges a tabu search makes before the search for a proof begins, if that is given.
+    pub improve: Option<u64>,
+    /// What the tabu search draws its random numbers from.
+    pub seed: u64,
+    /// Whether what follows the instance is skipped.
+    pub passes: bool,
+    /// Whether the search's proof is assembled.
+    pub proves: bool,
+}
+
+impl Options {
+    /// The workers of the search, and its limit. Under a time limit they take the open node with the least value first, so that
+    /// the bound rises.
+    pub fn crew(&self) -> Crew
+        ensures { result.workers ≡ self.now.workers }
+    {
+        let order = if self.milliseconds.is_some() {
+            Order::Least
+        } else {
+            Order::Deepest
+        };
+        Crew {
+            workers: self.workers,
+            lease_ms: LEASE_MS,
+            turn_ms: TURN_MS,
+            order,
+            limit: self.nodes,
+        }
+    }
+
+    /// The tabu search before it.
+    pub fn tabu_plan(&self) -> TabuPlan {
+        TabuPlan {
+            kicks: 0,
+            iterations: self.improve.unwrap_or(ITERATIONS),
+            seed: self.seed,
+        }
+    }
+
+    /// Until how many milliseconds after the beginning of the run tabu searches continue side by side after it: where no
+    /// number of iterations is given, for a part of the time limit that grows with the number of facilities that the root
+    /// leaves free. From 37 on, where a proof is rarely in reach, that is three quarters of it.
+    pub fn improving_until(&self, root: &Partial) -> Option<u64> {
+        let limit = self.milliseconds?;
+        if self.improve.is_some() {
+            return None;
+        }
+        let free = free_in(root);
+        if free > LARGEST_PROVED {
+            return Some(limit.saturating_sub(limit / 4));
+        }
+        let over = free.saturating_sub(LARGEST_EASY);
+        let square = over.saturating_mul(over);
+        Some((limit / 10).min(square.saturating_mul(MS_PER_SQUARE)))
+    }
+
+    /// How many bytes of memory the program may have while it searches.
+    pub fn allowed_bytes(&self) -> Option<u64> {
+        Some(self.memory?.saturating_mul(1 << 20))
+    }
+}
+
+/// How many facilities a root leaves free.
+pub(crate) fn free_in(root: &Partial) -> u64 {
+    root.size().saturating_sub(root.depth()) as u64
+}

@@ -1,0 +1,175 @@
+//! Searches below a root for a proof, by one thread.
+
+ghost use Rattle.std.specs.Prelude.{IfOk, IfSome, None, Some, ◌≡◌};
+ghost use Rattle.qap_cost.specs.Objective.{Permutes};
+ghost use Rattle.qap_proof.specs.Claim.{IsRoot};
+ghost use Rattle.qap_plan.specs.Keeping.{IsSearched};
+ghost use Rattle.qap_plan.specs.Planning.{ProvesOver, ShowsOver};
+
+use crate::search::keeper::{Keeper, Progress};
+use crate::search::memory_limit::WithinMemory;
+use crate::search::planning::Planned;
+use crate::search::subtrees::{ROUNDS, has_few_free, scale_for};
+use proof_search::{Found, PairProof, prove};
+use qap_cost::{Instance, Partial, Perm, cost};
+use qap_proof::proof_law;
+use std::alloc::{AllocError, Global};
+use std::cell::Cell;
+use subtree_search::Stop;
+
+/// How many nodes a search under pair duals evaluates between two questions whether to stop, about: it asks every 1,000 nodes, and
+/// after each trial.
+const NODES_PER_LOOK: u64 = 500;
+
+/// After this many questions the progress is reported once.
+const LOOKS: u64 = 16;
+
+/// Searches the completions of a root from a permutation on, and proves a bound on them: with pair duals where they are in
+/// range, few facilities are free, no number of nodes is the limit, and no stop is requested before the end; otherwise by
+/// bounds of Gilmore and Lawler.
+pub(crate) fn prove_below<K: Keeper>(
+    alloc: Global,
+    instance: &Instance,
+    root: &Partial,
+    start: &Perm,
+    limit: Option<u64>,
+    within: &WithinMemory<'_, K>,
+) -> Result<Planned, AllocError>
+    requires root { IsRoot instance.now.size root.now }
+    requires start { Permutes instance.now start.now }
+    ensures searched { IfOk result (λ x. IsSearched instance.now root.now start.now x.permutation x.cost x.bound) }
+    ensures proof { IfOk result (λ x. IfSome x.proof (ProvesOver instance.now root.now x.permutation x.cost x.bound)) }
+    ensures pair_proof { IfOk result (λ x. IfSome x.pair_proof (ShowsOver instance.now root.now x.permutation x.cost x.bound)) }
+{
+    if has_few_free(root) && limit.is_none() {
+        if let Some(found) = prove_with_pairs(alloc, instance, root, start, within)? {
+            return Ok(found);
+        }
+    }
+    let found = prove_by_rows(alloc, instance, root, start, limit, within)?;
+    Ok(found)
+}
+
+/// Proves with pair duals that no completion of the root costs less than a permutation. `None` if a number is out of range,
+/// or a stop is requested.
+fn prove_with_pairs<K: Keeper>(
+    alloc: Global,
+    instance: &Instance,
+    root: &Partial,
+    start: &Perm,
+    within: &WithinMemory<'_, K>,
+) -> Result<Option<Planned>, AllocError>
+    requires root { IsRoot instance.now.size root.now }
+    requires start { Permutes instance.now start.now }
+    ensures searched { IfOk result (λ found. IfSome found (λ x. IsSearched instance.now root.now start.now x.permutation x.cost x.bound)) }
+    ensures proof { IfOk result (λ found. IfSome found (λ x. x.proof ≡ None)) }
+    ensures pair_proof { IfOk result (λ found. IfSome found (λ x. IfSome x.pair_proof (ShowsOver instance.now root.now x.permutation x.cost x.bound))) }
+{
+    let scale = scale_for(cost(instance, start));
+    let watcher = Watcher::new(within, NODES_PER_LOOK);
+    let first = start.copy()?;
+    let Found { proof, nodes } = prove(alloc, instance, root, first, scale, ROUNDS, &watcher)?;
+    match proof {
+        Some(proof) => Ok(Some(shown_by(proof, nodes)?)),
+        None => Ok(None),
+    }
+}
+
+/// What a proof with pair duals establishes about the completions of its root.
+fn shown_by(proof: PairProof, nodes: u64) -> Result<Planned, AllocError>
+    ensures permutation { IfOk result (λ x. x.permutation ≡ proof.permutation) }
+    ensures cost { IfOk result (λ x. x.cost ≡ proof.cost) }
+    ensures bound { IfOk result (λ x. x.bound ≡ proof.cost) }
+    ensures proof { IfOk result (λ x. x.proof ≡ None) }
+    ensures pair_proof { IfOk result (λ x. x.pair_proof ≡ Some proof) }
+{
+    Ok(Planned {
+        permutation: proof.permutation().copy()?,
+        cost: proof.cost(),
+        bound: proof.cost(),
+        nodes,
+        open_nodes: 0,
+        proof: None,
+        pair_proof: Some(proof),
+    })
+}
+
+/// Proves a bound by those of Gilmore and Lawler.
+fn prove_by_rows<K: Keeper>(
+    alloc: Global,
+    instance: &Instance,
+    root: &Partial,
+    start: &Perm,
+    limit: Option<u64>,
+    within: &WithinMemory<'_, K>,
+) -> Result<Planned, AllocError>
+    requires root { IsRoot instance.now.size root.now }
+    requires start { Permutes instance.now start.now }
+    ensures searched { IfOk result (λ x. IsSearched instance.now root.now start.now x.permutation x.cost x.bound) }
+    ensures proof { IfOk result (λ x. IfSome x.proof (ProvesOver instance.now root.now x.permutation x.cost x.bound)) }
+    ensures pair_proof { IfOk result (λ x. x.pair_proof ≡ None) }
+{
+    proof_law();
+    // Its clause says that this is an instance.
+    let _size = instance.size();
+    let watcher = Watcher::new(within, 1);
+    let found = tree_search::prove(alloc, instance, root, start, limit, &watcher)?;
+    let planned = proved_by(found)?;
+    Ok(planned)
+}
+
+/// What a proof by bounds of Gilmore and Lawler establishes about the completions of its root.
+fn proved_by(found: tree_search::Found) -> Result<Planned, AllocError>
+    ensures permutation { IfOk result (λ x. x.permutation ≡ found.proof.permutation) }
+    ensures cost { IfOk result (λ x. x.cost ≡ found.proof.cost) }
+    ensures bound { IfOk result (λ x. x.bound ≡ found.proof.bound) }
+    ensures proof { IfOk result (λ x. x.proof ≡ Some found.proof) }
+    ensures pair_proof { IfOk result (λ x. x.pair_proof ≡ None) }
+{
+    let proof = found.proof;
+    Ok(Planned {
+        permutation: proof.perm().copy()?,
+        cost: proof.cost(),
+        bound: proof.bound(),
+        nodes: found.nodes,
+        open_nodes: found.open_nodes,
+        proof: Some(proof),
+        pair_proof: None,
+    })
+}
+
+/// Stops a search for a proof if a keeper requests it, and reports its progress to that keeper.
+#[derive(Drop)]
+struct Watcher<'a, 'k, K: Keeper> {
+    within: &'a WithinMemory<'k, K>,
+    /// How many nodes the search evaluates between two questions whether to stop.
+    nodes_per_look: u64,
+    /// How often it was asked.
+    looks: Cell<u64>,
+}
+
+impl<'a, 'k, K: Keeper> Watcher<'a, 'k, K> {
+    fn new(within: &'a WithinMemory<'k, K>, nodes_per_look: u64) -> Watcher<'a, 'k, K> {
+        Watcher {
+            within,
+            nodes_per_look,
+            looks: Cell::new(0),
+        }
+    }
+}
+
+impl<K: Keeper> Stop for Watcher<'_, '_, K> {
+    ghost says = { λ _ _. Unit {0} };
+
+    fn is_requested(&self) -> bool {
+        let looks = self.looks.get().wrapping_add(1);
+        self.looks.set(looks);
+        if looks % LOOKS == 0 && self.within.is_watching() {
+            self.within.see(&Progress {
+                cost: None,
+                decided: looks.saturating_mul(self.nodes_per_look),
+            });
+        }
+        self.within.is_wanted()
+    }
+}
