@@ -368,7 +368,10 @@ def report(run, name, source, answer, *title):
     pairs = [[pair["from"], pair["to"], pair["cost"]] for pair in answer["pairs"]]
     expect(rows[1][:len(pairs)] == pairs, f"the pairs are {rows[1]}")
     commands = page.findall("body/pre")[-1].text
-    expect(len(re.findall(r"(?:^|\s)qapplan (solve|check) ", commands)) == 2, f"the commands are {commands}")
+    words = [" ".join(line.split()[:2]) for line in commands.splitlines()]
+    expect(words[:2] == ["qapplan solve", "qapplan check"] and len(words) <= 3, f"the commands are {commands}")
+    for block in page.findall("body/pre")[:-1]:
+        expect(len(block.text.splitlines()) > 1, f"the comparison is {block.text}")
 
 
 def solution(run, name, instance, optimum):
