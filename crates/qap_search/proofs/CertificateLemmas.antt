@@ -11,7 +11,6 @@ pub mod OneTree
 pub mod OpenNodes
 pub mod PlainTrees
 pub mod ProofFaults
-pub mod ProvedTrees
 pub mod Reorderings
 pub mod StoppedAssembling
 pub mod StoppedLaws

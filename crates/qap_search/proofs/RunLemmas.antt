@@ -4,5 +4,4 @@ pub mod Fronts
 pub mod Identities
 pub mod OpenBounds
 pub mod Outcomes
-pub mod Remaining
 pub mod ScheduledRuns

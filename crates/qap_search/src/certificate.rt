@@ -7,7 +7,6 @@ pub(crate) mod closing_threads;
 pub(crate) mod error;
 pub(crate) mod leaf_bounds;
 pub(crate) mod plain_tree;
-pub(crate) mod proof_assembling;
 pub(crate) mod reordering;
 pub(crate) mod stopped_assembling;
 pub(crate) mod tree_building;

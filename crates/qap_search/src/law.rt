@@ -20,7 +20,6 @@ ghost use Rattle.qap_search.specs.Law.CutTree.{IsCutTree};
 ghost use Rattle.qap_search.specs.Node.Decision.{Decides};
 ghost use Rattle.qap_search.specs.Certificate.Finished.{IsAssembled};
 ghost use Rattle.qap_search.specs.Tuples.Found.{IsBestFound, IsOpenNode, is_best};
-ghost use Rattle.qap_search.specs.Runs.OpenBound.{IsOpenBound};
 ghost use Rattle.qap_search.specs.Tuples.Piece.{node_tuple, is_open, open_count};
 ghost use Rattle.qap_search.specs.Law.Replacement.{Best, IsAsGood, MayReplace, tuple_of};
 ghost use Rattle.qap_search.specs.Law.Search.{Search, IsSearch, NoneBelow, from_root};
@@ -107,13 +106,4 @@ pub fn stopped_law()
         × (node_count C.tree ≡ commits + open_count content) }
     ensures not_refused { (I : Problem) (known : Best) (content : List (List FieldValue)) (commits : ℕ) → IsInstance I →
         IsCutTree (from_root I known) content commits → IsNotStopped I content → ⊥ }
-{}
-
-/// No permutation that completes the root of a search costs less than the minimum of its incumbent's cost and of the
-/// bounds that its open nodes' least assignments give; and that is the cost if no node is open.
-pub fn open_bound_law()
-    ensures bounds { (S : Search) (content : List (List FieldValue)) (commits : ℕ) (g : ℤ) →
-        (h : IsCutTree S content commits) → IsOpenBound S.instance content h.cost g → NoneBelow S g }
-    ensures finished { (I : Problem) (content : List (List FieldValue)) (c g : ℤ) →
-        IsOpenBound I content c g → open_count content ≡ 0 → g ≡ c }
 {}

@@ -1,4 +1,4 @@
-//! The search for a least permutation: its tuples at any moment, and the certificate or the proof that they yield.
+//! The search for a least permutation: its tuples at any moment, and the certificate that they yield.
 #![tactic(auto)]
 
 mod certificate;
@@ -12,24 +12,22 @@ pub use certificate::assembling::assemble;
 pub use certificate::error::AssembleError;
 pub use certificate::stopped_assembling::assemble_stopped;
 pub use law::{
-    accepted_law, certificate_law, found_law, open_bound_law, opening_law, order_law,
-    replacement_law, replacing_law, stopped_law,
+    accepted_law, certificate_law, found_law, opening_law, order_law, replacement_law,
+    replacing_law, stopped_law,
 };
 pub use node::branching::{Branch, Branching};
 pub use node::decision::{decide, decide_anew, decide_beside};
 pub use node::node_list::read_node;
 pub use node::thought::Thought;
 pub use runs::alone::solve_alone;
-pub use runs::answer::{Answer, Bounded, Least, Proved, SolveError};
+pub use runs::answer::{Answer, Least, SolveError};
 pub use runs::clock::Clock;
-pub use runs::observer::{Nobody, Observer, Progress};
-pub use runs::opening::{identity, opening_from, opening_space};
+pub use runs::opening::{identity, opening_space};
 pub use runs::pace::Pace;
-pub use runs::plan::{Crew, Plan};
+pub use runs::plan::Crew;
 pub use runs::run::Run;
 pub use runs::schedule::{Step, play};
-pub use runs::stop::{Never, Stop};
-pub use runs::threads::{prove_from, solve, solve_from, solve_least, solve_least_from};
+pub use runs::threads::{solve, solve_least};
 pub use tuples::composing::tuple_of_best;
 pub use tuples::templates::{best_template, node_template};
 pub use worker::forever_writes::put_forever;

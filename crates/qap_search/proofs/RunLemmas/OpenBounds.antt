@@ -19,7 +19,6 @@ use Rattle.tuple_match.specs.FieldValue.{FieldValue}
 use Rattle.qap_cost.specs.Objective.{Permutes, cost_of}
 use Rattle.shared_space.specs.Limit.{IsWithin}
 use Rattle.qap_search.specs.Runs.Answer.{accepted_of}
-use Rattle.qap_search.specs.Runs.BoundedAnswer.{IsBoundedFrom, LeavesBound}
 use Rattle.qap_search.specs.Certificate.ClosedTuples.{named_node}
 use Rattle.qap_search.specs.Law.CutTree.{IsCutTree}
 use Rattle.qap_search.specs.Runs.Outcome.{IsEnded}
@@ -28,7 +27,6 @@ use Rattle.qap_search.specs.Tuples.Piece.{best_tuple, is_open, node_list, node_t
 use Rattle.qap_search.specs.Node.NodeList.{IsReadFrom}
 use Rattle.qap_search.specs.Law.Search.{Search, NoneBelow}
 use Rattle.qap_search.specs.Law.SearchTree.{SearchTree, open_node, split_node, closed_node, cut_node, mirrored_node, SearchTrees, no_trees, tree, tree_count, HasFit, IsPlain, IsTree, AreTrees, judge_of, proving}
-use Rattle.qap_search.specs.declared.runs.answer.Bounded.{Bounded}
 use Rattle.qap_search.specs.declared.runs.run.Run.{Run}
 use Rattle.qap_search.proofs.CertificateLemmas.Certificates.{child_placed, open_weight}
 use Rattle.qap_search.proofs.TupleLemmas.Found.{contained, node_found}
@@ -123,14 +121,6 @@ open_found (t ∷ ts) x (suc k) below is =
     let rest = open_found ts x k (omega arith) is in
     omega arith
 
--- where no node is open, the bound is the cost
-pub open_bound_closed : (I : Problem) (content : List (List FieldValue)) (c g : ℤ) → IsOpenBound I content c g → open_count content ≡ 0 → g ≡ c
-open_bound_closed I content c g b none =
-    elim b.one as (λ (_ : (g ≡ c) ⊎ IsOpenValue I content g). g ≡ c) [
-      | inl same ↦ same
-      | inr found ↦ (let some = open_found content found.node found.stands.0 found.stands.1 found.stands.2 in absurd (omega arith))
-    ]
-
 -- where no node is open, no permutation that completes the root costs less than the best one
 pub none_less : (S : Search) (content : List (List FieldValue)) (commits : ℕ) (h : IsCutTree S content commits) → open_count content ≡ 0 → NoneBelow S h.cost
 none_less S content commits h none =
@@ -139,125 +129,3 @@ none_less S content commits h none =
       at_most = omega (arith, ints);
       least = λ k d below x placed size is. (let some = open_found content x k below (get_or_default content k (node_tuple x) d below ∙ is) in absurd (omega arith));
     })
-
--- what isn't below a number isn't below a lesser one
-above_less : (I : Problem) (b g : ℤ) (tuple : List FieldValue) → g ≤ℤ b → IsTupleAbove I b tuple → IsTupleAbove I g tuple
-above_less I b g tuple less h x placed size is =
-    let at = h x placed size is in
-    let above = at.above in
-    record { value = at.value; is_value = at.is_value; above = omega (arith, ints) }
-
-all_above_less : (I : Problem) (b g : ℤ) (tuples : List (List FieldValue)) → g ≤ℤ b → All (IsTupleAbove I b) tuples → All (IsTupleAbove I g) tuples
-all_above_less I b g tuples less h k d below = above_less I b g (get_or tuples k d) less (h k d below)
-
-open_value_left : (I : Problem) (xs ys : List (List FieldValue)) (g : ℤ) → IsOpenValue I xs g → IsOpenValue I (xs ++ ys) g
-open_value_left I xs ys g h = record { node = h.node; placement = h.placement; size = h.size; stands = Contains-append_left xs ys (node_tuple h.node) h.stands; value = h.value }
-
-open_value_right : (I : Problem) (xs ys : List (List FieldValue)) (g : ℤ) → IsOpenValue I ys g → IsOpenValue I (xs ++ ys) g
-open_value_right I xs ys g h = record { node = h.node; placement = h.placement; size = h.size; stands = Contains-append_right xs ys (node_tuple h.node) h.stands; value = h.value }
-
--- the least of some tuples' bound and of what is behind them
-pub open_bound_append : (I : Problem) (xs ys : List (List FieldValue)) (c b g : ℤ) → IsOpenBound I xs c b → IsOpenBound I ys b g → IsOpenBound I (xs ++ ys) c g
-open_bound_append I xs ys c b g first second =
-    let lower = second.at_most in
-    let upper = first.at_most in
-    record {
-      one =
-          elim second.one as (λ (_ : (g ≡ b) ⊎ IsOpenValue I ys g). (g ≡ c) ⊎ IsOpenValue I (xs ++ ys) g) [
-            | inl same ↦
-                elim first.one as (λ (_ : (b ≡ c) ⊎ IsOpenValue I xs b). (g ≡ c) ⊎ IsOpenValue I (xs ++ ys) g) [
-                  | inl first ↦ inl (same ∙ first)
-                  | inr found ↦ inr (subst (IsOpenValue I (xs ++ ys)) (sym same) (open_value_left I xs ys b found))
-                ]
-            | inr found ↦ inr (open_value_right I xs ys g found)
-          ];
-      at_most = omega (arith, ints);
-      least = All-append (IsTupleAbove I g) xs ys (all_above_less I b g xs lower first.least) second.least;
-    }
-
--- the bound of some tuples under another cost, which is at most the one it was worked out under
-open_bound_under : (I : Problem) (tuples : List (List FieldValue)) (c a b g : ℤ) → IsOpenBound I tuples c b → a ≤ℤ c → g ≤ℤ a → g ≤ℤ b → (g ≡ a) ⊎ (g ≡ b) → IsOpenBound I tuples a g
-open_bound_under I tuples c a b g h under below_a below_b which = record {
-  one =
-      elim which as (λ (_ : (g ≡ a) ⊎ (g ≡ b)). (g ≡ a) ⊎ IsOpenValue I tuples g) [
-        | inl same ↦ inl same
-        | inr same ↦
-            elim h.one as (λ (_ : (b ≡ c) ⊎ IsOpenValue I tuples b). (g ≡ a) ⊎ IsOpenValue I tuples g) [
-              | inl cost ↦ inl (omega (arith, ints, same, cost))
-              | inr found ↦ inr (subst (IsOpenValue I tuples) (sym same) found)
-            ]
-      ];
-  at_most = below_a;
-  least = all_above_less I b g tuples below_b h.least;
-}
-
--- the lesser of the bounds of two parts
-pub open_bound_both : (I : Problem) (all front back : List (List FieldValue)) (c a b g : ℤ) → all ≡ front ++ back → IsOpenBound I front c a → IsOpenBound I back c b → g ≤ℤ a → g ≤ℤ b → (g ≡ a) ⊎ (g ≡ b) → IsOpenBound I all c g
-open_bound_both I all front back c a b g parts first second below_a below_b which =
-    subst (λ (ts : List (List FieldValue)). IsOpenBound I ts c g) (sym parts)
-    (open_bound_append I front back c a g first (open_bound_under I back c a b g second first.at_most below_a below_b which))
-
--- one tuple more
-pub open_bound_more : (I : Problem) (tuples : List (List FieldValue)) (i : ℕ) (d : List FieldValue) (c b g : ℤ) → i < length tuples → IsOpenBound I (take i tuples) c b → IsOpenBound I (get_or tuples i d ∷ []) b g → IsOpenBound I (take (i + 1) tuples) c g
-open_bound_more I tuples i d c b g below first second =
-    subst (λ (xs : List (List FieldValue)). IsOpenBound I xs c g) (sym (take_more tuples i d below)) (open_bound_append I (take i tuples) (get_or tuples i d ∷ []) c b g first second)
-
--- the tuples of a cut tree are sound
-pub sound_tuples : (S : Search) (content : List (List FieldValue)) (commits : ℕ) → IsCutTree S content commits → All (IsSoundTuple S.instance.size) content
-sound_tuples S content commits h k d below xs is =
-    node_found S content commits (get_or content k d) h (k, below, get_or_default content k (get_or content k d) d below) (ap is_open is)
-
--- a tuple that isn't an open node's leaves the bound as it is
-pub open_bound_other : (I : Problem) (tuple : List FieldValue) (c : ℤ) → ((xs : List ℤ) → tuple ≢ named_node xs) → IsOpenBound I (tuple ∷ []) c c
-open_bound_other I tuple c other = record {
-  one = inl refl;
-  at_most = omega (arith, ints);
-  least = All-cons (IsTupleAbove I c) tuple [] (λ x placed size is. absurd (other (node_list x) is)) (All-nil (IsTupleAbove I c));
-}
-
--- that of an open node of this value leads to the lesser of both
-pub open_bound_node : (I : Problem) (x : Placement) (tuple : List FieldValue) (c z g : ℤ) → IsPlacement x → x.size ≡ I.size → tuple ≡ node_tuple x → IsNodeValue I x z → g ≤ℤ c → g ≤ℤ z → (g ≡ c) ⊎ (g ≡ z) → IsOpenBound I (tuple ∷ []) c g
-open_bound_node I x tuple c z g placed size is value below_c below_z which = record {
-  one =
-      elim which as (λ (_ : (g ≡ c) ⊎ (g ≡ z)). (g ≡ c) ⊎ IsOpenValue I (tuple ∷ []) g) [
-        | inl same ↦ inl same
-        | inr same ↦
-            inr (record { node = x; placement = placed; size = size; stands = (0, omega arith, is); value = subst (IsNodeValue I x) (sym same) value })
-      ];
-  at_most = below_c;
-  least =
-      All-cons (IsTupleAbove I g) tuple []
-      (λ y py sy there.
-      let same : x ≡ y = same_node I.size x y (record { size = size; paired = placed.paired }) (record { size = sy; paired = py.paired }) (ap (list_at 1) (sym is ∙ there)) in
-      subst (IsNodeAbove I g) same (record { value = z; is_value = value; above = below_z }))
-      (All-nil (IsTupleAbove I g));
-}
-
--- the lesser of two numbers is one of them
-min_which : (z c : ℤ) → (int_min z c ≡ c) ⊎ (int_min z c ≡ z)
-min_which z c = cond_both (int_lt c z) c z (λ (r : ℤ). (r ≡ c) ⊎ (r ≡ z)) (λ e. inl refl) (λ e. inr refl)
-
--- as the tuple and its node were read, and the lesser was taken of the same numbers
-pub open_bound_read : (I : Problem) (x : Placement) (tuple : List FieldValue) (list : List ℤ) (n : ℕ) (c z g c' z' : ℤ) → IsReadFrom n list x → n ≡ I.size → tuple ≡ named_node list → IsNodeValue I x z → c' ≡ c → z' ≡ z → g ≡ int_min z' c' → g ≤ℤ z' → g ≤ℤ c' → IsOpenBound I (tuple ∷ []) c g
-open_bound_read I x tuple list n c z g c' z' read size is value same_c same_z lesser below_z below_c =
-    open_bound_node I x tuple c z g read.placement (read.size ∙ size) (is ∙ ap named_node (sym read.is)) value
-    (subst (λ (r : ℤ). g ≤ℤ r) same_c below_c) (subst (λ (r : ℤ). g ≤ℤ r) same_z below_z)
-    (subst (λ (r : ℤ). (g ≡ c) ⊎ (g ≡ r)) same_z
-    (subst (λ (r : ℤ). (g ≡ r) ⊎ (g ≡ z')) same_c (subst (λ (r : ℤ). (r ≡ c') ⊎ (r ≡ z')) (sym lesser) (min_which z' c'))))
-
--- what a run has left is a bounded answer
-pub bounded_left : (S : Search) (limit : Option ℕ) (r : Run) (a : Bounded) (content : List (List FieldValue)) → IsEnded S limit r → (h : IsCutTree S content r.space.commits) → open_count content ≡ a.open_nodes → h.permutation ≡ a.permutation → h.cost ≡ a.cost → IsOpenBound S.instance content a.cost a.bound → a.reports.items ≡ r.reports.items → IsBoundedFrom S (length r.reports.items) limit a
-bounded_left S limit r a content ended h counted best costs bounded reports =
-    let I = S.instance in
-    let same : accepted_of a.reports.items ≡ r.space.commits = ap accepted_of reports ∙ ended.counted in
-    record {
-      permutes = subst (Permutes I) best h.permutes;
-      costs = subst (λ (p : List ℕ). cost_of I p ≡ a.cost) best (h.costs ∙ costs);
-      no_dearer = subst (λ (z : ℤ). z ≤ℤ S.known.cost) costs h.no_dearer;
-      at_most = bounded.at_most;
-      none_below = open_bounds S content r.space.commits a.bound h (subst (λ (z : ℤ). IsOpenBound I content z a.bound) (sym costs) bounded);
-      closed = λ none. open_bound_closed I content a.cost a.bound bounded (counted ∙ none);
-      left = subst (λ (n : ℕ). LeavesBound S n a.open_nodes a.permutation a.cost a.bound) (sym same) (record { content = content; tree = h; counted = counted; best = best; costs = costs; bound = bounded });
-      one_each = ap length reports;
-      within = subst (IsWithin limit) (sym same) ended.within;
-    }

@@ -50,15 +50,6 @@ abbrev pub is_due : Stage → Bool
 is_due (Taken t number) = true
 is_due _ = false
 
--- the state of a worker that gives up its current node: its transaction, if it has one, must be aborted
-abbrev pub given_up : Stage → Stage
-given_up Idle = Idle
-given_up (Begun t) = GivingUp t
-given_up (Taken t number) = GivingUp t
-given_up (Considered t) = GivingUp t
-given_up (Ready t cost) = GivingUp t
-given_up (GivingUp t) = GivingUp t
-
 -- no cost of an incumbent is known, or the candidate of the last evaluation costs less than that
 abbrev pub is_hopeful : Option ℤ → Option ThoughtValue → Bool
 is_hopeful None last = true

@@ -3,7 +3,6 @@
 use crate::worker::report::Report;
 use qap_cert::Certificate;
 use qap_cost::Perm;
-use qap_proof::Proof;
 use std::alloc::AllocError;
 use std::fmt;
 use thiserror::Error;
@@ -53,33 +52,6 @@ impl fmt::Debug for Answer {
 pub struct Least {
     pub permutation: Perm,
     pub cost: i128,
-    /// One for each worker, in their order.
-    pub reports: Vec<Report>,
-}
-
-/// A permutation of an instance, a bound on what a search's root lets a permutation cost, and what each worker reports
-/// of the search.
-#[derive(Drop)]
-pub struct Bounded {
-    /// The best permutation found; where none that completes the root is found that is cheaper, the one that the search began with.
-    pub permutation: Perm,
-    pub cost: i128,
-    /// No permutation that completes the root costs less. At most the cost, and equal to it if no node is open.
-    pub bound: i128,
-    /// How many nodes are left open.
-    pub open_nodes: u64,
-    /// One for each worker, in their order.
-    pub reports: Vec<Report>,
-}
-
-/// A proof of what a search's root lets a permutation cost, and what each worker reports of the search.
-#[derive(Drop)]
-pub struct Proved {
-    /// Its permutation is the best one found; if none that completes the root is found that is cheaper, the one with
-    /// which the search began. Its bound is the cost if no node is left open.
-    pub proof: Proof,
-    /// How many nodes the search left open; the proof closes them.
-    pub open_nodes: u64,
     /// One for each worker, in their order.
     pub reports: Vec<Report>,
 }

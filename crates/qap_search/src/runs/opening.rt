@@ -27,7 +27,7 @@ pub fn opening_space(alloc: Global, instance: &Instance) -> Result<TxnSpace, All
 }
 
 /// A space that holds the root as an open node, and the permutation to start from as the best one; both forever.
-pub fn opening_from(
+pub(crate) fn opening_from(
     alloc: Global,
     instance: &Instance,
     root: &Partial,

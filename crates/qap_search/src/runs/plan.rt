@@ -16,13 +16,13 @@ pub struct Crew {
 
 /// How a search goes.
 #[derive(Clone, Copy)]
-pub struct Plan<'a> {
+pub(crate) struct Plan<'a> {
     /// Its workers and limit.
-    pub crew: Crew,
+    pub(crate) crew: Crew,
     /// The node whose completions are searched; the empty one, for all permutations of the instance.
-    pub root: &'a Partial,
+    pub(crate) root: &'a Partial,
     /// The permutation that the search begins with; it need not complete the root.
-    pub start: &'a Perm,
+    pub(crate) start: &'a Perm,
     /// By which rule nodes are split.
-    pub branching: Branching,
+    pub(crate) branching: Branching,
 }

@@ -20,9 +20,6 @@ pub(crate) struct Workplace<'a, R: Wait, L: Law, G: Gate> {
     pub(crate) nodes: &'a Template,
     pub(crate) best: &'a Template,
     pub(crate) gate: &'a G,
-    /// Whether a worker that ends because memory ran out aborts its transactions, so that others can take its nodes at
-    /// once.
-    pub(crate) aborts: bool,
 }
 
 /// What a worker lacks that has no node at hand.
@@ -73,16 +70,8 @@ impl<L: Law> Seat<L> {
         }
     }
 
-    /// Works until the space is closed, the gate ends the worker or memory runs out. A worker that runs out of memory
-    /// then aborts its transactions, if the workplace requires it: aborting allocates nothing.
+    /// Works until the space is closed, the gate ends the worker or memory runs out.
     pub(crate) fn work<R: Wait, G: Gate>(&mut self, place: &Workplace<'_, R, L, G>) {
-        self.work_to_its_end(place);
-        if place.aborts && self.ended == Some(Ended::Memory) {
-            place.shared.together(place.rt, self);
-        }
-    }
-
-    fn work_to_its_end<R: Wait, G: Gate>(&mut self, place: &Workplace<'_, R, L, G>) {
         for _ in place.rt.forever() {
             if self.ended.is_some() {
                 return;
@@ -132,12 +121,8 @@ impl<L: Law> Seat<L> {
 }
 
 impl<L: Law> Steps<L> for Seat<L> {
-    /// A worker that has ended gives up its nodes; any other continues.
+    /// Goes on from its nodes to others.
     fn make<M: Room<L>>(&mut self, room: &mut M) {
-        if self.ended.is_some() {
-            give_up_all(room, &mut self.hand, &mut self.share);
-            return;
-        }
         match go_on(room, &mut self.hand, &mut self.share) {
             Ok(lack) => self.lack = lack,
             Err(ended) => self.ended = Some(ended),
@@ -309,34 +294,6 @@ fn give_up<L: Law, M: Room<L>>(
         hand.keep(spent);
     }
     Ok(())
-}
-
-/// Gives up each node at hand. Others can take the nodes then, before the leases end.
-fn give_up_all<L: Law, M: Room<L>>(room: &mut M, hand: &mut Hand, share: &mut Share<L>)
-    requires law { IsSearchLaw hand.old.cutting hand.old.instance L.lawful L.allowed }
-    requires before { hand.old.accepted ≡ share.old }
-    ensures counted { hand.new.accepted ≡ share.new }
-    ensures cutting { hand.new.cutting ≡ hand.old.cutting }
-    ensures instance { hand.new.instance ≡ hand.old.instance }
-{
-    abandon(room, hand, share);
-    for other in 0..hand.others() {
-        hand.turn_to(other);
-        abandon(room, hand, share);
-    }
-}
-
-/// Gives up its node, regardless of what was decided about it. An abort that is refused leaves the node to the end of
-/// its lease.
-fn abandon<L: Law, M: Room<L>>(room: &mut M, hand: &mut Hand, share: &mut Share<L>)
-    requires law { IsSearchLaw hand.old.cutting hand.old.instance L.lawful L.allowed }
-    requires before { hand.old.accepted ≡ share.old }
-    ensures counted { hand.new.accepted ≡ share.new }
-    ensures cutting { hand.new.cutting ≡ hand.old.cutting }
-    ensures instance { hand.new.instance ≡ hand.old.instance }
-{
-    hand.give_up();
-    let _ = give_up(room, hand, share);
 }
 
 /// Makes the next step where it is of this kind.

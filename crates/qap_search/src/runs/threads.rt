@@ -4,16 +4,13 @@ ghost use Rattle.std.specs.Prelude.{◌≡◌, ◌<◌, ◌≤◌, [], false, Al
 ghost use Rattle.std.specs.List.{sum_by};
 ghost use Rattle.qap_cost.specs.Objective.{Permutes};
 ghost use Rattle.qap_cost.specs.Placement.{root_of};
-ghost use Rattle.qap_proof.specs.Claim.{IsRoot};
-ghost use Rattle.qap_search.specs.Runs.Answer.{IsAnswer, IsLeastAnswer, IsSearchFault, IsSolveFault, accepted_of};
-ghost use Rattle.qap_search.specs.Runs.BoundedAnswer.{IsBoundedFrom};
-ghost use Rattle.qap_search.specs.Runs.ProvedAnswer.{IsProvedFrom};
+ghost use Rattle.qap_search.specs.Runs.Answer.{IsAnswer, IsLeastAnswer, IsSolveFault, accepted_of};
 ghost use Rattle.qap_search.specs.Worker.Hand.{cuts};
 ghost use Rattle.qap_search.specs.Node.Images.{AreSymmetries};
 ghost use Rattle.qap_search.specs.Runs.Outcome.{IsEnded};
 ghost use Rattle.qap_search.specs.Runs.Opening.{IsOpening};
 ghost use Rattle.qap_search.specs.Runs.Ran.{Ran, RanTo, RanToFault};
-ghost use Rattle.qap_search.specs.Law.Search.{Search, best_with, from_root, identity_of, search_of, whole};
+ghost use Rattle.qap_search.specs.Law.Search.{Search, best_with, identity_of, search_of, whole};
 ghost use Rattle.qap_search.specs.Law.SearchLaw.{IsLawOf, IsSearchLaw};
 ghost use Rattle.shared_space.specs.Limit.{is_reached};
 ghost use Rattle.shared_space.specs.Place.{place_of};
@@ -26,18 +23,14 @@ use crate::certificate::reordering::turned_round;
 use crate::node::branching::Branching;
 use crate::node::images::{InstanceSymmetries, instance_symmetries};
 use crate::runs::alone::shared_rows;
-use crate::runs::answer::{Answer, Bounded, Least, Proved, SolveError};
+use crate::runs::answer::{Answer, Least, SolveError};
 use crate::runs::clock::Clock;
-use crate::runs::observer::{Nobody, Observer, Survey};
-use crate::runs::open_bound::{Ending, bounded_of};
 use crate::runs::opening::{identity, opening_from};
 use crate::runs::pace::Pace;
 use crate::runs::plan::{Crew, Plan};
-use crate::runs::proof_of_run::proved_of;
 use crate::runs::run::Run;
 use crate::runs::run_ending::{answer_of, least_of};
 use crate::runs::seat::{Seat, Workplace};
-use crate::runs::stop::{Never, Stop};
 use crate::tuples::templates::{best_template, node_template};
 use crate::worker::gate::Gate;
 use crate::worker::hand::Hand;
@@ -67,9 +60,6 @@ const SMALL_SIZE: usize = 32;
 
 /// How many milliseconds the keeper pauses before it looks again.
 const PAUSE_MS: u64 = 1;
-
-/// How many milliseconds of the clock lie at least between two looks of an observer.
-const LOOK_MS: u64 = 100;
 
 /// The certificate of an instance's least cost, from this many workers, each a thread, whose transactions begin with
 /// leases of this many milliseconds.
@@ -103,7 +93,14 @@ where
         start: &start,
         branching: Branching::GreatestMatched,
     };
-    solve_from(rt, alloc, instance, &plan, pace)
+    let run = run_of(rt, alloc, instance, &plan, pace)?;
+    answer_of(
+        &Many::new(rt, crew.workers),
+        alloc,
+        instance,
+        crew.limit,
+        run,
+    )
 }
 
 /// A permutation of an instance's least cost, by the same search, for callers that need no certificate, which is then
@@ -132,153 +129,12 @@ where
         start: &start,
         branching: Branching::GreatestMatched,
     };
-    let keeper = Keeper {
-        pace,
-        stop: &Never,
-        observer: &Nobody,
-        aborts: false,
-    };
-    let run = run_of(rt, alloc, instance, &plan, &keeper)?;
+    let run = run_of(rt, alloc, instance, &plan, pace)?;
     least_of(
         &Many::new(rt, crew.workers),
         alloc,
         instance,
         crew.limit,
-        run,
-    )
-}
-
-/// The certificate of an instance's least cost, as `solve` returns it, by a search according to the plan over all
-/// permutations: the plan's root is the empty node. The start must be a permutation of the instance, and the branching
-/// must not prune children, since a certificate cannot express it.
-pub fn solve_from<R, C, G>(
-    rt: &R,
-    alloc: Global,
-    instance: &Instance,
-    plan: &Plan<'_>,
-    pace: &Pace<'_, C, G>,
-) -> Result<Answer, SolveError>
-where
-    R: Threads + Wait + time::Clock + Sync,
-    C: Clock,
-    G: Gate + Sync,
-    requires some { 0 < plan.now.crew.workers }
-    requires few { plan.now.crew.workers ≤ 64 }
-    requires start { Permutes instance.now plan.now.start.now }
-    requires whole { plan.now.root.now ≡ root_of instance.now.size }
-    requires plain { cuts plan.now.branching ≡ false }
-    ensures answer { MatchResult result (IsAnswer instance.now plan.now.crew.workers plan.now.crew.limit)
-        (IsSearchFault (from_root instance.now (best_with instance.now plan.now.start.now)) plan.now.crew.workers plan.now.crew.limit) }
-    ensures ran { MatchResult result
-        (λ a. Ran (from_root instance.now (best_with instance.now plan.now.start.now)) plan.now.crew.workers plan.now.crew.limit (accepted_of a.reports.items) 0)
-        (RanToFault (from_root instance.now (best_with instance.now plan.now.start.now)) plan.now.crew.workers plan.now.crew.limit) }
-{
-    let keeper = Keeper {
-        pace,
-        stop: &Never,
-        observer: &Nobody,
-        aborts: false,
-    };
-    let run = run_of(rt, alloc, instance, plan, &keeper)?;
-    answer_of(
-        &Many::new(rt, plan.crew.workers),
-        alloc,
-        instance,
-        plan.crew.limit,
-        run,
-    )
-}
-
-/// The best permutation that a search below the plan's root yields, and a lower bound on all permutations that complete
-/// the root: for callers that search below any node, or that may stop a search early.
-///
-/// The workers, the gate, the lease and the limit are as for `solve`. If a stop is requested, the space is closed
-/// although nodes are open; no worker then begins another node, and none waits for a lease to end. If nodes are left
-/// for any reason (the stop, the gate, the limit or out of memory), the least assignments of their Gilmore-Lawler
-/// matrices bound the answer; if none is left, the bound is the cost. A worker that runs out of memory aborts its
-/// transactions, so that others can take its nodes at once. These bounds are computed by as many threads as there are
-/// workers, or up to twice as many. The observer follows the progress of the search. No certificate is assembled, and
-/// the memory for the end is allocated before the search: if threads find none, the calling thread works in it. The
-/// only error is out of memory.
-pub fn solve_least_from<R, C, G, S, O>(
-    rt: &R,
-    alloc: Global,
-    instance: &Instance,
-    plan: &Plan<'_>,
-    pace: &Pace<'_, C, G>,
-    stop: &S,
-    observer: &O,
-) -> Result<Bounded, AllocError>
-where
-    R: Threads + Wait + time::Clock + Sync,
-    C: Clock,
-    G: Gate + Sync,
-    S: Stop,
-    O: Observer,
-    requires some { 0 < plan.now.crew.workers }
-    requires few { plan.now.crew.workers ≤ 64 }
-    requires start { Permutes instance.now plan.now.start.now }
-    requires same_size { plan.now.root.now.size ≡ instance.now.size }
-    ensures answer { IfOk result
-        (IsBoundedFrom (search_of (cuts plan.now.branching) instance.now plan.now.root.now (best_with instance.now plan.now.start.now)) plan.now.crew.workers plan.now.crew.limit) }
-    ensures ran { IfOk result (λ a. Ran (search_of (cuts plan.now.branching) instance.now plan.now.root.now (best_with instance.now plan.now.start.now)) plan.now.crew.workers plan.now.crew.limit
-        (accepted_of a.reports.items) a.open_nodes) }
-{
-    let keeper = Keeper {
-        pace,
-        stop,
-        observer,
-        aborts: true,
-    };
-    let ending = Ending::with_room(alloc, instance)?;
-    let run = run_of(rt, alloc, instance, plan, &keeper)?;
-    bounded_of(&Many::new(rt, plan.crew.workers), alloc, ending, run)
-}
-
-/// The proof that a search below the plan's root yields: that no permutation which completes the root costs less than
-/// the proof's bound. Searches with and without pruning yield proofs. The facilities of the root must ascend, as a
-/// proof states them.
-///
-/// The workers, the gate, the lease, the limit, the stop and the observer are as for `solve_least_from`. Each node that
-/// is left open, for any reason, is closed by the duals of a least assignment of its Gilmore-Lawler matrix, by as many
-/// threads as there are workers, or up to twice as many. The bound is the minimum of the cost and of the bounds of the
-/// closed nodes: the cost if no node is left open. The only error is out of memory.
-pub fn prove_from<R, C, G, S, O>(
-    rt: &R,
-    alloc: Global,
-    instance: &Instance,
-    plan: &Plan<'_>,
-    pace: &Pace<'_, C, G>,
-    stop: &S,
-    observer: &O,
-) -> Result<Proved, AllocError>
-where
-    R: Threads + Wait + time::Clock + Sync,
-    C: Clock,
-    G: Gate + Sync,
-    S: Stop,
-    O: Observer,
-    requires some { 0 < plan.now.crew.workers }
-    requires few { plan.now.crew.workers ≤ 64 }
-    requires start { Permutes instance.now plan.now.start.now }
-    requires root { IsRoot instance.now.size plan.now.root.now }
-    ensures answer { IfOk result
-        (IsProvedFrom (search_of (cuts plan.now.branching) instance.now plan.now.root.now (best_with instance.now plan.now.start.now)) plan.now.crew.workers plan.now.crew.limit) }
-    ensures ran { IfOk result (λ a. Ran (search_of (cuts plan.now.branching) instance.now plan.now.root.now (best_with instance.now plan.now.start.now)) plan.now.crew.workers plan.now.crew.limit
-        (accepted_of a.reports.items) a.open_nodes) }
-{
-    let keeper = Keeper {
-        pace,
-        stop,
-        observer,
-        aborts: true,
-    };
-    let run = run_of(rt, alloc, instance, plan, &keeper)?;
-    proved_of(
-        &Many::new(rt, plan.crew.workers),
-        alloc,
-        instance,
-        plan.root,
         run,
     )
 }
@@ -303,19 +159,17 @@ fn all_permutations(alloc: Global, instance: &Instance) -> Result<Beginning, All
 }
 
 /// The run of a search according to the plan.
-fn run_of<R, C, G, S, O>(
+fn run_of<R, C, G>(
     rt: &R,
     alloc: Global,
     instance: &Instance,
     plan: &Plan<'_>,
-    keeper: &Keeper<'_, C, G, S, O>,
+    pace: &Pace<'_, C, G>,
 ) -> Result<Run, AllocError>
 where
     R: Threads + Wait + time::Clock + Sync,
     C: Clock,
     G: Gate + Sync,
-    S: Stop,
-    O: Observer,
     requires some { 0 < plan.now.crew.workers }
     requires few { plan.now.crew.workers ≤ 64 }
     requires start { Permutes instance.now plan.now.start.now }
@@ -327,26 +181,24 @@ where
 {
     let space = opening_from(alloc, instance, plan.root, plan.start)?;
     let blank = Blank::new(u64::from(plan.crew.workers));
-    search::<Brand, R, C, G, S, O>(rt, alloc, instance, space, blank, plan, keeper)
+    search::<Brand, R, C, G>(rt, alloc, instance, space, blank, plan, pace)
 }
 
 /// The same, on a space that is at the opening, under a law that is the search's.
-fn search<L, R, C, G, S, O>(
+fn search<L, R, C, G>(
     rt: &R,
     alloc: Global,
     instance: &Instance,
     space: TxnSpace,
     blank: Blank,
     plan: &Plan<'_>,
-    keeper: &Keeper<'_, C, G, S, O>,
+    pace: &Pace<'_, C, G>,
 ) -> Result<Run, AllocError>
 where
     L: Law + Send + Sync,
     R: Threads + Wait + time::Clock + Sync,
     C: Clock,
     G: Gate + Sync,
-    S: Stop,
-    O: Observer,
     requires some { 0 < plan.now.crew.workers }
     requires name { blank.name ≡ L.name }
     requires parts { blank.parts ≡ L.parts }
@@ -364,32 +216,8 @@ where
     let count = usize::from(plan.crew.workers);
     let room = Left::with_capacity(alloc, count)?;
     let templates = Templates::new(alloc)?;
-    let watch = Watch {
-        templates: &templates,
-        size: instance.size(),
-        depth: plan.root.facilities().len(),
-    };
     let staffed = staff::<L>(alloc, instance, space, blank, plan)?;
-    Ok(run_out(rt, staffed, room, &watch, keeper))
-}
-
-/// By whom a space is kept: what its workers go by, who may stop the search, and who watches it.
-#[derive(Drop)]
-struct Keeper<'a, C, G, S, O> {
-    pace: &'a Pace<'a, C, G>,
-    stop: &'a S,
-    observer: &'a O,
-    /// Whether a worker that runs out of memory aborts its transactions.
-    aborts: bool,
-}
-
-/// What is watched: the open nodes and the best permutation, below a root that places this many of the instance's
-/// facilities.
-#[derive(Drop)]
-struct Watch<'a> {
-    templates: &'a Templates,
-    size: usize,
-    depth: usize,
+    Ok(run_out(rt, staffed, room, &templates, pace))
 }
 
 /// What workers wait for on the space.
@@ -444,20 +272,18 @@ fn staff<L: Law>(
 }
 
 /// What is left where all workers have worked until the space was closed.
-fn run_out<L, R, C, G, S, O>(
+fn run_out<L, R, C, G>(
     rt: &R,
     staffed: Staffed<L>,
     room: Left<L>,
-    watch: &Watch<'_>,
-    keeper: &Keeper<'_, C, G, S, O>,
+    templates: &Templates,
+    pace: &Pace<'_, C, G>,
 ) -> Run
 where
     L: Law + Send + Sync,
     R: Threads + Wait + time::Clock + Sync,
     C: Clock,
     G: Gate + Sync,
-    S: Stop,
-    O: Observer,
     requires all { vec_len staffed.seats ≡ L.parts }
     requires some { 0 < vec_len staffed.seats }
     requires no_shares { room.shares.items ≡ [] }
@@ -472,12 +298,11 @@ where
     let place = Workplace {
         rt,
         shared: &shared,
-        nodes: &watch.templates.nodes,
-        best: &watch.templates.best,
-        gate: keeper.pace.gate,
-        aborts: keeper.aborts,
+        nodes: &templates.nodes,
+        best: &templates.best,
+        gate: pace.gate,
     };
-    work_all(&place, &seats, watch, keeper);
+    work_all(&place, &seats, pace.clock);
     let Left { shares, reports } = left_by(room, seats);
     let (space, _) = shared.into_inner(shares);
     Run { space, reports }
@@ -577,19 +402,12 @@ fn jobs_beside(workers: usize, size: usize) -> usize {
 
 /// Runs each worker in its own thread, and keeps the space until it is closed. A worker whose thread cannot be started
 /// has left.
-fn work_all<R, L, C, G, S, O>(
-    place: &Workplace<'_, R, L, G>,
-    seats: &[Mutex<Seat<L>>],
-    watch: &Watch<'_>,
-    keeper: &Keeper<'_, C, G, S, O>,
-)
+fn work_all<R, L, C, G>(place: &Workplace<'_, R, L, G>, seats: &[Mutex<Seat<L>>], clock: &C)
 where
     R: Threads + Wait + time::Clock + Sync,
     L: Law + Send + Sync,
     C: Clock,
     G: Gate + Sync,
-    S: Stop,
-    O: Observer,
 {
     thread::scope(thread::scope_env(), place.rt, |scope| {
         for seat in seats {
@@ -597,7 +415,7 @@ where
                 place.shared.leave(place.rt);
             }
         }
-        keep(place, watch, keeper);
+        keep(place, clock);
     });
 }
 
@@ -607,38 +425,20 @@ fn work<R: Wait, L: Law, G: Gate>(place: &Workplace<'_, R, L, G>, seat: &Mutex<S
     place.shared.leave(place.rt);
 }
 
-/// Advances the moment by the clock, and reports the progress to the observer, until the space is closed, by itself or
-/// because a stop is requested.
-fn keep<R, L, C, G, S, O>(
-    place: &Workplace<'_, R, L, G>,
-    watch: &Watch<'_>,
-    keeper: &Keeper<'_, C, G, S, O>,
-)
+/// Advances the moment by the clock until the space is closed.
+fn keep<R, L, C, G>(place: &Workplace<'_, R, L, G>, clock: &C)
 where
     R: Wait + time::Clock,
     L: Law,
     C: Clock,
     G: Gate,
-    S: Stop,
-    O: Observer,
 {
-    let mut survey = Survey::new(place.best, watch.size, watch.depth);
-    let mut due = 0;
     for _ in place.rt.forever() {
-        if keeper.stop.is_wanted() {
-            place.shared.shut(place.rt);
-        }
         if place.shared.close(place.rt, place.nodes) {
             return;
         }
-        let now = keeper.pace.clock.now();
         // A moment that is too late changes nothing.
-        let _ = place.shared.advance(place.rt, now);
-        if now >= due && keeper.observer.is_watching() {
-            place.shared.look(place.rt, &mut survey);
-            keeper.observer.see(&survey.progress);
-            due = now.saturating_add(LOOK_MS);
-        }
+        let _ = place.shared.advance(place.rt, clock.now());
         thread::sleep(place.rt, Duration::from_millis(PAUSE_MS));
     }
 }

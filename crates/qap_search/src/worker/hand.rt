@@ -2,7 +2,7 @@
 
 ghost use Rattle.std.specs.Prelude.{◌≡◌, ◌+◌, ◌≤◌, true, false, All, IfOk, IfSome, OnErr, OnOk};
 ghost use Rattle.std.specs.Arc.{arc_value};
-ghost use Rattle.qap_search.specs.Worker.Hand.{cuts, given_up, is_due, kind_of, new_hand};
+ghost use Rattle.qap_search.specs.Worker.Hand.{cuts, is_due, kind_of, new_hand};
 ghost use Rattle.qap_search.specs.Node.Images.{AreSymmetries};
 ghost use Rattle.qap_search.specs.Law.SearchLaw.{IsSearchLaw};
 ghost use Rattle.qap_search.specs.Worker.Standing.{IsIdle};
@@ -270,18 +270,6 @@ impl Hand {
             &self.job.last,
             self.tally.best,
         );
-    }
-
-    /// Gives up its node: if it has a transaction, the next step aborts it.
-    pub(crate) fn give_up(&mut self)
-        ensures not_due { is_due self.new.stage ≡ false }
-        ensures stage { self.new.stage ≡ given_up self.old.stage }
-        ensures cutting { self.new.cutting ≡ self.old.cutting }
-        ensures instance { self.new.instance ≡ self.old.instance }
-        ensures accepted { self.new.accepted ≡ self.old.accepted }
-    {
-        let stage = replace(&mut self.job.stage, Stage::Idle);
-        self.job.stage = stage.given_up();
     }
 
     /// Keeps what a transaction held that has ended, to be dropped when it next thinks or makes ready, outside the space's lock.

@@ -1,7 +1,7 @@
 //! The stages of a worker's turn.
 
 ghost use Rattle.std.specs.Prelude.{◌≡◌, ◌+◌, ◌<◌, ◌-◌, ◌^◌, None, Some};
-ghost use Rattle.qap_search.specs.Worker.Hand.{given_up, is_hopeful, thought_of};
+ghost use Rattle.qap_search.specs.Worker.Hand.{is_hopeful, thought_of};
 ghost use Rattle.qap_search.specs.Worker.Turn.{one_more};
 
 use crate::node::branching::Branching;
@@ -28,22 +28,6 @@ pub(crate) enum Stage {
     Ready(Txn, i128),
     /// The transaction must be ended without a commit.
     GivingUp(Txn),
-}
-
-impl Stage {
-    /// The stage of a worker that then gives up its node.
-    pub(crate) fn given_up(self) -> Stage
-        ensures { result ≡ given_up self }
-    {
-        match self {
-            Stage::Idle => Stage::Idle,
-            Stage::Begun(txn)
-            | Stage::Taken(txn, _)
-            | Stage::Considered(txn)
-            | Stage::Ready(txn, _)
-            | Stage::GivingUp(txn) => Stage::GivingUp(txn),
-        }
-    }
 }
 
 /// A node with what was computed about it.
