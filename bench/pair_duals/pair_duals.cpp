@@ -4,8 +4,8 @@
 //
 // It reads a size, A and B from standard input, and its arguments are a scale and how often each part is run. Of each
 // part it prints the name, the nanoseconds of one run and a number that it yields: whether pair duals fit; a child of
-// the root; a hard round; a soft sweep; and the root bound after 50 hard rounds, and after 200 soft sweeps and 10 hard
-// rounds.
+// the root; a child by kept residuals; filling their table; a hard round; a soft sweep; and the root bound after 50
+// hard rounds, and after 200 soft sweeps and 10 hard rounds.
 #include <algorithm>
 #include <chrono>
 #include <cmath>
@@ -142,14 +142,20 @@ Form start(const Instance& in, const Duals& duals) {
     return form;
 }
 
-void child(const Instance& in, const Duals& duals, const Form& form, int h, int g, Form& to) {
-    int m = in.m, n = form.rows.size(), square = m * m, j = form.rows[h], l = form.columns[g];
+// All of a child but its entries.
+void place(const Form& form, int h, int g, Form& to) {
+    int n = form.rows.size();
     to.value = form.value + form.entries[h * n + g];
     to.rows.assign(form.rows.begin(), form.rows.begin() + h);
     to.rows.insert(to.rows.end(), form.rows.begin() + h + 1, form.rows.end());
     to.columns.assign(form.columns.begin(), form.columns.begin() + g);
     to.columns.insert(to.columns.end(), form.columns.begin() + g + 1, form.columns.end());
     to.entries.resize((n - 1) * (n - 1));
+}
+
+void child(const Instance& in, const Duals& duals, const Form& form, int h, int g, Form& to) {
+    int m = in.m, n = form.rows.size(), square = m * m, j = form.rows[h], l = form.columns[g];
+    place(form, h, g, to);
     Number *out = to.entries.data(), there[64], back[64], own[64];
     for (int c = 0; c < n - 1; c++) {
         int k = to.columns[c];
@@ -167,6 +173,50 @@ void child(const Instance& in, const Duals& duals, const Form& form, int h, int 
         }
     }
 }
+
+// What is left of the pairs, by the second facility and location, then the first: that of i at k with j at l is in row
+// (j m + l) m + i, column k. Rows of an earlier facility are copied. In 64 bits scalar products are faster than those of
+// vectors.
+void fill(const Instance& in, const Duals& duals, Numbers& table) {
+    int m = in.m, square = m * m;
+    table.resize((size_t)square * square);
+    Number own[64], *row = table.data();
+    for (int j = 0; j < m; j++)
+        for (int l = 0; l < m; l++) {
+            for (int k = 0; k < m; k++) own[k] = duals.beta[k * square + j * m + l];
+            for (int i = 0; i < j; i++, row += m) {
+                const Number* from = &table[(size_t)i * m * square + j * m + l];
+                for (int k = 0; k < m; k++) row[k] = from[(size_t)k * square];
+            }
+            const Number *there = &in.b_back[l * m], *back = &in.b[l * m];
+            for (int i = j; i < m; i++, row += m) {
+                const Number *alpha = &duals.alpha[j * square + i * m], *beta = &duals.beta[l * square + i * m];
+                Number x = in.a[i * m + j], y = in.a_back[i * m + j], mine = duals.alpha[i * square + j * m + l];
+#pragma clang loop vectorize(disable)
+                for (int k = 0; k < m; k++)
+                    row[k] = x * there[k] + y * back[k] - mine - own[k] - alpha[k] - beta[k];
+            }
+        }
+}
+
+// A child by such a table.
+void kept_child(int m, const Numbers& table, const Form& form, int h, int g, Form& to) {
+    int n = form.rows.size(), j = form.rows[h], l = form.columns[g];
+    place(form, h, g, to);
+    Number* out = to.entries.data();
+    const Number* block = &table[(size_t)(j * m + l) * m * m];
+    const int* columns = to.columns.data();
+    for (int r = 0; r < n; r++) {
+        if (r == h) continue;
+        const Number *row = &form.entries[r * n], *left = block + form.rows[r] * m;
+        for (int c = 0; c < g; c++) out[c] = row[c] + left[columns[c]];
+        for (int c = g; c < n - 1; c++) out[c] = row[c + 1] + left[columns[c]];
+        out += n - 1;
+    }
+}
+
+// A form's value, and its first and last entry.
+Number sum_of(const Form& form) { return form.value + form.entries.front() + form.entries.back(); }
 
 Number bound(const Instance& in, const Duals& duals) {
     Form form = start(in, duals);
@@ -470,9 +520,31 @@ int main(int argc, char** argv) {
         for (int h = 0; h < m; h++)
             for (int g = 0; g < m; g++) {
                 child(in, found[0], root, h, g, next);
-                sum += next.value + next.entries[0] + next.entries[next.entries.size() - 1];
+                sum += sum_of(next);
             }
     print("child", since(begin) / (repeats * m * m), sum);
+
+    Numbers table;
+    fill(in, found[0], table);
+    begin = Clock::now();
+    sum = 0;
+    for (int r = 0; r < repeats; r++)
+        for (int h = 0; h < m; h++)
+            for (int g = 0; g < m; g++) {
+                kept_child(m, table, root, h, g, next);
+                sum += sum_of(next);
+            }
+    print("kept", since(begin) / (repeats * m * m), sum);
+
+    begin = Clock::now();
+    sum = 0;
+    for (int r = 0; r < repeats; r++)
+        for (const Duals& duals : found) {
+            fill(in, duals, table);
+            kept_child(m, table, root, 0, 0, next);
+            sum += sum_of(next);
+        }
+    print("fill", since(begin) / (4 * repeats), sum);
 
     begin = Clock::now();
     Duals few = ascend(in, 0, 1);
