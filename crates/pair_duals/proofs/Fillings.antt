@@ -47,7 +47,7 @@ pub FillsRows-none : (m : ℕ) (f : ℕ → ℕ → ℤ) (xs : List ℤ) → Fil
 FillsRows-none m f xs = record { same_length = refl; rows = λ r c hr hc. absurd (omega arith); after = λ k h. refl }
 
 -- a row before another ends before it
-row_before : (m r s : ℕ) → r < s → r * m + m ≤ s * m
+pub row_before : (m r s : ℕ) → r < s → r * m + m ≤ s * m
 row_before m r s h = let e : suc r * m ≤ s * m = mul-le _ _ _ _ h (omega arith) in omega (arith, e)
 
 -- one row more was written

@@ -5,6 +5,7 @@ pub mod Divisors
 pub mod DualRows
 pub mod Fillings
 pub mod Forms
+pub mod KeptRows
 pub mod Largests
 pub mod Leasts
 pub mod PairLines

@@ -3,6 +3,7 @@ pub mod CostStep
 pub mod DualRow
 pub mod Filling
 pub mod Fitting
+pub mod Kept
 pub mod Largest
 pub mod Limits
 pub mod Lines

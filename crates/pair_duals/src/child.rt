@@ -103,7 +103,7 @@ fn write_betas<N: Number>(duals: &PairDuals<N>, columns: &[u16], j: usize, l: us
 
 /// What the entries of each of the columns share where facility number `j` is put at location number `l`, in the memory
 /// of another.
-fn share_columns<N: Number>(
+pub fn share_columns<N: Number>(
     shared: Shared<N>,
     instance: &Instance,
     duals: &PairDuals<N>,
@@ -255,7 +255,7 @@ fn fill_child_row<N: Number>(
 }
 
 /// The number, among all, of the one of number `k` among those other than `h`.
-fn past(h: usize, k: usize) -> usize
+pub fn past(h: usize, k: usize) -> usize
     requires { k < 256 }
     ensures value { result ≡ past h k }
     ensures within { result ≤ k + 1 }

@@ -16,6 +16,14 @@ pub fn write<N: Number>(entries: &mut [N], m: usize, r: usize, c: usize, entry: 
     entries[at] = entry;
 }
 
+/// Writes a number of a list.
+pub fn put<N: Number>(numbers: &mut [N], at: usize, number: N)
+    requires { at < length numbers.old }
+    ensures { numbers.new ≡ slice_set numbers.old at number }
+{
+    numbers[at] = number;
+}
+
 /// The position of row `r`, column `c`.
 fn place(m: usize, r: usize, c: usize) -> usize
     requires small { m ≤ 256 }

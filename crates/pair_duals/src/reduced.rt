@@ -1,10 +1,11 @@
 //! The reduced form of a node: a number and a matrix that, with pair duals, give the cost of each completion.
 
-ghost use Rattle.std.specs.Prelude.{◌≡◌, ◌+◌, ◌<◌, ◌↔◌, [], ℕ, ℤ, pos, ◌+ℤ◌, ◌<ℤ◌, false, length, map, IfOk, IsTrue, OnErr, OnOk};
-ghost use Rattle.qap_cost.specs.Instance.{Problem};
+ghost use Rattle.std.specs.Prelude.{◌≡◌, ◌+◌, ◌<◌, ◌↔◌, [], ℕ, ℤ, pos, ◌+ℤ◌, ◌<ℤ◌, ◌*◌, ◌≤◌, false, length, map, unsigned_abs, IfOk, IsTrue, OnErr, OnOk};
+ghost use Rattle.qap_cost.specs.Instance.{Problem, entry};
 ghost use Rattle.qap_cost.specs.Matrix.{total};
 ghost use Rattle.qap_cost.specs.Placement.{Placement, IsPlacement};
 ghost use Rattle.qap_cost.specs.Range.{AllWithin};
+ghost use Rattle.pair_duals.specs.DualRow.{IsDualRow};
 ghost use Rattle.pair_duals.specs.PairDuals.{Duals, AreDuals, AreOf};
 ghost use Rattle.pair_duals.specs.Range.{IsInReach, IsInScale};
 ghost use Rattle.pair_duals.specs.Seats.{child_at};
@@ -105,6 +106,15 @@ impl<N: Number> Reduced<N> {
         ensures { N.value result ≡ at self.now r c }
     {
         self.entries[r * self.rows.len() + c]
+    }
+
+    /// Row `r`.
+    pub(crate) fn row(&self, r: usize) -> &[N]
+        requires { r < count_of self.now }
+        ensures { IsDualRow N.limits.reach (count_of self.now) (at self.now r) (map N.value result.now) }
+    {
+        let m = self.free();
+        row_of_square(&self.entries, m, r)
     }
 
     /// Makes this the form of the node to which the pair duals belong, in its own memory if that suffices. If memory
@@ -262,4 +272,16 @@ impl<N: Number> Reduced<N> {
         least_of_columns(&self.entries, u, v);
         self.value + (sum(u) + sum(v)) > threshold
     }
+}
+
+/// Row `r` of a matrix with `m` columns.
+fn row_of_square<N: Number>(entries: &[N], m: usize, r: usize) -> &[N]
+    requires small { m ≤ 256 }
+    requires count { length entries.now ≡ m * m }
+    requires row { r < m }
+    requires range { (c : ℕ) → c < m → unsigned_abs (entry m (map N.value entries.now) r c) ≤ N.limits.reach }
+    ensures { IsDualRow N.limits.reach m (entry m (map N.value entries.now) r) (map N.value result.now) }
+{
+    let start = r * m;
+    &entries[start..start + m]
 }

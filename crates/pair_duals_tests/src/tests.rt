@@ -4,6 +4,7 @@
 ghost use Rattle.std.specs.Prelude.{◌≡◌, ◌<◌, ◌↔◌, ℕ, length, slice_index, IfOk, IfSome, IsTrue};
 ghost use Rattle.pair_duals.specs.PairDuals.{AreOf};
 
+mod kept;
 mod steps;
 
 use pair_duals::{Number, PairDuals, Reduced, are_duals, fits, is_in_scale, residual};

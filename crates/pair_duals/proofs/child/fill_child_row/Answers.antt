@@ -1,5 +1,5 @@
-use Rattle.std.proofs.Common.{◌≡◌, ◌-◌, ◌*◌, ◌^◌, ◌+◌, ◌<◌, ◌≤◌, ℕ, length, get_or, map, set, arith, ap, ap₂, refl, sym, subst, ◌∙◌, List}
-use Rattle.std.specs.Prelude.{ℤ, pos, ◌+ℤ◌, unsigned_abs}
+use Rattle.std.proofs.Common.{◌≡◌, ◌-◌, ◌*◌, ◌^◌, ◌+◌, ◌<◌, ℕ, length, get_or, map, set, arith, ap, ap₂, refl, sym, subst, ◌∙◌, List}
+use Rattle.std.specs.Prelude.{pos, ◌+ℤ◌}
 use Rattle.std.proofs.lemmas.Int.{ints}
 use Rattle.std.proofs.lemmas.List.{length-map, map-set}
 use Rattle.qap_cost.specs.Instance.{entry}
@@ -7,16 +7,13 @@ use Rattle.qap_cost.proofs.Objectives.{reads_entry}
 use Rattle.pair_duals.specs.DualRow.{IsDualRow}
 use Rattle.pair_duals.specs.Filling.{FillsPart}
 use Rattle.pair_duals.specs.PairDuals.{alpha_of, beta_of, in_layers, residual}
-use Rattle.pair_duals.specs.Limits.{Limits, AreEnough}
-use Rattle.pair_duals.specs.Range.{IsInReach}
-use Rattle.pair_duals.specs.Reduced.{Form, at, child_entry, count_of}
+use Rattle.pair_duals.specs.Reduced.{at, child_entry, count_of}
 use Rattle.pair_duals.specs.Shared.{beta_along, entry_from, entry_to}
 use Rattle.pair_duals.proofs.Children.{column_left, column_left-within, within_sum}
 use Rattle.pair_duals.proofs.DualRows.{dual_read}
 use Rattle.pair_duals.proofs.Fillings.{FillsPart-none, FillsPart-more}
 use Rattle.pair_duals.proofs.PairLines.{part-within, residual-from_parts, scaled_entry-read}
 use Rattle.pair_duals.proofs.Products.{roomy}
-use Rattle.pair_duals.proofs.Steps.{entry_in_reach}
 use Rattle.pair_duals.proofs.Values.{place_in_square}
 use Rattle.pair_duals.proofs.child.fill_child_row.Goals as goal
 
