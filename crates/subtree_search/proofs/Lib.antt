@@ -4,6 +4,7 @@ pub mod Covers
 pub mod Endings
 pub mod KidLists
 pub mod Nodes
+pub mod Pieces
 pub mod Progress
 pub mod RowLists
 pub mod Settling

@@ -9,6 +9,7 @@ pub mod Lines
 pub mod Opens
 pub mod Outcomes
 pub mod Path
+pub mod Piece
 pub mod Premises
 pub mod Recorded
 pub mod Rows

@@ -1,10 +1,12 @@
 //! The incumbent.
 
-ghost use Rattle.std.specs.Prelude.{◌≡◌, ◌*◌, ◌^◌, ◌≤◌, ◌≤ℤ◌, length, unsigned_abs};
+ghost use Rattle.std.specs.Prelude.{◌≡◌, ◌*◌, ◌^◌, ◌≤◌, ◌≤ℤ◌, IfOk, length, unsigned_abs};
+ghost use Rattle.qap_cost.specs.Instance.{Problem};
 ghost use Rattle.qap_cost.specs.Objective.{Permutes, cost_of};
 ghost use Rattle.subtree_search.specs.Best.{Best, IsIncumbent};
 
 use qap_cost::{Instance, Perm, cost};
+use std::alloc::AllocError;
 use std::marker::Model;
 
 /// The best permutation known, with its cost.
@@ -49,6 +51,27 @@ impl Incumbent {
         &self.permutation
     }
 
+    /// The same incumbent, in memory of its own.
+    pub fn copy(&self) -> Result<Incumbent, AllocError>
+        ensures { IfOk result (λ b. b ≡ self.now) }
+    {
+        Ok(Incumbent {
+            permutation: self.permutation.copy()?,
+            cost: self.cost,
+        })
+    }
+
+    /// Becomes another one that costs less.
+    pub fn adopt(&mut self, other: Incumbent)
+        ensures incumbent { (I : Problem) → IsIncumbent I self.old → IsIncumbent I other → IsIncumbent I self.new }
+        ensures no_worse { self.new.cost ≤ℤ self.old.cost }
+        ensures adopted { self.new.cost ≤ℤ other.cost }
+    {
+        if other.cost < self.cost {
+            *self = other;
+        }
+    }
+
     /// Replaces its permutation by one that costs less.
     pub fn offer(&mut self, instance: &Instance, candidate: Perm)
         requires incumbent { IsIncumbent instance.now self.old }
@@ -57,9 +80,6 @@ impl Incumbent {
         ensures no_worse { self.new.cost ≤ℤ self.old.cost }
         ensures offered { self.new.cost ≤ℤ cost_of instance.now candidate }
     {
-        let other = Incumbent::new(instance, candidate);
-        if other.cost < self.cost {
-            *self = other;
-        }
+        self.adopt(Incumbent::new(instance, candidate));
     }
 }

@@ -10,6 +10,7 @@ mod level;
 mod line;
 mod outcome;
 mod path;
+mod piece;
 mod proving;
 mod record;
 mod search;
@@ -21,6 +22,7 @@ mod trial;
 
 pub use incumbent::Incumbent;
 pub use outcome::Outcome;
+pub use piece::Piece;
 pub use record::{Record, Silent};
 pub use search::{Subtree, SubtreeSearch};
 pub use split::OpenChild;

@@ -1,6 +1,6 @@
 //! The proof of a node: each split's children are tried, and those that remain open get their own pair duals.
 
-ghost use Rattle.std.specs.Prelude.{◌≡◌, ◌<◌, ◌≤◌, ◌≤ℤ◌, pos, false, true, IfOk, IsTrue, OnOk, length};
+ghost use Rattle.std.specs.Prelude.{◌≡◌, ◌<◌, ◌≤◌, ◌≤ℤ◌, ℤ, pos, false, true, All, IfOk, IfSome, IsTrue, OnOk, length};
 ghost use Rattle.qap_cost.specs.Placement.{free_facilities};
 ghost use Rattle.dual_ascent.specs.AscentRange.{HasRange};
 ghost use Rattle.pair_duals.specs.CostStep.{step_of};
@@ -9,13 +9,16 @@ ghost use Rattle.pair_duals.specs.Reduced.{Form, count_of};
 ghost use Rattle.subtree_search.specs.Best.{IsIncumbent};
 ghost use Rattle.subtree_search.specs.Drawn.{IsDrawn};
 ghost use Rattle.subtree_search.specs.Lines.{IsLineOf};
+ghost use Rattle.subtree_search.specs.Piece.{IsPiece};
 ghost use Rattle.subtree_search.specs.Premises.{AreSound, AreSymmetries, IsNode};
 ghost use Rattle.subtree_search.specs.Recorded.{HasKid, HasProof, HasSplit};
 
 use crate::ground::Ground;
 use crate::incumbent::Incumbent;
 use crate::level::Level;
+use crate::line::Line;
 use crate::path::Path;
+use crate::piece::{Piece, index_of};
 use crate::record::Record;
 use crate::search::{Split, Subtree, SubtreeSearch, Task, make_room, skip, step_within};
 use crate::stop::Stop;
@@ -28,9 +31,12 @@ use std::alloc::{AllocError, Global};
 impl SubtreeSearch {
     /// Adds a proof's tree over a node to the record. If the trial of a child ends at its limit, the child gets its own
     /// pair duals, and is split in turn. `false` if a stop was requested.
+    ///
+    /// Where a piece proves a child of the node, its text is added, and the child is not searched.
     pub fn prove<S: Stop, W: Record>(
         &mut self,
         subtree: &Subtree<'_>,
+        pieces: &[Piece],
         incumbent: &mut Incumbent,
         stop: &S,
         proof: &mut W,
@@ -42,6 +48,7 @@ impl SubtreeSearch {
         requires step { subtree.now.step ≡ pos (step_of subtree.now.instance.now) }
         requires symmetries { AreSymmetries subtree.now.instance.now subtree.now.flows.now subtree.now.distances.now }
         requires incumbent { IsIncumbent subtree.now.instance.now incumbent.old }
+        requires pieces { All (IsPiece subtree.now.instance.now incumbent.old.cost) pieces.now }
         ensures recorded { IfOk result (λ done. IsTrue done → HasProof subtree.now.instance.now subtree.now.node.now incumbent.new.cost (W.holds proof.old) (W.holds proof.new)) }
         ensures stopped { IfOk result (λ done. done ≡ false → S.says stop.now true) }
         ensures incumbent { IsIncumbent subtree.now.instance.now incumbent.new }
@@ -66,6 +73,7 @@ impl SubtreeSearch {
             alloc,
             task: &task,
             node: subtree.node,
+            pieces,
         };
         let is_done = prove_node(
             &part,
@@ -86,6 +94,8 @@ pub(crate) struct Part<'a, S> {
     pub alloc: Global,
     pub task: &'a Task<'a, S>,
     pub node: &'a Partial,
+    /// Proofs of some of its children.
+    pub pieces: &'a [Piece],
 }
 
 /// Proves the node that the pair duals belong to.
@@ -105,6 +115,7 @@ fn prove_node<S: Stop, W: Record>(
     requires room { length part.now.task.now.ground.now.duals.now.facilities < length levels.old }
     requires symmetries { AreSymmetries part.now.task.now.ground.now.instance.now part.now.task.now.ground.now.flows.now part.now.task.now.ground.now.distances.now }
     requires incumbent { IsIncumbent part.now.task.now.ground.now.instance.now incumbent.old }
+    requires pieces { All (IsPiece part.now.task.now.ground.now.instance.now incumbent.old.cost) part.now.pieces.now }
     ensures recorded { IfOk result (λ done. IsTrue done → HasProof part.now.task.now.ground.now.instance.now part.now.node.now incumbent.new.cost (W.holds proof.old) (W.holds proof.new)) }
     ensures stopped { IfOk result (λ done. done ≡ false → S.says part.now.task.now.stop.now true) }
     ensures path { OnOk result (path.new ≡ part.now.node.now) }
@@ -125,7 +136,7 @@ fn prove_node<S: Stop, W: Record>(
     Ok(is_done)
 }
 
-/// Proves the children on the row or column that dives choose, in order.
+/// Proves the children on a row or column, in order.
 #[cycle(proving)]
 fn prove_children<S: Stop, W: Record>(
     part: &Part<'_, S>,
@@ -143,6 +154,7 @@ fn prove_children<S: Stop, W: Record>(
     requires room { count_of level.now.form ≤ length deeper.old }
     requires symmetries { AreSymmetries part.now.task.now.ground.now.instance.now part.now.task.now.ground.now.flows.now part.now.task.now.ground.now.distances.now }
     requires incumbent { IsIncumbent part.now.task.now.ground.now.instance.now incumbent.old }
+    requires pieces { All (IsPiece part.now.task.now.ground.now.instance.now incumbent.old.cost) part.now.pieces.now }
     ensures recorded { IfOk result (λ done. IsTrue done → HasSplit part.now.task.now.ground.now.instance.now part.now.task.now.ground.now.duals.now path.old level.now.form level.now.u.items incumbent.new.cost (W.holds proof.old) (W.holds proof.new)) }
     ensures stopped { IfOk result (λ done. done ≡ false → S.says part.now.task.now.stop.now true) }
     ensures path { OnOk result (path.new ≡ path.old) }
@@ -150,18 +162,147 @@ fn prove_children<S: Stop, W: Record>(
     ensures no_worse { incumbent.new.cost ≤ℤ incumbent.old.cost }
 {
     let ground = part.task.ground;
-    let line = ground.sampled_line(level, deeper, path, incumbent)?;
+    let line = chosen_line(part, level, deeper, path, incumbent)?;
     let number = ground.number_of(level, path, line);
     let marks = proof.split(line.side(), number, level.u())?;
     let split = Split { level, line, marks };
     for k in 0..level.form.free() {
-        if skip(part.task, &split, path, incumbent, k, proof)? {
+        if is_settled(part, &split, k, deeper, path, incumbent, proof)? {
             continue;
         }
         if !prove_child(part, &split, k, deeper, path, incumbent, nodes, proof)? {
             return Ok(false);
         }
     }
+    Ok(true)
+}
+
+/// The row or column to split the node on: the one that its pieces lie on, or else the one that dives choose.
+fn chosen_line<S: Stop>(
+    part: &Part<'_, S>,
+    level: &Level,
+    deeper: &mut [Level],
+    path: &mut Path,
+    incumbent: &mut Incumbent,
+) -> Result<Line, AllocError>
+    requires node { IsNode part.now.task.now.ground.now.instance.now part.now.task.now.ground.now.duals.now part.now.task.now.ground.now.step path.old level.now.form }
+    requires left { 0 < count_of level.now.form }
+    requires room { count_of level.now.form ≤ length deeper.old }
+    requires symmetries { AreSymmetries part.now.task.now.ground.now.instance.now part.now.task.now.ground.now.flows.now part.now.task.now.ground.now.distances.now }
+    requires incumbent { IsIncumbent part.now.task.now.ground.now.instance.now incumbent.old }
+    ensures line { IfOk result (IsLineOf (count_of level.now.form)) }
+    ensures path { OnOk result (path.new ≡ path.old) }
+    ensures incumbent { IsIncumbent part.now.task.now.ground.now.instance.now incumbent.new }
+    ensures no_worse { incumbent.new.cost ≤ℤ incumbent.old.cost }
+{
+    if let Some(line) = line_of_pieces(part, level, path) {
+        return Ok(line);
+    }
+    let ground = part.task.ground;
+    let line = ground.sampled_line(level, deeper, path, incumbent)?;
+    Ok(line)
+}
+
+/// The row or column that the pieces over children of the node lie on, if there are two.
+fn line_of_pieces<S>(part: &Part<'_, S>, level: &Level, path: &Path) -> Option<Line>
+    requires { IsNode part.now.task.now.ground.now.instance.now part.now.task.now.ground.now.duals.now part.now.task.now.ground.now.step path.now level.now.form }
+    ensures { IfSome result (IsLineOf (count_of level.now.form)) }
+{
+    for k in 0..level.form.free() {
+        let facility = part.task.ground.number_of(level, path, Line::Row(k));
+        if are_two_on(part, Some(facility), None) {
+            return Some(Line::Row(k));
+        }
+        let location = part.task.ground.number_of(level, path, Line::Column(k));
+        if are_two_on(part, None, Some(location)) {
+            return Some(Line::Column(k));
+        }
+    }
+    None
+}
+
+/// Whether two pieces are over children of the node that place this facility, if one is given, at this location, if one is given.
+fn are_two_on<S>(part: &Part<'_, S>, facility: Option<u16>, location: Option<u16>) -> bool {
+    let mut is_one = false;
+    for piece in part.pieces {
+        let is_on = match piece.last_below(part.node) {
+            Some((f, k)) => is_or_any(facility, f) && is_or_any(location, k),
+            None => false,
+        };
+        if is_on && is_one {
+            return true;
+        }
+        is_one = is_one || is_on;
+    }
+    false
+}
+
+/// Whether a number is the given one, if one is given.
+fn is_or_any(given: Option<u16>, number: u16) -> bool {
+    match given {
+        Some(given) => given == number,
+        None => true,
+    }
+}
+
+/// Whether the child of number `k` needs no search: it is skipped, or a piece proves it, whose text is added.
+fn is_settled<S: Stop, W: Record>(
+    part: &Part<'_, S>,
+    split: &Split<'_>,
+    k: usize,
+    deeper: &mut [Level],
+    path: &mut Path,
+    incumbent: &Incumbent,
+    proof: &mut W,
+) -> Result<bool, AllocError>
+    requires node { IsNode part.now.task.now.ground.now.instance.now part.now.task.now.ground.now.duals.now part.now.task.now.ground.now.step path.old split.now.level.now.form }
+    requires incumbent { IsIncumbent part.now.task.now.ground.now.instance.now incumbent.now }
+    requires line { IsLineOf (count_of split.now.level.now.form) split.now.line }
+    requires k_in { k < count_of split.now.level.now.form }
+    requires room { count_of split.now.level.now.form ≤ length deeper.old }
+    requires symmetries { AreSymmetries part.now.task.now.ground.now.instance.now part.now.task.now.ground.now.flows.now part.now.task.now.ground.now.distances.now }
+    requires pieces { All (IsPiece part.now.task.now.ground.now.instance.now incumbent.now.cost) part.now.pieces.now }
+    ensures settled { IfOk result (λ settled. IsTrue settled → HasKid part.now.task.now.ground.now.instance.now part.now.task.now.ground.now.duals.now path.old split.now.level.now.form split.now.line k incumbent.now.cost (W.ends split.now.marks) (W.holds proof.old) (W.holds proof.new)) }
+    ensures left { IfOk result (λ settled. settled ≡ false → proof.new ≡ proof.old) }
+    ensures path { OnOk result (path.new ≡ path.old) }
+{
+    if skip(part.task, split, path, incumbent, k, proof)? {
+        return Ok(true);
+    }
+    let is_added = add_piece(part, split, k, deeper, path, proof)?;
+    Ok(is_added)
+}
+
+/// Adds the text of the piece over the child of number `k`, if there is one.
+fn add_piece<S: Stop, W: Record>(
+    part: &Part<'_, S>,
+    split: &Split<'_>,
+    k: usize,
+    deeper: &mut [Level],
+    path: &mut Path,
+    proof: &mut W,
+) -> Result<bool, AllocError>
+    requires node { IsNode part.now.task.now.ground.now.instance.now part.now.task.now.ground.now.duals.now part.now.task.now.ground.now.step path.old split.now.level.now.form }
+    requires line { IsLineOf (count_of split.now.level.now.form) split.now.line }
+    requires k_in { k < count_of split.now.level.now.form }
+    requires room { count_of split.now.level.now.form ≤ length deeper.old }
+    ensures added { IfOk result (λ added. IsTrue added → (c : ℤ) → All (IsPiece part.now.task.now.ground.now.instance.now c) part.now.pieces.now → HasKid part.now.task.now.ground.now.instance.now part.now.task.now.ground.now.duals.now path.old split.now.level.now.form split.now.line k c (W.ends split.now.marks) (W.holds proof.old) (W.holds proof.new)) }
+    ensures left { IfOk result (λ added. added ≡ false → proof.new ≡ proof.old) }
+    ensures path { OnOk result (path.new ≡ path.old) }
+{
+    if part.pieces.is_empty() {
+        return Ok(false);
+    }
+    let (h, g) = (split.line.row(k), split.line.column(k));
+    let next = &mut deeper[0];
+    part.task.ground.descend(split.level, next, path, h, g)?;
+    let found = index_of(part.pieces, path);
+    path.pop();
+    let Some(i) = found else {
+        return Ok(false);
+    };
+    proof.mark(split.marks, k);
+    proof.subtree(part.pieces[i].tree())?;
     Ok(true)
 }
 
@@ -246,6 +387,7 @@ fn prove_below<S: Stop, W: Record>(
         alloc: above.alloc,
         task: &task,
         node,
+        pieces: &[],
     };
     prove_node(&part, levels, path, incumbent, nodes, proof)
 }

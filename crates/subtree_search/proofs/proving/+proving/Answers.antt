@@ -7,6 +7,7 @@ use Rattle.subtree_search.specs.Lines.{child_on, column_on, own_of, row_on, side
 use Rattle.subtree_search.specs.Premises.{IsNode}
 use Rattle.subtree_search.specs.Recorded.{HasKid, HasSplit, HasTree}
 use Rattle.subtree_search.proofs.KidLists.{HasBegun-more, HasBegun-start, HasSplit-all}
+use Rattle.subtree_search.proofs.Pieces.{pieces-less}
 use Rattle.subtree_search.proofs.Progress.{back_at}
 use Rattle.subtree_search.proofs.Trees.{HasProof-own, HasTree-split, IsNode-drawn}
 use Rattle.subtree_search.proofs.Tries.{HasKid-proof, begun_by, fewer_free, opened_by}
@@ -35,7 +36,7 @@ prove_node-prove_children-requires g t c κs within =
     let rows = ap length drawn.line.rows in
     let begun = c.in_ok-begin.ensures in
     let rest = c.split_at_mut-first.ensures.back_len in
-    (omega (arith, c.decreases, rest), (within.0, (within.1, (begun.path, (IsNode-drawn _ _ _ _ c.begin.new.level.form _ _ _ begun.node drawn.line, ((c.begin.new.level.form, drawn), (c.requires.range, (omega (arith, c.requires.room, rows, rest, begun.count), (c.requires.symmetries, closes.incumbent)))))))))
+    (omega (arith, c.decreases, rest), (within.0, (within.1, (begun.path, (IsNode-drawn _ _ _ _ c.begin.new.level.form _ _ _ begun.node drawn.line, ((c.begin.new.level.form, drawn), (c.requires.range, (omega (arith, c.requires.room, rows, rest, begun.count), (c.requires.symmetries, (closes.incumbent, pieces-less _ _ _ _ closes.no_worse c.requires.pieces))))))))))
 
 pub prove_node-returns-clause-recorded : goal.prove_node-returns-clause-recorded
 prove_node-returns-clause-recorded g t c = λ done.
@@ -75,12 +76,12 @@ prove_children-loop-k-init g t c =
       incumbent = line.incumbent;
       no_worse = line.no_worse;
       path = line.path;
-      begun = HasBegun-start c.args.part.now.task.now.ground.now.instance.now c.args.part.now.task.now.ground.now.duals.now c.args.path.now c.args.level.now.form c.args.level.now.u.items c.in_ok-line.line c.number_of-number.result c.sampled_line.new.incumbent.cost
+      begun = HasBegun-start c.args.part.now.task.now.ground.now.instance.now c.args.part.now.task.now.ground.now.duals.now c.args.path.now c.args.level.now.form c.args.level.now.u.items c.in_ok-line.line c.number_of-number.result c.chosen_line.new.incumbent.cost
           (g.W.Record.ends c.in_ok-marks.marks) (g.W.Record.holds c.args.proof.now) (g.W.Record.holds c.split.new.self) c.side.result c.u.result.now c.side.ensures c.u.ensures (drawn.1.count ∙ sym (ap length drawn.1.line.rows)) c.in_ok-marks.ensures.added c.in_ok-marks.ensures.marks;
     }
 
-pub prove_children-skip-requires-clause-node : goal.prove_children-skip-requires-clause-node
-prove_children-skip-requires-clause-node g t c =
+pub prove_children-is_settled-requires-clause-node : goal.prove_children-is_settled-requires-clause-node
+prove_children-is_settled-requires-clause-node g t c =
     subst (λ (y : Placement). IsNode c.args.part.now.task.now.ground.now.instance.now c.args.part.now.task.now.ground.now.duals.now c.args.part.now.task.now.ground.now.step y c.args.level.now.form) (sym c.loop-k.invariant.path) c.requires.node
 
 pub prove_children-loop-k-preserved-then-branch : goal.prove_children-loop-k-preserved-then-branch
@@ -95,12 +96,12 @@ prove_children-loop-k-preserved-then-branch g t c =
     let below : k < count_of R = omega (arith, c.loop-k-test.true, c.free-k-end.ensures.value) in
     let ends = g.W.Record.ends c.in_ok-marks.marks in
     let mid = g.W.Record.holds c.loop-k.proof in
-    let new = g.W.Record.holds c.skip.new.proof in
-    let kid = subst (λ (y : Placement). HasKid I D y R line k cost ends mid new) kept.path (c.in_ok-skip.ensures.skipped c.if-branch.true) in
+    let new = g.W.Record.holds c.is_settled.new.proof in
+    let kid = subst (λ (y : Placement). HasKid I D y R line k cost ends mid new) kept.path (c.in_ok-is_settled.ensures.settled c.if-branch.true) in
     record {
       incumbent = kept.incumbent;
       no_worse = kept.no_worse;
-      path = kept.path;
+      path = c.in_ok-is_settled.ensures.path ∙ kept.path;
       begun = HasBegun-more I D c.args.path.now R c.args.level.now.u.items line c.number_of-number.result k cost cost ends (g.W.Record.holds c.args.proof.now) mid new below (omega (arith, ints)) kept.begun kid;
     }
 
@@ -110,7 +111,8 @@ prove_children-prove_child-requires g t c κs within =
     let R = c.args.level.now.form in
     let below : c.loop-k.k < count_of R = omega (arith, c.loop-k-test.true, c.free-k-end.ensures.value) in
     let at_node = λ (y : Placement). IsNode c.args.part.now.task.now.ground.now.instance.now c.args.part.now.task.now.ground.now.duals.now c.args.part.now.task.now.ground.now.step y R in
-    (omega (arith, c.decreases, c.loop-k.auto.deeper), (within.0, (within.1, (kept.path ∙ c.requires.at, (subst at_node (sym kept.path) c.requires.node, (c.in_ok-line.ensures.line, (below, (c.requires.range, (omega (arith, c.requires.room, c.loop-k.auto.deeper), (c.requires.symmetries, kept.incumbent))))))))))
+    let path = c.in_ok-is_settled.ensures.path ∙ kept.path in
+    (omega (arith, c.decreases, c.loop-k.auto.deeper), (within.0, (within.1, (path ∙ c.requires.at, (subst at_node (sym path) c.requires.node, (c.in_ok-line.ensures.line, (below, (c.requires.range, (omega (arith, c.requires.room, c.loop-k.auto.deeper), (c.requires.symmetries, kept.incumbent))))))))))
 
 pub prove_children-loop-k-preserved : goal.prove_children-loop-k-preserved
 prove_children-loop-k-preserved g t c =
@@ -126,13 +128,14 @@ prove_children-loop-k-preserved g t c =
     let mid = g.W.Record.holds c.loop-k.proof in
     let new = g.W.Record.holds c.prove_child.new.proof in
     let cost = c.prove_child.new.incumbent.cost in
-    let unchanged = c.in_ok-skip.ensures.left c.if-branch.false in
+    let path = c.in_ok-is_settled.ensures.path ∙ kept.path in
+    let unchanged = c.in_ok-is_settled.ensures.left c.if-branch.false in
     let proved = ensures.recorded c.if-not-branch.false in
-    let kid = subst (λ (y : Placement). HasKid I D y R line k cost ends mid new) kept.path (subst (λ p. HasKid I D c.loop-k.path R line k cost ends (g.W.Record.holds p) new) unchanged proved) in
+    let kid = subst (λ (y : Placement). HasKid I D y R line k cost ends mid new) path (subst (λ p. HasKid I D c.is_settled.new.path R line k cost ends (g.W.Record.holds p) new) unchanged proved) in
     record {
       incumbent = ensures.incumbent;
       no_worse = (let one = ensures.no_worse in let other = kept.no_worse in omega (arith, ints, one, other));
-      path = ensures.path ∙ kept.path;
+      path = ensures.path ∙ path;
       begun = HasBegun-more I D c.args.path.now R c.args.level.now.u.items line c.number_of-number.result k c.loop-k.incumbent.cost cost ends (g.W.Record.holds c.args.proof.now) mid new below ensures.no_worse kept.begun kid;
     }
 
