@@ -1,21 +1,21 @@
 -- Proofs that show their claim.
-use Rattle.std.proofs.Common.{◌≡◌, ℕ, List, [], ◌∷◌, ◌++◌, ℤ, refl, sym, ap, subst, ◌∙◌, arith}
+use Rattle.std.proofs.Common.{◌≡◌, ℕ, List, [], ◌∷◌, ℤ, refl, sym, subst, ◌∙◌, arith}
 use Rattle.std.specs.List.{concat}
 use Rattle.std.specs.Prelude.{◌≤ℤ◌}
 use Rattle.std.proofs.lemmas.Int.{ints}
 use Rattle.std.proofs.lemmas.List.{append-nil}
 use Rattle.qap_cost.specs.Bijection.{IsPerm}
 use Rattle.qap_cost.specs.Instance.{Problem}
-use Rattle.qap_cost.specs.Objective.{IsLeast, cost_of}
-use Rattle.qap_cost.specs.Placement.{Placement, root_of}
+use Rattle.qap_cost.specs.Objective.{cost_of}
+use Rattle.qap_cost.specs.Placement.{Placement}
 use Rattle.qap_cost.specs.Range.{IsLimited}
 use Rattle.qap_proof.specs.Claim.{IsRoot, NoneCompletesForLess}
 use Rattle.pair_duals.specs.CostStep.{DividesCosts, step_of}
-use Rattle.proof_tree.specs.Claim.{IsPairProof, PairClaim, PairProves}
 use Rattle.proof_tree.proofs.Validity.{Proves-IsLeast, Proves-NoneCompletesForLess}
 use Rattle.subtree_search.specs.Best.{Best, IsIncumbent}
 use Rattle.subtree_search.specs.Recorded.{HasProof}
-use Rattle.proof_search.specs.Found.{AreLinesOf, IsProofFor}
+use Rattle.subtree_search.specs.Piece.{AreLinesOf, IsPiece, Proved}
+use Rattle.proof_search.specs.Found.{IsProofFor}
 use Rattle.proof_search.specs.Held.{Held, IsHeld, Shows, claim_with}
 use Rattle.proof_search.proofs.Texts.{text_of-claim}
 
@@ -60,4 +60,11 @@ IsProofFor-shows I root start h divides over shows no_worse = record {
   no_worse = no_worse;
   bound = subst (λ (y : Placement). NoneCompletesForLess I y h.cost) over (Proves-NoneCompletesForLess I (claim_with h shows.tree) shows.is_text.proof divides shows.proves);
   least = λ empty. Proves-IsLeast I (claim_with h shows.tree) shows.is_text.proof divides shows.proves (over ∙ empty) refl;
+}
+
+-- the proof of a node that a search has made
+pub IsPiece-made : (I : Problem) (c : ℤ) (p : Proved) (y : Placement) (lines : List ℕ) → p.node ≡ y → p.cost ≡ c → p.lines ≡ lines → AreLinesOf I y c lines → IsPiece I c p
+IsPiece-made I c p y lines node cost same h = record {
+  least = omega (arith, ints, cost);
+  proves = subst (AreLinesOf I p.node p.cost) (sym same) (subst (λ (e : ℤ). AreLinesOf I p.node e lines) (sym cost) (subst (λ (x : Placement). AreLinesOf I x c lines) (sym node) h));
 }

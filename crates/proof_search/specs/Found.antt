@@ -1,23 +1,11 @@
 -- The result of a search for a proof.
-use Rattle.std.specs.Prelude.{◌≡◌, ◌⊎◌, ℕ, Bool, true, false, None, List, ℤ, ◌≤ℤ◌}
+use Rattle.std.specs.Prelude.{◌≡◌, ◌⊎◌, ℕ, Bool, true, List, ◌≤ℤ◌}
 use Rattle.qap_cost.specs.Instance.{Problem}
 use Rattle.qap_cost.specs.Objective.{IsLeast, cost_of}
 use Rattle.qap_cost.specs.Placement.{Placement, root_of}
 use Rattle.qap_proof.specs.Claim.{NoneCompletesForLess}
 use Rattle.dual_ascent.specs.AscentRange.{HasRange}
-use Rattle.pair_duals.specs.CostStep.{step_of}
-use Rattle.proof_tree.specs.Shape.{HasShape}
-use Rattle.proof_tree.specs.Text.{tree_text}
-use Rattle.proof_tree.specs.Tree.{Tree}
-use Rattle.proof_tree.specs.Valid.{Valid}
 use Rattle.proof_search.specs.Held.{Held, Shows}
-
--- these are the lines of a tree over the node that is valid for every bound up to c
-pub record AreLinesOf (I : Problem) (y : Placement) (c : ℤ) (lines : List ℕ) : Type 0 where
-  pub tree : Tree
-  pub shape : HasShape y false tree
-  pub valid : (bound : ℤ) → bound ≤ℤ c → Valid I (step_of I) bound y None tree
-  pub is : lines ≡ tree_text tree
 
 -- a proof over the root for the instance: no completion of the root costs less than its permutation, which costs no more than the
 -- start; if nothing is placed at the root, that is the least cost

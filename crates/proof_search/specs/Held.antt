@@ -1,13 +1,10 @@
 -- Proofs in memory: what they state, and the text of their tree.
-use Rattle.std.specs.Prelude.{◌≡◌, ℕ, ◌++◌, List, ℤ, codes}
+use Rattle.std.specs.Prelude.{ℕ, ◌++◌, List, ℤ, codes}
 use Rattle.qap_cost.specs.Instance.{Problem}
 use Rattle.qap_cost.specs.Placement.{Placement}
 use Rattle.qap_lines.specs.LineText.{head_text}
 use Rattle.qap_proof.specs.Text.{root_text}
-use Rattle.pair_duals.specs.CostStep.{step_of}
 use Rattle.proof_tree.specs.Claim.{IsPairProofText, PairClaim, PairProves, pair_claim}
-use Rattle.proof_tree.specs.Shape.{HasShape}
-use Rattle.proof_tree.specs.Text.{tree_text}
 use Rattle.proof_tree.specs.Tree.{Tree}
 
 -- a root, a permutation that has the cost, and the text of a tree that proves that no completion of the root costs less

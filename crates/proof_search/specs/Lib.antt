@@ -1,3 +1,4 @@
+pub mod Crew
 pub mod Found
 pub mod Ground
 pub mod Held

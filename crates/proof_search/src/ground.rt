@@ -1,19 +1,22 @@
 //! What searches for a proof need regardless of the node.
 
-ghost use Rattle.std.specs.Prelude.{◌≡◌, ◌<◌, ◌≤ℤ◌, ℕ, pos, true, IfOk, MatchOption};
+ghost use Rattle.std.specs.Prelude.{◌≡◌, ◌<◌, ◌≤ℤ◌, ℕ, pos, true, All, IfOk, MatchOption};
 ghost use Rattle.qap_cost.specs.Instance.{IsInstance, Problem};
 ghost use Rattle.dual_ascent.specs.AscentRange.{HasRange};
 ghost use Rattle.pair_duals.specs.CostStep.{Divides, step_of};
+ghost use Rattle.qap_cost.specs.Placement.{Placement};
 ghost use Rattle.subtree_search.specs.Best.{IsIncumbent};
-ghost use Rattle.proof_search.specs.Found.{AreLinesOf};
+ghost use Rattle.subtree_search.specs.Piece.{AreLinesOf, IsPiece};
+ghost use Rattle.subtree_search.specs.Premises.{AreSymmetries};
+ghost use Rattle.proof_search.specs.Ground.{AreReady};
 
 use dual_ascent::{Effort, ascend_softly, has_range};
-use pair_duals::cost_step;
+use pair_duals::{PairDuals, cost_step};
 use qap_cost::{Instance, Partial, Perm};
 use qap_symmetry::{Table, symmetries_of};
 use std::alloc::{AllocError, Global};
 use std::marker::Model;
-use subtree_search::{Incumbent, Stop, Subtree, SubtreeSearch, TextRecord};
+use subtree_search::{Incumbent, Piece, Stop, Subtree, SubtreeSearch, TextRecord};
 
 /// An instance with the symmetries of its matrices, its cost step, a number of 64 bits that divides that, and the scale of pair duals. It
 /// is seen as the instance.
@@ -70,42 +73,103 @@ impl Ground {
         &self.instance
     }
 
-    /// Searches the subtree below a node, first under pair duals of it that soft sweeps and then this many rounds find,
-    /// and improves the incumbent: the text of a tree over the node, or `None` if a stop was requested.
-    pub fn solve<S: Stop>(
+    /// Pair duals of a node, found from others with this effort.
+    pub fn duals(
+        &self,
+        alloc: Global,
+        node: &Partial,
+        start: Option<&PairDuals<i64>>,
+        effort: &Effort,
+    ) -> Result<PairDuals<i64>, AllocError>
+        requires size { self.now.size ≡ node.now.size }
+        ensures { IfOk result (AreReady self.now node.now) }
+    {
+        let duals = ascend_softly(alloc, &self.instance, node, start, effort, self.scale)?;
+        Ok(duals)
+    }
+
+    /// A node with its own pair duals, for a search.
+    fn subtree<'a>(&'a self, node: &'a Partial, duals: &'a PairDuals<i64>) -> Subtree<'a>
+        ensures instance { result.instance.now ≡ self.now }
+        ensures node { result.node.now ≡ node.now }
+        ensures duals { result.duals.now ≡ duals.now }
+        ensures step { result.step ≡ pos (step_of self.now) }
+        ensures symmetries { AreSymmetries self.now result.flows.now result.distances.now }
+    {
+        Subtree {
+            instance: &self.instance,
+            node,
+            duals,
+            step: self.step,
+            flows: &self.flows,
+            distances: &self.distances,
+        }
+    }
+
+    /// Splits a node, and lists the children that are neither pruned nor symmetric to an earlier one, nor closed without a search.
+    pub fn open(
         &self,
         alloc: Global,
         search: &mut SubtreeSearch,
         node: &Partial,
-        rounds: u32,
+        duals: &PairDuals<i64>,
+        incumbent: &mut Incumbent,
+    ) -> Result<Vec<Partial>, AllocError>
+        requires size { self.now.size ≡ node.now.size }
+        requires ready { AreReady self.now node.now duals.now }
+        requires incumbent { IsIncumbent self.now incumbent.old }
+        ensures sizes { IfOk result (λ children. All (λ (x : Placement). self.now.size ≡ x.size) children.items) }
+        ensures incumbent { IsIncumbent self.now incumbent.new }
+        ensures no_worse { incumbent.new.cost ≤ℤ incumbent.old.cost }
+    {
+        let subtree = self.subtree(node, duals);
+        let children = search.split(&subtree, incumbent, &AtOnce)?;
+        let mut nodes = Vec::with_capacity(alloc, children.len())?;
+        for i in 0..children.len() {
+            nodes.push(node.place(children[i].facility, children[i].location)?)?;
+        }
+        Ok(nodes)
+    }
+
+    /// Searches the subtree below a node under pair duals of its own, but for children that a piece proves, and improves the
+    /// incumbent: the text of a tree over the node, or `None` if a stop was requested.
+    pub fn prove<S: Stop>(
+        &self,
+        alloc: Global,
+        search: &mut SubtreeSearch,
+        node: &Partial,
+        duals: &PairDuals<i64>,
+        pieces: &[Piece],
         incumbent: &mut Incumbent,
         stop: &S,
     ) -> Result<Option<TextRecord>, AllocError>
         requires size { self.now.size ≡ node.now.size }
+        requires ready { AreReady self.now node.now duals.now }
         requires incumbent { IsIncumbent self.now incumbent.old }
+        requires pieces { All (IsPiece self.now incumbent.old.cost) pieces.now }
         ensures lines { IfOk result (λ found. MatchOption found (S.says stop.now true) (AreLinesOf self.now node.now incumbent.new.cost)) }
         ensures incumbent { IsIncumbent self.now incumbent.new }
         ensures no_worse { incumbent.new.cost ≤ℤ incumbent.old.cost }
     {
-        let effort = Effort {
-            rounds,
-            ..Effort::root()
-        };
-        let duals = ascend_softly(alloc, &self.instance, node, None, &effort, self.scale)?;
-        let subtree = Subtree {
-            instance: &self.instance,
-            node,
-            duals: &duals,
-            step: self.step,
-            flows: &self.flows,
-            distances: &self.distances,
-        };
+        let subtree = self.subtree(node, duals);
         let mut tree = TextRecord::new(alloc);
-        if search.prove(&subtree, incumbent, stop, &mut tree)? {
+        if search.prove(&subtree, pieces, incumbent, stop, &mut tree)? {
             Ok(Some(tree))
         } else {
             Ok(None)
         }
+    }
+}
+
+/// Lets no trial begin.
+#[derive(Clone, Copy)]
+struct AtOnce;
+
+impl Stop for AtOnce {
+    ghost says = { λ _ b. b ≡ true };
+
+    fn is_requested(&self) -> bool {
+        true
     }
 }
 

@@ -1,12 +1,17 @@
 //! Finds proofs with pair duals and writes them: one search of the completions of a root both improves the permutation
-//! and writes the tree that excludes cheaper ones.
+//! and writes the tree that excludes cheaper ones. Several workers search, each below nodes of its own.
 #![tactic(auto)]
 
+mod crew;
 mod ground;
+mod joining;
+mod opening;
 mod proof;
 mod proving;
+mod watch;
 mod writing;
 
 pub use proof::PairProof;
-pub use proving::{Found, prove};
+pub use proving::{Found, Plan, prove};
+pub use watch::Watch;
 pub use writing::write;

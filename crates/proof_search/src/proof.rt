@@ -4,8 +4,8 @@ ghost use Rattle.std.specs.Prelude.{◌≡◌, IfOk};
 ghost use Rattle.std.specs.List.{concat};
 ghost use Rattle.qap_proof.specs.Claim.{IsRoot};
 ghost use Rattle.subtree_search.specs.Best.{IsIncumbent};
+ghost use Rattle.subtree_search.specs.Piece.{AreLinesOf};
 ghost use Rattle.proof_search.specs.Held.{IsHeld, Shows};
-ghost use Rattle.proof_search.specs.Found.{AreLinesOf};
 
 use qap_cost::{Instance, Partial, Perm};
 use std::alloc::AllocError;

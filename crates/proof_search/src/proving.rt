@@ -1,15 +1,26 @@
 //! The search for a proof.
 
-ghost use Rattle.std.specs.Prelude.{◌≡◌, IfOk, MatchOption, length};
+ghost use Rattle.std.specs.Prelude.{◌≡◌, ◌≤ℤ◌, true, All, IfOk, MatchOption, OnOk, length};
 ghost use Rattle.qap_proof.specs.Claim.{IsRoot};
+ghost use Rattle.subtree_search.specs.Best.{IsIncumbent};
+ghost use Rattle.subtree_search.specs.Piece.{AreLinesOf, IsPiece};
 ghost use Rattle.proof_search.specs.Found.{IsProofFor, IsUnproved};
+ghost use Rattle.proof_search.specs.Ground.{AreReady};
 
+use crate::crew::prove_jobs;
 use crate::ground::Ground;
+use crate::joining::{joined, prove_each};
+use crate::opening::open_each;
 use crate::proof::PairProof;
-use pair_duals::step_law;
+use crate::watch::Watch;
+use dual_ascent::Effort;
+use pair_duals::{PairDuals, step_law};
 use qap_cost::{Instance, Partial, Perm};
 use std::alloc::{AllocError, Global};
-use subtree_search::{Incumbent, Stop, SubtreeSearch};
+use std::sync::Wait;
+use std::thread::Threads;
+use std::time;
+use subtree_search::{Incumbent, Piece, SubtreeSearch, TextRecord};
 
 /// What a search for a proof yields.
 #[derive(Drop)]
@@ -20,37 +31,60 @@ pub struct Found {
     pub nodes: u64,
 }
 
+/// How a proof is searched for: the scale of pair duals, how many hard rounds follow the soft sweeps that find those of
+/// the root, and how many workers search.
+#[derive(Clone, Copy, Debug, PartialEq, Eq)]
+pub struct Plan {
+    pub scale: u32,
+    pub rounds: u32,
+    pub workers: u16,
+}
+
+/// With fewer free facilities than this, one search proves the whole.
+const LEAST_FREE: usize = 14;
+
 /// Searches the completions of a root, whose facilities ascend, and proves that none of them costs less than the
-/// incumbent at the end, which is the start if nothing cheaper was found. The root has pair duals of this scale, which
-/// soft sweeps and then this many rounds find, and so has each node below it whose trial under those of an ancestor
-/// ends at its limit.
+/// incumbent at the end, which is the start if nothing cheaper was found. The root has its own pair duals, and so have its
+/// children and theirs, each of which one of the workers proves, and each node below these whose trial under those of an
+/// ancestor ends at its limit.
 ///
-/// There is no proof if the instance is out of range for the scale (`dual_ascent::has_range`), or if a stop was
-/// requested. The only error is out of memory.
-pub fn prove<S: Stop>(
+/// The calling thread watches the workers; only that thread consults the watch. There is no proof if the instance is out of
+/// range for the scale (`dual_ascent::has_range`), or if a stop was requested. The only error is out of memory.
+pub fn prove<R, S>(
+    rt: &R,
     alloc: Global,
     instance: &Instance,
     root: &Partial,
     start: Perm,
-    scale: u32,
-    rounds: u32,
-    stop: &S,
+    plan: Plan,
+    watch: &S,
 ) -> Result<Found, AllocError>
+where
+    R: Threads + Wait + time::Clock + Sync,
+    S: Watch,
     requires root { IsRoot instance.now.size root.now }
     requires start { length start ≡ instance.now.size }
-    ensures { IfOk result (λ f. MatchOption f.proof (IsUnproved instance.now scale (S.says stop.now)) (IsProofFor instance.now root.now start)) }
+    ensures { IfOk result (λ f. MatchOption f.proof (IsUnproved instance.now plan.scale (S.says watch.now)) (IsProofFor instance.now root.now start)) }
 {
-    let Some(ground) = Ground::new(alloc, instance, scale)? else {
+    let Some(ground) = Ground::new(alloc, instance, plan.scale)? else {
         return Ok(Found {
             proof: None,
             nodes: 0,
         });
     };
     step_law();
-    let mut search = SubtreeSearch::new(alloc);
     let mut incumbent = Incumbent::new(instance, start);
-    let found = ground.solve(alloc, &mut search, root, rounds, &mut incumbent, stop)?;
-    let nodes = search.nodes();
+    let mut nodes = 0;
+    let found = tree_over(
+        rt,
+        alloc,
+        &ground,
+        root,
+        plan,
+        &mut incumbent,
+        &mut nodes,
+        watch,
+    )?;
     let Some(tree) = found else {
         return Ok(Found { proof: None, nodes });
     };
@@ -60,4 +94,83 @@ pub fn prove<S: Stop>(
         proof: Some(proof),
         nodes,
     })
+}
+
+/// The text of a tree over a root, or `None` if a stop was requested. Improves the incumbent, and adds the nodes.
+fn tree_over<R, S>(
+    rt: &R,
+    alloc: Global,
+    ground: &Ground,
+    root: &Partial,
+    plan: Plan,
+    incumbent: &mut Incumbent,
+    nodes: &mut u64,
+    watch: &S,
+) -> Result<Option<TextRecord>, AllocError>
+where
+    R: Threads + Wait + time::Clock + Sync,
+    S: Watch,
+    requires size { ground.now.size ≡ root.now.size }
+    requires incumbent { IsIncumbent ground.now incumbent.old }
+    ensures lines { IfOk result (λ found. MatchOption found (S.says watch.now true) (AreLinesOf ground.now root.now incumbent.new.cost)) }
+    ensures incumbent { OnOk result (IsIncumbent ground.now incumbent.new) }
+    ensures no_worse { OnOk result (incumbent.new.cost ≤ℤ incumbent.old.cost) }
+{
+    let effort = Effort {
+        rounds: plan.rounds,
+        ..Effort::root()
+    };
+    let duals = ground.duals(alloc, root, None, &effort)?;
+    let mut search = SubtreeSearch::new(alloc);
+    let pieces = pieces_below(
+        rt,
+        alloc,
+        ground,
+        root,
+        &duals,
+        plan.workers,
+        &mut search,
+        incumbent,
+        nodes,
+        watch,
+    )?;
+    let found = ground.prove(alloc, &mut search, root, &duals, &pieces, incumbent, watch)?;
+    *nodes = nodes.saturating_add(search.nodes());
+    Ok(found)
+}
+
+/// Proofs of children of a root, which workers found; none where few facilities are free.
+fn pieces_below<R, S>(
+    rt: &R,
+    alloc: Global,
+    ground: &Ground,
+    root: &Partial,
+    duals: &PairDuals<i64>,
+    workers: u16,
+    search: &mut SubtreeSearch,
+    incumbent: &mut Incumbent,
+    nodes: &mut u64,
+    watch: &S,
+) -> Result<Vec<Piece>, AllocError>
+where
+    R: Threads + Wait + time::Clock + Sync,
+    S: Watch,
+    requires size { ground.now.size ≡ root.now.size }
+    requires ready { AreReady ground.now root.now duals.now }
+    requires incumbent { IsIncumbent ground.now incumbent.old }
+    ensures pieces { IfOk result (λ pieces. All (IsPiece ground.now incumbent.new.cost) pieces.items) }
+    ensures incumbent { OnOk result (IsIncumbent ground.now incumbent.new) }
+    ensures no_worse { OnOk result (incumbent.new.cost ≤ℤ incumbent.old.cost) }
+{
+    if duals.free() < LEAST_FREE {
+        return Ok(Vec::new(alloc));
+    }
+    let children = ground.open(alloc, search, root, duals, incumbent)?;
+    let (opened, jobs) = open_each(alloc, ground, &children, duals, search, incumbent, watch)?;
+    let found = prove_jobs(rt, alloc, ground, &opened, &jobs, workers, incumbent, watch)?;
+    let parts = joined(alloc, found, incumbent, nodes)?;
+    let pieces = prove_each(
+        alloc, ground, &opened, &parts, search, incumbent, nodes, watch,
+    )?;
+    Ok(pieces)
 }

@@ -27,6 +27,8 @@ use qap_text::{MAX_INPUT, read_all};
 use std::alloc::{AllocError, Global};
 use std::fs;
 use std::process::ExitCode;
+use std::sync::Wait;
+use std::thread::Threads;
 use std::time::Clock;
 
 /// To solve a part.
@@ -111,10 +113,10 @@ pub fn part_request<'a>(found: &ArgMatches<'a>) -> Option<PartRequest<'a>>
     })
 }
 
-/// Solves a part, and writes its proof; an existing valid one is kept. `system` provides the time.
+/// Solves a part, and writes its proof; an existing valid one is kept. `system` provides threads and the time.
 pub fn run_part<T>(system: &T, rt: &HostRuntime, request: &PartRequest<'_>) -> ExitCode
 where
-    T: Clock,
+    T: Threads + Wait + Clock + Sync,
     requires { AreLimited request.now.options }
 {
     let Searched {
@@ -165,7 +167,7 @@ fn run_on<T>(
     start: &Perm,
 ) -> ExitCode
 where
-    T: Clock,
+    T: Threads + Wait + Clock + Sync,
     requires limited { AreLimited request.now.options }
     requires root { IsRoot instance.now.size node.now }
     requires start { Permutes instance.now start.now }
@@ -195,7 +197,8 @@ where
         request.stop_file,
     );
     let within = WithinMemory::new(&teller, request.options.allowed_bytes());
-    let found = prove_below(alloc, instance, node, start, request.options.nodes, &within);
+    let options = &request.options;
+    let found = prove_below(system, alloc, instance, node, start, options, &within);
     teller.finish();
     match found {
         Ok(part) => finish(rt, request, outputs, &part),

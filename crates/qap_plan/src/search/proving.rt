@@ -1,4 +1,4 @@
-//! Searches below a root for a proof, by one thread.
+//! Searches below a root for a proof.
 
 ghost use Rattle.std.specs.Prelude.{IfOk, IfSome, None, Some, ◌≡◌};
 ghost use Rattle.qap_cost.specs.Objective.{Permutes};
@@ -8,67 +8,82 @@ ghost use Rattle.qap_plan.specs.Planning.{ProvesOver, ShowsOver};
 
 use crate::search::keeper::{Keeper, Progress};
 use crate::search::memory_limit::WithinMemory;
+use crate::search::options::Options;
 use crate::search::planning::Planned;
 use crate::search::subtrees::{ROUNDS, has_few_free, scale_for};
-use proof_search::{Found, PairProof, prove};
+use proof_search::{Found, PairProof, Plan, Watch, prove};
 use qap_cost::{Instance, Partial, Perm, cost};
 use qap_proof::proof_law;
 use std::alloc::{AllocError, Global};
 use std::cell::Cell;
+use std::sync::Wait;
+use std::thread::Threads;
+use std::time;
 use subtree_search::Stop;
 
-/// How many nodes a search under pair duals evaluates between two questions whether to stop, about: it asks every 1,000 nodes, and
-/// after each trial.
-const NODES_PER_LOOK: u64 = 500;
-
-/// After this many questions the progress is reported once.
+/// After this many looks at a search the progress is reported once.
 const LOOKS: u64 = 16;
 
 /// Searches the completions of a root from a permutation on, and proves a bound on them: with pair duals where they are in
 /// range, few facilities are free, no number of nodes is the limit, and no stop is requested before the end; otherwise by
 /// bounds of Gilmore and Lawler.
-pub(crate) fn prove_below<K: Keeper>(
+pub(crate) fn prove_below<T, K>(
+    system: &T,
     alloc: Global,
     instance: &Instance,
     root: &Partial,
     start: &Perm,
-    limit: Option<u64>,
+    options: &Options,
     within: &WithinMemory<'_, K>,
 ) -> Result<Planned, AllocError>
+where
+    T: Threads + Wait + time::Clock + Sync,
+    K: Keeper,
     requires root { IsRoot instance.now.size root.now }
     requires start { Permutes instance.now start.now }
     ensures searched { IfOk result (λ x. IsSearched instance.now root.now start.now x.permutation x.cost x.bound) }
     ensures proof { IfOk result (λ x. IfSome x.proof (ProvesOver instance.now root.now x.permutation x.cost x.bound)) }
     ensures pair_proof { IfOk result (λ x. IfSome x.pair_proof (ShowsOver instance.now root.now x.permutation x.cost x.bound)) }
 {
-    if has_few_free(root) && limit.is_none() {
-        if let Some(found) = prove_with_pairs(alloc, instance, root, start, within)? {
+    if has_few_free(root) && options.nodes.is_none() {
+        let workers = options.workers;
+        let found = prove_with_pairs(system, alloc, instance, root, start, workers, within)?;
+        if let Some(found) = found {
             return Ok(found);
         }
     }
-    let found = prove_by_rows(alloc, instance, root, start, limit, within)?;
+    let found = prove_by_rows(alloc, instance, root, start, options.nodes, within)?;
     Ok(found)
 }
 
-/// Proves with pair duals that no completion of the root costs less than a permutation. `None` if a number is out of range,
-/// or a stop is requested.
-fn prove_with_pairs<K: Keeper>(
+/// Proves with pair duals, by this many workers, that no completion of the root costs less than a permutation. `None` if a
+/// number is out of range, or a stop is requested.
+fn prove_with_pairs<T, K>(
+    system: &T,
     alloc: Global,
     instance: &Instance,
     root: &Partial,
     start: &Perm,
+    workers: u16,
     within: &WithinMemory<'_, K>,
 ) -> Result<Option<Planned>, AllocError>
+where
+    T: Threads + Wait + time::Clock + Sync,
+    K: Keeper,
     requires root { IsRoot instance.now.size root.now }
     requires start { Permutes instance.now start.now }
     ensures searched { IfOk result (λ found. IfSome found (λ x. IsSearched instance.now root.now start.now x.permutation x.cost x.bound)) }
     ensures proof { IfOk result (λ found. IfSome found (λ x. x.proof ≡ None)) }
     ensures pair_proof { IfOk result (λ found. IfSome found (λ x. IfSome x.pair_proof (ShowsOver instance.now root.now x.permutation x.cost x.bound))) }
 {
-    let scale = scale_for(cost(instance, start));
-    let watcher = Watcher::new(within, NODES_PER_LOOK);
+    let plan = Plan {
+        scale: scale_for(cost(instance, start)),
+        rounds: ROUNDS,
+        workers,
+    };
+    let watcher = Watcher::new(within);
     let first = start.copy()?;
-    let Found { proof, nodes } = prove(alloc, instance, root, first, scale, ROUNDS, &watcher)?;
+    let Found { proof, nodes } = prove(system, alloc, instance, root, first, plan, &watcher)?;
     match proof {
         Some(proof) => Ok(Some(shown_by(proof, nodes)?)),
         None => Ok(None),
@@ -112,8 +127,12 @@ fn prove_by_rows<K: Keeper>(
     proof_law();
     // Its clause says that this is an instance.
     let _size = instance.size();
-    let watcher = Watcher::new(within, 1);
-    let found = tree_search::prove(alloc, instance, root, start, limit, &watcher)?;
+    let watcher = Watcher::new(within);
+    let counter = Counter {
+        watcher: &watcher,
+        nodes: Cell::new(0),
+    };
+    let found = tree_search::prove(alloc, instance, root, start, limit, &counter)?;
     let planned = proved_by(found)?;
     Ok(planned)
 }
@@ -142,17 +161,14 @@ fn proved_by(found: tree_search::Found) -> Result<Planned, AllocError>
 #[derive(Drop)]
 struct Watcher<'a, 'k, K: Keeper> {
     within: &'a WithinMemory<'k, K>,
-    /// How many nodes the search evaluates between two questions whether to stop.
-    nodes_per_look: u64,
-    /// How often it was asked.
+    /// How often it has looked at the search.
     looks: Cell<u64>,
 }
 
 impl<'a, 'k, K: Keeper> Watcher<'a, 'k, K> {
-    fn new(within: &'a WithinMemory<'k, K>, nodes_per_look: u64) -> Watcher<'a, 'k, K> {
+    fn new(within: &'a WithinMemory<'k, K>) -> Watcher<'a, 'k, K> {
         Watcher {
             within,
-            nodes_per_look,
             looks: Cell::new(0),
         }
     }
@@ -162,14 +178,37 @@ impl<K: Keeper> Stop for Watcher<'_, '_, K> {
     ghost says = { λ _ _. Unit {0} };
 
     fn is_requested(&self) -> bool {
+        self.within.is_wanted()
+    }
+}
+
+impl<K: Keeper> Watch for Watcher<'_, '_, K> {
+    fn see(&self, nodes: u64) {
         let looks = self.looks.get().wrapping_add(1);
         self.looks.set(looks);
         if looks % LOOKS == 0 && self.within.is_watching() {
             self.within.see(&Progress {
                 cost: None,
-                decided: looks.saturating_mul(self.nodes_per_look),
+                decided: nodes,
             });
         }
-        self.within.is_wanted()
+    }
+}
+
+/// Counts the nodes of a search that asks once for each whether to stop.
+#[derive(Drop)]
+struct Counter<'a, 'b, 'k, K: Keeper> {
+    watcher: &'a Watcher<'b, 'k, K>,
+    nodes: Cell<u64>,
+}
+
+impl<K: Keeper> Stop for Counter<'_, '_, '_, K> {
+    ghost says = { λ _ _. Unit {0} };
+
+    fn is_requested(&self) -> bool {
+        let nodes = self.nodes.get().wrapping_add(1);
+        self.nodes.set(nodes);
+        self.watcher.see(nodes);
+        self.watcher.is_requested()
     }
 }

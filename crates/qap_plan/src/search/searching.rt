@@ -139,7 +139,7 @@ where
     ensures pair_proof { IfOk result (λ x. IfSome x.pair_proof (ShowsOver instance.now root.now x.permutation x.cost x.bound)) }
 {
     if options.proves {
-        return prove_below(alloc, instance, root, start, options.nodes, within);
+        return prove_below(system, alloc, instance, root, start, options, within);
     }
     let found = search_subtrees(system, alloc, instance, root, start, options, within)?;
     Ok(found)
