@@ -1,8 +1,6 @@
 -- A node of the search.
-pub mod Children
 pub mod Completions
 pub mod Deciding
-pub mod Images
 pub mod LeastDuals
 pub mod NodeLists
 pub mod Scatter

@@ -2,6 +2,5 @@
 pub mod BehindAnswers
 pub mod Fronts
 pub mod Identities
-pub mod OpenBounds
 pub mod Outcomes
 pub mod ScheduledRuns

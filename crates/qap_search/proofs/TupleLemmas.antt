@@ -1,6 +1,5 @@
 -- The tuples of a search.
 pub mod Fields
 pub mod Found
-pub mod Pruned
 pub mod TupleReadings
 pub mod Written

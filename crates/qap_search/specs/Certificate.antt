@@ -5,6 +5,6 @@ pub mod Finished
 pub mod InOrder
 pub mod LeafBounds
 pub mod OpenNodes
+pub mod Pieces
 pub mod Stopped
-pub mod Told
 pub mod TreeBuilding

@@ -1,6 +1,5 @@
 -- A node of the search.
 pub mod Completion
 pub mod Decision
-pub mod Images
 pub mod NodeList
 pub mod Thought

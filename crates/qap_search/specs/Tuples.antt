@@ -2,4 +2,3 @@
 pub mod DecidedTuples
 pub mod Found
 pub mod Piece
-pub mod Pieces

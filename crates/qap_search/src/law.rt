@@ -1,6 +1,6 @@
 //! Why the tuples of a search remain a cut tree, and why those of a finished or a stopped one yield a certificate.
 
-ghost use Rattle.std.specs.Prelude.{◌≡◌, ◌≤ℤ◌, ◌+◌, ◌++◌, ◌∷◌, [], ℕ, Bool, ℤ, List, Contains, true};
+ghost use Rattle.std.specs.Prelude.{◌≡◌, ◌≤ℤ◌, ◌+◌, ◌++◌, ◌∷◌, [], ℕ, ℤ, List, Contains, true};
 ghost use Rattle.qap_cost.specs.Instance.{Problem, IsInstance};
 ghost use Rattle.qap_cost.specs.Placement.{IsPlacement, Placement, root_of};
 ghost use Rattle.qap_cert.specs.Acceptance.{IsRefused, ShowsVerdict};
@@ -12,7 +12,6 @@ ghost use Rattle.qap_cert.specs.declared.acceptance.Verdict.{Verdict};
 ghost use Rattle.qap_cert.specs.declared.acceptance.Verdict.TheVariants.{Optimal};
 ghost use Rattle.qap_cert.specs.declared.error.CertError.{CertError};
 ghost use Rattle.qap_cert.specs.declared.version.Version.TheVariants.{Second};
-ghost use Rattle.qap_proof.specs.Tree.{whole};
 ghost use Rattle.space_txn.specs.Content.{SameItems};
 ghost use Rattle.tuple_match.specs.FieldValue.{FieldValue};
 ghost use Rattle.qap_search.specs.Certificate.OpenNodes.{undecided_count};
@@ -23,7 +22,7 @@ ghost use Rattle.qap_search.specs.Tuples.Found.{IsBestFound, IsOpenNode, is_best
 ghost use Rattle.qap_search.specs.Tuples.Piece.{node_tuple, is_open, open_count};
 ghost use Rattle.qap_search.specs.Law.Replacement.{Best, IsAsGood, MayReplace, tuple_of};
 ghost use Rattle.qap_search.specs.Law.Search.{Search, IsSearch, NoneBelow, from_root};
-ghost use Rattle.qap_search.specs.Law.SearchTree.{IsTree, plain, decided_count};
+ghost use Rattle.qap_search.specs.Law.SearchTree.{IsTree, decided_count};
 ghost use Rattle.qap_search.specs.Certificate.Stopped.{IsNotStopped, IsStopped};
 
 /// The open root and the known permutation are a cut tree, before any commit.
@@ -40,7 +39,7 @@ pub fn order_law()
 /// A cut tree in which an open node is replaced by a decided one is a cut tree, of one more commit.
 pub fn replacement_law()
     ensures { (S : Search) (gone kept added rest content : List (List FieldValue)) (commits : ℕ) →
-        MayReplace S.cutting S.instance gone kept added → SameItems content (gone ++ (kept ++ rest)) → IsCutTree S content commits →
+        MayReplace S.instance gone kept added → SameItems content (gone ++ (kept ++ rest)) → IsCutTree S content commits →
         IsCutTree S (added ++ (kept ++ rest)) (commits + 1) }
 {}
 
@@ -56,14 +55,14 @@ pub fn found_law()
 /// A decided node may take the place of an open one: beside the best permutation that was read, or with one that is as good in
 /// the place of the one that was taken.
 pub fn replacing_law()
-    ensures read { (cutting : Bool) (I : Problem) (x : Placement) (b : Best) (gone kept added tuples : List (List FieldValue)) →
-        IsPlacement x → x.size ≡ I.size → Decides cutting I b.cost x tuples →
+    ensures read { (I : Problem) (x : Placement) (b : Best) (gone kept added tuples : List (List FieldValue)) →
+        IsPlacement x → x.size ≡ I.size → Decides I b.cost x tuples →
         SameItems gone (node_tuple x ∷ []) → SameItems kept (tuple_of b ∷ []) → SameItems added tuples →
-        MayReplace cutting I gone kept added }
-    ensures taken { (cutting : Bool) (I : Problem) (x : Placement) (old new : Best) (gone kept added tuples : List (List FieldValue)) →
-        IsPlacement x → x.size ≡ I.size → Decides cutting I new.cost x tuples → IsAsGood I old new →
+        MayReplace I gone kept added }
+    ensures taken { (I : Problem) (x : Placement) (old new : Best) (gone kept added tuples : List (List FieldValue)) →
+        IsPlacement x → x.size ≡ I.size → Decides I new.cost x tuples → IsAsGood I old new →
         SameItems gone (node_tuple x ∷ tuple_of old ∷ []) → SameItems kept [] → SameItems added (tuple_of new ∷ tuples) →
-        MayReplace cutting I gone kept added }
+        MayReplace I gone kept added }
 {}
 
 /// A cut tree of all permutations without open nodes is that of a certificate; and a certificate whose tuples are such
@@ -99,7 +98,7 @@ pub fn stopped_law()
     ensures no_dearer { (I : Problem) (known : Best) (content : List (List FieldValue)) (commits : ℕ) (C : Claim) →
         IsCutTree (from_root I known) content commits → IsStopped I content C → C.cost ≤ℤ known.cost }
     ensures closed_before { (I : Problem) (known : Best) (content : List (List FieldValue)) (commits : ℕ) (C : Claim) →
-        IsCutTree (from_root I known) content commits → (s : IsStopped I content C) → IsTree (plain (ClosesPart I C.cost)) (whole (root_of I.size)) s.tree }
+        IsCutTree (from_root I known) content commits → (s : IsStopped I content C) → IsTree (ClosesPart I C.cost) (root_of I.size) s.tree }
     ensures counted { (I : Problem) (known : Best) (content : List (List FieldValue)) (commits : ℕ) (C : Claim) →
         IsCutTree (from_root I known) content commits → (s : IsStopped I content C) →
         (decided_count s.tree ≡ commits) × (undecided_count s.tree ≡ open_count content)

@@ -15,16 +15,15 @@ pub use law::{
     accepted_law, certificate_law, found_law, opening_law, order_law, replacement_law,
     replacing_law, stopped_law,
 };
-pub use node::branching::{Branch, Branching};
 pub use node::decision::{decide, decide_anew, decide_beside};
 pub use node::node_list::read_node;
 pub use node::thought::Thought;
 pub use runs::alone::solve_alone;
 pub use runs::answer::{Answer, Least, SolveError};
 pub use runs::clock::Clock;
+pub use runs::crew::Crew;
 pub use runs::opening::{identity, opening_space};
 pub use runs::pace::Pace;
-pub use runs::plan::Crew;
 pub use runs::run::Run;
 pub use runs::schedule::{Step, play};
 pub use runs::threads::{solve, solve_least};

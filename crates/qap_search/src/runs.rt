@@ -3,9 +3,9 @@
 pub(crate) mod alone;
 pub(crate) mod answer;
 pub(crate) mod clock;
+pub(crate) mod crew;
 pub(crate) mod opening;
 pub(crate) mod pace;
-pub(crate) mod plan;
 pub(crate) mod run;
 pub(crate) mod run_ending;
 pub(crate) mod schedule;

@@ -2,5 +2,4 @@
 
 pub(crate) mod composing;
 pub(crate) mod parsing;
-pub(crate) mod pieces;
 pub(crate) mod templates;

@@ -3,7 +3,6 @@
 pub(crate) mod best_steps;
 pub(crate) mod forever_writes;
 pub(crate) mod gate;
-pub(crate) mod ground;
 pub(crate) mod hand;
 pub(crate) mod job;
 pub(crate) mod prepared;

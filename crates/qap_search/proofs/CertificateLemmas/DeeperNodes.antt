@@ -6,7 +6,6 @@ use Rattle.qap_search.specs.Certificate.TreeBuilding.{BeginsByTurns, EndsWith}
 use Rattle.number_list.specs.Turns.{by_turns}
 use Rattle.qap_search.specs.Tuples.Piece.{node_list}
 use Rattle.qap_search.proofs.CertificateLemmas.Keys.{node_list-placing}
-use Rattle.qap_search.proofs.NodeLemmas.NodeLists.{begins-by_turns, length-by_turns}
 
 -- facility and location alternately, and two numbers behind them
 abbrev then_two : List ℕ → List ℕ → ℕ → ℕ → List ℤ
@@ -94,36 +93,4 @@ pub no_child_begins : (x : Placement) (f k : ℕ) (list : List ℤ) → length x
 no_child_begins x f k list paired other = (
   (λ h. absurd (false≢true h)),
   (λ e. absurd (other (subst (BeginsByTurns x.facilities x.places) (sym (e ∙ node_list-placing x f k paired)) (begins-then_two x.facilities x.places f k paired)))),
-)
-
-by_turns-from : (fs ks : List ℕ) (list : List ℤ) → length ks ≡ length fs → length list ≡ 2 * length fs → BeginsByTurns fs ks list → list ≡ by_turns fs ks
-by_turns-from [] [] [] h long begins = refl
-by_turns-from [] [] (x ∷ list) h long begins = absurd (omega arith)
-by_turns-from [] (l ∷ ks) list h long begins = absurd (omega arith)
-by_turns-from (g ∷ fs) [] list h long begins = absurd (omega arith)
-by_turns-from (g ∷ fs) (l ∷ ks) [] h long begins = absurd (omega arith)
-by_turns-from (g ∷ fs) (l ∷ ks) (x ∷ []) h long begins = absurd (omega arith)
-by_turns-from (g ∷ fs) (l ∷ ks) (x ∷ y ∷ zs) h long begins =
-    let list = x ∷ y ∷ zs in
-    let first = begins zero (omega arith) in
-    let rest = by_turns-from fs ks zs (omega arith) (omega arith)
-    (λ t less.
-    let later = begins (suc t) (omega arith) in
-    let to_f : suc (suc (2 * t)) ≡ 2 * suc t = omega arith in
-    let to_k : suc (suc (2 * t + 1)) ≡ 2 * suc t + 1 = omega arith in
-    (ap (λ (j : ℕ). get_or list j (pos 0)) to_f ∙ later.0, ap (λ (j : ℕ). get_or list j (pos 0)) to_k ∙ later.1)) in
-    ap₂ (λ (a b : ℤ). a ∷ b ∷ zs) first.0 first.1 ∙ ap (λ (xs : List ℤ). pos g ∷ pos l ∷ xs) rest
-
--- a list as long as a node's is the node's if and only if it alternates the node's facilities and locations
-pub node_test : (x : Placement) (list : List ℤ) (b : Bool) → length x.places ≡ length x.facilities → length list ≡ 2 * length x.facilities → IsTrue b ↔ BeginsByTurns x.facilities x.places list → IsTrue b ↔ (list ≡ node_list x)
-node_test x list b paired long test = (
-  (λ h. by_turns-from x.facilities x.places list paired long (test.0 h)),
-  (λ e. test.1 (subst (BeginsByTurns x.facilities x.places) (sym e) (begins-by_turns x.facilities x.places paired))),
-)
-
--- a list that isn't as long as the node's is not the node's
-pub no_node_length : (x : Placement) (list : List ℤ) → length x.places ≡ length x.facilities → length list ≢ 2 * length x.facilities → IsTrue false ↔ (list ≡ node_list x)
-no_node_length x list paired other = (
-  (λ h. absurd (false≢true h)),
-  (λ e. absurd (other (ap length e ∙ length-by_turns x.facilities x.places paired))),
 )

@@ -8,23 +8,24 @@ use Rattle.std.specs.Ordering.{int_cmp, is_lt, ordering_reverse}
 use Rattle.std.proofs.lemmas.Bool.{false≢true}
 use Rattle.std.proofs.lemmas.List.{get_or-map, length-map}
 use Rattle.std.proofs.lemmas.List.Sorted.{IsPermutation-map, IsPermutation-reverse, IsPermutation-trans, ranks_by, sorted_far, sum_by-IsPermutation}
-use Rattle.number_list.specs.NumberList.{numbers_held}
 use Rattle.qap_cost.specs.Bijection.{IsPerm}
-use Rattle.qap_cost.specs.Placement.{Placement, IsPlacement}
-use Rattle.qap_proof.specs.Tree.{Node, whole}
+use Rattle.qap_cost.specs.Placement.{root_of}
+use Rattle.qap_cert.specs.Tree.{Node}
+use Rattle.number_list.specs.NumberList.{numbers_held}
 use Rattle.space_txn.specs.Content.{SameItems}
 use Rattle.tuple_match.specs.FieldValue.{FieldValue}
 use Rattle.qap_search.specs.Certificate.TreeBuilding.{AreTuplesOf, BeginWith, ahead}
 use Rattle.qap_search.specs.Tuples.DecidedTuples.{decided_tuple, decision_tuple}
 use Rattle.qap_search.specs.Certificate.InOrder.{AreInOrder, is_before}
 use Rattle.qap_search.specs.Tuples.Piece.{pieces}
-use Rattle.qap_search.specs.Tuples.Pieces.{decided_tuples}
-use Rattle.qap_search.specs.Law.SearchTree.{of_proof}
+use Rattle.qap_search.specs.Certificate.Pieces.{decided_tuples}
+use Rattle.qap_search.specs.Law.SearchTree.{searched}
 use Rattle.qap_search.specs.declared.tuples.parsing.DecidedNode.{DecidedNode}
 use Rattle.qap_search.specs.declared.tuples.parsing.Decision.{Decision}
-use Rattle.qap_search.specs.declared.tuples.parsing.Decision.TheVariants.{Split, Pruned, Closed, Mirrored}
+use Rattle.qap_search.specs.declared.tuples.parsing.Decision.TheVariants.{Split, Closed}
+use Rattle.qap_search.proofs.CertificateLemmas.Certificates.{root_placement}
 use Rattle.qap_search.proofs.CertificateLemmas.Keys.{Before, NotAfter, Rises, key, pieces_rise, same_list}
-use Rattle.qap_search.proofs.CertificateLemmas.OneTree.{one_tree, root_flag}
+use Rattle.qap_search.proofs.CertificateLemmas.OneTree.{one_tree}
 use Rattle.qap_search.proofs.TupleLemmas.TupleReadings.{found_in, is_it, is_it-found, map_pos-same}
 
 -- a number that doesn't fit 16 bits is no location
@@ -42,9 +43,7 @@ no_other-permutation numbers items is none p perm same = none (subst IsPerm (map
 
 key-decision : (xs : List ℤ) (d : Decision) → key (decision_tuple xs d) ≡ xs
 key-decision xs (Split f) = refl
-key-decision xs (Pruned s) = refl
-key-decision xs (Closed d) = refl
-key-decision xs (Mirrored j ms) = refl
+key-decision xs (Closed u v) = refl
 
 -- where a tuple stands among those of nodes
 found_at : (w : List FieldValue) (nodes : List DecidedNode) (d : DecidedNode) → 1 ≤ sum_by (is_it w) (decided_tuples nodes) → (j : ℕ) × (j < length nodes) × (decided_tuple (get_or nodes j d) ≡ w)
@@ -73,7 +72,7 @@ rises_by_index (x ∷ nodes) h = (
 rises : (nodes : List DecidedNode) → AreInOrder nodes → Rises NotAfter (decided_tuples nodes)
 rises nodes up =
     rises_by_index nodes (λ i j d less within.
-    sorted_far is_before (ranks_by (lists_total int_cmp_total) (λ (n : DecidedNode). (numbers_held n.node))) nodes up i j d (omega arith) within)
+    sorted_far is_before (ranks_by (lists_total int_cmp_total) (λ (n : DecidedNode). numbers_held n.node)) nodes up i j d (omega arith) within)
 
 -- moving nodes moves their tuples
 same_moved : (old new : List DecidedNode) → IsPermutation old new → SameItems (decided_tuples old) (ahead new)
@@ -82,34 +81,33 @@ same_moved old new moved = λ f.
     (IsPermutation-map decided_tuple old (reverse new) (IsPermutation-trans old new (reverse new) moved (IsPermutation-reverse new))))
 
 -- a tree whose tuples these are stands at the front of the nodes in order, and nothing is behind it
-pub in_front : (x : Placement) (old new : List DecidedNode) (t : Node) → IsPlacement x → IsPermutation old new → AreInOrder (reverse new) → AreTuplesOf x (decided_tuples old) t → BeginWith (whole x) (pos 0) t (ahead new) []
-in_front x old new t placed moved ordered a = record {
+pub in_front : (n : ℕ) (old new : List DecidedNode) (s : Node) → 0 < n → n ≤ 256 → IsPermutation old new → AreInOrder (reverse new) → AreTuplesOf n (decided_tuples old) s → BeginWith (root_of n) s (ahead new) []
+in_front n old new s positive small moved ordered a = record {
   tree = a.tree;
-  flagged = root_flag x t a.tree;
   is =
-      same_list (ahead new) (pieces x (of_proof t)) (rises (reverse new) ordered)
-      (pieces_rise t (whole x) placed a.tree)
+      same_list (ahead new) (pieces (root_of n) (searched s)) (rises (reverse new) ordered)
+      (pieces_rise s (root_of n) (root_placement n positive small) a.tree)
       (λ f. sym (same_moved old new moved f) ∙ a.taken_apart f)
-      ∙ sym (append-nil (pieces x (of_proof t)));
+      ∙ sym (append-nil (pieces (root_of n) (searched s)));
 }
 
 -- a tree behind which nothing is left has these tuples
-pub none_left : (x : Placement) (old new rest : List DecidedNode) (t : Node) → IsPermutation old new → BeginWith (whole x) (pos 0) t (ahead new) (ahead rest) → rest ≡ [] → AreTuplesOf x (decided_tuples old) t
-none_left x old new rest t moved b empty = record {
+pub none_left : (n : ℕ) (old new rest : List DecidedNode) (t : Node) → IsPermutation old new → BeginWith (root_of n) t (ahead new) (ahead rest) → rest ≡ [] → AreTuplesOf n (decided_tuples old) t
+none_left n old new rest t moved b empty = record {
   tree = b.tree;
   taken_apart = λ f.
       same_moved old new moved f
-      ∙ ap (sum_by f) (b.is ∙ ap (λ (nodes : List DecidedNode). pieces x (of_proof t) ++ ahead nodes) empty ∙ append-nil (pieces x (of_proof t)));
+      ∙ ap (sum_by f) (b.is ∙ ap (λ (nodes : List DecidedNode). pieces (root_of n) (searched t) ++ ahead nodes) empty ∙ append-nil (pieces (root_of n) (searched t)));
 }
 
 ahead-length : (nodes : List DecidedNode) → length (ahead nodes) ≡ length (reverse nodes)
 ahead-length nodes = length-map (reverse nodes) decided_tuple
 
 -- a tree behind which something is left leaves no other that has these tuples
-pub some_left : (x : Placement) (old new rest : List DecidedNode) (t : Node) → IsPlacement x → IsPermutation old new → AreInOrder (reverse new) → BeginWith (whole x) (pos 0) t (ahead new) (ahead rest) → 0 < length (reverse rest) → (s : Node) → AreTuplesOf x (decided_tuples old) s → ⊥
-some_left x old new rest t placed moved ordered b some s a =
-    let front = in_front x old new s placed moved ordered a in
-    let one = one_tree t s (whole x) (ahead rest) [] b.tree front.tree (b.flagged ∙ sym front.flagged) (sym b.is ∙ front.is) in
+pub some_left : (n : ℕ) (old new rest : List DecidedNode) (t : Node) → 0 < n → n ≤ 256 → IsPermutation old new → AreInOrder (reverse new) → BeginWith (root_of n) t (ahead new) (ahead rest) → 0 < length (reverse rest) → (s : Node) → AreTuplesOf n (decided_tuples old) s → ⊥
+some_left n old new rest t positive small moved ordered b some s a =
+    let front = in_front n old new s positive small moved ordered a in
+    let one = one_tree t s (root_of n) (ahead rest) [] b.tree front.tree (sym b.is ∙ front.is) in
     let none : length (ahead rest) ≡ 0 = ap length one.1 in
     let long = ahead-length rest in
     absurd (omega arith)
@@ -127,12 +125,14 @@ strictly_rises (x ∷ xs) h = (
 )
 
 -- tuples are those of one tree
-pub only_tree : (x : Placement) (tuples : List (List FieldValue)) (s t : Node) → IsPlacement x → AreTuplesOf x tuples s → AreTuplesOf x tuples t → s ≡ t
-only_tree x tuples s t placed a b =
-    let left = pieces x (of_proof s) in
-    let right = pieces x (of_proof t) in
-    let same = same_list left right (strictly_rises left (pieces_rise s (whole x) placed a.tree)) (pieces_rise t (whole x) placed b.tree) (λ f. sym (a.taken_apart f) ∙ b.taken_apart f) in
-    (one_tree s t (whole x) [] [] a.tree b.tree (root_flag x s a.tree ∙ sym (root_flag x t b.tree)) (ap (λ (l : List (List FieldValue)). l ++ []) same)).0
+pub only_tree : (n : ℕ) (tuples : List (List FieldValue)) (s t : Node) → 0 < n → n ≤ 256 → AreTuplesOf n tuples s → AreTuplesOf n tuples t → s ≡ t
+only_tree n tuples s t positive small a b =
+    let root = root_of n in
+    let placed = root_placement n positive small in
+    let left = pieces root (searched s) in
+    let right = pieces root (searched t) in
+    let same = same_list left right (strictly_rises left (pieces_rise s root placed a.tree)) (pieces_rise t root placed b.tree) (λ f. sym (a.taken_apart f) ∙ b.taken_apart f) in
+    (one_tree s t root [] [] a.tree b.tree (ap (λ (l : List (List FieldValue)). l ++ []) same)).0
 
 -- a list of length 0 is empty
 pub no_items : {X : Type 0} (xs : List X) → length xs ≡ 0 → xs ≡ []

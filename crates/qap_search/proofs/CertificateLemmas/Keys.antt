@@ -1,5 +1,5 @@
 -- The tuples of a tree stand in the order of their nodes' lists, and one list of tuples is in that order.
-use Rattle.std.proofs.Common.{◌≡◌, ℕ, ◌+◌, ◌≤◌, ◌<◌, ◌⊎◌, inl, inr, Bool, true, false, List, [], ◌∷◌, ◌++◌, length, ℤ, pos, ◌<ℤ◌, Option, Some, None, Ordering, Less, Equal, Greater, refl, sym, ap, ap₂, ◌∙◌, arith, append_assoc, append-nil}
+use Rattle.std.proofs.Common.{◌≡◌, ℕ, zero, suc, ◌≤◌, ◌<◌, ◌⊎◌, inl, inr, Bool, true, false, List, [], ◌∷◌, ◌++◌, length, get_or, ℤ, pos, ◌<ℤ◌, Ordering, Less, Equal, Greater, refl, sym, ap, ap₂, ◌∙◌, arith, append_assoc, append-nil}
 use Rattle.std.specs.Cmp.{int_ranks}
 use Rattle.std.specs.Cmp.Lexicographic.{slice_cmp}
 use Rattle.std.specs.List.{sum_by}
@@ -8,16 +8,15 @@ use Rattle.std.proofs.lemmas.Bool.{false≢true}
 use Rattle.std.proofs.lemmas.Int.{ints}
 use Rattle.std.proofs.lemmas.List.Sums.{sum_by-cons}
 use Rattle.qap_cost.proofs.Placements.{ListsFree-free_below}
-use Rattle.qap_cost.specs.Placement.{Placement, IsPlacement, placing}
-use Rattle.qap_proof.specs.Tree.{Pair, Split, Node, closed, split, cut, mirrored, Nodes, no_nodes, node, child_count, IsFreeOn, facility_on, location_on, child_of, Place, child, node_at}
-use Rattle.qap_proof.specs.declared.side.Side.{Side}
-use Rattle.qap_proof.specs.declared.side.Side.TheVariants.{Facility, Location}
+use Rattle.qap_cost.specs.Placement.{Placement, IsPlacement, free_locations, placing}
+use Rattle.qap_cert.specs.Tree.{Node, split, bound, Nodes, no_nodes, node}
 use Rattle.space_txn.specs.Content.{SameItems}
 use Rattle.tuple_match.specs.FieldValue.{FieldValue}
+use Rattle.qap_search.specs.Certificate.TreeBuilding.{AnyDuals}
 use Rattle.number_list.proofs.Turns.{by_turns-push}
-use Rattle.qap_search.specs.Tuples.Piece.{node_list, closed_tuple, mirrored_tuple, cut_numbers, split_cutting, split_said, pieces, pieces_of_all}
-use Rattle.qap_search.specs.Law.SearchTree.{IsTree, AreTrees, readable, of_proof, of_proofs, tree_count}
-use Rattle.qap_search.proofs.CertificateLemmas.Certificates.{child_placed, free_facility_count, free_location_count}
+use Rattle.qap_search.specs.Tuples.Piece.{node_list, split_tuple, closed_tuple, pieces, pieces_of_all}
+use Rattle.qap_search.specs.Law.SearchTree.{IsTree, AreTrees, searched, searched_all}
+use Rattle.qap_search.proofs.CertificateLemmas.Certificates.{children_placed}
 use Rattle.qap_search.proofs.TupleLemmas.TupleReadings.{found_in, is_it, is_it-found, is_it-itself, list_at}
 
 -- the node's list of a tuple
@@ -131,11 +130,6 @@ parted_before p r q f k l less =
     ∙ ap (λ (o : Ordering). ordering_then o (slice_cmp int_cmp (pos k ∷ r) (pos l ∷ q))) (int_same (pos f))
     ∙ ap (λ (o : Ordering). ordering_then o (slice_cmp int_cmp r q)) (int_less k l less))
 
--- and lists that part at a facility
-facility_before : (p r q : List ℤ) (f g : ℕ) → f < g → is_lt (slice_cmp int_cmp (p ++ (pos f ∷ r)) (p ++ (pos g ∷ q))) ≡ true
-facility_before p r q f g less =
-    ap is_lt (same_begin p (pos f ∷ r) (pos g ∷ q) ∙ ap (λ (o : Ordering). ordering_then o (slice_cmp int_cmp r q)) (int_less f g less))
-
 -- a child's list is its parent's, with facility and location behind it
 pub node_list-placing : (x : Placement) (f k : ℕ) → length x.places ≡ length x.facilities → node_list (placing x f k) ≡ node_list x ++ (pos f ∷ pos k ∷ [])
 node_list-placing x f k h = by_turns-push x.facilities x.places f k h
@@ -145,105 +139,70 @@ abbrev Begins : Placement → List ℤ → Type 0
 Begins y xs = (r : List ℤ) × (xs ≡ node_list y ++ r)
 
 -- the list is of one of the children from number c on, or below it
-abbrev BeginsBelow : Placement → Split → ℕ → List ℤ → Type 0
-BeginsBelow y s c xs =
-    (i : ℕ) × (c ≤ i) × (i + length y.facilities < y.size)
-    × ((r : List ℤ) × (xs ≡ node_list y ++ (pos (facility_on s.side y s.number i) ∷ pos (location_on s.side y s.number i) ∷ r)))
+abbrev BeginsBelow : Placement → ℕ → List ℕ → List ℤ → Type 0
+BeginsBelow y f ks xs = (i : ℕ) × (i < length ks) × ((r : List ℤ) × (xs ≡ node_list y ++ (pos f ∷ pos (get_or ks i 0) ∷ r)))
 
 child_begins : (y : Placement) (f k : ℕ) (xs : List ℤ) → length y.places ≡ length y.facilities → Begins (placing y f k) xs → (r : List ℤ) × (xs ≡ node_list y ++ (pos f ∷ pos k ∷ r))
 child_begins y f k xs paired b =
     (b.0, b.1 ∙ ap (λ (p : List ℤ). p ++ b.0) (node_list-placing y f k paired) ∙ append_assoc (node_list y) (pos f ∷ pos k ∷ []) b.0)
 
--- the lists of two children part where these do, in the order of the children
-children_part : (side : Side) (y : Placement) (n c i : ℕ) (p r q : List ℤ) → IsPlacement y → c < i → i + length y.facilities < y.size → is_lt (slice_cmp int_cmp (p ++ (pos (facility_on side y n c) ∷ pos (location_on side y n c) ∷ r)) (p ++ (pos (facility_on side y n i) ∷ pos (location_on side y n i) ∷ q))) ≡ true
-children_part Facility y n c i p r q placed less within =
-    let listed = free_location_count y placed in
-    parted_before p r q n (location_on Facility y n c) (location_on Facility y n i) ((ListsFree-free_below y.size y.places placed.places).ascending c i less (omega arith))
-children_part Location y n c i p r q placed less within =
-    let listed = free_facility_count y placed in
-    facility_before p (pos n ∷ r) (pos n ∷ q) (facility_on Location y n c) (facility_on Location y n i) ((ListsFree-free_below y.size y.facilities placed.facilities).ascending c i less (omega arith))
-
--- the tuple of a split names the node
-pub said_key : (y : Placement) (s : Split) (d : Option Pair) (cuts : List ℤ) → key (split_cutting y s d cuts) ≡ node_list y
-said_key y s None cuts = refl
-said_key y s (Some d) cuts = refl
-
--- the search trees of a row of proofs' trees are as many as these
-pub tree_count-of_proofs : (ts : Nodes) → tree_count (of_proofs ts) ≡ child_count ts
-tree_count-of_proofs no_nodes = refl
-tree_count-of_proofs (node t rest) = ap (λ (n : ℕ). 1 + n) (tree_count-of_proofs rest)
-
 mutual
   -- the tuples of a tree at a node have lists that begin with the node's
-  keyed : (t : Node) (p : Place) → IsPlacement (node_at p) → IsTree readable p (of_proof t) → (w : List FieldValue) → 1 ≤ sum_by (is_it w) (pieces (node_at p) (of_proof t)) → Begins (node_at p) (key w)
-  keyed (closed d) p placed h w found =
-      let y = node_at p in
-      ([], sym (ap key (is_it-found w (closed_tuple y d.u d.v) (omega arith))) ∙ sym (append-nil (node_list y)))
-  keyed cut p placed h w found = absurd (omega arith)
-  keyed (mirrored j m) p placed h w found =
-      let y = node_at p in
-      ([], sym (ap key (is_it-found w (mirrored_tuple y j m) (omega arith))) ∙ sym (append-nil (node_list y)))
-  keyed (split s children) p placed h w found =
-      let y = node_at p in
-      let first = split_said y s s.duals (of_proofs children) in
-      let later = pieces_of_all y s 0 (of_proofs children) in
-      elim (found_in (is_it w) (first ∷ []) later found) as
-      (λ (_ : (1 ≤ sum_by (is_it w) (first ∷ [])) ⊎ (1 ≤ sum_by (is_it w) later)). Begins y (key w)) [
-        | inl here ↦ ([], sym (ap key (is_it-found w first (omega arith))) ∙ said_key y s s.duals (cut_numbers (of_proofs children)) ∙ sym (append-nil (node_list y)))
+  keyed : (s : Node) (y : Placement) → IsPlacement y → IsTree AnyDuals y (searched s) → (w : List FieldValue) → 1 ≤ sum_by (is_it w) (pieces y (searched s)) → Begins y (key w)
+  keyed (bound u v) y placed h w found =
+      ([], sym (ap key (is_it-found w (closed_tuple y u v) (omega arith))) ∙ sym (append-nil (node_list y)))
+  keyed (split f children) y placed h w found =
+      elim (found_in (is_it w) (split_tuple y f ∷ []) (pieces_of_all y f (free_locations y) (searched_all children)) found) as
+      (λ (_ : (1 ≤ sum_by (is_it w) (split_tuple y f ∷ [])) ⊎ (1 ≤ sum_by (is_it w) (pieces_of_all y f (free_locations y) (searched_all children)))). Begins y (key w)) [
+        | inl here ↦ ([], sym (ap key (is_it-found w (split_tuple y f) (omega arith))) ∙ sym (append-nil (node_list y)))
         | inr there ↦
-            let count = h.3 in
-            let same = tree_count-of_proofs children in
-            let below = keyed_below children y s 0 placed h.1 (omega arith) h.4 w there in
-            (pos (facility_on s.side y s.number below.0) ∷ pos (location_on s.side y s.number below.0) ∷ below.3.0, below.3.1)
+            let below = keyed_below children y f (free_locations y) (children_placed y f placed h.1) placed h.2 w there in
+            (pos f ∷ pos (get_or (free_locations y) below.0 0) ∷ below.2.0, below.2.1)
       ]
 
-  keyed_below : (ts : Nodes) (y : Placement) (s : Split) (c : ℕ) → IsPlacement y → IsFreeOn s.side y s.number → c + child_count ts + length y.facilities ≡ y.size → AreTrees readable y s c (of_proofs ts) → (w : List FieldValue) → 1 ≤ sum_by (is_it w) (pieces_of_all y s c (of_proofs ts)) → BeginsBelow y s c (key w)
-  keyed_below no_nodes y s c placed free count h w found = absurd (omega arith)
-  keyed_below (node t rest) y s c placed free count h w found =
-      let first = pieces (child_of y s c) (of_proof t) in
-      let later = pieces_of_all y s (c + 1) (of_proofs rest) in
-      elim (found_in (is_it w) first later found) as
-      (λ (_ : (1 ≤ sum_by (is_it w) first) ⊎ (1 ≤ sum_by (is_it w) later)). BeginsBelow y s c (key w)) [
-        | inl here ↦ (
-          c,
-          omega arith,
-          omega arith,
-          child_begins y (facility_on s.side y s.number c) (location_on s.side y s.number c) (key w) placed.paired
-              (keyed t (child y s c) (child_placed y s c placed free (omega arith)) h.0 w here),
-        )
+  keyed_below : (ss : Nodes) (y : Placement) (f : ℕ) (ks : List ℕ) → ((j : ℕ) → j < length ks → IsPlacement (placing y f (get_or ks j 0))) → IsPlacement y → AreTrees AnyDuals y f ks (searched_all ss) → (w : List FieldValue) → 1 ≤ sum_by (is_it w) (pieces_of_all y f ks (searched_all ss)) → BeginsBelow y f ks (key w)
+  keyed_below no_nodes y f [] placed at h w found = absurd (omega arith)
+  keyed_below no_nodes y f (k ∷ ks) placed at h w found = absurd h
+  keyed_below (node s rest) y f [] placed at h w found = absurd h
+  keyed_below (node s rest) y f (k ∷ ks) placed at h w found =
+      elim (found_in (is_it w) (pieces (placing y f k) (searched s)) (pieces_of_all y f ks (searched_all rest)) found) as
+      (λ (_ : (1 ≤ sum_by (is_it w) (pieces (placing y f k) (searched s))) ⊎ (1 ≤ sum_by (is_it w) (pieces_of_all y f ks (searched_all rest)))). BeginsBelow y f (k ∷ ks) (key w)) [
+        | inl here ↦ (zero, omega arith, child_begins y f k (key w) at.paired (keyed s (placing y f k) (placed zero (omega arith)) h.0 w here))
         | inr there ↦
-            let below = keyed_below rest y s (c + 1) placed free (omega arith) h.1 w there in
-            let past = below.1 in
-            (below.0, omega arith, below.2, below.3)
+            let below = keyed_below rest y f ks (λ j less. placed (suc j) (omega arith)) at h.1 w there in
+            (suc below.0, let less = below.1 in omega arith, below.2)
       ]
+
+-- the locations rise
+abbrev Ascends : List ℕ → Type 0
+Ascends ks = (i j : ℕ) → i < j → j < length ks → get_or ks i 0 < get_or ks j 0
 
 mutual
   -- so they stand in order, no two of one list
-  pub pieces_rise : (t : Node) (p : Place) → IsPlacement (node_at p) → IsTree readable p (of_proof t) → Rises Before (pieces (node_at p) (of_proof t))
-  pieces_rise (closed d) p placed h = ((λ w found. absurd (omega arith)), tt)
-  pieces_rise cut p placed h = tt
-  pieces_rise (mirrored j m) p placed h = ((λ w found. absurd (omega arith)), tt)
-  pieces_rise (split s children) p placed h =
-      let y = node_at p in
-      let count = h.3 in
-      let same = tree_count-of_proofs children in (
+  pub pieces_rise : (s : Node) (y : Placement) → IsPlacement y → IsTree AnyDuals y (searched s) → Rises Before (pieces y (searched s))
+  pieces_rise (bound u v) y placed h = ((λ w found. absurd (omega arith)), tt)
+  pieces_rise (split f children) y placed h =
+      let ks = free_locations y in
+      let children_at = children_placed y f placed h.1 in (
         (λ w found.
-            let below = keyed_below children y s 0 placed h.1 (omega arith) h.4 w found in
-            ap₂ (λ (xs ys : List ℤ). is_lt (slice_cmp int_cmp xs ys)) (said_key y s s.duals (cut_numbers (of_proofs children))) below.3.1
-            ∙ begin_before (node_list y) (pos (location_on s.side y s.number below.0) ∷ below.3.0) (pos (facility_on s.side y s.number below.0))),
-        all_rise children y s 0 placed h.1 (omega arith) h.4,
+            let below = keyed_below children y f ks children_at placed h.2 w found in
+            ap (λ (xs : List ℤ). is_lt (slice_cmp int_cmp (node_list y) xs)) below.2.1
+            ∙ begin_before (node_list y) (pos (get_or ks below.0 0) ∷ below.2.0) (pos f)),
+        all_rise children y f ks children_at placed h.2 (ListsFree-free_below y.size y.places placed.places).ascending,
       )
 
-  all_rise : (ts : Nodes) (y : Placement) (s : Split) (c : ℕ) → IsPlacement y → IsFreeOn s.side y s.number → c + child_count ts + length y.facilities ≡ y.size → AreTrees readable y s c (of_proofs ts) → Rises Before (pieces_of_all y s c (of_proofs ts))
-  all_rise no_nodes y s c placed free count h = tt
-  all_rise (node t rest) y s c placed free count h =
-      let child_at = child_placed y s c placed free (omega arith) in
-      Rises-append Before (pieces (child_of y s c) (of_proof t)) (pieces_of_all y s (c + 1) (of_proofs rest))
-      (pieces_rise t (child y s c) child_at h.0)
-      (all_rise rest y s (c + 1) placed free (omega arith) h.1)
+  all_rise : (ss : Nodes) (y : Placement) (f : ℕ) (ks : List ℕ) → ((j : ℕ) → j < length ks → IsPlacement (placing y f (get_or ks j 0))) → IsPlacement y → AreTrees AnyDuals y f ks (searched_all ss) → Ascends ks → Rises Before (pieces_of_all y f ks (searched_all ss))
+  all_rise no_nodes y f [] placed at h up = tt
+  all_rise no_nodes y f (k ∷ ks) placed at h up = tt
+  all_rise (node s rest) y f [] placed at h up = tt
+  all_rise (node s rest) y f (k ∷ ks) placed at h up =
+      let rest_placed : (j : ℕ) → j < length ks → IsPlacement (placing y f (get_or ks j 0)) = λ j less. placed (suc j) (omega arith) in
+      Rises-append Before (pieces (placing y f k) (searched s)) (pieces_of_all y f ks (searched_all rest))
+      (pieces_rise s (placing y f k) (placed zero (omega arith)) h.0)
+      (all_rise rest y f ks rest_placed at h.1 (λ i j less within. up (suc i) (suc j) (omega arith) (omega arith)))
       (λ a b found_a found_b.
-      let first = child_begins y (facility_on s.side y s.number c) (location_on s.side y s.number c) (key a) placed.paired (keyed t (child y s c) child_at h.0 a found_a) in
-      let later = keyed_below rest y s (c + 1) placed free (omega arith) h.1 b found_b in
-      let past = later.1 in
-      ap₂ (λ (p q : List ℤ). is_lt (slice_cmp int_cmp p q)) first.1 later.3.1
-      ∙ children_part s.side y s.number c later.0 (node_list y) first.0 later.3.0 placed (omega arith) later.2)
+      let first = child_begins y f k (key a) at.paired (keyed s (placing y f k) (placed zero (omega arith)) h.0 a found_a) in
+      let later = keyed_below rest y f ks rest_placed at h.1 b found_b in
+      let within = later.1 in
+      ap₂ (λ (p q : List ℤ). is_lt (slice_cmp int_cmp p q)) first.1 later.2.1
+      ∙ parted_before (node_list y) first.0 later.2.0 f k (get_or ks later.0 0) (up zero (suc later.0) (omega arith) (omega arith)))

@@ -1,260 +1,149 @@
 -- A tree in which a node that is open gives way to a decided one.
-use Rattle.std.proofs.Common.{◌≡◌, ◌≢◌, ℕ, ◌+◌, ◌*◌, ◌≤◌, ◌<◌, ◌⊎◌, inl, inr, Bool, true, false, List, [], ◌∷◌, ◌++◌, length, ℤ, ◌≤ℤ◌, ◌+ℤ◌, Option, Some, None, refl, sym, ap, ap₂, subst, ◌∙◌, arith}
+use Rattle.std.proofs.Common.{◌≡◌, ℕ, ◌+◌, ◌*◌, ◌≤◌, ◌⊎◌, inl, inr, List, [], ◌∷◌, ◌++◌, ℤ, ◌≤ℤ◌, ◌+ℤ◌, refl, sym, ap, ap₂, subst, arith}
 use Rattle.std.specs.List.{sum_by}
 use Rattle.std.proofs.lemmas.Int.{ints}
 use Rattle.std.proofs.lemmas.List.Sums.{sum_by-append, sum_by-cons}
 use Rattle.qap_cost.specs.Instance.{Problem}
 use Rattle.qap_cost.specs.Matrix.{dual_value}
 use Rattle.qap_cost.specs.Objective.{Permutes, cost_of}
-use Rattle.qap_cost.specs.Placement.{Placement, fixed_cost_of}
+use Rattle.qap_cost.specs.Placement.{Placement, fixed_cost_of, free_locations, placing}
 use Rattle.qap_cert.specs.Valid.{ClosesPart}
-use Rattle.qap_proof.specs.Tree.{Pair, Split, IsFreeOn, facility_on, location_on, child_of, Place, whole, child, node_at}
-use Rattle.qap_proof.specs.Valid.{IsCut}
 use Rattle.space_txn.specs.Content.{SameItems}
 use Rattle.tuple_match.specs.FieldValue.{FieldValue}
 use Rattle.qap_search.specs.Law.CutTree.{IsCutTree}
-use Rattle.qap_search.specs.Tuples.Piece.{node_tuple, split_tuple, pruned_tuple, mirrored_tuple, closed_tuple, split_said, cut_number, cut_numbers, pieces, pieces_of_all}
+use Rattle.qap_search.specs.Tuples.Piece.{node_tuple, split_tuple, closed_tuple, pieces, pieces_of_all}
 use Rattle.qap_search.specs.Law.Replacement.{Best, tuple_of, IsAsGood, IsOneNode, ReadsBest, TakesBest, MayReplace}
 use Rattle.qap_search.specs.Law.Search.{Search, IsSearch}
-use Rattle.qap_search.specs.Law.SearchTree.{SearchTree, open_node, split_node, closed_node, cut_node, mirrored_node, SearchTrees, no_trees, tree, tree_count, Judge, IsTree, AreTrees, AreUndecided, plain, proving, judge_of, decided_count, decided_counts}
-use Rattle.qap_search.proofs.TupleLemmas.TupleReadings.{tag, IsNode, IsNode-placing, found_in, is_it, is_it-found, is_it-itself, is_it-other, list_at, map_pos-same, number_at, same_node}
-
--- what satisfies the first judge satisfies the second
-pub record AsksForLess (J K : Judge) : Type 0 where
-  pub closes : (x : Placement) (u v : List ℤ) → J.closes x u v → K.closes x u v
-  pub splits : (x : Placement) (s : Split) → J.splits x s → K.splits x s
-  pub cuts : (x : Placement) (s : Split) (c : ℕ) → J.cuts x s c → K.cuts x s c
-  pub mirrors : (x : Placement) (s : Split) (c j : ℕ) (m : List ℕ) → J.mirrors x s c j m → K.mirrors x s c j m
+use Rattle.qap_search.specs.Law.SearchTree.{SearchTree, open_node, split_node, closed_node, SearchTrees, no_trees, tree, IsTree, AreTrees, AreOpen, decided_count, decided_counts}
+use Rattle.qap_search.proofs.TupleLemmas.TupleReadings.{IsNode, IsNode-placing, found_in, is_it, is_it-found, is_it-itself, is_it-other, list_at, map_pos-same, number_at, same_node}
 
 mutual
   -- so trees that show all that the first asks for show all that the second does
-  pub trees_by : (J K : Judge) → AsksForLess J K → (t : SearchTree) (p : Place) → IsTree J p t → IsTree K p t
-  trees_by J K less open_node p h = tt
-  trees_by J K less (split_node s children) p h = (h.0, h.1, less.splits (node_at p) s h.2, h.3, all_trees_by J K less children (node_at p) s 0 h.4)
-  trees_by J K less (closed_node u v) p h = less.closes (node_at p) u v h
-  trees_by J K less cut_node (whole x) h = absurd h
-  trees_by J K less cut_node (child x s c) h = less.cuts x s c h
-  trees_by J K less (mirrored_node j m) (whole x) h = absurd h
-  trees_by J K less (mirrored_node j m) (child x s c) h = less.mirrors x s c j m h
+  pub trees_by : (P Q : Placement → List ℤ → List ℤ → Type 0) → ((x : Placement) (u v : List ℤ) → P x u v → Q x u v) → (t : SearchTree) (x : Placement) → IsTree P x t → IsTree Q x t
+  trees_by P Q weaker open_node x h = h
+  trees_by P Q weaker (split_node f children) x h = (h.0, h.1, all_trees_by P Q weaker children x f (free_locations x) h.2)
+  trees_by P Q weaker (closed_node u v) x h = weaker x u v h
 
   -- the same for the children of a split, from number c on
-  pub all_trees_by : (J K : Judge) → AsksForLess J K → (ts : SearchTrees) (x : Placement) (s : Split) (c : ℕ) → AreTrees J x s c ts → AreTrees K x s c ts
-  all_trees_by J K less no_trees x s c h = tt
-  all_trees_by J K less (tree t rest) x s c h = (trees_by J K less t (child x s c) h.0, all_trees_by J K less rest x s (c + 1) h.1)
+  pub all_trees_by : (P Q : Placement → List ℤ → List ℤ → Type 0) → ((x : Placement) (u v : List ℤ) → P x u v → Q x u v) → (ts : SearchTrees) (x : Placement) (f : ℕ) (ks : List ℕ) → AreTrees P x f ks ts → AreTrees Q x f ks ts
+  all_trees_by P Q weaker no_trees x f [] h = h
+  all_trees_by P Q weaker no_trees x f (k ∷ ks) h = absurd h
+  all_trees_by P Q weaker (tree t rest) x f [] h = absurd h
+  all_trees_by P Q weaker (tree t rest) x f (k ∷ ks) h = (trees_by P Q weaker t (placing x f k) h.0, all_trees_by P Q weaker rest x f ks h.1)
 
 -- what closes a node by some cost closes it by a smaller one
-pub closes_by_less : (I : Problem) (c d : ℤ) → d ≤ℤ c → (x : Placement) (u v : List ℤ) → ClosesPart I c x u v → ClosesPart I d x u v
+closes_by_less : (I : Problem) (c d : ℤ) → d ≤ℤ c → (x : Placement) (u v : List ℤ) → ClosesPart I c x u v → ClosesPart I d x u v
 closes_by_less I c d less x u v h =
     let enough : c ≤ℤ (fixed_cost_of I x +ℤ dual_value u v) = h.closes.enough in
     record { duals = h.duals; closes = record { fits = h.closes.fits; enough = omega (arith, ints) } }
 
--- and what cuts a child off by some cost cuts it off by a smaller one
-pub cut_by_less : (I : Problem) (c d : ℤ) → d ≤ℤ c → (x : Placement) (s : Split) (i : ℕ) → IsCut I c x s i → IsCut I d x s i
-cut_by_less I c d less x s i h =
-    let enough : c ≤ℤ h.value = h.enough in
-    record { duals = h.duals; has = h.has; value = h.value; reaches = h.reaches; enough = omega (arith, ints) }
-
--- plain trees ask for less where less closes a node
-pub plain_by : (P Q : Placement → List ℤ → List ℤ → Type 0) → ((x : Placement) (u v : List ℤ) → P x u v → Q x u v) → AsksForLess (plain P) (plain Q)
-plain_by P Q weaker = record { closes = weaker; splits = λ x s h. h; cuts = λ x s c h. h; mirrors = λ x s c j m h. h }
-
-proving_less : (I : Problem) (c d : ℤ) → d ≤ℤ c → AsksForLess (proving I c) (proving I d)
-proving_less I c d less = record { closes = closes_by_less I c d less; splits = λ x s h. h; cuts = cut_by_less I c d less; mirrors = λ x s c j m h. h }
-
--- whether children may be cut off or not, a tree that shows a cost shows a smaller one
-pub judge_less : (cutting : Bool) (I : Problem) (c d : ℤ) → d ≤ℤ c → AsksForLess (judge_of cutting I c) (judge_of cutting I d)
-judge_less true I c d less = proving_less I c d less
-judge_less false I c d less = plain_by (ClosesPart I c) (ClosesPart I d) (closes_by_less I c d less)
-
--- and is one that may cut children off
-pub judge_proves : (cutting : Bool) (I : Problem) (c : ℤ) → AsksForLess (judge_of cutting I c) (proving I c)
-judge_proves true I c = record { closes = λ x u v h. h; splits = λ x s h. h; cuts = λ x s c h. h; mirrors = λ x s c j m h. h }
-judge_proves false I c = record { closes = λ x u v h. h; splits = λ x s h. inl h; cuts = λ x s c h. absurd h; mirrors = λ x s c j m h. absurd h }
-
--- what a decided node shows depends on the node alone, and not on where it stands
-decided_at : (J : Judge) (x : Placement) (p : Place) (t : SearchTree) → IsOneNode t → x ≡ node_at p → IsTree J (whole x) t → IsTree J p t
-decided_at J x p open_node one e h = absurd one
-decided_at J x p (split_node s children) one e h =
-    subst (λ (y : Placement). (length y.facilities < y.size) × IsFreeOn s.side y s.number × J.splits y s × (tree_count children + length y.facilities ≡ y.size) × AreTrees J y s 0 children) e h
-decided_at J x p (closed_node u v) one e h = subst (λ (y : Placement). J.closes y u v) e h
-decided_at J x p cut_node one e h = absurd one
-decided_at J x p (mirrored_node j m) one e h = absurd one
-
-decided_not_cut : (t : SearchTree) → IsOneNode t → cut_number t ≡ cut_number open_node
-decided_not_cut open_node one = absurd one
-decided_not_cut (split_node s children) one = refl
-decided_not_cut (closed_node u v) one = refl
-decided_not_cut cut_node one = absurd one
-decided_not_cut (mirrored_node j m) one = absurd one
-
--- a child of a node is a node
-pub IsNode-child : (n : ℕ) (x : Placement) (s : Split) (c : ℕ) → IsNode n x → IsNode n (child_of x s c)
-IsNode-child n x s c h = IsNode-placing n x (facility_on s.side x s.number c) (location_on s.side x s.number c) h
-
--- the tuple of a split says which children are cut off, and no more of them
-said_same : (x : Placement) (s : Split) (d : Option Pair) (ts us : SearchTrees) → cut_numbers ts ≡ cut_numbers us → split_said x s d ts ≡ split_said x s d us
-said_same x s None ts us e = refl
-said_same x s (Some d) ts us e = ap (pruned_tuple x s d) e
-
--- what weighs the same at all tuples of splits, plain and with duals
-pub said_weighs : (w : List FieldValue → ℕ) (each : ℕ) → ((x : Placement) (f : ℕ) → w (split_tuple x f) ≡ each) → ((x : Placement) (s : Split) (d : Pair) (cuts : List ℤ) → w (pruned_tuple x s d cuts) ≡ each) → (x : Placement) (s : Split) (d : Option Pair) (ts : SearchTrees) → w (split_said x s d ts) ≡ each
-said_weighs w each at_split at_pruned x s None ts = at_split x s.number
-said_weighs w each at_split at_pruned x s (Some d) ts = at_pruned x s d (cut_numbers ts)
-
--- the first byte of the word split
-abbrev pub split_tag : ℕ
-split_tag = 115
-
--- the first byte of the word pruned
-abbrev pub pruned_tag : ℕ
-pruned_tag = 112
-
--- the tuple of a split is that of no node of another kind
-pub said_other : (wanted : List FieldValue) → split_tag ≢ tag wanted → pruned_tag ≢ tag wanted → (x : Placement) (s : Split) (d : Option Pair) (ts : SearchTrees) → is_it wanted (split_said x s d ts) ≡ 0
-said_other wanted no_split no_pruned x s d ts =
-    said_weighs (is_it wanted) 0 (λ x f. is_it-other wanted (split_tuple x f) no_split) (λ x s d cuts. is_it-other wanted (pruned_tuple x s d cuts) no_pruned) x s d ts
-
 -- t with one open node x in it replaced by another tree at x
-record IsReplaced (J : Judge) (x : Placement) (decided : SearchTree) (p : Place) (t new : SearchTree) : Type 0 where
-  valid : IsTree J p new
-  items : (f : List FieldValue → ℕ) → sum_by f (pieces (node_at p) new) + f (node_tuple x) ≡ sum_by f (pieces (node_at p) t) + sum_by f (pieces x decided)
+record IsReplaced (P : Placement → List ℤ → List ℤ → Type 0) (x : Placement) (decided : SearchTree) (y : Placement) (t new : SearchTree) : Type 0 where
+  valid : IsTree P y new
+  items : (f : List FieldValue → ℕ) → sum_by f (pieces y new) + f (node_tuple x) ≡ sum_by f (pieces y t) + sum_by f (pieces x decided)
   count : decided_count new ≡ decided_count t + decided_count decided
-  cut : cut_number new ≡ cut_number t
 
-record AreReplaced (J : Judge) (x : Placement) (decided : SearchTree) (y : Placement) (s : Split) (c : ℕ) (ts new : SearchTrees) : Type 0 where
-  valid : AreTrees J y s c new
-  items : (w : List FieldValue → ℕ) → sum_by w (pieces_of_all y s c new) + w (node_tuple x) ≡ sum_by w (pieces_of_all y s c ts) + sum_by w (pieces x decided)
+record AreReplaced (P : Placement → List ℤ → List ℤ → Type 0) (x : Placement) (decided : SearchTree) (y : Placement) (f : ℕ) (ks : List ℕ) (ts new : SearchTrees) : Type 0 where
+  valid : AreTrees P y f ks new
+  items : (w : List FieldValue → ℕ) → sum_by w (pieces_of_all y f ks new) + w (node_tuple x) ≡ sum_by w (pieces_of_all y f ks ts) + sum_by w (pieces x decided)
   count : decided_counts new ≡ decided_counts ts + decided_count decided
-  long : tree_count new ≡ tree_count ts
-  cuts : cut_numbers new ≡ cut_numbers ts
 
 -- the tuple of one node is that of another only where they are one
 same_open : (n : ℕ) (x y : Placement) → IsNode n x → IsNode n y → node_tuple y ≡ node_tuple x → x ≡ y
 same_open n x y hx hy e = same_node n x y hx hy (sym (ap (list_at 1) e))
 
+replaced_here : (P : Placement → List ℤ → List ℤ → Type 0) (n : ℕ) (x : Placement) (decided : SearchTree) (y : Placement) → IsTree P x decided → x ≡ y → (new : SearchTree) × IsReplaced P x decided y open_node new
+replaced_here P n x decided y h e =
+    let Q : Placement → Type 0 = λ z. IsReplaced P x decided z open_node decided in
+    (decided, subst Q e (record { valid = h; items = λ f. omega arith; count = omega arith }))
+
 mutual
-  replaced : (J : Judge) (n : ℕ) (x : Placement) (decided : SearchTree) → IsOneNode decided → IsNode n x → IsTree J (whole x) decided → (t : SearchTree) (p : Place) → IsNode n (node_at p) → IsTree J p t → 1 ≤ sum_by (is_it (node_tuple x)) (pieces (node_at p) t) → (new : SearchTree) × IsReplaced J x decided p t new
-  replaced J n x decided one hx valid open_node p hy h found =
-      let same : x ≡ node_at p = same_open n x (node_at p) hx hy (is_it-found (node_tuple x) (node_tuple (node_at p)) (omega arith)) in (
-        decided,
-        record {
-          valid = decided_at J x p decided one same valid;
-          items = λ f.
-              let moved = ap (λ (y : Placement). sum_by f (pieces y decided)) same in
-              let here = ap (λ (y : Placement). f (node_tuple y)) same in
-              omega arith;
-          count = omega arith;
-          cut = decided_not_cut decided one;
-        },
-      )
-  replaced J n x decided one hx valid (closed_node u v) p hy h found =
-      let none = is_it-other (node_tuple x) (closed_tuple (node_at p) u v) (λ (e : 99 ≡ 110). omega arith) in
+  replaced : (P : Placement → List ℤ → List ℤ → Type 0) (n : ℕ) (x : Placement) (decided : SearchTree) → IsNode n x → IsTree P x decided → (t : SearchTree) (y : Placement) → IsNode n y → IsTree P y t → 1 ≤ sum_by (is_it (node_tuple x)) (pieces y t) → (new : SearchTree) × IsReplaced P x decided y t new
+  replaced P n x decided hx valid open_node y hy h found =
+      replaced_here P n x decided y valid (same_open n x y hx hy (is_it-found (node_tuple x) (node_tuple y) (omega arith)))
+  replaced P n x decided hx valid (closed_node u v) y hy h found =
+      let none = is_it-other (node_tuple x) (closed_tuple y u v) (λ (e : 99 ≡ 110). omega arith) in
       absurd (omega arith)
-  replaced J n x decided one hx valid cut_node p hy h found = absurd (omega arith)
-  replaced J n x decided one hx valid (mirrored_node j m) p hy h found =
-      let none = is_it-other (node_tuple x) (mirrored_tuple (node_at p) j m) (λ (e : 109 ≡ 110). omega arith) in
-      absurd (omega arith)
-  replaced J n x decided one hx valid (split_node s children) p hy h found =
-      let y = node_at p in
-      let none = said_other (node_tuple x) (λ (e : 115 ≡ 110). omega arith) (λ (e : 112 ≡ 110). omega arith) y s s.duals children in
-      let parts = sum_by-cons (is_it (node_tuple x)) (split_said y s s.duals children) (pieces_of_all y s 0 children) in
-      let inner = all_replaced J n x decided one hx valid children y s 0 hy h.4 (omega arith) in (
-        split_node s inner.0,
+  replaced P n x decided hx valid (split_node f children) y hy h found =
+      let none = is_it-other (node_tuple x) (split_tuple y f) (λ (e : 115 ≡ 110). omega arith) in
+      let ks = free_locations y in
+      let parts = sum_by-cons (is_it (node_tuple x)) (split_tuple y f) (pieces_of_all y f ks children) in
+      let inner = all_replaced P n x decided hx valid children y f ks hy h.2 (omega arith) in (
+        split_node f inner.0,
         record {
-          valid = (h.0, h.1, h.2, let count = h.3 in let long = inner.1.long in omega arith, inner.1.valid);
+          valid = (h.0, h.1, inner.1.valid);
           items = λ w.
-              let old = sum_by-cons w (split_said y s s.duals children) (pieces_of_all y s 0 children) in
-              let new = sum_by-cons w (split_said y s s.duals inner.0) (pieces_of_all y s 0 inner.0) in
-              let same = ap w (said_same y s s.duals inner.0 children inner.1.cuts) in
+              let old = sum_by-cons w (split_tuple y f) (pieces_of_all y f ks children) in
+              let new = sum_by-cons w (split_tuple y f) (pieces_of_all y f ks inner.0) in
               let rest = inner.1.items w in
               omega arith;
           count = let rest = inner.1.count in omega arith;
-          cut = refl;
         },
       )
 
-  all_replaced : (J : Judge) (n : ℕ) (x : Placement) (decided : SearchTree) → IsOneNode decided → IsNode n x → IsTree J (whole x) decided → (ts : SearchTrees) (y : Placement) (s : Split) (c : ℕ) → IsNode n y → AreTrees J y s c ts → 1 ≤ sum_by (is_it (node_tuple x)) (pieces_of_all y s c ts) → (new : SearchTrees) × AreReplaced J x decided y s c ts new
-  all_replaced J n x decided one hx valid no_trees y s c hy h found = absurd (omega arith)
-  all_replaced J n x decided one hx valid (tree t rest) y s c hy h found =
-      let here_pieces = pieces (child_of y s c) t in
-      let there_pieces = pieces_of_all y s (c + 1) rest in
-      elim (found_in (is_it (node_tuple x)) here_pieces there_pieces found) as
-      (λ (_ : (1 ≤ sum_by (is_it (node_tuple x)) here_pieces) ⊎ (1 ≤ sum_by (is_it (node_tuple x)) there_pieces)). (new : SearchTrees) × AreReplaced J x decided y s c (tree t rest) new) [
+  all_replaced : (P : Placement → List ℤ → List ℤ → Type 0) (n : ℕ) (x : Placement) (decided : SearchTree) → IsNode n x → IsTree P x decided → (ts : SearchTrees) (y : Placement) (f : ℕ) (ks : List ℕ) → IsNode n y → AreTrees P y f ks ts → 1 ≤ sum_by (is_it (node_tuple x)) (pieces_of_all y f ks ts) → (new : SearchTrees) × AreReplaced P x decided y f ks ts new
+  all_replaced P n x decided hx valid no_trees y f [] hy h found = absurd (omega arith)
+  all_replaced P n x decided hx valid no_trees y f (k ∷ ks) hy h found = absurd h
+  all_replaced P n x decided hx valid (tree t rest) y f [] hy h found = absurd h
+  all_replaced P n x decided hx valid (tree t rest) y f (k ∷ ks) hy h found =
+      elim (found_in (is_it (node_tuple x)) (pieces (placing y f k) t) (pieces_of_all y f ks rest) found) as
+      (λ (_ : (1 ≤ sum_by (is_it (node_tuple x)) (pieces (placing y f k) t)) ⊎ (1 ≤ sum_by (is_it (node_tuple x)) (pieces_of_all y f ks rest))). (new : SearchTrees) × AreReplaced P x decided y f (k ∷ ks) (tree t rest) new) [
         | inl here ↦
-            let first = replaced J n x decided one hx valid t (child y s c) (IsNode-child n y s c hy) h.0 here in (
-              tree first.0 rest,
+            let one = replaced P n x decided hx valid t (placing y f k) (IsNode-placing n y f k hy) h.0 here in (
+              tree one.0 rest,
               record {
-                valid = (first.1.valid, h.1);
+                valid = (one.1.valid, h.1);
                 items = λ w.
-                    let old = sum_by-append w here_pieces there_pieces in
-                    let new = sum_by-append w (pieces (child_of y s c) first.0) there_pieces in
-                    let part = first.1.items w in
+                    let old = sum_by-append w (pieces (placing y f k) t) (pieces_of_all y f ks rest) in
+                    let new = sum_by-append w (pieces (placing y f k) one.0) (pieces_of_all y f ks rest) in
+                    let part = one.1.items w in
                     omega arith;
-                count = let part = first.1.count in omega arith;
-                long = refl;
-                cuts = ap (λ (z : ℤ). z ∷ cut_numbers rest) first.1.cut;
+                count = let part = one.1.count in omega arith;
               },
             )
         | inr there ↦
-            let more = all_replaced J n x decided one hx valid rest y s (c + 1) hy h.1 there in (
+            let more = all_replaced P n x decided hx valid rest y f ks hy h.1 there in (
               tree t more.0,
               record {
                 valid = (h.0, more.1.valid);
                 items = λ w.
-                    let old = sum_by-append w here_pieces there_pieces in
-                    let new = sum_by-append w here_pieces (pieces_of_all y s (c + 1) more.0) in
+                    let old = sum_by-append w (pieces (placing y f k) t) (pieces_of_all y f ks rest) in
+                    let new = sum_by-append w (pieces (placing y f k) t) (pieces_of_all y f ks more.0) in
                     let part = more.1.items w in
                     omega arith;
                 count = let part = more.1.count in omega arith;
-                long = let part = more.1.long in omega arith;
-                cuts = ap (λ (zs : List ℤ). cut_number t ∷ zs) more.1.cuts;
               },
             )
       ]
 
--- a weight that is 0 at open and at mirrored nodes, and the same at all others
-pub record WeighsDecided (w : List FieldValue → ℕ) (each : ℕ) : Type 0 where
-  pub at_open : (x : Placement) → w (node_tuple x) ≡ 0
-  pub at_split : (x : Placement) (f : ℕ) → w (split_tuple x f) ≡ each
-  pub at_pruned : (x : Placement) (s : Split) (d : Pair) (cuts : List ℤ) → w (pruned_tuple x s d cuts) ≡ each
-  pub at_closed : (x : Placement) (u v : List ℤ) → w (closed_tuple x u v) ≡ each
-  pub at_mirrored : (x : Placement) (j : ℕ) (m : List ℕ) → w (mirrored_tuple x j m) ≡ 0
-
 mutual
   -- summed over a tree's tuples it is `each` for every decided node
-  pub weighed : (w : List FieldValue → ℕ) (each : ℕ) → WeighsDecided w each → (t : SearchTree) (y : Placement) → sum_by w (pieces y t) ≡ each * decided_count t
-  weighed w each at open_node y = let one = at.at_open y in omega arith
-  weighed w each at (closed_node u v) y = let one = at.at_closed y u v in omega arith
-  weighed w each at cut_node y = omega arith
-  weighed w each at (mirrored_node j m) y = let one = at.at_mirrored y j m in omega arith
-  weighed w each at (split_node s children) y =
-      let one = said_weighs w each at.at_split at.at_pruned y s s.duals children in
-      let parts = sum_by-cons w (split_said y s s.duals children) (pieces_of_all y s 0 children) in
-      let inner = all_weighed w each at children y s 0 in
+  pub weighed : (w : List FieldValue → ℕ) (each : ℕ) → ((x : Placement) → w (node_tuple x) ≡ 0) → ((x : Placement) (f : ℕ) → w (split_tuple x f) ≡ each) → ((x : Placement) (u v : List ℤ) → w (closed_tuple x u v) ≡ each) → (t : SearchTree) (y : Placement) (P : Placement → List ℤ → List ℤ → Type 0) → IsTree P y t → sum_by w (pieces y t) ≡ each * decided_count t
+  weighed w each at_open at_split at_closed open_node y P h = let one = at_open y in omega arith
+  weighed w each at_open at_split at_closed (closed_node u v) y P h = let one = at_closed y u v in omega arith
+  weighed w each at_open at_split at_closed (split_node f children) y P h =
+      let one = at_split y f in
+      let parts = sum_by-cons w (split_tuple y f) (pieces_of_all y f (free_locations y) children) in
+      let inner = all_weighed w each at_open at_split at_closed children y f (free_locations y) P h.2 in
       omega arith
 
-  all_weighed : (w : List FieldValue → ℕ) (each : ℕ) → WeighsDecided w each → (ts : SearchTrees) (y : Placement) (s : Split) (c : ℕ) → sum_by w (pieces_of_all y s c ts) ≡ each * decided_counts ts
-  all_weighed w each at no_trees y s c = omega arith
-  all_weighed w each at (tree t rest) y s c =
-      let first = weighed w each at t (child_of y s c) in
-      let others = all_weighed w each at rest y s (c + 1) in
-      let parts = sum_by-append w (pieces (child_of y s c) t) (pieces_of_all y s (c + 1) rest) in
+  pub all_weighed : (w : List FieldValue → ℕ) (each : ℕ) → ((x : Placement) → w (node_tuple x) ≡ 0) → ((x : Placement) (f : ℕ) → w (split_tuple x f) ≡ each) → ((x : Placement) (u v : List ℤ) → w (closed_tuple x u v) ≡ each) → (ts : SearchTrees) (y : Placement) (f : ℕ) (ks : List ℕ) (P : Placement → List ℤ → List ℤ → Type 0) → AreTrees P y f ks ts → sum_by w (pieces_of_all y f ks ts) ≡ each * decided_counts ts
+  all_weighed w each at_open at_split at_closed no_trees y f [] P h = omega arith
+  all_weighed w each at_open at_split at_closed no_trees y f (k ∷ ks) P h = absurd h
+  all_weighed w each at_open at_split at_closed (tree t rest) y f [] P h = absurd h
+  all_weighed w each at_open at_split at_closed (tree t rest) y f (k ∷ ks) P h =
+      let first = weighed w each at_open at_split at_closed t (placing y f k) P h.0 in
+      let others = all_weighed w each at_open at_split at_closed rest y f ks P h.1 in
+      let parts = sum_by-append w (pieces (placing y f k) t) (pieces_of_all y f ks rest) in
       omega arith
-
--- the weight of one tuple of a best permutation
-pub weighs_best : (wanted : List FieldValue) → tag wanted ≡ 98 → WeighsDecided (is_it wanted) 0
-weighs_best wanted is = record {
-  at_open = λ x. is_it-other wanted (node_tuple x) (λ e. let differ : 110 ≡ 98 = e ∙ is in absurd (omega arith));
-  at_split = λ x f. is_it-other wanted (split_tuple x f) (λ e. let differ : 115 ≡ 98 = e ∙ is in absurd (omega arith));
-  at_pruned = λ x s d cuts. is_it-other wanted (pruned_tuple x s d cuts) (λ e. let differ : 112 ≡ 98 = e ∙ is in absurd (omega arith));
-  at_closed = λ x u v. is_it-other wanted (closed_tuple x u v) (λ e. let differ : 99 ≡ 98 = e ∙ is in absurd (omega arith));
-  at_mirrored = λ x j m. is_it-other wanted (mirrored_tuple x j m) (λ e. let differ : 109 ≡ 98 = e ∙ is in absurd (omega arith));
-}
 
 -- among the tuples of a tree none is of a best permutation
-pub no_best : (b : Best) (t : SearchTree) (y : Placement) → sum_by (is_it (tuple_of b)) (pieces y t) ≡ 0
-no_best b t y =
-    let none = weighed (is_it (tuple_of b)) 0 (weighs_best (tuple_of b) refl) t y in
+pub no_best : (b : Best) (t : SearchTree) (y : Placement) (P : Placement → List ℤ → List ℤ → Type 0) → IsTree P y t → sum_by (is_it (tuple_of b)) (pieces y t) ≡ 0
+no_best b t y P h =
+    let none = weighed (is_it (tuple_of b)) 0
+    (λ x. is_it-other (tuple_of b) (node_tuple x) (λ (e : 110 ≡ 98). omega arith))
+    (λ x f. is_it-other (tuple_of b) (split_tuple x f) (λ (e : 115 ≡ 98). omega arith))
+    (λ x u v. is_it-other (tuple_of b) (closed_tuple x u v) (λ (e : 99 ≡ 98). omega arith)) t y P h in
     omega arith
 
 -- a permutation and its cost are determined by their tuple
@@ -264,10 +153,10 @@ same_best a b e =
     ap₂ make (ap (number_at 1) e) (map_pos-same a.permutation b.permutation (ap (list_at 2) e))
 
 -- the best permutation of a tree is the one whose tuple is among the tuples
-pub best_found : (b a : Best) (t : SearchTree) (y : Placement) → 1 ≤ sum_by (is_it (tuple_of b)) (tuple_of a ∷ pieces y t) → a ≡ b
-best_found b a t y found =
+pub best_found : (b a : Best) (t : SearchTree) (y : Placement) (P : Placement → List ℤ → List ℤ → Type 0) → IsTree P y t → 1 ≤ sum_by (is_it (tuple_of b)) (tuple_of a ∷ pieces y t) → a ≡ b
+best_found b a t y P h found =
     let parts = sum_by-cons (is_it (tuple_of b)) (tuple_of a) (pieces y t) in
-    let none = no_best b t y in
+    let none = no_best b t y P h in
     same_best a b (is_it-found (tuple_of b) (tuple_of a) (omega arith))
 
 -- what a commit does to a tree's tuples, whether the best permutation was taken or read
@@ -312,23 +201,19 @@ better : (I : Problem) (old new : Best) → IsBetter I old.cost old → IsAsGood
 better I old new h (inl same) = subst (IsBetter I old.cost) (sym same) h
 better I old new h (inr less) = let at_most = less.2 in record { permutes = less.0; costs = less.1; at_most = omega (arith, ints) }
 
-none_decided : (ts : SearchTrees) → AreUndecided ts → decided_counts ts ≡ 0
-none_decided no_trees h = refl
-none_decided (tree open_node rest) h = let others = none_decided rest h in omega arith
-none_decided (tree (split_node s children) rest) h = absurd h
-none_decided (tree (closed_node u v) rest) h = absurd h
-none_decided (tree cut_node rest) h = let others = none_decided rest h in omega arith
-none_decided (tree (mirrored_node j m) rest) h = let others = none_decided rest h in omega arith
-
 one_decided : (t : SearchTree) → IsOneNode t → decided_count t ≡ 1
 one_decided open_node h = absurd h
-one_decided (split_node s children) h = let none = none_decided children h in omega arith
+one_decided (split_node f children) h = let none = none_decided children h in omega arith
+  where
+    none_decided : (ts : SearchTrees) → AreOpen ts → decided_counts ts ≡ 0
+    none_decided no_trees h = refl
+    none_decided (tree open_node rest) h = let others = none_decided rest h in omega arith
+    none_decided (tree (split_node f children) rest) h = absurd h
+    none_decided (tree (closed_node u v) rest) h = absurd h
 one_decided (closed_node u v) h = refl
-one_decided cut_node h = absurd h
-one_decided (mirrored_node j m) h = absurd h
 
 -- where an open node of a cut tree gives way to a decided one, the tuples are a cut tree with one commit more
-pub replacement : (S : Search) (gone kept added rest content : List (List FieldValue)) (commits : ℕ) → MayReplace S.cutting S.instance gone kept added → SameItems content (gone ++ (kept ++ rest)) → IsCutTree S content commits → IsCutTree S (added ++ (kept ++ rest)) (commits + 1)
+pub replacement : (S : Search) (gone kept added rest content : List (List FieldValue)) (commits : ℕ) → MayReplace S.instance gone kept added → SameItems content (gone ++ (kept ++ rest)) → IsCutTree S content commits → IsCutTree S (added ++ (kept ++ rest)) (commits + 1)
 replacement S gone kept added rest content commits m s h =
     let I = S.instance in
     let x = m.at in
@@ -340,7 +225,7 @@ replacement S gone kept added rest content commits m s h =
     let outer = sum_by-append w gone (kept ++ rest) in
     let inner = sum_by-append w kept rest in
     omega arith in
-    let same : best ≡ m.old = best_found m.old best h.tree root
+    let same : best ≡ m.old = best_found m.old best h.tree root (ClosesPart I h.cost) h.valid
     (let w = is_it (tuple_of m.old) in
     let parts = split w in
     let apart = h.taken_apart w in
@@ -361,8 +246,8 @@ replacement S gone kept added rest content commits m s h =
     omega arith in
     let node : IsNode I.size x = record { size = m.same_size; paired = m.placement.paired } in
     let at_root : IsNode I.size root = record { size = h.same_size; paired = h.root.paired } in
-    let valid = trees_by (judge_of S.cutting I h.cost) (judge_of S.cutting I m.new.cost) (judge_less S.cutting I h.cost m.new.cost good.at_most) h.tree (whole root) h.valid in
-    let done = replaced (judge_of S.cutting I m.new.cost) I.size x m.decided m.one node m.valid h.tree (whole root) at_root valid found in
+    let valid = trees_by (ClosesPart I h.cost) (ClosesPart I m.new.cost) (closes_by_less I h.cost m.new.cost good.at_most) h.tree root h.valid in
+    let done = replaced (ClosesPart I m.new.cost) I.size x m.decided node m.valid h.tree root at_root valid found in
     record {
       tree = done.0;
       cost = m.new.cost;

@@ -24,9 +24,9 @@ cut_trees_unordered S xs ys commits same h = record {
 }
 
 -- a commit that replaces an open node by a decided one leads from a cut tree to a cut tree
-pub cut_trees_kept : (S : Search) → IsKept (IsCutTree S) (MayReplace S.cutting S.instance)
+pub cut_trees_kept : (S : Search) → IsKept (IsCutTree S) (MayReplace S.instance)
 cut_trees_kept S gone kept added rest commits may h = replacement S gone kept added rest _ commits may (λ f. refl) h
 
 -- the cut trees of a search, and such commits, are its law
-pub cut_trees_are_law : (S : Search) → IsLawOf S (IsCutTree S) (MayReplace S.cutting S.instance)
+pub cut_trees_are_law : (S : Search) → IsLawOf S (IsCutTree S) (MayReplace S.instance)
 cut_trees_are_law S = record { is_cut_tree = λ xs commits h. h; is_lawful = λ xs commits h. h; may_replace = λ gone kept added h. h }

@@ -1,11 +1,15 @@
 -- What a search has left where it ends.
-use Rattle.std.proofs.Common.{◌≡◌, ℕ, inl, inr, List, length, map, ℤ, pos, Option, Result, Ok, Err, refl, sym, ap, subst, ◌∙◌, arith}
+use Rattle.std.proofs.Common.{◌≡◌, ℕ, inl, inr, List, [], ◌∷◌, length, map, ℤ, pos, Option, Result, Ok, Err, refl, sym, ap, subst, ◌∙◌, arith}
 use Rattle.std.specs.Prelude.{Contains, MatchResult}
 use Rattle.std.proofs.lemmas.List.Sums.{sum_by-cons}
 use Rattle.qap_cost.specs.Bijection.{IsPerm}
 use Rattle.qap_cost.proofs.Nodes.{root_completed}
 use Rattle.qap_cost.specs.Instance.{Problem}
 use Rattle.qap_cost.specs.Objective.{Permutes, cost_of}
+use Rattle.qap_cost.specs.Placement.{Placement, free_locations, placing}
+use Rattle.qap_cert.proofs.Validity.{valid_bounds}
+use Rattle.qap_cert.specs.Tree.{Node, split, bound, Nodes, no_nodes, node}
+use Rattle.qap_cert.specs.Valid.{AllValid, ClosesPart, Valid}
 use Rattle.shared_space.specs.Limit.{IsWithin}
 use Rattle.space_txn.specs.Content.{content_of}
 use Rattle.tuple_match.specs.FieldValue.{FieldValue}
@@ -16,6 +20,7 @@ use Rattle.qap_search.specs.Tuples.DecidedTuples.{best_of}
 use Rattle.qap_search.specs.Runs.Outcome.{IsEndFault, IsEnded, IsFinished}
 use Rattle.qap_search.specs.Tuples.Piece.{best_tuple, open_count, pieces}
 use Rattle.qap_search.specs.Law.Replacement.{Best, tuple_of}
+use Rattle.qap_search.specs.Law.SearchTree.{AreTrees, IsTree, searched, searched_all}
 use Rattle.qap_search.specs.Law.Search.{Search, NoneBelow, whole}
 use Rattle.qap_search.specs.declared.runs.answer.Least.{Least}
 use Rattle.qap_search.specs.declared.runs.answer.SolveError.{SolveError}
@@ -24,7 +29,7 @@ use Rattle.qap_search.specs.declared.certificate.error.AssembleError.TheVariants
 use Rattle.qap_search.specs.declared.runs.run_ending.Finished.{Finished}
 use Rattle.qap_search.specs.declared.runs.run.Run.{Run}
 use Rattle.qap_search.proofs.TupleLemmas.Found.{best_found_there, contained, found_from_Contains}
-use Rattle.qap_search.proofs.RunLemmas.OpenBounds.{none_less}
+use Rattle.qap_search.proofs.CertificateLemmas.Certificates.{finished, open_weight}
 use Rattle.qap_search.proofs.LawLemmas.Replacing.{best_found}
 use Rattle.qap_search.proofs.TupleLemmas.TupleReadings.{is_it, is_it-itself}
 
@@ -80,12 +85,35 @@ best_stands S content commits c p h at =
     let old : Best = record { cost = h.cost; permutation = h.permutation } in
     let here = found_from_Contains content (tuple_of best) at.0 at.1 at.2 in
     let apart = h.taken_apart (is_it (tuple_of best)) in
-    let same : old ≡ best = best_found best old h.tree root (omega arith) in
+    let same : old ≡ best = best_found best old h.tree root (ClosesPart S.instance h.cost) h.valid (omega arith) in
     (ap (λ (b : Best). b.permutation) same, ap (λ (b : Best). b.cost) same)
 
 -- the tuples of a finished run are its cut tree
 pub finished_tree : (S : Search) (limit : Option ℕ) (r : Run) (f : Finished) → IsEnded S limit r → IsFinished r f → IsCutTree S f.tuples.items r.space.commits
 finished_tree S limit r f ended h = subst (λ (xs : List (List FieldValue)). IsCutTree S xs r.space.commits) (sym h.tuples) ended.tree
+
+mutual
+  -- a search tree without open nodes, as a valid tree
+  valid_from_tree : (I : Problem) (c : ℤ) (s : Node) (y : Placement) → IsTree (ClosesPart I c) y (searched s) → Valid I c y s
+  valid_from_tree I c (bound u v) y h = h
+  valid_from_tree I c (split f children) y h = (h.0, h.1, all_valid_from_trees I c children y f (free_locations y) h.2)
+
+  all_valid_from_trees : (I : Problem) (c : ℤ) (ss : Nodes) (y : Placement) (f : ℕ) (ks : List ℕ) → AreTrees (ClosesPart I c) y f ks (searched_all ss) → AllValid I c y f ks ss
+  all_valid_from_trees I c no_nodes y f [] h = tt
+  all_valid_from_trees I c no_nodes y f (k ∷ ks) h = absurd h
+  all_valid_from_trees I c (node s rest) y f [] h = absurd h
+  all_valid_from_trees I c (node s rest) y f (k ∷ ks) h = (valid_from_tree I c s (placing y f k) h.0, all_valid_from_trees I c rest y f ks h.1)
+
+-- where no node is open, no permutation that completes the root costs less than the best one
+pub none_less : (S : Search) (content : List (List FieldValue)) (commits : ℕ) (h : IsCutTree S content commits) → open_count content ≡ 0 → NoneBelow S h.cost
+none_less S content commits h none p completes =
+    let I = S.instance in
+    let root = S.root in
+    let apart = h.taken_apart open_weight in
+    let parts = sum_by-cons open_weight (best_tuple h.cost h.permutation) (pieces root h.tree) in
+    let done = finished (ClosesPart I h.cost) h.tree root h.valid (omega arith) in
+    let tree = subst (IsTree (ClosesPart I h.cost) root) done.1 h.valid in
+    valid_bounds done.0 I h.cost root p h.root (sym h.same_size) (valid_from_tree I h.cost done.0 root tree) completes
 
 -- where the best permutation is that of a run's cut tree without open nodes, it is a least one
 pub least_left : (S : Search) (limit : Option ℕ) (r : Run) (a : Least) (content : List (List FieldValue)) → IsEnded S limit r → (h : IsCutTree S content r.space.commits) → open_count content ≡ 0 → h.permutation ≡ a.permutation → h.cost ≡ a.cost → a.reports.items ≡ r.reports.items → IsLeastFrom S (length r.reports.items) limit a

@@ -1,6 +1,5 @@
 -- Rows of fields and what they say.
 use Rattle.std.proofs.Common.{◌≡◌, ◌≢◌, ◌↔◌, ℕ, ◌≤◌, ◌<◌, IsTrue, Bool, List, [], ◌∷◌, ◌++◌, length, get_or, take, sym, ap, ◌∙◌, refl, arith, codes, length-append}
-use Rattle.std.proofs.Math.Seq.{take-append_seam}
 use Rattle.std.specs.Prelude.{ℤ, Option, Some, None, pos}
 use Rattle.std.proofs.lemmas.Option.{none-some}
 use Rattle.std.specs.Str.{bytes_eq}
@@ -8,9 +7,7 @@ use Rattle.std.proofs.lemmas.Slice.Eq.{bytes_eq-Decides}
 use Rattle.tuple_match.specs.Field.{field_value, fields_value}
 use Rattle.tuple_match.specs.FieldValue.{FieldValue, number, number_of, numbers, numbers_of, word, word_of}
 use Rattle.tuple_match.specs.declared.fields.Field.{Field}
-use Rattle.qap_proof.specs.declared.side.Side.{Side}
 use Rattle.qap_search.specs.Tuples.DecidedTuples.{IsNoPiece}
-use Rattle.qap_search.specs.Tuples.Piece.{side_word}
 
 abbrev word_in : Option (List ℕ) → List ℕ
 word_in (Some bytes) = bytes
@@ -83,93 +80,52 @@ kind (numbers ns) = 3
 abbrev kind_at : ℕ → List FieldValue → ℕ
 kind_at i row = kind (get_or row i (word []))
 
--- two lists behind few fields are those of a closed node's tuple, or of no piece
-pub no_closed_piece : (row : List FieldValue) (u v : List ℤ) → length row ≤ 2 → ((xs : List ℤ) → row ≢ word (codes "closed") ∷ numbers xs ∷ []) → IsNoPiece (row ++ numbers u ∷ numbers v ∷ [])
-no_closed_piece [] u v few none = record {
+-- two lists behind some fields are those of a closed node's tuple, or of no piece
+pub no_closed_piece : (row : List FieldValue) (u v : List ℤ) → ((xs : List ℤ) → row ≢ word (codes "closed") ∷ numbers xs ∷ []) → IsNoPiece (row ++ numbers u ∷ numbers v ∷ [])
+no_closed_piece [] u v none = record {
   no_best = λ c ps e. let same = ap length e in absurd (omega arith);
   no_split = λ xs f e. let same = ap length e in absurd (omega arith);
-  no_pruned = λ xs side k w z cuts e. let same = ap length e in absurd (omega arith);
   no_closed = λ xs w z e. let same = ap length e in absurd (omega arith);
-  no_mirrored = λ xs j ms e. let same = ap length e in absurd (omega arith);
 }
-no_closed_piece (a ∷ []) u v few none = record {
+no_closed_piece (a ∷ []) u v none = record {
   no_best = λ c ps e. let same : kind (numbers u) ≡ kind (number c) = ap (kind_at 1) e in absurd (omega arith);
   no_split = λ xs f e. let same : kind (numbers v) ≡ kind (number f) = ap (kind_at 2) e in absurd (omega arith);
-  no_pruned = λ xs side k w z cuts e. let same = ap length e in absurd (omega arith);
   no_closed = λ xs w z e. let same = ap length e in absurd (omega arith);
-  no_mirrored = λ xs j ms e. let same = ap length e in absurd (omega arith);
 }
-no_closed_piece (a ∷ b ∷ []) u v few none = record {
+no_closed_piece (a ∷ b ∷ []) u v none = record {
   no_best = λ c ps e. let same = ap length e in absurd (omega arith);
   no_split = λ xs f e. let same = ap length e in absurd (omega arith);
-  no_pruned = λ xs side k w z cuts e. let same = ap length e in absurd (omega arith);
   no_closed = λ xs w z e. none xs (ap (take 2) e);
-  no_mirrored = λ xs j ms e. let same : kind (numbers u) ≡ kind (number j) = ap (kind_at 2) e in absurd (omega arith);
 }
-no_closed_piece (a ∷ b ∷ d ∷ row) u v few none = absurd (omega arith)
+no_closed_piece (a ∷ b ∷ d ∷ row) u v none =
+    let long = length-append row (numbers u ∷ numbers v ∷ []) in
+    record {
+      no_best = λ c ps e. let same = ap length e in absurd (omega arith);
+      no_split = λ xs f e. let same = ap length e in absurd (omega arith);
+      no_closed = λ xs w z e. let same = ap length e in absurd (omega arith);
+    }
 
--- where there are seven fields and the last but one is a number, they are no split's with duals
-not_pruned : (a b d : FieldValue) (row : List FieldValue) (n : ℤ) (ns : List ℤ) → length (a ∷ b ∷ d ∷ (row ++ number n ∷ numbers ns ∷ [])) ≡ 7 → kind_at 5 (a ∷ b ∷ d ∷ (row ++ number n ∷ numbers ns ∷ [])) ≡ 3 → ⊥
-not_pruned a b d [] n ns long third = omega arith
-not_pruned a b d (f ∷ []) n ns long third = omega arith
-not_pruned a b d (f ∷ g ∷ []) n ns long third = omega arith
-not_pruned a b d (f ∷ g ∷ h ∷ more) n ns long third =
-    let behind = length-append more (number n ∷ numbers ns ∷ []) in
-    omega arith
-
--- a number and a list behind some fields are those of a best permutation's tuple or a mirrored node's, or of no piece
-pub no_numbered_piece : (row : List FieldValue) (n : ℤ) (ns : List ℤ) → row ≢ word (codes "best") ∷ [] → ((xs : List ℤ) → row ≢ word (codes "mirrored") ∷ numbers xs ∷ []) → IsNoPiece (row ++ number n ∷ numbers ns ∷ [])
-no_numbered_piece [] n ns other none = record {
+-- a number and a list behind some fields are those of a best permutation's tuple, or of no piece
+pub no_numbered_piece : (row : List FieldValue) (n : ℤ) (ns : List ℤ) → row ≢ word (codes "best") ∷ [] → IsNoPiece (row ++ number n ∷ numbers ns ∷ [])
+no_numbered_piece [] n ns other = record {
   no_best = λ c ps e. let same = ap length e in absurd (omega arith);
   no_split = λ xs f e. let same = ap length e in absurd (omega arith);
-  no_pruned = λ xs side k w z cuts e. let same = ap length e in absurd (omega arith);
   no_closed = λ xs w z e. let same = ap length e in absurd (omega arith);
-  no_mirrored = λ xs j ms e. let same = ap length e in absurd (omega arith);
 }
-no_numbered_piece (a ∷ []) n ns other none = record {
+no_numbered_piece (a ∷ []) n ns other = record {
   no_best = λ c ps e. other (ap (take 1) e);
   no_split = λ xs f e. let same : kind (numbers ns) ≡ kind (number f) = ap (kind_at 2) e in absurd (omega arith);
-  no_pruned = λ xs side k w z cuts e. let same = ap length e in absurd (omega arith);
   no_closed = λ xs w z e. let same = ap length e in absurd (omega arith);
-  no_mirrored = λ xs j ms e. let same = ap length e in absurd (omega arith);
 }
-no_numbered_piece (a ∷ b ∷ []) n ns other none = record {
+no_numbered_piece (a ∷ b ∷ []) n ns other = record {
   no_best = λ c ps e. let same = ap length e in absurd (omega arith);
   no_split = λ xs f e. let same = ap length e in absurd (omega arith);
-  no_pruned = λ xs side k w z cuts e. let same = ap length e in absurd (omega arith);
   no_closed = λ xs w z e. let same : kind (number n) ≡ kind (numbers w) = ap (kind_at 2) e in absurd (omega arith);
-  no_mirrored = λ xs j ms e. none xs (ap (take 2) e);
 }
-no_numbered_piece (a ∷ b ∷ d ∷ row) n ns other none =
+no_numbered_piece (a ∷ b ∷ d ∷ row) n ns other =
     let long = length-append row (number n ∷ numbers ns ∷ []) in
     record {
       no_best = λ c ps e. let same = ap length e in absurd (omega arith);
       no_split = λ xs f e. let same = ap length e in absurd (omega arith);
-      no_pruned = λ xs side k w z cuts e. not_pruned a b d row n ns (ap length e) (ap (kind_at 5) e);
       no_closed = λ xs w z e. let same = ap length e in absurd (omega arith);
-      no_mirrored = λ xs j ms e. let same = ap length e in absurd (omega arith);
     }
-
--- two lists behind more fields are those of the tuple of a split with duals, or of no piece
-pub no_pruned_piece : (row : List FieldValue) (v cuts : List ℤ) → 2 < length row → ((xs : List ℤ) (side : Side) (k : ℤ) (u : List ℤ) → row ≢ word (codes "pruned") ∷ numbers xs ∷ word (side_word side) ∷ number k ∷ numbers u ∷ []) → IsNoPiece (row ++ numbers v ∷ numbers cuts ∷ [])
-no_pruned_piece row v cuts some none =
-    let long = length-append row (numbers v ∷ numbers cuts ∷ []) in
-    record {
-      no_best = λ c ps e. let same = ap length e in absurd (omega arith);
-      no_split = λ xs f e. let same = ap length e in absurd (omega arith);
-      no_pruned = λ xs side k u w flags e.
-          let same = ap length e in
-          let five : length row ≡ 5 = omega arith in
-          none xs side k u (sym (take-append_seam row (numbers v ∷ numbers cuts ∷ [])) ∙ ap (λ (n : ℕ). take n (row ++ numbers v ∷ numbers cuts ∷ [])) five ∙ ap (take 5) e);
-      no_closed = λ xs w z e. let same = ap length e in absurd (omega arith);
-      no_mirrored = λ xs j ms e. let same = ap length e in absurd (omega arith);
-    }
-
--- what stands before the last field of a row isn't what stands before the duals of a split's tuple, so the row doesn't end in those
-pub no_split_before : (row front : List FieldValue) (last : FieldValue) → row ≡ front ++ last ∷ [] → ((xs : List ℤ) (side : Side) (k : ℤ) → front ≢ word (codes "pruned") ∷ numbers xs ∷ word (side_word side) ∷ number k ∷ [])
-    → (xs : List ℤ) (side : Side) (k : ℤ) (u : List ℤ) → row ≢ word (codes "pruned") ∷ numbers xs ∷ word (side_word side) ∷ number k ∷ numbers u ∷ []
-no_split_before row front last is none xs side k u e =
-    let same = ap length (sym is ∙ e) in
-    let long = length-append front (last ∷ []) in
-    let four : length front ≡ 4 = omega arith in
-    none xs side k (sym (take-append_seam front (last ∷ [])) ∙ ap (λ (n : ℕ). take n (front ++ last ∷ [])) four ∙ ap (take 4) (sym is ∙ e))

@@ -1,19 +1,19 @@
 -- What is found among the tuples of a search.
-use Rattle.std.proofs.Common.{◌≡◌, ◌≢◌, ℕ, zero, suc, ◌+◌, ◌≤◌, ◌<◌, ◌⊎◌, inl, inr, true, false, List, [], ◌∷◌, length, get_or, Option, Some, None, refl, sym, ap, subst, ◌∙◌, arith}
+use Rattle.std.proofs.Common.{◌≡◌, ℕ, zero, suc, ◌≤◌, ◌<◌, ◌⊎◌, inl, inr, true, List, [], ◌∷◌, length, get_or, ℤ, sym, ap, ◌∙◌, arith}
 use Rattle.std.specs.Prelude.{Contains}
 use Rattle.std.specs.List.{sum_by}
 use Rattle.std.proofs.lemmas.Bool.{false≢true}
 use Rattle.std.proofs.lemmas.List.Sums.{sum_by-cons}
-use Rattle.qap_cost.specs.Placement.{Placement, IsPlacement}
-use Rattle.qap_proof.specs.Tree.{Pair, Split, IsFreeOn, child_of, Place, whole, child, node_at}
+use Rattle.qap_cost.specs.Placement.{Placement, IsPlacement, free_locations, placing}
+use Rattle.qap_cert.specs.Valid.{ClosesPart}
 use Rattle.tuple_match.specs.FieldValue.{FieldValue}
 use Rattle.qap_search.specs.Law.CutTree.{IsCutTree}
 use Rattle.qap_search.specs.Tuples.Found.{IsBestFound, IsOpenNode, is_best}
-use Rattle.qap_search.specs.Tuples.Piece.{best_tuple, closed_tuple, is_open, mirrored_tuple, node_tuple, pieces, pieces_of_all, split_said}
+use Rattle.qap_search.specs.Tuples.Piece.{best_tuple, closed_tuple, is_open, node_tuple, pieces, pieces_of_all, split_tuple}
 use Rattle.qap_search.specs.Law.Search.{Search}
-use Rattle.qap_search.specs.Law.SearchTree.{SearchTree, open_node, split_node, closed_node, cut_node, mirrored_node, SearchTrees, no_trees, tree, tree_count, Judge, IsTree, AreTrees, judge_of}
-use Rattle.qap_search.proofs.CertificateLemmas.Certificates.{child_placed}
-use Rattle.qap_search.proofs.TupleLemmas.TupleReadings.{found_in, is_it, is_it-found, is_it-itself, tag}
+use Rattle.qap_search.specs.Law.SearchTree.{SearchTree, open_node, split_node, closed_node, SearchTrees, no_trees, tree, IsTree, AreTrees}
+use Rattle.qap_search.proofs.CertificateLemmas.Certificates.{children_placed}
+use Rattle.qap_search.proofs.TupleLemmas.TupleReadings.{found_in, is_it, is_it-found, is_it-itself}
 
 -- a tuple that stands at some place of a list is found there
 pub found_from_Contains : (xs : List (List FieldValue)) (t : List FieldValue) (k : ℕ) → k < length xs → get_or xs k t ≡ t → 1 ≤ sum_by (is_it t) xs
@@ -38,52 +38,45 @@ contained (x ∷ xs) w found =
       | inr there ↦ let rest = contained xs w there in let below = rest.1 in (suc rest.0, omega arith, rest.2)
     ]
 
--- the tuple is no open node's and no best permutation's
-pub record IsOtherTuple (w : List FieldValue) : Type 0 where
-  pub not_open : is_open w ≡ false
-  pub not_best : is_best w ≡ false
-  pub tagged : tag w ≢ 110
-
-said_is_other : (x : Placement) (s : Split) (d : Option Pair) (ts : SearchTrees) → IsOtherTuple (split_said x s d ts)
-said_is_other x s None ts = record { not_open = refl; not_best = refl; tagged = λ (e : 115 ≡ 110). omega arith }
-said_is_other x s (Some d) ts = record { not_open = refl; not_best = refl; tagged = λ (e : 112 ≡ 110). omega arith }
+-- the tuple is that of a split or a closed node
+abbrev pub IsDecidedTuple : List FieldValue → Type 0
+IsDecidedTuple w = ((x : Placement) × (f : ℕ) × (w ≡ split_tuple x f)) ⊎ ((x : Placement) × (u : List ℤ) × (v : List ℤ) × (w ≡ closed_tuple x u v))
 
 mutual
   -- a tuple of a tree is that of an open node, or another
-  pub piece_found : (J : Judge) (n : ℕ) (w : List FieldValue) (t : SearchTree) (p : Place) → IsPlacement (node_at p) → (node_at p).size ≡ n → IsTree J p t → 1 ≤ sum_by (is_it w) (pieces (node_at p) t) → IsOpenNode n w ⊎ IsOtherTuple w
-  piece_found J n w open_node p placed size h found =
-      inl (record { node = node_at p; placement = placed; size = size; is = sym (is_it-found w (node_tuple (node_at p)) (omega arith)) })
-  piece_found J n w (closed_node u v) p placed size h found =
-      inr (subst IsOtherTuple (is_it-found w (closed_tuple (node_at p) u v) (omega arith)) (record { not_open = refl; not_best = refl; tagged = λ (e : 99 ≡ 110). omega arith }))
-  piece_found J n w cut_node p placed size h found = absurd (omega arith)
-  piece_found J n w (mirrored_node j m) p placed size h found =
-      inr (subst IsOtherTuple (is_it-found w (mirrored_tuple (node_at p) j m) (omega arith)) (record { not_open = refl; not_best = refl; tagged = λ (e : 109 ≡ 110). omega arith }))
-  piece_found J n w (split_node s children) p placed size h found =
-      let y = node_at p in
-      let here_tuple = split_said y s s.duals children in
-      elim (found_in (is_it w) (here_tuple ∷ []) (pieces_of_all y s 0 children) found) as
-      (λ (_ : (1 ≤ sum_by (is_it w) (here_tuple ∷ [])) ⊎ (1 ≤ sum_by (is_it w) (pieces_of_all y s 0 children))). IsOpenNode n w ⊎ IsOtherTuple w) [
-        | inl here ↦ inr (subst IsOtherTuple (is_it-found w here_tuple (omega arith)) (said_is_other y s s.duals children))
-        | inr there ↦ piece_found_among J n w children y s 0 placed h.1 (let count = h.3 in omega arith) size h.4 there
+  pub piece_found : (P : Placement → List ℤ → List ℤ → Type 0) (n : ℕ) (w : List FieldValue) (t : SearchTree) (y : Placement) → IsPlacement y → y.size ≡ n → IsTree P y t → 1 ≤ sum_by (is_it w) (pieces y t) → IsOpenNode n w ⊎ IsDecidedTuple w
+  piece_found P n w open_node y placed size h found =
+      inl (record { node = y; placement = placed; size = size; is = sym (is_it-found w (node_tuple y) (omega arith)) })
+  piece_found P n w (closed_node u v) y placed size h found = inr (inr (y, u, v, sym (is_it-found w (closed_tuple y u v) (omega arith))))
+  piece_found P n w (split_node f children) y placed size h found =
+      elim (found_in (is_it w) (split_tuple y f ∷ []) (pieces_of_all y f (free_locations y) children) found) as
+      (λ (_ : (1 ≤ sum_by (is_it w) (split_tuple y f ∷ [])) ⊎ (1 ≤ sum_by (is_it w) (pieces_of_all y f (free_locations y) children))). IsOpenNode n w ⊎ IsDecidedTuple w) [
+        | inl here ↦ inr (inl (y, f, sym (is_it-found w (split_tuple y f) (omega arith))))
+        | inr there ↦ piece_found_among P n w children y f (free_locations y) (children_placed y f placed h.1) size h.2 there
       ]
 
-  piece_found_among : (J : Judge) (n : ℕ) (w : List FieldValue) (ts : SearchTrees) (y : Placement) (s : Split) (c : ℕ) → IsPlacement y → IsFreeOn s.side y s.number → c + tree_count ts + length y.facilities ≡ y.size → y.size ≡ n → AreTrees J y s c ts → 1 ≤ sum_by (is_it w) (pieces_of_all y s c ts) → IsOpenNode n w ⊎ IsOtherTuple w
-  piece_found_among J n w no_trees y s c placed free count size h found = absurd (omega arith)
-  piece_found_among J n w (tree t rest) y s c placed free count size h found =
-      let first = pieces (child_of y s c) t in
-      let later = pieces_of_all y s (c + 1) rest in
-      elim (found_in (is_it w) first later found) as
-      (λ (_ : (1 ≤ sum_by (is_it w) first) ⊎ (1 ≤ sum_by (is_it w) later)). IsOpenNode n w ⊎ IsOtherTuple w) [
-        | inl here ↦ piece_found J n w t (child y s c) (child_placed y s c placed free (omega arith)) size h.0 here
-        | inr there ↦ piece_found_among J n w rest y s (c + 1) placed free (omega arith) size h.1 there
+  piece_found_among : (P : Placement → List ℤ → List ℤ → Type 0) (n : ℕ) (w : List FieldValue) (ts : SearchTrees) (y : Placement) (f : ℕ) (ks : List ℕ) → ((j : ℕ) → j < length ks → IsPlacement (placing y f (get_or ks j 0))) → y.size ≡ n → AreTrees P y f ks ts → 1 ≤ sum_by (is_it w) (pieces_of_all y f ks ts) → IsOpenNode n w ⊎ IsDecidedTuple w
+  piece_found_among P n w no_trees y f [] placed size h found = absurd (omega arith)
+  piece_found_among P n w no_trees y f (k ∷ ks) placed size h found = absurd h
+  piece_found_among P n w (tree t rest) y f [] placed size h found = absurd h
+  piece_found_among P n w (tree t rest) y f (k ∷ ks) placed size h found =
+      elim (found_in (is_it w) (pieces (placing y f k) t) (pieces_of_all y f ks rest) found) as
+      (λ (_ : (1 ≤ sum_by (is_it w) (pieces (placing y f k) t)) ⊎ (1 ≤ sum_by (is_it w) (pieces_of_all y f ks rest))). IsOpenNode n w ⊎ IsDecidedTuple w) [
+        | inl here ↦ piece_found P n w t (placing y f k) (placed 0 (omega arith)) size h.0 here
+        | inr there ↦ piece_found_among P n w rest y f ks (λ j less. placed (suc j) (omega arith)) size h.1 there
       ]
 
-not_best : (n : ℕ) (w : List FieldValue) → IsOpenNode n w ⊎ IsOtherTuple w → is_best w ≡ true → ⊥
+pub not_open : (w : List FieldValue) → IsDecidedTuple w → is_open w ≡ true → ⊥
+not_open w (inl split) h = false≢true (sym (ap is_open split.2) ∙ h)
+not_open w (inr closed) h = false≢true (sym (ap is_open closed.3) ∙ h)
+
+not_best : (n : ℕ) (w : List FieldValue) → IsOpenNode n w ⊎ IsDecidedTuple w → is_best w ≡ true → ⊥
 not_best n w (inl node) h = false≢true (sym (ap is_best node.is) ∙ h)
-not_best n w (inr other) h = false≢true (sym other.not_best ∙ h)
+not_best n w (inr (inl split)) h = false≢true (sym (ap is_best split.2) ∙ h)
+not_best n w (inr (inr closed)) h = false≢true (sym (ap is_best closed.3) ∙ h)
 
 -- where the tuple is found: it is that of the best permutation, or of a node
-in_cut_tree : (S : Search) (content : List (List FieldValue)) (commits : ℕ) (w : List FieldValue) → IsCutTree S content commits → Contains content w → IsBestFound S.instance w ⊎ (IsOpenNode S.instance.size w ⊎ IsOtherTuple w)
+in_cut_tree : (S : Search) (content : List (List FieldValue)) (commits : ℕ) (w : List FieldValue) → IsCutTree S content commits → Contains content w → IsBestFound S.instance w ⊎ (IsOpenNode S.instance.size w ⊎ IsDecidedTuple w)
 in_cut_tree S content commits w h at =
     let I = S.instance in
     let root = S.root in
@@ -91,25 +84,25 @@ in_cut_tree S content commits w h at =
     let here = found_from_Contains content w at.0 at.1 at.2 in
     let apart = h.taken_apart (is_it w) in
     elim (found_in (is_it w) (best ∷ []) (pieces root h.tree) (omega arith)) as
-    (λ (_ : (1 ≤ sum_by (is_it w) (best ∷ [])) ⊎ (1 ≤ sum_by (is_it w) (pieces root h.tree))). IsBestFound I w ⊎ (IsOpenNode I.size w ⊎ IsOtherTuple w)) [
+    (λ (_ : (1 ≤ sum_by (is_it w) (best ∷ [])) ⊎ (1 ≤ sum_by (is_it w) (pieces root h.tree))). IsBestFound I w ⊎ (IsOpenNode I.size w ⊎ IsDecidedTuple w)) [
       | inl first ↦ inl (record { best = record { cost = h.cost; permutation = h.permutation }; permutes = h.permutes; costs = h.costs; is = sym (is_it-found w best (omega arith)) })
-      | inr later ↦ inr (piece_found (judge_of S.cutting I h.cost) I.size w h.tree (whole root) h.root h.same_size h.valid later)
+      | inr later ↦ inr (piece_found (ClosesPart I h.cost) I.size w h.tree root h.root h.same_size h.valid later)
     ]
 
 -- a tuple of a cut tree that the template of open nodes matches is that of an open node
 pub node_found : (S : Search) (content : List (List FieldValue)) (commits : ℕ) (w : List FieldValue) → IsCutTree S content commits → Contains content w → is_open w ≡ true → IsOpenNode S.instance.size w
 node_found S content commits w h at asked =
     let I = S.instance in
-    elim (in_cut_tree S content commits w h at) as (λ (_ : IsBestFound I w ⊎ (IsOpenNode I.size w ⊎ IsOtherTuple w)). IsOpenNode I.size w) [
+    elim (in_cut_tree S content commits w h at) as (λ (_ : IsBestFound I w ⊎ (IsOpenNode I.size w ⊎ IsDecidedTuple w)). IsOpenNode I.size w) [
       | inl best ↦ absurd (false≢true (sym (ap is_open best.is) ∙ asked))
-      | inr piece ↦ elim piece as (λ (_ : IsOpenNode I.size w ⊎ IsOtherTuple w). IsOpenNode I.size w) [ inl node ↦ node | inr other ↦ absurd (false≢true (sym other.not_open ∙ asked)) ]
+      | inr piece ↦ elim piece as (λ (_ : IsOpenNode I.size w ⊎ IsDecidedTuple w). IsOpenNode I.size w) [ inl node ↦ node | inr decided ↦ absurd (not_open w decided asked) ]
     ]
 
 -- one that the template of the best permutation matches is that of a permutation and its cost
 pub best_found_there : (S : Search) (content : List (List FieldValue)) (commits : ℕ) (w : List FieldValue) → IsCutTree S content commits → Contains content w → is_best w ≡ true → IsBestFound S.instance w
 best_found_there S content commits w h at is =
     let I = S.instance in
-    elim (in_cut_tree S content commits w h at) as (λ (_ : IsBestFound I w ⊎ (IsOpenNode I.size w ⊎ IsOtherTuple w)). IsBestFound I w) [
+    elim (in_cut_tree S content commits w h at) as (λ (_ : IsBestFound I w ⊎ (IsOpenNode I.size w ⊎ IsDecidedTuple w)). IsBestFound I w) [
       | inl best ↦ best
       | inr piece ↦ absurd (not_best I.size w piece is)
     ]

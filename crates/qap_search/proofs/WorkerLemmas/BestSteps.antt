@@ -70,13 +70,13 @@ standing_cost candidate old new least (inr better) below under (inl is) = let e 
 standing_cost candidate old new least (inr better) below under (inr is) = ap (λ (b : Best). b.cost) better.1 ∙ sym is
 
 -- what was prepared for the cost of a best permutation that stays has been written
-pub written_prepared : (cutting : Bool) (I : Problem) (l : LastThought) (best : Best) (cost : ℤ) (writes : List Write) (t t' : TxnValue) → AreWritesFor cutting I (thought_of l) writes cost → best.cost ≡ cost → t.writes ≡ [] → t' ≡ record t { writes = writes } → WritesAll cutting false I (thought_of l) best t t' cost
-written_prepared cutting I l best cost writes t t' p costs none is = record {
+pub written_prepared : (I : Problem) (l : LastThought) (best : Best) (cost : ℤ) (writes : List Write) (t t' : TxnValue) → AreWritesFor I (thought_of l) writes cost → best.cost ≡ cost → t.writes ≡ [] → t' ≡ record t { writes = writes } → WritesAll false I (thought_of l) best t t' cost
+written_prepared I l best cost writes t t' p costs none is = record {
   standing = best;
   stands = refl;
   costs = costs;
   tuples = p.tuples;
-  written = subst (λ (c : ℤ). DecidesBy cutting I c (thought_of l) p.tuples) (sym costs) p.written;
+  written = subst (λ (c : ℤ). DecidesBy I c (thought_of l) p.tuples) (sym costs) p.written;
   same = record { number = ap (λ (x : TxnValue). x.number) is; marks = ap (λ (x : TxnValue). x.marks) is };
   added =
       subst (λ (x : TxnValue). SameItems (added_of x.writes) (added_of t.writes ++ p.tuples)) (sym is)
@@ -84,8 +84,8 @@ written_prepared cutting I l best cost writes t t' p costs none is = record {
 }
 
 -- what was decided beside the one that stands has been written
-pub written_anew : (cutting : Bool) (I : Problem) (l : LastThought) (best old : Best) (least : ℤ) (tuples : List (List FieldValue)) (t t' : TxnValue) → best ≡ old → DecidesBetter cutting I (thought_of l) old tuples → ((new : Best) → IsBetterOf (candidate_of l.thought) old new → new.cost ≡ least) → HasMarksOf t t' → SameItems (added_of t'.writes) (added_of t.writes ++ tuples) → WritesAll cutting true I (thought_of l) best t t' least
-written_anew cutting I l best old least tuples t t' is d costs same added = record {
+pub written_anew : (I : Problem) (l : LastThought) (best old : Best) (least : ℤ) (tuples : List (List FieldValue)) (t t' : TxnValue) → best ≡ old → DecidesBetter I (thought_of l) old tuples → ((new : Best) → IsBetterOf (candidate_of l.thought) old new → new.cost ≡ least) → HasMarksOf t t' → SameItems (added_of t'.writes) (added_of t.writes ++ tuples) → WritesAll true I (thought_of l) best t t' least
+written_anew I l best old least tuples t t' is d costs same added = record {
   standing = d.new;
   stands = subst (λ (b : Best). IsBetterOf (candidate_of l.thought) b d.new) (sym is) d.better;
   costs = costs d.new d.better;
@@ -116,8 +116,8 @@ one_mark : (number : ℕ) (t : TxnValue) (a b : Mark) → find (λ m. m.entry ==
 one_mark number t a b p q = let e : Some a ≡ Some b = sym p ∙ q in cc
 
 -- the entry that was found has the tuple of a best permutation of this cost, where it is there to stay
-found_at : (cutting : Bool) (I : Problem) (l : LastThought) (taking : Bool) (number : ℕ) (t : TxnValue) → IsLastThought cutting I l → (m : HasBestMark I taking l.node number t) → m.best.permanent ≡ true → (f : IsBestFound I m.best.tuple) → IsBestAt number t f.best
-found_at cutting I l taking number t h m permanent f = record {
+found_at : (I : Problem) (l : LastThought) (taking : Bool) (number : ℕ) (t : TxnValue) → IsLastThought I l → (m : HasBestMark I taking l.node number t) → m.best.permanent ≡ true → (f : IsBestFound I m.best.tuple) → IsBestAt number t f.best
+found_at I l taking number t h m permanent f = record {
   mark = m.best;
   here = m.here;
   permanent = permanent;
@@ -133,8 +133,8 @@ same_cost I l taking number t cost m c f =
     (same_best f.best.cost cost (map pos f.best.permutation) c.locations (sym f.is ∙ ap (λ (x : Mark). x.tuple) (one_mark number t m.best c.mark m.here c.here) ∙ c.is)).0
 
 -- where the worker stands after its writes
-leads : (cutting taking : Bool) (I : Problem) (last : ThoughtValue) (best : Best) (t t' : TxnValue) (written : Result (Option ℤ) AllocError) (told : Told) (stage : Stage) → t.writes ≡ [] → Writes cutting taking I last best t t' written → AfterWrites written t' told stage → ((told ≡ Ok true) × (IsReady cutting taking I last best t stage ⊎ IsStuck taking last best t stage)) ⊎ (IsErr told × IsShort t stage)
-leads cutting taking I last best t t' (Ok (Some c)) told stage none w after = inl (
+leads : (taking : Bool) (I : Problem) (last : ThoughtValue) (best : Best) (t t' : TxnValue) (written : Result (Option ℤ) AllocError) (told : Told) (stage : Stage) → t.writes ≡ [] → Writes taking I last best t t' written → AfterWrites written t' told stage → ((told ≡ Ok true) × (IsReady taking I last best t stage ⊎ IsStuck taking last best t stage)) ⊎ (IsErr told × IsShort t stage)
+leads taking I last best t t' (Ok (Some c)) told stage none w after = inl (
   after.0,
   inl (record {
     standing = w.standing;
@@ -147,7 +147,7 @@ leads cutting taking I last best t t' (Ok (Some c)) told stage none w after = in
     is = after.1 ∙ ap (λ (z : ℤ). Ready t' z) (sym w.costs);
   }),
 )
-leads cutting taking I last best t t' (Ok None) told stage none w after = inl (
+leads taking I last best t t' (Ok None) told stage none w after = inl (
   after.0,
   inr (record {
     standing = w.standing;
@@ -157,14 +157,14 @@ leads cutting taking I last best t t' (Ok None) told stage none w after = inl (
     is = after.1 ∙ ap (λ (x : TxnValue). GivingUp x) w.same;
   }),
 )
-leads cutting taking I last best t t' (Err e) told stage none w after = inr (after.0, record { with_writes = t'; same = w; is = after.1 })
+leads taking I last best t t' (Err e) told stage none w after = inr (after.0, record { with_writes = t'; same = w; is = after.1 })
 
 -- the best permutation was found, and it is there to stay
-pub has_best : (cutting : Bool) (I : Problem) (lease : ℕ) (l : LastThought) (taking : Bool) (number : ℕ) (t t' old : TxnValue) (tally tally' : Tally) (cost : ℤ) (written : Result (Option ℤ) AllocError) (told : Told) (stage : Stage) → IsLastThought cutting I l → HasBestMark I taking l.node number t → HasBestCost number t cost → ((best : Best) → IsBestAt number t best → best.cost ≡ cost → Writes cutting taking I (thought_of l) best t t' written) → AfterWrites written t' told stage → tally' ≡ record tally { best = Some cost } → HasBest taking (hand_of cutting I lease (Some (thought_of l)) (Considered old) tally) number t told (hand_of cutting I lease (Some (thought_of l)) stage tally')
-has_best cutting I lease l taking number t t' old tally tally' cost written told stage h m c writes after tallied =
+pub has_best : (I : Problem) (lease : ℕ) (l : LastThought) (taking : Bool) (number : ℕ) (t t' old : TxnValue) (tally tally' : Tally) (cost : ℤ) (written : Result (Option ℤ) AllocError) (told : Told) (stage : Stage) → IsLastThought I l → HasBestMark I taking l.node number t → HasBestCost number t cost → ((best : Best) → IsBestAt number t best → best.cost ≡ cost → Writes taking I (thought_of l) best t t' written) → AfterWrites written t' told stage → tally' ≡ record tally { best = Some cost } → HasBest taking (hand_of I lease (Some (thought_of l)) (Considered old) tally) number t told (hand_of I lease (Some (thought_of l)) stage tally')
+has_best I lease l taking number t t' old tally tally' cost written told stage h m c writes after tallied =
     let permanent = cost_permanent I l taking number t cost m c in
     let f = m.best_is permanent in
-    let there = found_at cutting I l taking number t h m permanent f in
+    let there = found_at I l taking number t h m permanent f in
     let costs = same_cost I l taking number t cost m c f in
     record {
       last = thought_of l;
@@ -172,8 +172,8 @@ has_best cutting I lease l taking number t t' old tally tally' cost written told
       best = f.best;
       here = ap (option_map (λ (x : Mark). x.tuple)) m.here ∙ ap (λ (w : List FieldValue). Some w) f.is;
       stage = stage;
-      leaves = ap (λ (y : Tally). hand_of cutting I lease (Some (thought_of l)) stage y) tallied ∙ ap (λ (z : ℤ). hand_of cutting I lease (Some (thought_of l)) stage (record tally { best = Some z })) (sym costs);
-      leads = leads cutting taking I (thought_of l) f.best t t' written told stage m.writes (writes f.best there costs) after;
+      leaves = ap (λ (y : Tally). hand_of I lease (Some (thought_of l)) stage y) tallied ∙ ap (λ (z : ℤ). hand_of I lease (Some (thought_of l)) stage (record tally { best = Some z })) (sym costs);
+      leads = leads taking I (thought_of l) f.best t t' written told stage m.writes (writes f.best there costs) after;
     }
 
 not_true : (b : Bool) → (b ≡ true → ⊥) → b ≡ false
@@ -181,8 +181,8 @@ not_true true h = absurd (h refl)
 not_true false h = refl
 
 -- what was found has a lease that ends
-pub has_leased : (cutting : Bool) (I : Problem) (lease : ℕ) (l : LastThought) (taking : Bool) (number : ℕ) (t old : TxnValue) (tally : Tally) (told : Told) (new : HandValue) → HasBestMark I taking l.node number t → HasNoBest number t → told ≡ Ok true → new ≡ hand_of cutting I lease (Some (thought_of l)) (GivingUp t) tally → HasLeased (hand_of cutting I lease (Some (thought_of l)) (Considered old) tally) number t told new
-has_leased cutting I lease l taking number t old tally told new m none tells leaves = record {
+pub has_leased : (I : Problem) (lease : ℕ) (l : LastThought) (taking : Bool) (number : ℕ) (t old : TxnValue) (tally : Tally) (told : Told) (new : HandValue) → HasBestMark I taking l.node number t → HasNoBest number t → told ≡ Ok true → new ≡ hand_of I lease (Some (thought_of l)) (GivingUp t) tally → HasLeased (hand_of I lease (Some (thought_of l)) (Considered old) tally) number t told new
+has_leased I lease l taking number t old tally told new m none tells leaves = record {
   mark = m.best;
   here = m.here;
   leased = not_true m.best.permanent (λ permanent. let f = m.best_is permanent in none m.best m.here permanent f.best.cost (map pos f.best.permutation) f.is);
@@ -197,13 +197,13 @@ TakenLaw = (m b : Mark) (renewed : Mark → Bool) → m.taken ≡ true → m.per
 abbrev ReadLaw : Type 0
 ReadLaw = (m b : Mark) (renewed : Mark → Bool) → m.taken ≡ true → m.permanent ≡ true → b.taken ≡ false → b.permanent ≡ true → IsUntaken b.entry (m ∷ []) → SameItems (gone_of renewed (with_mark b (m ∷ []))) (m.tuple ∷ []) × SameItems (kept_of (with_mark b (m ∷ []))) (b.tuple ∷ [])
 
-as_good_of : (cutting : Bool) (I : Problem) (x : Placement) (t : Thought) (old new : Best) → IsThought cutting I x t → IsBetterOf (candidate_of t) old new → IsAsGood I old new
-as_good_of cutting I x t old new h (inl better) = subst (λ (b : Best). IsAsGood I old b) (sym better.1) (inr (h.permutes, h.costs, better.0))
-as_good_of cutting I x t old new h (inr better) = inl better.1
+as_good_of : (I : Problem) (x : Placement) (t : Thought) (old new : Best) → IsThought I x t → IsBetterOf (candidate_of t) old new → IsAsGood I old new
+as_good_of I x t old new h (inl better) = subst (λ (b : Best). IsAsGood I old b) (sym better.1) (inr (h.permutes, h.costs, better.0))
+as_good_of I x t old new h (inr better) = inl better.1
 
 -- what was written may be committed
-may_commit : (cutting : Bool) (I : Problem) (l : LastThought) (taking : Bool) (number : ℕ) (t t' : TxnValue) (best : Best) (cost : ℤ) → TakenLaw → ReadLaw → IsLastThought cutting I l → (m : HasBestMark I taking l.node number t) → m.best.permanent ≡ true → m.best.tuple ≡ tuple_of best → WritesAll cutting taking I (thought_of l) best t t' cost → MayCommit (MayReplace cutting I) t'
-may_commit cutting I l true number t t' best cost taken_law read_law h m permanent is w = λ renewed.
+may_commit : (I : Problem) (l : LastThought) (taking : Bool) (number : ℕ) (t t' : TxnValue) (best : Best) (cost : ℤ) → TakenLaw → ReadLaw → IsLastThought I l → (m : HasBestMark I taking l.node number t) → m.best.permanent ≡ true → m.best.tuple ≡ tuple_of best → WritesAll taking I (thought_of l) best t t' cost → MayCommit (MayReplace I) t'
+may_commit I l true number t t' best cost taken_law read_law h m permanent is w = λ renewed.
     let x = l.node in
     let marks : t'.marks ≡ with_mark m.best (m.node ∷ []) = w.same.marks ∙ m.marks in
     let law = taken_law m.node m.best renewed m.node_taken m.node_permanent m.taken permanent m.untaken in
@@ -212,9 +212,9 @@ may_commit cutting I l true number t t' best cost taken_law read_law h m permane
     let gone_both : SameItems (gone_of renewed t'.marks) (node_tuple x ∷ tuple_of best ∷ []) = subst (λ (w : List FieldValue). SameItems (gone_of renewed t'.marks) (node_tuple x ∷ w ∷ [])) is gone_node in
     let kept : SameItems (kept_of t'.marks) [] = subst (λ (ms : List Mark). SameItems (kept_of ms) []) (sym marks) law.1 in
     let added : SameItems (added_of t'.writes) w.tuples = subst (λ (ws : List Write). SameItems (added_of t'.writes) (added_of ws ++ w.tuples)) m.writes w.added in
-    replaces_taken cutting I x best w.standing (gone_of renewed t'.marks) (kept_of t'.marks) (added_of t'.writes) w.written.rest h.placement h.size w.written.decides.decides
-    (as_good_of cutting I x l.thought best w.standing h.thought w.stands) gone_both kept (λ f. added f ∙ w.written.with_best f)
-may_commit cutting I l false number t t' best cost taken_law read_law h m permanent is w = λ renewed.
+    replaces_taken I x best w.standing (gone_of renewed t'.marks) (kept_of t'.marks) (added_of t'.writes) w.written.rest h.placement h.size w.written.decides.decides
+    (as_good_of I x l.thought best w.standing h.thought w.stands) gone_both kept (λ f. added f ∙ w.written.with_best f)
+may_commit I l false number t t' best cost taken_law read_law h m permanent is w = λ renewed.
     let x = l.node in
     let marks : t'.marks ≡ with_mark m.best (m.node ∷ []) = w.same.marks ∙ m.marks in
     let law = read_law m.node m.best renewed m.node_taken m.node_permanent m.taken permanent m.untaken in
@@ -223,27 +223,27 @@ may_commit cutting I l false number t t' best cost taken_law read_law h m perman
     let kept : SameItems (kept_of t'.marks) (m.best.tuple ∷ []) = subst (λ (ms : List Mark). SameItems (kept_of ms) (m.best.tuple ∷ [])) (sym marks) law.1 in
     let kept_best : SameItems (kept_of t'.marks) (tuple_of best ∷ []) = subst (λ (w : List FieldValue). SameItems (kept_of t'.marks) (w ∷ [])) is kept in
     let added : SameItems (added_of t'.writes) w.tuples = subst (λ (ws : List Write). SameItems (added_of t'.writes) (added_of ws ++ w.tuples)) m.writes w.added in
-    let decides : DecidesBy cutting I best.cost (thought_of l) w.tuples = subst (λ (b : Best). DecidesBy cutting I b.cost (thought_of l) w.tuples) w.stands w.written in
-    replaces_read cutting I x best (gone_of renewed t'.marks) (kept_of t'.marks) (added_of t'.writes) w.tuples h.placement h.size decides.decides gone_node kept_best added
+    let decides : DecidesBy I best.cost (thought_of l) w.tuples = subst (λ (b : Best). DecidesBy I b.cost (thought_of l) w.tuples) w.stands w.written in
+    replaces_read I x best (gone_of renewed t'.marks) (kept_of t'.marks) (added_of t'.writes) w.tuples h.placement h.size decides.decides gone_node kept_best added
 
-stage_after : (cutting : Bool) (I : Problem) (last : Option ThoughtValue) (taking : Bool) (lv : ThoughtValue) (best : Best) (t t' : TxnValue) (written : Result (Option ℤ) AllocError) (told : Told) (stage : Stage) → Writes cutting taking I lv best t t' written → ((cost : ℤ) → WritesAll cutting taking I lv best t t' cost → MayCommit (MayReplace cutting I) t') → AfterWrites written t' told stage → IsStage cutting I last stage
-stage_after cutting I last taking lv best t t' (Ok (Some c)) told stage w may after = subst (IsStage cutting I last) (sym after.1) (may c w)
-stage_after cutting I last taking lv best t t' (Ok None) told stage w may after = subst (IsStage cutting I last) (sym after.1) tt
-stage_after cutting I last taking lv best t t' (Err e) told stage w may after = subst (IsStage cutting I last) (sym after.1) tt
+stage_after : (I : Problem) (last : Option ThoughtValue) (taking : Bool) (lv : ThoughtValue) (best : Best) (t t' : TxnValue) (written : Result (Option ℤ) AllocError) (told : Told) (stage : Stage) → Writes taking I lv best t t' written → ((cost : ℤ) → WritesAll taking I lv best t t' cost → MayCommit (MayReplace I) t') → AfterWrites written t' told stage → IsStage I last stage
+stage_after I last taking lv best t t' (Ok (Some c)) told stage w may after = subst (IsStage I last) (sym after.1) (may c w)
+stage_after I last taking lv best t t' (Ok None) told stage w may after = subst (IsStage I last) (sym after.1) tt
+stage_after I last taking lv best t t' (Err e) told stage w may after = subst (IsStage I last) (sym after.1) tt
 
 -- what the transaction holds after the writes
-pub best_stage : (cutting : Bool) (I : Problem) (l : LastThought) (taking : Bool) (number : ℕ) (t t' : TxnValue) (cost : ℤ) (written : Result (Option ℤ) AllocError) (told : Told) (stage : Stage) → TakenLaw → ReadLaw → IsLastThought cutting I l → HasBestMark I taking l.node number t → HasBestCost number t cost → ((best : Best) → IsBestAt number t best → best.cost ≡ cost → Writes cutting taking I (thought_of l) best t t' written) → AfterWrites written t' told stage → IsStage cutting I (Some (thought_of l)) stage
-best_stage cutting I l taking number t t' cost written told stage taken_law read_law h m c writes after =
+pub best_stage : (I : Problem) (l : LastThought) (taking : Bool) (number : ℕ) (t t' : TxnValue) (cost : ℤ) (written : Result (Option ℤ) AllocError) (told : Told) (stage : Stage) → TakenLaw → ReadLaw → IsLastThought I l → HasBestMark I taking l.node number t → HasBestCost number t cost → ((best : Best) → IsBestAt number t best → best.cost ≡ cost → Writes taking I (thought_of l) best t t' written) → AfterWrites written t' told stage → IsStage I (Some (thought_of l)) stage
+best_stage I l taking number t t' cost written told stage taken_law read_law h m c writes after =
     let permanent = cost_permanent I l taking number t cost m c in
     let f = m.best_is permanent in
-    let there = found_at cutting I l taking number t h m permanent f in
+    let there = found_at I l taking number t h m permanent f in
     let costs = same_cost I l taking number t cost m c f in
-    stage_after cutting I (Some (thought_of l)) taking (thought_of l) f.best t t' written told stage (writes f.best there costs)
-    (λ k w. may_commit cutting I l taking number t t' f.best k taken_law read_law h m permanent f.is w) after
+    stage_after I (Some (thought_of l)) taking (thought_of l) f.best t t' written told stage (writes f.best there costs)
+    (λ k w. may_commit I l taking number t t' f.best k taken_law read_law h m permanent f.is w) after
 
 -- what the transaction holds after the call that looks for the best permutation
-pub found_best : (cutting : Bool) (I : Problem) (lawful : Content → ℕ → Type 0) (allowed : Content → Content → Content → Type 0) (taking : Bool) (x : Placement) (t t' : TxnValue) (answer : Answer) → ((template : List PatternValue) (tuple : List FieldValue) → IsTrue (does_match template tuple) ↔ Matches template tuple) → IsInstance I → IsSearchLaw cutting I lawful allowed → HasNode x t → Finds (InLawful lawful) taking best_template t answer t' → IsFoundBest I taking x answer t'
-found_best cutting I lawful allowed taking x t t' (found (Stored number)) test instance law n f = record {
+pub found_best : (I : Problem) (lawful : Content → ℕ → Type 0) (allowed : Content → Content → Content → Type 0) (taking : Bool) (x : Placement) (t t' : TxnValue) (answer : Answer) → ((template : List PatternValue) (tuple : List FieldValue) → IsTrue (does_match template tuple) ↔ Matches template tuple) → IsInstance I → IsSearchLaw I lawful allowed → HasNode x t → Finds (InLawful lawful) taking best_template t answer t' → IsFoundBest I taking x answer t'
+found_best I lawful allowed taking x t t' (found (Stored number)) test instance law n f = record {
   node = n.mark;
   best = f.0;
   marks = ap (λ (y : TxnValue). y.marks) f.4 ∙ ap (with_mark f.0) n.marks;
@@ -256,9 +256,9 @@ found_best cutting I lawful allowed taking x t t' (found (Stored number)) test i
   taken = f.2;
   best_is = λ permanent.
       let known = f.1.known permanent in
-      best_found_there (search_of cutting I law.0 law.1) known.0 known.1 f.0.tuple (law.2.is_cut_tree known.0 known.1 known.2) known.3 ((test best_template f.0.tuple).1 f.1.matches);
+      best_found_there (search_of I law.0 law.1) known.0 known.1 f.0.tuple (law.2.is_cut_tree known.0 known.1 known.2) known.3 ((test best_template f.0.tuple).1 f.1.matches);
 }
-found_best cutting I lawful allowed taking x t t' (found (Own place)) test instance law n f = tt
-found_best cutting I lawful allowed taking x t t' nothing test instance law n f = tt
-found_best cutting I lawful allowed taking x t t' (refused error) test instance law n f = subst (HasNode x) (sym f) n
-found_best cutting I lawful allowed taking x t t' done test instance law n f = tt
+found_best I lawful allowed taking x t t' (found (Own place)) test instance law n f = tt
+found_best I lawful allowed taking x t t' nothing test instance law n f = tt
+found_best I lawful allowed taking x t t' (refused error) test instance law n f = subst (HasNode x) (sym f) n
+found_best I lawful allowed taking x t t' done test instance law n f = tt

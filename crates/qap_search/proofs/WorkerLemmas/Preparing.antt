@@ -8,6 +8,6 @@ use Rattle.qap_search.specs.declared.worker.prepared.Prepared.{Prepared}
 use Rattle.qap_search.specs.declared.worker.stage.LastThought.{LastThought}
 
 -- nothing
-pub nothing_prepared : (cutting : Bool) (I : Problem) (last : Option LastThought) (p : Prepared) → p.cost ≡ None → HasPrepared cutting I last p
-nothing_prepared cutting I None p is = tt
-nothing_prepared cutting I (Some l) p is = subst (λ (c : Option ℤ). IfSome c (AreWritesFor cutting I (thought_of l) p.writes)) (sym is) tt
+pub nothing_prepared : (I : Problem) (last : Option LastThought) (p : Prepared) → p.cost ≡ None → HasPrepared I last p
+nothing_prepared I None p is = tt
+nothing_prepared I (Some l) p is = subst (λ (c : Option ℤ). IfSome c (AreWritesFor I (thought_of l) p.writes)) (sym is) tt

@@ -40,8 +40,8 @@ not_committed_after h new t cost Exhausted told other f = f
 not_committed_after h new t cost OutOfMemory told other f = f
 
 -- what is known after the call of a new transaction that takes an open node's entry
-pub found_node : (cutting : Bool) (I : Problem) (lawful : Content → ℕ → Type 0) (allowed : Content → Content → Content → Type 0) (t t' : TxnValue) (answer : Answer) → ((template : List PatternValue) (tuple : List FieldValue) → IsTrue (does_match template tuple) ↔ Matches template tuple) → IsInstance I → IsSearchLaw cutting I lawful allowed → t.marks ≡ [] → t.writes ≡ [] → Finds (InLawful lawful) true node_template t answer t' → IsFoundNode I answer t'
-found_node cutting I lawful allowed t t' (found (Stored number)) test instance law no_marks no_writes f =
+pub found_node : (I : Problem) (lawful : Content → ℕ → Type 0) (allowed : Content → Content → Content → Type 0) (t t' : TxnValue) (answer : Answer) → ((template : List PatternValue) (tuple : List FieldValue) → IsTrue (does_match template tuple) ↔ Matches template tuple) → IsInstance I → IsSearchLaw I lawful allowed → t.marks ≡ [] → t.writes ≡ [] → Finds (InLawful lawful) true node_template t answer t' → IsFoundNode I answer t'
+found_node I lawful allowed t t' (found (Stored number)) test instance law no_marks no_writes f =
     let marks : t'.marks ≡ f.0 ∷ [] = ap (λ (x : TxnValue). x.marks) f.4 ∙ ap (with_mark f.0) no_marks in
     let writes : t'.writes ≡ [] = ap (λ (x : TxnValue). x.writes) f.4 ∙ no_writes in
     record {
@@ -52,14 +52,14 @@ found_node cutting I lawful allowed t t' (found (Stored number)) test instance l
       taken = f.2;
       node = λ permanent.
           let known = f.1.known permanent in
-          node_found (search_of cutting I law.0 law.1) known.0 known.1 f.0.tuple (law.2.is_cut_tree known.0 known.1 known.2) known.3 (matching_open f.0.tuple (test node_template f.0.tuple) f.1.matches);
+          node_found (search_of I law.0 law.1) known.0 known.1 f.0.tuple (law.2.is_cut_tree known.0 known.1 known.2) known.3 (matching_open f.0.tuple (test node_template f.0.tuple) f.1.matches);
     }
-found_node cutting I lawful allowed t t' (found (Own place)) test instance law no_marks no_writes f = tt
-found_node cutting I lawful allowed t t' nothing test instance law no_marks no_writes f = tt
-found_node cutting I lawful allowed t t' (refused error) test instance law no_marks no_writes f = (ap (λ (x : TxnValue). x.marks) f ∙ no_marks, ap (λ (x : TxnValue). x.writes) f ∙ no_writes)
-found_node cutting I lawful allowed t t' done test instance law no_marks no_writes f = tt
+found_node I lawful allowed t t' (found (Own place)) test instance law no_marks no_writes f = tt
+found_node I lawful allowed t t' nothing test instance law no_marks no_writes f = tt
+found_node I lawful allowed t t' (refused error) test instance law no_marks no_writes f = (ap (λ (x : TxnValue). x.marks) f ∙ no_marks, ap (λ (x : TxnValue). x.writes) f ∙ no_writes)
+found_node I lawful allowed t t' done test instance law no_marks no_writes f = tt
 
 -- the transaction that came back is the one that was to be committed
-pub handed_on : (cutting : Bool) (I : Problem) (t : TxnValue) (committed : Committed) → MayCommit (MayReplace cutting I) t → IfErr committed (λ back. back.1 ≡ t) → IfErr committed (λ back. MayCommit (MayReplace cutting I) back.1)
-handed_on cutting I t (Ok u) may back = tt
-handed_on cutting I t (Err e) may back = subst (MayCommit (MayReplace cutting I)) (sym back) may
+pub handed_on : (I : Problem) (t : TxnValue) (committed : Committed) → MayCommit (MayReplace I) t → IfErr committed (λ back. back.1 ≡ t) → IfErr committed (λ back. MayCommit (MayReplace I) back.1)
+handed_on I t (Ok u) may back = tt
+handed_on I t (Err e) may back = subst (MayCommit (MayReplace I)) (sym back) may

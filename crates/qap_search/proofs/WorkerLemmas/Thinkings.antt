@@ -8,7 +8,7 @@ use Rattle.qap_cost.specs.Placement.{IsPlacement, Placement}
 use Rattle.space_txn.specs.Txn.{TxnValue}
 use Rattle.space_txn.specs.declared.mark.Mark.{Mark}
 use Rattle.qap_search.specs.Worker.Considering.{Considers, IsNodeAt, IsOnNode, IsThoughtOn, stage_after}
-use Rattle.qap_search.specs.Worker.Hand.{HandValue, cuts, hand_of, is_due, last_of, thought_of}
+use Rattle.qap_search.specs.Worker.Hand.{HandValue, hand_of, is_due, last_of, thought_of}
 use Rattle.qap_search.specs.Tuples.Piece.{node_tuple}
 use Rattle.qap_search.specs.Worker.Standing.{HasNode, HasTaken, IsHand, IsLastThought, IsStage}
 use Rattle.qap_search.specs.Node.Thought.{IsThought, ThoughtValue}
@@ -24,16 +24,16 @@ some_same : (a b : LastThought) → Some a ≡ Some b → b ≡ a
 some_same a b e = cc
 
 -- the last thought is kept
-pub kept_on : (cutting : Bool) (I : Problem) (last : Option LastThought) (x : Placement) → IsOnNode last x → IsThoughtOn cutting I x last last
-kept_on cutting I None x on = absurd on
-kept_on cutting I (Some l) x on = record { last = l; is = refl; node = on; right = λ h. h; kept = λ before e same. some_same l before e }
+pub kept_on : (I : Problem) (last : Option LastThought) (x : Placement) → IsOnNode last x → IsThoughtOn I x last last
+kept_on I None x on = absurd on
+kept_on I (Some l) x on = record { last = l; is = refl; node = on; right = λ h. h; kept = λ before e same. some_same l before e }
 
 not_both : (b : Bool) → b ≡ false → b ≡ true → ⊥
 not_both b fails holds = cc
 
 -- the last thought was on another node
-pub anew_on : (cutting : Bool) (I : Problem) (old : Option LastThought) (x : Placement) (t : Thought) (b : Bool) → IsPlacement x → x.size ≡ I.size → IsThought cutting I x t → b ≡ false → (IsOnNode old x → b ≡ true) → IsThoughtOn cutting I x old (Some (record { node = x; thought = t }))
-anew_on cutting I old x t b placed size thought fails on = record {
+pub anew_on : (I : Problem) (old : Option LastThought) (x : Placement) (t : Thought) (b : Bool) → IsPlacement x → x.size ≡ I.size → IsThought I x t → b ≡ false → (IsOnNode old x → b ≡ true) → IsThoughtOn I x old (Some (record { node = x; thought = t }))
+anew_on I old x t b placed size thought fails on = record {
   last = record { node = x; thought = t };
   is = refl;
   node = refl;
@@ -63,20 +63,20 @@ has_node I t number x taken there =
     }
 
 -- what holds of the worker after a thought that was due
-pub hand_after : (I : Problem) (tools : Tools) (old new : Option LastThought) (stage next : Stage) (b : Bool) → IsHand I tools old stage → is_due stage ≡ true → Considers (cuts tools.branching) I stage old (Ok b) new → ((t : TxnValue) (number : ℕ) → stage ≡ Taken t number → next ≡ stage_after b t) → IsHand I tools new next
+pub hand_after : (I : Problem) (tools : Tools) (old new : Option LastThought) (stage next : Stage) (b : Bool) → IsHand I tools old stage → is_due stage ≡ true → Considers I stage old (Ok b) new → ((t : TxnValue) (number : ℕ) → stage ≡ Taken t number → next ≡ stage_after b t) → IsHand I tools new next
 hand_after I tools old new (Taken t number) next true hand due c goes = record {
   node = hand.node;
   best = hand.best;
   instance = hand.instance;
-  thought = subst (λ (o : Option LastThought). IfSome o (IsLastThought (cuts tools.branching) I)) (sym c.2.is) (c.2.right hand.thought);
-  stage_is = subst (IsStage (cuts tools.branching) I (last_of new)) (sym (goes t number refl)) (subst (λ (o : Option LastThought). IsStage (cuts tools.branching) I (last_of o) (Considered t)) (sym c.2.is) (subst (λ (x : Placement). HasNode x t) (sym c.2.node) (has_node I t number c.0 hand.stage_is c.1)));
+  thought = subst (λ (o : Option LastThought). IfSome o (IsLastThought I)) (sym c.2.is) (c.2.right hand.thought);
+  stage_is = subst (IsStage I (last_of new)) (sym (goes t number refl)) (subst (λ (o : Option LastThought). IsStage I (last_of o) (Considered t)) (sym c.2.is) (subst (λ (x : Placement). HasNode x t) (sym c.2.node) (has_node I t number c.0 hand.stage_is c.1)));
 }
 hand_after I tools old new (Taken t number) next false hand due c goes = record {
   node = hand.node;
   best = hand.best;
   instance = hand.instance;
-  thought = subst (λ (o : Option LastThought). IfSome o (IsLastThought (cuts tools.branching) I)) (sym c.1) hand.thought;
-  stage_is = subst (IsStage (cuts tools.branching) I (last_of new)) (sym (goes t number refl)) tt;
+  thought = subst (λ (o : Option LastThought). IfSome o (IsLastThought I)) (sym c.1) hand.thought;
+  stage_is = subst (IsStage I (last_of new)) (sym (goes t number refl)) tt;
 }
 hand_after I tools old new Idle next b hand due c goes = absurd (false≢true due)
 hand_after I tools old new (Begun t) next b hand due c goes = absurd (false≢true due)
@@ -96,12 +96,12 @@ not_true true h = absurd (h refl)
 not_true false h = refl
 
 -- what a thought that was due leaves
-pub thinks : (I : Problem) (lease : ℕ) (tools : Tools) (old new : Option LastThought) (stage next : Stage) (tally : Tally) (b : Bool) → IsHand I tools old stage → is_due stage ≡ true → Considers (cuts tools.branching) I stage old (Ok b) new → ((t : TxnValue) (number : ℕ) → stage ≡ Taken t number → next ≡ stage_after b t) → Thinks (hand_of (cuts tools.branching) I lease (last_of old) stage tally) (hand_of (cuts tools.branching) I lease (last_of new) next tally)
+pub thinks : (I : Problem) (lease : ℕ) (tools : Tools) (old new : Option LastThought) (stage next : Stage) (tally : Tally) (b : Bool) → IsHand I tools old stage → is_due stage ≡ true → Considers I stage old (Ok b) new → ((t : TxnValue) (number : ℕ) → stage ≡ Taken t number → next ≡ stage_after b t) → Thinks (hand_of I lease (last_of old) stage tally) (hand_of I lease (last_of new) next tally)
 unfolding has_node
 thinks I lease tools old new (Taken t number) next tally true hand due c goes =
     let taken = hand.stage_is in
     let node = has_node I t number c.0 taken c.1 in
-    let value : Stage → Option LastThought → HandValue = λ s o. hand_of (cuts tools.branching) I lease (last_of o) s tally in
+    let value : Stage → Option LastThought → HandValue = λ s o. hand_of I lease (last_of o) s tally in
     record {
       t = t;
       number = number;
@@ -120,7 +120,7 @@ thinks I lease tools old new (Taken t number) next tally true hand due c goes =
 thinks I lease tools old new (Taken t number) next tally false hand due c goes =
     let taken = hand.stage_is in
     let here = find_one t taken.mark number taken.marks taken.entry in
-    let value : Stage → Option LastThought → HandValue = λ s o. hand_of (cuts tools.branching) I lease (last_of o) s tally in
+    let value : Stage → Option LastThought → HandValue = λ s o. hand_of I lease (last_of o) s tally in
     record {
       t = t;
       number = number;

@@ -6,15 +6,14 @@ use Rattle.qap_cost.specs.Placement.{Placement, root_of}
 use Rattle.qap_cost.specs.Range.{IsLimited}
 use Rattle.qap_cert.specs.Certificate.{Claim, Certifies, IsCertificate}
 use Rattle.gilmore_lawler.specs.Closing.{AreDuals}
-use Rattle.qap_cert.specs.Tree.{node_count}
+use Rattle.qap_cert.specs.Tree.{Node, node_count}
 use Rattle.qap_cert.specs.Valid.{ClosesPart}
-use Rattle.qap_proof.specs.Tree.{Node, whole}
 use Rattle.space_txn.specs.Content.{SameItems}
 use Rattle.tuple_match.specs.FieldValue.{FieldValue}
 use Rattle.qap_search.specs.Certificate.LeafBounds.{IsBoundOf}
 use Rattle.qap_search.specs.Certificate.OpenNodes.{ClosedTo, undecided_count}
 use Rattle.qap_search.specs.Tuples.Piece.{best_tuple, pieces}
-use Rattle.qap_search.specs.Law.SearchTree.{SearchTree, IsTree, as_proof, plain, decided_count}
+use Rattle.qap_search.specs.Law.SearchTree.{SearchTree, IsTree, decided_count}
 use Rattle.qap_search.specs.declared.certificate.error.AssembleError.{AssembleError}
 use Rattle.qap_search.specs.declared.certificate.error.AssembleError.TheVariants.{Unfinished, NotATree, OutOfMemory}
 
@@ -22,8 +21,8 @@ use Rattle.qap_search.specs.declared.certificate.error.AssembleError.TheVariants
 pub record IsClosedTo (I : Problem) (s : SearchTree) (C : Claim) : Type 0 where
   pub certificate : IsCertificate C
   pub same_size : length C.permutation ≡ I.size
-  pub closed : ClosedTo I (root_of I.size) s (as_proof C.tree)
-  pub least : IsBoundOf I (root_of I.size) C.cost (as_proof C.tree) C.bound
+  pub closed : ClosedTo I (root_of I.size) s C.tree
+  pub least : IsBoundOf I C.cost C.tree C.bound
 
 -- the tuples, in any order, are those of a search tree and of the permutation of this certificate, which has that tree with
 -- each open node closed
@@ -41,7 +40,7 @@ pub record IsUnfinished (n : ℕ) (tuples : List (List FieldValue)) (c : ℤ) (p
   pub cost : IsLimited c
   pub permutation : IsPerm p
   pub same_size : length p ≡ n
-  pub tree : IsTree (plain HasDuals) (whole (root_of n)) s
+  pub tree : IsTree HasDuals (root_of n) s
   pub taken_apart : SameItems tuples (best_tuple c p ∷ pieces (root_of n) s)
 
 -- with its open nodes closed, the search tree has a bound below -10^24
@@ -49,7 +48,7 @@ pub record ShowsTooLow (I : Problem) (c : ℤ) (s : SearchTree) : Type 0 where
   pub tree : Node
   pub closed : ClosedTo I (root_of I.size) s tree
   pub bound : ℤ
-  pub least : IsBoundOf I (root_of I.size) c tree bound
+  pub least : IsBoundOf I c tree bound
   pub too_low : IsLimited bound → ⊥
 
 -- the tuples form no search tree and permutation, or one with too low a bound
@@ -68,7 +67,7 @@ pub record CertifiesStopped (I : Problem) (nodes : ℕ) (C : Claim) : Type 0 whe
   pub certified : Certifies I C
   pub tree : SearchTree
   pub closes : IsClosedTo I tree C
-  pub closed_before : IsTree (plain (ClosesPart I C.cost)) (whole (root_of I.size)) tree
+  pub closed_before : IsTree (ClosesPart I C.cost) (root_of I.size) tree
   pub decided : decided_count tree ≡ nodes
   pub left : 0 < undecided_count tree
   pub counted : node_count C.tree ≡ nodes + undecided_count tree

@@ -1,13 +1,13 @@
 -- What one commit may replace an open node with.
-use Rattle.std.specs.Prelude.{◌≡◌, ◌⊎◌, ℕ, Bool, List, [], ◌∷◌, ℤ, ◌<ℤ◌}
+use Rattle.std.specs.Prelude.{◌≡◌, ◌⊎◌, ℕ, List, [], ◌∷◌, ℤ, ◌<ℤ◌}
 use Rattle.qap_cost.specs.Instance.{Problem}
 use Rattle.qap_cost.specs.Objective.{Permutes, cost_of}
 use Rattle.qap_cost.specs.Placement.{Placement, IsPlacement}
-use Rattle.qap_proof.specs.Tree.{whole}
+use Rattle.qap_cert.specs.Valid.{ClosesPart}
 use Rattle.space_txn.specs.Content.{SameItems}
 use Rattle.tuple_match.specs.FieldValue.{FieldValue}
 use Rattle.qap_search.specs.Tuples.Piece.{node_tuple, best_tuple, pieces}
-use Rattle.qap_search.specs.Law.SearchTree.{SearchTree, split_node, closed_node, IsTree, AreUndecided, judge_of}
+use Rattle.qap_search.specs.Law.SearchTree.{SearchTree, open_node, split_node, closed_node, IsTree, AreOpen}
 
 -- a permutation, and its claimed cost
 pub record Best : Type 0 where
@@ -23,11 +23,11 @@ abbrev pub IsAsGood : Problem → Best → Best → Type 0
 IsAsGood I old new =
     (new ≡ old) ⊎ (Permutes I new.permutation × (cost_of I new.permutation ≡ new.cost) × (new.cost <ℤ old.cost))
 
--- one decided node: duals close it, or it is split, and each of its children is open, pruned or symmetric
+-- one decided node: duals close it, or it is split, and all its children are open
 abbrev pub IsOneNode : SearchTree → Type 0
-IsOneNode (split_node s children) = AreUndecided children
+IsOneNode open_node = ⊥
+IsOneNode (split_node f children) = AreOpen children
 IsOneNode (closed_node u v) = Unit {0}
-IsOneNode _ = ⊥
 
 -- the incumbent was read, and stays
 pub record ReadsBest (x : Placement) (old new : Best) (decided : SearchTree) (gone kept added : List (List FieldValue)) : Type 0 where
@@ -43,9 +43,8 @@ pub record TakesBest (I : Problem) (x : Placement) (old new : Best) (decided : S
   pub reads : SameItems kept []
   pub adds : SameItems added (tuple_of new ∷ pieces x decided)
 
--- an open node is replaced by a decided one, under the incumbent after the commit; `cutting` says whether
--- children may be pruned
-pub record MayReplace (cutting : Bool) (I : Problem) (gone kept added : List (List FieldValue)) : Type 0 where
+-- an open node is replaced by a decided one, under the incumbent after the commit
+pub record MayReplace (I : Problem) (gone kept added : List (List FieldValue)) : Type 0 where
   pub at : Placement
   pub placement : IsPlacement at
   pub same_size : at.size ≡ I.size
@@ -53,5 +52,5 @@ pub record MayReplace (cutting : Bool) (I : Problem) (gone kept added : List (Li
   pub new : Best
   pub decided : SearchTree
   pub one : IsOneNode decided
-  pub valid : IsTree (judge_of cutting I new.cost) (whole at) decided
+  pub valid : IsTree (ClosesPart I new.cost) at decided
   pub tuples : ReadsBest at old new decided gone kept added ⊎ TakesBest I at old new decided gone kept added

@@ -1,14 +1,13 @@
 -- What is searched: the permutations of an instance that complete a node, starting from a known one.
-use Rattle.std.specs.Prelude.{◌≡◌, ◌≤ℤ◌, ℕ, ℤ, Bool, false, List}
+use Rattle.std.specs.Prelude.{◌≡◌, ◌≤ℤ◌, ℕ, ℤ, List}
 use Rattle.std.specs.List.{range_with_len}
 use Rattle.qap_cost.specs.Instance.{Problem}
 use Rattle.qap_cost.specs.Objective.{Permutes, cost_of}
 use Rattle.qap_cost.specs.Placement.{Placement, Completes, IsPlacement, root_of}
 use Rattle.qap_search.specs.Law.Replacement.{Best}
 
--- `cutting` says whether the search may prune children by their parent's duals
+-- an instance, the node whose completions are searched, and a permutation that is known before
 pub record Search : Type 0 where
-  pub cutting : Bool
   pub instance : Problem
   pub root : Placement
   pub known : Best
@@ -24,13 +23,13 @@ pub record IsSearch (S : Search) : Type 0 where
 abbrev pub NoneBelow : Search → ℤ → Type 0
 NoneBelow S c = (p : List ℕ) → Completes S.root p → c ≤ℤ cost_of S.instance p
 
--- the search of I over the root x, with b as the known permutation, with or without pruning
-abbrev pub search_of : Bool → Problem → Placement → Best → Search
-search_of cutting I x b = record { cutting = cutting; instance = I; root = x; known = b }
+-- the search of I over the root x, with b as the known permutation
+abbrev pub search_of : Problem → Placement → Best → Search
+search_of I x b = record { instance = I; root = x; known = b }
 
--- all permutations of the instance, without pruning
+-- all permutations of the instance
 abbrev pub from_root : Problem → Best → Search
-from_root I b = search_of false I (root_of I.size) b
+from_root I b = search_of I (root_of I.size) b
 
 -- facility i at location i
 abbrev pub identity_of : Problem → List ℕ

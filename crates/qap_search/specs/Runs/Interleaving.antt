@@ -48,7 +48,7 @@ together x y = min (x + y) (2 ^ 64 - 1)
 -- count is kept
 abbrev pub after_loss : Problem → ℕ → PostValue → PostValue
 after_loss I lease p = record {
-  hand = new_hand false I lease;
+  hand = new_hand I lease;
   accepted = p.accepted + p.hand.accepted;
   refused = together p.refused p.hand.refused;
 }
@@ -78,7 +78,7 @@ Runs I lease old (s ∷ rest) new = (next : Moment) × Moves I lease old s next 
 
 -- a new worker, with nothing counted
 abbrev pub beginner : Problem → ℕ → PostValue
-beginner I lease = record { hand = new_hand false I lease; accepted = 0; refused = 0 }
+beginner I lease = record { hand = new_hand I lease; accepted = 0; refused = 0 }
 
 -- the beginning: the initial space of a search, and this many new workers
 abbrev pub start_of : Problem → ℕ → ℕ → Moment

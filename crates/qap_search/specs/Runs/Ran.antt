@@ -22,7 +22,7 @@ pub record RanTo (S : Search) (workers : ℕ) (limit : Option ℕ) (w : World) :
   pub opens : IsOpening S opening
   pub place : Place
   pub is : place.world ≡ w
-  pub run : Run (MayReplace S.cutting S.instance) limit (place_of opening workers 0 (is_reached limit 0)) place
+  pub run : Run (MayReplace S.instance) limit (place_of opening workers 0 (is_reached limit 0)) place
 
 -- such a run has this many accepted commits, and leaves this many nodes open
 pub record Ran (S : Search) (workers : ℕ) (limit : Option ℕ) (commits count : ℕ) : Type 0 where

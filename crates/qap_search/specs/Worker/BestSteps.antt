@@ -66,12 +66,12 @@ IsFoundBest I taking x (refused error) t = HasNode x t
 IsFoundBest I taking x done t = Unit {0}
 
 -- the consequences of the incumbent have been written, and the new incumbent has this cost
-pub record WritesAll (cutting taking : Bool) (I : Problem) (last : ThoughtValue) (best : Best) (t t' : TxnValue) (cost : ℤ) : Type 0 where
+pub record WritesAll (taking : Bool) (I : Problem) (last : ThoughtValue) (best : Best) (t t' : TxnValue) (cost : ℤ) : Type 0 where
   pub standing : Best
   pub stands : IsStanding taking last.candidate best standing
   pub costs : standing.cost ≡ cost
   pub tuples : List (List FieldValue)
-  pub written : IsWritten cutting taking I standing last tuples
+  pub written : IsWritten taking I standing last tuples
   pub same : HasMarksOf t t'
   pub added : SameItems (added_of t'.writes) (added_of t.writes ++ tuples)
 
@@ -84,10 +84,10 @@ pub record WritesNothing (taking : Bool) (last : ThoughtValue) (best : Best) (t 
   pub same : t' ≡ t
 
 -- the outcomes of writing: all is written; nothing can be written; or memory ran out, and only the writes may differ
-abbrev pub Writes : Bool → Bool → Problem → ThoughtValue → Best → TxnValue → TxnValue → Result (Option ℤ) AllocError → Type 0
-Writes cutting taking I last best t t' (Ok (Some cost)) = WritesAll cutting taking I last best t t' cost
-Writes cutting taking I last best t t' (Ok None) = WritesNothing taking last best t t'
-Writes cutting taking I last best t t' (Err error) = HasMarksOf t t'
+abbrev pub Writes : Bool → Problem → ThoughtValue → Best → TxnValue → TxnValue → Result (Option ℤ) AllocError → Type 0
+Writes taking I last best t t' (Ok (Some cost)) = WritesAll taking I last best t t' cost
+Writes taking I last best t t' (Ok None) = WritesNothing taking last best t t'
+Writes taking I last best t t' (Err error) = HasMarksOf t t'
 
 -- the state of a worker after that
 abbrev pub AfterWrites : Result (Option ℤ) AllocError → TxnValue → Told → Stage → Type 0

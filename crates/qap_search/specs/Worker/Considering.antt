@@ -31,19 +31,19 @@ IsOnNode None x = ⊥
 IsOnNode (Some l) x = l.node ≡ x
 
 -- x has been evaluated; if the last evaluation was of x, it is kept
-pub record IsThoughtOn (cutting : Bool) (I : Problem) (x : Placement) (old new : Option LastThought) : Type 0 where
+pub record IsThoughtOn (I : Problem) (x : Placement) (old new : Option LastThought) : Type 0 where
   pub last : LastThought
   pub is : new ≡ Some last
   pub node : last.node ≡ x
-  pub right : IfSome old (IsLastThought cutting I) → IsLastThought cutting I last
+  pub right : IfSome old (IsLastThought I) → IsLastThought I last
   pub kept : (before : LastThought) → old ≡ Some before → before.node ≡ x → before ≡ last
 
 -- the outcome of an evaluation that was due: whether the node was evaluated
-abbrev pub Considers : Bool → Problem → Stage → Option LastThought → Result Bool AllocError → Option LastThought → Type 0
-Considers cutting I (Taken t number) old (Ok true) new = (x : Placement) × IsNodeAt I.size number t x × IsThoughtOn cutting I x old new
-Considers cutting I (Taken t number) old (Ok false) new = HasNoNode I.size number t × (new ≡ old)
-Considers cutting I stage old (Err error) new = new ≡ old
-Considers cutting I stage old told new = Unit {0}
+abbrev pub Considers : Problem → Stage → Option LastThought → Result Bool AllocError → Option LastThought → Type 0
+Considers I (Taken t number) old (Ok true) new = (x : Placement) × IsNodeAt I.size number t x × IsThoughtOn I x old new
+Considers I (Taken t number) old (Ok false) new = HasNoNode I.size number t × (new ≡ old)
+Considers I stage old (Err error) new = new ≡ old
+Considers I stage old told new = Unit {0}
 
 -- the state of a worker after an evaluation that was due: by whether the node was evaluated
 abbrev pub stage_after : Bool → TxnValue → Stage

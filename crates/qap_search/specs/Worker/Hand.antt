@@ -2,8 +2,6 @@
 use Rattle.std.specs.Prelude.{ℕ, Bool, true, false, ℤ, int_lt, Option, Some, None}
 use Rattle.qap_cost.specs.Instance.{Problem}
 use Rattle.qap_search.specs.Node.Thought.{ThoughtValue, thought_on}
-use Rattle.qap_search.specs.declared.node.branching.Branching.{Branching}
-use Rattle.qap_search.specs.declared.node.branching.Branching.TheVariants.{Cutting}
 use Rattle.qap_search.specs.declared.worker.gate.Kind.{Kind}
 use Rattle.qap_search.specs.declared.worker.gate.Kind.TheVariants as kinds
 use Rattle.qap_search.specs.declared.worker.stage.LastThought.{LastThought}
@@ -11,14 +9,8 @@ use Rattle.qap_search.specs.declared.worker.stage.Stage.{Stage}
 use Rattle.qap_search.specs.declared.worker.stage.Stage.TheVariants.{Idle, Begun, Taken, Considered, Ready, GivingUp}
 use Rattle.qap_search.specs.declared.worker.stage.Tally.{Tally}
 
--- whether a search with this branching rule may prune children
-abbrev pub cuts : Branching → Bool
-cuts Cutting = true
-cuts _ = false
-
--- `cutting` says whether the worker may prune children; `best` is the cost of the incumbent that it knows of
+-- `best` is the cost of the incumbent that it knows of
 pub record HandValue : Type 0 where
-  pub cutting : Bool
   pub instance : Problem
   pub lease : ℕ
   pub last : Option ThoughtValue
@@ -37,13 +29,13 @@ last_of None = None
 last_of (Some l) = Some (thought_of l)
 
 -- a worker, from the parts that the code stores
-abbrev pub hand_of : Bool → Problem → ℕ → Option ThoughtValue → Stage → Tally → HandValue
-hand_of cutting I lease last stage tally =
-    record { cutting = cutting; instance = I; lease = lease; last = last; stage = stage; best = tally.best; accepted = tally.accepted; refused = tally.refused }
+abbrev pub hand_of : Problem → ℕ → Option ThoughtValue → Stage → Tally → HandValue
+hand_of I lease last stage tally =
+    record { instance = I; lease = lease; last = last; stage = stage; best = tally.best; accepted = tally.accepted; refused = tally.refused }
 
 -- a new worker
-abbrev pub new_hand : Bool → Problem → ℕ → HandValue
-new_hand cutting I lease = record { cutting = cutting; instance = I; lease = lease; last = None; stage = Idle; best = None; accepted = 0; refused = 0 }
+abbrev pub new_hand : Problem → ℕ → HandValue
+new_hand I lease = record { instance = I; lease = lease; last = None; stage = Idle; best = None; accepted = 0; refused = 0 }
 
 -- an evaluation is due: an open node's entry was taken
 abbrev pub is_due : Stage → Bool

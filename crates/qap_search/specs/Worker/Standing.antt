@@ -1,5 +1,5 @@
 -- What a worker's transaction holds at each stage of its turn.
-use Rattle.std.specs.Prelude.{◌≡◌, ℕ, Bool, true, [], ◌∷◌, Option, Some, None, IfSome}
+use Rattle.std.specs.Prelude.{◌≡◌, ℕ, true, [], ◌∷◌, Option, Some, None, IfSome}
 use Rattle.qap_cost.specs.Instance.{Problem, IsInstance}
 use Rattle.qap_cost.specs.Placement.{Placement, IsPlacement}
 use Rattle.shared_space.specs.Law.{Content, MayCommit}
@@ -8,7 +8,7 @@ use Rattle.space_txn.specs.Txn.{TxnValue}
 use Rattle.space_txn.specs.declared.mark.Mark.{Mark}
 use Rattle.space_txn.specs.declared.txn.Found.TheVariants.{Entry as Stored, Own}
 use Rattle.qap_search.specs.Tuples.Found.{IsOpenNode, best_template}
-use Rattle.qap_search.specs.Worker.Hand.{cuts, last_of}
+use Rattle.qap_search.specs.Worker.Hand.{last_of}
 use Rattle.qap_search.specs.Tuples.Piece.{node_template, node_tuple}
 use Rattle.qap_search.specs.Law.Replacement.{MayReplace}
 use Rattle.qap_search.specs.Worker.Prepared.{HasPrepared}
@@ -47,37 +47,37 @@ pub record HasNode (x : Placement) (t : TxnValue) : Type 0 where
   pub is : mark.tuple ≡ node_tuple x
 
 -- what holds for the transaction at each stage of a turn
-abbrev pub IsStage : Bool → Problem → Option ThoughtValue → Stage → Type 0
-IsStage cutting I last Idle = Unit {0}
-IsStage cutting I last (Begun t) = (t.marks ≡ []) × (t.writes ≡ [])
-IsStage cutting I last (Taken t number) = HasTaken I t number
-IsStage cutting I None (Considered t) = ⊥
-IsStage cutting I (Some last) (Considered t) = HasNode last.node t
-IsStage cutting I last (Ready t cost) = MayCommit (MayReplace cutting I) t
-IsStage cutting I last (GivingUp t) = Unit {0}
+abbrev pub IsStage : Problem → Option ThoughtValue → Stage → Type 0
+IsStage I last Idle = Unit {0}
+IsStage I last (Begun t) = (t.marks ≡ []) × (t.writes ≡ [])
+IsStage I last (Taken t number) = HasTaken I t number
+IsStage I None (Considered t) = ⊥
+IsStage I (Some last) (Considered t) = HasNode last.node t
+IsStage I last (Ready t cost) = MayCommit (MayReplace I) t
+IsStage I last (GivingUp t) = Unit {0}
 
 -- the evaluation is correct
-pub record IsLastThought (cutting : Bool) (I : Problem) (l : LastThought) : Type 0 where
+pub record IsLastThought (I : Problem) (l : LastThought) : Type 0 where
   pub placement : IsPlacement l.node
   pub size : l.node.size ≡ I.size
-  pub thought : IsThought cutting I l.node l.thought
+  pub thought : IsThought I l.node l.thought
 
 -- what holds for every worker
 pub record IsHand (I : Problem) (tools : Tools) (last : Option LastThought) (stage : Stage) : Type 0 where
   pub node : tools.node ≡ node_template
   pub best : tools.best ≡ best_template
   pub instance : IsInstance I
-  pub thought : IfSome last (IsLastThought (cuts tools.branching) I)
-  pub stage_is : IsStage (cuts tools.branching) I (last_of last) stage
+  pub thought : IfSome last (IsLastThought I)
+  pub stage_is : IsStage I (last_of last) stage
 
 -- such a worker, on a space that holds the search of its instance
 abbrev pub IsSearchHand : (Content → ℕ → Type 0) → (Content → Content → Content → Type 0) → Tools → Option LastThought → Stage → Type 0
-IsSearchHand lawful allowed tools last stage = (I : Problem) × IsHand I tools last stage × IsSearchLaw (cuts tools.branching) I lawful allowed
+IsSearchHand lawful allowed tools last stage = (I : Problem) × IsHand I tools last stage × IsSearchLaw I lawful allowed
 
 -- what holds for each node on which a worker is working
 pub record IsJob (I : Problem) (tools : Tools) (j : Job) : Type 0 where
   pub hand : IsHand I tools j.last j.stage
-  pub prepared : HasPrepared (cuts tools.branching) I j.last j.prepared
+  pub prepared : HasPrepared I j.last j.prepared
 
 -- a worker has no node yet
 pub record IsIdle (j : Job) : Type 0 where

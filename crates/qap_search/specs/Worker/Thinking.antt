@@ -10,9 +10,9 @@ use Rattle.qap_search.specs.declared.worker.stage.Stage.TheVariants.{Taken, Cons
 use Rattle.qap_search.specs.declared.node.thought.Thought.{Thought}
 
 -- the value is that of an evaluation of the node
-pub record IsWorkedOut (cutting : Bool) (I : Problem) (v : ThoughtValue) : Type 0 where
+pub record IsWorkedOut (I : Problem) (v : ThoughtValue) : Type 0 where
   pub thought : Thought
-  pub right : IsThought cutting I v.node thought
+  pub right : IsThought I v.node thought
   pub told : v ≡ thought_on v.node thought
 
 -- the node of the entry that was taken, which is permanent, has been evaluated; its last evaluation is kept
@@ -20,7 +20,7 @@ pub record IsConsidered (old new : HandValue) (t : TxnValue) (mark : Mark) : Typ
   pub permanent : mark.permanent ≡ true
   pub last : ThoughtValue
   pub is : mark.tuple ≡ node_tuple last.node
-  pub thought : IsWorkedOut old.cutting old.instance last
+  pub thought : IsWorkedOut old.instance last
   pub kept : (before : ThoughtValue) → old.last ≡ Some before → before.node ≡ last.node → before ≡ last
   pub leaves : new ≡ record old { stage = Considered t; last = Some last }
 

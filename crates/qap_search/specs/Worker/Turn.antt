@@ -62,9 +62,9 @@ IsStanding true candidate best standing = IsBetterOf candidate best standing
 IsStanding false candidate best standing = standing ≡ best
 
 -- what is written: the decision on the evaluated node, and if the incumbent was taken the new one
-abbrev pub IsWritten : Bool → Bool → Problem → Best → ThoughtValue → List (List FieldValue) → Type 0
-IsWritten cutting true I standing last tuples = DecidesBeside cutting I standing.cost standing.permutation last tuples
-IsWritten cutting false I standing last tuples = DecidesBy cutting I standing.cost last tuples
+abbrev pub IsWritten : Bool → Problem → Best → ThoughtValue → List (List FieldValue) → Type 0
+IsWritten true I standing last tuples = DecidesBeside I standing.cost standing.permutation last tuples
+IsWritten false I standing last tuples = DecidesBy I standing.cost last tuples
 
 -- the transaction t with other writes
 pub record HasMarksOf (t t' : TxnValue) : Type 0 where
@@ -72,11 +72,11 @@ pub record HasMarksOf (t t' : TxnValue) : Type 0 where
   pub marks : t'.marks ≡ t.marks
 
 -- The incumbent was found, and its cost is remembered; the writes that follow from it are ready.
-pub record IsReady (cutting taking : Bool) (I : Problem) (last : ThoughtValue) (best : Best) (t : TxnValue) (stage : Stage) : Type 0 where
+pub record IsReady (taking : Bool) (I : Problem) (last : ThoughtValue) (best : Best) (t : TxnValue) (stage : Stage) : Type 0 where
   pub standing : Best
   pub stands : IsStanding taking last.candidate best standing
   pub tuples : List (List FieldValue)
-  pub written : IsWritten cutting taking I standing last tuples
+  pub written : IsWritten taking I standing last tuples
   pub with_writes : TxnValue
   pub same : HasMarksOf t with_writes
   pub added : SameItems (added_of with_writes.writes) tuples
@@ -104,7 +104,7 @@ pub record HasBest (taking : Bool) (old : HandValue) (number : ℕ) (t : TxnValu
   pub here : found_tuple t (Stored number) ≡ Some (tuple_of best)
   pub stage : Stage
   pub leaves : new ≡ record old { stage = stage; best = Some best.cost }
-  pub leads : ((told ≡ Ok true) × (IsReady old.cutting taking old.instance last best t stage ⊎ IsStuck taking last best t stage)) ⊎ (IsErr told × IsShort t stage)
+  pub leads : ((told ≡ Ok true) × (IsReady taking old.instance last best t stage ⊎ IsStuck taking last best t stage)) ⊎ (IsErr told × IsShort t stage)
 
 -- a tuple was found whose lease ends
 pub record HasLeased (old : HandValue) (number : ℕ) (t : TxnValue) (told : Told) (new : HandValue) : Type 0 where

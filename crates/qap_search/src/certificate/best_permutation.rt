@@ -7,8 +7,7 @@ ghost use Rattle.qap_search.specs.Law.Search.{Search};
 ghost use Rattle.tuple_match.specs.FieldValue.{FieldValue};
 ghost use Rattle.number_list.specs.Numbers.{numbers_in};
 
-use crate::certificate::assembling::permutation_in;
-use crate::worker::best_steps::best_fields;
+use crate::tuples::parsing::{best_fields, permutation_of};
 use number_list::Numbers;
 use qap_cost::Perm;
 use std::alloc::{AllocError, Global};
@@ -23,8 +22,7 @@ pub(crate) fn best_of(alloc: Global, tuples: &[Tuple]) -> Result<(Perm, i128), A
     let Some((cost, locations)) = first_best(tuples) else {
         unreachable!()
     };
-    let room = Vec::with_capacity(alloc, locations.len())?;
-    let Some(permutation) = permutation_in(&locations, room)? else {
+    let Some(permutation) = permutation_of(alloc, &locations)? else {
         unreachable!()
     };
     Ok((permutation, cost))

@@ -9,7 +9,7 @@ ghost use Rattle.qap_search.specs.declared.certificate.error.AssembleError.TheVa
 use crate::certificate::error::AssembleError;
 use crate::node::node_list::read_into;
 use crate::tuples::composing::tuple_of_closed;
-use crate::worker::thinking::node_numbers;
+use crate::tuples::parsing::node_numbers;
 use assign_dual::{Assignment, Solver};
 use gilmore_lawler::{RankedInstance, Workspace};
 use qap_cost::{Matrix, Partial};
@@ -18,11 +18,11 @@ use tuple_match::Tuple;
 
 /// Memory in which open nodes are read and their duals computed, kept from one node to the next.
 #[derive(Drop)]
-pub(crate) struct Closing {
+struct Closing {
     /// The node that was read.
-    pub(crate) node: Partial,
+    node: Partial,
     /// A least assignment of its Gilmore-Lawler matrix, with the duals.
-    pub(crate) answer: Assignment,
+    answer: Assignment,
     workspace: Workspace,
     matrix: Matrix,
     solver: Solver,
@@ -30,7 +30,7 @@ pub(crate) struct Closing {
 
 impl Closing {
     /// With all the memory that nodes of this size want.
-    pub(crate) fn with_room(alloc: Global, size: usize) -> Result<Closing, AllocError>
+    fn with_room(alloc: Global, size: usize) -> Result<Closing, AllocError>
         requires positive { 0 < size }
         requires small { size ≤ 256 }
     {
@@ -46,7 +46,7 @@ impl Closing {
     }
 
     /// Makes the answer the least assignment of the Gilmore-Lawler matrix of the node that was read.
-    pub(crate) fn work_out(&mut self, instance: &RankedInstance) -> Result<(), AllocError>
+    fn work_out(&mut self, instance: &RankedInstance) -> Result<(), AllocError>
         requires same_size { instance.now.size ≡ self.old.node.size }
         requires placement { IsPlacement self.old.node }
         ensures duals { OnOk result (AreLeastDuals instance.now self.old.node self.new.answer.u.items self.new.answer.v.items) }

@@ -1,30 +1,36 @@
-//! The bounds of the leaves of a tree.
+//! The bounds of the leaves of a certificate's tree.
 
-ghost use Rattle.std.specs.Prelude.{◌≡◌, ◌↔◌, ◌+ℤ◌, ◌∷◌, [], ℕ, Bool, IfOk, IsTrue, length};
-ghost use Rattle.qap_cost.specs.Matrix.{dual_value};
-ghost use Rattle.qap_cost.specs.Placement.{fixed_cost_of};
-ghost use Rattle.qap_proof.specs.Cover.{IsLeastOf};
-ghost use Rattle.qap_proof.specs.Memory.{node_of, nodes_of};
-ghost use Rattle.qap_proof.specs.NodeLine.{split_of};
+ghost use Rattle.std.specs.Prelude.{◌≡◌, ◌<◌, ◌-◌, ◌+ℤ◌, ◌++◌, ◌∷◌, [], ℕ, IfOk, length, slice_index};
 ghost use Rattle.gilmore_lawler.specs.Closing.{AreDuals};
-ghost use Rattle.qap_proof.specs.Shape.{AllHaveShape, HasShape, free_count};
-ghost use Rattle.qap_proof.specs.Tree.{IsFreeOn, Place, node_at};
-ghost use Rattle.qap_search.specs.Certificate.LeafBounds.{shown, shown_by_all};
-ghost use Rattle.qap_search.specs.Law.SearchTree.{AreTrees, IsTree, of_proof, of_proofs, readable};
+ghost use Rattle.qap_cost.specs.Matrix.{dual_value};
+ghost use Rattle.qap_cost.specs.Placement.{IsFreeFacility, IsFreeLocation, IsPlacement, fixed_cost_of};
+ghost use Rattle.qap_cert.specs.Shape.{AllHaveShape, HasShape};
+ghost use Rattle.qap_cert.specs.Tree.{node_of, nodes_of};
+ghost use Rattle.qap_cert.specs.declared.version.Version.TheVariants.{Second};
+ghost use Rattle.qap_search.specs.Certificate.LeafBounds.{IsBoundOf, IsLeastOf, shown, shown_by_all};
 
-use crate::certificate::tree_building::pair_with;
-use crate::tuples::composing::free_others;
 use gilmore_lawler::dual_sum;
-use number_list::Numbers;
+use qap_cert::{Certificate, Tree};
 use qap_cost::{Instance, Partial};
-use qap_lines::are_limited;
-use qap_proof::{Duals, SplitLine, Tree};
 use std::alloc::{AllocError, Global};
 
-/// The minimum of this number and of the bounds of the tree's leaves at the node. It implies nothing about a tree whose
-/// leaves do not have a dual within -10^24 to 10^24 for each free facility and each free location.
+/// The minimum of the certificate's cost and of the bounds of its tree's leaves.
+pub(crate) fn bound_of(
+    alloc: Global,
+    instance: &Instance,
+    certificate: &Certificate,
+) -> Result<i128, AllocError>
+    requires { length certificate.now.permutation ≡ instance.now.size }
+    ensures { IfOk result (IsBoundOf instance.now certificate.now.cost certificate.now.tree) }
+{
+    let root = Partial::root(alloc, instance.size())?;
+    let cost = certificate.cost();
+    least_shown(alloc, instance, &root, certificate.tree(), cost)
+}
+
+/// The minimum of this number and of the bounds of the leaves of the tree at the node.
 #[cycle(showing)]
-pub(crate) fn least_shown(
+fn least_shown(
     alloc: Global,
     instance: &Instance,
     node: &Partial,
@@ -32,41 +38,47 @@ pub(crate) fn least_shown(
     least: i128,
 ) -> Result<i128, AllocError>
     requires same_size { instance.now.size ≡ node.now.size }
-    requires tree { (p : Place) × (node_at p ≡ node.now) × IsTree readable p (of_proof (node_of tree.now)) }
-    ensures { IfOk result (λ g. (earlier : ℕ) (duals : Bool) → HasShape node.now earlier duals (node_of tree.now) →
-        IsLeastOf (least ∷ shown instance.now node.now (node_of tree.now)) g) }
+    requires placement { IsPlacement node.now }
+    requires shape { HasShape Second node.now.size node.now.facilities (node_of tree.now) }
+    ensures { IfOk result (IsLeastOf (least ∷ shown instance.now node.now (node_of tree.now))) }
 {
     match tree {
-        Tree::Closed { duals } => Ok(least_with(instance, node, &duals.widened(alloc)?, least)),
-        Tree::Split { split, children } => {
-            least_shown_by_all(alloc, instance, node, split, children, least)
+        Tree::Split { facility, children } => {
+            let locations = node.free_locations()?;
+            least_shown_by_all(
+                alloc, instance, node, *facility, &locations, children, least,
+            )
         }
-        Tree::Cut | Tree::Mirrored { .. } => Ok(least),
+        Tree::Bound { u, v } => {
+            let u = u.numbers().to_vec(alloc)?;
+            let v = v.numbers().to_vec(alloc)?;
+            Ok(least_with(instance, node, &u, &v, least))
+        }
     }
 }
 
-/// Likewise for the children of a split.
+/// Likewise for the trees of the nodes that put the facility at each of these locations too.
 #[cycle(showing)]
 fn least_shown_by_all(
     alloc: Global,
     instance: &Instance,
     node: &Partial,
-    split: &SplitLine,
+    facility: u16,
+    locations: &[u16],
     children: &[Tree],
     least: i128,
 ) -> Result<i128, AllocError>
     requires same_size { instance.now.size ≡ node.now.size }
-    requires free { IsFreeOn split.now.side node.now split.now.number }
-    requires one_each { length children.now ≡ free_count node.now }
-    requires trees { AreTrees readable node.now (split_of split.now) 0 (of_proofs (nodes_of children.now)) }
-    ensures { IfOk result (λ g. AllHaveShape node.now (split_of split.now) 0 (nodes_of children.now) →
-        IsLeastOf (least ∷ shown_by_all instance.now node.now (split_of split.now) 0 (nodes_of children.now)) g) }
+    requires placement { IsPlacement node.now }
+    requires facility { IsFreeFacility node.now facility }
+    requires free { (i : ℕ) → i < length locations.now → IsFreeLocation node.now (slice_index locations.now i) }
+    requires one_each { length children.now ≡ length locations.now }
+    requires shape { AllHaveShape Second node.now.size (node.now.facilities ++ facility ∷ []) (nodes_of children.now) }
+    ensures { IfOk result (IsLeastOf (least ∷ shown_by_all instance.now node.now facility locations.now (nodes_of children.now))) }
 {
-    let others = free_others(node, split.side)?;
     let mut found = least;
     for (i, child) in children.iter().enumerate() {
-        let (facility, location) = pair_with(split, others[i]);
-        let part = node.place(facility, location)?;
+        let part = node.place(facility, locations[i])?;
         found = least_shown(alloc, instance, &part, child, found)?;
     }
     Ok(found)
@@ -74,24 +86,12 @@ fn least_shown_by_all(
 
 /// The smaller of this number and of what duals show at the node: the cost of its placed facilities among themselves,
 /// and the sum of the duals.
-fn least_with(instance: &Instance, node: &Partial, duals: &Duals, least: i128) -> i128
+fn least_with(instance: &Instance, node: &Partial, u: &[i128], v: &[i128], least: i128) -> i128
     requires same_size { instance.now.size ≡ node.now.size }
-    ensures { AreDuals (free_count node.now) duals.now.u.items duals.now.v.items →
-        IsLeastOf (least ∷ (fixed_cost_of instance.now node.now +ℤ dual_value duals.now.u.items duals.now.v.items) ∷ []) result }
+    requires placement { IsPlacement node.now }
+    requires duals { AreDuals (node.now.size - length node.now.facilities) u.now v.now }
+    ensures { IsLeastOf (least ∷ (fixed_cost_of instance.now node.now +ℤ dual_value u.now v.now) ∷ []) result }
 {
-    if !are_duals(duals, node.size() - node.depth()) {
-        return least;
-    }
-    let value = node.fixed_cost(instance) + dual_sum(&duals.u, &duals.v);
+    let value = node.fixed_cost(instance) + dual_sum(u, v);
     if value < least { value } else { least }
-}
-
-/// Whether there are this many duals on either side, all within -10^24 to 10^24.
-fn are_duals(duals: &Duals, count: usize) -> bool
-    ensures { IsTrue result ↔ AreDuals count duals.now.u.items duals.now.v.items }
-{
-    duals.u.len() == count
-        && duals.v.len() == count
-        && are_limited(&Numbers::Wide(&duals.u))
-        && are_limited(&Numbers::Wide(&duals.v))
 }

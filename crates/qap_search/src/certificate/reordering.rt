@@ -1,8 +1,7 @@
-//! Lists in another order.
+//! Decided nodes in the order of their lists.
 
-ghost use Rattle.std.specs.Prelude.{◌≡◌, length, reverse};
+ghost use Rattle.std.specs.Prelude.{reverse};
 ghost use Rattle.std.specs.List.Sorted.{IsPermutation};
-ghost use Rattle.space_txn.specs.Content.{SameItems};
 ghost use Rattle.qap_search.specs.Certificate.InOrder.{AreInOrder};
 
 use crate::tuples::parsing::DecidedNode;
@@ -40,13 +39,4 @@ fn path_digit(number: i128) -> u128 {
         Ok(number) => u128::from(number.min(30)) + 1,
         Err(_) => 31,
     }
-}
-
-/// The items, the last one first.
-pub(crate) fn turned_round<T>(mut items: Vec<T>) -> Vec<T>
-    ensures same { SameItems result.items items.items }
-    ensures count { length result.items ≡ length items.items }
-{
-    items.reverse();
-    items
 }

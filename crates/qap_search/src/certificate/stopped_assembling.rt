@@ -1,17 +1,15 @@
 //! Assembles the tuples of a stopped search, whose open nodes are closed first.
 
-ghost use Rattle.std.specs.Prelude.{◌≡◌, MatchResult};
-ghost use Rattle.qap_proof.specs.Memory.{node_of};
+ghost use Rattle.std.specs.Prelude.{MatchResult};
 ghost use Rattle.qap_search.specs.Certificate.Stopped.{IsStopped, IsStoppedFault};
-ghost use Rattle.qap_search.specs.Certificate.Told.{IsClosingFault, TellClosed};
 
-use crate::certificate::assembling::{Assembled, certificate_with, put_together};
+use crate::certificate::assembling::assemble;
 use crate::certificate::closing_threads::{Closers, One};
 use crate::certificate::error::AssembleError;
-use crate::certificate::leaf_bounds::least_shown;
+use crate::certificate::leaf_bounds::bound_of;
 use gilmore_lawler::RankedInstance;
 use qap_cert::Certificate;
-use qap_cost::{Instance, Partial};
+use qap_cost::Instance;
 use std::alloc::Global;
 use tuple_match::Tuple;
 
@@ -45,31 +43,12 @@ pub(crate) fn assemble_stopped_by<K: Closers>(
         (λ c. IsStopped instance.now tuples.items c)
         (λ e. IsStoppedFault instance.now tuples.items e) }
 {
-    let size = instance.size();
-    let root = Partial::root(alloc, size)?;
-    let closed = put_together_closed(closers, alloc, instance, &root, tuples)?;
-    let bound = least_shown(alloc, instance, &root, &closed.tree, closed.cost)?;
-    certificate_with(alloc, size, closed, bound)
-}
-
-/// Puts the tuples of a search together where these have closed its open nodes, each by the duals of a least assignment
-/// of its Gilmore-Lawler matrix.
-pub(crate) fn put_together_closed<K: Closers>(
-    closers: &K,
-    alloc: Global,
-    instance: &Instance,
-    root: &Partial,
-    tuples: Vec<Tuple>,
-) -> Result<Assembled, AssembleError>
-    requires ready { K.ready }
-    requires same_size { root.now.size ≡ instance.now.size }
-    ensures { MatchResult result
-        (λ a. TellClosed instance.now root.now tuples.items a.cost a.perm (node_of a.tree))
-        (λ e. IsClosingFault root.now tuples.items e) }
-{
-    // Its clause says that this is a node.
-    let _size = root.size();
     let ranked = RankedInstance::new(alloc, instance)?;
     let closed = closers.close_open(alloc, &ranked, tuples)?;
-    put_together(alloc, root, closed)
+    let finished = assemble(alloc, instance.size(), closed)?;
+    let bound = bound_of(alloc, instance, &finished)?;
+    match finished.with_bound(bound) {
+        Ok(certificate) => Ok(certificate),
+        Err(_) => Err(AssembleError::NotATree),
+    }
 }

@@ -6,7 +6,6 @@ ghost use Rattle.qap_cost.specs.Placement.{IsFreeFacility, IsFreeLocation, IsPla
 ghost use Rattle.qap_search.specs.Node.NodeList.{IsNextOf, IsReadFrom};
 ghost use Rattle.qap_search.specs.Tuples.Piece.{node_list};
 
-use crate::certificate::tree_building::free_facility;
 use number_list::Numbers;
 use qap_cost::Partial;
 use std::alloc::{AllocError, Global};
@@ -72,8 +71,25 @@ fn put_next(node: &mut Partial, facility: i128, location: i128) -> Result<bool, 
     Ok(true)
 }
 
+/// The free facility of this number.
+pub(crate) fn free_facility(node: &Partial, number: i128) -> Option<u16>
+    ensures { MatchOption result
+        ((f : ℕ) → IsFreeFacility node.now f → number ≢ pos f)
+        (λ f. IsFreeFacility node.now f × (number ≡ pos f)) }
+{
+    let size = node.size();
+    let Ok(facility) = u16::try_from(number) else {
+        return None;
+    };
+    if usize::from(facility) < size && !node.is_placed(facility) {
+        Some(facility)
+    } else {
+        None
+    }
+}
+
 /// The free location of this number.
-pub(crate) fn free_location(node: &Partial, number: i128) -> Option<u16>
+fn free_location(node: &Partial, number: i128) -> Option<u16>
     ensures { MatchOption result
         ((k : ℕ) → IsFreeLocation node.now k → number ≢ pos k)
         (λ k. IsFreeLocation node.now k × (number ≡ pos k)) }

@@ -1,19 +1,16 @@
 //! Memory for evaluating nodes, kept from one to the next.
 
-ghost use Rattle.std.specs.Prelude.{◌≡◌, ◌*◌, ◌^◌, IfOk, IfSome};
+ghost use Rattle.std.specs.Prelude.{◌≡◌, ◌*◌, ◌^◌, IfOk};
 ghost use Rattle.qap_cost.specs.Range.{AllWithin};
 ghost use Rattle.gilmore_lawler.specs.ReducedMatrix.{IsReduced};
-ghost use Rattle.qap_search.specs.Worker.Hand.{cuts};
-ghost use Rattle.qap_search.specs.Node.Images.{AreSymmetries};
 ghost use Rattle.qap_search.specs.Node.Thought.{IsThought};
 
-use crate::node::branching::{Assigned, Free, Guide, branch_of};
+use crate::node::branching::{Free, branch_of};
 use crate::node::completion::completed;
 use crate::node::thought::Thought;
 use assign_dual::{Assignment, Solver};
 use gilmore_lawler::dual_sum;
 use qap_cost::{Instance, Matrix, Partial, cost};
-use qap_proof::Duals;
 use std::alloc::{AllocError, Global};
 use std::mem::replace;
 
@@ -43,11 +40,10 @@ impl Scratch {
         })
     }
 
-    /// What is computed about the node from its Gilmore-Lawler matrix, with a branch that is chosen so.
+    /// What is computed about the node from its Gilmore-Lawler matrix.
     pub(crate) fn thought(
         &mut self,
         alloc: Global,
-        guide: &Guide<'_>,
         instance: &Instance,
         node: &Partial,
         matrix: &Matrix,
@@ -55,8 +51,7 @@ impl Scratch {
         requires same_size { instance.now.size ≡ node.now.size }
         requires reduced { IsReduced instance.now node.now matrix.now }
         requires bounded { AllWithin (512 * 10 ^ 18) matrix.now.entries }
-        requires symmetries { IfSome guide.now.symmetries (λ s. AreSymmetries instance.now s.now) }
-        ensures { IfOk result (IsThought (cuts guide.now.branching) instance.now node.now) }
+        ensures { IfOk result (IsThought instance.now node.now) }
     {
         // Its clause says that this is a matrix.
         let _size = matrix.size();
@@ -73,18 +68,8 @@ impl Scratch {
         let candidate = completed(node, &free, &matching, &mut self.matched, memory)?;
         let cost = cost(instance, &candidate);
         let value = node.fixed_cost(instance) + dual_sum(&u, &v);
-        let duals = Duals { u, v };
-        let assigned = Assigned {
-            instance,
-            node,
-            free,
-            matrix,
-            duals: &duals,
-            value,
-        };
-        let branch = branch_of(alloc, guide, &assigned, &matching)?;
+        let branch = branch_of(node, &free, &matching, &u, &v);
         self.answer.matching = matching;
-        let Duals { u, v } = duals;
         Ok(Thought {
             u,
             v,

@@ -4,7 +4,6 @@ ghost use Rattle.std.specs.Prelude.{◌≡◌, ◌*◌, ◌^◌, IfOk};
 ghost use Rattle.qap_cost.specs.Range.{AllWithin};
 ghost use Rattle.gilmore_lawler.specs.ReducedMatrix.{IsReduced};
 
-use crate::node::branching::{Branch, Branching, Guide};
 use crate::node::scratch::Scratch;
 use qap_cost::{Instance, Matrix, Partial, Perm};
 use std::alloc::{AllocError, Global};
@@ -22,16 +21,14 @@ pub struct Thought {
     pub candidate: Perm,
     /// What the candidate costs.
     pub cost: i128,
-    /// What to split the node on. `None` if nothing is free.
-    pub branch: Option<Branch>,
+    /// The facility to split the node on. `None` if none is free.
+    pub branch: Option<u16>,
 }
 
 impl Thought {
-    ghost use Rattle.std.specs.Prelude.{false};
-    ghost use Rattle.qap_search.specs.Worker.Hand.{cuts};
     ghost use Rattle.qap_search.specs.Node.Thought.{IsThought};
 
-    /// The evaluation of the node from its Gilmore-Lawler matrix; it will be split by the greatest matched entry.
+    /// The evaluation of the node from its Gilmore-Lawler matrix; it will be split on the facility of the greatest matched entry.
     pub fn new(
         alloc: Global,
         instance: &Instance,
@@ -41,37 +38,8 @@ impl Thought {
         requires same_size { instance.now.size ≡ node.now.size }
         requires reduced { IsReduced instance.now node.now matrix.now }
         requires bounded { AllWithin (512 * 10 ^ 18) matrix.now.entries }
-        ensures { IfOk result (IsThought false instance.now node.now) }
+        ensures { IfOk result (IsThought instance.now node.now) }
     {
-        Thought::by(
-            alloc,
-            Branching::GreatestMatched,
-            instance,
-            node,
-            matrix,
-            None,
-        )
-    }
-
-    /// Likewise, if the node will be split by this rule, without symmetric children, and this best cost is known.
-    pub fn by(
-        alloc: Global,
-        branching: Branching,
-        instance: &Instance,
-        node: &Partial,
-        matrix: &Matrix,
-        best: Option<i128>,
-    ) -> Result<Thought, AllocError>
-        requires same_size { instance.now.size ≡ node.now.size }
-        requires reduced { IsReduced instance.now node.now matrix.now }
-        requires bounded { AllWithin (512 * 10 ^ 18) matrix.now.entries }
-        ensures { IfOk result (IsThought (cuts branching) instance.now node.now) }
-    {
-        let guide = Guide {
-            branching,
-            symmetries: None,
-            best,
-        };
-        Scratch::new(alloc)?.thought(alloc, &guide, instance, node, matrix)
+        Scratch::new(alloc)?.thought(alloc, instance, node, matrix)
     }
 }

@@ -97,7 +97,7 @@ fn worked<L: Law, R: Wait>(
     mut shares: Vec<Share<L>>,
     nodes: &Template,
 ) -> Result<Run, AllocError>
-    requires law { IsSearchLaw hand.cutting hand.instance L.lawful L.allowed }
+    requires law { IsSearchLaw hand.instance L.lawful L.allowed }
     requires fresh { hand.accepted ≡ 0 }
     requires one { L.parts ≡ 1 }
     requires share { shares.items ≡ 0 ∷ [] }
@@ -140,7 +140,7 @@ fn work<L: Law, R: Wait>(
     share: &mut Share<L>,
     nodes: &Template,
 ) -> Ended
-    requires law { IsSearchLaw hand.old.cutting hand.old.instance L.lawful L.allowed }
+    requires law { IsSearchLaw hand.old.instance L.lawful L.allowed }
     requires counted { hand.old.accepted ≡ share.old }
     ensures { hand.new.accepted ≡ share.new }
 {

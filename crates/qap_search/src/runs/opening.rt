@@ -1,13 +1,13 @@
 //! The initial space of a search.
 
-ghost use Rattle.std.specs.Prelude.{◌≡◌, ◌<◌, ◌≤◌, ℕ, Bool, IfOk, OnOk};
+ghost use Rattle.std.specs.Prelude.{◌≡◌, ◌<◌, ◌≤◌, ℕ, IfOk, OnOk};
 ghost use Rattle.std.specs.List.{range_with_len};
 ghost use Rattle.qap_cost.specs.Objective.{Permutes};
 ghost use Rattle.tuple_space.specs.Space.{most, put};
 ghost use Rattle.space_txn.specs.World.{with_space};
 ghost use Rattle.tuple_space.specs.declared.lease.Lease.TheVariants.{Forever};
 ghost use Rattle.qap_search.specs.Runs.Opening.{IsOpening};
-ghost use Rattle.qap_search.specs.Law.Search.{best_with, search_of, whole};
+ghost use Rattle.qap_search.specs.Law.Search.{whole};
 
 use crate::law::opening_law;
 use crate::tuples::composing::{tuple_of_best, tuple_of_node};
@@ -21,26 +21,12 @@ use tuple_space::{Lease, SpaceError};
 pub fn opening_space(alloc: Global, instance: &Instance) -> Result<TxnSpace, AllocError>
     ensures { IfOk result (IsOpening (whole instance.now)) }
 {
+    opening_law();
     let root = Partial::root(alloc, instance.size())?;
     let start = identity(alloc, instance)?;
-    opening_from(alloc, instance, &root, &start)
-}
-
-/// A space that holds the root as an open node, and the permutation to start from as the best one; both forever.
-pub(crate) fn opening_from(
-    alloc: Global,
-    instance: &Instance,
-    root: &Partial,
-    start: &Perm,
-) -> Result<TxnSpace, AllocError>
-    requires same_size { root.now.size ≡ instance.now.size }
-    requires permutes { Permutes instance.now start.now }
-    ensures { IfOk result (λ space. (cutting : Bool) → IsOpening (search_of cutting instance.now root.now (best_with instance.now start.now)) space) }
-{
-    opening_law();
-    let best = tuple_of_best(alloc, cost(instance, start), start)?;
+    let best = tuple_of_best(alloc, cost(instance, &start), &start)?;
     let mut space = TxnSpace::new(alloc);
-    put_forever(&mut space, tuple_of_node(alloc, root)?)?;
+    put_forever(&mut space, tuple_of_node(alloc, &root)?)?;
     put_forever(&mut space, best)?;
     Ok(space)
 }

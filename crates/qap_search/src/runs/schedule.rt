@@ -93,7 +93,7 @@ fn posts_for<L: Law>(
     rows: &Arc<RankedInstance>,
     shares: Vec<Share<L>>,
 ) -> Result<Vec<Post<L>>, AllocError>
-    requires law { IsSearchLaw false (arc_value rows.now) L.lawful L.allowed }
+    requires law { IsSearchLaw (arc_value rows.now) L.lawful L.allowed }
     requires fresh { All (λ (n : ℕ). n ≡ 0) shares.items }
     requires few { vec_len shares ≤ 64 }
     ensures { IfOk result (λ posts. posts.items ≡ replicate (vec_len shares) (beginner (arc_value rows.now) 1000)) }
@@ -116,7 +116,7 @@ fn make<L: Law>(
     posts: &mut Vec<Post<L>>,
     room: &mut Alone<L>,
 ) -> Result<(), AllocError>
-    requires law { IsSearchLaw false (arc_value rows.now) L.lawful L.allowed }
+    requires law { IsSearchLaw (arc_value rows.now) L.lawful L.allowed }
     requires ready { All (λ (p : PostValue). is_due p.hand.stage ≡ false) posts.old.items }
     ensures moves { let old : Moment = record { posts = posts.old.items; place = room.old } in let new : Moment = record { posts = posts.new.items; place = room.new } in
         OnOk result (Moves (arc_value rows.now) 1000 old step new) }
@@ -156,7 +156,7 @@ fn lose<L: Law>(
     worker: usize,
     posts: &mut Vec<Post<L>>,
 ) -> Result<(), AllocError>
-    requires law { IsSearchLaw false (arc_value rows.now) L.lawful L.allowed }
+    requires law { IsSearchLaw (arc_value rows.now) L.lawful L.allowed }
     requires ready { All (λ (p : PostValue). is_due p.hand.stage ≡ false) posts.old.items }
     ensures lost { (place : Place) → let old : Moment = record { posts = posts.old.items; place = place } in let new : Moment = record { posts = posts.new.items; place = place } in
         OnOk result (new ≡ without_worker (arc_value rows.now) 1000 (slice_get posts.old.items worker) worker old) }

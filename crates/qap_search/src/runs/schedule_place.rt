@@ -34,7 +34,7 @@ impl<L: Law> Model for Post<L> {
 
     ghost view = { λ p. record { hand = p.hand; accepted = p.accepted; refused = p.refused } };
 
-    ghost invariant = { λ p. IsSearchLaw p.hand.cutting p.hand.instance L.lawful L.allowed × (p.accepted + p.hand.accepted ≡ p.share) };
+    ghost invariant = { λ p. IsSearchLaw p.hand.instance L.lawful L.allowed × (p.accepted + p.hand.accepted ≡ p.share) };
 }
 
 impl<L: Law> Post<L> {
@@ -46,7 +46,7 @@ impl<L: Law> Post<L> {
         lease_ms: u64,
         share: Share<L>,
     ) -> Result<Post<L>, AllocError>
-        requires law { IsSearchLaw false (arc_value rows.now) L.lawful L.allowed }
+        requires law { IsSearchLaw (arc_value rows.now) L.lawful L.allowed }
         requires fresh { share ≡ 0 }
         ensures { IfOk result (λ post. post ≡ beginner (arc_value rows.now) lease_ms) }
     {
@@ -77,7 +77,7 @@ impl<L: Law> Post<L> {
         rows: &Arc<RankedInstance>,
         lease_ms: u64,
     ) -> Result<(), AllocError>
-        requires law { IsSearchLaw false (arc_value rows.now) L.lawful L.allowed }
+        requires law { IsSearchLaw (arc_value rows.now) L.lawful L.allowed }
         ensures { OnOk result (self.new ≡ after_loss (arc_value rows.now) lease_ms self.old) }
     {
         let hand = Hand::new(alloc, self.worker, rows.clone()?, lease_ms)?;
@@ -104,13 +104,12 @@ fn take_turn<L: Law>(
     share: &mut Share<L>,
     room: &mut Alone<L>,
 ) -> Result<(), AllocError>
-    requires law { IsSearchLaw hand.old.cutting hand.old.instance L.lawful L.allowed }
+    requires law { IsSearchLaw hand.old.instance L.lawful L.allowed }
     requires not_due { is_due hand.old.stage ≡ false }
     requires counted { hand.old.accepted ≤ share.old }
     ensures turn { OnOk result (TakesTurn hand.old room.old hand.new room.new) }
     ensures ready { OnOk result (is_due hand.new.stage ≡ false) }
     ensures counted { share.new + hand.old.accepted ≡ share.old + hand.new.accepted }
-    ensures cutting { hand.new.cutting ≡ hand.old.cutting }
     ensures instance { hand.new.instance ≡ hand.old.instance }
 {
     hand.step(room, share)?;

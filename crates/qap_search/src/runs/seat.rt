@@ -51,13 +51,13 @@ impl<L: Law> Model for Seat<L> {
 
     ghost view = { λ s. s.share };
 
-    ghost invariant = { λ s. IsSearchLaw s.hand.cutting s.hand.instance L.lawful L.allowed × (s.hand.accepted ≡ s.share) };
+    ghost invariant = { λ s. IsSearchLaw s.hand.instance L.lawful L.allowed × (s.hand.accepted ≡ s.share) };
 }
 
 impl<L: Law> Seat<L> {
     /// A worker that hasn't begun, with its share.
     pub(crate) fn new(worker: u16, hand: Hand, share: Share<L>) -> Seat<L>
-        requires law { IsSearchLaw hand.cutting hand.instance L.lawful L.allowed }
+        requires law { IsSearchLaw hand.instance L.lawful L.allowed }
         requires counted { hand.accepted ≡ share }
         ensures { result ≡ share }
     {
@@ -142,7 +142,6 @@ fn next_of(hand: &Hand) -> Option<Kind> {
 /// Evaluates each of its nodes that is due, and prepares its writes. The error is how the worker ends.
 fn think_on_all<G: Gate>(hand: &mut Hand, gate: &G) -> Result<(), Ended>
     ensures accepted { hand.new.accepted ≡ hand.old.accepted }
-    ensures cutting { hand.new.cutting ≡ hand.old.cutting }
     ensures instance { hand.new.instance ≡ hand.old.instance }
 {
     think(hand, gate)?;
@@ -155,7 +154,6 @@ fn think_on_all<G: Gate>(hand: &mut Hand, gate: &G) -> Result<(), Ended>
 
 fn think<G: Gate>(hand: &mut Hand, gate: &G) -> Result<(), Ended>
     ensures accepted { hand.new.accepted ≡ hand.old.accepted }
-    ensures cutting { hand.new.cutting ≡ hand.old.cutting }
     ensures instance { hand.new.instance ≡ hand.old.instance }
 {
     if hand.thinks() && hand.think(gate).is_err() {
@@ -172,10 +170,9 @@ fn go_on<L: Law, M: Room<L>>(
     hand: &mut Hand,
     share: &mut Share<L>,
 ) -> Result<Option<Lack>, Ended>
-    requires law { IsSearchLaw hand.old.cutting hand.old.instance L.lawful L.allowed }
+    requires law { IsSearchLaw hand.old.instance L.lawful L.allowed }
     requires before { hand.old.accepted ≡ share.old }
     ensures counted { hand.new.accepted ≡ share.new }
-    ensures cutting { hand.new.cutting ≡ hand.old.cutting }
     ensures instance { hand.new.instance ≡ hand.old.instance }
 {
     if !commit_all(room, hand, share)? {
@@ -197,10 +194,9 @@ fn commit_all<L: Law, M: Room<L>>(
     hand: &mut Hand,
     share: &mut Share<L>,
 ) -> Result<bool, Ended>
-    requires law { IsSearchLaw hand.old.cutting hand.old.instance L.lawful L.allowed }
+    requires law { IsSearchLaw hand.old.instance L.lawful L.allowed }
     requires before { hand.old.accepted ≡ share.old }
     ensures counted { hand.new.accepted ≡ share.new }
-    ensures cutting { hand.new.cutting ≡ hand.old.cutting }
     ensures instance { hand.new.instance ≡ hand.old.instance }
 {
     let mut found = commit(room, hand, share)?;
@@ -219,10 +215,9 @@ fn commit<L: Law, M: Room<L>>(
     hand: &mut Hand,
     share: &mut Share<L>,
 ) -> Result<bool, Ended>
-    requires law { IsSearchLaw hand.old.cutting hand.old.instance L.lawful L.allowed }
+    requires law { IsSearchLaw hand.old.instance L.lawful L.allowed }
     requires before { hand.old.accepted ≡ share.old }
     ensures counted { hand.new.accepted ≡ share.new }
-    ensures cutting { hand.new.cutting ≡ hand.old.cutting }
     ensures instance { hand.new.instance ≡ hand.old.instance }
 {
     step_if(room, hand, share, Kind::ReadBest)?;
@@ -239,10 +234,9 @@ fn take_all<L: Law, M: Room<L>>(
     hand: &mut Hand,
     share: &mut Share<L>,
 ) -> Result<bool, Ended>
-    requires law { IsSearchLaw hand.old.cutting hand.old.instance L.lawful L.allowed }
+    requires law { IsSearchLaw hand.old.instance L.lawful L.allowed }
     requires before { hand.old.accepted ≡ share.old }
     ensures counted { hand.new.accepted ≡ share.new }
-    ensures cutting { hand.new.cutting ≡ hand.old.cutting }
     ensures instance { hand.new.instance ≡ hand.old.instance }
 {
     if !take(room, hand, share)? {
@@ -264,10 +258,9 @@ fn take<L: Law, M: Room<L>>(
     hand: &mut Hand,
     share: &mut Share<L>,
 ) -> Result<bool, Ended>
-    requires law { IsSearchLaw hand.old.cutting hand.old.instance L.lawful L.allowed }
+    requires law { IsSearchLaw hand.old.instance L.lawful L.allowed }
     requires before { hand.old.accepted ≡ share.old }
     ensures counted { hand.new.accepted ≡ share.new }
-    ensures cutting { hand.new.cutting ≡ hand.old.cutting }
     ensures instance { hand.new.instance ≡ hand.old.instance }
 {
     step_if(room, hand, share, Kind::Begin)?;
@@ -283,10 +276,9 @@ fn give_up<L: Law, M: Room<L>>(
     hand: &mut Hand,
     share: &mut Share<L>,
 ) -> Result<(), Ended>
-    requires law { IsSearchLaw hand.old.cutting hand.old.instance L.lawful L.allowed }
+    requires law { IsSearchLaw hand.old.instance L.lawful L.allowed }
     requires before { hand.old.accepted ≡ share.old }
     ensures counted { hand.new.accepted ≡ share.new }
-    ensures cutting { hand.new.cutting ≡ hand.old.cutting }
     ensures instance { hand.new.instance ≡ hand.old.instance }
 {
     step_if(room, hand, share, Kind::Abort)?;
@@ -303,10 +295,9 @@ fn step_if<L: Law, M: Room<L>>(
     share: &mut Share<L>,
     kind: Kind,
 ) -> Result<(), Ended>
-    requires law { IsSearchLaw hand.old.cutting hand.old.instance L.lawful L.allowed }
+    requires law { IsSearchLaw hand.old.instance L.lawful L.allowed }
     requires before { hand.old.accepted ≡ share.old }
     ensures counted { hand.new.accepted ≡ share.new }
-    ensures cutting { hand.new.cutting ≡ hand.old.cutting }
     ensures instance { hand.new.instance ≡ hand.old.instance }
 {
     if hand.thinks() || hand.next() != kind {
@@ -327,10 +318,9 @@ fn turn<R: Wait, L: Law, G: Gate>(
     hand: &mut Hand,
     share: &mut Share<L>,
 ) -> Result<(), Ended>
-    requires law { IsSearchLaw hand.old.cutting hand.old.instance L.lawful L.allowed }
+    requires law { IsSearchLaw hand.old.instance L.lawful L.allowed }
     requires before { hand.old.accepted ≡ share.old }
     ensures counted { hand.new.accepted ≡ share.new }
-    ensures cutting { hand.new.cutting ≡ hand.old.cutting }
     ensures instance { hand.new.instance ≡ hand.old.instance }
 {
     if hand.thinks() {
@@ -358,10 +348,9 @@ fn wait_for_best<R: Wait, L: Law, G: Gate>(
     hand: &mut Hand,
     share: &mut Share<L>,
 ) -> Result<(), Ended>
-    requires law { IsSearchLaw hand.old.cutting hand.old.instance L.lawful L.allowed }
+    requires law { IsSearchLaw hand.old.instance L.lawful L.allowed }
     requires before { hand.old.accepted ≡ share.old }
     ensures counted { hand.new.accepted ≡ share.new }
-    ensures cutting { hand.new.cutting ≡ hand.old.cutting }
     ensures instance { hand.new.instance ≡ hand.old.instance }
 {
     step(place, worker, Kind::Abort, hand, share)?;
@@ -376,10 +365,9 @@ fn step<R: Wait, L: Law, G: Gate>(
     hand: &mut Hand,
     share: &mut Share<L>,
 ) -> Result<(), Ended>
-    requires law { IsSearchLaw hand.old.cutting hand.old.instance L.lawful L.allowed }
+    requires law { IsSearchLaw hand.old.instance L.lawful L.allowed }
     requires before { hand.old.accepted ≡ share.old }
     ensures counted { hand.new.accepted ≡ share.new }
-    ensures cutting { hand.new.cutting ≡ hand.old.cutting }
     ensures instance { hand.new.instance ≡ hand.old.instance }
 {
     if hand.thinks() {

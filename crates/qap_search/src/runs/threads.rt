@@ -1,16 +1,12 @@
 //! A search by several workers, each in its own thread.
 
-ghost use Rattle.std.specs.Prelude.{◌≡◌, ◌<◌, ◌≤◌, [], false, All, IfOk, IfSome, MatchResult, ℕ, length, replicate, sum, vec_capacity, vec_len};
+ghost use Rattle.std.specs.Prelude.{◌≡◌, ◌<◌, ◌≤◌, [], All, IfOk, MatchResult, ℕ, length, replicate, sum, vec_capacity, vec_len};
 ghost use Rattle.std.specs.List.{sum_by};
-ghost use Rattle.qap_cost.specs.Objective.{Permutes};
-ghost use Rattle.qap_cost.specs.Placement.{root_of};
 ghost use Rattle.qap_search.specs.Runs.Answer.{IsAnswer, IsLeastAnswer, IsSolveFault, accepted_of};
-ghost use Rattle.qap_search.specs.Worker.Hand.{cuts};
-ghost use Rattle.qap_search.specs.Node.Images.{AreSymmetries};
 ghost use Rattle.qap_search.specs.Runs.Outcome.{IsEnded};
 ghost use Rattle.qap_search.specs.Runs.Opening.{IsOpening};
 ghost use Rattle.qap_search.specs.Runs.Ran.{Ran, RanTo, RanToFault};
-ghost use Rattle.qap_search.specs.Law.Search.{Search, best_with, identity_of, search_of, whole};
+ghost use Rattle.qap_search.specs.Law.Search.{Search, whole};
 ghost use Rattle.qap_search.specs.Law.SearchLaw.{IsLawOf, IsSearchLaw};
 ghost use Rattle.shared_space.specs.Limit.{is_reached};
 ghost use Rattle.shared_space.specs.Place.{place_of};
@@ -19,25 +15,23 @@ ghost use Rattle.space_txn.specs.Content.{content_of};
 ghost use Rattle.std.specs.Arc.{arc_value};
 
 use crate::certificate::closing_threads::Many;
-use crate::certificate::reordering::turned_round;
-use crate::node::branching::Branching;
-use crate::node::images::{InstanceSymmetries, instance_symmetries};
 use crate::runs::alone::shared_rows;
 use crate::runs::answer::{Answer, Least, SolveError};
 use crate::runs::clock::Clock;
-use crate::runs::opening::{identity, opening_from};
+use crate::runs::crew::Crew;
+use crate::runs::opening::opening_space;
 use crate::runs::pace::Pace;
-use crate::runs::plan::{Crew, Plan};
 use crate::runs::run::Run;
 use crate::runs::run_ending::{answer_of, least_of};
 use crate::runs::seat::{Seat, Workplace};
 use crate::tuples::templates::{best_template, node_template};
+use crate::worker::forever_writes::turned_round;
 use crate::worker::gate::Gate;
 use crate::worker::hand::Hand;
 use crate::worker::job::idle_jobs;
 use crate::worker::report::Report;
 use gilmore_lawler::RankedInstance;
-use qap_cost::{Instance, Partial, Perm, cost};
+use qap_cost::Instance;
 use shared_space::{Law, Share, Shared};
 use space_txn::TxnSpace;
 use std::alloc::{AllocError, Global};
@@ -86,14 +80,7 @@ where
     ensures ran { MatchResult result (λ a. Ran (whole instance.now) crew.workers crew.limit (accepted_of a.reports.items) 0)
         (RanToFault (whole instance.now) crew.workers crew.limit) }
 {
-    let Beginning { root, start } = all_permutations(alloc, instance)?;
-    let plan = Plan {
-        crew,
-        root: &root,
-        start: &start,
-        branching: Branching::GreatestMatched,
-    };
-    let run = run_of(rt, alloc, instance, &plan, pace)?;
+    let run = run_of(rt, alloc, instance, crew, pace)?;
     answer_of(
         &Many::new(rt, crew.workers),
         alloc,
@@ -122,14 +109,7 @@ where
     ensures ran { MatchResult result (λ a. Ran (whole instance.now) crew.workers crew.limit (accepted_of a.reports.items) 0)
         (RanToFault (whole instance.now) crew.workers crew.limit) }
 {
-    let Beginning { root, start } = all_permutations(alloc, instance)?;
-    let plan = Plan {
-        crew,
-        root: &root,
-        start: &start,
-        branching: Branching::GreatestMatched,
-    };
-    let run = run_of(rt, alloc, instance, &plan, pace)?;
+    let run = run_of(rt, alloc, instance, crew, pace)?;
     least_of(
         &Many::new(rt, crew.workers),
         alloc,
@@ -139,49 +119,28 @@ where
     )
 }
 
-/// What a search of all permutations begins with.
-#[derive(Drop)]
-struct Beginning {
-    root: Partial,
-    start: Perm,
-}
-
-/// The empty node, and the permutation that sends each facility to the location of its own number.
-fn all_permutations(alloc: Global, instance: &Instance) -> Result<Beginning, AllocError>
-    ensures root { IfOk result (λ begun. begun.root ≡ root_of instance.now.size) }
-    ensures start { IfOk result (λ begun. begun.start ≡ identity_of instance.now) }
-    ensures permutes { IfOk result (λ begun. Permutes instance.now begun.start) }
-{
-    Ok(Beginning {
-        root: Partial::root(alloc, instance.size())?,
-        start: identity(alloc, instance)?,
-    })
-}
-
-/// The run of a search according to the plan.
+/// The run of a search by these workers.
 fn run_of<R, C, G>(
     rt: &R,
     alloc: Global,
     instance: &Instance,
-    plan: &Plan<'_>,
+    crew: Crew,
     pace: &Pace<'_, C, G>,
 ) -> Result<Run, AllocError>
 where
     R: Threads + Wait + time::Clock + Sync,
     C: Clock,
     G: Gate + Sync,
-    requires some { 0 < plan.now.crew.workers }
-    requires few { plan.now.crew.workers ≤ 64 }
-    requires start { Permutes instance.now plan.now.start.now }
-    requires same_size { plan.now.root.now.size ≡ instance.now.size }
-    ensures ended { IfOk result (IsEnded (search_of (cuts plan.now.branching) instance.now plan.now.root.now (best_with instance.now plan.now.start.now)) plan.now.crew.limit) }
-    ensures one_each { IfOk result (λ run. length run.reports.items ≡ plan.now.crew.workers) }
-    ensures ran { IfOk result (λ run. RanTo (search_of (cuts plan.now.branching) instance.now plan.now.root.now (best_with instance.now plan.now.start.now)) plan.now.crew.workers plan.now.crew.limit
+    requires some { 0 < crew.workers }
+    requires few { crew.workers ≤ 64 }
+    ensures ended { IfOk result (IsEnded (whole instance.now) crew.limit) }
+    ensures one_each { IfOk result (λ run. length run.reports.items ≡ crew.workers) }
+    ensures ran { IfOk result (λ run. RanTo (whole instance.now) crew.workers crew.limit
         run.space) }
 {
-    let space = opening_from(alloc, instance, plan.root, plan.start)?;
-    let blank = Blank::new(u64::from(plan.crew.workers));
-    search::<Brand, R, C, G>(rt, alloc, instance, space, blank, plan, pace)
+    let space = opening_space(alloc, instance)?;
+    let blank = Blank::new(u64::from(crew.workers));
+    search::<Brand, R, C, G>(rt, alloc, instance, space, blank, crew, pace)
 }
 
 /// The same, on a space that is at the opening, under a law that is the search's.
@@ -191,7 +150,7 @@ fn search<L, R, C, G>(
     instance: &Instance,
     space: TxnSpace,
     blank: Blank,
-    plan: &Plan<'_>,
+    crew: Crew,
     pace: &Pace<'_, C, G>,
 ) -> Result<Run, AllocError>
 where
@@ -199,24 +158,23 @@ where
     R: Threads + Wait + time::Clock + Sync,
     C: Clock,
     G: Gate + Sync,
-    requires some { 0 < plan.now.crew.workers }
+    requires some { 0 < crew.workers }
     requires name { blank.name ≡ L.name }
     requires parts { blank.parts ≡ L.parts }
-    requires one_each { blank.parts ≡ plan.now.crew.workers }
-    requires few { plan.now.crew.workers ≤ 64 }
-    requires start { Permutes instance.now plan.now.start.now }
-    requires law { IsLawOf (search_of (cuts plan.now.branching) instance.now plan.now.root.now (best_with instance.now plan.now.start.now)) L.lawful L.allowed }
-    requires limit { L.limit ≡ plan.now.crew.limit }
-    requires opening { IsOpening (search_of (cuts plan.now.branching) instance.now plan.now.root.now (best_with instance.now plan.now.start.now)) space }
-    requires reached { L.reached (place_of space plan.now.crew.workers 0 (is_reached plan.now.crew.limit 0)) }
-    ensures ended { IfOk result (IsEnded (search_of (cuts plan.now.branching) instance.now plan.now.root.now (best_with instance.now plan.now.start.now)) plan.now.crew.limit) }
-    ensures one_each { IfOk result (λ run. length run.reports.items ≡ plan.now.crew.workers) }
+    requires one_each { blank.parts ≡ crew.workers }
+    requires few { crew.workers ≤ 64 }
+    requires law { IsLawOf (whole instance.now) L.lawful L.allowed }
+    requires limit { L.limit ≡ crew.limit }
+    requires opening { IsOpening (whole instance.now) space }
+    requires reached { L.reached (place_of space crew.workers 0 (is_reached crew.limit 0)) }
+    ensures ended { IfOk result (IsEnded (whole instance.now) crew.limit) }
+    ensures one_each { IfOk result (λ run. length run.reports.items ≡ crew.workers) }
     ensures reached { IfOk result (λ run. IsReached L.reached run.space) }
 {
-    let count = usize::from(plan.crew.workers);
+    let count = usize::from(crew.workers);
     let room = Left::with_capacity(alloc, count)?;
     let templates = Templates::new(alloc)?;
-    let staffed = staff::<L>(alloc, instance, space, blank, plan)?;
+    let staffed = staff::<L>(alloc, instance, space, blank, crew)?;
     Ok(run_out(rt, staffed, room, &templates, pace))
 }
 
@@ -243,31 +201,29 @@ struct Staffed<L: Law> {
     seats: Vec<Mutex<Seat<L>>>,
 }
 
-/// The space under its lock and its limit, with the plan's workers, who haven't begun.
+/// The space under its lock and its limit, with these workers, who haven't begun.
 fn staff<L: Law>(
     alloc: Global,
     instance: &Instance,
     space: TxnSpace,
     blank: Blank,
-    plan: &Plan<'_>,
+    crew: Crew,
 ) -> Result<Staffed<L>, AllocError>
     requires name { blank.name ≡ L.name }
     requires parts { blank.parts ≡ L.parts }
-    requires one_each { plan.now.crew.workers ≡ L.parts }
-    requires few { plan.now.crew.workers ≤ 64 }
-    requires start { Permutes instance.now plan.now.start.now }
-    requires law { IsSearchLaw (cuts plan.now.branching) instance.now L.lawful L.allowed }
-    requires limit { L.limit ≡ plan.now.crew.limit }
+    requires one_each { crew.workers ≡ L.parts }
+    requires few { crew.workers ≤ 64 }
+    requires law { IsSearchLaw instance.now L.lawful L.allowed }
+    requires limit { L.limit ≡ crew.limit }
     requires lawful { L.lawful (content_of space) space.commits }
     requires fresh { space.commits ≡ 0 }
-    requires reached { L.reached (place_of space plan.now.crew.workers 0 (is_reached plan.now.crew.limit 0)) }
-    ensures { IfOk result (λ made. vec_len made.seats ≡ plan.now.crew.workers) }
+    requires reached { L.reached (place_of space crew.workers 0 (is_reached crew.limit 0)) }
+    ensures { IfOk result (λ made. vec_len made.seats ≡ crew.workers) }
 {
     let ranked = shared_rows(alloc, instance)?;
-    let symmetries = shared_symmetries(alloc, instance, plan.branching)?;
-    let workers = usize::from(plan.crew.workers);
-    let (shared, shares) = shared_under::<L>(alloc, blank, space, workers, plan.crew.limit)?;
-    let seats = seats_for(alloc, &ranked, &symmetries, plan, shares)?;
+    let workers = usize::from(crew.workers);
+    let (shared, shares) = shared_under::<L>(alloc, blank, space, workers, crew.limit)?;
+    let seats = seats_for(alloc, &ranked, crew, shares)?;
     Ok(Staffed { shared, seats })
 }
 
@@ -308,23 +264,6 @@ where
     Run { space, reports }
 }
 
-/// The symmetries of the instance, to be shared by workers, if their branching rule needs them.
-fn shared_symmetries(
-    alloc: Global,
-    instance: &Instance,
-    branching: Branching,
-) -> Result<Option<Arc<InstanceSymmetries>>, AllocError>
-    ensures { IfOk result (λ found. IfSome found (λ s. AreSymmetries instance.now (arc_value s))) }
-{
-    match branching {
-        Branching::GreatestMatched | Branching::GreatestSum => Ok(None),
-        Branching::Cutting => {
-            let symmetries = instance_symmetries(alloc, instance)?;
-            Ok(Some(Arc::new(alloc, symmetries)?))
-        }
-    }
-}
-
 /// The space with its lock and its limit, if there is one, and this many shares.
 fn shared_under<L: Law>(
     alloc: Global,
@@ -356,35 +295,22 @@ fn shared_under<L: Law>(
 fn seats_for<L: Law>(
     alloc: Global,
     ranked: &Arc<RankedInstance>,
-    symmetries: &Option<Arc<InstanceSymmetries>>,
-    plan: &Plan<'_>,
+    crew: Crew,
     shares: Vec<Share<L>>,
 ) -> Result<Vec<Mutex<Seat<L>>>, AllocError>
-    requires symmetries { IfSome symmetries.now (λ s. AreSymmetries (arc_value ranked.now) (arc_value s)) }
-    requires start { Permutes (arc_value ranked.now) plan.now.start.now }
-    requires law { IsSearchLaw (cuts plan.now.branching) (arc_value ranked.now) L.lawful L.allowed }
+    requires law { IsSearchLaw (arc_value ranked.now) L.lawful L.allowed }
     requires fresh { All (λ (n : ℕ). n ≡ 0) shares.items }
     requires few { vec_len shares ≤ 64 }
     ensures { IfOk result (λ seats. vec_len seats ≡ vec_len shares) }
 {
-    let known = Some(cost(ranked.instance(), plan.start));
-    let others = jobs_beside(usize::from(plan.crew.workers), ranked.instance().size());
+    let others = jobs_beside(usize::from(crew.workers), ranked.instance().size());
     let mut seats = Vec::with_capacity(alloc, shares.len())?;
     let mut rest = shares;
     let mut worker = 0;
     while let Some(share) = rest.pop() {
-        let ranked = ranked.clone()?;
-        let symmetries = symmetries.clone()?;
-        let hand = Hand::for_search(
-            alloc,
-            plan.branching,
-            known,
-            symmetries,
-            worker,
-            ranked,
-            plan.crew.lease_ms,
-        )?
-        .beside(idle_jobs(alloc, others)?);
+        let hand = Hand::new(alloc, worker, ranked.clone()?, crew.lease_ms)?.beside(idle_jobs(
+            alloc, others,
+        )?);
         seats.push(Mutex::new(Seat::new(worker, hand, share)))?;
         worker += 1;
     }

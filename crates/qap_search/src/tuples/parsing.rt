@@ -1,39 +1,25 @@
-//! Parses the tuples of decided nodes and of the incumbent.
+//! Parses the tuples of nodes and of the incumbent.
 
-ghost use Rattle.std.specs.Prelude.{◌≡◌, ◌≢◌, ◌↔◌, ◌++◌, ◌∷◌, [], List, ℤ, IfOk, IsTrue, MatchOption, codes, length, ◌<◌, string_bytes};
+ghost use Rattle.std.specs.Prelude.{◌≡◌, ◌≢◌, ◌↔◌, ◌<◌, ◌++◌, ◌∷◌, [], ℕ, ℤ, List, IfOk, IsTrue, MatchOption, SomeIndex, codes, map, pos, slice_index_or, string_bytes};
 ghost use Rattle.number_list.specs.NumberList.{numbers_held};
-ghost use Rattle.qap_proof.specs.declared.side.Side.{Side as Sides};
+ghost use Rattle.number_list.specs.Numbers.{numbers_in};
+ghost use Rattle.qap_cost.specs.Bijection.{IsPerm};
 ghost use Rattle.tuple_match.specs.Field.{field_value, fields_value};
 ghost use Rattle.tuple_match.specs.FieldValue.{number, numbers, word};
-ghost use Rattle.qap_search.specs.Tuples.DecidedTuples.{IsNoPiece, IsPart, best_of, closed_of, piece_tuple};
-ghost use Rattle.qap_search.specs.Tuples.Piece.{side_word};
+ghost use Rattle.qap_search.specs.Tuples.DecidedTuples.{IsNoPiece, IsPart, best_of, piece_tuple};
 
-use number_list::NumberList;
-use qap_proof::{KeptDuals, Side};
-use std::alloc::AllocError;
+use number_list::{NumberList, Numbers};
+use qap_cost::Perm;
+use std::alloc::{AllocError, Global};
 use tuple_match::{Field, Tuple};
 
 /// What was decided at a node.
 #[derive(Drop)]
 pub(crate) enum Decision {
-    /// It is split on the facility of this number, and states no duals.
+    /// It is split on the facility of this number.
     Split(i128),
-    /// It is split with duals.
-    Pruned(PrunedSplit),
     /// It is closed by these duals.
-    Closed(KeptDuals),
-    /// It is the image of the earlier child of this number under a permutation.
-    Mirrored { earlier: i128, image: NumberList },
-}
-
-/// A split on the facility or the location of this number, with duals.
-#[derive(Drop)]
-pub(crate) struct PrunedSplit {
-    pub(crate) side: Side,
-    pub(crate) number: i128,
-    pub(crate) duals: KeptDuals,
-    /// For each child a 1 if the duals prune it, otherwise a 0.
-    pub(crate) cuts: NumberList,
+    Closed { u: NumberList, v: NumberList },
 }
 
 /// A node that is decided: facility and location alternately, in the order of placing.
@@ -103,19 +89,12 @@ fn piece_by_number(fields: Vec<Field>, value: i128, last: NumberList) -> Option<
         (IsNoPiece (fields_value fields.items ++ number value ∷ numbers (numbers_held last) ∷ []))
         (λ piece. piece_tuple piece ≡ fields_value fields.items ++ number value ∷ numbers (numbers_held last) ∷ []) }
 {
-    if is_only_word("best", &fields) {
-        return Some(Piece::Best(BestFound {
-            cost: value,
-            locations: last,
-        }));
+    if !is_only_word("best", &fields) {
+        return None;
     }
-    let node = node_behind("mirrored", fields)?;
-    Some(Piece::Decided(DecidedNode {
-        node,
-        decision: Decision::Mirrored {
-            earlier: value,
-            image: last,
-        },
+    Some(Piece::Best(BestFound {
+        cost: value,
+        locations: last,
     }))
 }
 
@@ -125,84 +104,11 @@ fn piece_by_lists(fields: Vec<Field>, before: NumberList, last: NumberList) -> O
         (IsNoPiece (fields_value fields.items ++ numbers (numbers_held before) ∷ numbers (numbers_held last) ∷ []))
         (λ piece. piece_tuple piece ≡ fields_value fields.items ++ numbers (numbers_held before) ∷ numbers (numbers_held last) ∷ []) }
 {
-    if fields.len() > 2 {
-        return pruned_piece(fields, before, last);
-    }
     let node = node_behind("closed", fields)?;
     Some(Piece::Decided(DecidedNode {
         node,
-        decision: Decision::Closed(KeptDuals { u: before, v: last }),
+        decision: Decision::Closed { u: before, v: last },
     }))
-}
-
-/// Likewise for a tuple that ends in two lists after more than two fields: that of a split with duals, or none.
-fn pruned_piece(fields: Vec<Field>, v: NumberList, cuts: NumberList) -> Option<Piece>
-    requires { 2 < length fields.items }
-    ensures { MatchOption result
-        (IsNoPiece (fields_value fields.items ++ numbers (numbers_held v) ∷ numbers (numbers_held cuts) ∷ []))
-        (λ piece. piece_tuple piece ≡ fields_value fields.items ++ numbers (numbers_held v) ∷ numbers (numbers_held cuts) ∷ []) }
-{
-    let (node, split) = pruned_behind(fields, v, cuts)?;
-    Some(Piece::Decided(DecidedNode {
-        node,
-        decision: Decision::Pruned(split),
-    }))
-}
-
-/// The node and the split of a row that ends in the number of what a split is on and the duals of its free facilities.
-fn pruned_behind(
-    mut fields: Vec<Field>,
-    v: NumberList,
-    cuts: NumberList,
-) -> Option<(NumberList, PrunedSplit)>
-    ensures { MatchOption result
-        ((xs : List ℤ) (side : Sides) (k : ℤ) (u : List ℤ) → fields_value fields.items ≢ word (codes "pruned") ∷ numbers xs ∷ word (side_word side) ∷ number k ∷ numbers u ∷ [])
-        (λ found. (fields_value fields.items ≡ word (codes "pruned") ∷ numbers (numbers_held found.0) ∷ word (side_word found.1.side) ∷ number found.1.number ∷ numbers (numbers_held found.1.duals.u) ∷ [])
-        × (found.1.duals.v ≡ v) × (found.1.cuts ≡ cuts)) }
-{
-    let Part::Numbers(u) = part_of(fields.pop()?) else {
-        return None;
-    };
-    let (node, side, number) = split_behind(fields)?;
-    let duals = KeptDuals { u, v };
-    Some((
-        node,
-        PrunedSplit {
-            side,
-            number,
-            duals,
-            cuts,
-        },
-    ))
-}
-
-/// The node, the side and the number of a row that ends in the number of what a split is on.
-fn split_behind(mut fields: Vec<Field>) -> Option<(NumberList, Side, i128)>
-    ensures { MatchOption result
-        ((xs : List ℤ) (side : Sides) (k : ℤ) → fields_value fields.items ≢ word (codes "pruned") ∷ numbers xs ∷ word (side_word side) ∷ number k ∷ [])
-        (λ found. fields_value fields.items ≡ word (codes "pruned") ∷ numbers (numbers_held found.0) ∷ word (side_word found.1) ∷ number found.2 ∷ []) }
-{
-    let Part::Number(number) = part_of(fields.pop()?) else {
-        return None;
-    };
-    let side = side_of(&fields.pop()?)?;
-    let node = node_behind("pruned", fields)?;
-    Some((node, side, number))
-}
-
-/// The side whose word the field is.
-fn side_of(field: &Field) -> Option<Side>
-    ensures { MatchOption result
-        ((side : Sides) → field_value field.now ≢ word (side_word side))
-        (λ side. field_value field.now ≡ word (side_word side)) }
-{
-    if is_word("facility", field) {
-        return Some(Side::Facility);
-    }
-    if is_word("location", field) {
-        return Some(Side::Location);
-    }
-    None
 }
 
 /// What a field is, with its list as it lies.
@@ -257,4 +163,65 @@ pub(crate) fn is_word(name: &str, field: &Field) -> bool
         Some(word) => *word == *name.as_bytes(),
         None => false,
     }
+}
+
+/// The list of an open node's tuple, as it lies there.
+#[tactic(auto, using(crate::proofs::TupleLemmas::Fields::numbers_from))]
+pub(crate) fn node_numbers(tuple: &Tuple) -> Option<Numbers<'_>>
+    ensures { MatchOption result
+        ((xs : List ℤ) → tuple.now ≢ word (codes "node") ∷ numbers xs ∷ [])
+        (λ list. tuple.now ≡ word (codes "node") ∷ numbers (numbers_in list) ∷ []) }
+{
+    match tuple.fields() {
+        [name, field] if is_word("node", name) => field.as_list(),
+        _ => None,
+    }
+}
+
+/// The cost and the locations of a tuple of a best permutation.
+pub(crate) fn best_fields(tuple: &Tuple) -> Option<(i128, Numbers<'_>)>
+    ensures { MatchOption result
+        ((c : ℤ) (ps : List ℤ) → tuple.now ≢ best_of c ps)
+        (λ told. tuple.now ≡ best_of told.0 (numbers_in told.1)) }
+{
+    match tuple.fields() {
+        [name, Field::Int(cost), list] if is_word("best", name) => {
+            list.as_list().map(|locations| (*cost, locations))
+        }
+        _ => None,
+    }
+}
+
+/// The permutation of these locations; `None` if they are none.
+pub(crate) fn permutation_of(
+    alloc: Global,
+    locations: &Numbers<'_>,
+) -> Result<Option<Perm>, AllocError>
+    ensures { IfOk result (λ found. MatchOption found
+        ((p : List ℕ) → IsPerm p → map pos p ≢ numbers_in locations.now)
+        (λ p. IsPerm p × (map pos p ≡ numbers_in locations.now))) }
+{
+    let Some(locations) = small_numbers(alloc, locations)? else {
+        return Ok(None);
+    };
+    match Perm::new(locations) {
+        Ok(perm) => Ok(Some(perm)),
+        Err(_) => Ok(None),
+    }
+}
+
+/// The same numbers in 16 bits; `None` if one of them doesn't fit.
+fn small_numbers(alloc: Global, numbers: &Numbers<'_>) -> Result<Option<Vec<u16>>, AllocError>
+    ensures { IfOk result (λ found. MatchOption found
+        (SomeIndex (numbers_in numbers.now) (λ i. (k : ℕ) → k < 65536 → slice_index_or (numbers_in numbers.now) i (pos 0) ≢ pos k))
+        (λ v. map pos v.items ≡ numbers_in numbers.now)) }
+{
+    let mut small = Vec::with_capacity(alloc, numbers.len())?;
+    for place in 0..numbers.len() {
+        let Ok(number) = u16::try_from(numbers.at(place)) else {
+            return Ok(None);
+        };
+        small.push(number)?;
+    }
+    Ok(Some(small))
 }

@@ -1,14 +1,12 @@
 //! The steps of a worker's turn that read the incumbent, and the writes that follow.
 
-ghost use Rattle.std.specs.Prelude.{◌≡◌, ◌≢◌, ◌==◌, ℕ, ℤ, Bool, true, false, ◌++◌, Some, IfOk, MatchOption, OnOk, List};
+ghost use Rattle.std.specs.Prelude.{◌≡◌, ◌==◌, ℕ, true, false, ◌++◌, Some, IfOk, MatchOption, OnOk};
 ghost use Rattle.qap_cost.specs.Instance.{IsInstance, Problem};
-ghost use Rattle.number_list.specs.Numbers.{numbers_in};
 ghost use Rattle.space_txn.specs.Content.{SameItems, added_of};
 ghost use Rattle.space_txn.specs.Machine.{find_answer, found};
 ghost use Rattle.space_txn.specs.Txn.{TxnValue};
 ghost use Rattle.space_txn.specs.declared.txn.Found.TheVariants.{Entry as Stored};
 ghost use Rattle.qap_search.specs.Worker.BestSteps.{AfterWrites, HasBestCost, HasBestMark, HasNoBest, IsBestAt, IsFoundBest, Writes};
-ghost use Rattle.qap_search.specs.Tuples.DecidedTuples.{best_of};
 ghost use Rattle.qap_search.specs.Node.Decision.{IsOn};
 ghost use Rattle.qap_search.specs.Tuples.Found.{best_template};
 ghost use Rattle.qap_search.specs.Worker.Hand.{hand_of, is_hopeful, thought_of};
@@ -20,20 +18,17 @@ ghost use Rattle.qap_search.specs.Node.Thought.{IsThought};
 ghost use Rattle.qap_search.specs.Worker.Turn.{AfterBest, HasMarksOf, Turn};
 ghost use Rattle.qap_search.specs.declared.worker.stage.Stage.TheVariants.{Considered};
 
-use crate::certificate::assembling::permutation_of;
 use crate::node::decision::{decide, decide_anew};
-use crate::node::thought::Thought;
-use crate::tuples::parsing::is_word;
-use crate::worker::forever_writes::{by_entries, put_forever};
+use crate::tuples::parsing::{best_fields, permutation_of};
+use crate::worker::forever_writes::put_forever;
 use crate::worker::prepared::Prepared;
 use crate::worker::stage::{LastThought, Outcome, Stage, Tally};
 use crate::worker::turn::{refused, went_on};
-use number_list::Numbers;
 use qap_cost::Perm;
 use shared_space::{Law, Room, two_marks_law};
 use space_txn::{Found, Txn, TxnError};
 use std::alloc::{AllocError, Global};
-use tuple_match::{Field, Template, Tuple, does_match_law};
+use tuple_match::{Template, Tuple, does_match_law};
 use tuple_space::EntryId;
 
 /// Takes the tuple of the best permutation, if none is known or the last evaluation's candidate costs less than that;
@@ -49,12 +44,12 @@ pub(crate) fn seek_best<L: Law, M: Room<L>>(
 ) -> Outcome
     requires template { template.now ≡ best_template }
     requires thought { IsOn last.now.node last.now.thought }
-    ensures turn { (cutting : Bool) (I : Problem) (lease : ℕ) → IsInstance I → IsSearchLaw cutting I L.lawful L.allowed → IsLastThought cutting I last.now →
-        IsPrepared cutting I (thought_of last.now) prepared.old → HasNode last.now.node txn →
-        Turn M.did (hand_of cutting I lease (Some (thought_of last.now)) (Considered txn) tally) room.old result.told
-        (hand_of cutting I lease (Some (thought_of last.now)) result.stage result.tally) room.new }
-    ensures stage { (cutting : Bool) (I : Problem) → IsInstance I → IsSearchLaw cutting I L.lawful L.allowed → IsLastThought cutting I last.now →
-        IsPrepared cutting I (thought_of last.now) prepared.old → HasNode last.now.node txn → IsStage cutting I (Some (thought_of last.now)) result.stage }
+    ensures turn { (I : Problem) (lease : ℕ) → IsInstance I → IsSearchLaw I L.lawful L.allowed → IsLastThought I last.now →
+        IsPrepared I (thought_of last.now) prepared.old → HasNode last.now.node txn →
+        Turn M.did (hand_of I lease (Some (thought_of last.now)) (Considered txn) tally) room.old result.told
+        (hand_of I lease (Some (thought_of last.now)) result.stage result.tally) room.new }
+    ensures stage { (I : Problem) → IsInstance I → IsSearchLaw I L.lawful L.allowed → IsLastThought I last.now →
+        IsPrepared I (thought_of last.now) prepared.old → HasNode last.now.node txn → IsStage I (Some (thought_of last.now)) result.stage }
     ensures accepted { result.tally.accepted ≡ tally.accepted }
 {
     does_match_law();
@@ -77,12 +72,12 @@ fn told_best(
     tally: Tally,
 ) -> Outcome
     requires { IsOn last.now.node last.now.thought }
-    ensures turn { (cutting : Bool) (I : Problem) (lease : ℕ) (old : TxnValue) → IsLastThought cutting I last.now → IsPrepared cutting I (thought_of last.now) prepared.old →
+    ensures turn { (I : Problem) (lease : ℕ) (old : TxnValue) → IsLastThought I last.now → IsPrepared I (thought_of last.now) prepared.old →
         IsFoundBest I taking last.now.node (find_answer found) txn →
-        AfterBest taking (hand_of cutting I lease (Some (thought_of last.now)) (Considered old) tally) (find_answer found) txn result.told
-        (hand_of cutting I lease (Some (thought_of last.now)) result.stage result.tally) }
-    ensures stage { (cutting : Bool) (I : Problem) → IsLastThought cutting I last.now → IsPrepared cutting I (thought_of last.now) prepared.old →
-        IsFoundBest I taking last.now.node (find_answer found) txn → IsStage cutting I (Some (thought_of last.now)) result.stage }
+        AfterBest taking (hand_of I lease (Some (thought_of last.now)) (Considered old) tally) (find_answer found) txn result.told
+        (hand_of I lease (Some (thought_of last.now)) result.stage result.tally) }
+    ensures stage { (I : Problem) → IsLastThought I last.now → IsPrepared I (thought_of last.now) prepared.old →
+        IsFoundBest I taking last.now.node (find_answer found) txn → IsStage I (Some (thought_of last.now)) result.stage }
     ensures accepted { result.tally.accepted ≡ tally.accepted }
 {
     match found {
@@ -103,12 +98,12 @@ fn told_found(
     tally: Tally,
 ) -> Outcome
     requires { IsOn last.now.node last.now.thought }
-    ensures turn { (cutting : Bool) (I : Problem) (lease : ℕ) (old : TxnValue) → IsLastThought cutting I last.now → IsPrepared cutting I (thought_of last.now) prepared.old →
+    ensures turn { (I : Problem) (lease : ℕ) (old : TxnValue) → IsLastThought I last.now → IsPrepared I (thought_of last.now) prepared.old →
         IsFoundBest I taking last.now.node (found what) txn →
-        AfterBest taking (hand_of cutting I lease (Some (thought_of last.now)) (Considered old) tally) (found what) txn result.told
-        (hand_of cutting I lease (Some (thought_of last.now)) result.stage result.tally) }
-    ensures stage { (cutting : Bool) (I : Problem) → IsLastThought cutting I last.now → IsPrepared cutting I (thought_of last.now) prepared.old →
-        IsFoundBest I taking last.now.node (found what) txn → IsStage cutting I (Some (thought_of last.now)) result.stage }
+        AfterBest taking (hand_of I lease (Some (thought_of last.now)) (Considered old) tally) (found what) txn result.told
+        (hand_of I lease (Some (thought_of last.now)) result.stage result.tally) }
+    ensures stage { (I : Problem) → IsLastThought I last.now → IsPrepared I (thought_of last.now) prepared.old →
+        IsFoundBest I taking last.now.node (found what) txn → IsStage I (Some (thought_of last.now)) result.stage }
     ensures accepted { result.tally.accepted ≡ tally.accepted }
 {
     match what {
@@ -134,12 +129,12 @@ fn told_read(
     tally: Tally,
 ) -> Outcome
     requires { IsOn last.now.node last.now.thought }
-    ensures turn { (cutting : Bool) (I : Problem) (lease : ℕ) (old : TxnValue) → IsLastThought cutting I last.now → IsPrepared cutting I (thought_of last.now) prepared.old →
+    ensures turn { (I : Problem) (lease : ℕ) (old : TxnValue) → IsLastThought I last.now → IsPrepared I (thought_of last.now) prepared.old →
         HasBestMark I false last.now.node id txn →
-        AfterBest false (hand_of cutting I lease (Some (thought_of last.now)) (Considered old) tally) (found (Stored id)) txn result.told
-        (hand_of cutting I lease (Some (thought_of last.now)) result.stage result.tally) }
-    ensures stage { (cutting : Bool) (I : Problem) → IsLastThought cutting I last.now → IsPrepared cutting I (thought_of last.now) prepared.old →
-        HasBestMark I false last.now.node id txn → IsStage cutting I (Some (thought_of last.now)) result.stage }
+        AfterBest false (hand_of I lease (Some (thought_of last.now)) (Considered old) tally) (found (Stored id)) txn result.told
+        (hand_of I lease (Some (thought_of last.now)) result.stage result.tally) }
+    ensures stage { (I : Problem) → IsLastThought I last.now → IsPrepared I (thought_of last.now) prepared.old →
+        HasBestMark I false last.now.node id txn → IsStage I (Some (thought_of last.now)) result.stage }
     ensures accepted { result.tally.accepted ≡ tally.accepted }
 {
     let Some(cost) = cost_at(&txn, id) else {
@@ -162,12 +157,12 @@ fn told_prepared(
 ) -> Outcome
     requires cost { HasBestCost id txn cost }
     requires prepared { prepared.old.cost ≡ Some cost }
-    ensures turn { (cutting : Bool) (I : Problem) (lease : ℕ) (old : TxnValue) → IsLastThought cutting I last.now → IsPrepared cutting I (thought_of last.now) prepared.old →
+    ensures turn { (I : Problem) (lease : ℕ) (old : TxnValue) → IsLastThought I last.now → IsPrepared I (thought_of last.now) prepared.old →
         HasBestMark I false last.now.node id txn →
-        AfterBest false (hand_of cutting I lease (Some (thought_of last.now)) (Considered old) tally) (found (Stored id)) txn result.told
-        (hand_of cutting I lease (Some (thought_of last.now)) result.stage result.tally) }
-    ensures stage { (cutting : Bool) (I : Problem) → IsLastThought cutting I last.now → IsPrepared cutting I (thought_of last.now) prepared.old →
-        HasBestMark I false last.now.node id txn → IsStage cutting I (Some (thought_of last.now)) result.stage }
+        AfterBest false (hand_of I lease (Some (thought_of last.now)) (Considered old) tally) (found (Stored id)) txn result.told
+        (hand_of I lease (Some (thought_of last.now)) result.stage result.tally) }
+    ensures stage { (I : Problem) → IsLastThought I last.now → IsPrepared I (thought_of last.now) prepared.old →
+        HasBestMark I false last.now.node id txn → IsStage I (Some (thought_of last.now)) result.stage }
     ensures accepted { result.tally.accepted ≡ tally.accepted }
 {
     two_marks_law();
@@ -185,11 +180,11 @@ fn told_entry(
     tally: Tally,
 ) -> Outcome
     requires { IsOn last.now.node last.now.thought }
-    ensures turn { (cutting : Bool) (I : Problem) (lease : ℕ) (old : TxnValue) → IsLastThought cutting I last.now → HasBestMark I taking last.now.node id txn →
-        AfterBest taking (hand_of cutting I lease (Some (thought_of last.now)) (Considered old) tally) (found (Stored id)) txn result.told
-        (hand_of cutting I lease (Some (thought_of last.now)) result.stage result.tally) }
-    ensures stage { (cutting : Bool) (I : Problem) → IsLastThought cutting I last.now → HasBestMark I taking last.now.node id txn →
-        IsStage cutting I (Some (thought_of last.now)) result.stage }
+    ensures turn { (I : Problem) (lease : ℕ) (old : TxnValue) → IsLastThought I last.now → HasBestMark I taking last.now.node id txn →
+        AfterBest taking (hand_of I lease (Some (thought_of last.now)) (Considered old) tally) (found (Stored id)) txn result.told
+        (hand_of I lease (Some (thought_of last.now)) result.stage result.tally) }
+    ensures stage { (I : Problem) → IsLastThought I last.now → HasBestMark I taking last.now.node id txn →
+        IsStage I (Some (thought_of last.now)) result.stage }
     ensures accepted { result.tally.accepted ≡ tally.accepted }
 {
     two_marks_law();
@@ -226,8 +221,8 @@ fn write(
     cost: i128,
 ) -> Result<Option<i128>, AllocError>
     requires { IsOn last.now.node last.now.thought }
-    ensures { (cutting : Bool) (I : Problem) (best : Best) → IsThought cutting I last.now.node last.now.thought → IsBestAt id txn.old best → best.cost ≡ cost →
-        Writes cutting taking I (thought_of last.now) best txn.old txn.new result }
+    ensures { (I : Problem) (best : Best) → IsThought I last.now.node last.now.thought → IsBestAt id txn.old best → best.cost ≡ cost →
+        Writes taking I (thought_of last.now) best txn.old txn.new result }
 {
     if taking {
         write_anew(alloc, txn, id, last, cost)
@@ -244,14 +239,13 @@ fn write_beside(
     cost: i128,
 ) -> Result<Option<i128>, AllocError>
     requires { IsOn last.now.node last.now.thought }
-    ensures { (cutting : Bool) (I : Problem) (best : Best) → IsThought cutting I last.now.node last.now.thought → best.cost ≡ cost →
-        Writes cutting false I (thought_of last.now) best txn.old txn.new result }
+    ensures { (I : Problem) (best : Best) → IsThought I last.now.node last.now.thought → best.cost ≡ cost →
+        Writes false I (thought_of last.now) best txn.old txn.new result }
 {
     let Some(tuples) = decide(alloc, &last.node, &last.thought, cost)? else {
         return Ok(None);
     };
-    let order = order_of(alloc, &last.thought, cost)?;
-    put(alloc, txn, tuples, &order)?;
+    put(txn, tuples)?;
     Ok(Some(cost))
 }
 
@@ -265,8 +259,8 @@ fn write_anew(
     cost: i128,
 ) -> Result<Option<i128>, AllocError>
     requires { IsOn last.now.node last.now.thought }
-    ensures { (cutting : Bool) (I : Problem) (best : Best) → IsThought cutting I last.now.node last.now.thought → IsBestAt id txn.old best → best.cost ≡ cost →
-        Writes cutting true I (thought_of last.now) best txn.old txn.new result }
+    ensures { (I : Problem) (best : Best) → IsThought I last.now.node last.now.thought → IsBestAt id txn.old best → best.cost ≡ cost →
+        Writes true I (thought_of last.now) best txn.old txn.new result }
 {
     let Some(perm) = perm_at(alloc, txn, id)? else {
         return Ok(None);
@@ -275,30 +269,15 @@ fn write_anew(
         return Ok(None);
     };
     let standing = last.thought.cost.min(cost);
-    let order = order_of(alloc, &last.thought, standing)?;
-    put(alloc, txn, tuples, &order)?;
+    put(txn, tuples)?;
     Ok(Some(standing))
 }
 
-/// The keys by which the open children of the evaluation's node are taken, the least first, at this cost of the
-/// incumbent.
-pub(crate) fn order_of(
-    alloc: Global,
-    thought: &Thought,
-    best: i128,
-) -> Result<Vec<i128>, AllocError> {
-    match &thought.branch {
-        Some(branch) => branch.order(alloc, best),
-        None => Ok(Vec::new(alloc)),
-    }
-}
-
-/// Writes the tuples, permanently, those of children by the entries that are taken first after the others.
-fn put(alloc: Global, txn: &mut Txn, tuples: Vec<Tuple>, entries: &[i128]) -> Result<(), AllocError>
+/// Writes the tuples, permanently.
+fn put(txn: &mut Txn, tuples: Vec<Tuple>) -> Result<(), AllocError>
     ensures same { HasMarksOf txn.old txn.new }
     ensures written { OnOk result (SameItems (added_of txn.new.writes) (added_of txn.old.writes ++ tuples.items)) }
 {
-    let tuples = by_entries(alloc, tuples, entries)?;
     match put_forever(txn, tuples) {
         Ok(()) => Ok(()),
         Err(_) => Err(AllocError),
@@ -329,18 +308,4 @@ fn perm_at(alloc: Global, txn: &Txn, id: EntryId) -> Result<Option<Perm>, AllocE
         return Ok(None);
     };
     permutation_of(alloc, &locations)
-}
-
-/// The cost and the locations of a tuple of a best permutation.
-pub(crate) fn best_fields(tuple: &Tuple) -> Option<(i128, Numbers<'_>)>
-    ensures { MatchOption result
-        ((c : ℤ) (ps : List ℤ) → tuple.now ≢ best_of c ps)
-        (λ told. tuple.now ≡ best_of told.0 (numbers_in told.1)) }
-{
-    match tuple.fields() {
-        [name, Field::Int(cost), list] if is_word("best", name) => {
-            list.as_list().map(|locations| (*cost, locations))
-        }
-        _ => None,
-    }
 }

@@ -1,13 +1,11 @@
 //! Writes tuples into a transaction that are permanent once it commits.
 
-ghost use Rattle.std.specs.Prelude.{◌≡◌, ◌++◌, IfErr, IfOk, OnOk, map};
+ghost use Rattle.std.specs.Prelude.{◌≡◌, ◌++◌, IfErr, OnOk, length};
 ghost use Rattle.space_txn.specs.Content.{SameItems, added_of};
 ghost use Rattle.qap_search.specs.Worker.Putting.{WritesForever};
-ghost use Rattle.qap_search.specs.declared.worker.forever_writes.WithEntry.{WithEntry};
 
-use crate::certificate::reordering::turned_round;
 use space_txn::{Txn, TxnError};
-use std::alloc::{AllocError, Global};
+use std::alloc::AllocError;
 use tuple_match::Tuple;
 use tuple_space::{Lease, Writes};
 
@@ -60,59 +58,11 @@ fn put_one(txn: &mut Txn, tuple: Tuple) -> Result<(), TxnError>
     }
 }
 
-/// A tuple with the entry of its child.
-#[derive(Drop)]
-struct WithEntry {
-    entry: i128,
-    tuple: Tuple,
-}
-
-/// The tuples of a split and what follows it, its children in descending order of their entries, so that the one whose
-/// entry is least is the newest of them. They are unchanged if there is no entry.
-pub(crate) fn by_entries(
-    alloc: Global,
-    tuples: Vec<Tuple>,
-    entries: &[i128],
-) -> Result<Vec<Tuple>, AllocError>
-    ensures { IfOk result (λ sorted. SameItems sorted.items tuples.items) }
+/// The items, the last one first.
+pub(crate) fn turned_round<T>(mut items: Vec<T>) -> Vec<T>
+    ensures same { SameItems result.items items.items }
+    ensures count { length result.items ≡ length items.items }
 {
-    if entries.is_empty() {
-        return Ok(tuples);
-    }
-    let mut ranked = with_entries(alloc, tuples, entries)?;
-    ranked.sort_unstable_by(|a, b| a.entry.cmp(&b.entry));
-    let mut sorted = Vec::with_capacity(alloc, ranked.len())?;
-    while let Some(last) = ranked.pop() {
-        sorted.push(last.tuple)?;
-    }
-    Ok(sorted)
-}
-
-/// Each tuple with its entry.
-fn with_entries(
-    alloc: Global,
-    tuples: Vec<Tuple>,
-    entries: &[i128],
-) -> Result<Vec<WithEntry>, AllocError>
-    ensures { IfOk result (λ all. SameItems (map (λ (w : WithEntry). w.tuple) all.items) tuples.items) }
-{
-    let mut all = Vec::with_capacity(alloc, tuples.len())?;
-    let mut rest = tuples;
-    while let Some(tuple) = rest.pop() {
-        let ranked = with_entry(rest.len(), tuple, entries);
-        all.push(ranked)?;
-    }
-    Ok(all)
-}
-
-/// The tuple that is at this position, with its entry: the first is that of the split, and those after the children
-/// come last.
-fn with_entry(place: usize, tuple: Tuple, entries: &[i128]) -> WithEntry
-    ensures { result.tuple ≡ tuple }
-{
-    let entry = match place {
-        0 => i128::MAX,
-        child => entries.get(child - 1).copied().unwrap_or(i128::MIN),
-    };
-    WithEntry { entry, tuple }
+    items.reverse();
+    items
 }

@@ -1,27 +1,23 @@
 //! A worker of the search.
 
-ghost use Rattle.std.specs.Prelude.{◌≡◌, ◌+◌, ◌≤◌, true, false, All, IfOk, IfSome, OnErr, OnOk};
+ghost use Rattle.std.specs.Prelude.{◌≡◌, ◌+◌, ◌≤◌, true, false, All, IfOk, OnErr, OnOk};
 ghost use Rattle.std.specs.Arc.{arc_value};
-ghost use Rattle.qap_search.specs.Worker.Hand.{cuts, is_due, kind_of, new_hand};
-ghost use Rattle.qap_search.specs.Node.Images.{AreSymmetries};
+ghost use Rattle.qap_search.specs.Worker.Hand.{is_due, kind_of, new_hand};
 ghost use Rattle.qap_search.specs.Law.SearchLaw.{IsSearchLaw};
 ghost use Rattle.qap_search.specs.Worker.Standing.{IsIdle};
 ghost use Rattle.qap_search.specs.Worker.Thinking.{Thinks};
 ghost use Rattle.qap_search.specs.Worker.Turn.{Turn};
 ghost use Rattle.qap_search.specs.declared.worker.report.Ended.TheVariants.{Done};
 
-use crate::node::branching::Branching;
-use crate::node::images::InstanceSymmetries;
 use crate::tuples::templates::{best_template, node_template};
 use crate::worker::gate::{Gate, Kind};
-use crate::worker::ground::Ground;
 use crate::worker::job::Job;
 use crate::worker::prepared::prepare_at;
 use crate::worker::report::{Ended, Report};
 use crate::worker::stage::{Desk, Stage, Standing, Tally, Tools};
 use crate::worker::thinking::{stage_thought, think_in};
 use crate::worker::turn::{is_hopeful, turn};
-use gilmore_lawler::RankedInstance;
+use gilmore_lawler::{KeptRows, RankedInstance};
 use shared_space::{Law, Room, Share};
 use space_txn::Spent;
 use std::alloc::{AllocError, Global};
@@ -33,7 +29,8 @@ use std::sync::Arc;
 /// room a step.
 #[derive(Drop)]
 pub struct Hand {
-    ground: Ground,
+    /// The instance, with the rows that it keeps from one node to the next.
+    rows: KeptRows,
     desk: Desk,
     tools: Tools,
     tally: Tally,
@@ -45,71 +42,27 @@ pub struct Hand {
 
 impl Model for Hand {
     ghost use Rattle.std.specs.Prelude.{All};
-    ghost use Rattle.qap_search.specs.Worker.Hand.{HandValue, cuts, hand_of, last_of};
+    ghost use Rattle.qap_search.specs.Worker.Hand.{HandValue, hand_of, last_of};
     ghost use Rattle.qap_search.specs.Worker.Standing.{IsJob};
 
     ghost Value = { HandValue };
 
-    ghost view = { λ h. hand_of (cuts h.tools.branching) h.ground h.tools.lease_ms (last_of h.job.last) h.job.stage h.tally };
+    ghost view = { λ h. hand_of h.rows h.tools.lease_ms (last_of h.job.last) h.job.stage h.tally };
 
-    ghost invariant = { λ h. IsJob h.ground h.tools h.job × All (IsJob h.ground h.tools) h.others.items };
+    ghost invariant = { λ h. IsJob h.rows h.tools h.job × All (IsJob h.rows h.tools) h.others.items };
 }
 
 impl Hand {
-    /// A worker of this number, which begins its transactions with leases of this many milliseconds, and splits nodes
-    /// by the greatest matched entry.
+    /// A worker of this number, which begins its transactions with leases of this many milliseconds.
     pub fn new(
         alloc: Global,
         worker: u16,
         instance: Arc<RankedInstance>,
         lease_ms: u64,
     ) -> Result<Hand, AllocError>
-        ensures cutting { IfOk result (λ hand. hand.cutting ≡ false) }
         ensures instance { IfOk result (λ hand. hand.instance ≡ arc_value instance) }
         ensures accepted { IfOk result (λ hand. hand.accepted ≡ 0) }
-        ensures value { IfOk result (λ hand. hand ≡ new_hand false (arc_value instance) lease_ms) }
-    {
-        Hand::by(
-            alloc,
-            Branching::GreatestMatched,
-            worker,
-            instance,
-            lease_ms,
-        )
-    }
-
-    /// Such a worker, which splits nodes by this rule.
-    pub fn by(
-        alloc: Global,
-        branching: Branching,
-        worker: u16,
-        instance: Arc<RankedInstance>,
-        lease_ms: u64,
-    ) -> Result<Hand, AllocError>
-        ensures cutting { IfOk result (λ hand. hand.cutting ≡ cuts branching) }
-        ensures instance { IfOk result (λ hand. hand.instance ≡ arc_value instance) }
-        ensures accepted { IfOk result (λ hand. hand.accepted ≡ 0) }
-        ensures value { IfOk result (λ hand. hand ≡ new_hand (cuts branching) (arc_value instance) lease_ms) }
-    {
-        Hand::for_search(alloc, branching, None, None, worker, instance, lease_ms)
-    }
-
-    /// Such a worker, to which children that are images of earlier ones by these symmetries are such, in a search that begins with a
-    /// permutation of this cost.
-    pub(crate) fn for_search(
-        alloc: Global,
-        branching: Branching,
-        known: Option<i128>,
-        symmetries: Option<Arc<InstanceSymmetries>>,
-        worker: u16,
-        instance: Arc<RankedInstance>,
-        lease_ms: u64,
-    ) -> Result<Hand, AllocError>
-        requires { IfSome symmetries (λ s. AreSymmetries (arc_value instance) (arc_value s)) }
-        ensures cutting { IfOk result (λ hand. hand.cutting ≡ cuts branching) }
-        ensures instance { IfOk result (λ hand. hand.instance ≡ arc_value instance) }
-        ensures accepted { IfOk result (λ hand. hand.accepted ≡ 0) }
-        ensures value { IfOk result (λ hand. hand ≡ new_hand (cuts branching) (arc_value instance) lease_ms) }
+        ensures value { IfOk result (λ hand. hand ≡ new_hand (arc_value instance) lease_ms) }
     {
         // Its clause says that this is an instance.
         let _instance = instance.instance();
@@ -118,13 +71,11 @@ impl Hand {
             alloc,
             worker,
             lease_ms,
-            branching,
-            known,
             node: node_template(alloc)?,
             best: best_template(alloc)?,
         };
         Ok(Hand {
-            ground: Ground::new(alloc, instance, symmetries),
+            rows: KeptRows::new(alloc, instance),
             desk,
             tools,
             tally: Tally::new(),
@@ -148,7 +99,6 @@ impl Hand {
 
     /// Turns to this other job, and leaves the one that it was at in its place.
     pub(crate) fn turn_to(&mut self, other: usize)
-        ensures cutting { self.new.cutting ≡ self.old.cutting }
         ensures instance { self.new.instance ≡ self.old.instance }
         ensures lease { self.new.lease ≡ self.old.lease }
         ensures accepted { self.new.accepted ≡ self.old.accepted }
@@ -196,12 +146,11 @@ impl Hand {
         room: &mut M,
         share: &mut Share<L>,
     ) -> Result<bool, AllocError>
-        requires law { IsSearchLaw self.old.cutting self.old.instance L.lawful L.allowed }
+        requires law { IsSearchLaw self.old.instance L.lawful L.allowed }
         requires not_due { is_due self.old.stage ≡ false }
         requires counted { self.old.accepted ≤ share.old }
         ensures turn { Turn M.did self.old room.old result self.new room.new }
         ensures counted { share.new + self.old.accepted ≡ share.old + self.new.accepted }
-        ensures cutting { self.new.cutting ≡ self.old.cutting }
         ensures instance { self.new.instance ≡ self.old.instance }
         ensures lease { self.new.lease ≡ self.old.lease }
     {
@@ -232,19 +181,16 @@ impl Hand {
         ensures not_due { OnOk result (is_due self.new.stage ≡ false) }
         ensures unchanged { OnErr result (self.new ≡ self.old) }
         ensures accepted { self.new.accepted ≡ self.old.accepted }
-        ensures cutting { self.new.cutting ≡ self.old.cutting }
         ensures instance { self.new.instance ≡ self.old.instance }
     {
         self.job.reserve.restock(self.tools.alloc);
         self.job.prepared.forget();
-        let best = self.tally.best.or(self.tools.known);
         let considered = think_in(
             &self.tools,
             gate,
-            &mut self.ground,
+            &mut self.rows,
             &mut self.desk,
             &self.job.stage,
-            best,
             &mut self.job.last,
         )?;
         let stage = replace(&mut self.job.stage, Stage::Idle);

@@ -9,8 +9,7 @@ ghost use Rattle.qap_search.specs.Worker.Standing.{IsLastThought};
 ghost use Rattle.qap_search.specs.Node.Thought.{IsThought};
 
 use crate::node::decision::decide;
-use crate::worker::best_steps::order_of;
-use crate::worker::forever_writes::{by_entries, push_forever};
+use crate::worker::forever_writes::push_forever;
 use crate::worker::stage::LastThought;
 use std::alloc::{AllocError, Global};
 use tuple_space::Writes;
@@ -56,15 +55,13 @@ impl Prepared {
         cost: i128,
     ) -> Result<(), AllocError>
         requires { IsOn last.now.node last.now.thought }
-        ensures right { (cutting : Bool) (I : Problem) → IsThought cutting I last.now.node last.now.thought → IsPrepared cutting I (thought_of last.now) self.new }
+        ensures right { (I : Problem) → IsThought I last.now.node last.now.thought → IsPrepared I (thought_of last.now) self.new }
         ensures err { OnErr result (self.new.cost ≡ None) }
     {
         self.cost = None;
         let Some(tuples) = decide(alloc, &last.node, &last.thought, cost)? else {
             return Ok(());
         };
-        let order = order_of(alloc, &last.thought, cost)?;
-        let tuples = by_entries(alloc, tuples, &order)?;
         self.writes.clear();
         push_forever(&mut self.writes, tuples)?;
         self.cost = Some(cost);
@@ -80,8 +77,8 @@ pub(crate) fn prepare_at(
     last: &Option<LastThought>,
     best: Option<i128>,
 )
-    requires { (cutting : Bool) × (I : Problem) × IfSome last.now (IsLastThought cutting I) }
-    ensures { (cutting : Bool) (I : Problem) → IfSome last.now (IsLastThought cutting I) → HasPrepared cutting I last.now prepared.new }
+    requires { (I : Problem) × IfSome last.now (IsLastThought I) }
+    ensures { (I : Problem) → IfSome last.now (IsLastThought I) → HasPrepared I last.now prepared.new }
 {
     prepared.forget();
     let Some(last) = last else {

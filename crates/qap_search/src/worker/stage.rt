@@ -4,7 +4,6 @@ ghost use Rattle.std.specs.Prelude.{◌≡◌, ◌+◌, ◌<◌, ◌-◌, ◌^�
 ghost use Rattle.qap_search.specs.Worker.Hand.{is_hopeful, thought_of};
 ghost use Rattle.qap_search.specs.Worker.Turn.{one_more};
 
-use crate::node::branching::Branching;
 use crate::node::scratch::Scratch;
 use crate::node::thought::Thought;
 use qap_cost::{Matrix, Partial};
@@ -114,11 +113,6 @@ pub(crate) struct Tools {
     pub(crate) worker: u16,
     /// How many milliseconds its transactions ask for.
     pub(crate) lease_ms: u64,
-    /// By which rule nodes are split.
-    pub(crate) branching: Branching,
-    /// The cost of the initial permutation of the search, if known: until the worker has read the incumbent, this shows
-    /// how far above a node's bound the cost may be.
-    pub(crate) known: Option<i128>,
     /// Asks for any open node.
     pub(crate) node: Template,
     /// Asks for the best permutation.

@@ -1,51 +1,44 @@
 //! A worker's evaluation of the node that it took.
 
-ghost use Rattle.std.specs.Prelude.{◌≡◌, ◌≢◌, ◌↔◌, ◌<◌, ◌≤◌, ◌∷◌, [], ℕ, ℤ, List, codes, IfOk, IsTrue, MatchBool, MatchOption, OnErr, OnOk, Some};
+ghost use Rattle.std.specs.Prelude.{◌≡◌, ◌↔◌, ◌<◌, ◌≤◌, ℕ, IfOk, IsTrue, MatchBool, OnErr, OnOk, Some};
 ghost use Rattle.qap_cost.specs.Placement.{IsPlacement};
-ghost use Rattle.tuple_match.specs.FieldValue.{numbers, word};
-ghost use Rattle.number_list.specs.Numbers.{numbers_in};
 ghost use Rattle.space_txn.specs.Txn.{TxnValue};
 ghost use Rattle.qap_search.specs.Worker.Considering.{Considers, HasNoNode, IsNodeAt, IsOnNode, IsThoughtOn, stage_after};
-ghost use Rattle.qap_search.specs.Worker.Hand.{cuts};
 ghost use Rattle.qap_search.specs.declared.worker.stage.Stage.TheVariants.{Taken};
 
-use crate::node::branching::Guide;
 use crate::node::node_list::read_into;
 use crate::node::thought::Thought;
-use crate::tuples::parsing::is_word;
+use crate::tuples::parsing::node_numbers;
 use crate::worker::gate::Gate;
-use crate::worker::ground::Ground;
 use crate::worker::stage::{Desk, LastThought, Stage, Tools};
-use number_list::Numbers;
+use gilmore_lawler::KeptRows;
 use qap_cost::Partial;
 use space_txn::Txn;
 use std::alloc::{AllocError, Global};
 use std::mem::replace;
-use tuple_match::Tuple;
 use tuple_space::EntryId;
 
-/// Evaluates the node that was taken, given this best cost; `false` if its entry's lease ends. At an error nothing
+/// Evaluates the node that was taken; `false` if its entry's lease ends. At an error nothing
 /// changed.
 pub(crate) fn think_in<G: Gate>(
     tools: &Tools,
     gate: &G,
-    ground: &mut Ground,
+    rows: &mut KeptRows,
     desk: &mut Desk,
     stage: &Stage,
-    best: Option<i128>,
     last: &mut Option<LastThought>,
 ) -> Result<bool, AllocError>
-    ensures considers { Considers (cuts tools.now.branching) ground.old stage.now last.old result last.new }
-    ensures same { ground.new ≡ ground.old }
+    ensures considers { Considers rows.old stage.now last.old result last.new }
+    ensures same { rows.new ≡ rows.old }
 {
     let Stage::Taken(txn, id) = stage else {
         return Ok(false);
     };
-    let size = ground.instance().size();
+    let size = rows.instance().size();
     if !read_taken(size, txn, *id, &mut desk.node)? {
         return Ok(false);
     }
-    think_on(tools, gate, ground, desk, best, last)?;
+    think_on(tools, gate, rows, desk, last)?;
     Ok(true)
 }
 
@@ -53,34 +46,24 @@ pub(crate) fn think_in<G: Gate>(
 fn think_on<G: Gate>(
     tools: &Tools,
     gate: &G,
-    ground: &mut Ground,
+    rows: &mut KeptRows,
     desk: &mut Desk,
-    best: Option<i128>,
     last: &mut Option<LastThought>,
 ) -> Result<(), AllocError>
-    requires size { desk.old.node.size ≡ ground.old.size }
+    requires size { desk.old.node.size ≡ rows.old.size }
     requires placement { IsPlacement desk.old.node }
-    ensures thought { OnOk result (IsThoughtOn (cuts tools.now.branching) ground.old desk.old.node last.old last.new) }
-    ensures same { ground.new ≡ ground.old }
+    ensures thought { OnOk result (IsThoughtOn rows.old desk.old.node last.old last.new) }
+    ensures same { rows.new ≡ rows.old }
     ensures unchanged { OnErr result (last.new ≡ last.old) }
 {
     if is_on(last, &desk.node) {
         return Ok(());
     }
-    ground.reduce_into(&desk.node, &mut desk.matrix)?;
+    rows.reduce_into(&desk.node, &mut desk.matrix)?;
     gate.thinking(tools.worker);
-    let guide = Guide {
-        branching: tools.branching,
-        symmetries: ground.symmetries(),
-        best,
-    };
-    let thought = desk.scratch.thought(
-        tools.alloc,
-        &guide,
-        ground.instance(),
-        &desk.node,
-        &desk.matrix,
-    )?;
+    let thought = desk
+        .scratch
+        .thought(tools.alloc, rows.instance(), &desk.node, &desk.matrix)?;
     remember(tools.alloc, desk, thought, last);
     Ok(())
 }
@@ -134,19 +117,6 @@ fn read_taken(n: usize, txn: &Txn, id: EntryId, node: &mut Partial) -> Result<bo
         return Ok(false);
     };
     read_into(n, &list, node)
-}
-
-/// The list of an open node's tuple, as it lies there.
-#[tactic(auto, using(crate::proofs::TupleLemmas::Fields::numbers_from))]
-pub(crate) fn node_numbers(tuple: &Tuple) -> Option<Numbers<'_>>
-    ensures { MatchOption result
-        ((xs : List ℤ) → tuple.now ≢ word (codes "node") ∷ numbers xs ∷ [])
-        (λ list. tuple.now ≡ word (codes "node") ∷ numbers (numbers_in list) ∷ []) }
-{
-    match tuple.fields() {
-        [name, field] if is_word("node", name) => field.as_list(),
-        _ => None,
-    }
 }
 
 /// The stage of a worker after an evaluation that was due: whether the node was evaluated.

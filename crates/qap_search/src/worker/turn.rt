@@ -6,7 +6,7 @@ ghost use Rattle.qap_cost.specs.Instance.{IsInstance, Problem};
 ghost use Rattle.shared_space.specs.Law.{MayCommit};
 ghost use Rattle.space_txn.specs.Machine.{end_answer, find_answer, found, refused};
 ghost use Rattle.space_txn.specs.Txn.{TxnValue};
-ghost use Rattle.qap_search.specs.Worker.Hand.{cuts, hand_of, is_due, is_hopeful, last_of};
+ghost use Rattle.qap_search.specs.Worker.Hand.{hand_of, is_due, is_hopeful, last_of};
 ghost use Rattle.qap_search.specs.Tuples.Piece.{node_template};
 ghost use Rattle.qap_search.specs.Worker.Prepared.{HasPrepared};
 ghost use Rattle.qap_search.specs.Law.Replacement.{MayReplace};
@@ -38,11 +38,11 @@ pub(crate) fn turn<L: Law, M: Room<L>>(
     requires hand { IsSearchHand L.lawful L.allowed tools.now last.now standing.stage }
     requires not_due { is_due standing.stage ≡ false }
     requires counted { standing.tally.accepted ≤ share.old }
-    ensures turn { (I : Problem) → IsHand I tools.now last.now standing.stage → HasPrepared (cuts tools.now.branching) I last.now prepared.old → IsSearchLaw (cuts tools.now.branching) I L.lawful L.allowed →
-        Turn M.did (hand_of (cuts tools.now.branching) I tools.now.lease_ms (last_of last.now) standing.stage standing.tally) room.old result.told
-        (hand_of (cuts tools.now.branching) I tools.now.lease_ms (last_of last.now) result.stage result.tally) room.new }
-    ensures stage { (I : Problem) → IsHand I tools.now last.now standing.stage → HasPrepared (cuts tools.now.branching) I last.now prepared.old → IsSearchLaw (cuts tools.now.branching) I L.lawful L.allowed →
-        IsStage (cuts tools.now.branching) I (last_of last.now) result.stage }
+    ensures turn { (I : Problem) → IsHand I tools.now last.now standing.stage → HasPrepared I last.now prepared.old → IsSearchLaw I L.lawful L.allowed →
+        Turn M.did (hand_of I tools.now.lease_ms (last_of last.now) standing.stage standing.tally) room.old result.told
+        (hand_of I tools.now.lease_ms (last_of last.now) result.stage result.tally) room.new }
+    ensures stage { (I : Problem) → IsHand I tools.now last.now standing.stage → HasPrepared I last.now prepared.old → IsSearchLaw I L.lawful L.allowed →
+        IsStage I (last_of last.now) result.stage }
     ensures counted { share.new + standing.tally.accepted ≡ share.old + result.tally.accepted }
 {
     let Standing { stage, tally } = standing;
@@ -66,11 +66,11 @@ fn find_best<L: Law, M: Room<L>>(
     tally: Tally,
 ) -> Outcome
     requires hand { IsSearchHand L.lawful L.allowed tools.now last.now (Considered txn) }
-    ensures turn { (I : Problem) → IsHand I tools.now last.now (Considered txn) → HasPrepared (cuts tools.now.branching) I last.now prepared.old → IsSearchLaw (cuts tools.now.branching) I L.lawful L.allowed →
-        Turn M.did (hand_of (cuts tools.now.branching) I tools.now.lease_ms (last_of last.now) (Considered txn) tally) room.old result.told
-        (hand_of (cuts tools.now.branching) I tools.now.lease_ms (last_of last.now) result.stage result.tally) room.new }
-    ensures stage { (I : Problem) → IsHand I tools.now last.now (Considered txn) → HasPrepared (cuts tools.now.branching) I last.now prepared.old → IsSearchLaw (cuts tools.now.branching) I L.lawful L.allowed →
-        IsStage (cuts tools.now.branching) I (last_of last.now) result.stage }
+    ensures turn { (I : Problem) → IsHand I tools.now last.now (Considered txn) → HasPrepared I last.now prepared.old → IsSearchLaw I L.lawful L.allowed →
+        Turn M.did (hand_of I tools.now.lease_ms (last_of last.now) (Considered txn) tally) room.old result.told
+        (hand_of I tools.now.lease_ms (last_of last.now) result.stage result.tally) room.new }
+    ensures stage { (I : Problem) → IsHand I tools.now last.now (Considered txn) → HasPrepared I last.now prepared.old → IsSearchLaw I L.lawful L.allowed →
+        IsStage I (last_of last.now) result.stage }
     ensures accepted { result.tally.accepted ≡ tally.accepted }
 {
     let Some(last) = last else {
@@ -90,15 +90,15 @@ pub(crate) fn is_hopeful(tally: &Tally, last: &Option<LastThought>) -> bool
 }
 
 /// Begins a transaction with a lease of this many milliseconds.
-pub(crate) fn begin<L: Law, M: Room<L>>(
+fn begin<L: Law, M: Room<L>>(
     room: &mut M,
     lease_ms: u64,
     spare: &mut Option<Spare>,
     tally: Tally,
 ) -> Outcome
-    ensures turn { (cutting : Bool) (I : Problem) (last : Option ThoughtValue) →
-        Turn M.did (hand_of cutting I lease_ms last Idle tally) room.old result.told (hand_of cutting I lease_ms last result.stage result.tally) room.new }
-    ensures stage { (cutting : Bool) (I : Problem) (last : Option ThoughtValue) → IsStage cutting I last result.stage }
+    ensures turn { (I : Problem) (last : Option ThoughtValue) →
+        Turn M.did (hand_of I lease_ms last Idle tally) room.old result.told (hand_of I lease_ms last result.stage result.tally) room.new }
+    ensures stage { (I : Problem) (last : Option ThoughtValue) → IsStage I last result.stage }
     ensures accepted { result.tally.accepted ≡ tally.accepted }
 {
     let begun = room.begin_in(lease_ms, spare);
@@ -107,9 +107,9 @@ pub(crate) fn begin<L: Law, M: Room<L>>(
 
 fn told_begin(begun: Result<Txn, TxnError>, tally: Tally) -> Outcome
     requires { IfOk begun (λ txn. (txn.marks ≡ []) × (txn.writes ≡ [])) }
-    ensures turn { (cutting : Bool) (I : Problem) (lease : ℕ) (last : Option ThoughtValue) →
-        AfterBegin (hand_of cutting I lease last Idle tally) begun result.told (hand_of cutting I lease last result.stage result.tally) }
-    ensures stage { (cutting : Bool) (I : Problem) (last : Option ThoughtValue) → IsStage cutting I last result.stage }
+    ensures turn { (I : Problem) (lease : ℕ) (last : Option ThoughtValue) →
+        AfterBegin (hand_of I lease last Idle tally) begun result.told (hand_of I lease last result.stage result.tally) }
+    ensures stage { (I : Problem) (last : Option ThoughtValue) → IsStage I last result.stage }
     ensures accepted { result.tally.accepted ≡ tally.accepted }
 {
     match begun {
@@ -119,7 +119,7 @@ fn told_begin(begun: Result<Txn, TxnError>, tally: Tally) -> Outcome
 }
 
 /// Takes the tuple of an open node.
-pub(crate) fn take_node<L: Law, M: Room<L>>(
+fn take_node<L: Law, M: Room<L>>(
     room: &mut M,
     template: &Template,
     mut txn: Txn,
@@ -128,10 +128,10 @@ pub(crate) fn take_node<L: Law, M: Room<L>>(
     requires template { template.now ≡ node_template }
     requires marks { txn.marks ≡ [] }
     requires writes { txn.writes ≡ [] }
-    ensures turn { (cutting : Bool) (I : Problem) (lease : ℕ) (last : Option ThoughtValue) →
-        Turn M.did (hand_of cutting I lease last (Begun txn) tally) room.old result.told (hand_of cutting I lease last result.stage result.tally) room.new }
-    ensures stage { (cutting : Bool) (I : Problem) (last : Option ThoughtValue) → IsInstance I → IsSearchLaw cutting I L.lawful L.allowed →
-        IsStage cutting I last result.stage }
+    ensures turn { (I : Problem) (lease : ℕ) (last : Option ThoughtValue) →
+        Turn M.did (hand_of I lease last (Begun txn) tally) room.old result.told (hand_of I lease last result.stage result.tally) room.new }
+    ensures stage { (I : Problem) (last : Option ThoughtValue) → IsInstance I → IsSearchLaw I L.lawful L.allowed →
+        IsStage I last result.stage }
     ensures accepted { result.tally.accepted ≡ tally.accepted }
 {
     does_match_law();
@@ -140,9 +140,9 @@ pub(crate) fn take_node<L: Law, M: Room<L>>(
 }
 
 fn told_node(found: Result<Option<Found>, TxnError>, txn: Txn, tally: Tally) -> Outcome
-    ensures turn { (cutting : Bool) (I : Problem) (lease : ℕ) (last : Option ThoughtValue) (old : TxnValue) →
-        AfterNode (hand_of cutting I lease last (Begun old) tally) (find_answer found) txn result.told (hand_of cutting I lease last result.stage result.tally) }
-    ensures stage { (cutting : Bool) (I : Problem) (last : Option ThoughtValue) → IsFoundNode I (find_answer found) txn → IsStage cutting I last result.stage }
+    ensures turn { (I : Problem) (lease : ℕ) (last : Option ThoughtValue) (old : TxnValue) →
+        AfterNode (hand_of I lease last (Begun old) tally) (find_answer found) txn result.told (hand_of I lease last result.stage result.tally) }
+    ensures stage { (I : Problem) (last : Option ThoughtValue) → IsFoundNode I (find_answer found) txn → IsStage I last result.stage }
     ensures accepted { result.tally.accepted ≡ tally.accepted }
 {
     match found {
@@ -154,9 +154,9 @@ fn told_node(found: Result<Option<Found>, TxnError>, txn: Txn, tally: Tally) -> 
 
 /// A write of the transaction itself is not one of an open node.
 fn took(what: Found, txn: Txn, tally: Tally) -> Outcome
-    ensures turn { (cutting : Bool) (I : Problem) (lease : ℕ) (last : Option ThoughtValue) (old : TxnValue) →
-        AfterNode (hand_of cutting I lease last (Begun old) tally) (found what) txn result.told (hand_of cutting I lease last result.stage result.tally) }
-    ensures stage { (cutting : Bool) (I : Problem) (last : Option ThoughtValue) → IsFoundNode I (found what) txn → IsStage cutting I last result.stage }
+    ensures turn { (I : Problem) (lease : ℕ) (last : Option ThoughtValue) (old : TxnValue) →
+        AfterNode (hand_of I lease last (Begun old) tally) (found what) txn result.told (hand_of I lease last result.stage result.tally) }
+    ensures stage { (I : Problem) (last : Option ThoughtValue) → IsFoundNode I (found what) txn → IsStage I last result.stage }
     ensures accepted { result.tally.accepted ≡ tally.accepted }
 {
     match what {
@@ -166,7 +166,7 @@ fn took(what: Found, txn: Txn, tally: Tally) -> Outcome
 }
 
 /// Commits a transaction, after which the incumbent has this cost.
-pub(crate) fn commit<L: Law, M: Room<L>>(
+fn commit<L: Law, M: Room<L>>(
     room: &mut M,
     share: &mut Share<L>,
     txn: Txn,
@@ -175,9 +175,9 @@ pub(crate) fn commit<L: Law, M: Room<L>>(
 ) -> Outcome
     requires allowed { MayCommit L.allowed txn }
     requires counted { tally.accepted ≤ share.old }
-    ensures turn { (cutting : Bool) (I : Problem) (lease : ℕ) (last : Option ThoughtValue) →
-        Turn M.did (hand_of cutting I lease last (Ready txn cost) tally) room.old result.told (hand_of cutting I lease last result.stage result.tally) room.new }
-    ensures stage { (cutting : Bool) (I : Problem) (last : Option ThoughtValue) → MayCommit (MayReplace cutting I) txn → IsStage cutting I last result.stage }
+    ensures turn { (I : Problem) (lease : ℕ) (last : Option ThoughtValue) →
+        Turn M.did (hand_of I lease last (Ready txn cost) tally) room.old result.told (hand_of I lease last result.stage result.tally) room.new }
+    ensures stage { (I : Problem) (last : Option ThoughtValue) → MayCommit (MayReplace I) txn → IsStage I last result.stage }
     ensures counted { share.new + tally.accepted ≡ share.old + result.tally.accepted }
 {
     let committed = room.commit(share, txn);
@@ -194,9 +194,9 @@ fn told_commit(
     tally: Tally,
 ) -> Outcome
     requires { OnOk committed (tally.accepted < shared) }
-    ensures turn { (cutting : Bool) (I : Problem) (lease : ℕ) (last : Option ThoughtValue) (txn : TxnValue) → IfErr committed (λ back. back.1 ≡ txn) →
-        AfterCommit (hand_of cutting I lease last (Ready txn cost) tally) txn cost committed result.told (hand_of cutting I lease last result.stage result.tally) }
-    ensures stage { (cutting : Bool) (I : Problem) (last : Option ThoughtValue) → IfErr committed (λ back. MayCommit (MayReplace cutting I) back.1) → IsStage cutting I last result.stage }
+    ensures turn { (I : Problem) (lease : ℕ) (last : Option ThoughtValue) (txn : TxnValue) → IfErr committed (λ back. back.1 ≡ txn) →
+        AfterCommit (hand_of I lease last (Ready txn cost) tally) txn cost committed result.told (hand_of I lease last result.stage result.tally) }
+    ensures stage { (I : Problem) (last : Option ThoughtValue) → IfErr committed (λ back. MayCommit (MayReplace I) back.1) → IsStage I last result.stage }
     ensures accepted { OnOk committed (result.tally.accepted ≡ tally.accepted + 1) }
     ensures uncounted { OnErr committed (result.tally.accepted ≡ tally.accepted) }
 {
@@ -213,9 +213,9 @@ fn told_commit(
 
 /// A commit that was refused since its transaction has ended is counted.
 fn not_committed(error: TxnError, stage: Stage, tally: Tally) -> Outcome
-    ensures turn { (cutting : Bool) (I : Problem) (lease : ℕ) (last : Option ThoughtValue) (old : Stage) (txn : TxnValue) (cost : ℤ) → stage ≡ Ready txn cost →
-        AfterNoCommit (hand_of cutting I lease last old tally) txn cost (CommitError.Txn error) result.told (hand_of cutting I lease last result.stage result.tally) }
-    ensures stage { (cutting : Bool) (I : Problem) (last : Option ThoughtValue) → IsStage cutting I last stage → IsStage cutting I last result.stage }
+    ensures turn { (I : Problem) (lease : ℕ) (last : Option ThoughtValue) (old : Stage) (txn : TxnValue) (cost : ℤ) → stage ≡ Ready txn cost →
+        AfterNoCommit (hand_of I lease last old tally) txn cost (CommitError.Txn error) result.told (hand_of I lease last result.stage result.tally) }
+    ensures stage { (I : Problem) (last : Option ThoughtValue) → IsStage I last stage → IsStage I last result.stage }
     ensures accepted { result.tally.accepted ≡ tally.accepted }
 {
     match error {
@@ -231,10 +231,10 @@ fn not_committed(error: TxnError, stage: Stage, tally: Tally) -> Outcome
 }
 
 /// Ends a transaction without a commit.
-pub(crate) fn abort<L: Law, M: Room<L>>(room: &mut M, txn: Txn, tally: Tally) -> Outcome
-    ensures turn { (cutting : Bool) (I : Problem) (lease : ℕ) (last : Option ThoughtValue) →
-        Turn M.did (hand_of cutting I lease last (GivingUp txn) tally) room.old result.told (hand_of cutting I lease last result.stage result.tally) room.new }
-    ensures stage { (cutting : Bool) (I : Problem) (last : Option ThoughtValue) → IsStage cutting I last result.stage }
+fn abort<L: Law, M: Room<L>>(room: &mut M, txn: Txn, tally: Tally) -> Outcome
+    ensures turn { (I : Problem) (lease : ℕ) (last : Option ThoughtValue) →
+        Turn M.did (hand_of I lease last (GivingUp txn) tally) room.old result.told (hand_of I lease last result.stage result.tally) room.new }
+    ensures stage { (I : Problem) (last : Option ThoughtValue) → IsStage I last result.stage }
     ensures accepted { result.tally.accepted ≡ tally.accepted }
 {
     let ended = room.abort(txn);
@@ -242,9 +242,9 @@ pub(crate) fn abort<L: Law, M: Room<L>>(room: &mut M, txn: Txn, tally: Tally) ->
 }
 
 fn told_abort(ended: Result<(), (TxnError, Txn)>, tally: Tally) -> Outcome
-    ensures turn { (cutting : Bool) (I : Problem) (lease : ℕ) (last : Option ThoughtValue) (txn : TxnValue) → IfErr ended (λ back. back.1 ≡ txn) →
-        AfterAbort (hand_of cutting I lease last (GivingUp txn) tally) txn (end_answer ended) result.told (hand_of cutting I lease last result.stage result.tally) }
-    ensures stage { (cutting : Bool) (I : Problem) (last : Option ThoughtValue) → IsStage cutting I last result.stage }
+    ensures turn { (I : Problem) (lease : ℕ) (last : Option ThoughtValue) (txn : TxnValue) → IfErr ended (λ back. back.1 ≡ txn) →
+        AfterAbort (hand_of I lease last (GivingUp txn) tally) txn (end_answer ended) result.told (hand_of I lease last result.stage result.tally) }
+    ensures stage { (I : Problem) (last : Option ThoughtValue) → IsStage I last result.stage }
     ensures accepted { result.tally.accepted ≡ tally.accepted }
 {
     match ended {
@@ -268,9 +268,9 @@ pub(crate) fn went_on(stage: Stage, tally: Tally) -> Outcome
 
 /// A step that met this refusal: where the transaction has ended the worker is idle, and else it is where it was.
 pub(crate) fn refused(error: TxnError, stage: Stage, tally: Tally) -> Outcome
-    ensures turn { (cutting : Bool) (I : Problem) (lease : ℕ) (last : Option ThoughtValue) (old : Stage) →
-        AfterRefusal (hand_of cutting I lease last old tally) stage error result.told (hand_of cutting I lease last result.stage result.tally) }
-    ensures stage { (cutting : Bool) (I : Problem) (last : Option ThoughtValue) → IsStage cutting I last stage → IsStage cutting I last result.stage }
+    ensures turn { (I : Problem) (lease : ℕ) (last : Option ThoughtValue) (old : Stage) →
+        AfterRefusal (hand_of I lease last old tally) stage error result.told (hand_of I lease last result.stage result.tally) }
+    ensures stage { (I : Problem) (last : Option ThoughtValue) → IsStage I last stage → IsStage I last result.stage }
     ensures tally { result.tally ≡ tally }
 {
     match error {

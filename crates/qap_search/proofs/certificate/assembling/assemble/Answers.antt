@@ -1,7 +1,7 @@
 use Rattle.std.proofs.Common.{◌≡◌, ap, sym, ◌∙◌, arith}
 use Rattle.std.proofs.lemmas.Result.{MatchResult-weaker}
 use Rattle.qap_search.specs.Tuples.Piece.{open_count}
-use Rattle.qap_search.proofs.CertificateLemmas.StoppedAssembling.{fault_of}
+use Rattle.qap_search.proofs.CertificateLemmas.MadeOf.{fault_of}
 use Rattle.qap_search.proofs.certificate.assembling.assemble.Goals as goal
 
 pub returns : goal.returns

@@ -1,7 +1,5 @@
-use Rattle.std.specs.Prelude.{◌+◌, ◌*◌, drop}
-use Rattle.qap_proof.specs.Memory.{node_of, nodes_of}
-use Rattle.qap_proof.specs.NodeLine.{split_of}
-use Rattle.qap_proof.specs.Tree.{node_count, nodes_count}
+use Rattle.std.proofs.Common.{◌+◌, ◌*◌, drop}
+use Rattle.qap_cert.specs.Tree.{node_of, nodes_of, node_count, nodes_count}
 use Rattle.qap_search.proofs.CertificateLemmas.LeafBounds.{HaveShown}
 use Rattle.qap_search.proofs.certificate.leaf_bounds.+showing.Given as goal
 
@@ -13,4 +11,4 @@ decreases-least_shown_by_all l = 2 * nodes_count (nodes_of l.children.now) + 1
 
 abbrev pub invariant-least_shown_by_all-loop-i : goal.invariant-least_shown_by_all-loop-i
 invariant-least_shown_by_all-loop-i l =
-    HaveShown l.instance l.node (split_of l.split) l.least l.found (nodes_of l.children) l.i (nodes_of (drop l.i l.children))
+    HaveShown l.instance l.node l.facility l.least l.found l.locations (nodes_of l.children) (drop l.i l.locations) (nodes_of (drop l.i l.children))

@@ -6,13 +6,13 @@ use Rattle.qap_search.proofs.certificate.leaf_bounds.least_with.Goals as goal
 pub returns-then-value-least : goal.returns-then-value-least
 returns-then-value-least c =
     let fixed = c.fixed_cost.ensures in
-    let sum = c.dual_sum.ensures in
-    λ duals. least_second _ _ _ (grind (arith, ints, fixed.value, fixed.bounded, sum.value, sum.bounded))
-    (grind (arith, ints, fixed.value, fixed.bounded, sum.value, sum.bounded, c.ranges.least, c.if-value-least.true))
+    let duals = c.dual_sum.ensures in
+    least_second _ _ _ (omega (arith, ints, fixed.value, fixed.bounded, duals.value, duals.bounded))
+    (omega (arith, ints, fixed.value, fixed.bounded, duals.value, duals.bounded, c.ranges.least, c.if-value-least.true))
 
 pub returns-else-value-least : goal.returns-else-value-least
 returns-else-value-least c =
     let fixed = c.fixed_cost.ensures in
-    let sum = c.dual_sum.ensures in
-    λ duals. least_first _ _ _ (omega (arith, ints, c.ranges.least))
-    (grind (arith, ints, fixed.value, fixed.bounded, sum.value, sum.bounded, c.ranges.least, c.if-value-least.false))
+    let duals = c.dual_sum.ensures in
+    least_first _ _ _ (omega (arith, ints, c.ranges.least))
+    (omega (arith, ints, fixed.value, fixed.bounded, duals.value, duals.bounded, c.ranges.least, c.if-value-least.false))

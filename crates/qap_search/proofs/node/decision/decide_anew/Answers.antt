@@ -14,7 +14,7 @@ returns-then-thought-cost c =
     let same : to_z w128 (of_z w128 t.cost) ≡ t.cost = search rules in
     let less : t.cost <ℤ c.args.cost = omega (arith, ints, c.ranges.cost, same, c.if-thought-cost.true) in
     made_then c.decide_beside.result _ _ _ _ (λ none. (candidate_of t, inl (less, refl), none.0, subst (λ (z : ℤ). t.value <ℤ z) same none.1))
-    (λ ts d cutting I h. better_candidate cutting I old x t _ ts.items same less (d cutting I h)) c.decide_beside.ensures
+    (λ ts d I h. better_candidate I old x t _ ts.items same less (d I h)) c.decide_beside.ensures
 
 pub returns-else-thought-cost : goal.returns-else-thought-cost
 returns-else-thought-cost c =
@@ -24,4 +24,4 @@ returns-else-thought-cost c =
     let same : to_z w128 (of_z w128 c.args.cost) ≡ c.args.cost = to_z-of_z w128 c.args.cost c.ranges.cost in
     let more : c.args.cost ≤ℤ t.cost = omega (arith, ints, c.ranges.cost, same, c.if-thought-cost.false) in
     made_then c.decide_beside-else-thought-cost.result _ _ _ _ (λ none. (old, inr (more, refl), none.0, subst (λ (z : ℤ). t.value <ℤ z) same none.1))
-    (λ ts d cutting I h. better_old cutting I old (thought_on x t) _ ts.items same more (d cutting I h)) c.decide_beside-else-thought-cost.ensures
+    (λ ts d I h. better_old I old (thought_on x t) _ ts.items same more (d I h)) c.decide_beside-else-thought-cost.ensures

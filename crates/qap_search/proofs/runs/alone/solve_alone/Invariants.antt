@@ -1,4 +1,4 @@
-use Rattle.std.specs.Prelude.{false, None}
+use Rattle.std.specs.Prelude.{None}
 use Rattle.qap_search.specs.Law.CutTree.{IsCutTree}
 use Rattle.qap_search.specs.Law.Replacement.{MayReplace}
 use Rattle.qap_search.specs.Law.Search.{whole}
@@ -12,7 +12,7 @@ ghosts-search-L-Ledger g a = record { name = a.blank.name; parts = a.blank.parts
 abbrev pub ghosts-search-L-Law : goal.ghosts-search-L-Law
 ghosts-search-L-Law g a = record {
   lawful = IsCutTree (whole a.instance.now);
-  allowed = MayReplace false a.instance.now;
+  allowed = MayReplace a.instance.now;
   limit = None;
   reached = λ _. Unit {0};
   unordered = cut_trees_unordered (whole a.instance.now);

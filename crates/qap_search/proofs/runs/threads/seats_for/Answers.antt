@@ -11,7 +11,7 @@ loop-share-preserved g c = record {
   worker = omega (arith, c.in_ok-push.ensures.len, c.loop-share.invariant.worker);
 }
 
-pub new-requires-clause-counted : goal.new-requires-clause-counted
-new-requires-clause-counted g c =
+pub new-requires-in-Some-clause-counted : goal.new-requires-in-Some-clause-counted
+new-requires-in-Some-clause-counted g c =
     let zero = (All-pop (λ (n : ℕ). n ≡ 0) c.loop-share.rest.items c.pop.new.self.items (Some c.in-Some.share) c.in-Some.ensures.items c.loop-share.invariant.fresh).1 in
-    ap (λ (h : HandValue). h.accepted) c.beside-hand.ensures ∙ (c.in_ok-for_search.ensures.accepted ∙ sym zero)
+    ap (λ (h : HandValue). h.accepted) c.beside-hand.ensures ∙ (c.in_ok-new.ensures.accepted ∙ sym zero)

@@ -1,9 +1,6 @@
-use Rattle.std.proofs.Common.{ℕ, false, List, length, subst}
-use Rattle.qap_cost.specs.Placement.{Placement, root_of}
+use Rattle.std.proofs.Common.{length}
 use Rattle.qap_search.specs.Runs.Answer.{IsLeastFrom}
-use Rattle.qap_search.specs.Runs.Outcome.{IsEnded}
-use Rattle.qap_search.specs.Law.Search.{Search, best_with, search_of, whole}
-use Rattle.qap_search.specs.Runs.Ran.{RanTo}
+use Rattle.qap_search.specs.Law.Search.{whole}
 use Rattle.qap_search.specs.declared.runs.answer.Least.{Least}
 use Rattle.qap_search.proofs.RunLemmas.BehindAnswers.{ran_behind}
 use Rattle.qap_search.proofs.RunLemmas.Outcomes.{least_told, told_of}
@@ -14,27 +11,15 @@ returns-clause-answer g c =
     let I = c.args.instance.now in
     let workers = c.args.crew.workers in
     let limit = c.args.crew.limit in
-    let run = c.in_ok-run.run' in
-    let start = c.in_ok-root.field-0.start in
-    let ended : IsEnded (whole I) limit run =
-    subst (λ (p : List ℕ). IsEnded (search_of false I (root_of I.size) (best_with I p)) limit run) c.in_ok-root.ensures.start
-    (subst (λ (x : Placement). IsEnded (search_of false I x (best_with I start)) limit run) c.in_ok-root.ensures.root c.in_ok-run.ensures.ended) in
+    let ended = c.in_ok-run.ensures.ended in
     least_told I workers limit c.least_of.result
-    (told_of (whole I) workers limit run (λ n a. IsLeastFrom (whole I) n limit a) c.least_of.result ended c.in_ok-run.ensures.one_each (c.least_of.ensures.answer (whole I).known ended))
+    (told_of (whole I) workers limit c.in_ok-run.run' (λ n a. IsLeastFrom (whole I) n limit a) c.least_of.result ended c.in_ok-run.ensures.one_each (c.least_of.ensures.answer (whole I).known ended))
 
 pub returns-clause-ran : goal.returns-clause-ran
 returns-clause-ran g c =
-    let I = c.args.instance.now in
-    let workers = c.args.crew.workers in
+    let S = whole c.args.instance.now in
     let limit = c.args.crew.limit in
     let run = c.in_ok-run.run' in
-    let start = c.in_ok-root.field-0.start in
-    let S : Search = whole I in
-    let ended : IsEnded S limit run =
-    subst (λ (p : List ℕ). IsEnded (search_of false I (root_of I.size) (best_with I p)) limit run) c.in_ok-root.ensures.start
-    (subst (λ (x : Placement). IsEnded (search_of false I x (best_with I start)) limit run) c.in_ok-root.ensures.root c.in_ok-run.ensures.ended) in
-    let ran : RanTo S workers limit run.space =
-    subst (λ (p : List ℕ). RanTo (search_of false I (root_of I.size) (best_with I p)) workers limit run.space) c.in_ok-root.ensures.start
-    (subst (λ (x : Placement). RanTo (search_of false I x (best_with I start)) workers limit run.space) c.in_ok-root.ensures.root c.in_ok-run.ensures.ran) in
-    ran_behind (λ (a : Least). a.reports.items) S workers limit run (λ (a : Least). IsLeastFrom S (length run.reports.items) limit a) c.least_of.result ran ended
-    (c.least_of.ensures.answer (whole I).known ended) c.least_of.ensures.tells
+    let ended = c.in_ok-run.ensures.ended in
+    ran_behind (λ (a : Least). a.reports.items) S c.args.crew.workers limit run (λ (a : Least). IsLeastFrom S (length run.reports.items) limit a) c.least_of.result c.in_ok-run.ensures.ran ended
+    (c.least_of.ensures.answer S.known ended) c.least_of.ensures.tells

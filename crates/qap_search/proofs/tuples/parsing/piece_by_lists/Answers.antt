@@ -1,15 +1,8 @@
-use Rattle.std.proofs.Common.{arith}
-use Rattle.std.proofs.lemmas.List.{length-map}
 use Rattle.number_list.specs.NumberList.{numbers_held}
-use Rattle.tuple_match.specs.Field.{field_value, fields_value}
+use Rattle.tuple_match.specs.Field.{fields_value}
 use Rattle.qap_search.proofs.TupleLemmas.Fields.{no_closed_piece}
 use Rattle.qap_search.proofs.tuples.parsing.piece_by_lists.Goals as goal
 
 pub returns-in_err-node : goal.returns-in_err-node
 returns-in_err-node c =
-    let fields = c.args.fields.items in
-    let long = length-map fields field_value in
-    let few = c.if-len-gt2.false in
-    let count = c.len.ensures in
-    let counted = c.args.fields.ok.0 in
-    rw c.from_residual.ensures (no_closed_piece (fields_value fields) (numbers_held c.args.before) (numbers_held c.args.last) (omega arith) (c.in_err-node.ensures {u = tt}))
+    rw c.from_residual.ensures (no_closed_piece (fields_value c.args.fields.items) (numbers_held c.args.before) (numbers_held c.args.last) (c.in_err-node.ensures {u = tt}))

@@ -9,9 +9,9 @@ invariant_of-self-2 g c =
     let h = c.self.inside in (
       record {
         hand = rw (c.think_in.ensures.same)
-            (hand_after h.ground h.tools h.job.last c.think_in.new.last h.job.stage c.stage_thought.result c.in_ok-considered.considered c.self.invariant.0.hand due (c.in_ok-considered.ensures.considers)
+            (hand_after h.rows h.tools h.job.last c.think_in.new.last h.job.stage c.stage_thought.result c.in_ok-considered.considered c.self.invariant.0.hand due (c.in_ok-considered.ensures.considers)
             (λ t number is. c.stage_thought.ensures t number (c.replace-stage.ensures.value ∙ is)));
-        prepared = nothing_prepared _ _ _ c.forget.new.self c.forget.ensures;
+        prepared = nothing_prepared _ _ c.forget.new.self c.forget.ensures;
       },
       rw (c.think_in.ensures.same) c.self.invariant.1,
     )
@@ -21,7 +21,7 @@ returns-clause-thought g c =
     let due = rw (← c.self.view_is) at c.requires in
     let h = c.self.inside in
     rw (← c.self.view_is, c.think_in.ensures.same)
-    (thinks h.ground h.tools.lease_ms h.tools h.job.last c.think_in.new.last h.job.stage c.stage_thought.result h.tally c.in_ok-considered.considered c.self.invariant.0.hand due (c.in_ok-considered.ensures.considers)
+    (thinks h.rows h.tools.lease_ms h.tools h.job.last c.think_in.new.last h.job.stage c.stage_thought.result h.tally c.in_ok-considered.considered c.self.invariant.0.hand due (c.in_ok-considered.ensures.considers)
     (λ t number is. c.stage_thought.ensures t number (c.replace-stage.ensures.value ∙ is)))
 
 pub returns-clause-not_due : goal.returns-clause-not_due
