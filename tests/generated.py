@@ -90,7 +90,6 @@ def plan_case(seed):
     texts = "\n".join(f"file {name}:\n    " + "\n    ".join(lines) for name, lines in files.items())
     return f"""
 case: plan {seed}
-unshipped:
 {texts}
 run:
     qapplan solve plan.toml --json a.json --proof a.proof --svg a.svg || exit

@@ -138,8 +138,6 @@ def cases():
         yield f"case: plan {number}: {message or 'no TOML'}".replace("\n", " ")
         yield "bytes plan.toml: " + text.replace("\n", "\\n").replace("\xff", "\\xff")
         yield "run: qapplan solve plan.toml\nstatus: 1"
-        if message and (KEYS in message or '"y"' in message or '"title"' in message):
-            yield "unshipped:"
         if message:
             yield f"stderr: error: plan.toml: {message}"
         else:
