@@ -83,7 +83,10 @@ where
     };
     let watcher = Watcher::new(within);
     let first = start.copy()?;
+    // Joining the texts of the workers takes as much memory as these.
+    within.divide(2);
     let Found { proof, nodes } = prove(system, alloc, instance, root, first, plan, &watcher)?;
+    within.divide(1);
     match proof {
         Some(proof) => Ok(Some(shown_by(proof, nodes)?)),
         None => Ok(None),
