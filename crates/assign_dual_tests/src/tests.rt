@@ -1,5 +1,7 @@
 //! Worked rows, and many small matrices against an enumeration of all assignments.
 
+mod assigner;
+
 use assign_dual::{Assignment, Solver, is_in_range, solve};
 use qap_cost::Matrix;
 use std::alloc::{AllocError, Global};

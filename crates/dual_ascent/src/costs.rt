@@ -1,8 +1,8 @@
 //! What remains of a node's costs under its pair duals.
 
-use crate::places::{at, row_of, row_of_mut};
 use crate::rows::{add, combine, gather, take};
 use crate::state::State;
+use assign_dual::places::{at, row_of, row_of_mut};
 use qap_cost::{Instance, Partial};
 use std::alloc::{AllocError, Global};
 

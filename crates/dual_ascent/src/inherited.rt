@@ -1,8 +1,8 @@
 //! Pair duals of an ancestor, restricted to a node.
 
 use crate::costs::Free;
-use crate::places::put;
 use crate::state::State;
+use assign_dual::places::put;
 use pair_duals::PairDuals;
 use std::alloc::{AllocError, Global};
 

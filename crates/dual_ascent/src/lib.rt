@@ -6,13 +6,9 @@
 #![tactic(auto)]
 
 mod ascent;
-mod assigner;
 mod costs;
 mod effort;
 mod inherited;
-mod matching;
-mod paths;
-mod places;
 mod range;
 mod rounds;
 mod rows;
@@ -23,7 +19,5 @@ mod trivial;
 mod weights;
 
 pub use ascent::{ascend, ascend_softly};
-pub use assigner::Assigner;
 pub use effort::Effort;
-pub use matching::Matching;
 pub use range::has_range;

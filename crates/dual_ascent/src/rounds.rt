@@ -1,8 +1,8 @@
 //! Rounds of dual ascent in integers (Hahn and Grant 1998).
 
-use crate::places::{add_at, at, past, row_of, row_of_mut};
 use crate::rows::{add, add_scattered, copy, copy_but, copy_with_zero, scatter, share, take};
 use crate::state::{State, Workspace};
+use assign_dual::places::{add_at, at, past, row_of, row_of_mut};
 
 /// This many rounds: facilities ascend in the first, descend in the second, and so on.
 pub fn run_rounds(state: &mut State, workspace: &mut Workspace, rounds: u32) {

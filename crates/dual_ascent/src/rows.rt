@@ -132,30 +132,6 @@ pub fn share(numbers: &mut [i64], parts: i64, shares: &mut [i64]) {
     }
 }
 
-/// The least number; of none, the greatest there is.
-pub fn least(row: &[i64]) -> i64 {
-    let mut least = i64::MAX;
-    for number in row {
-        if *number < least {
-            least = *number;
-        }
-    }
-    least
-}
-
-/// The place of the least number.
-pub fn nearest(distances: &[i64]) -> usize {
-    let mut place = 0;
-    let mut least = i64::MAX;
-    for c in 0..distances.len() {
-        if distances[c] < least {
-            least = distances[c];
-            place = c;
-        }
-    }
-    place
-}
-
 /// The sum of the numbers.
 pub fn sum(row: &[i64]) -> i64 {
     let mut sum: i64 = 0;

@@ -4,11 +4,11 @@ ghost use Rattle.std.specs.Prelude.{◌≡◌};
 
 use crate::costs::{Free, fill_left};
 use crate::effort::Effort;
-use crate::places::{at, row_of};
 use crate::rounds::run_rounds;
 use crate::rows::sum;
 use crate::state::{State, Workspace};
 use crate::sweeps::Sweeps;
+use assign_dual::places::{at, row_of};
 use qap_cost::{Instance, Partial};
 use std::alloc::{AllocError, Global};
 use std::num::nearest_i64_to_f64;

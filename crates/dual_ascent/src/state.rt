@@ -1,7 +1,7 @@
 //! The state of an ascent.
 
-use crate::assigner::Assigner;
-use crate::places::{put, row_of_mut};
+use assign_dual::Assigner;
+use assign_dual::places::{put, row_of_mut};
 use std::alloc::{AllocError, Global};
 
 /// Pair duals of a node with `m` free facilities, and what they leave of its costs.

@@ -1,5 +1,4 @@
-//! Assignments against enumeration, and bounds against the costs of all completions.
+//! Bounds against the costs of all completions.
 
-mod assignments;
 mod bounds;
 mod published;

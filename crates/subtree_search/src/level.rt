@@ -6,7 +6,7 @@ ghost use Rattle.pair_duals.specs.Reduced.{IsLine, count_of};
 ghost use Rattle.subtree_search.specs.Closed.{HasLeast};
 ghost use Rattle.subtree_search.specs.Premises.{limits_of_64};
 
-use dual_ascent::{Assigner, Matching};
+use assign_dual::{Assigner, Matching};
 use pair_duals::Reduced;
 use qap_cost::{Partial, Perm};
 use qap_symmetry::Table;

@@ -3,7 +3,8 @@
 ghost use Rattle.std.specs.Prelude.{◌≡◌, IfOk};
 ghost use Rattle.pair_duals.specs.PairDuals.{AreOf};
 
-use dual_ascent::{Assigner, Effort, ascend_softly, has_range};
+use assign_dual::Assigner;
+use dual_ascent::{Effort, ascend_softly, has_range};
 use pair_duals::{PairDuals, Reduced, are_duals, is_in_scale};
 use qap_cost::{Instance, Partial};
 use std::alloc::{AllocError, Global};

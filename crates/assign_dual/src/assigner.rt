@@ -1,9 +1,9 @@
 //! Duals of a least assignment, by shortest augmenting paths (Jonker and Volgenant 1987).
 
 use crate::matching::Matching;
-use crate::paths::{Search, find_path, turn};
 use crate::places::{add_at, at, row_of};
 use crate::rows::{least, sum};
+use crate::search::{Search, find_path, turn};
 use std::alloc::{AllocError, Global};
 
 /// Finds duals of square matrices, in lists that it keeps from call to call.

@@ -1,6 +1,6 @@
 //! The duals of many small matrices, from scratch and from other duals, against an enumeration of all assignments.
 
-use dual_ascent::{Assigner, Matching};
+use assign_dual::{Assigner, Matching};
 use std::alloc::{AllocError, Global};
 use std::process::Abort;
 use std::test::Fail;
