@@ -116,11 +116,11 @@ impl Sweeps {
         let square = m.wrapping_mul(m);
         let place = i.wrapping_mul(m).wrapping_add(k);
         gather(&self.moves.beta, place, square, &mut self.block.columns);
-        let left = crate::places::row_of(&state.pairs, square, place);
+        let left = assign_dual::places::row_of(&state.pairs, square, place);
         for j in i.wrapping_add(1)..m {
             write_weights(
                 &mut self.block.sums,
-                crate::places::row_of(left, m, j),
+                assign_dual::places::row_of(left, m, j),
                 at(
                     &self.moves.alpha,
                     j.wrapping_mul(square).wrapping_add(place),
