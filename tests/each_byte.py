@@ -42,7 +42,8 @@ def main():
         if run.returncode == 1 and not run.stdout:
             well = REFUSAL.fullmatch(run.stderr)
         else:
-            well = run.returncode == 0 and not run.stderr and is_true(run.stdout.decode(), instance, text)
+            ended = 0 if run.stdout.startswith(b"optimal ") else 5
+            well = run.returncode == ended and not run.stderr and is_true(run.stdout.decode(), instance, text)
         if not well:
             sys.exit(f"{text}: {run}")
         count += 1

@@ -65,7 +65,7 @@ def cases():
     for number, (instance, lines, verdict) in enumerate(RIGHT):
         proof = escaped(lines.replace("|", "\n"))
         yield f"case: right {number}: {verdict}\nbytes a.dat: {instance}\nbytes a.proof: {proof}\\n"
-        yield f"run: qapverify a.dat a.proof\nstdout: {verdict}"
+        yield f"run: qapverify a.dat a.proof\nstdout: {verdict}" + ("" if verdict.startswith("optimal") else "\nstatus: 5")
     for number, (instance, proof, verdict, _) in enumerate(WHOLE):
         yield f"case: {number}: each proper beginning\nbytes a.dat: {instance}\nbytes a.proof: {escaped(proof)}"
         yield "run:\n    qapverify a.dat a.proof"

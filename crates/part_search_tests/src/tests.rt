@@ -3,9 +3,9 @@
 ghost use Rattle.std.specs.Prelude.{◌≡◌, true};
 
 use dual_ascent::Effort;
-use itertools::Itertools;
 use part_search::{Answer, Crew, Ground, Order, Step, Task, answer_of, play, solve};
 use qap_cost::{Instance, Partial, Perm, cost};
+use small_instances::{Kind, instance, least_of, listing, next};
 use std::alloc::{AllocError, Global};
 use std::process::Abort;
 use std::sync::{Arc, Wait};
@@ -26,83 +26,23 @@ impl Stop for AtOnce {
     }
 }
 
-/// The next number of Knuth's linear congruential generator of 64 bits.
-fn next(state: &mut u64) -> u64 {
-    *state = state
-        .wrapping_mul(6364136223846793005)
-        .wrapping_add(1442695040888963407);
-    *state >> 33
-}
-
-/// A matrix of entries from -9 to 9 or, where it is small, from 0 to 2.
-fn matrix(
-    alloc: Global,
-    n: usize,
-    is_small: bool,
-    state: &mut u64,
-) -> Result<Vec<i64>, AllocError> {
-    let mut entries: Vec<i64> = Vec::new(alloc);
-    for _ in 0..n {
-        for _ in 0..n {
-            let number = next(state);
-            entries.push(if is_small {
-                (number % 3) as i64
-            } else {
-                (number % 19) as i64 - 9
-            })?;
-        }
-    }
-    Ok(entries)
-}
-
-/// The instance that this seed gives.
-fn instance(alloc: Global, n: usize, seed: u64) -> Result<Option<Instance>, AllocError> {
-    let mut state = seed;
-    let flows = matrix(alloc, n, seed % 2 == 0, &mut state)?;
-    let distances = matrix(alloc, n, seed % 3 == 0, &mut state)?;
-    Ok(Instance::new(n, flows, distances).ok())
-}
-
-/// Whether a permutation completes a node.
-fn completes(node: &Partial, permutation: &Perm) -> bool {
-    for (f, k) in node.facilities().iter().zip(node.places()) {
-        if permutation.locations().get(usize::from(*f)) != Some(k) {
-            return false;
-        }
-    }
-    true
-}
-
-/// Every permutation with its cost.
-fn listing(alloc: Global, instance: &Instance) -> Result<Vec<(Perm, i128)>, AllocError> {
-    let mut all = Vec::new(alloc);
-    for locations in (0..instance.size() as u16).permutations(alloc, instance.size())? {
-        if let Ok(found) = Perm::new(locations?)
-            && found.len() == instance.size()
-        {
-            let own = cost(instance, &found);
-            all.push((found, own))?;
-        }
-    }
-    Ok(all)
-}
-
-/// The least cost of a completion of the node.
-fn least_of(node: &Partial, all: &[(Perm, i128)]) -> Option<i128> {
-    let mut least = None;
-    for (permutation, own) in all {
-        if completes(node, permutation) {
-            least = match least {
-                Some(other) if other <= *own => Some(other),
-                _ => Some(*own),
-            };
-        }
-    }
-    least
-}
-
 /// The scale of the pair duals.
 const SCALE: u32 = 64;
+
+/// The instance that this seed gives, whose matrices are of two kinds.
+fn seeded(alloc: Global, n: usize, seed: u64) -> Result<Option<Instance>, AllocError> {
+    let a = if seed % 2 == 0 {
+        Kind::Small
+    } else {
+        Kind::Signed
+    };
+    let b = if seed % 3 == 0 {
+        Kind::Small
+    } else {
+        Kind::Signed
+    };
+    instance(alloc, n, a, b, seed)
+}
 
 /// Steps by a formula: mostly turns of three workers, and now and then a moment or a loss.
 fn steps(alloc: Global, count: u64, seed: u64) -> Result<Vec<Step>, AllocError> {
@@ -227,7 +167,7 @@ fn assert_instance(rt: &impl Abort, alloc: Global, instance: &Instance) -> Resul
 fn schedules(rt: HostRuntime) -> Result<(), Fail> {
     for n in 1..5usize {
         for seed in 1..4u64 {
-            let instance = instance(rt.alloc(), n, seed)?.ok_or("entries")?;
+            let instance = seeded(rt.alloc(), n, seed)?.ok_or("entries")?;
             assert_instance(&rt, rt.alloc(), &instance)?;
         }
     }
@@ -265,7 +205,7 @@ fn limited<R: Abort + Threads + Wait + Clock + Sync>(
 #[test]
 fn limits(rt: HostRuntime) -> Result<(), Fail> {
     let alloc = rt.alloc();
-    let instance = instance(alloc, 5, 5)?.ok_or("entries")?;
+    let instance = seeded(alloc, 5, 5)?.ok_or("entries")?;
     let all = listing(alloc, &instance)?;
     let root = Partial::root(alloc, instance.size())?;
     let least = least_of(&root, &all).ok_or("no completion")?;

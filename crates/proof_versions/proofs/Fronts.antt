@@ -29,17 +29,17 @@ pub version_line : line_text (codes "qapproof") (pos 2 ∷ []) ≡ codes "qappro
 unfolding digits
 version_line = refl
 
-abbrev behind_cost : PairClaim → List ℕ
+abbrev pub behind_cost : PairClaim → List ℕ
 behind_cost C = line_text (codes "perm") (from_one C.permutation) ++ behind_permutation C
 
-abbrev behind_size : PairClaim → List ℕ
+abbrev pub behind_size : PairClaim → List ℕ
 behind_size C = line_text (codes "cost") (C.cost ∷ []) ++ behind_cost C
 
-abbrev behind_version : PairClaim → List ℕ
+abbrev pub behind_version : PairClaim → List ℕ
 behind_version C = line_text (codes "n") (pos (length C.permutation) ∷ []) ++ behind_size C
 
 -- the text of a proof is the line of its version and what is behind it
-pair_proof_parts : (C : PairClaim) → pair_proof_text C ≡ line_text (codes "qapproof") (pos 2 ∷ []) ++ behind_version C
+pub pair_proof_parts : (C : PairClaim) → pair_proof_text C ≡ line_text (codes "qapproof") (pos 2 ∷ []) ++ behind_version C
 pair_proof_parts C =
     in_parts (line_text (codes "qapproof") (pos 2 ∷ [])) (line_text (codes "n") (pos (length C.permutation) ∷ [])) (line_text (codes "cost") (C.cost ∷ []))
     (line_text (codes "perm") (from_one C.permutation)) (root_text C.root.facilities C.root.places) (bound_text C.cost C.bound) (tree_text C.tree) (codes "end\n")

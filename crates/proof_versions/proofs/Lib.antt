@@ -1,3 +1,4 @@
 pub mod CostSteps
 pub mod Fronts
+pub mod Streams
 pub mod Verdicts

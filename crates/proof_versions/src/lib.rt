@@ -10,3 +10,4 @@ mod part;
 pub use acceptance::accept;
 pub use adding::add_part;
 pub use over_root::accept_over;
+pub use pairs::{VERSION_LENGTH, accept_stream, states_version_two};

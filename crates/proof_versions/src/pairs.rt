@@ -3,22 +3,42 @@
 ghost use Rattle.std.specs.Prelude.{◌≡◌, ◌⊎◌, ◌↔◌, IsTrue, IfOk, MatchResult};
 ghost use Rattle.pair_duals.specs.CostStep.{step_of};
 ghost use Rattle.proof_check.specs.Acceptance.{ShowsPairVerdict};
+ghost use Rattle.qap_proof.specs.Acceptance.{IsLimitedVerdict};
 ghost use Rattle.proof_versions.specs.Versions.{StatesVersionTwo};
+ghost use Rattle.proof_versions.specs.Streams.{StreamShows};
 
 use pair_duals::cost_step;
 use proof_check::accept;
 use qap_cost::Instance;
 use qap_proof::{ProofError, Verdict};
 use std::alloc::Global;
+use std::io::BufRead;
 
 /// The line that states version 2.
 const VERSION_TWO: &[u8] = b"qapproof 2\n";
 
+/// How many bytes at the front of a text state its version.
+pub const VERSION_LENGTH: usize = 11;
+
 /// Whether a text begins with the line that states version 2.
-pub(crate) fn states_version_two(text: &[u8]) -> bool
+pub fn states_version_two(text: &[u8]) -> bool
     ensures { IsTrue result ↔ StatesVersionTwo text.now }
 {
     text.starts_with(VERSION_TWO)
+}
+
+/// What all that a reader has left establishes about an instance's costs, if it is the text of a proof of version 2 which
+/// proves its bound for it. The text is checked as it is read: only the forms of the nodes above the current line, and
+/// the pair duals in force there, are in memory. The first fault that was found is reported.
+pub fn accept_stream<R: BufRead>(
+    alloc: Global,
+    instance: &Instance,
+    reader: &mut R,
+) -> Result<Verdict, ProofError>
+    ensures shown { IfOk result (StreamShows instance.now (R.remaining reader.old)) }
+    ensures bounded { IfOk result IsLimitedVerdict }
+{
+    accept(alloc, instance, step(instance), reader)
 }
 
 /// What a text of version 2 shows of an instance's costs.

@@ -16,5 +16,5 @@ pub use gap::gap_line;
 pub use instance_text::{instance_text_law, read_instance};
 pub use solution_text::{read_solution, solution_text_law};
 pub use solution_writing::write_solution;
-pub use whole::{MAX_INPUT, read_all};
+pub use whole::{MAX_INPUT, read_all, read_behind, read_front};
 pub use word::skip_separators;

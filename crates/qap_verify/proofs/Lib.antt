@@ -1,1 +1,2 @@
 mod Comes
+mod Streams

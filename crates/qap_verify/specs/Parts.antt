@@ -39,9 +39,9 @@ HasNotAdded i I e =
 abbrev pub ShowTogether : CoverValue → Verdict → Type 0
 ShowTogether c v = IsVerdictOn c v × IsSoOf c.instance c.root v
 
--- the line of what they establish has been written
-abbrev pub HasShown : {W : Type 0} → CoverValue → (W → Option (List ℕ)) → CountedDevice W → CountedDevice W → Type 0
-HasShown c contents old new = (v : Verdict) × ShowTogether c v × Sends contents old new (answer_line v)
+-- they establish the verdict, and the line of it has been written
+abbrev pub HasShown : {W : Type 0} → CoverValue → (W → Option (List ℕ)) → CountedDevice W → CountedDevice W → Verdict → Type 0
+HasShown c contents old new v = ShowTogether c v × Sends contents old new (answer_line v)
 
 -- memory ran out, and nothing has been written; or the writer failed after a prefix of the line
 abbrev pub HasNotShown : {W : Type 0} → CoverValue → (W → Option (List ℕ)) → CountedDevice W → CountedDevice W → RunError → Type 0

@@ -28,6 +28,10 @@ of_proof ProofMemory = OutOfMemory
 of_proof ProofDevice = Device
 of_proof e = Proof e
 
+-- the run's error is that for some fault of a proof
+abbrev pub IsOfProof : RunError → Type 0
+IsOfProof e = (fault : ProofError) × (e ≡ of_proof fault)
+
 -- the first input does not begin with an instance, and the proof was not read
 pub record NoInstance {R S : Type 0} (i : Inputs R S) (e : RunError) : Type 0 where
   pub fault : TextError

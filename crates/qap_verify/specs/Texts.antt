@@ -1,8 +1,9 @@
 -- The two texts of a run: an instance's and a proof's, each from its own reader.
-use Rattle.std.specs.Prelude.{◌≡◌, ℕ, ◌⊎◌, List, Option}
+use Rattle.std.specs.Prelude.{◌≡◌, ℕ, ◌⊎◌, List, Option, IfSome}
 use Rattle.qap_cost.specs.Instance.{Problem}
 use Rattle.qap_io.specs.Counting.{CountedDevice}
 use Rattle.qap_text.specs.Input.{HasInstance, HasText, Input, input_of}
+use Rattle.proof_versions.specs.Versions.{StatesVersionTwo}
 
 -- the input that begins with the instance, and that of the proof
 pub record Inputs (R S : Type 0) : Type 0 where
@@ -27,6 +28,24 @@ pub record ComeTo {R S A : Type 0} (i : Inputs R S) (P : Problem → List ℕ �
   pub text : List ℕ
   pub texts : HasTexts i problem text
   pub holds : P problem text answer
+
+-- the instance with which the one begins; and the text of a proof of version 2, checked as it was read: all that the other had left, if that is known
+pub record HasStream {R S : Type 0} (i : Inputs R S) (I : Problem) (proof : List ℕ) : Type 0 where
+  pub rest : List ℕ
+  pub instance_read : HasInstance i.first I rest
+  pub version : StatesVersionTwo proof
+  pub whole : IfSome (i.second.bytes i.second.before.inner) (λ xs. xs ≡ proof)
+
+-- what they yield
+pub record Streams {R S A : Type 0} (i : Inputs R S) (P : Problem → List ℕ → A → Type 0) (answer : A) : Type 0 where
+  pub problem : Problem
+  pub text : List ℕ
+  pub texts : HasStream i problem text
+  pub holds : P problem text answer
+
+-- what an instance and the text of a proof yield, whether or not the text was read as a whole before it was checked
+abbrev pub Yields : {R S A : Type 0} → Inputs R S → (Problem → List ℕ → A → Type 0) → A → Type 0
+Yields i P answer = ComeTo i P answer ⊎ Streams i P answer
 
 -- the reader of the proof is unchanged
 abbrev pub IsUnread : {R S : Type 0} → Inputs R S → Type 0

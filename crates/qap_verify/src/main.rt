@@ -7,7 +7,7 @@ mod leaves;
 mod refusal;
 mod verifying;
 
-use answering::{answered, refused};
+use answering::{answered, refused, verdict_status};
 use clap::Error;
 use clap::error::ErrorKind;
 use command_line::{Files, parse};
@@ -122,8 +122,8 @@ fn covered<R: Read + Drop>(
     }
     let lines = short_leaves(rt.alloc(), &cover)?;
     let _ = rt.eprint(&lines);
-    verdict_stream(rt.alloc(), &cover, &mut Counted::new(rt.stdout()))?;
-    Ok(ExitCode::from(Status::Done.code()))
+    let verdict = verdict_stream(rt.alloc(), &cover, &mut Counted::new(rt.stdout()))?;
+    Ok(ExitCode::from(verdict_status(files.wanted, verdict)))
 }
 
 /// Adds the proof of a part, which is in the file of this name.
@@ -132,18 +132,32 @@ fn add_part(rt: &HostRuntime, cover: &mut Cover, name: &str) -> Result<(), RunEr
     part_stream(rt.alloc(), cover, &mut Counted::new(file))
 }
 
-/// Verifies the proof.
+/// Verifies the proof, which `-` stands for where it comes from standard input.
 fn run_alone<R: Read + Drop>(rt: &HostRuntime, files: &Files<'_>, instance: R) -> ExitCode {
+    if files.proof == "-" {
+        return run_over(rt, files, instance, rt.stdin());
+    }
     match open(rt, files.proof) {
-        Ok(proof) => ExitCode::from(answered(
-            rt.alloc(),
-            &mut Counted::new(instance),
-            &mut Counted::new(proof),
-            &mut Counted::new(rt.stdout()),
-            &mut Counted::new(rt.stderr()),
-        )),
+        Ok(proof) => run_over(rt, files, instance, proof),
         Err(error) => refuse(rt, error),
     }
+}
+
+/// Verifies the proof that a reader has.
+fn run_over<R: Read + Drop, S: Read + Drop>(
+    rt: &HostRuntime,
+    files: &Files<'_>,
+    instance: R,
+    proof: S,
+) -> ExitCode {
+    ExitCode::from(answered(
+        rt.alloc(),
+        &mut Counted::new(instance),
+        &mut Counted::new(proof),
+        files.wanted,
+        &mut Counted::new(rt.stdout()),
+        &mut Counted::new(rt.stderr()),
+    ))
 }
 
 /// A named file, opened for reading.

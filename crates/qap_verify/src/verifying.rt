@@ -1,22 +1,24 @@
 //! Verifies a proof, from bytes to bytes.
 
 ghost use Rattle.std.specs.Prelude.{◌≡◌, ◌⊎◌, IfOk, MatchResult, string_bytes};
+ghost use Rattle.std.specs.Io.KnownBytes.{prepend_known};
 ghost use Rattle.qap_proof.specs.Acceptance.{IsLimitedVerdict};
 ghost use Rattle.qap_proof.specs.Cover.{IsOpened};
 ghost use Rattle.qap_text.specs.Input.{input_of};
+ghost use Rattle.proof_versions.specs.Streams.{StreamShows};
 ghost use Rattle.qap_verify.specs.Answering.{HasAnswered, HasNotAnswered, Proves, answer_line};
 ghost use Rattle.qap_verify.specs.Parts.{HasAdded, HasNotAdded, HasNotShown, HasShown};
-ghost use Rattle.qap_verify.specs.Refusal.{HasNoTexts, IsNoProof, IsNoWhole};
-ghost use Rattle.qap_verify.specs.Texts.{ComeTo, HasTexts, inputs_of};
+ghost use Rattle.qap_verify.specs.Refusal.{HasNoTexts, IsNoProof, IsNoWhole, IsOfProof};
+ghost use Rattle.qap_verify.specs.Texts.{ComeTo, HasTexts, Yields, inputs_of};
 
 use crate::refusal::RunError;
-use proof_versions::{accept, add_part};
+use proof_versions::{VERSION_LENGTH, accept, accept_stream, add_part, states_version_two};
 use qap_cost::Instance;
 use qap_io::{Counted, send};
 use qap_proof::{Cover, Verdict};
-use qap_text::{MAX_INPUT, gap_line, read_all, read_instance};
+use qap_text::{MAX_INPUT, gap_line, read_all, read_behind, read_front, read_instance};
 use std::alloc::{AllocError, Global};
-use std::io::{Read, Write};
+use std::io::{BufReader, Read, Write};
 
 /// An instance, and the text of a proof.
 #[derive(Drop)]
@@ -29,22 +31,23 @@ struct Texts {
 /// cost, a bound and the cost above it, or a lower bound on the permutations that complete the proof's root.
 ///
 /// The first reader begins with the instance, and what follows it is ignored; the proof is all that the second one has.
-/// The instance is checked before the proof is read. If either is refused, nothing is written; if the writer fails, a
-/// prefix of the right line has been written.
+/// The instance is checked before the proof is read. A proof of version 1 has at most 1 GiB; one of version 2 is checked
+/// as it is read, whatever its length. If either is refused, nothing is written; if the writer fails, a prefix of the
+/// right line has been written.
 pub fn verify_stream<R: Read, S: Read, W: Write>(
     alloc: Global,
     instance: &mut Counted<R>,
     proof: &mut Counted<S>,
     writer: &mut Counted<W>,
-) -> Result<(), RunError>
+) -> Result<Verdict, RunError>
     ensures { let i = inputs_of R.remaining instance.old instance.new S.remaining proof.old proof.new in MatchResult result
-        (λ _. HasAnswered i W.contents writer.old writer.new)
+        (HasAnswered i W.contents writer.old writer.new)
         (HasNotAnswered i W.contents writer.old writer.new) }
 {
     let verdict = shown(alloc, instance, proof)?;
     let line = line(alloc, verdict)?;
     send(writer, line.as_bytes())?;
-    Ok(())
+    Ok(verdict)
 }
 
 /// Reads an instance and the proof of a whole, which is of version 1 and beside which proofs of parts may come. The
@@ -83,14 +86,15 @@ pub fn verdict_stream<W: Write>(
     alloc: Global,
     cover: &Cover,
     writer: &mut Counted<W>,
-) -> Result<(), RunError>
+) -> Result<Verdict, RunError>
     ensures { MatchResult result
-        (λ _. HasShown cover.now W.contents writer.old writer.new)
+        (HasShown cover.now W.contents writer.old writer.new)
         (HasNotShown cover.now W.contents writer.old writer.new) }
 {
-    let line = line(alloc, cover.verdict())?;
-    send(writer, line.as_bytes())?;
-    Ok(())
+    let verdict = cover.verdict();
+    let text = line(alloc, verdict)?;
+    send(writer, text.as_bytes())?;
+    Ok(verdict)
 }
 
 /// What a proof shows of an instance.
@@ -101,11 +105,36 @@ fn shown<R: Read, S: Read>(
 ) -> Result<Verdict, RunError>
     ensures bounded { IfOk result IsLimitedVerdict }
     ensures verdict { let i = inputs_of R.remaining instance.old instance.new S.remaining proof.old proof.new in MatchResult result
-        (ComeTo i Proves)
-        (λ e. HasNoTexts i e ⊎ ComeTo i IsNoProof e) }
+        (Yields i Proves)
+        (λ e. HasNoTexts i e ⊎ Yields i IsNoProof e) }
 {
-    let texts = read_texts(alloc, instance, proof)?;
-    Ok(accept(alloc, &texts.instance, texts.proof.as_slice())?)
+    let text = read_all(alloc, instance, MAX_INPUT)?;
+    let (instance, _) = read_instance(alloc, &text)?;
+    let front = read_front(alloc, proof, VERSION_LENGTH)?;
+    if states_version_two(&front) {
+        return streamed(alloc, &instance, &front, proof);
+    }
+    let text = read_behind(front, proof, MAX_INPUT)?;
+    Ok(accept(alloc, &instance, text.as_slice())?)
+}
+
+/// What a text of version 2 shows whose front has been read; the rest is checked as it is read.
+fn streamed<S: Read>(
+    alloc: Global,
+    instance: &Instance,
+    front: &[u8],
+    proof: &mut Counted<S>,
+) -> Result<Verdict, RunError>
+    ensures shown { MatchResult result
+        (StreamShows instance.now (prepend_known front.now (S.remaining proof.old.inner)))
+        IsOfProof }
+    ensures bounded { IfOk result IsLimitedVerdict }
+{
+    let Ok(rest) = BufReader::new(alloc, proof) else {
+        return Err(RunError::OutOfMemory);
+    };
+    let mut text = front.chain(rest);
+    Ok(accept_stream(alloc, instance, &mut text)?)
 }
 
 /// Reads an instance, and then all of a proof's text.
@@ -118,8 +147,8 @@ fn read_texts<R: Read, S: Read>(
         (λ t. HasTexts i t.instance t.proof.items)
         (HasNoTexts i) }
 {
-    let text = read_all(alloc, instance, MAX_INPUT)?;
-    let (instance, _) = read_instance(alloc, &text)?;
+    let bytes = read_all(alloc, instance, MAX_INPUT)?;
+    let (instance, _) = read_instance(alloc, &bytes)?;
     let proof = read_all(alloc, proof, MAX_INPUT)?;
     Ok(Texts { instance, proof })
 }

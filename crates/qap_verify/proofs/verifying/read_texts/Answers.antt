@@ -12,8 +12,8 @@ returns-in_err-proof g c =
       problem = c.in_ok-instance.instance;
       rest = c.in_ok-instance.field-0-1.now;
       instance_read = record {
-        text = c.in_ok-text.text.items;
-        read = c.in_ok-text.ensures;
+        text = c.in_ok-bytes.bytes.items;
+        read = c.in_ok-bytes.ensures;
         instance_text = subst (λ (t : List ℕ). IsInstanceText t c.in_ok-instance.instance c.in_ok-instance.field-0-1.now) c.deref.ensures.value c.in_ok-instance.ensures;
       };
       read = c.in_err-proof.ensures {u = tt};
@@ -23,8 +23,8 @@ pub returns : goal.returns
 returns g c = record {
   rest = c.in_ok-instance.field-0-1.now;
   instance_read = record {
-    text = c.in_ok-text.text.items;
-    read = c.in_ok-text.ensures;
+    text = c.in_ok-bytes.bytes.items;
+    read = c.in_ok-bytes.ensures;
     instance_text = subst (λ (t : List ℕ). IsInstanceText t c.in_ok-instance.instance c.in_ok-instance.field-0-1.now) c.deref.ensures.value c.in_ok-instance.ensures;
   };
   proof_read = c.in_ok-proof.ensures;

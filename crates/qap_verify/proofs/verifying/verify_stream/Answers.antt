@@ -2,7 +2,7 @@ use Rattle.std.proofs.Common.{◌≡◌, refl, ◌∙◌, subst, inl, inr}
 use Rattle.std.proofs.lemmas.Result.{err_from_is_err_and}
 use Rattle.qap_io.specs.Writing.{BreaksOff}
 use Rattle.qap_verify.specs.Answering.{answer_line}
-use Rattle.qap_verify.proofs.Comes.{wants_memory}
+use Rattle.qap_verify.proofs.Streams.{without_memory}
 use Rattle.qap_verify.proofs.verifying.verify_stream.Goals as goal
 
 pub returns-in_err-verdict : goal.returns-in_err-verdict
@@ -13,8 +13,7 @@ returns-in_err-verdict g c =
 pub returns-in_err-line : goal.returns-in_err-line
 returns-in_err-line g c =
     let p = err_from_is_err_and c.from_residual-in_err-line.result c.from_residual-in_err-line.ensures.1 in
-    let come = c.in_ok-verdict.ensures.verdict in
-    rw p.1 (inl (inl (wants_memory _ come.problem come.text p.0 come.texts p.2), refl))
+    rw p.1 (inl (without_memory _ c.in_ok-verdict.verdict p.0 c.in_ok-verdict.ensures.verdict p.2, refl))
 
 pub returns-in_err-send : goal.returns-in_err-send
 returns-in_err-send g c =

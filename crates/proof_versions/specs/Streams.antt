@@ -1,0 +1,14 @@
+-- What a reader's bytes establish as the text of a proof with pair duals.
+use Rattle.std.specs.Prelude.{◌≡◌, ℕ, List, Option, IfSome}
+use Rattle.qap_cost.specs.Instance.{Problem}
+use Rattle.qap_proof.specs.declared.acceptance.Verdict.{Verdict}
+use Rattle.proof_check.specs.Acceptance.{ShowsPairVerdict}
+use Rattle.proof_versions.specs.Versions.{EitherIsSo, StatesVersionTwo}
+
+-- the text, which is all that the reader had if that is known, is that of a proof which establishes the verdict, and the verdict is true
+pub record StreamShows (I : Problem) (known : Option (List ℕ)) (verdict : Verdict) : Type 0 where
+  pub text : List ℕ
+  pub whole : IfSome known (λ xs. xs ≡ text)
+  pub version : StatesVersionTwo text
+  pub shows : ShowsPairVerdict I text verdict
+  pub so : EitherIsSo I text verdict
