@@ -120,7 +120,9 @@ where
         rounds: plan.rounds,
         ..Effort::root()
     };
-    let duals = ground.duals(alloc, root, None, &effort)?;
+    let first = ground.duals(alloc, root, None, &effort)?;
+    // From these the pair duals of each node begin, also its own, as in a search without a proof.
+    let duals = ground.duals(alloc, root, Some(&first), &Effort::inner())?;
     let mut search = SubtreeSearch::new(alloc);
     let pieces = pieces_below(
         rt,
