@@ -37,7 +37,7 @@ impl Charges {
     }
 
     /// What facility `i` pays at location `k`, of `n` locations.
-    fn charge(&self, n: usize, i: usize, k: usize) -> i64
+    pub(crate) fn charge(&self, n: usize, i: usize, k: usize) -> i64
         requires charges { AreCharges n self.now }
         requires row { i < self.now.count }
         requires column { k < n }

@@ -6,12 +6,29 @@
 //! charges.
 #![tactic(auto)]
 
+ghost use Rattle.std.specs.Prelude.{◌<◌, ◌↔◌, ◌⊎◌, IsTrue};
+
 mod charges;
 mod extension;
+mod forbidden;
+mod forbidding;
 mod law;
 mod node;
+mod penalty;
+mod restricting;
+mod spread;
 
 pub use charges::Charges;
 pub use extension::extended;
+pub use forbidden::Forbidden;
+pub use forbidding::forbid;
 pub use law::charges_law;
 pub use node::{extended_node, extended_permutation, front};
+pub use restricting::{Restricted, restrict, restricted_law};
+
+/// Whether facilities pay for their locations, or may not take some.
+pub fn is_restricting(charges: &Charges, forbidden: &Forbidden) -> bool
+    ensures { IsTrue result ↔ ((0 < charges.now.count) ⊎ (0 < forbidden.now.count)) }
+{
+    charges.count > 0 || forbidden.count > 0
+}

@@ -81,6 +81,31 @@ pub enum TableError {
     TooManyPlaces {
         count: usize,
     },
+    /// There is no row.
+    #[error("the table has no row: write a line for each department that pays below the first")]
+    NoRow,
+    /// There are more than 256 rows.
+    #[error("the table has {count} rows: at most 256 are read")]
+    TooManyRows {
+        count: usize,
+    },
+    /// A row begins with a name that no department has.
+    #[error("{place}: no department has the name \"{name}\": correct it, or remove its line")]
+    OtherDepartment {
+        place: Place,
+        name: String,
+    },
+    /// A column has a name that no place has.
+    #[error("{place}: no place has the name \"{name}\": correct it, or remove its column")]
+    OtherPlace {
+        place: Place,
+        name: String,
+    },
+    /// A place has no column.
+    #[error("the column \"{name}\" is missing: write a column for each place")]
+    MissingColumn {
+        name: String,
+    },
     /// There is no pair, and so no department.
     #[error("the list has no pair: write a line for each below the first, or name the departments in the plan")]
     NoPair,

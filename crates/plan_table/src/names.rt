@@ -1,10 +1,10 @@
 //! The names of a table's columns.
 
-ghost use Rattle.std.specs.Prelude.{◌≡◌, ◌≢◌, ◌<◌, ◌^◌, ◌-◌, [], ◌∷◌, List, ℕ, length, map, IfOk, IsTrue, OnOk, ◌↔◌};
+ghost use Rattle.std.specs.Prelude.{◌≡◌, ◌≢◌, ◌<◌, ◌≤◌, ◌^◌, ◌-◌, [], ◌∷◌, List, ℕ, length, map, IfOk, IsTrue, OnOk, ◌↔◌};
 ghost use Rattle.std.specs.String.{string_bytes};
 ghost use Rattle.csv.specs.Records.{fields_of};
 ghost use Rattle.plan_table.specs.Control.{HasNoControl};
-ghost use Rattle.plan_table.specs.Names.{AreNames, HasName, IsNew};
+ghost use Rattle.plan_table.specs.Names.{AreNames, HasName, IsNew, max_names};
 
 use crate::control::first_control;
 use crate::error::TableError;
@@ -61,6 +61,34 @@ pub fn read_first_names(
     if rows.len() > MAX_NAMES {
         return Err(TableError::TooManyPlaces { count: rows.len() });
     }
+    first_names(alloc, text, rows)
+}
+
+/// The same, of a table of departments.
+pub fn read_row_names(
+    alloc: Global,
+    text: &[u8],
+    rows: &[StringRecord],
+) -> Result<Vec<String>, TableError>
+    ensures names { IfOk result (λ names. AreNames (map string_bytes names.items)) }
+    ensures many { IfOk result (λ names. length names.items ≡ length rows.now) }
+{
+    if rows.is_empty() {
+        return Err(TableError::NoRow);
+    }
+    if rows.len() > MAX_NAMES {
+        return Err(TableError::TooManyRows { count: rows.len() });
+    }
+    first_names(alloc, text, rows)
+}
+
+/// The names that 1 to 256 rows begin with.
+fn first_names(alloc: Global, text: &[u8], rows: &[StringRecord]) -> Result<Vec<String>, TableError>
+    requires positive { 0 < length rows.now }
+    requires few { length rows.now ≤ max_names }
+    ensures names { IfOk result (λ names. AreNames (map string_bytes names.items)) }
+    ensures many { IfOk result (λ names. length names.items ≡ length rows.now) }
+{
     let mut names = Vec::new(alloc);
     for row in rows {
         let name = new_name(alloc, &names, row.get(0).unwrap_or(""), text, row, 0)?;

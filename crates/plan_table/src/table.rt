@@ -64,9 +64,9 @@ pub fn read_matrix(alloc: Global, text: &[u8], rules: Rules) -> Result<NamedMatr
 
 /// The numbers of a matrix, all times a power of ten.
 #[derive(Drop)]
-struct Numbers {
-    scale: usize,
-    entries: Vec<i64>,
+pub struct Numbers {
+    pub scale: usize,
+    pub entries: Vec<i64>,
 }
 
 /// The numbers of the rows of these names.
@@ -126,7 +126,7 @@ fn numbers_of_rows(
 }
 
 /// Checks that the first field of the first record is not a number, as it would be in a table without names.
-fn check_corner(
+pub fn check_corner(
     alloc: Global,
     text: &[u8],
     head: &StringRecord,

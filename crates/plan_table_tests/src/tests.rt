@@ -1,9 +1,10 @@
 //! What no clause states: that calls succeed, and how worked tables are read.
 
 use plan_table::{
-    DecimalMark, Encoding, NamedMatrix, Point, Rules, decimal_text, decode, read_matrix,
+    DecimalMark, Encoding, NamedMatrix, Point, Rules, decimal_text, decode, read_grid, read_matrix,
     read_places, read_trips,
 };
+use std::alloc::{AllocError, Global};
 use std::process::Abort;
 use std::test::Fail;
 
@@ -87,6 +88,34 @@ fn reads_places(rt: HostRuntime) -> Result<(), Fail> {
     assert_eq!(rt; table.scale, 2);
     let points = [Point { x: 0, y: -150 }, Point { x: 1225, y: 400 }];
     assert_eq!(rt; table.points.as_slice(), points.as_slice());
+    Ok(())
+}
+
+/// Names of their own.
+fn named(alloc: Global, names: &[&str]) -> Result<Vec<String>, AllocError> {
+    let mut own = Vec::new(alloc);
+    for name in names {
+        own.push(String::from_str(alloc, name)?)?;
+    }
+    Ok(own)
+}
+
+#[test]
+fn reads_a_table_by_department_and_place(rt: HostRuntime) -> Result<(), Fail> {
+    let alloc = rt.alloc();
+    let departments = named(alloc, &["Saw", "Lathe", "Paint"])?;
+    let places = named(alloc, &["A", "B"])?;
+    let text = b"rent;B;A\r\nPaint;1,5;-20\r\nSaw;0;3\r\n";
+    let grid = read_grid(alloc, text, Rules::NONE, &departments, &places)?;
+    assert_eq!(rt;
+        (grid.rows.len(), grid.columns.len(), grid.scale),
+        (2, 2, 1)
+    );
+    assert_eq!(rt; grid.rows[0].as_str(), "Paint");
+    assert_eq!(rt; grid.columns[0].as_str(), "B");
+    assert_eq!(rt; grid.entries.as_slice(), [15, -200, 0, 30].as_slice());
+    let blank = b",A,B\nSaw,,3\n";
+    assert!(rt; read_grid(alloc, blank, Rules::NONE, &departments, &places).is_err());
     Ok(())
 }
 
