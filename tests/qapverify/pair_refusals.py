@@ -76,7 +76,7 @@ def cases():
     for number, (line, text, answer) in enumerate(RIGHT):
         yield f"case: right {number}: {answer}"
         yield f"run: sed '{line}s/.*/{text}/' corridor.proof2 > a.proof; qapverify corridor.dat a.proof"
-        yield f"stdout: {answer}"
+        yield f"stdout: {answer}" + ("" if answer.startswith("optimal") else "\nstatus: 5")
     for line in range(LINES):
         yield f"case: the first {line} lines"
         yield f"run: head -n {line} corridor.proof2 > a.proof; qapverify corridor.dat a.proof"
