@@ -396,3 +396,10 @@ def short_leaves(run, name, parts):
     expect(all(lines), f"{name} has another line")
     found, listed = nodes([line[1] for line in lines]), nodes(run.text(parts).splitlines())
     expect(found == listed, f"the nodes {found} are short, where {listed} are listed")
+
+
+def larger(run, name, *costs):
+    """In an instance of size 4 whose last facility stays at the last location, the arrangements in order cost this much."""
+    instance = instance_of(run.text(name))
+    found = [cost_of(instance, (*front, 3)) for front in itertools.permutations(range(3))]
+    expect(found == [int(cost) for cost in costs], f"the arrangements cost {found}")

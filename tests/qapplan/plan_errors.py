@@ -8,7 +8,7 @@ EMPTY = ",\n"
 
 SYNTAX = "write a key, `=` and a file in quotes on each line, as in `flows = \"trips.csv\"`"
 KEYS = ("a plan has the keys flows or trips, departments, distances or places, metric, decimals, decimal_mark, round, "
-        "symmetric, duplicates, title, y and fixed")
+        "symmetric, duplicates, title, y, costs, fixed, forbidden and allowed")
 NOT_ROUND = 'the key "round" must be a whole number from 0 to 9, without quotes, as in `round = 3`'
 NOT_SYMMETRIC = 'the key "symmetric" must be true or false, without quotes, as in `symmetric = true`'
 NOT_DECIMALS = 'the key "decimals" must be a whole number from 0 to 9, without quotes, as in `decimals = 2`'

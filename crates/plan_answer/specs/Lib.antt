@@ -1,4 +1,5 @@
 pub mod Answer
+pub mod Charged
 pub mod Compared
 pub mod Gap
 pub mod Layout

@@ -2,6 +2,7 @@
 #![tactic(auto)]
 
 mod answer;
+mod charged;
 mod compared;
 mod gap;
 mod layout;
@@ -11,6 +12,7 @@ mod pairs;
 mod stated;
 
 pub use answer::{answer_text, verdict_text};
+pub use charged::{CostParts, charged_text, charged_verdict};
 pub use compared::compared_text;
 pub use gap::gap_text;
 pub use layout::layout_text;

@@ -4,8 +4,7 @@ ghost use Rattle.std.specs.Prelude.{◌≡◌, IfOk, length};
 ghost use Rattle.plan_check.specs.Layout.{IsLayoutOf};
 ghost use Rattle.plan_file.specs.Tables.{HasSizes};
 
-use plan_file::{LayoutError, NamedProblem, layout_node};
-use plan_fixed::completed;
+use plan_file::{LayoutError, NamedProblem, completed, layout_node};
 use qap_cost::Perm;
 use std::alloc::Global;
 

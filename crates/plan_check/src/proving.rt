@@ -9,7 +9,7 @@ ghost use Rattle.proof_versions.specs.OverRoot.{EitherProvesFor};
 
 use crate::fault::ProofFault;
 use crate::number::cost_text;
-use plan_fixed::ascending;
+use plan_file::ascending;
 use proof_versions::accept_over;
 use qap_cost::{Instance, Partial, Perm, cost};
 use qap_proof::{ProofError, Stated};

@@ -8,7 +8,8 @@ use Rattle.qap_cost.specs.Placement.{Placement, placing}
 use Rattle.plan_table.specs.Names.{AreDifferent, IsNew}
 use Rattle.plan_table.proofs.NameLists.{AreDifferent-more}
 use Rattle.plan_file.specs.Fixing.{AreFixed, AreNamed, IsNameAt}
-use Rattle.plan_file.specs.Plan.{ArePins, IsPin, strings_of}
+use Rattle.plan_file.specs.Keys.{strings_of}
+use Rattle.plan_file.specs.Plan.{ArePins, IsPin}
 use Rattle.plan_table.specs.declared.pin.Pin.{Pin}
 
 -- texts as items, with one more at the end of either

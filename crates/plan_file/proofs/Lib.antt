@@ -1,5 +1,16 @@
+pub mod ChoiceLists
+pub mod Costs
 pub mod Faults
+pub mod FilledRows
 pub mod Fillings
 pub mod Fixings
+pub mod Forbids
+pub mod Freeings
+pub mod Identities
+pub mod Lasts
+pub mod Measures
 pub mod Members
+pub mod Roots
+pub mod Settlings
+pub mod Sortings
 pub mod Soundness

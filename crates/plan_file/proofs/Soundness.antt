@@ -1,9 +1,9 @@
 -- What a plan says is sound.
 use Rattle.std.proofs.Common.{◌≤◌, ℕ, Option, Some, None, arith, codes}
 use Rattle.toml.specs.Data.{Data, Members, get_member}
-use Rattle.plan_metric.specs.Metric.{IsFine}
-use Rattle.plan_metric.specs.declared.metric.Metric.{Metric}
-use Rattle.plan_metric.specs.declared.metric.Metric.TheVariants.{Rectilinear, Euclidean, Squared}
+use Rattle.plan_file.specs.Metric.{IsFine}
+use Rattle.plan_file.specs.declared.metric.Metric.{Metric}
+use Rattle.plan_file.specs.declared.metric.Metric.TheVariants.{Rectilinear, Euclidean, Squared}
 use Rattle.plan_file.specs.Plan.{SaysDecimals, SaysDistances, SaysFlows, SaysMetric}
 use Rattle.plan_file.specs.Tables.{IsSoundDistances, IsSoundFlows}
 use Rattle.plan_file.specs.declared.source.Distances.{Distances}

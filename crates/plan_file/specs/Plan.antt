@@ -1,6 +1,6 @@
 -- A plan: a TOML text that names the files of its tables and what is fixed.
 use Rattle.std.specs.Prelude.{◌≡◌, ◌≢◌, ◌⊎◌, ⊤, ℕ, ◌≤◌, Bool, true, false, List, [], ◌∷◌, map, Option, None, Some, IsUtf8, pos, codes, string_bytes}
-use Rattle.toml.specs.Data.{Data, Items, no_items, item, Members, no_members, member, string, integer, boolean, array, table, get_member}
+use Rattle.toml.specs.Data.{Data, Members, no_members, member, string, integer, boolean, array, table, get_member}
 use Rattle.toml.specs.Parse.{parse_document}
 use Rattle.std.specs.Str.{chars}
 use Rattle.plan_table.specs.Control.{HasNoControl, shown_chars}
@@ -8,10 +8,11 @@ use Rattle.plan_table.specs.Names.{AreNames}
 use Rattle.plan_table.specs.declared.numeral.DecimalMark.{DecimalMark}
 use Rattle.plan_table.specs.declared.numeral.DecimalMark.TheVariants.{Point, Comma}
 use Rattle.plan_table.specs.declared.rules.Rules.{Rules}
-use Rattle.plan_metric.specs.declared.metric.Metric.{Metric}
-use Rattle.plan_metric.specs.declared.metric.Metric.TheVariants.{Rectilinear, Euclidean, Squared}
+use Rattle.plan_file.specs.declared.metric.Metric.{Metric}
+use Rattle.plan_file.specs.declared.metric.Metric.TheVariants.{Rectilinear, Euclidean, Squared}
+use Rattle.plan_file.specs.Charging.{SaysCharging}
 use Rattle.plan_file.specs.Drawing.{SaysDrawing}
-use Rattle.plan_file.specs.Keys.{HasNone, HasSome, HasText}
+use Rattle.plan_file.specs.Keys.{HasNone, HasSome, HasText, strings_of}
 use Rattle.plan_file.specs.declared.error.PlanError.{PlanError}
 use Rattle.plan_file.specs.declared.error.PlanError.TheVariants as error
 use Rattle.plan_file.specs.declared.source.Distances.{Distances}
@@ -37,9 +38,14 @@ IsKnownOfRules key = (key ≡ codes "decimal_mark") ⊎ ((key ≡ codes "round")
 abbrev pub IsKnownOfDrawing : List ℕ → Type 0
 IsKnownOfDrawing key = (key ≡ codes "title") ⊎ (key ≡ codes "y")
 
--- the keys that a plan may have: for the flows, the distances, how they are read, how it is drawn, and what is fixed
+-- the keys that give the costs of places, and which of them departments may take
+abbrev pub IsKnownOfCharging : List ℕ → Type 0
+IsKnownOfCharging key = (key ≡ codes "costs") ⊎ ((key ≡ codes "forbidden") ⊎ (key ≡ codes "allowed"))
+
+-- the keys that a plan may have: for the flows, the distances, how they are read, how it is drawn, what places cost, and what is fixed
 abbrev pub IsKnown : List ℕ → Type 0
-IsKnown key = IsKnownOfFlows key ⊎ (IsKnownOfDistances key ⊎ (IsKnownOfRules key ⊎ (IsKnownOfDrawing key ⊎ (key ≡ codes "fixed"))))
+IsKnown key =
+    IsKnownOfFlows key ⊎ (IsKnownOfDistances key ⊎ (IsKnownOfRules key ⊎ (IsKnownOfDrawing key ⊎ (IsKnownOfCharging key ⊎ (key ≡ codes "fixed")))))
 
 -- each key of a table is one that a plan may have
 abbrev pub AreKnown : Members → Type 0
@@ -50,11 +56,6 @@ AreKnown (member k d ms) = IsKnown k × AreKnown ms
 pub record IsTable (text : List ℕ) (members : Members) : Type 0 where
   pub utf8 : IsUtf8 text
   pub read : parse_document text ≡ Some members
-
--- these texts, as the items of a list
-abbrev pub strings_of : List (List ℕ) → Items
-strings_of [] = no_items
-strings_of (s ∷ ss) = item (string s) (strings_of ss)
 
 -- one key of two is there, and names a file
 pub record NamesFile (ms : Members) (key other file : List ℕ) : Type 0 where
@@ -142,6 +143,7 @@ pub record IsPlanText (text : List ℕ) (plan : Plan) : Type 0 where
   pub distances : SaysDistances members plan.distances
   pub rules : SaysRules members plan.rules
   pub fixed : SaysFixed (get_member (codes "fixed") members) plan.fixed.items
+  pub charging : SaysCharging members plan.charging
   pub drawing : SaysDrawing members plan.drawing
 
 -- it has something there that is not a text
@@ -179,6 +181,7 @@ IsFaultOf ms error.NoDecimals = HasSome ms (codes "decimals")
 IsFaultOf ms (error.ExactMetric metric) = HasSome ms (codes "decimals") × HasText ms (codes "metric") metric.now
 IsFaultOf ms (error.Departments fault) = HasSome ms (codes "departments")
 IsFaultOf ms (error.Fixed fault) = HasSome ms (codes "fixed")
+IsFaultOf ms (error.Choosing key fault) = HasSome ms key.now
 IsFaultOf ms error.OutOfMemory = ⊤
 
 -- the text is not TOML, or memory ran out
@@ -198,6 +201,12 @@ abbrev pub IsFixingFault : PlanError → Type 0
 IsFixingFault (error.Fixed fault) = ⊤
 IsFixingFault error.OutOfMemory = ⊤
 IsFixingFault _ = ⊥
+
+-- what is wrong with the table at a key that chooses places for departments; or memory ran out
+abbrev pub IsChoosingFault : List ℕ → PlanError → Type 0
+IsChoosingFault key (error.Choosing own fault) = own.now ≡ key
+IsChoosingFault key error.OutOfMemory = ⊤
+IsChoosingFault key _ = ⊥
 
 -- why a text is not a plan: it is not TOML; it has an unknown key; or all keys are known, and something is wrong at one
 abbrev pub IsPlanFault : List ℕ → PlanError → Type 0

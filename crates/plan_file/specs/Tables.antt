@@ -1,9 +1,9 @@
 -- A problem with names, as spelled by a plan and the texts of its tables.
 use Rattle.std.specs.Prelude.{◌≡◌, ℕ, ◌≤◌, ⊤, List, [], map, length, ℤ, string_bytes}
 use Rattle.qap_cost.specs.Placement.{IsPlacement}
-use Rattle.plan_metric.specs.Distances.{AreDistances}
-use Rattle.plan_metric.specs.Metric.{IsFine, distance_scale}
-use Rattle.plan_metric.specs.declared.metric.Metric.{Metric}
+use Rattle.plan_file.specs.Distances.{AreDistances}
+use Rattle.plan_file.specs.Metric.{IsFine, distance_scale}
+use Rattle.plan_file.specs.declared.metric.Metric.{Metric}
 use Rattle.plan_table.specs.Lists.{IsTripsText}
 use Rattle.plan_table.specs.Names.{AreNames}
 use Rattle.plan_table.specs.Places.{IsPlacesText}

@@ -15,7 +15,7 @@ pub enum PlanError {
         message: String,
     },
     /// It has another key than a plan may have.
-    #[error("the key \"{key}\" is unknown: a plan has the keys flows or trips, departments, distances or places, metric, decimals, decimal_mark, round, symmetric, duplicates, title, y and fixed")]
+    #[error("the key \"{key}\" is unknown: a plan has the keys flows or trips, departments, distances or places, metric, decimals, decimal_mark, round, symmetric, duplicates, title, y, costs, fixed, forbidden and allowed")]
     UnknownKey {
         key: String,
     },
@@ -100,6 +100,12 @@ pub enum PlanError {
     /// What is fixed is not a table of departments and places.
     #[error("{0}")]
     Fixed(PinsFault),
+    /// The key does not give places for departments.
+    #[error("the key \"{key}{fault}")]
+    Choosing {
+        key: &'static str,
+        fault: ChoicesFault,
+    },
     /// Memory ran out.
     #[error("out of memory")]
     OutOfMemory,
@@ -153,6 +159,40 @@ pub enum PinsFault {
     NoPlace {
         department: String,
         found: &'static str,
+    },
+}
+
+/// Why what is at a key is not a table of departments with places. Numbers are counted from 1; a department's name is
+/// given as messages show it.
+#[derive(Debug, Drop, Error)]
+pub enum ChoicesFault {
+    /// It is not a table.
+    #[error("\" has the type {found}: write it in brackets on a line of its own, and below it a line such as `Saw = [\"A\", \"B\"]` for each department that it concerns")]
+    NoTable {
+        found: &'static str,
+    },
+    /// What a department has is not a list.
+    #[error(".{department}\" has the type {found}: write a list of places, as in `[\"A\", \"B\"]`")]
+    NoList {
+        department: String,
+        found: &'static str,
+    },
+    /// An item of the list is not text.
+    #[error(".{department}[{number}]\" has the type {found}: write the name of a place in quotes")]
+    NoPlace {
+        department: String,
+        number: usize,
+        found: &'static str,
+    },
+    /// No place is left to a department.
+    #[error(".{department}\" has no place: name at least one, or remove the line")]
+    NoneLeft {
+        department: String,
+    },
+    /// The department has forbidden places too.
+    #[error(".{department}\" is under `[forbidden]` too: keep one of the two lines")]
+    Both {
+        department: String,
     },
 }
 
@@ -260,5 +300,57 @@ impl From<AllocError> for TablesError {
 
     fn from(_error: AllocError) -> TablesError {
         TablesError::OutOfMemory
+    }
+}
+
+/// Why a plan's costs and the places that it forbids do not fit its problem.
+#[derive(Debug, Drop, Error)]
+pub enum ChargesError {
+    /// The text is not a table of costs.
+    #[error("{0}")]
+    Costs(TableError),
+    /// The costs have more decimals than flows times distances.
+    #[error("the costs have {decimals} decimals, more than flows and distances have together: write them with at most {most}")]
+    TooFine {
+        decimals: usize,
+        most: usize,
+    },
+    /// The costs have too few decimals beside flows and distances.
+    #[error("flows and distances have {decimals} decimals together, more than 9 above those of the costs: round them, as by `round = 3`, or choose smaller units")]
+    TooCoarse {
+        decimals: usize,
+    },
+    /// No department has the name.
+    #[error("the key \"{key}.{department}\": no department has that name: correct it, or remove the line")]
+    UnknownDepartment {
+        key: &'static str,
+        department: String,
+    },
+    /// No place has the name.
+    #[error("the key \"{key}.{department}\": no place has the name \"{place}\": correct it, or remove it")]
+    UnknownPlace {
+        key: &'static str,
+        department: String,
+        place: String,
+    },
+    /// There are too many places beside departments with costs or forbidden places.
+    #[error("there are {places} places, and departments with costs or forbidden places up to number {count}: these two numbers may add up to 256 at most, so list these departments first, or keep to 128 places")]
+    NoRoom {
+        places: usize,
+        count: usize,
+    },
+    /// Memory ran out.
+    #[error("out of memory")]
+    OutOfMemory,
+}
+
+impl From<AllocError> for ChargesError {
+    ghost use Rattle.std.specs.Prelude.{◌≡◌};
+    ghost use Rattle.plan_file.specs.declared.error.ChargesError.TheVariants.{OutOfMemory};
+
+    ghost from_gives = { λ _ e. e ≡ OutOfMemory };
+
+    fn from(_error: AllocError) -> ChargesError {
+        ChargesError::OutOfMemory
     }
 }

@@ -8,9 +8,9 @@ ghost use Rattle.plan_file.specs.Plan.{IsFaultOf, SaysDecimals, SaysDistances, S
 
 use crate::error::PlanError;
 use crate::lookup::{number_in, value_at};
+use crate::metric::Metric;
 use crate::source::Distances;
 use crate::values::{neither_of, text_of};
-use plan_metric::Metric;
 use std::alloc::Global;
 use toml::Table;
 

@@ -5,7 +5,8 @@ ghost use Rattle.toml.specs.Data.{string};
 ghost use Rattle.toml.specs.View.{items_view, view};
 ghost use Rattle.plan_table.specs.Control.{HasNoControl};
 ghost use Rattle.plan_table.specs.Names.{AreNames, IsNew};
-ghost use Rattle.plan_file.specs.Plan.{IsNamesFault, strings_of};
+ghost use Rattle.plan_file.specs.Keys.{strings_of};
+ghost use Rattle.plan_file.specs.Plan.{IsNamesFault};
 
 use crate::error::{NamesFault, PlanError};
 use crate::lookup::text_in;

@@ -3,10 +3,11 @@
 ghost use Rattle.std.specs.Prelude.{◌≡◌, ◌↔◌, IfErr, IfOk, IsTrue, MatchOption, OnOk};
 ghost use Rattle.toml.specs.Errors.{IsMemory};
 ghost use Rattle.toml.specs.View.{table_view};
-ghost use Rattle.plan_file.specs.Plan.{AreKnown, IsFaultOf, IsKnown, IsKnownOfDistances, IsKnownOfDrawing, IsKnownOfFlows, IsKnownOfRules, IsPlanFault, IsPlanText, IsSyntaxError};
+ghost use Rattle.plan_file.specs.Plan.{AreKnown, IsFaultOf, IsKnown, IsKnownOfCharging, IsKnownOfDistances, IsKnownOfDrawing, IsKnownOfFlows, IsKnownOfRules, IsPlanFault, IsPlanText, IsSyntaxError};
 ghost use Rattle.plan_file.specs.Tables.{IsSound};
 ghost use Rattle.plan_file.specs.declared.error.PlanError.TheVariants.{OutOfMemory as WantOfMemory};
 
+use crate::choosing::charging_of;
 use crate::drawing::drawing_of;
 use crate::error::PlanError;
 use crate::measuring::distances_of;
@@ -20,10 +21,10 @@ use toml::de::Error;
 use toml::{Table, table_from_slice};
 
 /// Reads a plan: a text in TOML with the keys `flows` or `trips`, `departments`, `distances` or `places`, `metric`, `decimals`, `decimal_mark`,
-/// `round`, `symmetric`, `duplicates`, `title`, `y` and `fixed`, and no other.
+/// `round`, `symmetric`, `duplicates`, `title`, `y`, `costs`, `fixed`, `forbidden` and `allowed`, and no other.
 ///
 /// `departments` goes with `trips` alone; `metric` goes with `places` and must be there; `decimals` goes with the Euclidean metric alone;
-/// `y` goes with `places`.
+/// `y` goes with `places`. No department is under both `forbidden` and `allowed`, and one under `allowed` has a place.
 pub fn read_plan(alloc: Global, text: &[u8]) -> Result<Plan, PlanError>
     ensures plan { IfOk result (IsPlanText text.now) }
     ensures sound { IfOk result IsSound }
@@ -38,12 +39,14 @@ pub fn read_plan(alloc: Global, text: &[u8]) -> Result<Plan, PlanError>
     let distances = distances_of(alloc, &table)?;
     let rules = rules_of(alloc, &table)?;
     let fixed = fixed_of(alloc, &table)?;
+    let charging = charging_of(alloc, &table)?;
     let drawing = drawing_of(alloc, &table)?;
     Ok(Plan {
         flows,
         distances,
         rules,
         fixed,
+        charging,
         drawing,
     })
 }
@@ -99,6 +102,7 @@ pub fn is_known(key: &str) -> bool
         || is_known_of_distances(key)
         || is_known_of_rules(key)
         || is_known_of_drawing(key)
+        || is_known_of_charging(key)
         || key == "fixed"
 }
 
@@ -128,4 +132,11 @@ fn is_known_of_distances(key: &str) -> bool
     ensures { IsTrue result ↔ IsKnownOfDistances key.now }
 {
     key == "distances" || key == "places" || key == "metric" || key == "decimals"
+}
+
+/// Whether a key is one of those for the costs of places, and for which of them departments may take.
+fn is_known_of_charging(key: &str) -> bool
+    ensures { IsTrue result ↔ IsKnownOfCharging key.now }
+{
+    key == "costs" || key == "forbidden" || key == "allowed"
 }

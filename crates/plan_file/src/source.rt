@@ -1,9 +1,10 @@
 //! The content of a plan.
 
-use plan_metric::Metric;
+use crate::metric::Metric;
 use plan_table::{Pin, Rules};
 
-/// The content of a plan: the files of its flows and distances, how they are read, what is fixed, and how it is drawn.
+/// The content of a plan: the files of its flows and distances, how they are read, what is fixed, what places cost, and
+/// how it is drawn.
 #[derive(Debug, Drop)]
 pub struct Plan {
     pub flows: Flows,
@@ -12,8 +13,28 @@ pub struct Plan {
     pub rules: Rules,
     /// Departments fixed at given places.
     pub fixed: Vec<Pin>,
+    /// What places cost, and which of them departments may take.
+    pub charging: Charging,
     /// How it is drawn.
     pub drawing: Drawing,
+}
+
+/// What places cost departments, and which of them these may take.
+#[derive(Debug, Drop)]
+pub struct Charging {
+    /// The file of the costs, if there is one.
+    pub costs: Option<String>,
+    /// Places that a department may not take.
+    pub forbidden: Vec<Choice>,
+    /// The only places that a department may take.
+    pub allowed: Vec<Choice>,
+}
+
+/// A department, and some of the places.
+#[derive(Debug, Drop)]
+pub struct Choice {
+    pub department: String,
+    pub places: Vec<String>,
 }
 
 /// How a plan is drawn.

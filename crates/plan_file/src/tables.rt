@@ -1,18 +1,17 @@
 //! Reads the two tables of a plan.
 
 ghost use Rattle.std.specs.Prelude.{◌≡◌, ◌<◌, ◌≤◌, [], IfOk, length, map, string_bytes};
-ghost use Rattle.plan_metric.specs.Metric.{IsFine};
+ghost use Rattle.plan_file.specs.Metric.{IsFine};
 ghost use Rattle.plan_table.specs.Shape.{IsNamedSquare};
 ghost use Rattle.plan_table.specs.Table.{IsMatrixText};
 ghost use Rattle.plan_file.specs.Tables.{AreTablesOf, HasSizes, IsDistanceText, IsFlowText, IsMeasured, IsSound, IsSoundDistances, IsSoundFlows, max_places};
 
+use crate::distances::{DistanceError, distance_matrix};
 use crate::error::TablesError;
 use crate::fixing::fixed_node;
+use crate::metric::{MAX_COORDINATE_PLACES, Metric, distance_scale};
 use crate::problem::problem_of;
 use crate::source::{Distances, Flows, Plan};
-use plan_metric::{
-    DistanceError, MAX_PLACES as MAX_COORDINATE_PLACES, Metric, distance_matrix, distance_scale,
-};
 use plan_table::{
     NamedMatrix, Point, Rules, TableError, read_matrix, read_places, read_trips, read_trips_between,
 };

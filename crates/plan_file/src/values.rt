@@ -5,8 +5,8 @@ ghost use Rattle.toml.specs.Data.{array, get_member};
 ghost use Rattle.toml.specs.View.{table_view, view};
 ghost use Rattle.plan_table.specs.Control.{HasNoControl};
 ghost use Rattle.plan_table.specs.Names.{AreNames};
-ghost use Rattle.plan_file.specs.Keys.{HasNone, HasText};
-ghost use Rattle.plan_file.specs.Plan.{ArePins, IsAmongFixed, IsFaultOf, IsFixingFault, IsPin, SaysFixed, SaysFlows, strings_of};
+ghost use Rattle.plan_file.specs.Keys.{HasNone, HasText, strings_of};
+ghost use Rattle.plan_file.specs.Plan.{ArePins, IsAmongFixed, IsFaultOf, IsFixingFault, IsPin, SaysFixed, SaysFlows};
 
 use crate::error::{NamesFault, PinsFault, PlanError};
 use crate::lookup::{items_in, table_in, text_in, value_at};

@@ -1,7 +1,7 @@
 //! What no clause states: that calls succeed, how worked plans and tables are read, and the message of each refusal.
 
 use plan_answer::{Pair, dearest_pairs};
-use plan_file::{read_plan, read_tables};
+use plan_file::{read_charges, read_plan, read_tables};
 use plan_picture::{Caption, picture};
 use qap_cost::Perm;
 use std::test::Fail;
@@ -23,7 +23,7 @@ fn told(rt: &HostRuntime, text: &[u8]) -> Result<String, Fail> {
 /// A text and its content.
 type Told = (&'static [u8], &'static str);
 
-const PLANS: [Told; 29] = [
+const PLANS: [Told; 34] = [
     (
         b"\xef\xbb\xbf# a plan\r\nflows = \"trips.csv\"\r\n\r\ndistances = 'metres.csv' # far\r\n",
         "trips.csv metres.csv 0",
@@ -42,7 +42,7 @@ const PLANS: [Told; 29] = [
     ),
     (
         b"flow = \"a.csv\"\ndistances = \"b.csv\"\n",
-        "the key \"flow\" is unknown: a plan has the keys flows or trips, departments, distances or places, metric, decimals, decimal_mark, round, symmetric, duplicates, title, y and fixed",
+        "the key \"flow\" is unknown: a plan has the keys flows or trips, departments, distances or places, metric, decimals, decimal_mark, round, symmetric, duplicates, title, y, costs, fixed, forbidden and allowed",
     ),
     (
         b"distances = \"b.csv\"\nflows = 3\n",
@@ -138,7 +138,27 @@ const PLANS: [Told; 29] = [
     ),
     (
         b"\"fl\\u001b[2Jows\" = \"a.csv\"\n",
-        "the key \"fl\\u{1b}[2Jows\" is unknown: a plan has the keys flows or trips, departments, distances or places, metric, decimals, decimal_mark, round, symmetric, duplicates, title, y and fixed",
+        "the key \"fl\\u{1b}[2Jows\" is unknown: a plan has the keys flows or trips, departments, distances or places, metric, decimals, decimal_mark, round, symmetric, duplicates, title, y, costs, fixed, forbidden and allowed",
+    ),
+    (
+        b"flows = \"a.csv\"\ndistances = \"t.csv\"\nforbidden = 3\n",
+        "the key \"forbidden\" has the type integer: write it in brackets on a line of its own, and below it a line such as `Saw = [\"A\", \"B\"]` for each department that it concerns",
+    ),
+    (
+        b"flows = \"a.csv\"\ndistances = \"t.csv\"\n[allowed]\nSaw = \"A\"\n",
+        "the key \"allowed.Saw\" has the type string: write a list of places, as in `[\"A\", \"B\"]`",
+    ),
+    (
+        b"flows = \"a.csv\"\ndistances = \"t.csv\"\n[forbidden]\nSaw = [\"A\", 4]\n",
+        "the key \"forbidden.Saw[2]\" has the type integer: write the name of a place in quotes",
+    ),
+    (
+        b"flows = \"a.csv\"\ndistances = \"t.csv\"\n[allowed]\nSaw = []\n",
+        "the key \"allowed.Saw\" has no place: name at least one, or remove the line",
+    ),
+    (
+        b"flows = \"a.csv\"\ndistances = \"t.csv\"\n[allowed]\nSaw = [\"A\"]\n[forbidden]\nLathe = []\nSaw = [\"B\"]\n",
+        "the key \"allowed.Saw\" is under `[forbidden]` too: keep one of the two lines",
     ),
 ];
 
@@ -287,6 +307,73 @@ fn tells_why_tables_make_no_problem(rt: HostRuntime) -> Result<(), Fail> {
         let found = match read_tables(rt.alloc(), &plan, flows, distances) {
             Ok(_) => String::from_str(rt.alloc(), "read")?,
             Err(error) => format!(in rt.alloc(); "{error}")?,
+        };
+        assert_eq!(rt; found.as_str(), want);
+    }
+    Ok(())
+}
+
+#[test]
+fn reads_costs_and_forbidden_places(rt: HostRuntime) -> Result<(), Fail> {
+    let alloc = rt.alloc();
+    let text =
+        b"flows = 'f'\ndistances = 'd'\ncosts = 'c'\n[forbidden]\nSaw = ['C']\n[allowed]\nLathe = ['B', 'A']\n";
+    let plan = read_plan(alloc, text)?;
+    let problem = read_tables(alloc, &plan, FLOWS, DISTANCES)?;
+    let read = read_charges(alloc, &plan, &problem, Some(b",C,A,B\nLathe,1.5,0,2\n"))?;
+    assert_eq!(rt; (read.charges.count, read.charges.weight), (2, 100));
+    assert_eq!(rt;
+        read.charges.entries.as_slice(),
+        [0, 0, 0, 0, 20, 15].as_slice()
+    );
+    assert_eq!(rt; read.forbidden.count, 2);
+    let cells = [false, false, true, false, false, true];
+    assert_eq!(rt; read.forbidden.cells.as_slice(), cells.as_slice());
+    let none = read_charges(alloc, &plan, &problem, None)?;
+    assert_eq!(rt; none.charges.count, 0);
+    Ok(())
+}
+
+/// What a plan forbids, the text of its costs, and why they do not fit the problem.
+type Uncharged = (&'static [u8], &'static [u8], &'static str);
+
+const UNCHARGED: [Uncharged; 5] = [
+    (
+        MATRICES,
+        b",A,B,C\nMill,1,2,3\n",
+        "line 2, field 1: no department has the name \"Mill\": correct it, or remove its line",
+    ),
+    (
+        MATRICES,
+        b",A,B,D\nSaw,1,2,3\n",
+        "line 1, field 4: no place has the name \"D\": correct it, or remove its column",
+    ),
+    (
+        MATRICES,
+        b",A,B\nSaw,1,2\n",
+        "the column \"C\" is missing: write a column for each place",
+    ),
+    (
+        MATRICES,
+        b",A,B,C\nSaw,1,2,0.0001\n",
+        "the costs have 4 decimals, more than flows and distances have together: write them with at most 3",
+    ),
+    (
+        b"flows = 'f'\ndistances = 'd'\n[forbidden]\nSaw = ['D']\n",
+        b",A,B,C\nSaw,1,2,3\n",
+        "the key \"forbidden.Saw\": no place has the name \"D\": correct it, or remove it",
+    ),
+];
+
+#[test]
+fn tells_why_costs_do_not_fit(rt: HostRuntime) -> Result<(), Fail> {
+    let alloc = rt.alloc();
+    for (plan, costs, want) in UNCHARGED {
+        let plan = read_plan(alloc, plan)?;
+        let problem = read_tables(alloc, &plan, FLOWS, DISTANCES)?;
+        let found = match read_charges(alloc, &plan, &problem, Some(costs)) {
+            Ok(_) => String::from_str(alloc, "read")?,
+            Err(error) => format!(in alloc; "{error}")?,
         };
         assert_eq!(rt; found.as_str(), want);
     }

@@ -3,6 +3,8 @@
 
 mod loading;
 mod notes;
+mod texts;
 
-pub use loading::{LoadError, Loaded, is_plan, load_problem};
+pub use loading::{LoadError, Loaded, is_plan, load_from, load_problem};
 pub use notes::notes_of;
+pub use texts::Texts;

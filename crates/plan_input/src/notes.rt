@@ -1,13 +1,15 @@
 //! How a plan's tables were read, and warnings about likely mistakes.
 
 use crate::loading::Loaded;
+use plan_charge::{Charges, Forbidden};
 use plan_file::NamedProblem;
 use plan_table::{Encoding, decimal_text};
 use qap_cost::Instance;
 use std::alloc::{AllocError, Global};
 
-/// The lines to show beside an answer: how the tables were read, the encodings other than UTF-8, and warnings about
-/// distances in one direction only and about departments without flow.
+/// The lines to show beside an answer: how the tables were read, the encodings other than UTF-8, how many departments
+/// have costs or forbidden places, and warnings about distances in one direction only and about departments without
+/// flow.
 pub fn notes_of(alloc: Global, loaded: &Loaded) -> Result<Vec<String>, AllocError> {
     let mut notes = Vec::new(alloc);
     notes.push(summary(alloc, &loaded.problem)?)?;
@@ -18,6 +20,10 @@ pub fn notes_of(alloc: Global, loaded: &Loaded) -> Result<Vec<String>, AllocErro
         &loaded.distances_file,
         loaded.distances_encoding,
     )?;
+    if let Some(file) = &loaded.costs_file {
+        push_encoding(alloc, &mut notes, file, loaded.costs_encoding)?;
+    }
+    push_restrictions(alloc, &mut notes, loaded)?;
     if leads_one_way(&loaded.problem.instance) {
         let line =
             "warning: all distances below the diagonal are 0: if the way back is as long, fill in both halves";
@@ -25,6 +31,47 @@ pub fn notes_of(alloc: Global, loaded: &Loaded) -> Result<Vec<String>, AllocErro
     }
     push_lone(alloc, &mut notes, &loaded.problem)?;
     Ok(notes)
+}
+
+/// Puts after the notes how many departments have costs, and how many have forbidden places.
+fn push_restrictions(
+    alloc: Global,
+    notes: &mut Vec<String>,
+    loaded: &Loaded,
+) -> Result<(), AllocError> {
+    let n = loaded.problem.places.len();
+    if loaded.costs_file.is_some() {
+        let paying = counted(alloc, paying(&loaded.charges, n), "department")?;
+        notes.push(format!(in alloc; "costs of {paying}")?)?;
+    }
+    let barred = barred(&loaded.forbidden, n);
+    if barred != 0 {
+        let barred = counted(alloc, barred, "department")?;
+        notes.push(format!(in alloc; "forbidden places of {barred}")?)?;
+    }
+    Ok(())
+}
+
+/// How many departments pay for a place.
+fn paying(charges: &Charges, n: usize) -> usize {
+    let mut count: usize = 0;
+    for row in charges.entries.chunks(n.max(1)) {
+        if row.iter().any(|entry| *entry != 0) {
+            count = count.saturating_add(1);
+        }
+    }
+    count
+}
+
+/// How many departments may not take each place.
+fn barred(forbidden: &Forbidden, n: usize) -> usize {
+    let mut count: usize = 0;
+    for row in forbidden.cells.chunks(n.max(1)) {
+        if row.contains(&true) {
+            count = count.saturating_add(1);
+        }
+    }
+    count
 }
 
 /// How many departments, places and flows there are, what the flows sum to, and whether they are symmetric.

@@ -12,13 +12,13 @@ use Rattle.qap_check.specs.Valuation.{AnswersSolution, lines_of, match_status}
 use Rattle.qap_io.specs.declared.status.Status.TheVariants.{Done}
 use Rattle.qap_check.specs.declared.command_line.Question.{Question}
 use Rattle.qap_check.specs.declared.command_line.Question.TheVariants.{Optimal, Value}
-use Rattle.qap_check.specs.declared.refusal.RunError.{RunError}
-use Rattle.qap_check.specs.declared.refusal.RunError.TheVariants.{Device}
+use Rattle.qap_check.specs.declared.refusal.CheckError.{CheckError}
+use Rattle.qap_check.specs.declared.refusal.CheckError.TheVariants.{Device}
 use Rattle.qap_check.specs.declared.source.Separators.TheVariants.{Kept, PassedOver}
 use Rattle.qap_check.specs.declared.valuation.Valuation.{Valuation}
 
 -- where the stream of a solution's value has no answer, the question of a value has none, for the same reason
-pub no_value : {R S W : Type 0} (s : Source R S) (q : Question) (contents : W → Option (List ℕ)) (old new : CountedDevice W) (e : RunError) →
+pub no_value : {R S W : Type 0} (s : Source R S) (q : Question) (contents : W → Option (List ℕ)) (old new : CountedDevice W) (e : CheckError) →
     q ≡ Value →
     ((HasNoTexts s e ⊎ ComeTo s Kept IsNoSolution e) × (new ≡ old))
     ⊎ ((e ≡ Device) × (v : Valuation) × ComeTo s Kept AnswersSolution v × BreaksOff contents old new (lines_of v)) →
@@ -31,7 +31,7 @@ no_value s q contents old new e is h =
     ])
 
 -- the same for the stream of a certificate and the question of an optimum
-pub no_optimum : {R S W : Type 0} (s : Source R S) (q : Question) (contents : W → Option (List ℕ)) (old new : CountedDevice W) (e : RunError) →
+pub no_optimum : {R S W : Type 0} (s : Source R S) (q : Question) (contents : W → Option (List ℕ)) (old new : CountedDevice W) (e : CheckError) →
     q ≡ Optimal →
     ((HasNoTexts s e ⊎ ComeTo s PassedOver IsNoProof e) × (new ≡ old))
     ⊎ ((e ≡ Device) × (v : Verdict) × ComeTo s PassedOver Proves v × BreaksOff contents old new (answer_line v)) →

@@ -5,8 +5,8 @@ use Rattle.qap_cost.specs.Instance.{Problem}
 use Rattle.qap_io.specs.Counting.{CountedDevice}
 use Rattle.qap_check.specs.Refusal.{HasNoTexts}
 use Rattle.qap_check.specs.Source.{Source, IsOtherText, HasTexts, ComeTo, KeepsCount}
-use Rattle.qap_check.specs.declared.refusal.RunError.{RunError}
-use Rattle.qap_check.specs.declared.refusal.RunError.TheVariants.{OutOfMemory}
+use Rattle.qap_check.specs.declared.refusal.CheckError.{CheckError}
+use Rattle.qap_check.specs.declared.refusal.CheckError.TheVariants.{OutOfMemory}
 use Rattle.qap_check.specs.declared.source.Separators.{Separators}
 
 keeps_count : {S : Type 0} (bytes : S → Option (List ℕ)) (old new : Option (CountedDevice S)) (behind other : List ℕ) → IsOtherText bytes old new behind other → KeepsCount old new
@@ -16,7 +16,7 @@ keeps_count bytes (Some old) None behind other h = absurd h
 keeps_count bytes (Some old) (Some new) behind other h = h.kept
 
 -- memory that runs out where both texts have been read
-pub wants_memory : {R S : Type 0} (s : Source R S) (separators : Separators) (I : Problem) (other : List ℕ) (e : RunError) → HasTexts s separators I other → e ≡ OutOfMemory → HasNoTexts s e
+pub wants_memory : {R S : Type 0} (s : Source R S) (separators : Separators) (I : Problem) (other : List ℕ) (e : CheckError) → HasTexts s separators I other → e ≡ OutOfMemory → HasNoTexts s e
 wants_memory s separators I other e texts is = inr (inr (record {
   is = is;
   kept = record { first = texts.first.read.kept; second = keeps_count s.second_bytes s.second s.second_after _ other texts.second };
@@ -24,7 +24,7 @@ wants_memory s separators I other e texts is = inr (inr (record {
 }))
 
 -- what is judged of the two texts
-pub come_to : {R S A : Type 0} (s : Source R S) (separators : Separators) (I : Problem) (other : List ℕ) (P : Problem → List ℕ → A → Type 0) (Q : Problem → List ℕ → RunError → Type 0) (r : Result A RunError)
+pub come_to : {R S A : Type 0} (s : Source R S) (separators : Separators) (I : Problem) (other : List ℕ) (P : Problem → List ℕ → A → Type 0) (Q : Problem → List ℕ → CheckError → Type 0) (r : Result A CheckError)
     → HasTexts s separators I other → MatchResult r (P I other) (λ e. (e ≡ OutOfMemory) ⊎ Q I other e)
     → MatchResult r (ComeTo s separators P) (λ e. HasNoTexts s e ⊎ ComeTo s separators Q e)
 come_to s separators I other P Q (Ok answer) texts h = record { instance = I; other = other; texts = texts; holds = h }

@@ -13,8 +13,8 @@ use Rattle.qap_check.specs.Source.{ComeTo, Source}
 use Rattle.qap_check.specs.Valuation.{AnswersSolution, lines_of, match_status}
 use Rattle.qap_check.specs.declared.command_line.Question.{Question}
 use Rattle.qap_check.specs.declared.command_line.Question.TheVariants.{Optimal, Value}
-use Rattle.qap_check.specs.declared.refusal.RunError.{RunError}
-use Rattle.qap_check.specs.declared.refusal.RunError.TheVariants.{Device}
+use Rattle.qap_check.specs.declared.refusal.CheckError.{CheckError}
+use Rattle.qap_check.specs.declared.refusal.CheckError.TheVariants.{Device}
 use Rattle.qap_check.specs.declared.source.Separators.TheVariants.{Kept, PassedOver}
 use Rattle.qap_check.specs.declared.valuation.Valuation.{Valuation}
 
@@ -24,7 +24,7 @@ ComesTo s Value text status = (v : Valuation) × ComeTo s Kept AnswersSolution v
 ComesTo s Optimal text status = (v : Verdict) × ComeTo s PassedOver Proves v × (text ≡ answer_line v) × (status ≡ Done)
 
 -- the request has no answer, for this reason
-abbrev pub ComesToNone : {R S : Type 0} → Source R S → Question → RunError → Type 0
+abbrev pub ComesToNone : {R S : Type 0} → Source R S → Question → CheckError → Type 0
 ComesToNone s Value e = HasNoTexts s e ⊎ ComeTo s Kept IsNoSolution e
 ComesToNone s Optimal e = HasNoTexts s e ⊎ ComeTo s PassedOver IsNoProof e
 
@@ -42,12 +42,12 @@ pub record HasBrokenOff {R S W : Type 0} (s : Source R S) (question : Question) 
   pub broken : BreaksOff contents old new text
 
 -- there is no answer, and nothing has been written; or the writer failed
-abbrev pub HasNotAnswered : {R S W : Type 0} → Source R S → Question → (W → Option (List ℕ)) → CountedDevice W → CountedDevice W → RunError → Type 0
+abbrev pub HasNotAnswered : {R S W : Type 0} → Source R S → Question → (W → Option (List ℕ)) → CountedDevice W → CountedDevice W → CheckError → Type 0
 HasNotAnswered s question contents old new e =
     (ComesToNone s question e × (new ≡ old)) ⊎ ((e ≡ Device) × HasBrokenOff s question contents old new)
 
 -- the line of a refusal has been written, or the writer failed after a beginning of it
-abbrev pub HasTold : {E : Type 0} → (E → Option (List ℕ)) → CountedDevice E → CountedDevice E → RunError → Type 0
+abbrev pub HasTold : {E : Type 0} → (E → Option (List ℕ)) → CountedDevice E → CountedDevice E → CheckError → Type 0
 HasTold contents old new e = Sends contents old new (refusal_line (refusal_of e)) ⊎ BreaksOff contents old new (refusal_line (refusal_of e))
 
 -- The run ended with this exit status: that of its answer, with no refusal reported, or that of the reason why there is
@@ -56,4 +56,4 @@ abbrev pub HasRun : {R S W E : Type 0} → Source R S → Question → (W → Op
     → (E → Option (List ℕ)) → CountedDevice E → CountedDevice E → ℕ → Type 0
 HasRun s question contents old new told errors errors_after exit =
     ((status : Status) × HasAnswered s question contents old new status × (exit ≡ exit_code status) × (errors_after ≡ errors))
-    ⊎ ((e : RunError) × HasNotAnswered s question contents old new e × (exit ≡ status_of e) × HasTold told errors errors_after e)
+    ⊎ ((e : CheckError) × HasNotAnswered s question contents old new e × (exit ≡ status_of e) × HasTold told errors errors_after e)

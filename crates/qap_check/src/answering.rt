@@ -7,7 +7,7 @@ ghost use Rattle.qap_check.specs.Source.{source_of};
 
 use crate::command_line::Question;
 use crate::optimal::optimal_stream;
-use crate::refusal::{RunError, fault_line, status};
+use crate::refusal::{CheckError, fault_line, status};
 use crate::value::value_stream;
 use qap_io::{Counted, Status};
 use std::alloc::Global;
@@ -41,7 +41,7 @@ fn answer<R: Read, S: Read, W: Write>(
     first: &mut Counted<R>,
     second: &mut Option<Counted<S>>,
     output: &mut Counted<W>,
-) -> Result<Status, RunError>
+) -> Result<Status, CheckError>
     ensures { let s = source_of R.remaining first.old first.new S.remaining second.old second.new in MatchResult result
         (HasAnswered s question W.contents output.old output.new)
         (HasNotAnswered s question W.contents output.old output.new) }
@@ -59,7 +59,7 @@ fn answer<R: Read, S: Read, W: Write>(
 }
 
 /// Tells a refusal, and its exit status.
-pub fn refused<E: Write>(error: RunError, errors: &mut Counted<E>) -> u8
+pub fn refused<E: Write>(error: CheckError, errors: &mut Counted<E>) -> u8
     ensures status { result ≡ status_of error }
     ensures told { HasTold E.contents errors.old errors.new error }
 {

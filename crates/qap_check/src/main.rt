@@ -14,7 +14,7 @@ use answering::{answered, refused};
 use command_line::{Files, Question, Request, USAGE, parse};
 use qap_command::{CommandError, tell_usage, words};
 use qap_io::Counted;
-use refusal::RunError;
+use refusal::CheckError;
 use std::fs::{self, File};
 use std::io::Read;
 use std::process::ExitCode;
@@ -33,13 +33,13 @@ fn main(rt: HostRuntime) -> ExitCode {
 /// Reports why the command line is rejected.
 fn tell(rt: &HostRuntime, error: CommandError) -> ExitCode {
     match error {
-        CommandError::OutOfMemory => refuse(rt, RunError::OutOfMemory),
+        CommandError::OutOfMemory => refuse(rt, CheckError::OutOfMemory),
         CommandError::Usage => tell_usage(rt, USAGE),
     }
 }
 
 /// Tells a refusal on standard error.
-fn refuse(rt: &HostRuntime, error: RunError) -> ExitCode {
+fn refuse(rt: &HostRuntime, error: CheckError) -> ExitCode {
     ExitCode::from(refused(error, &mut Counted::new(rt.stderr())))
 }
 
@@ -58,13 +58,13 @@ fn run(rt: &HostRuntime, request: Request<'_>) -> ExitCode {
 }
 
 /// Both files, opened for reading.
-fn open_both(rt: &HostRuntime, files: Files<'_>) -> Result<(File, File), RunError> {
+fn open_both(rt: &HostRuntime, files: Files<'_>) -> Result<(File, File), CheckError> {
     Ok((open(rt, files.instance)?, open(rt, files.other)?))
 }
 
 /// A named file, opened for reading.
-fn open(rt: &HostRuntime, name: &str) -> Result<File, RunError> {
-    fs::open(rt, name).map_err(|_| RunError::Device)
+fn open(rt: &HostRuntime, name: &str) -> Result<File, CheckError> {
+    fs::open(rt, name).map_err(|_| CheckError::Device)
 }
 
 /// Answers a question on standard output.

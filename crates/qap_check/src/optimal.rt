@@ -9,7 +9,7 @@ ghost use Rattle.qap_check.specs.Refusal.{HasNoTexts, IsNoProof};
 ghost use Rattle.qap_check.specs.Source.{ComeTo, source_of};
 
 use crate::reading::read_texts;
-use crate::refusal::RunError;
+use crate::refusal::CheckError;
 use crate::source::Separators;
 use qap_cert::{Verdict, accept};
 use qap_io::{Counted, send};
@@ -29,11 +29,11 @@ pub fn optimal_stream<R: Read, S: Read, W: Write>(
     reader: &mut Counted<R>,
     second: &mut Option<Counted<S>>,
     writer: &mut Counted<W>,
-) -> Result<(), RunError>
+) -> Result<(), CheckError>
     ensures { let s = source_of R.remaining reader.old reader.new S.remaining second.old second.new in MatchResult result
         (λ _. (v : Verdict) × ComeTo s Separators.PassedOver Proves v × Sends W.contents writer.old writer.new (answer_line v))
         (λ e. ((HasNoTexts s e ⊎ ComeTo s Separators.PassedOver IsNoProof e) × (writer.new ≡ writer.old))
-        ⊎ ((e ≡ RunError.Device) × (v : Verdict) × ComeTo s Separators.PassedOver Proves v
+        ⊎ ((e ≡ CheckError.Device) × (v : Verdict) × ComeTo s Separators.PassedOver Proves v
         × BreaksOff W.contents writer.old writer.new (answer_line v))) }
 {
     let verdict = shown(alloc, reader, second)?;
@@ -47,7 +47,7 @@ fn shown<R: Read, S: Read>(
     alloc: Global,
     reader: &mut Counted<R>,
     second: &mut Option<Counted<S>>,
-) -> Result<Verdict, RunError>
+) -> Result<Verdict, CheckError>
     ensures bounded { IfOk result IsLimitedVerdict }
     ensures verdict { let s = source_of R.remaining reader.old reader.new S.remaining second.old second.new in MatchResult result (ComeTo s Separators.PassedOver Proves) (λ e. HasNoTexts s e ⊎ ComeTo s Separators.PassedOver IsNoProof e) }
 {

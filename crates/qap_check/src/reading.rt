@@ -5,7 +5,7 @@ ghost use Rattle.qap_check.specs.Refusal.{HasNoTexts, IsSecondFault, of_text};
 ghost use Rattle.qap_check.specs.Source.{HasTexts, IsOtherText, between, source_of};
 ghost use Rattle.qap_text.specs.declared.error.TextError.{TextError};
 
-use crate::refusal::RunError;
+use crate::refusal::CheckError;
 use crate::source::{OtherText, Separators, Texts};
 use qap_io::Counted;
 use qap_text::{MAX_INPUT, read_all, read_instance, skip_separators};
@@ -21,7 +21,7 @@ pub fn read_texts<R: Read, S: Read>(
     reader: &mut Counted<R>,
     second: &mut Option<Counted<S>>,
     separators: Separators,
-) -> Result<Texts, RunError>
+) -> Result<Texts, CheckError>
     ensures { let s = source_of R.remaining reader.old reader.new S.remaining second.old second.new in MatchResult result (λ t. HasTexts s separators t.instance t.other) (HasNoTexts s) }
 {
     let text = read_all(alloc, reader, MAX_INPUT)?;
@@ -46,7 +46,7 @@ fn read_other<S: Read>(
     alloc: Global,
     second: &mut Option<Counted<S>>,
     behind: OtherText,
-) -> Result<OtherText, RunError>
+) -> Result<OtherText, CheckError>
     ensures { MatchResult result
         (IsOtherText S.remaining second.old second.new behind)
         (λ e. (fault : TextError) × (e ≡ of_text fault) × IsSecondFault S.remaining second.old second.new fault) }

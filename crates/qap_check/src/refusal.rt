@@ -4,7 +4,7 @@ ghost use Rattle.std.specs.Prelude.{◌≡◌, MatchResult};
 ghost use Rattle.qap_io.specs.Refusal.{refusal_line};
 ghost use Rattle.qap_io.specs.Writing.{Sends, BreaksOff};
 ghost use Rattle.qap_check.specs.Refusal.{refusal_of, status_of};
-ghost use Rattle.qap_check.specs.declared.refusal.RunError.TheVariants.{OutOfMemory as WantOfMemory, Device as FailedDevice};
+ghost use Rattle.qap_check.specs.declared.refusal.CheckError.TheVariants.{OutOfMemory as WantOfMemory, Device as FailedDevice};
 
 use qap_cert::CertError;
 use qap_io::{Counted, Device, Refusal, Status};
@@ -15,7 +15,7 @@ use thiserror::Error;
 
 /// Why a run answers no verdict.
 #[derive(Clone, Copy, Debug, PartialEq, Eq, Error)]
-pub enum RunError {
+pub enum CheckError {
     /// An input is too long, or a text in it is at fault.
     #[error("{0}")]
     Text(TextError),
@@ -30,56 +30,56 @@ pub enum RunError {
     Device,
 }
 
-impl From<TextError> for RunError {
+impl From<TextError> for CheckError {
     ghost use Rattle.qap_check.specs.Refusal.{of_text};
 
     ghost from_gives = { λ e f. f ≡ of_text e };
 
-    fn from(error: TextError) -> RunError {
+    fn from(error: TextError) -> CheckError {
         match error {
-            TextError::OutOfMemory => RunError::OutOfMemory,
-            TextError::Device => RunError::Device,
-            _ => RunError::Text(error),
+            TextError::OutOfMemory => CheckError::OutOfMemory,
+            TextError::Device => CheckError::Device,
+            _ => CheckError::Text(error),
         }
     }
 }
 
-impl From<CertError> for RunError {
+impl From<CertError> for CheckError {
     ghost use Rattle.qap_check.specs.Refusal.{of_certificate};
 
     ghost from_gives = { λ e f. f ≡ of_certificate e };
 
-    fn from(error: CertError) -> RunError {
+    fn from(error: CertError) -> CheckError {
         match error {
-            CertError::OutOfMemory => RunError::OutOfMemory,
-            CertError::Device => RunError::Device,
-            _ => RunError::Certificate(error),
+            CertError::OutOfMemory => CheckError::OutOfMemory,
+            CertError::Device => CheckError::Device,
+            _ => CheckError::Certificate(error),
         }
     }
 }
 
-impl From<AllocError> for RunError {
+impl From<AllocError> for CheckError {
     ghost from_gives = { λ _ f. f ≡ WantOfMemory };
 
-    fn from(_error: AllocError) -> RunError {
-        RunError::OutOfMemory
+    fn from(_error: AllocError) -> CheckError {
+        CheckError::OutOfMemory
     }
 }
 
-impl From<Device> for RunError {
+impl From<Device> for CheckError {
     ghost from_gives = { λ _ f. f ≡ FailedDevice };
 
-    fn from(_error: Device) -> RunError {
-        RunError::Device
+    fn from(_error: Device) -> CheckError {
+        CheckError::Device
     }
 }
 
 /// The exit status of a refusal: 3 if memory ran out, else 1.
-pub fn status(error: &RunError) -> u8
+pub fn status(error: &CheckError) -> u8
     ensures { result ≡ status_of error.now }
 {
     let status = match error {
-        RunError::OutOfMemory => Status::OutOfMemory,
+        CheckError::OutOfMemory => Status::OutOfMemory,
         _ => Status::Refused,
     };
     status.code()
@@ -87,7 +87,7 @@ pub fn status(error: &RunError) -> u8
 
 /// Writes the line that reports a refusal: `refused`, its number and name, and `at` with its place or its line if it
 /// carries one; and flushes the writer. If that fails, a prefix of the line has been written.
-pub fn fault_line<W: Write>(error: &RunError, writer: &mut Counted<W>) -> Result<(), Device>
+pub fn fault_line<W: Write>(error: &CheckError, writer: &mut Counted<W>) -> Result<(), Device>
     ensures { MatchResult result
         (λ _. Sends W.contents writer.old writer.new (refusal_line (refusal_of error.now)))
         (λ _. BreaksOff W.contents writer.old writer.new (refusal_line (refusal_of error.now))) }
@@ -96,13 +96,13 @@ pub fn fault_line<W: Write>(error: &RunError, writer: &mut Counted<W>) -> Result
 }
 
 /// The refusal that reports a run's error.
-fn refusal(error: RunError) -> Refusal
+fn refusal(error: CheckError) -> Refusal
     ensures { result ≡ refusal_of error }
 {
     match error {
-        RunError::Text(fault) => fault.refusal(),
-        RunError::Certificate(fault) => fault.refusal(),
-        RunError::OutOfMemory => Refusal::out_of_memory(),
-        RunError::Device => Refusal::device(),
+        CheckError::Text(fault) => fault.refusal(),
+        CheckError::Certificate(fault) => fault.refusal(),
+        CheckError::OutOfMemory => Refusal::out_of_memory(),
+        CheckError::Device => Refusal::device(),
     }
 }

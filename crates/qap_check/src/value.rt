@@ -7,7 +7,7 @@ ghost use Rattle.qap_check.specs.Source.{ComeTo, source_of};
 ghost use Rattle.qap_check.specs.Valuation.{AnswersSolution, lines_of};
 
 use crate::reading::read_texts;
-use crate::refusal::RunError;
+use crate::refusal::CheckError;
 use crate::source::Separators;
 use crate::valuation::{Match, Valuation};
 use qap_cost::Instance;
@@ -27,12 +27,12 @@ pub fn value_stream<R: Read, S: Read, W: Write>(
     reader: &mut Counted<R>,
     second: &mut Option<Counted<S>>,
     writer: &mut Counted<W>,
-) -> Result<Match, RunError>
+) -> Result<Match, CheckError>
     ensures { let s = source_of R.remaining reader.old reader.new S.remaining second.old second.new in MatchResult result
         (λ found. (v : Valuation) × (v.found ≡ found) × ComeTo s Separators.Kept AnswersSolution v
         × Sends W.contents writer.old writer.new (lines_of v))
         (λ e. ((HasNoTexts s e ⊎ ComeTo s Separators.Kept IsNoSolution e) × (writer.new ≡ writer.old))
-        ⊎ ((e ≡ RunError.Device) × (v : Valuation) × ComeTo s Separators.Kept AnswersSolution v
+        ⊎ ((e ≡ CheckError.Device) × (v : Valuation) × ComeTo s Separators.Kept AnswersSolution v
         × BreaksOff W.contents writer.old writer.new (lines_of v))) }
 {
     let valuation = judged(alloc, reader, second)?;
@@ -46,7 +46,7 @@ fn judged<R: Read, S: Read>(
     alloc: Global,
     reader: &mut Counted<R>,
     second: &mut Option<Counted<S>>,
-) -> Result<Valuation, RunError>
+) -> Result<Valuation, CheckError>
     ensures { let s = source_of R.remaining reader.old reader.new S.remaining second.old second.new in MatchResult result (ComeTo s Separators.Kept AnswersSolution) (λ e. HasNoTexts s e ⊎ ComeTo s Separators.Kept IsNoSolution e) }
 {
     let texts = read_texts(alloc, reader, second, Separators::Kept)?;
@@ -54,10 +54,10 @@ fn judged<R: Read, S: Read>(
 }
 
 /// What an instance and a solution's text yield.
-fn answer(alloc: Global, instance: &Instance, text: &[u8]) -> Result<Valuation, RunError>
+fn answer(alloc: Global, instance: &Instance, text: &[u8]) -> Result<Valuation, CheckError>
     ensures { MatchResult result
         (AnswersSolution instance.now text.now)
-        (λ e. (e ≡ RunError.OutOfMemory) ⊎ IsNoSolution instance.now text.now e) }
+        (λ e. (e ≡ CheckError.OutOfMemory) ⊎ IsNoSolution instance.now text.now e) }
 {
     let (stated, permutation) = read_solution(alloc, instance.size(), text)?;
     Ok(Valuation::new(instance, &permutation, stated)?)

@@ -12,7 +12,7 @@ use Rattle.qap_plan.proofs.Kept.{no_dearer_kept}
 use Rattle.qap_plan.specs.Keeping.{IsNoDearerKept}
 use Rattle.qap_plan.specs.Parts.{IsSplitUp}
 use Rattle.qap_plan.specs.Splitting.{IsSkeleton}
-use Rattle.qap_plan.specs.declared.error.PlanError.{PlanError}
+use Rattle.qap_plan.specs.declared.error.PlannerError.{PlannerError}
 use Rattle.qap_plan.specs.declared.search.splitting.Skeleton.{Skeleton}
 
 -- where no part is completed for less, that is the least cost, if nothing is placed at the root
@@ -32,7 +32,7 @@ IsSplitUp-skeleton I x start p s first less h = record {
 }
 
 -- what was begun with a permutation, and yielded a skeleton that costs no more than it
-pub IsSplitUp-begun : (I : Problem) (x : Placement) (start : Option (List ℕ)) (p : List ℕ) (c : ℤ) (r : Result Skeleton PlanError) → IsNoDearerKept I x start (cost_of I p) → c ≤ℤ cost_of I p → IfOk r (IsSkeleton I x)
+pub IsSplitUp-begun : (I : Problem) (x : Placement) (start : Option (List ℕ)) (p : List ℕ) (c : ℤ) (r : Result Skeleton PlannerError) → IsNoDearerKept I x start (cost_of I p) → c ≤ℤ cost_of I p → IfOk r (IsSkeleton I x)
     → IfOk r (λ s. s.proof.cost ≤ℤ c) → IfOk r (IsSplitUp I x start)
 IsSplitUp-begun I x start p c (Ok s) first less h no_dearer = IsSplitUp-skeleton I x start p s first (omega (arith, ints, less, no_dearer)) h
 IsSplitUp-begun I x start p c (Err e) first less h no_dearer = tt

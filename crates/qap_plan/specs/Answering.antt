@@ -6,16 +6,16 @@ use Rattle.qap_io.specs.Writing.{BreaksOff, Sends}
 use Rattle.qap_text.specs.Input.{Input}
 use Rattle.qap_plan.specs.Answer.{answer_text}
 use Rattle.qap_plan.specs.Planning.{IsPlanned}
-use Rattle.qap_plan.specs.Reading.{HasNoPlan, HasPlan, WantsMemory}
+use Rattle.qap_plan.specs.Reading.{LacksInstance, HasOneInstance, WantsMemory}
 use Rattle.qap_plan.specs.Starting.{HasNoStart, HasStart, Starting}
-use Rattle.qap_plan.specs.declared.error.PlanError.{PlanError}
-use Rattle.qap_plan.specs.declared.error.PlanError.TheVariants.{Device}
+use Rattle.qap_plan.specs.declared.error.PlannerError.{PlannerError}
+use Rattle.qap_plan.specs.declared.error.PlannerError.TheVariants.{Device}
 use Rattle.qap_plan.specs.declared.search.planning.Planned.{Planned}
 
 -- the input has an instance to be searched, and a start if one is requested, and this is what the search has found
 pub record ComesTo {R Q : Type 0} (i : Input R) (s : Starting Q) (passes : Bool) (x : Planned) : Type 0 where
   pub problem : Problem
-  pub input : HasPlan i passes problem
+  pub input : HasOneInstance i passes problem
   pub start : Option (List ℕ)
   pub begins : HasStart s problem start
   pub planned : IsPlanned problem start x.permutation x.cost x.bound
@@ -32,15 +32,15 @@ pub record HasBrokenOff {R Q W : Type 0} (i : Input R) (s : Starting Q) (passes 
   pub broken : BreaksOff contents old new (answer_text answer.permutation answer.cost answer.bound)
 
 -- there is an instance, but not the requested start
-pub record StopsAtStart {R Q : Type 0} (i : Input R) (s : Starting Q) (passes : Bool) (e : PlanError) : Type 0 where
+pub record StopsAtStart {R Q : Type 0} (i : Input R) (s : Starting Q) (passes : Bool) (e : PlannerError) : Type 0 where
   pub problem : Problem
-  pub input : HasPlan i passes problem
+  pub input : HasOneInstance i passes problem
   pub fault : HasNoStart s problem e
 
 -- why nothing is searched: there is no instance, and the start was not read; or there is no start; or memory ran out
-abbrev pub IsNotSearched : {R Q : Type 0} → Input R → Starting Q → Bool → PlanError → Type 0
-IsNotSearched i s passes e = (HasNoPlan i e × (s.after ≡ s.before)) ⊎ (StopsAtStart i s passes e ⊎ WantsMemory i e)
+abbrev pub IsNotSearched : {R Q : Type 0} → Input R → Starting Q → Bool → PlannerError → Type 0
+IsNotSearched i s passes e = (LacksInstance i e × (s.after ≡ s.before)) ⊎ (StopsAtStart i s passes e ⊎ WantsMemory i e)
 
 -- there is no answer, and nothing has been written; or the writer failed
-abbrev pub HasNotAnswered : {R Q W : Type 0} → Input R → Starting Q → Bool → (W → Option (List ℕ)) → CountedDevice W → CountedDevice W → PlanError → Type 0
+abbrev pub HasNotAnswered : {R Q W : Type 0} → Input R → Starting Q → Bool → (W → Option (List ℕ)) → CountedDevice W → CountedDevice W → PlannerError → Type 0
 HasNotAnswered i s passes contents old new e = (IsNotSearched i s passes e × (new ≡ old)) ⊎ ((e ≡ Device) × HasBrokenOff i s passes contents old new)

@@ -6,8 +6,8 @@ use Rattle.plan_answer.specs.Answer.{IsAnswerText}
 use Rattle.plan_file.specs.declared.tables.NamedProblem.{NamedProblem}
 use Rattle.qap_plan.specs.Keeping.{IsKept}
 use Rattle.qap_plan.specs.Starting.{HasNoStart, HasStart, Starting}
-use Rattle.qap_plan.specs.declared.error.PlanError.{PlanError}
-use Rattle.qap_plan.specs.declared.error.PlanError.TheVariants.{Device, OutOfMemory}
+use Rattle.qap_plan.specs.declared.error.PlannerError.{PlannerError}
+use Rattle.qap_plan.specs.declared.error.PlannerError.TheVariants.{Device, OutOfMemory}
 use Rattle.qap_plan.specs.declared.search.planning.Planned.{Planned}
 
 -- there is a start if one is requested, and this is what the search of the arrangements that respect what is fixed has
@@ -33,5 +33,5 @@ pub record HasBrokenOffNamed {Q W : Type 0} (P : NamedProblem) (s : Starting Q) 
   pub broken : BreaksOff contents old new text
 
 -- there is no answer, and nothing has been written, because the requested start is missing or memory ran out; or the writer failed
-abbrev pub HasNotArranged : {Q W : Type 0} → NamedProblem → Starting Q → (W → Option (List ℕ)) → CountedDevice W → CountedDevice W → PlanError → Type 0
+abbrev pub HasNotArranged : {Q W : Type 0} → NamedProblem → Starting Q → (W → Option (List ℕ)) → CountedDevice W → CountedDevice W → PlannerError → Type 0
 HasNotArranged P s contents old new e = ((HasNoStart s P.instance e ⊎ (e ≡ OutOfMemory)) × (new ≡ old)) ⊎ ((e ≡ Device) × HasBrokenOffNamed P s contents old new)

@@ -2,6 +2,8 @@ pub mod Answer
 pub mod Answering
 pub mod Arranging
 pub mod Asking
+pub mod ChargedAnswer
+pub mod Charging
 pub mod Checking
 pub mod Keeping
 pub mod NodeLines

@@ -8,11 +8,11 @@ use Rattle.qap_text.specs.SolutionText.{IsSolutionFault, IsSolutionText}
 use Rattle.qap_text.specs.Whole.{IsReadFault}
 use Rattle.qap_text.specs.declared.error.TextError.{TextError}
 use Rattle.qap_text.specs.declared.error.TextError.TheVariants.{OutOfMemory as TextMemory}
-use Rattle.qap_plan.specs.declared.error.PlanError.{PlanError}
-use Rattle.qap_plan.specs.declared.error.PlanError.TheVariants.{Start, StartCost, OutOfMemory}
+use Rattle.qap_plan.specs.declared.error.PlannerError.{PlannerError}
+use Rattle.qap_plan.specs.declared.error.PlannerError.TheVariants.{Start, StartCost, OutOfMemory}
 
 -- the run's error for a fault of the start's text: out of memory is the run's own
-abbrev pub of_start : TextError → PlanError
+abbrev pub of_start : TextError → PlannerError
 of_start TextMemory = OutOfMemory
 of_start e = Start e
 
@@ -33,13 +33,13 @@ abbrev pub HasNoSolution : {Q : Type 0} → Input Q → ℕ → TextError → Ty
 HasNoSolution i n fault = IsReadFault i.bytes max_input i.before i.after fault ⊎ HasSolutionFault i n fault
 
 -- the input does not begin with a solution of the instance's size
-pub record NoStart {Q : Type 0} (i : Input Q) (I : Problem) (e : PlanError) : Type 0 where
+pub record NoStart {Q : Type 0} (i : Input Q) (I : Problem) (e : PlannerError) : Type 0 where
   pub fault : TextError
   pub is : e ≡ of_start fault
   pub of_input : HasNoSolution i I.size fault
 
 -- a solution misstates its cost
-pub record HasOtherCost {Q : Type 0} (i : Input Q) (I : Problem) (e : PlanError) : Type 0 where
+pub record HasOtherCost {Q : Type 0} (i : Input Q) (I : Problem) (e : PlannerError) : Type 0 where
   pub value : ℤ
   pub permutation : List ℕ
   pub input : HasSolution i I.size value permutation
@@ -67,10 +67,10 @@ abbrev pub HasStart : {Q : Type 0} → Starting Q → Problem → Option (List �
 HasStart s I start = Begins s.bytes I s.before s.after start
 
 -- given the reader before and after: one is requested, and the input does not begin with one
-abbrev pub BeginsNot : {Q : Type 0} → (Q → Option (List ℕ)) → Problem → Option (CountedDevice Q) → Option (CountedDevice Q) → PlanError → Type 0
+abbrev pub BeginsNot : {Q : Type 0} → (Q → Option (List ℕ)) → Problem → Option (CountedDevice Q) → Option (CountedDevice Q) → PlannerError → Type 0
 BeginsNot bytes I (Some old) (Some new) e = NoStart (input_of bytes old new) I e ⊎ HasOtherCost (input_of bytes old new) I e
 BeginsNot bytes I _ _ e = ⊥
 
 -- why there is no start although one is requested
-abbrev pub HasNoStart : {Q : Type 0} → Starting Q → Problem → PlanError → Type 0
+abbrev pub HasNoStart : {Q : Type 0} → Starting Q → Problem → PlannerError → Type 0
 HasNoStart s I e = BeginsNot s.bytes I s.before s.after e

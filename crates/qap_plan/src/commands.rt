@@ -2,6 +2,7 @@
 
 pub(crate) mod answering;
 pub(crate) mod arranging;
+pub(crate) mod charged_answer;
 pub(crate) mod check;
 pub(crate) mod checking;
 pub(crate) mod command_line;
@@ -14,4 +15,5 @@ pub(crate) mod part;
 pub(crate) mod show;
 pub(crate) mod solve;
 pub(crate) mod solve_instance;
+pub(crate) mod solve_restricted;
 pub(crate) mod split;

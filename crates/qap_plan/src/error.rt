@@ -1,7 +1,7 @@
 //! Why there is no answer.
 
 ghost use Rattle.std.specs.Prelude.{◌≡◌};
-ghost use Rattle.qap_plan.specs.declared.error.PlanError.TheVariants.{OutOfMemory as WantOfMemory, Device as FailedDevice};
+ghost use Rattle.qap_plan.specs.declared.error.PlannerError.TheVariants.{OutOfMemory as WantOfMemory, Device as FailedDevice};
 
 use qap_io::{Device, Status};
 use qap_proof::ProofError;
@@ -11,7 +11,7 @@ use thiserror::Error;
 
 /// Why there is no answer. Places count bytes from 0.
 #[derive(Clone, Copy, Debug, PartialEq, Eq, Error)]
-pub enum PlanError {
+pub enum PlannerError {
     /// The file is too long, or does not begin with an instance.
     #[error("{0}")]
     Text(TextError),
@@ -30,6 +30,15 @@ pub enum PlanError {
     /// An assembled proof is not one for the instance.
     #[error("the proof is refused: {0}")]
     Proof(ProofError),
+    /// A start moves what is fixed, or uses a forbidden place.
+    #[error("the arrangement moves what is fixed, or uses a forbidden place: change it, or leave out --start")]
+    StartForbidden,
+    /// No arrangement respects what is fixed and what is forbidden.
+    #[error("no arrangement respects [fixed], [forbidden] and [allowed]: allow a department more places")]
+    NoArrangement,
+    /// Forbidden places cannot cost enough.
+    #[error("the numbers are too large for [forbidden] and [allowed]: keep fewer decimals in the tables, as by `round = 2`")]
+    TooWide,
     /// Memory ran out.
     #[error("out of memory")]
     OutOfMemory,
@@ -38,56 +47,56 @@ pub enum PlanError {
     Device,
 }
 
-impl PlanError {
+impl PlannerError {
     /// How a run ends that meets this.
     pub fn status(self) -> Status {
         match self {
-            PlanError::OutOfMemory => Status::OutOfMemory,
+            PlannerError::OutOfMemory => Status::OutOfMemory,
             _ => Status::Refused,
         }
     }
 }
 
-impl From<TextError> for PlanError {
+impl From<TextError> for PlannerError {
     ghost use Rattle.qap_plan.specs.Reading.{of_text};
 
     ghost from_gives = { λ e f. f ≡ of_text e };
 
-    fn from(error: TextError) -> PlanError {
+    fn from(error: TextError) -> PlannerError {
         match error {
-            TextError::OutOfMemory => PlanError::OutOfMemory,
-            TextError::Device => PlanError::Device,
-            _ => PlanError::Text(error),
+            TextError::OutOfMemory => PlannerError::OutOfMemory,
+            TextError::Device => PlannerError::Device,
+            _ => PlannerError::Text(error),
         }
     }
 }
 
-impl From<ProofError> for PlanError {
+impl From<ProofError> for PlannerError {
     ghost use Rattle.qap_plan.specs.Refused.{of_proof};
 
     ghost from_gives = { λ e f. f ≡ of_proof e };
 
-    fn from(error: ProofError) -> PlanError {
+    fn from(error: ProofError) -> PlannerError {
         match error {
-            ProofError::OutOfMemory => PlanError::OutOfMemory,
-            ProofError::Device => PlanError::Device,
-            _ => PlanError::Proof(error),
+            ProofError::OutOfMemory => PlannerError::OutOfMemory,
+            ProofError::Device => PlannerError::Device,
+            _ => PlannerError::Proof(error),
         }
     }
 }
 
-impl From<AllocError> for PlanError {
+impl From<AllocError> for PlannerError {
     ghost from_gives = { λ _ f. f ≡ WantOfMemory };
 
-    fn from(_error: AllocError) -> PlanError {
-        PlanError::OutOfMemory
+    fn from(_error: AllocError) -> PlannerError {
+        PlannerError::OutOfMemory
     }
 }
 
-impl From<Device> for PlanError {
+impl From<Device> for PlannerError {
     ghost from_gives = { λ _ f. f ≡ FailedDevice };
 
-    fn from(_error: Device) -> PlanError {
-        PlanError::Device
+    fn from(_error: Device) -> PlannerError {
+        PlannerError::Device
     }
 }

@@ -1,6 +1,8 @@
 pub mod FirstFaults
+pub mod Growing
 pub mod InstanceReadings
 pub mod Locations
+pub mod Numbers
 pub mod OneReading
 pub mod Separators
 pub mod SolutionReadings

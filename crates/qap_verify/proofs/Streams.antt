@@ -17,8 +17,8 @@ use Rattle.proof_versions.proofs.Streams.{longer}
 use Rattle.qap_verify.specs.Answering.{Proves}
 use Rattle.qap_verify.specs.Refusal.{HasNoTexts, IsNoProof, IsOfProof}
 use Rattle.qap_verify.specs.Texts.{Inputs, Yields}
-use Rattle.qap_verify.specs.declared.refusal.RunError.{RunError}
-use Rattle.qap_verify.specs.declared.refusal.RunError.TheVariants.{OutOfMemory}
+use Rattle.qap_verify.specs.declared.refusal.VerifyError.{VerifyError}
+use Rattle.qap_verify.specs.declared.refusal.VerifyError.TheVariants.{OutOfMemory}
 use Rattle.qap_verify.proofs.Comes.{wants_memory}
 
 -- both together are the whole
@@ -68,7 +68,7 @@ all_of (Some xs) None front text consumed whole = absurd consumed
 all_of (Some xs) (Some ys) front text consumed whole = consumed ∙ whole
 
 -- what a text shows of which the front had been read when the rest was checked as it was read
-pub yields_of : {R S : Type 0} (i : Inputs R S) (I : Problem) (rest : List ℕ) (later : Option (List ℕ)) (front : List ℕ) (r : Result Verdict RunError)
+pub yields_of : {R S : Type 0} (i : Inputs R S) (I : Problem) (rest : List ℕ) (later : Option (List ℕ)) (front : List ℕ) (r : Result Verdict VerifyError)
     → HasInstance i.first I rest → Consumes (i.second.bytes i.second.before.inner) later front → StatesVersionTwo front
     → MatchResult r (StreamShows I (prepend_known front later)) IsOfProof
     → MatchResult r (Yields i Proves) (λ e. HasNoTexts i e ⊎ Yields i IsNoProof e)
@@ -93,7 +93,7 @@ yields_of i I rest later front (Err e) found consumed two h =
     }))
 
 -- memory that runs out when the verdict is known
-pub without_memory : {R S : Type 0} (i : Inputs R S) (v : Verdict) (e : RunError) → Yields i Proves v → e ≡ OutOfMemory → HasNoTexts i e ⊎ Yields i IsNoProof e
+pub without_memory : {R S : Type 0} (i : Inputs R S) (v : Verdict) (e : VerifyError) → Yields i Proves v → e ≡ OutOfMemory → HasNoTexts i e ⊎ Yields i IsNoProof e
 without_memory i v e (inl come) is = inl (wants_memory i come.problem come.text e come.texts is)
 without_memory i v e (inr come) is =
     inr (inr (record { problem = come.problem; text = come.text; texts = come.texts; holds = (ProofMemory, is, inl come.texts.version) }))

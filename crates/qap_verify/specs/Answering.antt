@@ -11,8 +11,8 @@ use Rattle.proof_versions.specs.Versions.{EitherIsSo, EitherShows}
 use Rattle.qap_text.specs.Gap.{gap_line}
 use Rattle.qap_verify.specs.Refusal.{HasNoTexts, IsNoProof, refusal_of, status_of}
 use Rattle.qap_verify.specs.Texts.{Inputs, Yields}
-use Rattle.qap_verify.specs.declared.refusal.RunError.{RunError}
-use Rattle.qap_verify.specs.declared.refusal.RunError.TheVariants.{Device}
+use Rattle.qap_verify.specs.declared.refusal.VerifyError.{VerifyError}
+use Rattle.qap_verify.specs.declared.refusal.VerifyError.TheVariants.{Device}
 
 -- the text, in either version, establishes the verdict, which is true
 abbrev pub Proves : Problem → List ℕ → Verdict → Type 0
@@ -45,13 +45,13 @@ abbrev pub HasAnswered : {R S W : Type 0} → Inputs R S → (W → Option (List
 HasAnswered i contents old new v = Yields i Proves v × Sends contents old new (answer_line v)
 
 -- it establishes nothing, and nothing has been written; or the writer failed after a prefix of the line
-abbrev pub HasNotAnswered : {R S W : Type 0} → Inputs R S → (W → Option (List ℕ)) → CountedDevice W → CountedDevice W → RunError → Type 0
+abbrev pub HasNotAnswered : {R S W : Type 0} → Inputs R S → (W → Option (List ℕ)) → CountedDevice W → CountedDevice W → VerifyError → Type 0
 HasNotAnswered i contents old new e =
     ((HasNoTexts i e ⊎ Yields i IsNoProof e) × (new ≡ old))
     ⊎ ((e ≡ Device) × (v : Verdict) × Yields i Proves v × BreaksOff contents old new (answer_line v))
 
 -- the line of a refusal has been written, or the writer failed after a prefix of it
-abbrev pub HasTold : {E : Type 0} → (E → Option (List ℕ)) → CountedDevice E → CountedDevice E → RunError → Type 0
+abbrev pub HasTold : {E : Type 0} → (E → Option (List ℕ)) → CountedDevice E → CountedDevice E → VerifyError → Type 0
 HasTold contents old new e = Sends contents old new (refusal_line (refusal_of e)) ⊎ BreaksOff contents old new (refusal_line (refusal_of e))
 
 -- the run ended with this exit status: that of its verdict if it answered, with no refusal reported; or that of the reason
@@ -60,4 +60,4 @@ abbrev pub HasRun : {R S W E : Type 0} → Inputs R S → Option ℤ → (W → 
     → (E → Option (List ℕ)) → CountedDevice E → CountedDevice E → ℕ → Type 0
 HasRun i wanted contents old new told errors errors_after exit =
     ((v : Verdict) × HasAnswered i contents old new v × (exit ≡ verdict_status wanted v) × (errors_after ≡ errors))
-    ⊎ ((e : RunError) × HasNotAnswered i contents old new e × (exit ≡ status_of e) × HasTold told errors errors_after e)
+    ⊎ ((e : VerifyError) × HasNotAnswered i contents old new e × (exit ≡ status_of e) × HasTold told errors errors_after e)

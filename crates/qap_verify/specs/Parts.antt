@@ -13,8 +13,8 @@ use Rattle.qap_text.specs.Whole.{IsReadFault}
 use Rattle.qap_text.specs.declared.error.TextError.{TextError}
 use Rattle.qap_verify.specs.Answering.{answer_line}
 use Rattle.qap_verify.specs.Refusal.{of_proof, of_text}
-use Rattle.qap_verify.specs.declared.refusal.RunError.{RunError}
-use Rattle.qap_verify.specs.declared.refusal.RunError.TheVariants.{OutOfMemory, Device}
+use Rattle.qap_verify.specs.declared.refusal.VerifyError.{VerifyError}
+use Rattle.qap_verify.specs.declared.refusal.VerifyError.TheVariants.{OutOfMemory, Device}
 
 -- the input is the text of the proof of a part in either version, which has been added to the others
 pub record HasAdded {S : Type 0} (i : Input S) (old new : CoverValue) : Type 0 where
@@ -23,7 +23,7 @@ pub record HasAdded {S : Type 0} (i : Input S) (old new : CoverValue) : Type 0 w
   pub part : HasEitherPart text old new
 
 -- the text that was read is refused as a proof in either version that proves its bound
-pub record IsNoPart {S : Type 0} (i : Input S) (I : Problem) (e : RunError) : Type 0 where
+pub record IsNoPart {S : Type 0} (i : Input S) (I : Problem) (e : VerifyError) : Type 0 where
   pub text : List ℕ
   pub read : HasText i text
   pub fault : ProofError
@@ -31,7 +31,7 @@ pub record IsNoPart {S : Type 0} (i : Input S) (I : Problem) (e : RunError) : Ty
   pub refused : EitherIsRefused I text fault
 
 -- the bytes cannot be read within the limit, the text is at fault, or memory ran out
-abbrev pub HasNotAdded : {S : Type 0} → Input S → Problem → RunError → Type 0
+abbrev pub HasNotAdded : {S : Type 0} → Input S → Problem → VerifyError → Type 0
 HasNotAdded i I e =
     ((fault : TextError) × (e ≡ of_text fault) × IsReadFault i.bytes max_input i.before i.after fault) ⊎ (IsNoPart i I e ⊎ (e ≡ OutOfMemory))
 
@@ -44,6 +44,6 @@ abbrev pub HasShown : {W : Type 0} → CoverValue → (W → Option (List ℕ)) 
 HasShown c contents old new v = ShowTogether c v × Sends contents old new (answer_line v)
 
 -- memory ran out, and nothing has been written; or the writer failed after a prefix of the line
-abbrev pub HasNotShown : {W : Type 0} → CoverValue → (W → Option (List ℕ)) → CountedDevice W → CountedDevice W → RunError → Type 0
+abbrev pub HasNotShown : {W : Type 0} → CoverValue → (W → Option (List ℕ)) → CountedDevice W → CountedDevice W → VerifyError → Type 0
 HasNotShown c contents old new e =
     ((e ≡ OutOfMemory) × (new ≡ old)) ⊎ ((e ≡ Device) × (v : Verdict) × ShowTogether c v × BreaksOff contents old new (answer_line v))

@@ -6,7 +6,7 @@ ghost use Rattle.qap_verify.specs.Answering.{HasRun, HasTold, shown_by, suffices
 ghost use Rattle.qap_verify.specs.Refusal.{status_of};
 ghost use Rattle.qap_verify.specs.Texts.{inputs_of};
 
-use crate::refusal::{RunError, fault_line, status};
+use crate::refusal::{VerifyError, fault_line, status};
 use crate::verifying::verify_stream;
 use qap_io::{Counted, Status};
 use qap_proof::Verdict;
@@ -59,7 +59,7 @@ fn is_enough(wanted: Option<i128>, verdict: Verdict) -> bool
 }
 
 /// Tells a refusal, and its exit status.
-pub fn refused<E: Write>(error: RunError, errors: &mut Counted<E>) -> u8
+pub fn refused<E: Write>(error: VerifyError, errors: &mut Counted<E>) -> u8
     ensures status { result ≡ status_of error }
     ensures told { HasTold E.contents errors.old errors.new error }
 {

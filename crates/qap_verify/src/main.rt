@@ -1,8 +1,12 @@
 //! Verifies proofs of least costs, and of bounds, of the quadratic assignment problem.
 #![tactic(auto)]
 
+ghost use Rattle.plan_charge.specs.Charges.{AreCharges};
+ghost use Rattle.plan_charge.specs.Forbidden.{AreForbidden};
+
 mod answering;
 mod command_line;
+mod larger;
 mod leaves;
 mod refusal;
 mod verifying;
@@ -11,12 +15,14 @@ use answering::{answered, refused, verdict_status};
 use clap::Error;
 use clap::error::ErrorKind;
 use command_line::{Files, parse};
+use larger::larger_text;
 use leaves::short_leaves;
-use plan_input::{is_plan, load_problem};
+use plan_charge::is_restricting;
+use plan_input::{Loaded, is_plan, load_problem};
 use qap_io::{Counted, Status};
 use qap_proof::Cover;
-use qap_write::instance_text;
-use refusal::RunError;
+use qap_text::text_of_instance;
+use refusal::VerifyError;
 use std::fs::{self, File};
 use std::io::Read;
 use std::process::ExitCode;
@@ -43,7 +49,7 @@ fn arguments(rt: &(impl Env + AllocGlobal)) -> io::Result<Vec<String>> {
 /// Reports why the command line could not be read.
 fn tell_unread(rt: &HostRuntime, error: &io::Error) -> ExitCode {
     if error.kind() == io::ErrorKind::OutOfMemory {
-        return refuse(rt, RunError::OutOfMemory);
+        return refuse(rt, VerifyError::OutOfMemory);
     }
     let _ = rt.eprintln("error: an argument is no text in UTF-8");
     ExitCode::from(Status::Usage.code())
@@ -52,14 +58,14 @@ fn tell_unread(rt: &HostRuntime, error: &io::Error) -> ExitCode {
 /// Prints the help or the version if requested, and otherwise what is wrong with the command line.
 fn tell(rt: &HostRuntime, error: &Error) -> ExitCode {
     if error.kind() == ErrorKind::OutOfMemory {
-        return refuse(rt, RunError::OutOfMemory);
+        return refuse(rt, VerifyError::OutOfMemory);
     }
     let _ = error.print(rt);
     ExitCode::from(error.exit_code() as u8)
 }
 
 /// Tells a refusal on standard error.
-fn refuse(rt: &HostRuntime, error: RunError) -> ExitCode {
+fn refuse(rt: &HostRuntime, error: VerifyError) -> ExitCode {
     ExitCode::from(refused(error, &mut Counted::new(rt.stderr())))
 }
 
@@ -83,9 +89,31 @@ fn run_on_plan(rt: &HostRuntime, files: &Files<'_>) -> ExitCode {
             return ExitCode::from(error.status().code());
         }
     };
-    match instance_text(rt.alloc(), &loaded.problem.instance) {
+    if is_restricting(&loaded.charges, &loaded.forbidden) {
+        return run_on_restricted(rt, files, &loaded);
+    }
+    match text_of_instance(rt.alloc(), &loaded.problem.instance) {
         Ok(text) => run_on(rt, files, text.as_slice()),
-        Err(_) => refuse(rt, RunError::OutOfMemory),
+        Err(_) => refuse(rt, VerifyError::OutOfMemory),
+    }
+}
+
+/// Verifies what is claimed of the larger instance of a plan with costs of places or forbidden places.
+fn run_on_restricted(rt: &HostRuntime, files: &Files<'_>, loaded: &Loaded) -> ExitCode
+    requires charges { AreCharges loaded.now.problem.instance.size loaded.now.charges }
+    requires forbidden { AreForbidden loaded.now.problem.instance.size loaded.now.forbidden }
+{
+    let instance = &loaded.problem.instance;
+    match larger_text(rt.alloc(), instance, &loaded.charges, &loaded.forbidden) {
+        Ok(Some(text)) => run_on(rt, files, text.as_slice()),
+        Ok(None) => {
+            let _ = rt.eprintln(format_args!(
+                "error: {}: the numbers are too large for [forbidden] and [allowed]: keep fewer decimals in the tables, as by `round = 2`",
+                files.instance
+            ));
+            ExitCode::from(Status::Refused.code())
+        }
+        Err(_) => refuse(rt, VerifyError::OutOfMemory),
     }
 }
 
@@ -106,7 +134,7 @@ fn covered<R: Read + Drop>(
     rt: &HostRuntime,
     files: &Files<'_>,
     instance: R,
-) -> Result<ExitCode, RunError> {
+) -> Result<ExitCode, VerifyError> {
     let proof = open(rt, files.proof)?;
     let mut cover = cover_stream(
         rt.alloc(),
@@ -127,7 +155,7 @@ fn covered<R: Read + Drop>(
 }
 
 /// Adds the proof of a part, which is in the file of this name.
-fn add_part(rt: &HostRuntime, cover: &mut Cover, name: &str) -> Result<(), RunError> {
+fn add_part(rt: &HostRuntime, cover: &mut Cover, name: &str) -> Result<(), VerifyError> {
     let file = open(rt, name)?;
     part_stream(rt.alloc(), cover, &mut Counted::new(file))
 }
@@ -161,6 +189,6 @@ fn run_over<R: Read + Drop, S: Read + Drop>(
 }
 
 /// A named file, opened for reading.
-fn open(rt: &HostRuntime, name: &str) -> Result<File, RunError> {
-    fs::open(rt, name).map_err(|_| RunError::Device)
+fn open(rt: &HostRuntime, name: &str) -> Result<File, VerifyError> {
+    fs::open(rt, name).map_err(|_| VerifyError::Device)
 }

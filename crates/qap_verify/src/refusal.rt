@@ -4,7 +4,7 @@ ghost use Rattle.std.specs.Prelude.{◌≡◌, MatchResult};
 ghost use Rattle.qap_io.specs.Refusal.{refusal_line};
 ghost use Rattle.qap_io.specs.Writing.{Sends, BreaksOff};
 ghost use Rattle.qap_verify.specs.Refusal.{refusal_of, status_of};
-ghost use Rattle.qap_verify.specs.declared.refusal.RunError.TheVariants.{OutOfMemory as WantOfMemory, Device as FailedDevice};
+ghost use Rattle.qap_verify.specs.declared.refusal.VerifyError.TheVariants.{OutOfMemory as WantOfMemory, Device as FailedDevice};
 
 use qap_io::{Counted, Device, Refusal, Status};
 use qap_proof::ProofError;
@@ -15,7 +15,7 @@ use thiserror::Error;
 
 /// Why a run answers no verdict.
 #[derive(Clone, Copy, Debug, PartialEq, Eq, Error)]
-pub enum RunError {
+pub enum VerifyError {
     /// An input is too long, or a text in it is at fault.
     #[error("{0}")]
     Text(TextError),
@@ -30,56 +30,56 @@ pub enum RunError {
     Device,
 }
 
-impl From<TextError> for RunError {
+impl From<TextError> for VerifyError {
     ghost use Rattle.qap_verify.specs.Refusal.{of_text};
 
     ghost from_gives = { λ e f. f ≡ of_text e };
 
-    fn from(error: TextError) -> RunError {
+    fn from(error: TextError) -> VerifyError {
         match error {
-            TextError::OutOfMemory => RunError::OutOfMemory,
-            TextError::Device => RunError::Device,
-            _ => RunError::Text(error),
+            TextError::OutOfMemory => VerifyError::OutOfMemory,
+            TextError::Device => VerifyError::Device,
+            _ => VerifyError::Text(error),
         }
     }
 }
 
-impl From<ProofError> for RunError {
+impl From<ProofError> for VerifyError {
     ghost use Rattle.qap_verify.specs.Refusal.{of_proof};
 
     ghost from_gives = { λ e f. f ≡ of_proof e };
 
-    fn from(error: ProofError) -> RunError {
+    fn from(error: ProofError) -> VerifyError {
         match error {
-            ProofError::OutOfMemory => RunError::OutOfMemory,
-            ProofError::Device => RunError::Device,
-            _ => RunError::Proof(error),
+            ProofError::OutOfMemory => VerifyError::OutOfMemory,
+            ProofError::Device => VerifyError::Device,
+            _ => VerifyError::Proof(error),
         }
     }
 }
 
-impl From<AllocError> for RunError {
+impl From<AllocError> for VerifyError {
     ghost from_gives = { λ _ f. f ≡ WantOfMemory };
 
-    fn from(_error: AllocError) -> RunError {
-        RunError::OutOfMemory
+    fn from(_error: AllocError) -> VerifyError {
+        VerifyError::OutOfMemory
     }
 }
 
-impl From<Device> for RunError {
+impl From<Device> for VerifyError {
     ghost from_gives = { λ _ f. f ≡ FailedDevice };
 
-    fn from(_error: Device) -> RunError {
-        RunError::Device
+    fn from(_error: Device) -> VerifyError {
+        VerifyError::Device
     }
 }
 
 /// The exit status of a refusal: 3 if memory ran out, else 1.
-pub fn status(error: &RunError) -> u8
+pub fn status(error: &VerifyError) -> u8
     ensures { result ≡ status_of error.now }
 {
     let status = match error {
-        RunError::OutOfMemory => Status::OutOfMemory,
+        VerifyError::OutOfMemory => Status::OutOfMemory,
         _ => Status::Refused,
     };
     status.code()
@@ -87,7 +87,7 @@ pub fn status(error: &RunError) -> u8
 
 /// Writes the line that reports a refusal: `refused`, its number and name, and `at` with its place or its line if it
 /// carries one; and flushes the writer. If that fails, a prefix of the line has been written.
-pub fn fault_line<W: Write>(error: &RunError, writer: &mut Counted<W>) -> Result<(), Device>
+pub fn fault_line<W: Write>(error: &VerifyError, writer: &mut Counted<W>) -> Result<(), Device>
     ensures { MatchResult result
         (λ _. Sends W.contents writer.old writer.new (refusal_line (refusal_of error.now)))
         (λ _. BreaksOff W.contents writer.old writer.new (refusal_line (refusal_of error.now))) }
@@ -96,13 +96,13 @@ pub fn fault_line<W: Write>(error: &RunError, writer: &mut Counted<W>) -> Result
 }
 
 /// The refusal that reports a run's error.
-fn refusal(error: RunError) -> Refusal
+fn refusal(error: VerifyError) -> Refusal
     ensures { result ≡ refusal_of error }
 {
     match error {
-        RunError::Text(fault) => fault.refusal(),
-        RunError::Proof(fault) => fault.refusal(),
-        RunError::OutOfMemory => Refusal::out_of_memory(),
-        RunError::Device => Refusal::device(),
+        VerifyError::Text(fault) => fault.refusal(),
+        VerifyError::Proof(fault) => fault.refusal(),
+        VerifyError::OutOfMemory => Refusal::out_of_memory(),
+        VerifyError::Device => Refusal::device(),
     }
 }

@@ -11,7 +11,7 @@ ghost use Rattle.qap_verify.specs.Parts.{HasAdded, HasNotAdded, HasNotShown, Has
 ghost use Rattle.qap_verify.specs.Refusal.{HasNoTexts, IsNoProof, IsNoWhole, IsOfProof};
 ghost use Rattle.qap_verify.specs.Texts.{ComeTo, HasTexts, Yields, inputs_of};
 
-use crate::refusal::RunError;
+use crate::refusal::VerifyError;
 use proof_versions::{VERSION_LENGTH, accept, accept_stream, add_part, states_version_two};
 use qap_cost::Instance;
 use qap_io::{Counted, send};
@@ -39,7 +39,7 @@ pub fn verify_stream<R: Read, S: Read, W: Write>(
     instance: &mut Counted<R>,
     proof: &mut Counted<S>,
     writer: &mut Counted<W>,
-) -> Result<Verdict, RunError>
+) -> Result<Verdict, VerifyError>
     ensures { let i = inputs_of R.remaining instance.old instance.new S.remaining proof.old proof.new in MatchResult result
         (HasAnswered i W.contents writer.old writer.new)
         (HasNotAnswered i W.contents writer.old writer.new) }
@@ -56,7 +56,7 @@ pub fn cover_stream<R: Read, S: Read>(
     alloc: Global,
     instance: &mut Counted<R>,
     proof: &mut Counted<S>,
-) -> Result<Cover, RunError>
+) -> Result<Cover, VerifyError>
     ensures { let i = inputs_of R.remaining instance.old instance.new S.remaining proof.old proof.new in MatchResult result
         (ComeTo i IsOpened)
         (λ e. HasNoTexts i e ⊎ ComeTo i IsNoWhole e) }
@@ -71,7 +71,7 @@ pub fn part_stream<S: Read>(
     alloc: Global,
     cover: &mut Cover,
     proof: &mut Counted<S>,
-) -> Result<(), RunError>
+) -> Result<(), VerifyError>
     ensures { let i = input_of S.remaining proof.old proof.new in MatchResult result
         (λ done. HasAdded i cover.old cover.new)
         (λ e. HasNotAdded i cover.old.instance e × (cover.new ≡ cover.old)) }
@@ -86,7 +86,7 @@ pub fn verdict_stream<W: Write>(
     alloc: Global,
     cover: &Cover,
     writer: &mut Counted<W>,
-) -> Result<Verdict, RunError>
+) -> Result<Verdict, VerifyError>
     ensures { MatchResult result
         (HasShown cover.now W.contents writer.old writer.new)
         (HasNotShown cover.now W.contents writer.old writer.new) }
@@ -102,7 +102,7 @@ fn shown<R: Read, S: Read>(
     alloc: Global,
     instance: &mut Counted<R>,
     proof: &mut Counted<S>,
-) -> Result<Verdict, RunError>
+) -> Result<Verdict, VerifyError>
     ensures bounded { IfOk result IsLimitedVerdict }
     ensures verdict { let i = inputs_of R.remaining instance.old instance.new S.remaining proof.old proof.new in MatchResult result
         (Yields i Proves)
@@ -124,14 +124,14 @@ fn streamed<S: Read>(
     instance: &Instance,
     front: &[u8],
     proof: &mut Counted<S>,
-) -> Result<Verdict, RunError>
+) -> Result<Verdict, VerifyError>
     ensures shown { MatchResult result
         (StreamShows instance.now (prepend_known front.now (S.remaining proof.old.inner)))
         IsOfProof }
     ensures bounded { IfOk result IsLimitedVerdict }
 {
     let Ok(rest) = BufReader::new(alloc, proof) else {
-        return Err(RunError::OutOfMemory);
+        return Err(VerifyError::OutOfMemory);
     };
     let mut text = front.chain(rest);
     Ok(accept_stream(alloc, instance, &mut text)?)
@@ -142,7 +142,7 @@ fn read_texts<R: Read, S: Read>(
     alloc: Global,
     instance: &mut Counted<R>,
     proof: &mut Counted<S>,
-) -> Result<Texts, RunError>
+) -> Result<Texts, VerifyError>
     ensures { let i = inputs_of R.remaining instance.old instance.new S.remaining proof.old proof.new in MatchResult result
         (λ t. HasTexts i t.instance t.proof.items)
         (HasNoTexts i) }

@@ -6,7 +6,7 @@ ghost use Rattle.qap_plan.specs.Answering.{HasAnswered, HasNotAnswered};
 ghost use Rattle.qap_plan.specs.Options.{AreLimited};
 ghost use Rattle.qap_plan.specs.Starting.{starting_of};
 
-use crate::error::PlanError;
+use crate::error::PlannerError;
 use crate::input::reading::read_problem;
 use crate::input::starting::read_start;
 use crate::output::answer::answer_text;
@@ -32,7 +32,7 @@ pub fn plan_stream<T, R, Q, W, K>(
     writer: &mut Counted<W>,
     options: &Options,
     keeper: &K,
-) -> Result<Planned, PlanError>
+) -> Result<Planned, PlannerError>
 where
     T: Threads + Wait + time::Clock + Sync,
     R: Read,

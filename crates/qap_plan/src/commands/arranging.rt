@@ -6,7 +6,7 @@ ghost use Rattle.qap_plan.specs.Arranging.{HasArranged, HasNotArranged};
 ghost use Rattle.qap_plan.specs.Options.{AreLimited};
 ghost use Rattle.qap_plan.specs.Starting.{starting_of};
 
-use crate::error::PlanError;
+use crate::error::PlannerError;
 use crate::input::starting::read_start;
 use crate::search::keeper::Keeper;
 use crate::search::options::Options;
@@ -33,7 +33,7 @@ pub fn plan_named<T, Q, W, K>(
     writer: &mut Counted<W>,
     options: &Options,
     keeper: &K,
-) -> Result<Planned, PlanError>
+) -> Result<Planned, PlannerError>
 where
     T: Threads + Wait + time::Clock + Sync,
     Q: Read,

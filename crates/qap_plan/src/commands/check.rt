@@ -3,9 +3,11 @@
 use crate::commands::checking::checked_numbers;
 use crate::commands::command_line::ignore_rest;
 use crate::commands::show::with_answer;
+use crate::files::refusal::refuse_restricted;
 use crate::input::instance_file::{instance_in, loaded_plan};
 use crate::input::judged_files::{bytes_of, print, refuse_answer, refuse_proof};
 use clap::{Arg, ArgMatches, Command};
+use plan_charge::is_restricting;
 use plan_check::{ProofFault, answer_to_instance, answer_to_plan, checked_line};
 use plan_input::is_plan;
 use std::alloc::{AllocError, Global};
@@ -68,10 +70,14 @@ fn proof_of(rt: &HostRuntime, request: &CheckRequest<'_>) -> Result<Option<Vec<u
 
 /// Checks an answer to a plan.
 fn check_plan(rt: &HostRuntime, request: &CheckRequest<'_>, proof: Option<&[u8]>) -> ExitCode {
-    let problem = match loaded_plan(rt, request.file) {
-        Ok(loaded) => loaded.problem,
+    let loaded = match loaded_plan(rt, request.file) {
+        Ok(loaded) => loaded,
         Err(code) => return code,
     };
+    if is_restricting(&loaded.charges, &loaded.forbidden) {
+        return refuse_restricted(rt, request.file, "check");
+    }
+    let problem = loaded.problem;
     let text = match bytes_of(rt, request.answer) {
         Ok(text) => text,
         Err(code) => return code,

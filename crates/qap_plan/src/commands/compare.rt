@@ -10,19 +10,20 @@ use crate::commands::arranging::plan_named;
 use crate::commands::command_line::{options_of, with_improvement, with_limits};
 use crate::commands::ending::end_of;
 use crate::commands::solve::{csv_text, tell_notes};
-use crate::error::PlanError;
+use crate::error::PlannerError;
 use crate::files::outputs::{Inputs, Outputs, print_text, worse};
-use crate::files::refusal::refuse;
+use crate::files::refusal::{refuse, refuse_restricted};
 use crate::input::instance_file::{inputs_of, loaded_plan};
 use crate::input::judged_files::bytes_of;
 use crate::input::layout_file::{layout_in, solution_of};
 use crate::output::progress::{Teller, telling_of};
-use crate::search::elapsed::Elapsed;
 use crate::search::options::Options;
 use crate::search::planning::Planned;
+use crate::search::run_clock::RunClock;
 use clap::{Arg, ArgMatches, Command};
 use output_file::file_id;
 use plan_answer::compared_text;
+use plan_charge::is_restricting;
 use plan_file::NamedProblem;
 use plan_input::is_plan;
 use plan_table::decode;
@@ -98,6 +99,9 @@ where
         Ok(loaded) => loaded,
         Err(code) => return code,
     };
+    if is_restricting(&loaded.charges, &loaded.forbidden) {
+        return refuse_restricted(rt, request.file, "compare");
+    }
     tell_notes(rt, &loaded);
     let today = match today_of(rt, &loaded.problem, request.today) {
         Ok(today) => today,
@@ -123,7 +127,7 @@ fn today_of(rt: &HostRuntime, problem: &NamedProblem, file: &str) -> Result<Perm
 {
     let bytes = bytes_of(rt, file)?;
     let Ok(decoded) = decode(rt.alloc(), bytes) else {
-        return Err(refuse(rt, file, PlanError::OutOfMemory));
+        return Err(refuse(rt, file, PlannerError::OutOfMemory));
     };
     let today = layout_in(rt, problem, file, &decoded.text)?;
     Ok(today)
@@ -171,7 +175,7 @@ fn best_from<T>(
     request: &CompareRequest<'_>,
     problem: &NamedProblem,
     today: &Perm,
-) -> Result<Planned, PlanError>
+) -> Result<Planned, PlannerError>
 where
     T: Threads + Wait + Clock + Sync,
     requires limited { AreLimited request.now.options }
@@ -181,7 +185,7 @@ where
 {
     let alloc = rt.alloc();
     let start = solution_of(alloc, problem, today)?;
-    let elapsed = Elapsed::new(system, request.options.milliseconds);
+    let elapsed = RunClock::new(system, request.options.milliseconds);
     let teller = Teller::new(
         rt,
         &elapsed,
@@ -210,7 +214,7 @@ fn told(
     problem: &NamedProblem,
     today: &Perm,
     found: &Planned,
-) -> Result<Vec<u8>, PlanError>
+) -> Result<Vec<u8>, PlannerError>
     requires sizes { HasSizes problem.now }
     requires today { length today.now ≡ problem.now.instance.size }
     requires kept { Completes problem.now.fixed found.now.permutation }

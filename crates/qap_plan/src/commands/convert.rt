@@ -1,12 +1,20 @@
 //! The subcommand `convert`: its command line and its run.
 
-use crate::commands::converting::{Converted, convert, summary};
-use crate::error::PlanError;
+ghost use Rattle.plan_charge.specs.Charges.{AreCharges};
+ghost use Rattle.plan_charge.specs.Forbidden.{AreForbidden};
+ghost use Rattle.plan_file.specs.Tables.{HasSizes};
+
+use crate::commands::converting::{Converted, convert, convert_larger, summary};
+use crate::error::PlannerError;
 use crate::files::outputs::{Outputs, print_text};
 use crate::files::refusal::{refuse, refuse_with};
 use crate::input::instance_file::{inputs_of, loaded_plan};
+use crate::input::restriction::{Restriction, widened};
 use clap::{Arg, ArgMatches, Command};
+use plan_charge::is_restricting;
+use plan_file::NamedProblem;
 use plan_input::{Loaded, is_plan};
+use qap_cost::Instance;
 use qap_io::Status;
 use std::alloc::{AllocError, Global};
 use std::fs;
@@ -58,20 +66,43 @@ pub fn run_convert(rt: &HostRuntime, request: &ConvertRequest<'_>) -> ExitCode {
         Err(code) => return code,
     };
     let Ok(beside) = format!(in rt.alloc(); "{}.json", request.out) else {
-        return refuse(rt, request.out, PlanError::OutOfMemory);
+        return refuse(rt, request.out, PlannerError::OutOfMemory);
     };
     let beside = if is_device(rt, request.out) {
         None
     } else {
         Some(beside.as_str())
     };
+    let larger = match larger_of(rt.alloc(), &loaded) {
+        Ok(larger) => larger,
+        Err(error) => return refuse(rt, request.plan, error),
+    };
     let inputs = inputs_of(rt, request.plan, &loaded);
     let mut outputs = match Outputs::open(rt, &[beside, Some(request.out)], &inputs) {
         Ok(outputs) => outputs,
         Err(code) => return code,
     };
-    let status = write_both(rt, &mut outputs, beside, request.out, &loaded);
+    let files = (beside, request.out);
+    let status = write_both(rt, &mut outputs, files, &loaded.problem, &larger);
     ExitCode::from(status.code())
+}
+
+/// The larger instance of a plan with costs of places or forbidden places; `None` for any other plan.
+fn larger_of(alloc: Global, loaded: &Loaded) -> Result<Option<Instance>, PlannerError>
+    requires sizes { HasSizes loaded.now.problem }
+    requires charges { AreCharges loaded.now.problem.instance.size loaded.now.charges }
+    requires forbidden { AreForbidden loaded.now.problem.instance.size loaded.now.forbidden }
+{
+    if !is_restricting(&loaded.charges, &loaded.forbidden) {
+        return Ok(None);
+    }
+    let restriction = Restriction {
+        fixed: &loaded.problem.fixed,
+        charges: &loaded.charges,
+        forbidden: &loaded.forbidden,
+    };
+    let larger = widened(alloc, &loaded.problem.instance, &restriction)?;
+    Ok(Some(larger.instance))
 }
 
 /// Writes the names, so that no instance is without them, and then the instance; to a device, the instance alone. Then
@@ -79,17 +110,13 @@ pub fn run_convert(rt: &HostRuntime, request: &ConvertRequest<'_>) -> ExitCode {
 fn write_both(
     rt: &HostRuntime,
     outputs: &mut Outputs<'_>,
-    beside: Option<&str>,
-    out: &str,
-    loaded: &Loaded,
+    files: (Option<&str>, &str),
+    problem: &NamedProblem,
+    larger: &Option<Instance>,
 ) -> Status {
-    let alloc = rt.alloc();
-    let (line, converted) = match (
-        summary(alloc, &loaded.problem),
-        convert(alloc, &loaded.problem),
-    ) {
-        (Ok(line), Ok(converted)) => (line, converted),
-        _ => return refuse_with(rt, out, PlanError::OutOfMemory),
+    let (beside, out) = files;
+    let Ok((line, converted)) = texts_of(rt.alloc(), problem, larger) else {
+        return refuse_with(rt, out, PlannerError::OutOfMemory);
     };
     let Converted { text, names } = converted;
     let written = outputs.put(rt, beside, Ok(names.into_bytes()));
@@ -101,6 +128,24 @@ fn write_both(
         return written;
     }
     print_text(rt, line.as_bytes())
+}
+
+/// The line with the size, and the text of the instance with its names.
+fn texts_of(
+    alloc: Global,
+    problem: &NamedProblem,
+    larger: &Option<Instance>,
+) -> Result<(String, Converted), AllocError> {
+    match larger {
+        Some(larger) => {
+            let line = summary(alloc, problem, larger.size())?;
+            Ok((line, convert_larger(alloc, problem, larger)?))
+        }
+        None => {
+            let line = summary(alloc, problem, problem.instance.size())?;
+            Ok((line, convert(alloc, problem)?))
+        }
+    }
 }
 
 /// Whether something of this name is there that is not a regular file.

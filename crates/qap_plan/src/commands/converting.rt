@@ -5,7 +5,8 @@ ghost use Rattle.qap_text.specs.InstanceText.{IsInstanceText};
 
 use crate::output::json::names_text;
 use plan_file::NamedProblem;
-use qap_write::instance_text;
+use qap_cost::Instance;
+use qap_text::text_of_instance;
 use std::alloc::{AllocError, Global};
 
 /// The tables of a plan, their numbers apart from their names.
@@ -21,14 +22,27 @@ pub struct Converted {
 pub fn convert(alloc: Global, problem: &NamedProblem) -> Result<Converted, AllocError>
     ensures { IfOk result (λ converted. IsInstanceText converted.text.items problem.now.instance (10 ∷ [])) }
 {
-    let text = instance_text(alloc, &problem.instance)?;
+    let text = text_of_instance(alloc, &problem.instance)?;
+    let names = names_text(alloc, problem)?;
+    Ok(Converted { text, names })
+}
+
+/// The same of the larger instance that has the costs of places and forbidden places: the text, and the names of its
+/// first facilities and locations.
+pub fn convert_larger(
+    alloc: Global,
+    problem: &NamedProblem,
+    larger: &Instance,
+) -> Result<Converted, AllocError>
+    ensures { IfOk result (λ converted. IsInstanceText converted.text.items larger.now (10 ∷ [])) }
+{
+    let text = text_of_instance(alloc, larger)?;
     let names = names_text(alloc, problem)?;
     Ok(Converted { text, names })
 }
 
 /// The line that states the size, and what the tables were multiplied with.
-pub fn summary(alloc: Global, problem: &NamedProblem) -> Result<String, AllocError> {
-    let size = problem.instance.size();
+pub fn summary(alloc: Global, problem: &NamedProblem, size: usize) -> Result<String, AllocError> {
     let flows = power_of_ten(alloc, problem.flow_scale)?;
     let distances = power_of_ten(alloc, problem.distance_scale)?;
     format!(in alloc; "size {size}, flows times {flows}, distances times {distances}\n")

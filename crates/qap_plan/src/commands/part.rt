@@ -6,18 +6,18 @@ ghost use Rattle.qap_proof.specs.Claim.{IsRoot};
 ghost use Rattle.qap_plan.specs.Options.{AreLimited};
 
 use crate::commands::command_line::{ignore_rest, time_limit, with_limits};
-use crate::error::PlanError;
+use crate::error::PlannerError;
 use crate::files::outputs::{Inputs, Outputs, print_text, worse};
 use crate::files::refusal::{refuse, refuse_with};
 use crate::input::instance_file::{Searched, searched_in};
 use crate::input::starting::read_permutation;
 use crate::output::progress::{Teller, telling_of};
 use crate::output::proof_file::proof_text;
-use crate::search::elapsed::Elapsed;
 use crate::search::memory_limit::WithinMemory;
 use crate::search::options::{MAX_WORKERS, Options};
 use crate::search::planning::Planned;
 use crate::search::proving::prove_below;
+use crate::search::run_clock::RunClock;
 use crate::search::standing::standing_proof;
 use clap::{Arg, ArgMatches, Command};
 use qap_cost::{Instance, Partial, Perm, cost};
@@ -123,6 +123,7 @@ where
         instance,
         root: _,
         inputs,
+        start: _,
     } = match searched_in(rt, request.file, request.options.passes) {
         Ok(searched) => searched,
         Err(code) => return code,
@@ -138,17 +139,17 @@ fn node_and_start<'a>(
     rt: &HostRuntime,
     request: &PartRequest<'a>,
     instance: &Instance,
-) -> Result<(Partial, Perm), (&'a str, PlanError)>
+) -> Result<(Partial, Perm), (&'a str, PlannerError)>
     ensures root { IfOk result (λ found. IsRoot instance.now.size found.0) }
     ensures permutes { IfOk result (λ found. Permutes instance.now found.1) }
 {
     let node = match read_node_text(rt.alloc(), request.node.as_bytes(), instance.size()) {
         Ok(Some(node)) => node,
-        Ok(None) => return Err(("--node", PlanError::Node)),
-        Err(_) => return Err(("--node", PlanError::OutOfMemory)),
+        Ok(None) => return Err(("--node", PlannerError::Node)),
+        Err(_) => return Err(("--node", PlannerError::OutOfMemory)),
     };
     let Ok(file) = fs::open(rt, request.start) else {
-        return Err((request.start, PlanError::Device));
+        return Err((request.start, PlannerError::Device));
     };
     match read_permutation(rt.alloc(), &mut Counted::new(file), instance) {
         Ok(start) => Ok((node, start)),
@@ -182,14 +183,14 @@ where
                 return ExitCode::from(status.code());
             }
             Ok(None) => {}
-            Err(_) => return refuse(rt, request.proof, PlanError::OutOfMemory),
+            Err(_) => return refuse(rt, request.proof, PlannerError::OutOfMemory),
         }
     }
     let outputs = match Outputs::open(rt, &[Some(request.proof)], inputs) {
         Ok(outputs) => outputs,
         Err(code) => return code,
     };
-    let elapsed = Elapsed::new(system, request.options.milliseconds);
+    let elapsed = RunClock::new(system, request.options.milliseconds);
     let teller = Teller::new(
         rt,
         &elapsed,
@@ -202,7 +203,7 @@ where
     teller.finish();
     match found {
         Ok(part) => finish(rt, request, outputs, &part),
-        Err(_) => refuse(rt, request.file, PlanError::OutOfMemory),
+        Err(_) => refuse(rt, request.file, PlannerError::OutOfMemory),
     }
 }
 
@@ -243,7 +244,7 @@ fn end(rt: &HostRuntime, cost: i128, bound: i128, when: &str) -> Status {
     };
     match line_of(rt.alloc(), cost, bound, when) {
         Ok(line) => worse(status, print_text(rt, line.as_bytes())),
-        Err(_) => refuse_with(rt, "standard output", PlanError::OutOfMemory),
+        Err(_) => refuse_with(rt, "standard output", PlannerError::OutOfMemory),
     }
 }
 

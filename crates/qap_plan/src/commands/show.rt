@@ -6,9 +6,9 @@ ghost use Rattle.qap_cost.specs.Placement.{Completes};
 ghost use Rattle.qap_plan.specs.Picturing.{ShowsStated};
 
 use crate::commands::command_line::ignore_rest;
-use crate::error::PlanError;
+use crate::error::PlannerError;
 use crate::files::outputs::{Inputs, Outputs, print_text, worse};
-use crate::files::refusal::{refuse, refuse_picture};
+use crate::files::refusal::{refuse, refuse_picture, refuse_restricted};
 use crate::input::instance_file::{inputs_of, instance_in, loaded_plan};
 use crate::input::judged_files::{bytes_of, refuse_answer};
 use crate::output::answer::stated_text as numbers_text;
@@ -16,6 +16,7 @@ use crate::output::picturing::{Drawn, captioned_picture, drawn_of};
 use clap::{Arg, ArgMatches, Command};
 use output_file::file_id;
 use plan_answer::{stated_line, stated_text};
+use plan_charge::is_restricting;
 use plan_check::{Answer, answer_to_instance, answer_to_plan};
 use plan_file::NamedProblem;
 use plan_input::is_plan;
@@ -101,6 +102,9 @@ fn show_plan(rt: &HostRuntime, request: &ShowRequest<'_>) -> ExitCode {
         Ok(loaded) => loaded,
         Err(code) => return code,
     };
+    if is_restricting(&loaded.charges, &loaded.forbidden) {
+        return refuse_restricted(rt, request.file, "show");
+    }
     let text = match bytes_of(rt, request.answer) {
         Ok(text) => text,
         Err(code) => return code,
@@ -141,7 +145,7 @@ fn tell_plan(
         answer.cost,
         answer.bound,
     ) else {
-        return refuse(rt, request.answer, PlanError::OutOfMemory);
+        return refuse(rt, request.answer, PlannerError::OutOfMemory);
     };
     let mut outputs = match Outputs::open(rt, &[request.out, request.svg], inputs) {
         Ok(outputs) => outputs,
@@ -162,7 +166,7 @@ fn stated_picture(
     problem: &NamedProblem,
     answer: &Answer,
     drawn: &Drawn<'_>,
-) -> Result<Vec<u8>, PlanError>
+) -> Result<Vec<u8>, PlannerError>
     requires sizes { HasSizes problem.now }
     requires kept { Completes problem.now.fixed answer.now.permutation }
     ensures { IfOk result (λ text. ShowsStated problem.now answer.now.permutation answer.now.cost answer.now.bound drawn.now.title.now text.items) }
@@ -192,7 +196,7 @@ fn show_instance(rt: &HostRuntime, request: &ShowRequest<'_>) -> ExitCode {
     };
     match numbers_text(alloc, &answer.permutation, answer.cost, answer.bound) {
         Ok(text) => tell(rt, request, text),
-        Err(_) => refuse(rt, request.answer, PlanError::OutOfMemory),
+        Err(_) => refuse(rt, request.answer, PlannerError::OutOfMemory),
     }
 }
 

@@ -9,7 +9,8 @@ ghost use Rattle.qap_plan.specs.Options.{AreLimited};
 use crate::commands::arranging::plan_named;
 use crate::commands::command_line::Request;
 use crate::commands::ending::{bytes_of_json, end_of, faulty_file};
-use crate::error::PlanError;
+use crate::commands::solve_restricted::solve_restricted;
+use crate::error::PlannerError;
 use crate::files::outputs::{Outputs, print_text, worse};
 use crate::files::refusal::{refuse, refuse_with};
 use crate::input::instance_file::{inputs_of, loaded_plan};
@@ -18,9 +19,10 @@ use crate::output::json::named_json_text;
 use crate::output::picturing::{drawn_of, proved_picture, report_text};
 use crate::output::progress::{Teller, telling_of};
 use crate::output::proof_file::proof_text;
-use crate::search::elapsed::Elapsed;
 use crate::search::planning::Planned;
+use crate::search::run_clock::RunClock;
 use plan_answer::{answer_text, layout_text};
+use plan_charge::is_restricting;
 use plan_file::NamedProblem;
 use plan_input::{Loaded, notes_of};
 use qap_cost::Perm;
@@ -37,13 +39,16 @@ where
     T: Threads + Wait + Clock + Sync,
     requires { AreLimited request.now.options }
 {
-    let elapsed = Elapsed::new(system, request.options.milliseconds);
+    let elapsed = RunClock::new(system, request.options.milliseconds);
     let loaded = match loaded_plan(rt, request.file) {
         Ok(loaded) => loaded,
         Err(code) => return code,
     };
     if !request.quiet {
         tell_notes(rt, &loaded);
+    }
+    if is_restricting(&loaded.charges, &loaded.forbidden) {
+        return solve_restricted(system, rt, request, &loaded, &elapsed);
     }
     let start = match start_text(rt, &loaded.problem, request.start) {
         Ok(start) => start,
@@ -163,7 +168,11 @@ fn print_answer(rt: &HostRuntime, file: &str, problem: &NamedProblem, answer: &P
 }
 
 /// The answer's text.
-fn out_text(alloc: Global, problem: &NamedProblem, answer: &Planned) -> Result<Vec<u8>, PlanError>
+fn out_text(
+    alloc: Global,
+    problem: &NamedProblem,
+    answer: &Planned,
+) -> Result<Vec<u8>, PlannerError>
     requires sizes { HasSizes problem.now }
     requires kept { Completes problem.now.fixed answer.now.permutation }
 {
@@ -181,7 +190,7 @@ pub(crate) fn csv_text(
     alloc: Global,
     problem: &NamedProblem,
     permutation: &Perm,
-) -> Result<Vec<u8>, PlanError>
+) -> Result<Vec<u8>, PlannerError>
     requires sizes { HasSizes problem.now }
     requires kept { Completes problem.now.fixed permutation.now }
     ensures { IfOk result (λ text. text.items ≡ layout_of problem.now permutation.now) }

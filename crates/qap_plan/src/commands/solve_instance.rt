@@ -5,16 +5,16 @@ ghost use Rattle.qap_plan.specs.Options.{AreLimited};
 use crate::commands::answering::plan_stream;
 use crate::commands::command_line::Request;
 use crate::commands::ending::{bytes_of_json, end_of, faulty_file};
-use crate::error::PlanError;
+use crate::error::PlannerError;
 use crate::files::outputs::{Outputs, one_input, print_text, worse};
 use crate::files::refusal::{refuse, refuse_picture};
 use crate::output::answer::answer_text;
 use crate::output::json::json_text;
 use crate::output::progress::{Teller, telling_of};
 use crate::output::proof_file::proof_text;
-use crate::search::elapsed::Elapsed;
 use crate::search::keeper::Keeper;
 use crate::search::planning::Planned;
+use crate::search::run_clock::RunClock;
 use qap_io::{Counted, Status};
 use std::alloc::Global;
 use std::fs;
@@ -41,18 +41,18 @@ where
         return refuse_table(rt, request.file);
     }
     let Ok(file) = fs::open(rt, request.file) else {
-        return refuse(rt, request.file, PlanError::Device);
+        return refuse(rt, request.file, PlannerError::Device);
     };
     let start = match start_of(rt, request) {
         Ok(start) => start,
-        Err(name) => return refuse(rt, name, PlanError::Device),
+        Err(name) => return refuse(rt, name, PlannerError::Device),
     };
     let names = [request.out, request.json, request.proof];
     let outputs = match Outputs::open(rt, &names, &one_input(rt, request.file)) {
         Ok(outputs) => outputs,
         Err(code) => return code,
     };
-    let elapsed = Elapsed::new(system, request.options.milliseconds);
+    let elapsed = RunClock::new(system, request.options.milliseconds);
     let teller = Teller::new(
         rt,
         &elapsed,
@@ -105,7 +105,7 @@ fn answer_to<T, K, R>(
     keeper: &K,
     file: R,
     mut start: Option<Counted<R>>,
-) -> Result<(Planned, Vec<u8>), PlanError>
+) -> Result<(Planned, Vec<u8>), PlannerError>
 where
     T: Threads + Wait + Clock + Sync,
     K: Keeper,
@@ -154,6 +154,6 @@ fn finish(
 }
 
 /// The answer's text.
-fn out_text(alloc: Global, answer: &Planned) -> Result<Vec<u8>, PlanError> {
+fn out_text(alloc: Global, answer: &Planned) -> Result<Vec<u8>, PlannerError> {
     Ok(answer_text(alloc, &answer.permutation, answer.cost, answer.bound)?)
 }

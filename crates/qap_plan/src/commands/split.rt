@@ -5,15 +5,15 @@ ghost use Rattle.qap_cost.specs.Objective.{Permutes};
 ghost use Rattle.qap_plan.specs.Options.{AreLimited};
 
 use crate::commands::command_line::{ignore_rest, time_limit, with_improvement, with_start};
-use crate::error::PlanError;
+use crate::error::PlannerError;
 use crate::files::outputs::{Outputs, print_text, worse};
 use crate::files::refusal::{refuse, refuse_with};
 use crate::input::instance_file::searched_in;
 use crate::input::starting::read_start;
 use crate::output::node_lines::lines_of_parts;
 use crate::output::proof_file::text_of_proof;
-use crate::search::elapsed::Elapsed;
 use crate::search::options::{MAX_NODES, Options};
+use crate::search::run_clock::RunClock;
 use crate::search::splitting::{Skeleton, split_up};
 use clap::{Arg, ArgMatches, Command, value_parser};
 use qap_cost::{Instance, Perm};
@@ -114,20 +114,21 @@ where
     T: Threads + Wait + Clock + Sync,
     requires { AreLimited request.now.options }
 {
-    let elapsed = Elapsed::new(system, request.options.milliseconds);
-    let searched = match searched_in(rt, request.file, request.options.passes) {
+    let elapsed = RunClock::new(system, request.options.milliseconds);
+    let mut searched = match searched_in(rt, request.file, request.options.passes) {
         Ok(searched) => searched,
         Err(code) => return code,
     };
     let start = match start_of(rt, request, &searched.instance) {
-        Ok(start) => start,
+        Ok(Some(start)) => Some(start),
+        Ok(None) => searched.start.take(),
         Err(code) => return code,
     };
     let Ok(names) = Names::new(rt.alloc(), request.folder) else {
-        return refuse(rt, request.folder, PlanError::OutOfMemory);
+        return refuse(rt, request.folder, PlannerError::OutOfMemory);
     };
     if fs::create_dir_all(rt, request.folder).is_err() {
-        return refuse(rt, request.folder, PlanError::Device);
+        return refuse(rt, request.folder, PlannerError::Device);
     }
     let outputs = match Outputs::open(rt, &names.all(), &searched.inputs) {
         Ok(outputs) => outputs,
@@ -154,7 +155,7 @@ fn start_of(
         return Ok(None);
     };
     let Ok(file) = fs::open(rt, name) else {
-        return Err(refuse(rt, name, PlanError::Device));
+        return Err(refuse(rt, name, PlannerError::Device));
     };
     match read_start(rt.alloc(), &mut Some(Counted::new(file)), instance) {
         Ok(start) => Ok(start),
@@ -208,7 +209,7 @@ fn finish(
     };
     let status = match line_of(rt.alloc(), skeleton) {
         Ok(line) => worse(status, print_text(rt, line.as_bytes())),
-        Err(_) => refuse_with(rt, request.folder, PlanError::OutOfMemory),
+        Err(_) => refuse_with(rt, request.folder, PlannerError::OutOfMemory),
     };
     ExitCode::from(status.code())
 }
@@ -241,12 +242,12 @@ fn write_files(
 }
 
 /// The list of parts.
-fn node_lines(alloc: Global, skeleton: &Skeleton) -> Result<Vec<u8>, PlanError> {
+fn node_lines(alloc: Global, skeleton: &Skeleton) -> Result<Vec<u8>, PlannerError> {
     Ok(lines_of_parts(alloc, &skeleton.parts)?)
 }
 
 /// The text of the best permutation.
-fn solution_of(alloc: Global, skeleton: &Skeleton) -> Result<Vec<u8>, PlanError> {
+fn solution_of(alloc: Global, skeleton: &Skeleton) -> Result<Vec<u8>, PlannerError> {
     let mut text = Counted::new(Vec::new(alloc));
     let proof = &skeleton.proof;
     write_solution(alloc, &mut text, proof.cost(), proof.perm())?;

@@ -4,7 +4,7 @@
 ghost use Rattle.std.specs.Prelude.{◌≡◌, ◌≤◌, ◌⊎◌};
 ghost use Rattle.qap_plan.specs.Outputs.{severity};
 
-use crate::error::PlanError;
+use crate::error::PlannerError;
 use crate::files::refusal::{refuse, refuse_with};
 use output_file::{FileId, Output, file_id, open_output, reason};
 use qap_io::Status;
@@ -43,7 +43,7 @@ impl<'a> Outputs<'a> {
         inputs: &Inputs,
     ) -> Result<Outputs<'a>, ExitCode> {
         let Ok(files) = Vec::with_capacity(rt.alloc(), names.len()) else {
-            return Err(refuse(rt, "qapplan", PlanError::OutOfMemory));
+            return Err(refuse(rt, "qapplan", PlannerError::OutOfMemory));
         };
         let mut outputs = Outputs { files };
         for &name in names {
@@ -72,7 +72,7 @@ impl<'a> Outputs<'a> {
         }
         match self.files.push(NamedOutput { name, output }) {
             Ok(()) => Ok(()),
-            Err(_) => Err(refuse(rt, name, PlanError::OutOfMemory)),
+            Err(_) => Err(refuse(rt, name, PlannerError::OutOfMemory)),
         }
     }
 
@@ -99,7 +99,7 @@ impl<'a> Outputs<'a> {
         &mut self,
         rt: &HostRuntime,
         name: Option<&str>,
-        text: Result<Vec<u8>, PlanError>,
+        text: Result<Vec<u8>, PlannerError>,
     ) -> Status {
         let Some(NamedOutput { name, output }) = self.take(name) else {
             return Status::Done;
@@ -150,14 +150,14 @@ fn write_all<W: Write>(writer: &mut W, text: &[u8]) -> io::Result<()> {
 /// Prints on standard error why a file can't be written, in the system's own words.
 fn refuse_io(rt: &HostRuntime, name: &str, error: &io::Error) -> Status {
     if error.kind() == io::ErrorKind::OutOfMemory {
-        return refuse_with(rt, name, PlanError::OutOfMemory);
+        return refuse_with(rt, name, PlannerError::OutOfMemory);
     }
     match reason(rt.alloc(), error) {
         Ok(words) => {
             let _ = rt.eprintln(format_args!("error: {name}: {words}"));
             Status::Refused
         }
-        Err(_) => refuse_with(rt, name, PlanError::OutOfMemory),
+        Err(_) => refuse_with(rt, name, PlannerError::OutOfMemory),
     }
 }
 

@@ -4,12 +4,11 @@ ghost use Rattle.std.specs.Prelude.{IfOk, length, ◌≡◌};
 ghost use Rattle.plan_check.specs.Layout.{IsLayoutOf};
 ghost use Rattle.plan_file.specs.Tables.{HasSizes};
 
-use crate::error::PlanError;
+use crate::error::PlannerError;
 use crate::files::refusal::refuse;
 use crate::input::judged_files::{bytes_of, refuse_answer};
 use plan_check::{answer_to_plan, layout_of};
-use plan_file::{LayoutError, NamedProblem};
-use plan_fixed::identity;
+use plan_file::{LayoutError, NamedProblem, identity};
 use plan_table::{decode, is_layout};
 use qap_cost::{Perm, cost};
 use qap_io::Status;
@@ -43,7 +42,7 @@ pub fn start_text(
             made(rt, file, solution_of(rt.alloc(), problem, &arrangement))
         }
         Ok(Form::Solution(text)) => Ok(Some(text)),
-        Err(_) => Err(refuse(rt, file, PlanError::OutOfMemory)),
+        Err(_) => Err(refuse(rt, file, PlannerError::OutOfMemory)),
     }
 }
 
@@ -58,7 +57,7 @@ pub fn layout_in(
     ensures { IfOk result (IsLayoutOf problem.now text.now) }
 {
     let Ok(any) = identity(rt.alloc(), &problem.instance) else {
-        return Err(refuse(rt, file, PlanError::OutOfMemory));
+        return Err(refuse(rt, file, PlannerError::OutOfMemory));
     };
     match layout_of(rt.alloc(), problem, text, &any) {
         Ok(arrangement) => Ok(arrangement),
@@ -69,7 +68,7 @@ pub fn layout_in(
 /// Tells on standard error what the file of an arrangement is refused for.
 fn refuse_layout(rt: &HostRuntime, file: &str, error: &LayoutError) -> ExitCode {
     if let LayoutError::OutOfMemory = error {
-        return refuse(rt, file, PlanError::OutOfMemory);
+        return refuse(rt, file, PlannerError::OutOfMemory);
     }
     let _ = rt.eprintln(format_args!("error: {file}: {error}"));
     ExitCode::from(Status::Refused.code())
@@ -122,6 +121,6 @@ fn made(
 ) -> Result<Option<Vec<u8>>, ExitCode> {
     match text {
         Ok(text) => Ok(Some(text)),
-        Err(_) => Err(refuse(rt, file, PlanError::OutOfMemory)),
+        Err(_) => Err(refuse(rt, file, PlannerError::OutOfMemory)),
     }
 }

@@ -2,9 +2,9 @@
 
 ghost use Rattle.std.specs.Prelude.{MatchResult};
 ghost use Rattle.qap_text.specs.Input.{input_of};
-ghost use Rattle.qap_plan.specs.Reading.{HasNoPlan, HasPlan};
+ghost use Rattle.qap_plan.specs.Reading.{LacksInstance, HasOneInstance};
 
-use crate::error::PlanError;
+use crate::error::PlannerError;
 use qap_cost::Instance;
 use qap_io::Counted;
 use qap_text::{MAX_INPUT, read_all, read_instance, skip_separators};
@@ -16,9 +16,9 @@ pub fn read_problem<R: Read>(
     alloc: Global,
     reader: &mut Counted<R>,
     passes: bool,
-) -> Result<Instance, PlanError>
+) -> Result<Instance, PlannerError>
     ensures { let i = input_of R.remaining reader.old reader.new in
-        MatchResult result (HasPlan i passes) (HasNoPlan i) }
+        MatchResult result (HasOneInstance i passes) (LacksInstance i) }
 {
     let text = read_all(alloc, reader, MAX_INPUT)?;
     let (instance, rest) = read_instance(alloc, &text)?;
@@ -26,6 +26,6 @@ pub fn read_problem<R: Read>(
     if more.is_empty() || passes {
         Ok(instance)
     } else {
-        Err(PlanError::Rest(text.len().saturating_sub(more.len())))
+        Err(PlannerError::Rest(text.len().saturating_sub(more.len())))
     }
 }

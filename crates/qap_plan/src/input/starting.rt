@@ -4,9 +4,9 @@ ghost use Rattle.std.specs.Prelude.{IfOk, IfSome, MatchResult, length, ◌<◌, 
 ghost use Rattle.qap_cost.specs.Objective.{Permutes, cost_of};
 ghost use Rattle.qap_text.specs.Input.{input_of};
 ghost use Rattle.qap_plan.specs.Starting.{HasNoSolution, HasNoStart, HasOtherCost, HasSolution, HasStart, NoStart, of_start, starting_of};
-ghost use Rattle.qap_plan.specs.declared.error.PlanError.TheVariants.{StartCost as OtherCost};
+ghost use Rattle.qap_plan.specs.declared.error.PlannerError.TheVariants.{StartCost as OtherCost};
 
-use crate::error::PlanError;
+use crate::error::PlannerError;
 use qap_cost::{Instance, Perm, cost};
 use qap_io::Counted;
 use qap_text::{MAX_INPUT, TextError, read_all, read_solution};
@@ -19,7 +19,7 @@ pub fn read_start<Q: Read>(
     alloc: Global,
     reader: &mut Option<Counted<Q>>,
     instance: &Instance,
-) -> Result<Option<Perm>, PlanError>
+) -> Result<Option<Perm>, PlannerError>
     ensures read { let s = starting_of Q.remaining reader.old reader.new in
         MatchResult result (HasStart s instance.now) (HasNoStart s instance.now) }
     ensures permutes { IfOk result (λ start. IfSome start (Permutes instance.now)) }
@@ -35,7 +35,7 @@ pub(crate) fn read_permutation<Q: Read>(
     alloc: Global,
     reader: &mut Counted<Q>,
     instance: &Instance,
-) -> Result<Perm, PlanError>
+) -> Result<Perm, PlannerError>
     ensures read { let i = input_of Q.remaining reader.old reader.new in
         MatchResult result
         (λ p. HasSolution i instance.now.size (cost_of instance.now p) p)
@@ -65,17 +65,17 @@ fn read_stated<Q: Read>(
 }
 
 /// What a fault of the start's text is for the run.
-fn start_fault(error: TextError) -> PlanError
+fn start_fault(error: TextError) -> PlannerError
     ensures { result ≡ of_start error }
 {
     match error {
-        TextError::OutOfMemory => PlanError::OutOfMemory,
-        _ => PlanError::Start(error),
+        TextError::OutOfMemory => PlannerError::OutOfMemory,
+        _ => PlannerError::Start(error),
     }
 }
 
 /// The permutation, if its cost is the stated one.
-fn with_cost(instance: &Instance, stated: i128, permutation: Perm) -> Result<Perm, PlanError>
+fn with_cost(instance: &Instance, stated: i128, permutation: Perm) -> Result<Perm, PlannerError>
     requires { length permutation ≡ instance.now.size }
     ensures { MatchResult result
         (λ p. (p ≡ permutation) × (stated ≡ cost_of instance.now permutation))
@@ -85,6 +85,6 @@ fn with_cost(instance: &Instance, stated: i128, permutation: Perm) -> Result<Per
     if costs == stated {
         Ok(permutation)
     } else {
-        Err(PlanError::StartCost(costs))
+        Err(PlannerError::StartCost(costs))
     }
 }

@@ -4,7 +4,7 @@ ghost use Rattle.plan_file.specs.Tables.{HasSizes};
 ghost use Rattle.qap_cost.specs.Placement.{Completes};
 
 use crate::search::planning::Planned;
-use plan_answer::{cost_text, dearest_pairs, gap_text};
+use plan_answer::{CostParts, cost_text, dearest_pairs, gap_text};
 use plan_file::NamedProblem;
 use qap_command::VERSION;
 use qap_cost::Perm;
@@ -47,6 +47,44 @@ pub fn named_json_text(
     requires sizes { HasSizes problem.now }
     requires kept { Completes problem.now.fixed answer.now.permutation }
 {
+    named_value(alloc, problem, answer, milliseconds)?.to_string(alloc)
+}
+
+/// Likewise for a problem whose places cost something or are forbidden: `flows_cost` and `places_cost` are the parts of
+/// the cost, if they are given.
+pub fn charged_json_text(
+    alloc: Global,
+    problem: &NamedProblem,
+    answer: &Planned,
+    parts: Option<CostParts>,
+    milliseconds: u64,
+) -> Result<String, AllocError>
+    requires sizes { HasSizes problem.now }
+    requires kept { Completes problem.now.fixed answer.now.permutation }
+{
+    let mut value = named_value(alloc, problem, answer, milliseconds)?;
+    if let (Some(parts), Some(fields)) = (parts, value.as_object_mut()) {
+        let flows = cost_value(alloc, problem, parts.flows)?;
+        fields.insert(String::from_str(alloc, "flows_cost")?, Value::String(flows))?;
+        let places = cost_value(alloc, problem, parts.places)?;
+        fields.insert(
+            String::from_str(alloc, "places_cost")?,
+            Value::String(places),
+        )?;
+    }
+    value.to_string(alloc)
+}
+
+/// The object of an answer to a problem with names.
+fn named_value(
+    alloc: Global,
+    problem: &NamedProblem,
+    answer: &Planned,
+    milliseconds: u64,
+) -> Result<Value, AllocError>
+    requires sizes { HasSizes problem.now }
+    requires kept { Completes problem.now.fixed answer.now.permutation }
+{
     let mut value = json!(in alloc; {
         "version": VERSION,
         "status": status_word(answer),
@@ -71,7 +109,7 @@ pub fn named_json_text(
             Value::from(places as u64),
         )?;
     }
-    value.to_string(alloc)
+    Ok(value)
 }
 
 /// How far the cost may lie above the least, in percent, or null.

@@ -6,7 +6,7 @@ ghost use Rattle.plan_picture.specs.Picture.{IsPicture};
 ghost use Rattle.qap_cost.specs.Placement.{Completes};
 ghost use Rattle.qap_plan.specs.Picturing.{ShowsVerdict};
 
-use crate::error::PlanError;
+use crate::error::PlannerError;
 use crate::input::starting::read_start;
 use crate::search::planning::Planned;
 use plan_answer::{compared_text, verdict_text};
@@ -46,7 +46,7 @@ pub fn proved_picture(
     problem: &NamedProblem,
     answer: &Planned,
     drawn: &Drawn<'_>,
-) -> Result<Vec<u8>, PlanError>
+) -> Result<Vec<u8>, PlannerError>
     requires sizes { HasSizes problem.now }
     requires kept { Completes problem.now.fixed answer.now.permutation }
     ensures { IfOk result (λ text. ShowsVerdict problem.now answer.now.permutation answer.now.cost answer.now.bound drawn.now.title.now text.items) }
@@ -63,7 +63,7 @@ pub fn captioned_picture(
     permutation: &Perm,
     words: &[u8],
     drawn: &Drawn<'_>,
-) -> Result<Vec<u8>, PlanError>
+) -> Result<Vec<u8>, PlannerError>
     requires sizes { HasSizes problem.now }
     requires kept { Completes problem.now.fixed permutation.now }
     ensures { IfOk result (λ text. IsPicture problem.now permutation.now drawn.now.title.now words.now text.items) }
@@ -85,7 +85,7 @@ pub fn report_text(
     file: &str,
     drawn: &Drawn<'_>,
     start: &Option<Vec<u8>>,
-) -> Result<Vec<u8>, PlanError>
+) -> Result<Vec<u8>, PlannerError>
     requires sizes { HasSizes problem.now }
     requires kept { Completes problem.now.fixed answer.now.permutation }
 {
@@ -114,7 +114,7 @@ fn compared_with(
     problem: &NamedProblem,
     answer: &Planned,
     start: &Option<Vec<u8>>,
-) -> Result<Option<Vec<u8>>, PlanError>
+) -> Result<Option<Vec<u8>>, PlannerError>
     requires sizes { HasSizes problem.now }
     requires kept { Completes problem.now.fixed answer.now.permutation }
 {

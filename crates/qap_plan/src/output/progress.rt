@@ -1,8 +1,8 @@
 //! Reports on standard error how far a search has come.
 
 use crate::output::resident::{resident_bytes, usable_bytes};
-use crate::search::elapsed::Elapsed;
 use crate::search::keeper::{Keeper, Progress};
+use crate::search::run_clock::RunClock;
 use std::alloc::{AllocError, Global};
 use std::cell::Cell;
 use std::fs::{self, Files};
@@ -42,7 +42,7 @@ pub fn telling_of(rt: &HostRuntime, asked: bool) -> Telling {
 #[derive(Drop)]
 pub struct Teller<'a, R: Eprint + AllocGlobal + Files, T: time::Clock> {
     rt: &'a R,
-    elapsed: &'a Elapsed<'a, T>,
+    elapsed: &'a RunClock<'a, T>,
     telling: Telling,
     /// When the last line was written, in milliseconds since the run began.
     told_ms: Cell<u64>,
@@ -58,7 +58,7 @@ impl<'a, R: Eprint + AllocGlobal + Files, T: time::Clock> Teller<'a, R, T> {
     /// One that has reported nothing yet.
     pub fn new(
         rt: &'a R,
-        elapsed: &'a Elapsed<'a, T>,
+        elapsed: &'a RunClock<'a, T>,
         telling: Telling,
         stop_file: Option<&'a str>,
     ) -> Teller<'a, R, T> {

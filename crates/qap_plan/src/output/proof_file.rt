@@ -4,7 +4,7 @@ ghost use Rattle.std.specs.Prelude.{IfOk, ◌≡◌};
 ghost use Rattle.proof_search.specs.Held.{text_of};
 ghost use Rattle.qap_proof.specs.Text.{IsProofText};
 
-use crate::error::PlanError;
+use crate::error::PlannerError;
 use crate::search::planning::Planned;
 use proof_search::PairProof;
 use qap_io::Counted;
@@ -12,7 +12,7 @@ use qap_proof::{Proof, write};
 use std::alloc::Global;
 
 /// The text of an answer's proof; none if it has no proof.
-pub fn proof_text(alloc: Global, answer: &Planned) -> Result<Vec<u8>, PlanError> {
+pub fn proof_text(alloc: Global, answer: &Planned) -> Result<Vec<u8>, PlannerError> {
     match (&answer.proof, &answer.pair_proof) {
         (Some(proof), _) => text_of_proof(alloc, proof),
         (None, Some(proof)) => text_of_pair_proof(alloc, proof),
@@ -21,19 +21,19 @@ pub fn proof_text(alloc: Global, answer: &Planned) -> Result<Vec<u8>, PlanError>
 }
 
 /// The text of a proof under pair duals.
-fn text_of_pair_proof(alloc: Global, proof: &PairProof) -> Result<Vec<u8>, PlanError>
+fn text_of_pair_proof(alloc: Global, proof: &PairProof) -> Result<Vec<u8>, PlannerError>
     ensures { IfOk result (λ text. text.items ≡ text_of proof.now) }
 {
     let mut text = Counted::new(Vec::new(alloc));
     match proof_search::write(alloc, &mut text, proof) {
         Ok(()) => Ok(text.into_inner()),
         // Nothing but want of memory keeps a text from a vector.
-        Err(_) => Err(PlanError::OutOfMemory),
+        Err(_) => Err(PlannerError::OutOfMemory),
     }
 }
 
 /// The text of a proof.
-pub fn text_of_proof(alloc: Global, proof: &Proof) -> Result<Vec<u8>, PlanError>
+pub fn text_of_proof(alloc: Global, proof: &Proof) -> Result<Vec<u8>, PlannerError>
     ensures { IfOk result (λ text. IsProofText text.items proof.now) }
 {
     // Its clause says that this is a proof.

@@ -7,7 +7,7 @@ ghost use Rattle.qap_cost.specs.Placement.{Completes};
 
 use crate::search::keeper::Keeper;
 use crate::search::options::Options;
-use plan_fixed::{completed, completes, improved_keeping};
+use plan_file::{completed, completes, improved_keeping};
 use qap_cost::{Instance, Partial, Perm, cost};
 use qap_improve::{Hook, TabuPlan};
 use std::alloc::{AllocError, Global};

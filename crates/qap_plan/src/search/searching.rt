@@ -16,7 +16,7 @@ use crate::search::options::Options;
 use crate::search::planning::Planned;
 use crate::search::proving::prove_below;
 use crate::search::subtrees::search_subtrees;
-use plan_fixed::{ascending, completed, completes, identity};
+use plan_file::{ascending, completed, completes, identity};
 use qap_cost::{Instance, Partial, Perm, cost};
 use std::alloc::{AllocError, Global};
 use std::sync::Wait;

@@ -7,7 +7,7 @@ ghost use Rattle.qap_plan.specs.Options.{AreLimited};
 ghost use Rattle.qap_plan.specs.Parts.{IsSplitUp};
 ghost use Rattle.qap_plan.specs.Splitting.{IsSkeleton};
 
-use crate::error::PlanError;
+use crate::error::PlannerError;
 use crate::input::instance_file::Searched;
 use crate::search::improving::improved_below;
 use crate::search::keeper::Keeper;
@@ -42,7 +42,7 @@ pub fn split_up<T, K>(
     options: &Options,
     wanted: usize,
     keeper: &K,
-) -> Result<Skeleton, PlanError>
+) -> Result<Skeleton, PlannerError>
 where
     T: Threads + Wait + time::Clock + Sync,
     K: Keeper,
@@ -67,7 +67,7 @@ fn split_on<K: Keeper>(
     options: &Options,
     wanted: usize,
     keeper: &K,
-) -> Result<Skeleton, PlanError>
+) -> Result<Skeleton, PlannerError>
     requires { IsSkeleton instance.now root.now skeleton }
     ensures skeleton { IfOk result (IsSkeleton instance.now root.now) }
     ensures no_dearer { IfOk result (λ s. s.proof.cost ≤ℤ skeleton.proof.cost) }
@@ -89,7 +89,7 @@ fn whole(
     instance: &Instance,
     root: &Partial,
     start: &Perm,
-) -> Result<Skeleton, PlanError>
+) -> Result<Skeleton, PlannerError>
     requires root { IsRoot instance.now.size root.now }
     requires start { Permutes instance.now start.now }
     ensures skeleton { IfOk result (IsSkeleton instance.now root.now) }
@@ -114,7 +114,7 @@ fn split_hardest(
     instance: &Instance,
     root: &Partial,
     skeleton: Skeleton,
-) -> Result<Skeleton, PlanError>
+) -> Result<Skeleton, PlannerError>
     requires { IsSkeleton instance.now root.now skeleton }
     ensures skeleton { IfOk result (IsSkeleton instance.now root.now) }
     ensures no_dearer { IfOk result (λ s. s.proof.cost ≤ℤ skeleton.proof.cost) }

@@ -3,7 +3,7 @@ use Rattle.std.proofs.lemmas.List.{map-append, take_more}
 use Rattle.toml.proofs.Views.{items_view-push}
 use Rattle.toml.specs.Data.{push_item, string}
 use Rattle.toml.specs.View.{items_view, view}
-use Rattle.plan_file.specs.Plan.{strings_of}
+use Rattle.plan_file.specs.Keys.{strings_of}
 use Rattle.plan_file.proofs.Fixings.{names_more, strings_push}
 use Rattle.plan_file.proofs.names.names_of.Goals as goal
 

@@ -1,7 +1,7 @@
 use Rattle.std.proofs.Common.{◌≡◌, length, map, string_bytes, take}
 use Rattle.toml.specs.View.{items_view}
 use Rattle.plan_table.specs.Names.{AreDifferent}
-use Rattle.plan_file.specs.Plan.{strings_of}
+use Rattle.plan_file.specs.Keys.{strings_of}
 use Rattle.plan_file.proofs.names.names_of.Given as goal
 
 abbrev pub invariant-loop-i : goal.invariant-loop-i

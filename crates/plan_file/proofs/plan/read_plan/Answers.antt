@@ -20,6 +20,7 @@ returns-clause-plan c = record {
   distances = c.in_ok-distances.ensures.distances;
   rules = c.in_ok-rules.ensures.rules;
   fixed = c.in_ok-fixed.ensures.fixed;
+  charging = c.in_ok-charging.ensures.charging;
   drawing = c.in_ok-drawing.ensures.drawing;
 }
 
@@ -62,3 +63,9 @@ returns-in_err-drawing-clause-refused c =
     let p = err_from_is_err_and c.from_residual-in_err-drawing.result c.from_residual-in_err-drawing.ensures.1 in
     let is = is_table c.args.text.now (table_view c.in-Ok.table) c.in-Ok.ensures.ok in
     rw (p.1, p.2) (fault_of_table c.args.text.now (table_view c.in-Ok.table) c.in_err-drawing.field-0.0 is c.in_err-drawing.ensures.refused)
+
+pub returns-in_err-charging-clause-refused : goal.returns-in_err-charging-clause-refused
+returns-in_err-charging-clause-refused c =
+    let p = err_from_is_err_and c.from_residual-in_err-charging.result c.from_residual-in_err-charging.ensures.1 in
+    let is = is_table c.args.text.now (table_view c.in-Ok.table) c.in-Ok.ensures.ok in
+    rw (p.1, p.2) (fault_of_table c.args.text.now (table_view c.in-Ok.table) c.in_err-charging.field-0.0 is c.in_err-charging.ensures.refused)

@@ -3,7 +3,7 @@ use Rattle.std.specs.Prelude.{MatchResult}
 use Rattle.std.proofs.lemmas.Result.{err_from_is_err_and}
 use Rattle.qap_check.specs.Refusal.{IsNoSolution}
 use Rattle.qap_check.specs.Valuation.{AnswersSolution}
-use Rattle.qap_check.specs.declared.refusal.RunError.TheVariants.{OutOfMemory}
+use Rattle.qap_check.specs.declared.refusal.CheckError.TheVariants.{OutOfMemory}
 use Rattle.qap_check.specs.declared.source.Separators.TheVariants.{Kept}
 use Rattle.qap_check.proofs.Comes.{come_to}
 use Rattle.qap_check.proofs.value.judged.Goals as goal

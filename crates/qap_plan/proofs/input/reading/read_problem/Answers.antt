@@ -1,7 +1,7 @@
 use Rattle.std.proofs.Common.{rules, ◌≡◌, ◌≢◌, ◌-◌, length, [], ap, subst, inl, inr}
 use Rattle.qap_text.specs.InstanceText.{IsInstanceText}
 use Rattle.qap_text.specs.Word.{after_separators}
-use Rattle.qap_plan.specs.declared.error.PlanError.TheVariants.{Rest}
+use Rattle.qap_plan.specs.declared.error.PlannerError.TheVariants.{Rest}
 use Rattle.qap_plan.proofs.input.reading.read_problem.Goals as goal
 
 pub returns : goal.returns

@@ -1,0 +1,6 @@
+use Rattle.std.proofs.Common.{◌≡◌, ◌<◌, ℕ}
+use Rattle.plan_file.specs.Choices.{chooser_at}
+use Rattle.plan_file.proofs.choosing.is_chooser.Given as goal
+
+abbrev pub invariant-loop-choice : goal.invariant-loop-choice
+invariant-loop-choice l = (j : ℕ) → j < l.choice-index → chooser_at l.choices j ≡ l.department → ⊥

@@ -1,4 +1,0 @@
-pub mod Freeings
-pub mod Identities
-pub mod Settlings
-pub mod Sortings

@@ -1,9 +1,0 @@
-use Rattle.std.proofs.Common.{◌≡◌, length}
-use Rattle.plan_fixed.specs.Freeing.{IsFixedBelow}
-use Rattle.plan_fixed.proofs.free_in.Given as goal
-
-abbrev pub invariant-loop-f : goal.invariant-loop-f
-invariant-loop-f l = record {
-  count : length l.free.items ≡ l.f;
-  fixed : IsFixedBelow l.node l.f l.free.items;
-}

@@ -1,5 +1,0 @@
-use Rattle.plan_metric.specs.Distances.{AreMeasured}
-use Rattle.plan_metric.proofs.distances.distance_matrix.Given as goal
-
-abbrev pub invariant-loop-k : goal.invariant-loop-k
-invariant-loop-k l = AreMeasured l.metric l.scale l.points l.n l.k l.entries.items

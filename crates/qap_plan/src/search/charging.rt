@@ -1,0 +1,81 @@
+//! Searches the arrangements that respect a restriction.
+
+ghost use Rattle.std.specs.Prelude.{◌≡◌, ◌<◌, IfOk, IfSome, take};
+ghost use Rattle.plan_charge.specs.Charges.{AreCharges};
+ghost use Rattle.plan_charge.specs.Forbidden.{AreForbidden};
+ghost use Rattle.plan_charge.specs.Restricted.{IsAllowed, IsCharged};
+ghost use Rattle.qap_cost.specs.Bijection.{IsPerm};
+ghost use Rattle.qap_plan.specs.Charging.{ProvesCharged, ShowsCharged};
+ghost use Rattle.qap_plan.specs.Options.{AreLimited};
+
+use crate::error::PlannerError;
+use crate::input::restriction::{Restriction, widened};
+use crate::search::keeper::Keeper;
+use crate::search::options::Options;
+use crate::search::planning::Planned;
+use crate::search::searching::search_keeping;
+use plan_charge::{extended_permutation, front, restricted_law};
+use qap_cost::{Instance, Perm};
+use std::alloc::{AllocError, Global};
+use std::sync::Wait;
+use std::thread::Threads;
+use std::time;
+
+/// Searches the arrangements that respect a restriction, from one that does, until no node is open, a limit is reached, a
+/// stop is requested, or memory runs out. The cost has what facilities pay for their locations in it. A proof is that of the
+/// larger instance, at its node.
+pub fn search_restricted<T, K>(
+    system: &T,
+    alloc: Global,
+    instance: &Instance,
+    restriction: &Restriction<'_>,
+    start: &Perm,
+    options: &Options,
+    keeper: &K,
+) -> Result<Planned, PlannerError>
+where
+    T: Threads + Wait + time::Clock + Sync,
+    K: Keeper,
+    requires limited { AreLimited options.now }
+    requires size { restriction.now.fixed.now.size ≡ instance.now.size }
+    requires charges { AreCharges instance.now.size restriction.now.charges.now }
+    requires forbidden { AreForbidden instance.now.size restriction.now.forbidden.now }
+    requires start { IsAllowed restriction.now.fixed.now restriction.now.forbidden.now start.now }
+    ensures charged { IfOk result (λ x. IsCharged instance.now restriction.now.fixed.now restriction.now.charges.now restriction.now.forbidden.now start.now x.permutation x.cost x.bound) }
+    ensures proof { IfOk result (λ x. IfSome x.proof (ProvesCharged instance.now restriction.now.fixed.now restriction.now.charges.now restriction.now.forbidden.now x.permutation x.cost x.bound)) }
+    ensures pair_proof { IfOk result (λ x. IfSome x.pair_proof (ShowsCharged instance.now restriction.now.fixed.now restriction.now.charges.now restriction.now.forbidden.now x.permutation x.cost x.bound)) }
+{
+    restricted_law();
+    let n = instance.size();
+    let searched = widened(alloc, instance, restriction)?;
+    let count = searched.instance.size() - n;
+    let first = extended_permutation(start, count)?;
+    let found = search_keeping(
+        system,
+        alloc,
+        &searched.instance,
+        &searched.node,
+        Some(first),
+        options,
+        keeper,
+    )?;
+    let shorter = shortened(found, n)?;
+    Ok(shorter)
+}
+
+/// What a search of a larger instance has found, with the first numbers of its permutation.
+fn shortened(found: Planned, n: usize) -> Result<Planned, AllocError>
+    requires positive { 0 < n }
+    requires front { IsPerm (take n found.permutation) }
+    ensures permutation { IfOk result (λ x. x.permutation ≡ take n found.permutation) }
+    ensures cost { IfOk result (λ x. x.cost ≡ found.cost) }
+    ensures bound { IfOk result (λ x. x.bound ≡ found.bound) }
+    ensures proof { IfOk result (λ x. x.proof ≡ found.proof) }
+    ensures pair_proof { IfOk result (λ x. x.pair_proof ≡ found.pair_proof) }
+{
+    let permutation = front(&found.permutation, n)?;
+    Ok(Planned {
+        permutation,
+        ..found
+    })
+}
