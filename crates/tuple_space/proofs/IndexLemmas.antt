@@ -1,9 +1,10 @@
 -- The buckets in which the numbers of entries stand.
-use Rattle.std.proofs.Common.{◌≡◌, ℕ, zero, suc, ◌+◌, ◌-◌, ◌%◌, ◌<◌, ◌≤◌, Bool, true, false, List, [], ◌∷◌, ◌++◌, length, get_or, refl, sym, ap, subst, ◌∙◌, cond, eqb, ⊎_elim, arith}
-use Rattle.std.specs.Prelude.{◌≢◌, ◌&&◌, ◌||◌, not, All, AllPairs, Contains, IfNone, MatchOption, Option, count_by, take, unsigned_abs, Some, None, OnErr, OnOk, Result, Ok, Err, filter, find, map, remove}
-use Rattle.std.specs.Global.{Vec}
+use Rattle.std.proofs.Common.{◌≡◌, ℕ, zero, suc, ◌+◌, ◌-◌, ◌%◌, ◌^◌, ◌<◌, ◌≤◌, Bool, true, false, List, [], ◌∷◌, ◌++◌, length, get_or, refl, sym, ap, subst, ◌∙◌, cond, eqb, ⊎_elim, arith}
+use Rattle.std.specs.Prelude.{◌≢◌, ◌&&◌, ◌||◌, not, All, AllPairs, IfNone, MatchOption, Option, take, unsigned_abs, Some, None, OnErr, OnOk, Result, Ok, Err, filter, find, map, nat_eq}
 use Rattle.std.specs.Result.{is_err}
 use Rattle.std.specs.List.{AllWithin, AllZip, HoldsAt}
+use Rattle.std.specs.Map.{lookup}
+use Rattle.std.specs.Option.{unwrap_or}
 use Rattle.std.specs.Str.{bytes_eq}
 use Rattle.std.proofs.Math.ListN.{set}
 use Rattle.std.proofs.Math.Seq.{take-append_seam}
@@ -17,6 +18,7 @@ use Rattle.std.proofs.lemmas.List.Sums.{sum_by-cons}
 use Rattle.std.proofs.lemmas.Map.Views.{any-filter_same}
 use Rattle.std.proofs.lemmas.Option.{same_Some}
 use Rattle.std.proofs.lemmas.Slice.Eq.{bytes_eq-Decides}
+use Rattle.indexmap.specs.IndexMap.{IsEmpty}
 use Rattle.tuple_match.specs.FieldValue.{FieldValue, number, word, numbers}
 use Rattle.tuple_match.specs.Matching.{does_match}
 use Rattle.tuple_match.specs.PatternValue.{FieldMatches, Matches, PatternValue, actual, any_number, any_word, any_numbers}
@@ -24,7 +26,7 @@ use Rattle.tuple_match.proofs.Deciding.{Decides-does_match}
 use Rattle.tuple_space.specs.Entry.{is_open, is_there}
 use Rattle.tuple_space.specs.Wanted.{is_wanted}
 use Rattle.tuple_space.specs.Held.{AreRising, is_among}
-use Rattle.tuple_space.specs.Index.{AreIndexed, AreOnce, AreOrdered, AreSame, AreUpTo, Class, HasNoneWanted, HasSame, IsAdded, IsDropped, IsPutIn, IsTakenFrom, IsUnwanted, first_word, has_class, is_next, is_numbered, is_of, is_put, is_to_be, is_word, key, last_after, list_at, numbers_at, numbers_of, sought_word}
+use Rattle.tuple_space.specs.Index.{AreIndexed, AreOnce, AreOrdered, AreSame, AreUpTo, Class, HasNoneWanted, HasSame, IsAdded, IsDropped, IsPutIn, IsTakenFrom, IsUnwanted, first_word, has_class, is_next, is_numbered, is_of, is_put, is_to_be, is_word, key, last_after, list_at, list_under, numbers_at, numbers_of, sought_word}
 use Rattle.tuple_space.proofs.RowLemmas.{HasNone, any_place, found_at, only_at}
 use Rattle.tuple_space.specs.Lease.{granted}
 use Rattle.tuple_space.specs.Rows.{IsRising, without}
@@ -95,57 +97,21 @@ pub filter_all : (ns : List ℕ) → filter (λ n. true) ns ≡ ns
 filter_all [] = refl
 filter_all (n ∷ ns) = ap (λ l. n ∷ l) (filter_all ns)
 
--- a number of numbers that rise is taken out at its place, or it is none of them
-filter_above : (n : ℕ) (ns : List ℕ) → All (λ m. m ≢ n) ns → filter (λ m. not (eqb m n)) ns ≡ ns
-filter_above n [] h = refl
-filter_above n (m ∷ ns) h =
-    let P : ℕ → Type 0 = λ k. k ≢ n in
-    cond-true (not (eqb m n)) (m ∷ filter (λ k. not (eqb k n)) ns) (filter (λ k. not (eqb k n)) ns) (ap not (ne_eqb m n (All-head P m ns h)))
-    ∙ ap (λ l. m ∷ l) (filter_above n ns (All-tail P m ns h))
-
--- of rising numbers, taking out the one at a place takes out that number and no other
-pub number_removed : (ns : List ℕ) (i n : ℕ) → AreRising ns → i < length ns → get_or ns i 0 ≡ n → remove ns i ≡ filter (λ m. not (eqb m n)) ns
-number_removed [] i n rising lt is = absurd (omega arith)
-number_removed (m ∷ ns) zero n rising lt is =
-    sym (cond-false (not (eqb m n)) (m ∷ filter (λ k. not (eqb k n)) ns) (filter (λ k. not (eqb k n)) ns) (ap not (eq-eqb m n is))
-    ∙ filter_above n ns (λ k d within same. (let less = rising 0 (suc k) d (omega arith) (omega arith) in omega arith)))
-number_removed (m ∷ ns) (suc i) n rising lt is =
-    let less : m < get_or ns i 0 = rising 0 (suc i) 0 (omega arith) (omega arith) in
-    let rest : get_or ns i 0 ≡ n = is in
-    ap (λ l. m ∷ l) (number_removed ns i n (λ j k d below within. rising (suc j) (suc k) d (omega arith) (omega arith)) (omega arith) is)
-    ∙ sym (cond-true (not (eqb m n)) (m ∷ filter (λ k. not (eqb k n)) ns) (filter (λ k. not (eqb k n)) ns) (ap not (ne_eqb m n (λ same. omega arith))))
-
--- where the numbers before a place are below one and the others above it, there is none to take out
-pub number_absent : (ns : List ℕ) (n i : ℕ) → ((k : ℕ) → k < i → get_or ns k 0 < n) → ((k : ℕ) → i ≤ k → k < length ns → n < get_or ns k 0) → ns ≡ filter (λ m. not (eqb m n)) ns
-number_absent ns n i below above = sym (filter_above n ns (λ k d lt same.
-    let at : get_or ns k d ≡ get_or ns k 0 = get_or_default ns k d 0 lt in
-    ⊎_elim
-    (λ before. let less = below k before in absurd (omega arith))
-    (λ after. let more = above k (omega arith) lt in absurd (omega arith))
-    (cases_lt k i)))
-
--- of rising numbers, none is above one at a later place
-pub rises_at : (ns : List ℕ) → AreRising ns → (i j : ℕ) → i ≤ j → j < length ns → get_or ns i 0 ≤ get_or ns j 0
-rises_at ns rising i j le lt = ⊎_elim
-    (λ less. let more = rising i j 0 less lt in omega arith)
-    (λ same. let at : i ≡ j = omega arith in (let equal = ap (λ k. get_or ns k 0) at in omega arith))
-    (cases_lt i j)
-
 -- lists of which each stands at its length
-pub list_at_push : (ls : List (Vec ℕ)) (l : ℕ) (v : Vec ℕ) → v.items ≡ [] → list_at l (ls ++ v ∷ []) ≡ list_at l ls
+pub list_at_push : (ls : List (List ℕ)) (l : ℕ) (v : List ℕ) → v ≡ [] → list_at l (ls ++ v ∷ []) ≡ list_at l ls
 list_at_push [] zero v none = none
 list_at_push [] (suc l) v none = refl
 list_at_push (x ∷ xs) zero v none = refl
 list_at_push (x ∷ xs) (suc l) v none = list_at_push xs l v none
 
 -- the list written at a place stands under its length
-pub list_at_set : (ls : List (Vec ℕ)) (i : ℕ) (v : Vec ℕ) → i < length ls → list_at i (set ls i v) ≡ v.items
+pub list_at_set : (ls : List (List ℕ)) (i : ℕ) (v : List ℕ) → i < length ls → list_at i (set ls i v) ≡ v
 list_at_set [] i v lt = absurd (omega arith)
 list_at_set (x ∷ xs) zero v lt = refl
 list_at_set (x ∷ xs) (suc i) v lt = list_at_set xs i v (omega arith)
 
 -- and the lists under other lengths stay
-pub list_at_other : (ls : List (Vec ℕ)) (i l : ℕ) (v : Vec ℕ) → l ≢ i → list_at l (set ls i v) ≡ list_at l ls
+pub list_at_other : (ls : List (List ℕ)) (i l : ℕ) (v : List ℕ) → l ≢ i → list_at l (set ls i v) ≡ list_at l ls
 list_at_other [] i l v ne = refl
 list_at_other (x ∷ xs) zero zero v ne = absurd (ne refl)
 list_at_other (x ∷ xs) zero (suc l) v ne = refl
@@ -153,13 +119,13 @@ list_at_other (x ∷ xs) (suc i) zero v ne = refl
 list_at_other (x ∷ xs) (suc i) (suc l) v ne = list_at_other xs i l v (λ e. ne (ap suc e))
 
 -- under a length stands the list at that place
-pub list_at_is : (ls : List (Vec ℕ)) (i : ℕ) (x : Vec ℕ) → i < length ls → x ≡ get_or ls i x → list_at i ls ≡ x.items
+pub list_at_is : (ls : List (List ℕ)) (i : ℕ) (x : List ℕ) → i < length ls → x ≡ get_or ls i x → list_at i ls ≡ x
 list_at_is [] i x lt is = absurd (omega arith)
-list_at_is (y ∷ ys) zero x lt is = ap (λ (v : Vec ℕ). v.items) (sym is)
+list_at_is (y ∷ ys) zero x lt is = sym is
 list_at_is (y ∷ ys) (suc i) x lt is = list_at_is ys i x (omega arith) is
 
 -- beyond the last list there are no numbers
-pub list_at_past : (ls : List (Vec ℕ)) (l : ℕ) → length ls ≤ l → list_at l ls ≡ []
+pub list_at_past : (ls : List (List ℕ)) (l : ℕ) → length ls ≤ l → list_at l ls ≡ []
 list_at_past [] l le = refl
 list_at_past (x ∷ xs) zero le = absurd (omega arith)
 list_at_past (x ∷ xs) (suc l) le = list_at_past xs l (omega arith)
@@ -176,12 +142,12 @@ of_from bytes count b counted spelled =
     both (eqb b.count count) (bytes_eq (b.word.items) bytes) (eq-eqb b.count count counted) ((bytes_eq-Decides (b.word.items) bytes).1 spelled)
 
 -- a slot of an empty bucket holds nothing
-none_at : (s : Slot) (b : Bucket) → b.by_length.items ≡ [] → b.by_value.items ≡ [] → numbers_at s b ≡ []
+none_at : (s : Slot) (b : Bucket) → b.by_length.items ≡ [] → IsEmpty b.by_value → numbers_at s b ≡ []
 none_at (Length l) b none without = ap (list_at l) none
-none_at (Value v) b none without = ap (list_at v) without
+none_at (Value v) b none without = ap (λ es. unwrap_or (lookup (nat_eq v) es) []) without
 
 -- an empty bucket behind the others
-pub numbers_push : (bs : List Bucket) (b : Bucket) → b.by_length.items ≡ [] → b.by_value.items ≡ [] → AreSame bs (bs ++ b ∷ [])
+pub numbers_push : (bs : List Bucket) (b : Bucket) → b.by_length.items ≡ [] → IsEmpty b.by_value → AreSame bs (bs ++ b ∷ [])
 numbers_push [] b none without = λ k. cond_both (is_of k.word k.count b) (numbers_at k.slot b) [] (λ (l : List ℕ). l ≡ []) (λ t. none_at k.slot b none without) (λ f. refl)
 numbers_push (x ∷ xs) b none without = λ k. ap (λ (l : List ℕ). cond (is_of k.word k.count x) (numbers_at k.slot x) l) (numbers_push xs b none without k)
 
@@ -353,30 +319,30 @@ rising_there bs i b bytes count h rising = λ s.
     subst AreRising (numbers_there k bytes count bs i b h h.of) (rising k)
 
 -- a number put into the list of a length or of a value, as the lists of a bucket show it
-pub put_at : (old new : List (Vec ℕ)) (place n : ℕ) → list_at place new ≡ list_at place old ++ n ∷ [] → ((l : ℕ) → l ≢ place → list_at l new ≡ list_at l old)
-    → (l : ℕ) → list_at l new ≡ list_at l old ++ cond (eqb place l) (n ∷ []) []
+pub put_at : (old new : ℕ → List ℕ) (place n : ℕ) → new place ≡ old place ++ n ∷ [] → ((l : ℕ) → l ≢ place → new l ≡ old l)
+    → (l : ℕ) → new l ≡ old l ++ cond (eqb place l) (n ∷ []) []
 put_at old new place n put others l = ⊎_elim
-    (λ same. subst (λ c. list_at l new ≡ list_at l old ++ cond c (n ∷ []) []) (sym same)
-    (subst (λ m. list_at m new ≡ list_at m old ++ n ∷ []) (eqb-true place l same) put))
-    (λ other. subst (λ c. list_at l new ≡ list_at l old ++ cond c (n ∷ []) []) (sym other)
-    (others l (λ is. eqb-false place l other (sym is)) ∙ sym (append-nil (list_at l old))))
+    (λ same. subst (λ c. new l ≡ old l ++ cond c (n ∷ []) []) (sym same)
+    (subst (λ m. new m ≡ old m ++ n ∷ []) (eqb-true place l same) put))
+    (λ other. subst (λ c. new l ≡ old l ++ cond c (n ∷ []) []) (sym other)
+    (others l (λ is. eqb-false place l other (sym is)) ∙ sym (append-nil (old l))))
     (cases_Bool (eqb place l))
 
--- a list that is as it was stays under each length
-pub same_at : (old new : List (Vec ℕ)) (place : ℕ) → list_at place new ≡ list_at place old → ((l : ℕ) → l ≢ place → list_at l new ≡ list_at l old) → (l : ℕ) → list_at l new ≡ list_at l old
+-- a list that is as it was stays under each length and each value
+pub same_at : (old new : ℕ → List ℕ) (place : ℕ) → new place ≡ old place → ((l : ℕ) → l ≢ place → new l ≡ old l) → (l : ℕ) → new l ≡ old l
 same_at old new place same others l = ⊎_elim
-    (λ is. subst (λ m. list_at m new ≡ list_at m old) (eqb-true place l is) same)
+    (λ is. subst (λ m. new m ≡ old m) (eqb-true place l is) same)
     (λ other. others l (λ is. eqb-false place l other (sym is)))
     (cases_Bool (eqb place l))
 
 -- a number taken out of the list of a length or of a value
-pub taken_at : (old new : List (Vec ℕ)) (place n : ℕ) → list_at place new ≡ filter (λ m. not (eqb m n)) (list_at place old) → ((l : ℕ) → l ≢ place → list_at l new ≡ list_at l old)
-    → (l : ℕ) → list_at l new ≡ filter (λ m. not (eqb place l && eqb m n)) (list_at l old)
+pub taken_at : (old new : ℕ → List ℕ) (place n : ℕ) → new place ≡ filter (λ m. not (eqb m n)) (old place) → ((l : ℕ) → l ≢ place → new l ≡ old l)
+    → (l : ℕ) → new l ≡ filter (λ m. not (eqb place l && eqb m n)) (old l)
 taken_at old new place n gone others l = ⊎_elim
-    (λ same. subst (λ c. list_at l new ≡ filter (λ m. not (c && eqb m n)) (list_at l old)) (sym same)
-    (subst (λ j. list_at j new ≡ filter (λ m. not (eqb m n)) (list_at j old)) (eqb-true place l same) gone))
-    (λ other. subst (λ c. list_at l new ≡ filter (λ m. not (c && eqb m n)) (list_at l old)) (sym other)
-    (others l (λ is. eqb-false place l other (sym is)) ∙ sym (filter_all (list_at l old))))
+    (λ same. subst (λ c. new l ≡ filter (λ m. not (c && eqb m n)) (old l)) (sym same)
+    (subst (λ j. new j ≡ filter (λ m. not (eqb m n)) (old j)) (eqb-true place l same) gone))
+    (λ other. subst (λ c. new l ≡ filter (λ m. not (c && eqb m n)) (old l)) (sym other)
+    (others l (λ is. eqb-false place l other (sym is)) ∙ sym (filter_all (old l))))
     (cases_Bool (eqb place l))
 
 -- the last number taken back leaves those before it
@@ -387,7 +353,7 @@ back_at ns n =
 
 -- a number put under a length and under a value of a bucket
 pub put_slots : (old new : Bucket) (long value n : ℕ) → ((l : ℕ) → list_at l new.by_length.items ≡ list_at l old.by_length.items ++ cond (eqb long l) (n ∷ []) [])
-    → ((v : ℕ) → list_at v new.by_value.items ≡ list_at v old.by_value.items ++ cond (eqb value v) (n ∷ []) []) → IsPutIn long (Some value) n old new
+    → ((v : ℕ) → list_under v new.by_value ≡ list_under v old.by_value ++ cond (eqb value v) (n ∷ []) []) → IsPutIn long (Some value) n old new
 put_slots old new long value n lengths values (Length l) = lengths l
 put_slots old new long value n lengths values (Value v) = values v
 
@@ -395,16 +361,16 @@ put_slots old new long value n lengths values (Value v) = values v
 pub put_length : (old new : Bucket) (long n : ℕ) → ((l : ℕ) → list_at l new.by_length.items ≡ list_at l old.by_length.items ++ cond (eqb long l) (n ∷ []) [])
     → new.by_value ≡ old.by_value → IsPutIn long None n old new
 put_length old new long n lengths same (Length l) = lengths l
-put_length old new long n lengths same (Value v) = ap (λ (x : Vec (Vec ℕ)). list_at v x.items) same ∙ sym (append-nil (list_at v old.by_value.items))
+put_length old new long n lengths same (Value v) = ap (list_under v) same ∙ sym (append-nil (list_under v old.by_value))
 
 -- the lists of a bucket stay
-pub same_slots : (old new : Bucket) → ((l : ℕ) → list_at l new.by_length.items ≡ list_at l old.by_length.items) → ((v : ℕ) → list_at v new.by_value.items ≡ list_at v old.by_value.items) → HasSame old new
+pub same_slots : (old new : Bucket) → ((l : ℕ) → list_at l new.by_length.items ≡ list_at l old.by_length.items) → ((v : ℕ) → list_under v new.by_value ≡ list_under v old.by_value) → HasSame old new
 same_slots old new lengths values (Length l) = lengths l
 same_slots old new lengths values (Value v) = values v
 
 -- a number taken out under a length, and under a value, if there is one
 pub taken_slots : (tuple : List FieldValue) (n : ℕ) (old new : Bucket) → ((l : ℕ) → list_at l new.by_length.items ≡ filter (λ m. not (eqb (second_length tuple) l && eqb m n)) (list_at l old.by_length.items))
-    → ((v : ℕ) → list_at v new.by_value.items ≡ filter (λ m. not (is_value (second_value tuple) v && eqb m n)) (list_at v old.by_value.items)) → IsTakenFrom tuple n old new
+    → ((v : ℕ) → list_under v new.by_value ≡ filter (λ m. not (is_value (second_value tuple) v && eqb m n)) (list_under v old.by_value)) → IsTakenFrom tuple n old new
 taken_slots tuple n old new lengths values (Length l) = lengths l
 taken_slots tuple n old new lengths values (Value v) = values v
 
@@ -644,10 +610,10 @@ of_among P (x ∷ xs) n h among = ⊎_elim
     (or_cases (eqb n x) (is_among n xs) among)
 
 -- what holds of the numbers of all lists holds of those of one
-all_at : (P : ℕ → Type 0) (lists : List (Vec ℕ)) (l : ℕ) → All (λ (v : Vec ℕ). All P v.items) lists → All P (list_at l lists)
+all_at : (P : ℕ → Type 0) (lists : List (List ℕ)) (l : ℕ) → All (All P) lists → All P (list_at l lists)
 all_at P [] l h = All-nil P
-all_at P (v ∷ vs) zero h = All-head (λ (x : Vec ℕ). All P x.items) v vs h
-all_at P (v ∷ vs) (suc l) h = all_at P vs l (All-tail (λ (x : Vec ℕ). All P x.items) v vs h)
+all_at P (v ∷ vs) zero h = All-head (All P) v vs h
+all_at P (v ∷ vs) (suc l) h = all_at P vs l (All-tail (All P) v vs h)
 
 of_put : (P : ℕ → Type 0) (k : Class) (buckets : List Bucket) (n : ℕ)
     → All (λ (b : Bucket). is_of k.word k.count b ≡ true → All P (numbers_at k.slot b)) buckets → is_put k n buckets ≡ true → P n
@@ -661,7 +627,7 @@ of_put P k (b ∷ bs) n h there =
 
 -- a tuple stands in the slot of its second field
 in_own : (first second : FieldValue) (fields : List FieldValue) → is_in (slot_of second) (first ∷ second ∷ fields) ≡ true
-in_own first (number n) fields = eq-eqb (unsigned_abs n % 256) (unsigned_abs n % 256) refl
+in_own first (number n) fields = eq-eqb (unsigned_abs n % 2 ^ 64) (unsigned_abs n % 2 ^ 64) refl
 in_own first (word bytes) fields = eq-eqb (word_value bytes) (word_value bytes) refl
 in_own first (numbers ns) fields = eq-eqb (length ns) (length ns) refl
 
@@ -727,7 +693,7 @@ pub none_wanted : (bytes : List ℕ) (wanted : Wanted) (moment : ℕ) (template 
 none_wanted bytes wanted moment template es buckets sought indexed none = by (sought_slot template) refl none
   where
     by : (o : Option Slot) → sought_slot template ≡ o
-        → All (λ (b : Bucket). is_of bytes (length template) b ≡ true → MatchOption o (All (λ (l : Vec ℕ). All (IsUnwanted wanted moment template es) l.items) b.by_length.items)
+        → All (λ (b : Bucket). is_of bytes (length template) b ≡ true → MatchOption o (All (All (IsUnwanted wanted moment template es)) b.by_length.items)
         (λ s. All (IsUnwanted wanted moment template es) (numbers_at s b))) buckets
         → All (λ (e : Entry). is_wanted wanted moment template e ≡ false) es
     by None is nothing = λ i d lt.

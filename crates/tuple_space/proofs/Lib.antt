@@ -2,6 +2,7 @@ pub mod ClassLemmas
 pub mod CountLemmas
 pub mod EndLemmas
 pub mod EntryLemmas
+pub mod FrontLemmas
 pub mod HeldLemmas
 pub mod HoldLemmas
 pub mod IndexLemmas

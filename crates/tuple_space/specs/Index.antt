@@ -1,8 +1,9 @@
 -- The index of entries: their numbers by the word with which a tuple begins, and its number of fields.
-use Rattle.std.specs.Prelude.{◌≡◌, ◌≢◌, ◌≤◌, ℕ, zero, suc, ◌+◌, ◌==◌, ◌&&◌, ◌||◌, not, if◌then◌else◌, Bool, true, false, List, [], ◌∷◌, ◌++◌, All, AllPairs, MatchOption, Option, Some, None, filter, length, map}
-use Rattle.std.specs.Global.{Vec}
+use Rattle.std.specs.Prelude.{◌≡◌, ◌≢◌, ◌≤◌, ℕ, zero, suc, ◌+◌, ◌==◌, ◌&&◌, ◌||◌, not, if◌then◌else◌, Bool, true, false, List, [], ◌∷◌, ◌++◌, All, AllPairs, IfSome, MatchOption, Option, Some, None, filter, length, map, nat_eq}
 use Rattle.std.specs.List.{list_any}
+use Rattle.std.specs.Option.{unwrap_or}
 use Rattle.std.specs.Str.{bytes_eq}
+use Rattle.indexmap.specs.IndexMap.{IndexMap, get}
 use Rattle.tuple_match.specs.FieldValue.{FieldValue, word}
 use Rattle.tuple_match.specs.PatternValue.{PatternValue, actual}
 use Rattle.tuple_space.specs.Held.{AreRising, is_among}
@@ -10,6 +11,7 @@ use Rattle.tuple_space.specs.Slots.{is_in, is_slot_of, sought_slot}
 use Rattle.tuple_space.specs.Wanted.{is_wanted}
 use Rattle.tuple_space.specs.declared.search.Wanted.{Wanted}
 use Rattle.tuple_space.specs.declared.entry.Entry.{Entry}
+use Rattle.tuple_space.specs.declared.hasher.NumberHasher.{NumberHasher}
 use Rattle.tuple_space.specs.declared.index.Bucket.{Bucket}
 use Rattle.tuple_space.specs.declared.index.Slot.{Slot}
 use Rattle.tuple_space.specs.declared.index.Slot.TheVariants.{Length, Value}
@@ -30,15 +32,23 @@ abbrev pub is_of : List ℕ → ℕ → Bucket → Bool
 is_of bytes count bucket = (bucket.count == count) && bytes_eq (bucket.word.items) bytes
 
 -- the numbers under a length, among lists indexed by length
-abbrev pub list_at : ℕ → List (Vec ℕ) → List ℕ
+abbrev pub list_at : ℕ → List (List ℕ) → List ℕ
 list_at length [] = []
-list_at zero (l ∷ ls) = l.items
+list_at zero (l ∷ ls) = l
 list_at (suc length) (l ∷ ls) = list_at length ls
+
+-- the numbers under a value, among lists indexed by value
+abbrev pub list_under : ℕ → IndexMap ℕ (List ℕ) NumberHasher → List ℕ
+list_under value lists = unwrap_or (get nat_eq lists value) []
+
+-- no list under a value is empty, so values that are gone take no memory
+abbrev pub AreInUse : IndexMap ℕ (List ℕ) NumberHasher → Type 0
+AreInUse lists = (value : ℕ) → IfSome (get nat_eq lists value) (λ list. list ≢ [])
 
 -- the numbers in a slot of a bucket
 abbrev pub numbers_at : Slot → Bucket → List ℕ
 numbers_at (Length l) b = list_at l b.by_length.items
-numbers_at (Value v) b = list_at v b.by_value.items
+numbers_at (Value v) b = list_under v b.by_value
 
 -- a class of tuples: their first word, their number of fields, and their slot
 pub record Class : Type 0 where
@@ -130,7 +140,7 @@ abbrev pub HasNoneWanted : List ℕ → Wanted → ℕ → List PatternValue →
 HasNoneWanted bytes wanted moment template entries bucket =
     is_of bytes (length template) bucket ≡ true →
     MatchOption (sought_slot template)
-    (All (λ (l : Vec ℕ). All (IsUnwanted wanted moment template entries) l.items) bucket.by_length.items)
+    (All (All (IsUnwanted wanted moment template entries)) bucket.by_length.items)
     (λ s. All (IsUnwanted wanted moment template entries) (numbers_at s bucket))
 
 -- a number was added to the slot of a length, and to that of a value, if there is one

@@ -1,5 +1,5 @@
 -- The slots of a bucket in which the number of a tuple is stored, by its second field.
-use Rattle.std.specs.Prelude.{ℕ, ◌+◌, ◌*◌, ◌%◌, ◌==◌, unsigned_abs, Bool, false, List, [], ◌∷◌, Option, Some, None, length}
+use Rattle.std.specs.Prelude.{ℕ, ◌+◌, ◌*◌, ◌%◌, ◌^◌, ◌==◌, unsigned_abs, Bool, false, List, [], ◌∷◌, Option, Some, None, length}
 use Rattle.tuple_match.specs.FieldValue.{FieldValue, number, word, numbers}
 use Rattle.tuple_match.specs.PatternValue.{PatternValue, actual}
 use Rattle.tuple_space.specs.declared.index.Slot.{Slot}
@@ -10,14 +10,14 @@ abbrev pub second_length : List FieldValue → ℕ
 second_length (first ∷ numbers ns ∷ fields) = length ns
 second_length _ = 0
 
--- the bytes of a word as digits in base 31, modulo 256
+-- the bytes of a word as digits in base 31, modulo 2 ^ 64
 abbrev pub word_value : List ℕ → ℕ
 word_value [] = 0
-word_value (b ∷ bs) = (b + 31 * word_value bs) % 256
+word_value (b ∷ bs) = (b + 31 * word_value bs) % 2 ^ 64
 
--- which of 256 values a field that is not a list has: equal fields have the same
+-- the value of a field that is not a list, below 2 ^ 64: equal fields have the same
 abbrev pub value_of : FieldValue → Option ℕ
-value_of (number n) = Some (unsigned_abs n % 256)
+value_of (number n) = Some (unsigned_abs n % 2 ^ 64)
 value_of (word bytes) = Some (word_value bytes)
 value_of (numbers ns) = None
 
@@ -28,7 +28,7 @@ second_value _ = None
 
 -- the slot of a tuple with this second field, if there is one
 abbrev pub slot_of : FieldValue → Slot
-slot_of (number n) = Value (unsigned_abs n % 256)
+slot_of (number n) = Value (unsigned_abs n % 2 ^ 64)
 slot_of (word bytes) = Value (word_value bytes)
 slot_of (numbers ns) = Length (length ns)
 

@@ -1,19 +1,26 @@
 //! The index of entries: the numbers of those whose tuples begin with a word, by that word and their number of fields.
 
-ghost use Rattle.std.specs.Prelude.{ℕ, ◌≡◌, ◌≢◌, ◌<◌, ◌-◌, ◌%◌, ◌==◌, ◌++◌, ◌∷◌, [], true, false, not, All, IfNone, IfOk, IfSome, OnErr, OnOk, filter, length, take, unsigned_abs, vec_len};
+ghost use Rattle.std.specs.Prelude.{ℕ, ◌≡◌, ◌≢◌, ◌<◌, ◌-◌, ◌%◌, ◌^◌, ◌==◌, ◌++◌, ◌∷◌, [], true, false, not, All, IfNone, IfOk, IfSome, None, OnErr, OnOk, filter, length, nat_eq, take, unsigned_abs, vec_len};
 ghost use Rattle.std.specs.List.{AllWithin, HoldsAt};
 ghost use Rattle.std.specs.Option.{option_copied};
+ghost use Rattle.indexmap.specs.IndexMap.{get};
 ghost use Rattle.tuple_space.specs.Held.{AreRising};
 ghost use Rattle.tuple_match.specs.Field.{field_value};
-ghost use Rattle.tuple_space.specs.Index.{AreOnce, AreOrdered, AreSame, HasSame, IsAdded, IsDropped, IsPutIn, IsTakenFrom, class_of, first_word, is_of, key, list_at, numbers_at, numbers_of, sought_word};
+ghost use Rattle.tuple_space.specs.Index.{AreInUse, AreOnce, AreOrdered, AreSame, HasSame, IsAdded, IsDropped, IsPutIn, IsTakenFrom, class_of, first_word, is_of, key, list_at, list_under, numbers_at, numbers_of, sought_word};
 ghost use Rattle.tuple_space.specs.Slots.{second_length, second_value, slot_of, sought_slot, value_of, word_value};
 ghost use Rattle.tuple_space.specs.declared.index.Slot.{Slot};
 
+use crate::hasher::NumberHasher;
+use crate::numbers::Numbers;
+use indexmap::IndexMap;
 use std::alloc::AllocError;
 use tuple_match::{Field, Pattern, Template, Tuple};
 
-/// How many values there are under which second fields are that are no lists.
-const VALUES: usize = 256;
+/// How many values there are of second fields that are not lists.
+const VALUES: u128 = 1 << 64;
+
+/// Lists of numbers, each under a value. One that becomes empty is dropped, so values that are gone take no memory.
+type ByValue = IndexMap<u64, Numbers, NumberHasher>;
 
 /// Where numbers are in a bucket.
 #[derive(Clone, Copy, Debug, PartialEq, Eq)]
@@ -21,7 +28,7 @@ pub(crate) enum Slot {
     /// Under the length of the second field, 0 if it is not a list.
     Length(usize),
     /// Under the value of the second field, which is not a list.
-    Value(usize),
+    Value(u64),
 }
 
 /// The numbers of the entries whose tuples begin with one word and have one count of fields.
@@ -31,10 +38,10 @@ pub(crate) struct Bucket {
     pub(crate) word: Vec<u8>,
     /// How many fields the tuples have.
     pub(crate) count: usize,
-    /// The numbers in ascending order, by the length of the second field where that is a list; 0 for all others.
-    pub(crate) by_length: Vec<Vec<u64>>,
-    /// Those whose second field is not a list, in ascending order, by its value.
-    pub(crate) by_value: Vec<Vec<u64>>,
+    /// The numbers, by the length of the second field where that is a list; 0 for all others.
+    pub(crate) by_length: Vec<Numbers>,
+    /// Those whose second field is not a list, by its value.
+    pub(crate) by_value: ByValue,
 }
 
 /// The word that a tuple begins with.
@@ -61,25 +68,25 @@ fn second_length(tuple: &Tuple) -> usize
 }
 
 /// The value under which a number is.
-fn number_value(number: i128) -> usize
-    ensures { result ≡ unsigned_abs number % 256 }
+fn number_value(number: i128) -> u64
+    ensures { result ≡ unsigned_abs number % 2 ^ 64 }
 {
-    (number.unsigned_abs() % VALUES as u128) as usize
+    (number.unsigned_abs() % VALUES) as u64
 }
 
 /// The value under which a word is.
-fn word_value(word: &[u8]) -> usize
+fn word_value(word: &[u8]) -> u64
     ensures { result ≡ word_value word.now }
 {
     let mut value = 0;
     for place in (0..word.len()).rev() {
-        value = (usize::from(word[place]) + 31 * value) % VALUES;
+        value = (u128::from(word[place]) + 31 * value) % VALUES;
     }
-    value
+    value as u64
 }
 
 /// The value under which a field is, if it is not a list.
-fn value_of(field: &Field) -> Option<usize>
+fn value_of(field: &Field) -> Option<u64>
     ensures { result ≡ value_of (field_value field.now) }
 {
     if let Some(number) = field.as_int() {
@@ -92,7 +99,7 @@ fn value_of(field: &Field) -> Option<usize>
 }
 
 /// The value under which a tuple's second field is, if there is one that is not a list.
-fn second_value(tuple: &Tuple) -> Option<usize>
+fn second_value(tuple: &Tuple) -> Option<u64>
     ensures { result ≡ second_value tuple.now }
 {
     match tuple.fields() {
@@ -169,7 +176,7 @@ fn place_for(buckets: &mut Vec<Bucket>, word: &[u8], count: usize) -> Result<usi
     let alloc = *buckets.allocator();
     let word = Vec::from_slice(alloc, word)?;
     let by_length = Vec::new(alloc);
-    let by_value = Vec::new(alloc);
+    let by_value = IndexMap::with_hasher(alloc, NumberHasher::new());
     buckets.push(Bucket {
         word,
         count,
@@ -180,19 +187,19 @@ fn place_for(buckets: &mut Vec<Bucket>, word: &[u8], count: usize) -> Result<usi
 }
 
 /// Sees to it that there is a list for a length.
-fn grow(lists: &mut Vec<Vec<u64>>, length: usize) -> Result<(), AllocError>
+fn grow(lists: &mut Vec<Numbers>, length: usize) -> Result<(), AllocError>
     ensures long { OnOk result (length < vec_len lists.new) }
     ensures same { (l : ℕ) → list_at l lists.new.items ≡ list_at l lists.old.items }
 {
     let alloc = *lists.allocator();
     while lists.len() <= length {
-        lists.push(Vec::new(alloc))?;
+        lists.push(Numbers::new(alloc))?;
     }
     Ok(())
 }
 
 /// Puts a number after those of a length.
-fn put_number(lists: &mut Vec<Vec<u64>>, length: usize, number: u64) -> Result<(), AllocError>
+fn put_number(lists: &mut Vec<Numbers>, length: usize, number: u64) -> Result<(), AllocError>
     ensures long { OnOk result (length < vec_len lists.new) }
     ensures put { OnOk result (list_at length lists.new.items ≡ list_at length lists.old.items ++ number ∷ []) }
     ensures err { OnErr result (list_at length lists.new.items ≡ list_at length lists.old.items) }
@@ -204,26 +211,54 @@ fn put_number(lists: &mut Vec<Vec<u64>>, length: usize, number: u64) -> Result<(
 }
 
 /// Takes the number that was put last out of a list.
-fn take_back(lists: &mut Vec<Vec<u64>>, place: usize)
+fn take_back(lists: &mut Vec<Numbers>, place: usize)
     requires { place < vec_len lists.old }
     ensures back { list_at place lists.new.items ≡ take (length (list_at place lists.old.items) - 1) (list_at place lists.old.items) }
     ensures others { (l : ℕ) → l ≢ place → list_at l lists.new.items ≡ list_at l lists.old.items }
 {
-    let last = lists[place].len().saturating_sub(1);
-    lists[place].truncate(last);
+    lists[place].drop_last();
+}
+
+/// Puts the first number of a value that has no list.
+fn put_first(lists: &mut ByValue, value: u64, number: u64) -> Result<(), AllocError>
+    requires { get nat_eq lists.old value ≡ None }
+    ensures put { OnOk result (list_under value lists.new ≡ number ∷ []) }
+    ensures err { OnErr result (list_under value lists.new ≡ []) }
+    ensures others { (v : ℕ) → v ≢ value → list_under v lists.new ≡ list_under v lists.old }
+    ensures in_use { AreInUse lists.old → AreInUse lists.new }
+{
+    let alloc = *lists.allocator();
+    let mut numbers = Numbers::new(alloc);
+    numbers.push(number)?;
+    lists.insert(value, numbers)?;
+    Ok(())
+}
+
+/// Puts a number after those of a value.
+fn put_value(lists: &mut ByValue, value: u64, number: u64) -> Result<(), AllocError>
+    ensures put { OnOk result (list_under value lists.new ≡ list_under value lists.old ++ number ∷ []) }
+    ensures err { OnErr result (list_under value lists.new ≡ list_under value lists.old) }
+    ensures others { (v : ℕ) → v ≢ value → list_under v lists.new ≡ list_under v lists.old }
+    ensures in_use { AreInUse lists.old → AreInUse lists.new }
+{
+    let Some(numbers) = lists.get_mut(&value) else {
+        return put_first(lists, value, number);
+    };
+    numbers.push(number)?;
+    Ok(())
 }
 
 /// Puts a number after those of a length and of a value, or after neither.
-fn put_both(bucket: &mut Bucket, length: usize, value: usize, number: u64) -> Result<(), AllocError>
+fn put_both(bucket: &mut Bucket, length: usize, value: u64, number: u64) -> Result<(), AllocError>
     ensures key { key bucket.new ≡ key bucket.old }
     ensures put { OnOk result (IsPutIn length (Some value) number bucket.old bucket.new) }
     ensures err { OnErr result (HasSame bucket.old bucket.new) }
 {
-    put_number(&mut bucket.by_value, value, number)?;
-    let Err(error) = put_number(&mut bucket.by_length, length, number) else {
+    put_number(&mut bucket.by_length, length, number)?;
+    let Err(error) = put_value(&mut bucket.by_value, value, number) else {
         return Ok(());
     };
-    take_back(&mut bucket.by_value, value);
+    take_back(&mut bucket.by_length, length);
     Err(error)
 }
 
@@ -248,7 +283,7 @@ fn take_from(bucket: &mut Bucket, tuple: &Tuple, number: u64)
 {
     take_number(&mut bucket.by_length, second_length(tuple), number);
     if let Some(value) = second_value(tuple) {
-        take_number(&mut bucket.by_value, value, number);
+        take_value(&mut bucket.by_value, value, number);
     }
 }
 
@@ -258,18 +293,28 @@ pub(crate) fn numbers_at(bucket: &Bucket, slot: Slot) -> &[u64]
 {
     match slot {
         Slot::Length(length) => numbers_in(&bucket.by_length, length),
-        Slot::Value(value) => numbers_in(&bucket.by_value, value),
+        Slot::Value(value) => numbers_under(&bucket.by_value, value),
     }
 }
 
 /// The numbers of a list.
-fn numbers_in(lists: &[Vec<u64>], place: usize) -> &[u64]
+fn numbers_in(lists: &[Numbers], place: usize) -> &[u64]
     ensures { result.now ≡ list_at place lists.now }
 {
     if place < lists.len() {
         lists[place].as_slice()
     } else {
         &[]
+    }
+}
+
+/// The numbers of a value.
+fn numbers_under(lists: &ByValue, value: u64) -> &[u64]
+    ensures { result.now ≡ list_under value lists.now }
+{
+    match lists.get(&value) {
+        Some(numbers) => numbers.as_slice(),
+        None => &[],
     }
 }
 
@@ -284,34 +329,40 @@ pub(crate) fn class_size(buckets: &[Bucket], word: &[u8], count: usize, numbers:
 }
 
 /// How many numbers there are of a length.
-fn count_at(lists: &[Vec<u64>], numbers: usize) -> usize
+fn count_at(lists: &[Numbers], numbers: usize) -> usize
     ensures { result ≡ length (list_at numbers lists.now) }
 {
     if numbers < lists.len() {
-        lists[numbers].len()
+        lists[numbers].as_slice().len()
     } else {
         0
     }
 }
 
 /// Takes a number out of those of a length.
-fn take_number(lists: &mut Vec<Vec<u64>>, length: usize, number: u64)
+fn take_number(lists: &mut Vec<Numbers>, length: usize, number: u64)
     requires { AreRising (list_at length lists.old.items) }
     ensures gone { list_at length lists.new.items ≡ filter (λ n. not (n == number)) (list_at length lists.old.items) }
     ensures others { (l : ℕ) → l ≢ length → list_at l lists.new.items ≡ list_at l lists.old.items }
 {
     if length < lists.len() {
-        drop_number(&mut lists[length], number);
+        lists[length].remove(number);
     }
 }
 
-/// Takes a number out of numbers in ascending order.
-fn drop_number(numbers: &mut Vec<u64>, number: u64)
-    requires { AreRising numbers.old.items }
-    ensures { numbers.new.items ≡ filter (λ n. not (n == number)) numbers.old.items }
+/// Takes a number out of those of a value, and drops their list if it is empty then.
+fn take_value(lists: &mut ByValue, value: u64, number: u64)
+    requires { AreRising (list_under value lists.old) }
+    ensures gone { list_under value lists.new ≡ filter (λ n. not (n == number)) (list_under value lists.old) }
+    ensures others { (v : ℕ) → v ≢ value → list_under v lists.new ≡ list_under v lists.old }
+    ensures in_use { AreInUse lists.old → AreInUse lists.new }
 {
-    if let Ok(place) = numbers.binary_search(&number) {
-        numbers.remove(place);
+    let Some(numbers) = lists.get_mut(&value) else {
+        return;
+    };
+    numbers.remove(number);
+    if numbers.as_slice().is_empty() {
+        lists.swap_remove(&value);
     }
 }
 

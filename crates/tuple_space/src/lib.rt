@@ -16,6 +16,7 @@ mod holding;
 mod index;
 mod indexing;
 mod lease;
+mod numbers;
 mod permanent;
 mod rows;
 mod search;

@@ -11,6 +11,7 @@ use crate::admission::{can_be_had, is_counted};
 use crate::entries::Entries;
 use crate::entry::{Claim, Entry};
 use crate::index::{Bucket, is_of, numbers_at, sought_slot, sought_word};
+use crate::numbers::Numbers;
 use tuple_match::Template;
 
 /// Which entries are wanted, of those whose tuples match a template.
@@ -124,18 +125,18 @@ fn last_wanted<'a>(
 /// The wanted entry whose number is last in the last list that has one.
 fn longest_wanted<'a>(
     entries: &'a Entries,
-    lists: &[Vec<u64>],
+    lists: &[Numbers],
     wanted: Wanted,
     moment: u64,
     template: &Template,
 ) -> Option<&'a Entry>
     requires { IsRising entries.now.items }
-    ensures none { IfNone result (All (λ l. All (IsUnwanted wanted moment template.now entries.now.items) l.items) lists.now) }
+    ensures none { IfNone result (All (All (IsUnwanted wanted moment template.now entries.now.items)) lists.now) }
     ensures stands { IfSome result (λ e. Contains entries.now.items e.now) }
     ensures can { IfSome result (λ e. is_wanted wanted moment template.now e.now ≡ true) }
 {
     for i in (0..lists.len()).rev() {
-        if let Some(entry) = last_wanted(entries, &lists[i], wanted, moment, template) {
+        if let Some(entry) = last_wanted(entries, lists[i].as_slice(), wanted, moment, template) {
             return Some(entry);
         }
     }

@@ -6,7 +6,7 @@ pub returns-then-numbers-lists : goal.returns-then-numbers-lists
 returns-then-numbers-lists c =
     let lists = c.args.lists.now in
     let found = c.index-lists-numbers in
-    c.len.ensures ∙ found.result.ok.0 ∙ ap length (sym (list_at_is lists c.args.numbers found.result c.if-numbers-lists.true found.is))
+    ap length (c.as_slice.ensures ∙ sym (list_at_is lists c.args.numbers found.result c.if-numbers-lists.true found.is))
 
 pub returns-else-numbers-lists : goal.returns-else-numbers-lists
 returns-else-numbers-lists c =

@@ -5,4 +5,4 @@ use Rattle.tuple_space.proofs.index.grow.Goals as goal
 
 pub loop-alloc-preserved : goal.loop-alloc-preserved
 loop-alloc-preserved c = λ k.
-    ap (list_at k) c.in_ok-push.ensures.items ∙ list_at_push c.loop-alloc.lists.items k c.new.result c.new.ensures.items ∙ c.loop-alloc.invariant k
+    ap (list_at k) c.in_ok-push.ensures.items ∙ list_at_push c.loop-alloc.lists.items k c.new.result c.new.ensures ∙ c.loop-alloc.invariant k

@@ -15,6 +15,6 @@ returns-in-None-clause-put c =
     let r = c.put_number.result in
     let put : OnOk r (IsPutIn long None n old new) =
     ok_then (list_at long new.by_length.items ≡ list_at long old.by_length.items ++ n ∷ []) (IsPutIn long None n old new) r
-    (λ there. put_length old new long n (put_at old.by_length.items new.by_length.items long n there c.put_number.ensures.others) refl) c.put_number.ensures.put in
+    (λ there. put_length old new long n (put_at (λ l. list_at l old.by_length.items) (λ l. list_at l new.by_length.items) long n there c.put_number.ensures.others) refl) c.put_number.ensures.put in
     subst (λ (o : Option ℕ). OnOk r (IsPutIn (second_length c.args.tuple.now) o n old new)) c.in-None.ensures
     (subst (λ (l : ℕ). OnOk r (IsPutIn l None n old new)) c.second_length-length.ensures put)

@@ -7,7 +7,7 @@ pub returns-clause-put : goal.returns-clause-put
 returns-clause-put c =
     let lists = c.grow.new.lists.items in
     let long = c.in_ok-grow.ensures.long in
-    list_at_set lists c.args.length c.push.new.self (omega arith) ∙ c.in_ok-push.ensures.items
+    list_at_set lists c.args.length c.push.new.self (omega arith) ∙ c.in_ok-push.ensures.ok
     ∙ ap (λ l. l ++ c.args.number ∷ []) (sym (list_at_is lists c.args.length c.index_mut.result.now (omega arith) c.index_mut.ensures.value) ∙ c.grow.ensures.same c.args.length)
 
 pub returns-clause-others : goal.returns-clause-others
@@ -18,7 +18,7 @@ returns-in_err-push-clause-err c =
     let lists = c.grow.new.lists.items in
     let long = c.in_ok-grow.ensures.long in
     let p = err_from_is_err_and c.from_residual-in_err-push.result c.from_residual-in_err-push.ensures.1 in
-    rw p.1 (list_at_set lists c.args.length c.push.new.self (omega arith) ∙ c.in_err-push.ensures.items
+    rw p.1 (list_at_set lists c.args.length c.push.new.self (omega arith) ∙ c.in_err-push.ensures.err
     ∙ sym (list_at_is lists c.args.length c.index_mut.result.now (omega arith) c.index_mut.ensures.value) ∙ c.grow.ensures.same c.args.length)
 
 pub returns-in_err-push-clause-others : goal.returns-in_err-push-clause-others
